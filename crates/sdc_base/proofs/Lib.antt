@@ -1,2 +1,16 @@
 pub mod StepLemmas
 pub mod WholeNumbers
+pub mod Walks
+pub mod FlatTrees
+pub mod InEach
+pub mod Places
+pub mod FirstNames
+pub mod Products
+pub mod Truths
+pub mod Kept
+pub mod Fair
+pub mod SmallTables
+pub mod FieldLemmas
+pub mod FlatJobLaws
+pub mod FlatLayoutLaws
+pub mod PlaceLists

@@ -1,5 +1,6 @@
 -- Lemmas on steps that give a value or a fault.
 use Rattle.std.proofs.Common.{◌≡◌, ◌⊎◌, inl, inr, Result, Ok, Err, refl, ap}
+use Rattle.std.specs.Result.{IfOk}
 use Rattle.sdc_base.specs.Steps.{◌>>=◌, map_ok}
 
 pub bind_same : {A B F : Type 0} (r : Result A F) (f g : A → Result B F) → ((x : A) → f x ≡ g x) → (r >>= f) ≡ (r >>= g)
@@ -19,3 +20,8 @@ bind_ok (Err d) f y e = absurd cc
 pub bind_err : {A B F : Type 0} (r : Result A F) (f : A → Result B F) (e : F) → (r >>= f) ≡ Err e → (r ≡ Err e) ⊎ ((x : A) × (r ≡ Ok x) × (f x ≡ Err e))
 bind_err (Ok x) f e h = inr (x, refl, h)
 bind_err (Err d) f e h = inl (let same : d ≡ e = cc in ap Err same)
+
+-- what holds of every value that the next step can give holds of the value of both
+pub then_all : {A B F : Type 0} (P : B → Type 0) (r : Result A F) (f : A → Result B F) → ((x : A) → IfOk (f x) P) → IfOk (r >>= f) P
+then_all P (Ok x) f h = h x
+then_all P (Err e) f h = tt

@@ -3,6 +3,7 @@ use Rattle.std.specs.Prelude.{◌≡◌, ◌++◌, ℕ, Bool, false, List, [], �
 use Rattle.std.specs.List.{list_any}
 use Rattle.std.specs.Str.Lines.{strip_carriage_return}
 
+-- a byte is a line feed, LF
 abbrev pub is_line_feed : ℕ → Bool
 is_line_feed b = b == 10
 
@@ -25,12 +26,21 @@ lines (b ∷ bytes) =
     else if (b == 13) && at_line_feed bytes then lines bytes
     else with_front b (lines bytes)
 
+-- there is no LF in the line
+abbrev pub HasNoFeed : List ℕ → Type 0
+HasNoFeed line = list_any is_line_feed line ≡ false
+
 -- a line without its end: no LF in it, and no CR at its end
 pub record IsLine (line : List ℕ) : Type 0 where
-  pub no_feed : list_any is_line_feed line ≡ false
+  pub no_feed : HasNoFeed line
   pub no_return : strip_carriage_return line ≡ line
 
 -- the text of lines, each ended by LF
 abbrev pub joined : List (List ℕ) → List ℕ
 joined [] = []
 joined (line ∷ rest) = line ++ 10 ∷ joined rest
+
+-- the text of lines, each ended by CR and LF
+abbrev pub joined_with_returns : List (List ℕ) → List ℕ
+joined_with_returns [] = []
+joined_with_returns (line ∷ rest) = line ++ 13 ∷ 10 ∷ joined_with_returns rest

@@ -6,6 +6,7 @@ use Rattle.std.specs.Str.Parse.{digits_value}
 use Rattle.sdc_base.specs.declared.number_fault.NumberFault.{NumberFault}
 use Rattle.sdc_base.specs.declared.number_fault.NumberFault.TheVariants.{NotADigit, Empty, TooManyDecimals, TooWide}
 
+-- a byte is the point
 abbrev pub is_point : ℕ → Bool
 is_point b = b == 46
 
@@ -29,10 +30,11 @@ fraction bytes = after_first is_point bytes
 abbrev pub too_wide : ℕ
 too_wide = 10 ^ 37
 
--- a number that is not too wide
+-- the number, unless it is too wide
 abbrev pub narrow : ℕ → Option ℕ
 narrow n = if nat_lt n too_wide then Some n else None
 
+-- that many units, and the refusal where the number is too wide
 abbrev pub unless_wide : Option ℕ → Result ℤ NumberFault
 unless_wide None = Err TooWide
 unless_wide (Some n) = Ok (pos n)
@@ -44,6 +46,7 @@ units_of_parts front back decimals =
     else if nat_lt decimals (length back) then Err TooManyDecimals
     else unless_wide (narrow (digits_value 10 ((front ++ back) ++ replicate (decimals - length back) 48)))
 
+-- the refusal of a stray byte stands before all others
 abbrev pub unless_stray : Option ℕ → Result ℤ NumberFault → Result ℤ NumberFault
 unless_stray None read = read
 unless_stray (Some place) read = Err (NotADigit place)
@@ -53,7 +56,7 @@ unless_stray (Some place) read = Err (NotADigit place)
 abbrev pub read_units : List ℕ → ℕ → Result ℤ NumberFault
 read_units bytes decimals = unless_stray (stray false bytes) (units_of_parts (whole bytes) (fraction bytes) decimals)
 
--- exactly so many digits, with zeros in front
+-- the digits of a number, with zeros in front up to so many
 abbrev pub padded : ℕ → ℕ → List ℕ
 padded places n = replicate (places - length (decimal n)) 48 ++ decimal n
 

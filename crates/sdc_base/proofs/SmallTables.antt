@@ -1,0 +1,18 @@
+-- The small tables, reckoned.
+use Rattle.std.proofs.Common.{refl}
+use Rattle.sdc_base.specs.Examples.{FlatTable, WeightSteps, LastInPart, TwoLevels, SharedMargins}
+
+pub flat_table : FlatTable
+flat_table = record { cells = refl; sums = refl; counts = refl; none = refl; fewer = refl; named = refl; empty = refl }
+
+pub weight_steps : WeightSteps
+weight_steps = record { sum = refl; count = refl; largest = refl; reversed = refl }
+
+pub last_in_part : LastInPart
+last_in_part = record { sum = refl; largest = refl }
+
+pub two_levels : TwoLevels
+two_levels = record { walk = refl; under = refl }
+
+pub shared_margins : SharedMargins
+shared_margins = record { margin_first = refl; turned = refl }

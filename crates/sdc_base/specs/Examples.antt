@@ -1,0 +1,83 @@
+-- The definitions on small tables that can be reckoned by hand (own).
+use Rattle.std.specs.Prelude.{◌≡◌, ℕ, true, false, List, [], ◌∷◌, codes, map, None, Some, ℤ, pos}
+use Rattle.sdc_base.specs.Trees.{Tree, flat_tree, is_under, upward}
+use Rattle.sdc_base.specs.Records.{Name}
+use Rattle.sdc_base.specs.Cells.{cells_of}
+use Rattle.sdc_base.specs.Sums.{truth, freq}
+use Rattle.sdc_base.specs.Largest.{largest_in}
+use Rattle.sdc_base.specs.Rules.{frequency_names, first_named}
+use Rattle.sdc_base.specs.declared.rows.Row.{Row}
+
+-- a record of one variable
+abbrev pub row_of : ℕ → ℕ → ℕ → Row
+row_of code value weight = record { codes = code ∷ []; value = pos value; weight = weight }
+
+-- Total, a and b
+abbrev pub two_codes : Tree
+two_codes = flat_tree (codes "Total") (codes "a" ∷ codes "b" ∷ [])
+
+-- b with 20, 20, 20 and 30
+abbrev pub rows_of_b : List Row
+rows_of_b = row_of 2 20 1 ∷ row_of 2 20 1 ∷ row_of 2 20 1 ∷ row_of 2 30 1 ∷ []
+
+-- a with 10, 20 and 30, and b
+abbrev pub seven_rows : List Row
+seven_rows = row_of 1 10 1 ∷ row_of 1 20 1 ∷ row_of 1 30 1 ∷ rows_of_b
+
+-- the same without the third record
+abbrev pub six_rows : List Row
+six_rows = row_of 1 10 1 ∷ row_of 1 20 1 ∷ rows_of_b
+
+-- the total, a and b
+abbrev pub three_cells : List Name
+three_cells = (0 ∷ []) ∷ (1 ∷ []) ∷ (2 ∷ []) ∷ []
+
+abbrev pub truths : List Row → List ℤ
+truths rows = map (λ name. truth (two_codes ∷ []) name rows) three_cells
+
+abbrev pub freqs : List Row → List ℕ
+freqs rows = map (λ name. freq (two_codes ∷ []) name rows) three_cells
+
+-- One flat variable: with three records in a no cell is named, with two a is.
+-- A rule by `freq ≤ n` would name a with three records.
+pub record FlatTable : Type 0 where
+  pub cells : cells_of (two_codes ∷ []) ((0 ∷ []) ∷ []) ≡ three_cells
+  pub sums : truths seven_rows ≡ pos 150 ∷ pos 60 ∷ pos 90 ∷ []
+  pub counts : freqs seven_rows ≡ 7 ∷ 3 ∷ 4 ∷ []
+  pub none : first_named 3 (two_codes ∷ []) seven_rows three_cells ≡ None
+  pub fewer : freqs six_rows ≡ 6 ∷ 2 ∷ 4 ∷ []
+  pub named : first_named 3 (two_codes ∷ []) six_rows three_cells ≡ Some 1
+  pub empty : frequency_names 3 0 ≡ false
+
+-- the sums over the one, two and three largest contributions of the total
+abbrev pub largest_three : ℕ → List Row → List ℤ
+largest_three scale rows = map (largest_in (two_codes ∷ []) (0 ∷ []) rows scale) (1 ∷ 2 ∷ 3 ∷ [])
+
+-- Value 10 with weight 3 and value 4 with weight 1: both of the two largest are of value 10, also with the records reversed.
+-- A sum over records in place of weight steps would give 14 for two.
+pub record WeightSteps : Type 0 where
+  pub sum : truth (two_codes ∷ []) (0 ∷ []) (row_of 1 10 3 ∷ row_of 2 4 1 ∷ []) ≡ pos 34
+  pub count : freq (two_codes ∷ []) (0 ∷ []) (row_of 1 10 3 ∷ row_of 2 4 1 ∷ []) ≡ 2
+  pub largest : largest_three 1 (row_of 1 10 3 ∷ row_of 2 4 1 ∷ []) ≡ pos 10 ∷ pos 20 ∷ pos 30 ∷ []
+  pub reversed : largest_three 1 (row_of 2 4 1 ∷ row_of 1 10 3 ∷ []) ≡ pos 10 ∷ pos 20 ∷ pos 30 ∷ []
+
+-- One record of value 10 and weight 2.5: its last half step counts half.
+-- A last contribution taken whole would give 300 for three.
+pub record LastInPart : Type 0 where
+  pub sum : truth (two_codes ∷ []) (0 ∷ []) (row_of 1 10 25 ∷ []) ≡ pos 250
+  pub largest : largest_three 10 (row_of 1 10 25 ∷ []) ≡ pos 100 ∷ pos 200 ∷ pos 250 ∷ []
+
+-- Total, Nr, 1 and 2 under Nr, Os, 3 under Os
+abbrev pub two_levels : Tree
+two_levels = (codes "Total", None) ∷ (codes "Nr", Some 0) ∷ (codes "1", Some 1) ∷ (codes "2", Some 1) ∷ (codes "Os", Some 0) ∷ (codes "3", Some 4) ∷ []
+
+-- Two levels of codes: 2 is under itself, Nr and the total, and not under its sibling 1 or under Os.
+pub record TwoLevels : Type 0 where
+  pub walk : upward two_levels 3 ≡ 3 ∷ 1 ∷ 0 ∷ []
+  pub under : map (is_under two_levels 3) (0 ∷ 1 ∷ 2 ∷ 3 ∷ 4 ∷ 5 ∷ []) ≡ true ∷ true ∷ false ∷ true ∷ false ∷ false ∷ []
+
+-- Tables that share margins: what an earlier table named isn't named again, and names aren't sorted.
+-- A table that spans the second variable first goes through its own places in lexicographic order.
+pub record SharedMargins : Type 0 where
+  pub margin_first : cells_of (two_codes ∷ two_codes ∷ []) ((0 ∷ []) ∷ (0 ∷ 1 ∷ []) ∷ []) ≡ (0 ∷ 0 ∷ []) ∷ (1 ∷ 0 ∷ []) ∷ (2 ∷ 0 ∷ []) ∷ (0 ∷ 1 ∷ []) ∷ (0 ∷ 2 ∷ []) ∷ (1 ∷ 1 ∷ []) ∷ (1 ∷ 2 ∷ []) ∷ (2 ∷ 1 ∷ []) ∷ (2 ∷ 2 ∷ []) ∷ []
+  pub turned : cells_of (two_codes ∷ two_codes ∷ []) ((1 ∷ 0 ∷ []) ∷ []) ≡ (0 ∷ 0 ∷ []) ∷ (1 ∷ 0 ∷ []) ∷ (2 ∷ 0 ∷ []) ∷ (0 ∷ 1 ∷ []) ∷ (1 ∷ 1 ∷ []) ∷ (2 ∷ 1 ∷ []) ∷ (0 ∷ 2 ∷ []) ∷ (1 ∷ 2 ∷ []) ∷ (2 ∷ 2 ∷ []) ∷ []

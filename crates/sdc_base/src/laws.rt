@@ -1,0 +1,65 @@
+//! Laws of the definitions, each the contract of a function with an empty body.
+
+ghost use Rattle.sdc_base.specs.Trees.{UnderIsTested, FlatIsCodeTree};
+ghost use Rattle.sdc_base.specs.Records.{FallsWhereUnderInEach};
+ghost use Rattle.sdc_base.specs.CellOrder.{PlacesAreLexicographic, NamesAreFirst};
+ghost use Rattle.sdc_base.specs.Shares.{RankingIsFair};
+ghost use Rattle.sdc_base.specs.Examples.{FlatTable, WeightSteps, LastInPart, TwoLevels, SharedMargins};
+ghost use Rattle.sdc_base.specs.FlatJobs.{FlatJobsAreTheirTexts};
+ghost use Rattle.sdc_base.specs.FlatMetadata.{FlatLayoutsAreTheirTexts};
+
+/// The test of being under says of each place of a code tree what the walk of its parents says.
+#[tactic(auto, using(crate::proofs::Walks::under_is_tested))]
+pub fn under_is_tested()
+    ensures { UnderIsTested }
+{}
+
+/// A total and distinct other codes make a flat code tree.
+#[tactic(auto, using(crate::proofs::FlatTrees::flat_is_code_tree))]
+pub fn flat_is_code_tree()
+    ensures { FlatIsCodeTree }
+{}
+
+/// A record falls in a cell exactly where each of its codes is under the cell's.
+#[tactic(auto, using(crate::proofs::InEach::falls_where_under_in_each))]
+pub fn falls_where_under_in_each()
+    ensures { FallsWhereUnderInEach }
+{}
+
+/// The places of a table are all that there are, in lexicographic order.
+#[tactic(auto, using(crate::proofs::Places::places_are_lexicographic))]
+pub fn places_are_lexicographic()
+    ensures { PlacesAreLexicographic }
+{}
+
+/// The cells are all names that are given, each once, and those that are given first stand first.
+#[tactic(auto, using(crate::proofs::FirstNames::names_are_first))]
+pub fn names_are_first()
+    ensures { NamesAreFirst }
+{}
+
+/// In the ranking each contribution counts as it does by itself, with what stands before it.
+#[tactic(auto, using(crate::proofs::Fair::ranking_is_fair))]
+pub fn ranking_is_fair()
+    ensures { RankingIsFair }
+{}
+
+/// The definitions give what small tables come to by hand.
+#[tactic(auto, using(crate::proofs::SmallTables::flat_table, crate::proofs::SmallTables::weight_steps, crate::proofs::SmallTables::last_in_part, crate::proofs::SmallTables::two_levels, crate::proofs::SmallTables::shared_margins))]
+pub fn examples()
+    ensures flat_table { FlatTable }
+    ensures weight_steps { WeightSteps }
+    ensures last_in_part { LastInPart }
+    ensures two_levels { TwoLevels }
+    ensures shared_margins { SharedMargins }
+{}
+
+/// A job of the first path is read exactly from its own text, and from no other.
+pub fn flat_jobs_are_their_texts()
+    ensures { FlatJobsAreTheirTexts }
+{}
+
+/// A layout of the first path is read exactly from its own text, and from no other.
+pub fn flat_layouts_are_their_texts()
+    ensures { FlatLayoutsAreTheirTexts }
+{}

@@ -1,0 +1,151 @@
+ghost use Rattle.std.specs.Prelude.{◌≡◌, ◌≤◌, ◌<◌, ◌*◌, ◌^◌, ◌++◌, ◌∷◌, [], List, ℕ, min, take, length, insert, ℤ, pos, neg_ℤ, ◌*ℤ◌, ◌≤ℤ◌};
+ghost use Rattle.sdc_base.specs.Largest.{placed, first_steps, largest, contribution, AreHeavy};
+ghost use Rattle.sdc_base.specs.declared.tops.Unit.{Unit as Contribution};
+
+use crate::few::Few;
+
+/// What a record contributes to a cell: its value in units, and its weight in steps.
+#[derive(Clone, Copy, Default)]
+pub struct Unit {
+    pub value: i64,
+    pub weight: u32,
+}
+
+/// A list that tells the largest of all contributions that it was offered.
+pub trait TopList {
+    /// Up to how many it tells.
+    ghost keep: { Self → ℕ };
+
+    /// How many weight steps make a whole contribution.
+    ghost scale: { Self → ℕ };
+
+    /// It was offered these, and tells their largest.
+    ghost tells: { Self → List Contribution → Type 0 };
+
+    /// Takes one more contribution, of a value in units and a weight in steps.
+    fn offer(&mut self, value: i64, weight: u32)
+        requires { scale self.old ≤ weight }
+        ensures keep { keep self.new ≡ keep self.old }
+        ensures scale { scale self.new ≡ scale self.old }
+        ensures tells { (units : List Contribution) → tells self.old units → tells self.new (units ++ contribution value weight ∷ []) };
+
+    /// The sum of value times weight over the n largest of those that were offered.
+    fn top(&self, n: u8) -> i128
+        requires { n ≤ keep self.now }
+        ensures { (units : List Contribution) → tells self.now units → result ≡ largest (scale self.now) n units };
+}
+
+/// The largest contributions of a cell by value, of equal values the earlier first, as many as it
+/// keeps. They are enough for the sums over the n largest, up to as many.
+#[derive(Drop)]
+pub struct Tops {
+    pub keep: u8,
+    pub scale: u32,
+    pub list: Few<Unit, 10>,
+    ghost at_least_two: { 2 ≤ keep },
+    ghost at_most_ten: { keep ≤ 10 },
+    ghost whole: { 1 ≤ scale },
+    ghost fine: { scale ≤ 10000 },
+    ghost few: { length list ≤ keep },
+    ghost heavy: { AreHeavy scale list },
+}
+
+impl Tops {
+    ghost use Rattle.sdc_base.specs.Tells.{Tells};
+
+    /// None is offered yet. It keeps from 2 to 10, and `scale` weight steps make a whole one.
+    pub fn new(keep: u8, scale: u32) -> Tops
+        requires at_least_two { 2 ≤ keep }
+        requires at_most_ten { keep ≤ 10 }
+        requires whole { 1 ≤ scale }
+        requires fine { scale ≤ 10000 }
+        ensures keep { result.keep ≡ keep }
+        ensures scale { result.scale ≡ scale }
+        ensures tells { Tells result [] }
+    {
+        Tops {
+            keep,
+            scale,
+            list: Few::empty(),
+        }
+    }
+}
+
+impl TopList for Tops {
+    ghost use Rattle.std.specs.Prelude.{◌≡◌, ◌≤◌, ◌++◌, ◌∷◌, []};
+    ghost use Rattle.sdc_base.specs.Largest.{contribution, largest};
+    ghost use Rattle.sdc_base.specs.Tells.{Tells};
+
+    ghost keep = { λ tops. tops.keep };
+
+    ghost scale = { λ tops. tops.scale };
+
+    ghost tells = { Tells };
+
+    fn offer(&mut self, value: i64, weight: u32) {
+        put_in(&mut self.list, self.keep as usize, Unit { value, weight });
+    }
+
+    fn top(&self, n: u8) -> i128 {
+        over_first_steps(self.list.as_slice(), u64::from(n) * u64::from(self.scale))
+    }
+}
+
+// Puts a contribution behind all that have at least its value, and keeps the first ones.
+fn put_in(list: &mut Few<Unit, 10>, keep: usize, new: Unit)
+    requires keep { 1 ≤ keep }
+    requires most { keep ≤ 10 }
+    requires few { length list.old ≤ keep }
+    ensures { list.new ≡ take keep (placed list.old new) }
+{
+    let at = place_of(list.as_slice(), new);
+    if at < keep {
+        list.truncate(keep - 1);
+        list.insert(at, new);
+    }
+}
+
+// How many stand before the first that has a lower value.
+fn place_of(units: &[Unit], new: Unit) -> usize
+    ensures place { insert units.now result new ≡ placed units.now new }
+    ensures within { result ≤ length units.now }
+{
+    for (i, unit) in units.iter().enumerate() {
+        if unit.value < new.value {
+            return i;
+        }
+    }
+    units.len()
+}
+
+// Value times weight over the first steps.
+fn over_first_steps(units: &[Unit], steps: u64) -> i128
+    requires { length units.now ≤ 10 }
+    ensures { result ≡ first_steps steps units.now }
+{
+    let mut left = steps;
+    let mut sum = 0;
+    for unit in units {
+        sum += part_of(*unit, left);
+        left = left.saturating_sub(u64::from(unit.weight));
+    }
+    sum
+}
+
+// What one contribution adds while so many steps are left.
+fn part_of(unit: Unit, left: u64) -> i128
+    ensures value { result ≡ pos (min unit.weight left) *ℤ unit.value }
+    ensures low { neg_ℤ (pos (2 ^ 95)) ≤ℤ result }
+    ensures high { result ≤ℤ pos (2 ^ 95) }
+{
+    i128::from(left.min(u64::from(unit.weight))) * i128::from(unit.value)
+}
+
+/// Weight times value.
+pub(crate) fn weighed(unit: Unit) -> i128
+    ensures value { result ≡ pos unit.weight *ℤ unit.value }
+    ensures low { neg_ℤ (pos (2 ^ 95)) ≤ℤ result }
+    ensures high { result ≤ℤ pos (2 ^ 95) }
+{
+    i128::from(unit.weight) * i128::from(unit.value)
+}
