@@ -1,0 +1,210 @@
+ghost use Rattle.std.specs.Prelude.{◌≡◌, ◌≢◌, ◌-◌, ◌^◌, ◌≤◌, ◌<◌, Some, None, [], IfSome, IfNone, IfOk, OnOk, OnErr, IsErr, IsErrOf, ◌↔◌, length, take, drop, option_map, true};
+ghost use Rattle.sdc_base.specs.Counts.{Rose, counted};
+ghost use Rattle.sdc_base.specs.Told.{WhereTold};
+ghost use Rattle.office_io.specs.Files.{file_of, name_at, bytes_at, rest_at, held_name};
+
+use crate::faults::{BeginFault, Failed};
+use crate::shelf::Shelf;
+use sdc_base::Text;
+
+/// A shelf in memory, which fails at the calls that it is told. It tells its files.
+///
+/// Calls of `begin` and of `read` are counted together, from 1, and a call fails exactly where its
+/// number is among the failing ones. A call costs as much as there are files and failing calls.
+#[derive(Drop)]
+pub struct MemoryShelf {
+    files: Vec<(Text, Vec<u8>)>,
+    failing: Vec<u64>,
+    piece: u32,
+    calls: u64,
+    // the place of the file last begun, where it is held
+    last: Option<usize>,
+    // the place of the chosen file, and its next byte; not known after a read that failed
+    chosen: Option<usize>,
+    at: usize,
+    known: bool,
+    taken: u64,
+    faults: u64,
+    absences: u64,
+    ghost gives_some: { 1 ≤ piece },
+}
+
+impl MemoryShelf {
+    ghost use Rattle.office_io.specs.Memory.{is_due, shelf_calls, shelf_failing, shelf_piece};
+
+    /// A shelf of these files, each a name and its bytes, from which no file is chosen yet.
+    ///
+    /// The names are to be distinct: of two files with one name the first is held. The calls whose
+    /// numbers stand in `failing` fail, in any order. A read gives at most `piece` bytes.
+    pub fn new(files: Vec<(Text, Vec<u8>)>, failing: Vec<u64>, piece: u32) -> MemoryShelf
+        requires { 1 ≤ piece }
+        ensures files { ⟦<MemoryShelf as Shelf>⟧.files result ≡ Some (file_of files.items) }
+        ensures left { ⟦<MemoryShelf as Shelf>⟧.left result ≡ Some [] }
+        ensures taken { ⟦<MemoryShelf as Shelf>⟧.taken result ≡ 0 }
+        ensures last { ⟦<MemoryShelf as Shelf>⟧.last result ≡ None }
+        ensures faults { ⟦<MemoryShelf as Shelf>⟧.faults result ≡ 0 }
+        ensures absences { ⟦<MemoryShelf as Shelf>⟧.absences result ≡ 0 }
+        ensures calls { shelf_calls result ≡ 0 }
+        ensures failing { shelf_failing result ≡ failing.items }
+        ensures piece { shelf_piece result ≡ piece }
+    {
+        MemoryShelf {
+            files,
+            failing,
+            piece,
+            calls: 0,
+            last: None,
+            chosen: None,
+            at: 0,
+            known: true,
+            taken: 0,
+            faults: 0,
+            absences: 0,
+        }
+    }
+
+    // Whether the next call fails.
+    fn next_fails(&mut self) -> bool
+        ensures due { result ≡ is_due self.old.failing.items self.old.calls }
+        ensures rest { self.new ≡ record self.old { calls = counted self.old.calls 1 } }
+    {
+        self.calls = self.calls.saturating_add(1);
+        self.failing.contains(&self.calls)
+    }
+}
+
+// What is left of a file from a place on.
+fn rest_of(files: &[(Text, Vec<u8>)], chosen: Option<usize>, at: usize) -> &[u8]
+    ensures { Some result.now ≡ rest_at files.now true chosen at }
+{
+    let Some(i) = chosen else {
+        return &[];
+    };
+    let Some(file) = files.get(i) else {
+        return &[];
+    };
+    if at < file.1.len() {
+        return &file.1.as_slice()[at..];
+    }
+    &[]
+}
+
+// Puts at most `most` of the bytes at the front of the buffer, and says how many.
+fn give(bytes: &[u8], most: u32, buffer: &mut [u8]) -> usize
+    requires room { 0 < length buffer.old }
+    requires some { 1 ≤ most }
+    ensures fits { result ≤ length buffer.old }
+    ensures most { result ≤ most }
+    ensures within { result ≤ length bytes.now }
+    ensures end { (result ≡ 0) ↔ (bytes.now ≡ []) }
+    ensures given { take result buffer.new ≡ take result bytes.now }
+{
+    let n = bytes.len().min(most as usize).min(buffer.len());
+    buffer[..n].copy_from_slice(&bytes[..n]);
+    n
+}
+
+// The place of the first file of this name.
+fn place_of(files: &[(Text, Vec<u8>)], name: &Text) -> Option<usize>
+    ensures none { IfNone result (file_of files.now name.now ≡ None) }
+    ensures some { IfSome result (λ i. (file_of files.now name.now ≡ bytes_at files.now i) × (name_at files.now i ≡ Some name.now)) }
+{
+    for (i, file) in files.iter().enumerate() {
+        if file.0.equals(name) {
+            return Some(i);
+        }
+    }
+    None
+}
+
+impl Shelf for MemoryShelf {
+    ghost use Rattle.std.specs.Prelude.{Some, [], option_and_then};
+    ghost use Rattle.office_io.specs.Files.{file_of, name_at, rest_at};
+    ghost use Rattle.office_io.specs.Memory.{is_due, shelf_files, shelf_left, shelf_taken, shelf_last, shelf_faults, shelf_absences, shelf_calls, shelf_failing, shelf_piece};
+
+    ghost files = { λ s. Some (file_of s.files.items) };
+
+    ghost left = { λ s. rest_at s.files.items s.known s.chosen s.at };
+
+    ghost taken = { λ s. s.taken };
+
+    ghost last = { λ s. option_and_then (name_at s.files.items) s.last };
+
+    ghost faults = { λ s. s.faults };
+
+    ghost absences = { λ s. s.absences };
+
+    fn begin(&mut self, name: &Text) -> Result<(), BeginFault>
+        ensures found { OnOk result (WhereTold (shelf_files self.old) (λ fs. shelf_left self.new ≡ fs name.now)) }
+        ensures held { OnOk result (WhereTold (shelf_files self.old) (λ fs. fs name.now ≢ None)) }
+        ensures not_held { IsErrOf result BeginFault.Absent → WhereTold (shelf_files self.old) (λ fs. fs name.now ≡ None) }
+        ensures absent { IsErrOf result BeginFault.Absent → Rose (shelf_absences self.old) (shelf_absences self.new) }
+        ensures failed { IsErrOf result BeginFault.Failed → Rose (shelf_faults self.old) (shelf_faults self.new) }
+        ensures refused { OnErr result (shelf_left self.new ≡ Some []) }
+        ensures none_taken { shelf_taken self.new ≡ 0 }
+        ensures same { shelf_files self.new ≡ shelf_files self.old }
+        ensures last { WhereTold (shelf_files self.old) (λ fs. shelf_last self.new ≡ held_name fs name.now) }
+        ensures faults_stay { shelf_faults self.old ≤ shelf_faults self.new }
+        ensures faults_end { shelf_faults self.old ≤ 2 ^ 64 - 1 → shelf_faults self.new ≤ 2 ^ 64 - 1 }
+        ensures absences_stay { shelf_absences self.old ≤ shelf_absences self.new }
+        ensures absences_end { shelf_absences self.old ≤ 2 ^ 64 - 1 → shelf_absences self.new ≤ 2 ^ 64 - 1 }
+        ensures due { IsErrOf result BeginFault.Failed ↔ (is_due (shelf_failing self.old) (shelf_calls self.old) ≡ true) }
+        ensures calls { shelf_calls self.new ≡ counted (shelf_calls self.old) 1 }
+        ensures failing { shelf_failing self.new ≡ shelf_failing self.old }
+        ensures piece_stays { shelf_piece self.new ≡ shelf_piece self.old }
+    {
+        self.taken = 0;
+        self.at = 0;
+        self.known = true;
+        self.chosen = None;
+        self.last = place_of(&self.files, name);
+        if self.next_fails() {
+            self.faults = self.faults.saturating_add(1);
+            return Err(BeginFault::Failed);
+        }
+        if self.last.is_none() {
+            self.absences = self.absences.saturating_add(1);
+            return Err(BeginFault::Absent);
+        }
+        self.chosen = self.last;
+        Ok(())
+    }
+
+    fn read(&mut self, buffer: &mut [u8]) -> Result<usize, Failed>
+        requires { 0 < length buffer.old }
+        ensures fits { IfOk result (λ n. n ≤ length buffer.old) }
+        ensures within { IfOk result (λ n. WhereTold (shelf_left self.old) (λ bytes. n ≤ length bytes)) }
+        ensures given { IfOk result (λ n. WhereTold (shelf_left self.old) (λ bytes. take n buffer.new ≡ take n bytes)) }
+        ensures rest { IfOk result (λ n. shelf_left self.new ≡ option_map (drop n) (shelf_left self.old)) }
+        ensures end { IfOk result (λ n. WhereTold (shelf_left self.old) (λ bytes. (n ≡ 0) ↔ (bytes ≡ []))) }
+        ensures taken { IfOk result (λ n. shelf_taken self.new ≡ counted (shelf_taken self.old) n) }
+        ensures failed { OnErr result (Rose (shelf_faults self.old) (shelf_faults self.new)) }
+        ensures unknown { OnErr result (shelf_left self.new ≡ None) }
+        ensures none_taken { OnErr result (shelf_taken self.new ≡ shelf_taken self.old) }
+        ensures same { shelf_files self.new ≡ shelf_files self.old }
+        ensures last { shelf_last self.new ≡ shelf_last self.old }
+        ensures faults_stay { shelf_faults self.old ≤ shelf_faults self.new }
+        ensures faults_end { shelf_faults self.old ≤ 2 ^ 64 - 1 → shelf_faults self.new ≤ 2 ^ 64 - 1 }
+        ensures absences_stay { shelf_absences self.old ≤ shelf_absences self.new }
+        ensures absences_end { shelf_absences self.old ≤ 2 ^ 64 - 1 → shelf_absences self.new ≤ 2 ^ 64 - 1 }
+        ensures due { IsErr result ↔ (is_due (shelf_failing self.old) (shelf_calls self.old) ≡ true) }
+        ensures piece { IfOk result (λ n. n ≤ shelf_piece self.old) }
+        ensures calls { shelf_calls self.new ≡ counted (shelf_calls self.old) 1 }
+        ensures failing { shelf_failing self.new ≡ shelf_failing self.old }
+        ensures piece_stays { shelf_piece self.new ≡ shelf_piece self.old }
+    {
+        if self.next_fails() {
+            self.faults = self.faults.saturating_add(1);
+            self.known = false;
+            return Err(Failed);
+        }
+        let n = give(
+            rest_of(&self.files, self.chosen, self.at),
+            self.piece,
+            buffer,
+        );
+        self.at = self.at.saturating_add(n);
+        self.taken = self.taken.saturating_add(n as u64);
+        Ok(n)
+    }
+}
