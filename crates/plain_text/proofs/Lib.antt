@@ -1,0 +1,9 @@
+pub mod FewLines
+pub mod FirstLine
+pub mod Joined
+pub mod LeadingZeros
+pub mod Numbers
+pub mod Parts
+pub mod ReadBack
+pub mod Spelled
+pub mod Trimmed
