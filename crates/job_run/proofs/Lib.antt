@@ -1,0 +1,11 @@
+mod Coming
+mod PutSteps
+mod Outcomes
+mod Releasing
+pub mod Cuts
+pub mod Digits
+pub mod RecordLines
+pub mod RecordFacts
+mod CsvLines
+mod FlatLines
+mod FlatReleases

@@ -1,0 +1,11 @@
+pub mod Refusals
+pub mod Seen
+pub mod Usable
+pub mod FlatRelease
+pub mod FlatCells
+pub mod TableLines
+pub mod ReportText
+pub mod Stops
+pub mod Outcome
+pub mod Reports
+pub mod Released

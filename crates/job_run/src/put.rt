@@ -1,0 +1,17 @@
+use crate::report::{FileRef, Summary};
+use sdc_base::{Items, Text};
+
+/// A file that is to be put.
+#[derive(Drop)]
+pub(crate) struct Put {
+    pub file: FileRef,
+    pub name: Text,
+    pub bytes: Items<u8>,
+}
+
+/// What a release puts, in this order, and its numbers.
+#[derive(Drop)]
+pub(crate) struct Release {
+    pub puts: Items<Put>,
+    pub summary: Summary,
+}

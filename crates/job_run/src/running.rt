@@ -1,0 +1,107 @@
+ghost use Rattle.std.specs.Prelude.{◌≡◌, ◌↔◌, None, Some, List, ℕ, option_map, OnOk, IsErrOf, ◌+◌};
+ghost use Rattle.sdc_base.specs.Counts.{Rose, counted};
+ghost use Rattle.sdc_base.specs.Told.{WhereTold};
+ghost use Rattle.office_io.specs.Files.{held_name};
+ghost use Rattle.job_run.specs.Outcome.{job_name, outcome_of, limit, ComesTo};
+ghost use Rattle.job_run.specs.Released.{Releases};
+ghost use Rattle.job_run.specs.Reports.{Meets, Leaves, LeavesAll, Settles, report_of};
+ghost use Rattle.job_run.specs.declared.report.FileRef.{FileRef as AnyFile};
+ghost use Rattle.job_run.specs.declared.report.Summary.{Summary as Numbers};
+
+use crate::flat_release::flat_release;
+use crate::inputs::read_inputs;
+use crate::puts::put_files;
+use crate::report::{Fault, Report, Summary};
+use crate::stop::Stop;
+use office_io::{Shelf, Tray};
+use sdc_base::Text;
+use std::alloc::Global;
+
+/// Does what the words say: `run JOB` reads the files of a job from the shelf and puts its
+/// certificate and its table.
+pub fn run<S: Shelf, T: Tray>(alloc: Global, words: &[Text], shelf: &mut S, tray: &mut T) -> Report
+    // Usage comes exactly where the words are none of the forms that are built.
+    ensures usage { (result ≡ Report.Usage) ↔ (job_name words.now ≡ None) }
+
+    // The answer is what the told files come to, and the tray holds what the answer says.
+    ensures told { WhereTold (job_name words.now) (λ name. WhereTold (S.files shelf.old) (λ fs. Meets result (outcome_of fs name))) }
+    ensures left { WhereTold (job_name words.now) (λ name. WhereTold (S.files shelf.old) (λ fs. Leaves result (outcome_of fs name) (T.files tray.old) (T.files tray.new))) }
+    ensures untouched { LeavesAll result (T.files tray.old) (T.files tray.new) }
+
+    // A release makes two puts, and an answer that leaves the tray makes none.
+    ensures once { (summary : Numbers) → result ≡ Report.Released summary → T.puts tray.new ≡ counted (T.puts tray.old) 2 }
+    ensures no_put { LeavesAll result (T.puts tray.old) (T.puts tray.new) }
+
+    // A release is that of the job and the records of the told files.
+    ensures released { WhereTold (job_name words.now) (λ name. WhereTold (S.files shelf.old) (λ fs. (summary : Numbers) → result ≡ Report.Released summary
+        → Releases fs name summary (T.files tray.old) (T.files tray.new))) }
+
+    // Without a fault of the shelf or the tray, the outcome of the told files is the answer, want of memory aside.
+    ensures complete { WhereTold (job_name words.now) (λ name. WhereTold (S.files shelf.old) (λ fs.
+        ¬ Rose (S.faults shelf.old) (S.faults shelf.new) → ¬ Rose (T.faults tray.old) (T.faults tray.new) → Settles result (outcome_of fs name))) }
+
+    // Each refusal has its cause, whatever the shelf and the tray tell.
+    ensures absent { (f : AnyFile) → result ≡ Report.Refused (Fault.Absent f) → Rose (S.absences shelf.old) (S.absences shelf.new) }
+    ensures too_long { (f : AnyFile) → result ≡ Report.Refused (Fault.TooLong f) → S.taken shelf.new ≡ limit + 1 }
+    ensures read_fault { (f : AnyFile) → result ≡ Report.ReadFault f → Rose (S.faults shelf.old) (S.faults shelf.new) }
+    ensures came_to { WhereTold (job_name words.now) (λ name. WhereTold (S.files shelf.old) (λ fs. (f : AnyFile) → result ≡ Report.ReadFault f
+        → (held : List ℕ) × ComesTo fs name f held × (S.last shelf.new ≡ held_name fs held))) }
+    ensures write_fault { (f : AnyFile) → result ≡ Report.WriteFault f → Rose (T.faults tray.old) (T.faults tray.new) }
+{
+    match job_of_words(words) {
+        None => Report::Usage,
+        Some(name) => report(release(alloc, name, shelf, tray)),
+    }
+}
+
+// The job's name, where the words are `run JOB`.
+fn job_of_words(words: &[Text]) -> Option<&Text>
+    ensures { option_map (λ name. name.now) result ≡ job_name words.now }
+{
+    if words.len() == 2
+        && words[0].as_slice() == b"run".as_slice()
+        && !words[1].as_slice().is_empty()
+    {
+        Some(&words[1])
+    } else {
+        None
+    }
+}
+
+// The whole run of a job: everything that is put is made before the first put.
+fn release<S: Shelf, T: Tray>(
+    alloc: Global,
+    name: &Text,
+    shelf: &mut S,
+    tray: &mut T,
+) -> Result<Summary, Stop>
+    ensures told { WhereTold (S.files shelf.old) (λ fs. Meets (report_of result) (outcome_of fs name.now)) }
+    ensures left { WhereTold (S.files shelf.old) (λ fs. Leaves (report_of result) (outcome_of fs name.now) (T.files tray.old) (T.files tray.new)) }
+    ensures untouched { LeavesAll (report_of result) (T.files tray.old) (T.files tray.new) }
+    ensures once { OnOk result (T.puts tray.new ≡ counted (T.puts tray.old) 2) }
+    ensures no_put { LeavesAll (report_of result) (T.puts tray.old) (T.puts tray.new) }
+    ensures absent { (f : AnyFile) → IsErrOf result (Stop.Refused (Fault.Absent f)) → Rose (S.absences shelf.old) (S.absences shelf.new) }
+    ensures too_long { (f : AnyFile) → IsErrOf result (Stop.Refused (Fault.TooLong f)) → S.taken shelf.new ≡ limit + 1 }
+    ensures read_fault { (f : AnyFile) → IsErrOf result (Stop.ReadFault f) → Rose (S.faults shelf.old) (S.faults shelf.new) }
+    ensures came_to { WhereTold (S.files shelf.old) (λ fs. (f : AnyFile) → IsErrOf result (Stop.ReadFault f)
+        → (held : List ℕ) × ComesTo fs name.now f held × (S.last shelf.new ≡ held_name fs held)) }
+    ensures write_fault { (f : AnyFile) → IsErrOf result (Stop.WriteFault f) → Rose (T.faults tray.old) (T.faults tray.new) }
+{
+    let (job, records) = read_inputs(alloc, shelf, name)?;
+    let planned = flat_release(alloc, job, records)?;
+    put_files(tray, planned.puts.as_slice())?;
+    Ok(planned.summary)
+}
+
+// The report of how a run of a job went on.
+fn report(outcome: Result<Summary, Stop>) -> Report
+    ensures { result ≡ report_of outcome }
+{
+    match outcome {
+        Ok(summary) => Report::Released(summary),
+        Err(Stop::Refused(fault)) => Report::Refused(fault),
+        Err(Stop::ReadFault(file)) => Report::ReadFault(file),
+        Err(Stop::WriteFault(file)) => Report::WriteFault(file),
+        Err(Stop::Memory) => Report::Memory,
+    }
+}
