@@ -1,0 +1,165 @@
+ghost use Rattle.std.specs.Prelude.{◌≡◌, ◌^◌, ◌≤◌, ◌<◌};
+ghost use Rattle.sdc_base.specs.Counts.{Rose};
+
+use office_io::{BeginFault, Failed, Shelf};
+use sdc_base::Text;
+use std::fs;
+use std::io::{ErrorKind, Read};
+use std::rt::Files;
+
+/// The real files of the system, to be read by their paths: a run's inputs come from here.
+///
+/// A name is a path, and one that doesn't begin with a slash is looked for in the current folder.
+/// The shelf is a trusted edge: it tells nothing of what the files hold, since no proof sees the
+/// system. It counts its faults, the files that it didn't find, and the bytes that it gave since a
+/// file was last begun. Each count stands still at the last value of its type.
+#[derive(Drop)]
+pub struct FileShelf<'a, R: Files> {
+    rt: &'a R,
+    // the chosen file
+    file: Option<R::File>,
+    taken: u64,
+    faults: u64,
+    absences: u64,
+}
+
+impl<'a, R: Files> FileShelf<'a, R> {
+    ghost use Rattle.std.specs.Prelude.{Some, None, []};
+
+    /// A shelf from which no file is chosen yet.
+    pub fn new(rt: &'a R) -> Self
+        ensures files { ⟦<FileShelf<'a, R> as Shelf>⟧.files result ≡ None }
+        ensures left { ⟦<FileShelf<'a, R> as Shelf>⟧.left result ≡ Some [] }
+        ensures taken { ⟦<FileShelf<'a, R> as Shelf>⟧.taken result ≡ 0 }
+        ensures last { ⟦<FileShelf<'a, R> as Shelf>⟧.last result ≡ None }
+        ensures faults { ⟦<FileShelf<'a, R> as Shelf>⟧.faults result ≡ 0 }
+        ensures absences { ⟦<FileShelf<'a, R> as Shelf>⟧.absences result ≡ 0 }
+    {
+        FileShelf {
+            rt,
+            file: None,
+            taken: 0,
+            faults: 0,
+            absences: 0,
+        }
+    }
+
+    fn count_fault(&mut self)
+        ensures rose { Rose self.old.faults self.new.faults }
+        ensures stays { self.old.faults ≤ self.new.faults }
+        ensures end { self.new.faults < 2 ^ 64 }
+        ensures rest { self.new ≡ record self.old { faults = self.new.faults } }
+    {
+        self.faults = self.faults.saturating_add(1);
+    }
+}
+
+impl<'a, R: Files> Shelf for FileShelf<'a, R> {
+    ghost use Rattle.std.specs.Prelude.{Some, None, [], if◌then◌else◌, is_some};
+
+    ghost files = { λ _. None };
+
+    ghost left = { λ s. if is_some s.file then None else Some [] };
+
+    ghost taken = { λ s. s.taken };
+
+    ghost last = { λ _. None };
+
+    ghost faults = { λ s. s.faults };
+
+    ghost absences = { λ s. s.absences };
+
+    fn begin(&mut self, name: &Text) -> Result<(), BeginFault> {
+        self.file = None;
+        self.taken = 0;
+        // A name that isn't UTF-8 is a fault: the kit opens no such path, so nobody has looked.
+        let Ok(path) = str::from_utf8(name.as_slice()) else {
+            self.count_fault();
+            return Err(BeginFault::Failed);
+        };
+        match fs::open(self.rt, path) {
+            Ok(file) => {
+                self.file = Some(file);
+                Ok(())
+            }
+            Err(e) if e.kind() == ErrorKind::NotFound => {
+                self.absences = self.absences.saturating_add(1);
+                Err(BeginFault::Absent)
+            }
+            Err(_) => {
+                self.count_fault();
+                Err(BeginFault::Failed)
+            }
+        }
+    }
+
+    fn read(&mut self, buffer: &mut [u8]) -> Result<usize, Failed> {
+        let Some(file) = self.file.as_mut() else {
+            self.taken = self.taken.saturating_add(0);
+            return Ok(0);
+        };
+        match file.read(buffer) {
+            Ok(n) => {
+                self.taken = self.taken.saturating_add(n as u64);
+                Ok(n)
+            }
+            Err(_) => {
+                self.count_fault();
+                Err(Failed)
+            }
+        }
+    }
+}
+
+#[cfg(test)]
+mod tests {
+    use super::FileShelf;
+    use crate::test_folder::TestFolder;
+    use office_io::{FileFault, Shelf, read_all};
+    use sdc_base::Text;
+    use std::fs;
+    use std::test::Fail;
+
+    // The file has 9,000 bytes, so it is read in several pieces. Each row has a name, the fault that
+    // is wanted, and the counts of faults, of absences and of bytes taken that are wanted after it.
+    #[test]
+    fn real_files(rt: HostRuntime) -> Result<(), Fail> {
+        let alloc = rt.alloc();
+        let folder = TestFolder::make(&rt, "shelf")?;
+        let mut bytes = Vec::new(alloc);
+        for i in 0..9_000u64 {
+            bytes.push((i * i % 251) as u8)?;
+        }
+        fs::write(&rt, folder.path(&rt, "long")?.as_str(), bytes.as_slice())?;
+        fs::create_dir(&rt, folder.path(&rt, "inner")?.as_str())?;
+        let rows = [
+            ("missing", Some(FileFault::Absent), 0, 1, 0),
+            ("nowhere/long", Some(FileFault::Absent), 0, 2, 0),
+            ("long", None, 0, 2, 9_000),
+            ("inner", Some(FileFault::Failed), 1, 2, 0),
+            ("long\0", Some(FileFault::Failed), 2, 2, 0),
+            ("long", None, 2, 2, 9_000),
+        ];
+        let mut shelf = FileShelf::new(&rt);
+        for (file, fault, faults, absences, taken) in rows {
+            match read_all(alloc, &mut shelf, &folder.name(&rt, file)?, 9_000) {
+                Ok(read) => {
+                    assert_eq!(rt; fault, None, "{file}");
+                    assert_eq!(rt; read.as_slice(), bytes.as_slice());
+                }
+                Err(why) => assert_eq!(rt; Some(why), fault, "{file}"),
+            }
+            assert_eq!(rt; shelf.faults, faults, "{file}");
+            assert_eq!(rt; shelf.absences, absences, "{file}");
+            assert_eq!(rt; shelf.taken, taken, "{file}");
+        }
+        let stray = Text::new(vec![in alloc; 255u8]?);
+        let got = read_all(alloc, &mut shelf, &stray, 9_000);
+        assert_eq!(rt; got.err(), Some(FileFault::Failed));
+        assert_eq!(rt; shelf.faults, 3);
+        // nothing is chosen after a refusal
+        let mut buffer = [0u8; 4];
+        assert_eq!(rt; shelf.read(&mut buffer).ok(), Some(0));
+        folder.remove(&rt)
+    }
+}
