@@ -1,0 +1,14 @@
+pub mod WordList
+pub mod Digits
+pub mod NumberList
+pub mod LineSteps
+pub mod Lenient
+pub mod LineEnds
+pub mod FirstFault
+pub mod PassedOver
+pub mod OwnLines
+pub mod Spelled
+pub mod SpelledLines
+pub mod SpelledText
+pub mod RowsHold
+pub mod RoundTrip

@@ -1,0 +1,27 @@
+-- The faults of metadata with their lines, as the errors of calls name them (own); want of memory names none.
+use Rattle.std.specs.Prelude.{ℕ, Option, None, Some, Result}
+use Rattle.sdc_base.specs.Steps.{map_fault}
+use Rattle.rda_meta.specs.declared.faults.MetaWhy.{MetaWhy}
+use Rattle.rda_meta.specs.declared.faults.LineError.{LineError}
+use Rattle.rda_meta.specs.declared.faults.LineError.TheVariants as line_error
+use Rattle.rda_meta.specs.declared.faults.MetaError.{MetaError}
+use Rattle.rda_meta.specs.declared.faults.MetaError.TheVariants as meta_error
+
+-- the fault for which a line isn't taken in
+abbrev pub why_of : LineError → Option MetaWhy
+why_of line_error.Memory = None
+why_of (line_error.Fault why) = Some why
+
+-- the fault for which metadata aren't read, behind the number of its line
+abbrev pub fault_of : MetaError → Option (ℕ × MetaWhy)
+fault_of meta_error.Memory = None
+fault_of (meta_error.At line why) = Some (line, why)
+
+-- what a line gives, its fault behind the line's number
+abbrev pub at_line : {A : Type 0} → ℕ → Result A MetaWhy → Result A (ℕ × MetaWhy)
+at_line line given = map_fault (λ why. (line, why)) given
+
+-- the error of the line with this number
+abbrev pub error_of : ℕ → LineError → MetaError
+error_of line line_error.Memory = meta_error.Memory
+error_of line (line_error.Fault why) = meta_error.At line why

@@ -1,0 +1,13 @@
+pub mod Words
+pub mod Faults
+pub mod Keywords
+pub mod Arguments
+pub mod Said
+pub mod KeywordLines
+pub mod VariableLines
+pub mod Metadata
+pub mod Spelling
+pub mod Canonical
+pub mod Meaning
+pub mod Laws
+pub mod Rows

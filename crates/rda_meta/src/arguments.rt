@@ -1,0 +1,231 @@
+ghost use Rattle.std.specs.Prelude.{◌≡◌, ◌<◌, ◌≤◌, length, sum};
+ghost use Rattle.std.specs.List.{list_any, list_all};
+ghost use Rattle.sdc_base.specs.Blanks.{is_blank};
+ghost use Rattle.sdc_base.specs.Answers.{Gives};
+ghost use Rattle.rda_meta.specs.Faults.{why_of};
+ghost use Rattle.rda_meta.specs.Arguments.{is_name_byte as named, is_file_name as names_file, is_lead as leads, no_argument as none, only_word as only, decimals_argument as decimals, file_argument as file, lead_argument as lead, code_argument as code, numbers_of as numbered, is_zero, without_end_zeros, are_levels as levels_are, levels_argument as leveled, argument_of as argued};
+
+use crate::faults::{LineError, MetaWhy};
+use crate::numbers::number_in;
+use crate::setting::{Argument, Keyword};
+use crate::words::{Words, blank};
+use plain_text::trim;
+use sdc_base::{Items, Text};
+use std::alloc::Global;
+
+/// What the words behind a keyword say, for a variable of this width, or BadValue where they aren't
+/// what the keyword wants.
+#[tactic(auto, unfolding(crate::specs::Arguments::argument_of))]
+pub(crate) fn argument_of(
+    alloc: Global,
+    keyword: Keyword,
+    width: u32,
+    words: &mut Words,
+) -> Result<Argument, LineError>
+    ensures { Gives why_of (λ argument. argument) result (argued keyword width words.old) }
+{
+    match keyword {
+        Keyword::Decimals => decimals_argument(words),
+        Keyword::CodeList => file_argument(alloc, words),
+        Keyword::HierLevels => levels_argument(alloc, width, words),
+        Keyword::HierCodeList => file_argument(alloc, words),
+        Keyword::HierLeadString => lead_argument(alloc, words),
+        Keyword::TotCode => code_argument(alloc, words),
+        Keyword::Request | Keyword::Holding | Keyword::Distance => Ok(Argument::Nothing),
+        _ => no_argument(words),
+    }
+}
+
+// No word at all.
+fn no_argument(words: &mut Words) -> Result<Argument, LineError>
+    ensures { Gives why_of (λ argument. argument) result (none words.old) }
+{
+    let word = words.next_word();
+    if word.is_some() {
+        return Err(LineError::Fault(MetaWhy::BadValue));
+    }
+    Ok(Argument::Nothing)
+}
+
+// Exactly one word.
+fn only_word<'a>(words: &mut Words<'a>) -> Result<&'a [u8], LineError>
+    ensures { Gives why_of (λ word. word.now) result (only words.old) }
+{
+    let Some(word) = words.next_word() else {
+        return Err(LineError::Fault(MetaWhy::BadValue));
+    };
+    let other = words.next_word();
+    if other.is_some() {
+        return Err(LineError::Fault(MetaWhy::BadValue));
+    }
+    Ok(word)
+}
+
+// One word, a number from 0 to 9.
+#[tactic(auto, unfolding(crate::specs::Arguments::decimals_argument))]
+fn decimals_argument(words: &mut Words) -> Result<Argument, LineError>
+    ensures { Gives why_of (λ argument. argument) result (decimals words.old) }
+{
+    let word = only_word(words)?;
+    let Some(number) = number_in(0, 9, word) else {
+        return Err(LineError::Fault(MetaWhy::BadValue));
+    };
+    Ok(Argument::Number(number as u8))
+}
+
+// One word, a file name.
+#[tactic(auto, unfolding(crate::specs::Arguments::file_argument))]
+fn file_argument(alloc: Global, words: &mut Words) -> Result<Argument, LineError>
+    ensures { Gives why_of (λ argument. argument) result (file words.old) }
+{
+    let word = only_word(words)?;
+    if !is_file_name(word) {
+        return Err(LineError::Fault(MetaWhy::BadValue));
+    }
+    Ok(Argument::Word(Text::new(word.to_vec(alloc)?)))
+}
+
+// One word, a lead string.
+#[tactic(auto, unfolding(crate::specs::Arguments::lead_argument))]
+fn lead_argument(alloc: Global, words: &mut Words) -> Result<Argument, LineError>
+    ensures { Gives why_of (λ argument. argument) result (lead words.old) }
+{
+    let word = only_word(words)?;
+    if !is_lead(word) {
+        return Err(LineError::Fault(MetaWhy::BadValue));
+    }
+    Ok(Argument::Word(Text::new(word.to_vec(alloc)?)))
+}
+
+// One word, a code; blanks at its ends are taken off.
+#[tactic(auto, unfolding(crate::specs::Arguments::code_argument))]
+fn code_argument(alloc: Global, words: &mut Words) -> Result<Argument, LineError>
+    ensures { Gives why_of (λ argument. argument) result (code words.old) }
+{
+    let word = only_word(words)?;
+    Ok(Argument::Word(Text::new(trim(word).to_vec(alloc)?)))
+}
+
+// The widths of levels; zeros at the end add none.
+#[tactic(auto, unfolding(crate::specs::Arguments::levels_argument))]
+fn levels_argument(alloc: Global, width: u32, words: &mut Words) -> Result<Argument, LineError>
+    ensures { Gives why_of (λ argument. argument) result (leveled width words.old) }
+{
+    let numbers = numbers_of(alloc, words)?;
+    let levels = without_zeros(numbers.as_slice());
+    if !are_levels(width, levels) {
+        return Err(LineError::Fault(MetaWhy::BadValue));
+    }
+    Ok(Argument::Levels(Items::new(levels.to_vec(alloc)?)))
+}
+
+// Each word as a number.
+fn numbers_of(alloc: Global, words: &mut Words) -> Result<Items<u8>, LineError>
+    ensures { Gives why_of (λ numbers. numbers) result (numbered words.old) }
+{
+    let mut numbers = Items::empty(alloc);
+    'words: while let Some(word) = words.next_word() {
+        let Some(number) = number_in(0, 255, word) else {
+            return Err(LineError::Fault(MetaWhy::BadValue));
+        };
+        numbers.push(number as u8)?;
+    }
+    Ok(numbers)
+}
+
+// A level of no width.
+fn zero(n: u8) -> bool
+    ensures { result ≡ is_zero n }
+{
+    n == 0
+}
+
+// The numbers without the zeros at their end.
+fn without_zeros(numbers: &[u8]) -> &[u8]
+    ensures { result.now ≡ without_end_zeros numbers.now }
+{
+    let mut end = numbers.len();
+    'zeros: while end > 0 && zero(numbers[end - 1]) {
+        end -= 1;
+    }
+    &numbers[..end]
+}
+
+// At most 9 levels, none of them 0, that make up the width.
+fn are_levels(width: u32, levels: &[u8]) -> bool
+    ensures { result ≡ levels_are width levels.now }
+{
+    if levels.len() > 9 {
+        return false;
+    }
+    if has_zero(levels) {
+        return false;
+    }
+    sum_of(levels) == width
+}
+
+// Whether a level is 0.
+fn has_zero(levels: &[u8]) -> bool
+    ensures { result ≡ list_any is_zero levels.now }
+{
+    levels.iter().any(|n| *n == 0)
+}
+
+// The width of all levels.
+fn sum_of(levels: &[u8]) -> u32
+    requires { length levels.now < 10 }
+    ensures { result ≡ sum levels.now }
+{
+    let mut sum = 0;
+    'levels: for n in levels {
+        sum += u32::from(*n);
+    }
+    sum
+}
+
+// Printable ASCII without the double quote.
+fn is_name_byte(b: u8) -> bool
+    ensures { result ≡ named b }
+{
+    b > 31 && b < 127 && b != b'"'
+}
+
+// Whether all bytes are such.
+fn all_name_bytes(word: &[u8]) -> bool
+    ensures { result ≡ list_all named word.now }
+{
+    word.iter().all(|b| is_name_byte(*b))
+}
+
+// 1 to 255 such bytes.
+fn is_file_name(word: &[u8]) -> bool
+    ensures { result ≡ names_file word.now }
+{
+    if word.is_empty() {
+        return false;
+    }
+    if word.len() > 255 {
+        return false;
+    }
+    all_name_bytes(word)
+}
+
+// Whether there is a space or a tab.
+fn has_blank(word: &[u8]) -> bool
+    ensures { result ≡ list_any is_blank word.now }
+{
+    word.iter().any(|b| blank(*b))
+}
+
+// 1 to 8 bytes without a blank.
+fn is_lead(word: &[u8]) -> bool
+    ensures { result ≡ leads word.now }
+{
+    if word.is_empty() {
+        return false;
+    }
+    if word.len() > 8 {
+        return false;
+    }
+    !has_blank(word)
+}

@@ -1,0 +1,92 @@
+ghost use Rattle.std.specs.Prelude.{◌≡◌, OnOk};
+ghost use Rattle.std.specs.List.{after_first, list_any};
+ghost use Rattle.sdc_base.specs.Answers.{Gives};
+ghost use Rattle.rda_meta.specs.Faults.{why_of};
+ghost use Rattle.rda_meta.specs.KeywordLines.{is_close, keyword_in as meant, is_again as again, setting_in as set, with_setting};
+ghost use Rattle.rda_meta.specs.Said.{says as stated};
+
+use crate::arguments::argument_of;
+use crate::entry::Entry;
+use crate::faults::{LineError, MetaWhy};
+use crate::keywords::{keyword_of, same_keyword};
+use crate::said::says;
+use crate::setting::{Keyword, Setting};
+use crate::words::{cut_at, words_in};
+use sdc_base::{Items, Memory};
+use std::alloc::Global;
+
+/// Keeps the setting as one more of the last variable. After want of memory that variable is lost.
+#[tactic(auto, using(crate::proofs::LineSteps::with_last, crate::proofs::LineSteps::with_none))]
+pub(crate) fn add_setting(entries: &mut Items<Entry>, setting: Setting) -> Result<(), Memory>
+    ensures { OnOk result (entries.new ≡ with_setting setting entries.old) }
+{
+    let Some(mut entry) = entries.pop() else {
+        return Ok(());
+    };
+    entry.said.push(setting)?;
+    entries.push(entry)?;
+    Ok(())
+}
+
+/// The setting of a keyword line of which this text stands behind the `<`.
+#[tactic(auto, unfolding(crate::specs::KeywordLines::setting_in))]
+pub(crate) fn setting_in(
+    alloc: Global,
+    entries: &[Entry],
+    text: &[u8],
+) -> Result<Setting, LineError>
+    ensures { Gives why_of (λ setting. setting) result (set entries.now text.now) }
+{
+    let keyword = keyword_in(text)?;
+    let Some(entry) = entries.last() else {
+        return Err(LineError::Fault(MetaWhy::BadName));
+    };
+    let mut words = words_in(behind_keyword(text));
+    let argument = argument_of(alloc, keyword, entry.width, &mut words)?;
+    if is_again(keyword, entry, entries) {
+        return Err(LineError::Fault(MetaWhy::Twice));
+    }
+    Ok(Setting { keyword, argument })
+}
+
+// Whether the keyword stood before, for this variable or, where it is the weight, for any.
+fn is_again(keyword: Keyword, entry: &Entry, entries: &[Entry]) -> bool
+    ensures { result ≡ again keyword entry.now entries.now }
+{
+    if same_keyword(keyword, Keyword::Weight) {
+        return some_weight(entries);
+    }
+    says(entry.said.as_slice(), keyword)
+}
+
+// Whether some variable is the weight.
+fn some_weight(entries: &[Entry]) -> bool
+    ensures { result ≡ list_any (λ e. stated Keyword.Weight e.said) entries.now }
+{
+    entries
+        .iter()
+        .any(|e| says(e.said.as_slice(), Keyword::Weight))
+}
+
+// The keyword that stands before the first `>`.
+#[tactic(auto, unfolding(crate::specs::KeywordLines::keyword_in))]
+fn keyword_in(text: &[u8]) -> Result<Keyword, LineError>
+    ensures { Gives why_of (λ keyword. keyword) result (meant text.now) }
+{
+    if !text.contains(&b'>') {
+        return Err(LineError::Fault(MetaWhy::UnknownKeyword));
+    }
+    let (name, _) = cut_at(b'>', text);
+    let Some(keyword) = keyword_of(name) else {
+        return Err(LineError::Fault(MetaWhy::UnknownKeyword));
+    };
+    Ok(keyword)
+}
+
+// What stands behind the first `>`.
+fn behind_keyword(text: &[u8]) -> &[u8]
+    ensures { result.now ≡ after_first is_close text.now }
+{
+    let (_, behind) = cut_at(b'>', text);
+    behind
+}

@@ -1,0 +1,101 @@
+ghost use Rattle.std.specs.Prelude.{◌≡◌};
+ghost use Rattle.std.specs.Str.{str_eq_ignore_ascii_case};
+ghost use Rattle.rda_meta.specs.Keywords.{keyword_of as meant, is_passed as passed, place_of as placed, same_keyword as same};
+
+use crate::setting::Keyword;
+
+// Whether the word is this name, in letters of any case.
+fn spells(word: &[u8], name: &[u8]) -> bool
+    ensures { result ≡ str_eq_ignore_ascii_case word.now name.now }
+{
+    word.eq_ignore_ascii_case(name)
+}
+
+/// The keyword of this spelling, in letters of any case.
+#[tactic(auto, unfolding(crate::specs::Keywords::keyword_of))]
+pub(crate) fn keyword_of(word: &[u8]) -> Option<Keyword>
+    ensures { result ≡ meant word.now }
+{
+    if spells(word, b"RECODEABLE") {
+        return Some(Keyword::Recodeable);
+    }
+    if spells(word, b"RECODABLE") {
+        return Some(Keyword::Recodable);
+    }
+    if spells(word, b"NUMERIC") {
+        return Some(Keyword::Numeric);
+    }
+    if spells(word, b"DECIMALS") {
+        return Some(Keyword::Decimals);
+    }
+    if spells(word, b"WEIGHT") {
+        return Some(Keyword::Weight);
+    }
+    if spells(word, b"CODELIST") {
+        return Some(Keyword::CodeList);
+    }
+    if spells(word, b"HIERARCHICAL") {
+        return Some(Keyword::Hierarchical);
+    }
+    if spells(word, b"HIERLEVELS") {
+        return Some(Keyword::HierLevels);
+    }
+    if spells(word, b"HIERCODELIST") {
+        return Some(Keyword::HierCodeList);
+    }
+    if spells(word, b"HIERLEADSTRING") {
+        return Some(Keyword::HierLeadString);
+    }
+    if spells(word, b"TOTCODE") {
+        return Some(Keyword::TotCode);
+    }
+    if spells(word, b"REQUEST") {
+        return Some(Keyword::Request);
+    }
+    if spells(word, b"HOLDING") {
+        return Some(Keyword::Holding);
+    }
+    if spells(word, b"DISTANCE") {
+        return Some(Keyword::Distance);
+    }
+    None
+}
+
+/// Whether lines of this keyword are passed over and counted.
+pub(crate) fn is_passed(keyword: Keyword) -> bool
+    ensures { result ≡ passed keyword }
+{
+    match keyword {
+        Keyword::Request | Keyword::Holding | Keyword::Distance => true,
+        _ => false,
+    }
+}
+
+// The place of the keyword in the table.
+fn place_of(keyword: Keyword) -> u8
+    ensures { result ≡ placed keyword }
+{
+    match keyword {
+        Keyword::Recodeable => 0,
+        Keyword::Recodable => 1,
+        Keyword::Numeric => 2,
+        Keyword::Decimals => 3,
+        Keyword::Weight => 4,
+        Keyword::CodeList => 5,
+        Keyword::Hierarchical => 6,
+        Keyword::HierLevels => 7,
+        Keyword::HierCodeList => 8,
+        Keyword::HierLeadString => 9,
+        Keyword::TotCode => 10,
+        Keyword::Request => 11,
+        Keyword::Holding => 12,
+        Keyword::Distance => 13,
+    }
+}
+
+/// Whether both are one keyword.
+pub(crate) fn same_keyword(a: Keyword, b: Keyword) -> bool
+    ensures { result ≡ same a b }
+{
+    place_of(a) == place_of(b)
+}

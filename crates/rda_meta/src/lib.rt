@@ -1,0 +1,24 @@
+//! Metadata of microdata, read exactly: what each variable's bytes are and what they mean.
+#![tactic(auto)]
+
+mod arguments;
+mod entry;
+mod faults;
+mod keyword_lines;
+mod keywords;
+mod laws;
+mod line;
+mod meta;
+mod numbers;
+mod reading;
+mod said;
+mod setting;
+#[cfg(test)]
+mod tests;
+mod variable_lines;
+mod words;
+
+pub use faults::{MetaError, MetaWhy};
+pub use laws::{leniency, meaning, order, rows, spelling};
+pub use meta::{Meta, Shape, Variable};
+pub use reading::read_meta;
