@@ -1,0 +1,16 @@
+pub mod Children
+pub mod Growing
+pub mod Among
+pub mod Entries
+pub mod Links
+pub mod Faults
+pub mod Flat
+pub mod Lead
+pub mod LeadText
+pub mod Path
+pub mod Missing
+pub mod CodeList
+pub mod Levels
+pub mod LevelNodes
+pub mod Chains
+pub mod Laws

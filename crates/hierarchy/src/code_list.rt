@@ -1,0 +1,118 @@
+ghost use Rattle.std.specs.Prelude.{◌≡◌, ◌+◌, ◌-◌, ◌<◌, ◌≤◌, ◌^◌, ◌∷◌, ◌++◌, [], List, ℕ, length, take, drop, IfErr, OnOk, IsTrue};
+ghost use Rattle.std.specs.List.{before_first, position_or_len};
+ghost use Rattle.sdc_base.specs.Trees.{codes};
+ghost use Rattle.sdc_base.specs.Answers.{Fails, Gives};
+ghost use Rattle.hierarchy.specs.Faults.{fault_of};
+ghost use Rattle.hierarchy.specs.CodeList.{is_comma, is_quoted, unquoted, listed, codes_listed, kept_on, codes_of, IsListFault};
+
+use crate::entries::Nodes;
+use crate::tree_fault::TreeFault;
+use plain_text::{lines, trim};
+use sdc_base::Text;
+use std::alloc::{AllocError, Global};
+
+// The most codes of a list.
+const MOST: usize = 5000;
+
+/// The codes of a code list, in the order of their first lines: what stands before the first comma of
+/// a line, without blanks at both ends and then without one pair of double quotes. A line whose code is
+/// empty, is the total or stood before is passed over.
+///
+/// Lines are numbered from 1. The one refusal is `TooMany`, with the line of the 5,001st code that would be
+/// kept; want of memory is `Memory`. Either leaves what was lent as it was. It takes two look-ups a line and
+/// reads each byte a few times. The form is the manual's; commas in quotes and what is passed over are
+/// argus's own.
+pub fn read_codes(alloc: Global, bytes: &[u8], total: &Text) -> Result<Vec<Text>, TreeFault>
+    requires { length bytes.now < 2 ^ 32 }
+    ensures exact { Gives fault_of (λ codes. codes.items) result (codes_of total.now bytes.now) }
+    ensures kind { IfErr result IsListFault }
+{
+    let mut known = Nodes::new(alloc);
+    known.push(alloc, total.as_slice(), None)?;
+    let mut kept = Vec::new(alloc);
+    let mut reader = lines(bytes);
+    'lines: while let Some(line) = reader.next_line() {
+        keep(
+            alloc,
+            &mut known,
+            &mut kept,
+            listed_code(line.text),
+            line.number as u32,
+        )?;
+    }
+    Ok(kept)
+}
+
+// Keeps the code of a line, unless it is passed over.
+fn keep(
+    alloc: Global,
+    known: &mut Nodes,
+    kept: &mut Vec<Text>,
+    code: &[u8],
+    number: u32,
+) -> Result<(), TreeFault>
+    requires { (total : List ℕ) × (codes known.old ≡ total ∷ kept.old.items) }
+    ensures known { OnOk result ((total : List ℕ) → codes known.old ≡ total ∷ kept.old.items → codes known.new ≡ total ∷ kept.new.items) }
+    ensures kind { IfErr result IsListFault }
+    ensures ok { OnOk result ((total : List ℕ) → codes known.old ≡ total ∷ kept.old.items → (lines : List (List ℕ)) → kept_on total number kept.old.items code.now lines ≡ codes_listed total (number + 1) kept.new.items lines) }
+    ensures err { IfErr result (λ fault. (total : List ℕ) → codes known.old ≡ total ∷ kept.old.items → (lines : List (List ℕ)) → Fails (fault_of fault) (kept_on total number kept.old.items code.now lines)) }
+{
+    if code.is_empty() {
+        return Ok(());
+    }
+    if known.place_of(code).is_some() {
+        return Ok(());
+    }
+    if kept.len() >= MOST {
+        return Err(TreeFault::TooMany(number));
+    }
+    let text = Text::new(Vec::from_slice(alloc, code)?);
+    known.push(alloc, code, None)?;
+    kept.push(text)?;
+    Ok(())
+}
+
+// The code of a line.
+fn listed_code(line: &[u8]) -> &[u8]
+    ensures { result.now ≡ listed line.now }
+{
+    without_quotes(trim(before_comma(line)))
+}
+
+// What stands before the first comma, or the whole line where there is none.
+fn before_comma(line: &[u8]) -> &[u8]
+    ensures { result.now ≡ before_first is_comma line.now }
+{
+    &line[..comma_of(line)]
+}
+
+// The place of the first comma, or the length where there is none.
+fn comma_of(line: &[u8]) -> usize
+    ensures place { result ≡ position_or_len is_comma line.now }
+    ensures within { result ≤ length line.now }
+{
+    for (i, b) in line.iter().enumerate() {
+        if *b == b',' {
+            return i;
+        }
+    }
+    line.len()
+}
+
+// Without one pair of double quotes round it.
+fn without_quotes(bytes: &[u8]) -> &[u8]
+    ensures { result.now ≡ unquoted bytes.now }
+{
+    if quoted(bytes) {
+        return &bytes[1..bytes.len() - 1];
+    }
+    bytes
+}
+
+// Whether it begins and ends with a double quote, of which there are two.
+fn quoted(bytes: &[u8]) -> bool
+    ensures quoted { result ≡ is_quoted bytes.now }
+    ensures long { IsTrue result → 2 ≤ length bytes.now }
+{
+    bytes.len() >= 2 && bytes[0] == b'"' && bytes[bytes.len() - 1] == b'"'
+}
