@@ -1,9 +1,9 @@
 -- To which file a run came.
 use Rattle.std.proofs.Common.{◌≡◌, List, ℕ, Result, Ok, Err, IsOk, refl}
-use Rattle.sdc_base.specs.FlatJobs.{flat_job_of}
-use Rattle.sdc_base.specs.FlatMetadata.{flat_layout_of}
-use Rattle.sdc_base.specs.declared.flat_forms.FlatJob.{FlatJob}
-use Rattle.sdc_base.specs.declared.flat_forms.FlatLayout.{FlatLayout}
+use Rattle.job_run.specs.FlatJobs.{flat_job_of}
+use Rattle.job_run.specs.FlatMetadata.{flat_layout_of}
+use Rattle.job_run.specs.declared.flat_forms.FlatJob.{FlatJob}
+use Rattle.job_run.specs.declared.flat_forms.FlatLayout.{FlatLayout}
 use Rattle.office_io.specs.Files.{Files}
 use Rattle.job_run.specs.Outcome.{look, built, job_read, HasLayout}
 use Rattle.job_run.specs.declared.report.FileRef.{FileRef}

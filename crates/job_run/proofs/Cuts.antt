@@ -1,6 +1,6 @@
 -- A text cut at the first byte that is a mark.
 use Rattle.std.proofs.Common.{◌≡◌, ℕ, zero, suc, ◌+◌, ◌<◌, true, false, ◌==◌, List, [], ◌∷◌, length, take, drop, get_or, None, Some, refl, arith}
-use Rattle.sdc_base.specs.Fields.{cut_at}
+use Rattle.job_run.specs.Fields.{cut_at}
 
 -- where the bytes before place i aren't the mark and the byte there is, the cut is there
 pub cut_found : (mark : ℕ) (text : List ℕ) (i : ℕ) → i < length text → ((k : ℕ) → k < i → (get_or text k 0 == mark) ≡ false) → (get_or text i 0 == mark) ≡ true

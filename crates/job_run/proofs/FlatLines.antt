@@ -8,12 +8,12 @@ use Rattle.std.proofs.lemmas.List.{length-map}
 use Rattle.std.proofs.lemmas.List.FromFn.{length-range_with_len}
 use Rattle.std.proofs.lemmas.Grind.{flat_map-append}
 use Rattle.sdc_base.specs.Cells.{places, named_by, name_of, is_named, with_name, cells_of}
-use Rattle.sdc_base.specs.FlatRecords.{codes_of}
+use Rattle.job_run.specs.FlatRecords.{codes_of}
 use Rattle.sdc_base.specs.Records.{Name}
 use Rattle.sdc_base.specs.Sums.{truth}
 use Rattle.sdc_base.specs.TableText.{table_text, line_text, shown_text}
 use Rattle.sdc_base.specs.Trees.{Tree, code_in}
-use Rattle.sdc_base.specs.declared.flat_forms.FlatRecord.{FlatRecord}
+use Rattle.job_run.specs.declared.flat_forms.FlatRecord.{FlatRecord}
 use Rattle.sdc_base.specs.declared.rows.Row.{Row}
 use Rattle.job_run.specs.FlatCells.{AreCellsOf, AreSmall}
 use Rattle.job_run.specs.FlatRelease.{tree_of, row_of, relations_among}

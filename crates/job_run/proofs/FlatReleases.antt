@@ -6,8 +6,8 @@ use Rattle.sdc_base.specs.Sums.{truth}
 use Rattle.sdc_base.specs.TableText.{table_text}
 use Rattle.sdc_base.specs.Trees.{Tree}
 use Rattle.sdc_base.specs.declared.rows.Row.{Row}
-use Rattle.sdc_base.specs.declared.flat_forms.FlatJob.{FlatJob}
-use Rattle.sdc_base.specs.declared.flat_forms.FlatRecord.{FlatRecord}
+use Rattle.job_run.specs.declared.flat_forms.FlatJob.{FlatJob}
+use Rattle.job_run.specs.declared.flat_forms.FlatRecord.{FlatRecord}
 use Rattle.job_run.specs.FlatCells.{AreCellsOf}
 use Rattle.job_run.specs.FlatRelease.{flat_table, release_of, puts_of, summary_of, tree_of, rows_of, flat_cells}
 use Rattle.job_run.specs.TableLines.{lines_up_to}

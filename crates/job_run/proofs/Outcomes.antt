@@ -1,8 +1,8 @@
 -- What a run comes to, from what its inputs came to.
 use Rattle.std.proofs.Common.{◌≡◌, ◌≢◌, inl, inr, List, ℕ, Option, None, Some, Result, Ok, Err, IsErrOf, refl, ◌∙◌}
 use Rattle.sdc_base.specs.Answers.{Fails}
-use Rattle.sdc_base.specs.declared.flat_forms.FlatJob.{FlatJob}
-use Rattle.sdc_base.specs.declared.flat_forms.FlatRecord.{FlatRecord}
+use Rattle.job_run.specs.declared.flat_forms.FlatJob.{FlatJob}
+use Rattle.job_run.specs.declared.flat_forms.FlatRecord.{FlatRecord}
 use Rattle.office_io.specs.Files.{Files}
 use Rattle.job_run.specs.FlatRelease.{release_of, unless_named}
 use Rattle.job_run.specs.Outcome.{inputs_of, outcome_of}

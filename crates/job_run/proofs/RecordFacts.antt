@@ -4,10 +4,10 @@ use Rattle.std.specs.Str.{bytes_eq}
 use Rattle.std.specs.Str.Parse.{digits_value}
 use Rattle.std.proofs.lemmas.List.Elements.{All-nil, All-cons}
 use Rattle.sdc_base.specs.Steps.{◌>>=◌, or_fault, refuse}
-use Rattle.sdc_base.specs.Fields.{is_number, number_in}
-use Rattle.sdc_base.specs.FlatRecords.{record_of, records_of, field_of, is_plain_code, needed}
-use Rattle.sdc_base.specs.declared.flat_forms.FlatLayout.{FlatLayout}
-use Rattle.sdc_base.specs.declared.flat_forms.FlatRecord.{FlatRecord}
+use Rattle.sdc_base.specs.Tokens.{is_number, number_in}
+use Rattle.job_run.specs.FlatRecords.{record_of, records_of, field_of, is_plain_code, needed}
+use Rattle.job_run.specs.declared.flat_forms.FlatLayout.{FlatLayout}
+use Rattle.job_run.specs.declared.flat_forms.FlatRecord.{FlatRecord}
 
 -- the value of a step that did not fail, and what came after it
 ok_step : {A B F G : Type 0} (r : Result A F) (next : A → Result B F) (y : B) → (r >>= next) ≡ Ok y → ((x : A) → r ≡ Ok x → next x ≡ Ok y → G) → G

@@ -3,9 +3,9 @@ use Rattle.std.proofs.Common.{◌≡◌, ℕ, List, [], ◌∷◌, ◌++◌, Res
 use Rattle.std.proofs.lemmas.List.{append-nil}
 use Rattle.sdc_base.specs.Answers.{Fails}
 use Rattle.sdc_base.specs.Steps.{◌>>=◌}
-use Rattle.sdc_base.specs.FlatRecords.{record_of, records_of}
-use Rattle.sdc_base.specs.declared.flat_forms.FlatLayout.{FlatLayout}
-use Rattle.sdc_base.specs.declared.flat_forms.FlatRecord.{FlatRecord}
+use Rattle.job_run.specs.FlatRecords.{record_of, records_of}
+use Rattle.job_run.specs.declared.flat_forms.FlatLayout.{FlatLayout}
+use Rattle.job_run.specs.declared.flat_forms.FlatRecord.{FlatRecord}
 use Rattle.job_run.specs.declared.form_fault.FormFault.{FormFault}
 use Rattle.job_run.specs.declared.form_fault.FormFault.TheVariants as form
 use Rattle.job_run.specs.Refusals.{form_fault_of}

@@ -5,9 +5,9 @@ use Rattle.sdc_base.specs.Places.{first_place}
 use Rattle.sdc_base.specs.Rules.{frequency_names}
 use Rattle.sdc_base.specs.Sums.{freq}
 use Rattle.sdc_base.proofs.StepLemmas.{bind_ok}
-use Rattle.sdc_base.proofs.FieldLemmas.{ok_value}
-use Rattle.sdc_base.specs.declared.flat_forms.FlatJob.{FlatJob}
-use Rattle.sdc_base.specs.declared.flat_forms.FlatRecord.{FlatRecord}
+use Rattle.job_run.proofs.FieldLemmas.{ok_value}
+use Rattle.job_run.specs.declared.flat_forms.FlatJob.{FlatJob}
+use Rattle.job_run.specs.declared.flat_forms.FlatRecord.{FlatRecord}
 use Rattle.office_io.specs.Files.{Files}
 use Rattle.job_run.specs.FlatRelease.{release_of, unless_named, puts_of, summary_of, flat_cells, trees_of_records, rows_of}
 use Rattle.job_run.specs.Outcome.{inputs_of, outcome_of}

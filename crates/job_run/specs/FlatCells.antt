@@ -1,6 +1,6 @@
 -- The tree, the records and the cells of a job on one flat variable, as the code holds them (own).
 use Rattle.std.specs.Prelude.{◌≡◌, ◌≤◌, List, length, All, pos, ◌≤ℤ◌}
-use Rattle.sdc_base.specs.declared.flat_forms.FlatRecord.{FlatRecord}
+use Rattle.job_run.specs.declared.flat_forms.FlatRecord.{FlatRecord}
 use Rattle.job_run.specs.FlatRelease.{tree_of, rows_of, flat_cells}
 use Rattle.job_run.specs.declared.flat_cells.FlatCells.{FlatCells}
 

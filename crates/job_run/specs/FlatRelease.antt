@@ -7,9 +7,10 @@ use Rattle.sdc_base.specs.Sums.{truth}
 use Rattle.sdc_base.specs.Rules.{first_named}
 use Rattle.sdc_base.specs.TableText.{table_text}
 use Rattle.sdc_base.specs.CertificateText.{open_certificate}
-use Rattle.sdc_base.specs.FlatRecords.{codes_of}
-use Rattle.sdc_base.specs.declared.flat_forms.FlatJob.{FlatJob}
-use Rattle.sdc_base.specs.declared.flat_forms.FlatRecord.{FlatRecord}
+use Rattle.sdc_base.specs.declared.method.Method.TheVariants.{Modular}
+use Rattle.job_run.specs.FlatRecords.{codes_of}
+use Rattle.job_run.specs.declared.flat_forms.FlatJob.{FlatJob}
+use Rattle.job_run.specs.declared.flat_forms.FlatRecord.{FlatRecord}
 use Rattle.sdc_base.specs.declared.rows.Row.{Row}
 use Rattle.job_run.specs.declared.report.Fault.{Fault}
 use Rattle.job_run.specs.declared.report.Fault.TheVariants as fault
@@ -56,7 +57,7 @@ summary_of records = record { records = length records; skipped = 0; passed_over
 -- what is put: first the certificate, then the table
 abbrev pub puts_of : FlatJob → List FlatRecord → List Put
 puts_of job records =
-    record { file = file.Certificate; name = job.certificate; bytes = open_certificate (length (flat_cells records)) (relations_among (codes_of records)) }
+    record { file = file.Certificate; name = job.certificate; bytes = open_certificate Modular (length (flat_cells records)) (relations_among (codes_of records)) }
     ∷ record { file = file.Table 0; name = job.table; bytes = flat_table job records }
     ∷ []
 

@@ -1,3 +1,7 @@
+pub mod Fields
+pub mod FlatJobs
+pub mod FlatMetadata
+pub mod FlatRecords
 pub mod Refusals
 pub mod Seen
 pub mod Usable

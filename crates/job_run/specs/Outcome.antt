@@ -2,11 +2,11 @@
 use Rattle.std.specs.Prelude.{◌≡◌, ℕ, ◌^◌, List, [], ◌∷◌, length, nat_lt, if◌then◌else◌, Option, None, Some, Result, Ok, Err, IsOk, codes}
 use Rattle.std.specs.Str.{bytes_eq}
 use Rattle.sdc_base.specs.Steps.{◌>>=◌, map_fault}
-use Rattle.sdc_base.specs.FlatJobs.{flat_job_of}
-use Rattle.sdc_base.specs.FlatMetadata.{flat_layout_of}
-use Rattle.sdc_base.specs.FlatRecords.{flat_records_of}
-use Rattle.sdc_base.specs.declared.flat_forms.FlatJob.{FlatJob}
-use Rattle.sdc_base.specs.declared.flat_forms.FlatRecord.{FlatRecord}
+use Rattle.job_run.specs.FlatJobs.{flat_job_of}
+use Rattle.job_run.specs.FlatMetadata.{flat_layout_of}
+use Rattle.job_run.specs.FlatRecords.{flat_records_of}
+use Rattle.job_run.specs.declared.flat_forms.FlatJob.{FlatJob}
+use Rattle.job_run.specs.declared.flat_forms.FlatRecord.{FlatRecord}
 use Rattle.office_io.specs.Files.{Files}
 use Rattle.job_run.specs.FlatRelease.{release_of}
 use Rattle.job_run.specs.declared.report.FileRef.{FileRef}

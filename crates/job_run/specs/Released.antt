@@ -3,11 +3,12 @@ use Rattle.std.specs.Prelude.{◌≡◌, ℕ, false, List, length, Option, Ok, o
 use Rattle.std.specs.List.{AllByRecursion}
 use Rattle.office_io.specs.Files.{Files, put}
 use Rattle.sdc_base.specs.CertificateText.{open_certificate}
-use Rattle.sdc_base.specs.FlatRecords.{codes_of}
+use Rattle.sdc_base.specs.declared.method.Method.TheVariants.{Modular}
+use Rattle.job_run.specs.FlatRecords.{codes_of}
 use Rattle.sdc_base.specs.Rules.{frequency_names}
 use Rattle.sdc_base.specs.Sums.{freq}
-use Rattle.sdc_base.specs.declared.flat_forms.FlatJob.{FlatJob}
-use Rattle.sdc_base.specs.declared.flat_forms.FlatRecord.{FlatRecord}
+use Rattle.job_run.specs.declared.flat_forms.FlatJob.{FlatJob}
+use Rattle.job_run.specs.declared.flat_forms.FlatRecord.{FlatRecord}
 use Rattle.job_run.specs.FlatRelease.{trees_of_records, rows_of, flat_cells, flat_table, relations_among, summary_of}
 use Rattle.job_run.specs.Outcome.{inputs_of}
 use Rattle.job_run.specs.declared.report.Summary.{Summary}
@@ -20,7 +21,7 @@ NoneNamed job records =
 -- a folder with the certificate put, and then the table
 abbrev pub with_release : FlatJob → List FlatRecord → Files → Files
 with_release job records folder =
-    put (put folder job.certificate (open_certificate (length (flat_cells records)) (relations_among (codes_of records)))) job.table (flat_table job records)
+    put (put folder job.certificate (open_certificate Modular (length (flat_cells records)) (relations_among (codes_of records)))) job.table (flat_table job records)
 
 -- The job and the records are those of the told files, no cell is named, the numbers are those of the records and cells,
 -- and the folder is as it was, but for the certificate and the table, which shows the truth of every cell.

@@ -1,5 +1,5 @@
 -- What contracts see of the parts of a form that a reader lends (own).
-use Rattle.sdc_base.specs.FlatJobs.{JobFields}
+use Rattle.job_run.specs.FlatJobs.{JobFields}
 use Rattle.job_run.specs.declared.flat_job.LentFields.{LentFields}
 
 -- the fields of a job's text, each as the list of its bytes

@@ -1,8 +1,8 @@
 -- What a layout that was read gives to the reader of records (own).
 use Rattle.std.specs.Prelude.{◌≤◌}
-use Rattle.sdc_base.specs.FlatMetadata.{last_position}
-use Rattle.sdc_base.specs.declared.flat_forms.FieldPlace.{FieldPlace}
-use Rattle.sdc_base.specs.declared.flat_forms.FlatLayout.{FlatLayout}
+use Rattle.job_run.specs.FlatMetadata.{last_position}
+use Rattle.job_run.specs.declared.flat_forms.FieldPlace.{FieldPlace}
+use Rattle.job_run.specs.declared.flat_forms.FlatLayout.{FlatLayout}
 
 -- a place from byte 1 on, of one byte or more, that ends at byte 1,000 at the latest
 pub record IsUsablePlace (place : FieldPlace) : Type 0 where

@@ -1,6 +1,6 @@
-ghost use Rattle.std.specs.Prelude.{◌≡◌, ◌≤◌, ◌<◌, ◌^◌, option_map, IfSome};
+ghost use Rattle.std.specs.Prelude.{◌≡◌, option_map};
 ghost use Rattle.sdc_base.specs.Answers.{Gives};
-ghost use Rattle.sdc_base.specs.Fields.{after as behind, cut_at as cut, field_in as field, number_in as numbered};
+ghost use Rattle.job_run.specs.Fields.{after as behind, cut_at as cut, field_in as field};
 ghost use Rattle.job_run.specs.Refusals.{not_there_of};
 
 use crate::form_fault::FormFault;
@@ -41,7 +41,7 @@ pub(crate) fn cut_at(mark: u8, text: &[u8]) -> Option<(&[u8], &[u8])>
 
 /// The field of the text between this beginning and the first mark behind it, and what stands behind
 /// the mark. It is refused where the text has no such beginning or no mark.
-#[tactic(auto, unfolding(sdc_base::specs::Fields::field_in))]
+#[tactic(auto, unfolding(crate::specs::Fields::field_in))]
 pub(crate) fn field_in<'a>(
     front: &[u8],
     mark: u8,
@@ -56,30 +56,4 @@ pub(crate) fn field_in<'a>(
         return Err(NotThere);
     };
     Ok(parts)
-}
-
-/// The number that the digits write, where there is one digit or more, nothing but digits, and the
-/// number is from `low` to `high`. Leading zeros are accepted; a sign, a point or a blank isn't.
-pub(crate) fn number_in(low: u64, high: u64, digits: &[u8]) -> Option<u64>
-    requires { high < 10 ^ 18 }
-    ensures value { result ≡ numbered low high digits.now }
-    ensures within { IfSome result (λ n. (low ≤ n) × (n ≤ high)) }
-{
-    if digits.is_empty() {
-        return None;
-    }
-    let mut value = 0;
-    'digits: for b in digits {
-        if !b.is_ascii_digit() {
-            return None;
-        }
-        value = value * 10 + u64::from(*b - b'0');
-        if value > high {
-            return None;
-        }
-    }
-    if value < low {
-        return None;
-    }
-    Some(value)
 }

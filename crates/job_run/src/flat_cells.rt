@@ -1,14 +1,13 @@
 ghost use Rattle.std.specs.Prelude.{◌≡◌, ◌∷◌, [], ◌<◌, ◌≤◌, ◌^◌, All, length, map, IfOk};
-ghost use Rattle.sdc_base.specs.FlatRecords.{codes_of};
+ghost use Rattle.job_run.specs.FlatRecords.{codes_of};
 ghost use Rattle.sdc_base.specs.Rules.{first_named as first_of_named};
 ghost use Rattle.job_run.specs.FlatCells.{AreCellsOf, AreSmall};
 ghost use Rattle.job_run.specs.FlatRelease.{row_of};
 
+use crate::flat_forms::FlatRecord;
 use crate::flat_job::text_of;
 use crate::flat_records::codes_of_records;
-use sdc_base::{
-    Few, FlatRecord, Items, Memory, NodeList, Place, Row, cells_of, freq_of, is_too_few,
-};
+use sdc_base::{Few, Items, Memory, NodeList, Place, Row, cells_of, freq_of, is_too_few};
 use std::alloc::Global;
 use std::slice::from_ref;
 

@@ -3,13 +3,15 @@ ghost use Rattle.std.specs.Char.{is_ascii_alphanumeric};
 ghost use Rattle.std.specs.List.{list_all};
 ghost use Rattle.std.specs.Str.{bytes_eq};
 ghost use Rattle.sdc_base.specs.Answers.{Gives};
-ghost use Rattle.sdc_base.specs.FlatJobs.{flat_job_of, job_fields_of, job_of_fields as job_of, job_with, job_files, is_well_named as is_named_well, is_file_name as is_named_file, is_plain_name as is_named_plainly, is_printable, are_distinct};
+ghost use Rattle.job_run.specs.FlatJobs.{flat_job_of, job_fields_of, job_of_fields as job_of, job_with, job_files, is_well_named as is_named_well, is_file_name as is_named_file, is_plain_name as is_named_plainly, is_printable, are_distinct};
 ghost use Rattle.job_run.specs.Refusals.{form_fault_of, not_there_of};
 ghost use Rattle.job_run.specs.Seen.{fields_seen};
 
-use crate::fields::{NotThere, field_in, number_in};
+use crate::fields::{NotThere, field_in};
+use crate::flat_forms::FlatJob;
 use crate::form_fault::FormFault;
-use sdc_base::{FlatJob, Memory, Text};
+use plain_text::number_in;
+use sdc_base::{Memory, Text};
 use std::alloc::Global;
 
 /// The fields of a job's text, lent from it as they stand there.
@@ -30,7 +32,7 @@ pub(crate) struct LentFields<'a> {
 /// names differ.
 ///
 /// It is refused as not built where the bytes are no such text, and for want of memory.
-#[tactic(auto, unfolding(sdc_base::specs::FlatJobs::flat_job_of))]
+#[tactic(auto, unfolding(crate::specs::FlatJobs::flat_job_of))]
 pub(crate) fn read_flat_job(alloc: Global, bytes: &[u8]) -> Result<FlatJob, FormFault>
     ensures said { Gives form_fault_of (λ job. job) result (flat_job_of bytes.now) }
     ensures minimum { IfOk result (λ job. (1 ≤ job.minimum) × (job.minimum ≤ 1000000)) }
@@ -42,7 +44,7 @@ pub(crate) fn read_flat_job(alloc: Global, bytes: &[u8]) -> Result<FlatJob, Form
 }
 
 // The fields of a text that is a job's but for what its fields hold.
-#[tactic(auto, unfolding(sdc_base::specs::FlatJobs::job_fields_of))]
+#[tactic(auto, unfolding(crate::specs::FlatJobs::job_fields_of))]
 fn fields_of_job(bytes: &[u8]) -> Result<LentFields<'_>, NotThere>
     ensures { Gives not_there_of fields_seen result (job_fields_of bytes.now) }
 {
@@ -81,7 +83,7 @@ fn is_last_end(bytes: &[u8]) -> bool
 }
 
 // The job of fields whose numbers are in their ranges and whose names are as they may be.
-#[tactic(auto, unfolding(sdc_base::specs::FlatJobs::job_of_fields))]
+#[tactic(auto, unfolding(crate::specs::FlatJobs::job_of_fields))]
 fn job_of_fields(alloc: Global, fields: LentFields) -> Result<FlatJob, FormFault>
     ensures said { Gives form_fault_of (λ job. job) result (job_of (fields_seen fields.entry)) }
     ensures minimum { IfOk result (λ job. (1 ≤ job.minimum) × (job.minimum ≤ 1000000)) }

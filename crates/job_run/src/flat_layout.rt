@@ -1,12 +1,14 @@
 ghost use Rattle.std.specs.Prelude.{◌≡◌, ◌-◌, ◌+◌, ◌≤◌, IfOk, codes};
 ghost use Rattle.std.specs.Str.{bytes_eq};
 ghost use Rattle.sdc_base.specs.Answers.{Gives};
-ghost use Rattle.sdc_base.specs.FlatMetadata.{flat_layout_of, place_of_line as place_said, last_position as last_of};
+ghost use Rattle.job_run.specs.FlatMetadata.{flat_layout_of, place_of_line as place_said, last_position as last_of};
 ghost use Rattle.job_run.specs.Refusals.{not_there_of};
 ghost use Rattle.job_run.specs.Usable.{IsUsable, IsUsablePlace};
 
-use crate::fields::{NotThere, after, field_in, number_in};
-use sdc_base::{FieldPlace, FlatLayout, Text};
+use crate::fields::{NotThere, after, field_in};
+use crate::flat_forms::{FieldPlace, FlatLayout};
+use plain_text::number_in;
+use sdc_base::Text;
 
 /// The layout whose text for these two names the bytes are: a line for the variable, `<RECODEABLE>`,
 /// a line for the response and `<NUMERIC>`, each ended by LF, and nothing behind them. A line of a
@@ -14,7 +16,7 @@ use sdc_base::{FieldPlace, FlatLayout, Text};
 /// behind byte 1,000.
 ///
 /// It is refused where the bytes are no such text, and where the two names are one.
-#[tactic(auto, unfolding(sdc_base::specs::FlatMetadata::flat_layout_of))]
+#[tactic(auto, unfolding(crate::specs::FlatMetadata::flat_layout_of))]
 pub(crate) fn read_flat_layout(
     variable: &Text,
     response: &Text,
@@ -38,7 +40,7 @@ pub(crate) fn read_flat_layout(
 }
 
 // The place that the line of this variable says, and what stands behind the line.
-#[tactic(auto, unfolding(sdc_base::specs::FlatMetadata::place_of_line))]
+#[tactic(auto, unfolding(crate::specs::FlatMetadata::place_of_line))]
 fn place_of_line<'a>(name: &[u8], text: &'a [u8]) -> Result<(FieldPlace, &'a [u8]), NotThere>
     ensures said { Gives not_there_of (λ said. (said.0, said.1.now)) result (place_said name.now text.now) }
     ensures usable { IfOk result (λ said. IsUsablePlace said.0) }

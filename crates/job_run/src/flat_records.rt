@@ -1,18 +1,18 @@
 ghost use Rattle.std.specs.Prelude.{◌≡◌, ◌≢◌, ◌≤◌, ◌<◌, ◌^◌, nat_lt, length, codes, All, IfOk};
 ghost use Rattle.std.specs.Str.{bytes_eq};
 ghost use Rattle.sdc_base.specs.Answers.{Gives};
-ghost use Rattle.sdc_base.specs.FlatMetadata.{last_position as last_of};
-ghost use Rattle.sdc_base.specs.FlatRecords.{flat_records_of, records_of, record_of as record_said, codes_of, field_of as field_said, is_plain_code as is_code, needed as length_needed};
+ghost use Rattle.job_run.specs.FlatMetadata.{last_position as last_of};
+ghost use Rattle.job_run.specs.FlatRecords.{flat_records_of, records_of, record_of as record_said, codes_of, field_of as field_said, is_plain_code as is_code, needed as length_needed};
 ghost use Rattle.sdc_base.specs.Lines.{lines as lines_of};
 ghost use Rattle.job_run.specs.Refusals.{form_fault_of};
 ghost use Rattle.job_run.specs.Usable.{IsUsable, IsUsablePlace};
 
-use crate::fields::number_in;
+use crate::flat_forms::{FieldPlace, FlatLayout, FlatRecord};
 use crate::flat_job::{are_alphanumeric, text_of};
 use crate::flat_layout::last_position;
 use crate::form_fault::FormFault;
-use plain_text::{lines, trim};
-use sdc_base::{FieldPlace, FlatLayout, FlatRecord, Items, Memory, Text};
+use plain_text::{lines, number_in, trim};
+use sdc_base::{Items, Memory, Text};
 use std::alloc::Global;
 use std::collections::BTreeSet;
 
@@ -24,7 +24,7 @@ use std::collections::BTreeSet;
 /// It is refused as not built where a line is no such record or a limit is passed, and for want of
 /// memory. The memory that it takes is bounded by the bytes; the time is that of the bytes and, for
 /// the codes, of records x log of codes.
-#[tactic(auto, unfolding(sdc_base::specs::FlatRecords::flat_records_of))]
+#[tactic(auto, unfolding(crate::specs::FlatRecords::flat_records_of))]
 pub(crate) fn read_flat_records(
     alloc: Global,
     layout: FlatLayout,
@@ -93,7 +93,7 @@ fn records_of_lines(
 }
 
 // The record of a line.
-#[tactic(auto, unfolding(sdc_base::specs::FlatRecords::record_of))]
+#[tactic(auto, unfolding(crate::specs::FlatRecords::record_of))]
 fn record_of(alloc: Global, layout: FlatLayout, line: &[u8]) -> Result<FlatRecord, FormFault>
     requires { IsUsable layout }
     ensures { Gives form_fault_of (λ one. one) result (record_said layout line.now) }

@@ -1,17 +1,19 @@
 ghost use Rattle.std.specs.Prelude.{◌≡◌, ◌∷◌, [], ◌<◌, ◌≤◌, ◌^◌, All, IfOk, length};
 ghost use Rattle.sdc_base.specs.Answers.{Gives};
 ghost use Rattle.sdc_base.specs.CertificateText.{open_certificate};
-ghost use Rattle.sdc_base.specs.FlatRecords.{codes_of};
+ghost use Rattle.sdc_base.specs.declared.method.Method.TheVariants.{Modular};
+ghost use Rattle.job_run.specs.FlatRecords.{codes_of};
 ghost use Rattle.job_run.specs.FlatRelease.{release_of, flat_table, flat_cells, relations_among, puts_of, summary_of};
 ghost use Rattle.job_run.specs.FlatCells.{AreCellsOf, AreSmall};
 ghost use Rattle.job_run.specs.Refusals.{refused_for};
 
 use crate::flat_cells::{FlatCells, first_named, flat_cells_of};
+use crate::flat_forms::{FlatJob, FlatRecord};
 use crate::flat_table::{certificate_bytes, table_bytes};
 use crate::put::{Put, Release};
 use crate::refusal::Refusal;
 use crate::report::{Fault, FileRef, Summary};
-use sdc_base::{FlatJob, FlatRecord, Items, Memory};
+use sdc_base::{Items, Memory};
 use std::alloc::Global;
 
 /// What a job's records come to: the certificate and the table with no cell hidden, and the
@@ -90,7 +92,7 @@ fn certificate_for(
 ) -> Result<Items<u8>, Memory>
     requires cells { AreCellsOf records.now held.now }
     requires small { AreSmall held.now }
-    ensures { IfOk result (λ bytes. bytes ≡ open_certificate (length (flat_cells records.now)) (relations_among (codes_of records.now))) }
+    ensures { IfOk result (λ bytes. bytes ≡ open_certificate Modular (length (flat_cells records.now)) (relations_among (codes_of records.now))) }
 {
     let cells = held.cells.as_slice().len() as u32;
     certificate_bytes(alloc, cells, relations_of(records, held))

@@ -3,13 +3,15 @@ ghost use Rattle.csv.specs.Writing.{default_writer, row_text};
 ghost use Rattle.sdc_base.specs.TableText.{line_text, shown_text};
 ghost use Rattle.sdc_base.specs.Sums.{truth};
 ghost use Rattle.sdc_base.specs.CertificateText.{open_certificate};
+ghost use Rattle.sdc_base.specs.declared.method.Method.TheVariants.{Modular};
 ghost use Rattle.job_run.specs.FlatCells.{AreSmall};
 ghost use Rattle.job_run.specs.TableLines.{lines_up_to, IsReady, written};
 
 use crate::flat_cells::FlatCells;
+use crate::flat_forms::FlatJob;
 use csv::{Writer, WriterBuilder};
 use plain_text::print_units;
-use sdc_base::{FlatJob, Items, Memory, Text, truth_of};
+use sdc_base::{Items, Memory, Text, truth_of};
 use std::alloc::Global;
 use std::slice::from_ref;
 
@@ -79,7 +81,7 @@ pub(crate) fn certificate_bytes(
     cells: u32,
     relations: u32,
 ) -> Result<Items<u8>, Memory>
-    ensures { IfOk result (λ bytes. bytes ≡ open_certificate cells relations) }
+    ensures { IfOk result (λ bytes. bytes ≡ open_certificate Modular cells relations) }
 {
     let text = format!(in alloc;
         "argus certificate 1\nmethod MOD\ncells {cells}\nrelations {relations}\nend\n"

@@ -6,12 +6,13 @@ ghost use Rattle.office_io.specs.Files.{held_name};
 ghost use Rattle.job_run.specs.Outcome.{inputs_of, built, limit, ComesTo};
 ghost use Rattle.job_run.specs.Stops.{stopped_for};
 ghost use Rattle.job_run.specs.Usable.{IsUsable};
-ghost use Rattle.sdc_base.specs.FlatJobs.{flat_job_of};
-ghost use Rattle.sdc_base.specs.FlatMetadata.{flat_layout_of};
-ghost use Rattle.sdc_base.specs.FlatRecords.{flat_records_of, codes_of};
+ghost use Rattle.job_run.specs.FlatJobs.{flat_job_of};
+ghost use Rattle.job_run.specs.FlatMetadata.{flat_layout_of};
+ghost use Rattle.job_run.specs.FlatRecords.{flat_records_of, codes_of};
 ghost use Rattle.job_run.specs.declared.report.FileRef.{FileRef as AnyFile};
 
 use crate::fields::NotThere;
+use crate::flat_forms::{FlatJob, FlatLayout, FlatRecord};
 use crate::flat_job::read_flat_job;
 use crate::flat_layout::read_flat_layout;
 use crate::flat_records::read_flat_records;
@@ -20,7 +21,7 @@ use crate::loading::load;
 use crate::report::{Fault, FileRef};
 use crate::stop::Stop;
 use office_io::Shelf;
-use sdc_base::{FlatJob, FlatLayout, FlatRecord, Items, Text};
+use sdc_base::{Items, Text};
 use std::alloc::Global;
 
 /// The job of this name and its records.

@@ -1,8 +1,9 @@
+use crate::flat_forms::{FieldPlace, FlatLayout, FlatRecord};
 use crate::flat_job::read_flat_job;
 use crate::flat_layout::read_flat_layout;
 use crate::flat_records::{codes_of_records, read_flat_records};
 use crate::form_fault::FormFault;
-use sdc_base::{FieldPlace, FlatLayout, FlatRecord, Items, Memory, Text};
+use sdc_base::{Items, Memory, Text};
 use std::alloc::Global;
 use std::rt::HostRuntime;
 use std::test::Fail;

@@ -1,3 +1,4 @@
+pub mod Digits
 pub mod FewLines
 pub mod FirstLine
 pub mod Joined

@@ -12,8 +12,8 @@ pub fn trim(bytes: &[u8]) -> &[u8]
     without_back(without_front(bytes))
 }
 
-// A space or a tab.
-fn blank(b: u8) -> bool
+/// Whether the byte is a blank: a space or a tab. The rule is argus's own.
+pub fn is_blank_byte(b: u8) -> bool
     ensures { result ≡ is_blank b }
 {
     b == b' ' || b == b'\t'
@@ -25,7 +25,7 @@ fn without_front(bytes: &[u8]) -> &[u8]
     ensures within { length result.now ≤ length bytes.now }
 {
     for (i, b) in bytes.iter().enumerate() {
-        if !blank(*b) {
+        if !is_blank_byte(*b) {
             return &bytes[i..];
         }
     }
@@ -38,7 +38,7 @@ fn without_back(bytes: &[u8]) -> &[u8]
     ensures within { length result.now ≤ length bytes.now }
 {
     let mut end = bytes.len();
-    'back: while end > 0 && blank(bytes[end - 1]) {
+    'back: while end > 0 && is_blank_byte(bytes[end - 1]) {
         end -= 1;
     }
     &bytes[..end]

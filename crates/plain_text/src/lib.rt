@@ -2,14 +2,19 @@
 #![tactic(auto)]
 
 mod blanks;
+mod cuts;
+mod file_names;
 mod laws;
 mod line_reader;
 #[cfg(test)]
 mod tests;
 mod units;
 mod units_text;
+mod whole_numbers;
 
-pub use blanks::trim;
+pub use blanks::{is_blank_byte, trim};
+pub use cuts::{cut_at, cut_at_blank};
+pub use file_names::is_file_name;
 pub use laws::{
     joined_lines, joined_lines_with_returns, last_line_without_end, leading_zeros, printed_units,
     spelled_lines,
@@ -18,3 +23,4 @@ pub use line_reader::{Line, LineReader, lines};
 pub use sdc_base::NumberFault;
 pub use units::read_units;
 pub use units_text::print_units;
+pub use whole_numbers::number_in;

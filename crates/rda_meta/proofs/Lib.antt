@@ -1,5 +1,4 @@
 pub mod WordList
-pub mod Digits
 pub mod NumberList
 pub mod LineSteps
 pub mod Lenient

@@ -4,7 +4,7 @@ use Rattle.std.proofs.lemmas.List.{append-nil}
 use Rattle.rda_meta.specs.declared.faults.MetaWhy.{MetaWhy}
 use Rattle.rda_meta.specs.declared.faults.MetaWhy.TheVariants.{BadValue}
 use Rattle.sdc_base.specs.Steps.{◌>>=◌}
-use Rattle.sdc_base.specs.Fields.{number_in}
+use Rattle.sdc_base.specs.Tokens.{number_in}
 use Rattle.rda_meta.specs.Arguments.{numbers_of}
 
 -- what was read before, and what is still read

@@ -4,7 +4,8 @@ use Rattle.std.specs.List.{list_any, position_or_len, suffix_len, before_first, 
 use Rattle.std.proofs.lemmas.List.{append-nil, take_at, drop_at, drop_all, take_all, length-append, reverse-append}
 use Rattle.std.proofs.lemmas.List.Folds.{list_any-append}
 use Rattle.sdc_base.specs.Blanks.{is_blank, is_dark, trim, trim_front, trim_back}
-use Rattle.rda_meta.specs.Words.{is_quote, first_word, behind_word, words}
+use Rattle.rda_meta.specs.Words.{first_word, behind_word, words}
+use Rattle.sdc_base.specs.Tokens.{is_quote}
 use Rattle.rda_meta.specs.Spelling.{quoted, needs_quotes, spelled, spaced}
 use Rattle.rda_meta.specs.Canonical.{IsPlain, ArePlain}
 use Rattle.rda_meta.proofs.WordList.{words_none, words_some}

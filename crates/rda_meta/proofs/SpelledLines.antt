@@ -9,8 +9,9 @@ use Rattle.rda_meta.specs.declared.setting.Keyword.{Keyword}
 use Rattle.rda_meta.specs.declared.setting.Keyword.TheVariants.{Recodeable, Recodable, Numeric, Decimals, Weight, CodeList, Hierarchical, HierLevels, HierCodeList, HierLeadString, TotCode, Request, Holding, Distance}
 use Rattle.rda_meta.specs.declared.setting.Setting.{Setting}
 use Rattle.rda_meta.specs.declared.entry.Entry.{Entry}
-use Rattle.rda_meta.specs.Words.{is_quote, words}
-use Rattle.sdc_base.specs.Fields.{number_in}
+use Rattle.rda_meta.specs.Words.{words}
+use Rattle.sdc_base.specs.Tokens.{is_quote}
+use Rattle.sdc_base.specs.Tokens.{number_in}
 use Rattle.rda_meta.specs.KeywordLines.{is_close, keyword_in, last_of, is_again, setting_in}
 use Rattle.rda_meta.specs.Keywords.{keyword_of}
 use Rattle.rda_meta.specs.Arguments.{argument_of}

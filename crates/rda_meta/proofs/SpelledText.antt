@@ -23,7 +23,8 @@ use Rattle.sdc_base.proofs.StepLemmas.{bind_same}
 use Rattle.rda_meta.specs.Keywords.{is_passed, same_keyword}
 use Rattle.rda_meta.specs.Said.{says}
 use Rattle.rda_meta.specs.Arguments.{argument_of}
-use Rattle.rda_meta.specs.Words.{is_quote, words}
+use Rattle.rda_meta.specs.Words.{words}
+use Rattle.sdc_base.specs.Tokens.{is_quote}
 use Rattle.rda_meta.specs.Spelling.{passed_lines, canonical_lines, name_of, argument_words, quoted, needs_quotes, spelled, spaced, setting_text, setting_line, variable_text, all_lines}
 use Rattle.rda_meta.specs.Canonical.{IsSayable, AreSayable, IsPlaceable, AreCanonical}
 use Rattle.rda_meta.specs.Laws.{is_dark_line, dark_lines, but_for_line, canonical_text}

@@ -3,7 +3,8 @@ use Rattle.std.proofs.Common.{◌≡◌, ℕ, zero, suc, ◌+◌, ◌-◌, ◌<�
 use Rattle.std.specs.List.{position_or_len, suffix_len}
 use Rattle.std.proofs.lemmas.List.{length-take, length-drop}
 use Rattle.sdc_base.specs.Blanks.{is_blank, is_dark, trim, trim_front}
-use Rattle.rda_meta.specs.Words.{is_quote, is_quoted, first_word, behind_word, words_up_to, words}
+use Rattle.rda_meta.specs.Words.{is_quoted, first_word, behind_word, words_up_to, words}
+use Rattle.sdc_base.specs.Tokens.{is_quote}
 
 trim-shorter : (line : List ℕ) → length (trim line) ≤ length line
 trim-shorter line =

@@ -3,22 +3,13 @@ use Rattle.std.specs.Prelude.{ℕ, ◌-◌, Bool, ◌&&◌, not, ◌==◌, nat_l
 use Rattle.std.specs.List.{list_any, list_all, suffix_len}
 use Rattle.sdc_base.specs.Blanks.{is_blank, trim}
 use Rattle.sdc_base.specs.Steps.{◌>>=◌, or_fault, refuse}
-use Rattle.sdc_base.specs.Fields.{number_in}
+use Rattle.sdc_base.specs.Tokens.{number_in, is_file_name}
 use Rattle.rda_meta.specs.declared.faults.MetaWhy.{MetaWhy}
 use Rattle.rda_meta.specs.declared.faults.MetaWhy.TheVariants.{BadValue}
 use Rattle.rda_meta.specs.declared.setting.Keyword.{Keyword}
 use Rattle.rda_meta.specs.declared.setting.Keyword.TheVariants.{Decimals, CodeList, HierLevels, HierCodeList, HierLeadString, TotCode, Request, Holding, Distance}
 use Rattle.rda_meta.specs.declared.setting.Argument.{Argument}
 use Rattle.rda_meta.specs.declared.setting.Argument.TheVariants.{Nothing, Number, Word, Levels}
-use Rattle.rda_meta.specs.Words.{is_quote}
-
--- printable ASCII, but no double quote
-abbrev pub is_name_byte : ℕ → Bool
-is_name_byte b = nat_lt 31 b && nat_lt b 127 && not (is_quote b)
-
--- a file name has 1 to 255 such bytes
-abbrev pub is_file_name : List ℕ → Bool
-is_file_name word = nat_lt 0 (length word) && nat_lt (length word) 256 && list_all is_name_byte word
 
 -- a lead string has 1 to 8 bytes and no blank
 abbrev pub is_lead : List ℕ → Bool

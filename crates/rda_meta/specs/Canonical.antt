@@ -11,7 +11,7 @@ use Rattle.rda_meta.specs.declared.meta.Shape.{Shape}
 use Rattle.rda_meta.specs.declared.meta.Shape.TheVariants as shape
 use Rattle.rda_meta.specs.declared.meta.Variable.{Variable}
 use Rattle.rda_meta.specs.declared.entry.Entry.{Entry}
-use Rattle.rda_meta.specs.Words.{is_quote}
+use Rattle.sdc_base.specs.Tokens.{is_quote}
 use Rattle.rda_meta.specs.Keywords.{is_passed}
 use Rattle.rda_meta.specs.Arguments.{argument_of}
 use Rattle.rda_meta.specs.Said.{is_clashing}

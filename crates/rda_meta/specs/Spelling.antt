@@ -8,7 +8,7 @@ use Rattle.rda_meta.specs.declared.setting.Argument.{Argument}
 use Rattle.rda_meta.specs.declared.setting.Argument.TheVariants.{Nothing, Number, Word, Levels}
 use Rattle.rda_meta.specs.declared.setting.Setting.{Setting}
 use Rattle.rda_meta.specs.declared.entry.Entry.{Entry}
-use Rattle.rda_meta.specs.Words.{is_quote}
+use Rattle.sdc_base.specs.Tokens.{is_quote}
 
 -- between double quotes
 abbrev pub quoted : List ℕ → List ℕ

@@ -4,7 +4,7 @@ use Rattle.std.specs.List.{list_any}
 use Rattle.std.specs.Str.{bytes_eq}
 use Rattle.sdc_base.specs.Blanks.{trim}
 use Rattle.sdc_base.specs.Steps.{◌>>=◌, or_fault, refuse}
-use Rattle.sdc_base.specs.Fields.{number_in}
+use Rattle.sdc_base.specs.Tokens.{number_in}
 use Rattle.rda_meta.specs.declared.faults.MetaWhy.{MetaWhy}
 use Rattle.rda_meta.specs.declared.faults.MetaWhy.TheVariants.{BadName, BadPlace, BadValue, Twice, TooMany}
 use Rattle.rda_meta.specs.declared.entry.Entry.{Entry}

@@ -2,10 +2,7 @@
 use Rattle.std.specs.Prelude.{ℕ, zero, suc, Bool, false, ◌&&◌, ◌==◌, List, [], ◌∷◌, length, drop, if◌then◌else◌}
 use Rattle.std.specs.List.{list_any, before_first, after_first}
 use Rattle.sdc_base.specs.Blanks.{is_blank, trim}
-
--- a byte is the double quote
-abbrev pub is_quote : ℕ → Bool
-is_quote b = b == 34
+use Rattle.sdc_base.specs.Tokens.{is_quote}
 
 -- the line begins with a quote that another one follows
 abbrev pub is_quoted : List ℕ → Bool

@@ -1,15 +1,15 @@
 ghost use Rattle.std.specs.Prelude.{◌≡◌, ◌<◌, ◌≤◌, length, sum};
-ghost use Rattle.std.specs.List.{list_any, list_all};
+ghost use Rattle.std.specs.List.{list_any};
 ghost use Rattle.sdc_base.specs.Blanks.{is_blank};
 ghost use Rattle.sdc_base.specs.Answers.{Gives};
 ghost use Rattle.rda_meta.specs.Faults.{why_of};
-ghost use Rattle.rda_meta.specs.Arguments.{is_name_byte as named, is_file_name as names_file, is_lead as leads, no_argument as none, only_word as only, decimals_argument as decimals, file_argument as file, lead_argument as lead, code_argument as code, numbers_of as numbered, is_zero, without_end_zeros, are_levels as levels_are, levels_argument as leveled, argument_of as argued};
+ghost use Rattle.rda_meta.specs.Arguments.{is_lead as leads, no_argument as none, only_word as only, decimals_argument as decimals, file_argument as file, lead_argument as lead, code_argument as code, numbers_of as numbered, is_zero, without_end_zeros, are_levels as levels_are, levels_argument as leveled, argument_of as argued};
 
 use crate::faults::{LineError, MetaWhy};
 use crate::numbers::number_in;
 use crate::setting::{Argument, Keyword};
-use crate::words::{Words, blank};
-use plain_text::trim;
+use crate::words::Words;
+use plain_text::{is_blank_byte, is_file_name, trim};
 use sdc_base::{Items, Text};
 use std::alloc::Global;
 
@@ -183,38 +183,11 @@ fn sum_of(levels: &[u8]) -> u32
     sum
 }
 
-// Printable ASCII without the double quote.
-fn is_name_byte(b: u8) -> bool
-    ensures { result ≡ named b }
-{
-    b > 31 && b < 127 && b != b'"'
-}
-
-// Whether all bytes are such.
-fn all_name_bytes(word: &[u8]) -> bool
-    ensures { result ≡ list_all named word.now }
-{
-    word.iter().all(|b| is_name_byte(*b))
-}
-
-// 1 to 255 such bytes.
-fn is_file_name(word: &[u8]) -> bool
-    ensures { result ≡ names_file word.now }
-{
-    if word.is_empty() {
-        return false;
-    }
-    if word.len() > 255 {
-        return false;
-    }
-    all_name_bytes(word)
-}
-
 // Whether there is a space or a tab.
 fn has_blank(word: &[u8]) -> bool
     ensures { result ≡ list_any is_blank word.now }
 {
-    word.iter().any(|b| blank(*b))
+    word.iter().any(|b| is_blank_byte(*b))
 }
 
 // 1 to 8 bytes without a blank.

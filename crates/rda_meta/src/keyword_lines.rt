@@ -11,7 +11,8 @@ use crate::faults::{LineError, MetaWhy};
 use crate::keywords::{keyword_of, same_keyword};
 use crate::said::says;
 use crate::setting::{Keyword, Setting};
-use crate::words::{cut_at, words_in};
+use crate::words::words_in;
+use plain_text::cut_at;
 use sdc_base::{Items, Memory};
 use std::alloc::Global;
 

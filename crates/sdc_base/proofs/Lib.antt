@@ -10,7 +10,4 @@ pub mod Truths
 pub mod Kept
 pub mod Fair
 pub mod SmallTables
-pub mod FieldLemmas
-pub mod FlatJobLaws
-pub mod FlatLayoutLaws
 pub mod PlaceLists

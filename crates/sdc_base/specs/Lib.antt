@@ -5,6 +5,7 @@ pub mod Answers
 pub mod Places
 pub mod Lines
 pub mod Blanks
+pub mod Tokens
 pub mod Numbers
 pub mod Trees
 pub mod Nodes
@@ -16,10 +17,7 @@ pub mod Largest
 pub mod Tells
 pub mod Shares
 pub mod Rules
+pub mod RuleLevels
 pub mod Examples
 pub mod TableText
 pub mod CertificateText
-pub mod Fields
-pub mod FlatJobs
-pub mod FlatMetadata
-pub mod FlatRecords

@@ -4,9 +4,7 @@ ghost use Rattle.sdc_base.specs.Trees.{UnderIsTested, FlatIsCodeTree};
 ghost use Rattle.sdc_base.specs.Records.{FallsWhereUnderInEach};
 ghost use Rattle.sdc_base.specs.CellOrder.{PlacesAreLexicographic, NamesAreFirst};
 ghost use Rattle.sdc_base.specs.Shares.{RankingIsFair};
-ghost use Rattle.sdc_base.specs.Examples.{FlatTable, WeightSteps, LastInPart, TwoLevels, SharedMargins};
-ghost use Rattle.sdc_base.specs.FlatJobs.{FlatJobsAreTheirTexts};
-ghost use Rattle.sdc_base.specs.FlatMetadata.{FlatLayoutsAreTheirTexts};
+ghost use Rattle.sdc_base.specs.Examples.{FlatTable, WeightSteps, LastInPart, TwoLevels, SharedMargins, RuleRows};
 
 /// The test of being under says of each place of a code tree what the walk of its parents says.
 #[tactic(auto, using(crate::proofs::Walks::under_is_tested))]
@@ -45,21 +43,12 @@ pub fn ranking_is_fair()
 {}
 
 /// The definitions give what small tables come to by hand.
-#[tactic(auto, using(crate::proofs::SmallTables::flat_table, crate::proofs::SmallTables::weight_steps, crate::proofs::SmallTables::last_in_part, crate::proofs::SmallTables::two_levels, crate::proofs::SmallTables::shared_margins))]
+#[tactic(auto, using(crate::proofs::SmallTables::flat_table, crate::proofs::SmallTables::weight_steps, crate::proofs::SmallTables::last_in_part, crate::proofs::SmallTables::two_levels, crate::proofs::SmallTables::shared_margins, crate::proofs::SmallTables::rule_rows))]
 pub fn examples()
     ensures flat_table { FlatTable }
     ensures weight_steps { WeightSteps }
     ensures last_in_part { LastInPart }
     ensures two_levels { TwoLevels }
     ensures shared_margins { SharedMargins }
-{}
-
-/// A job of the first path is read exactly from its own text, and from no other.
-pub fn flat_jobs_are_their_texts()
-    ensures { FlatJobsAreTheirTexts }
-{}
-
-/// A layout of the first path is read exactly from its own text, and from no other.
-pub fn flat_layouts_are_their_texts()
-    ensures { FlatLayoutsAreTheirTexts }
+    ensures rule_rows { RuleRows }
 {}

@@ -1,34 +1,39 @@
 //! The plain types of argus, and the definitions on which its contracts stand.
 #![tactic(auto)]
 
+mod cell;
 mod cells;
+mod facts;
 mod few;
-mod flat_forms;
 mod items;
 mod laws;
 mod memory;
+mod method;
 mod node_list;
 mod number_fault;
 mod rows;
+mod rule;
 mod rules;
 #[cfg(test)]
 mod tests;
 mod text;
 mod tops;
 
+pub use cell::{Cell, Kind};
 pub use cells::cells_of;
+pub use facts::{CellFacts, Levels};
 pub use few::{Few, Place};
-pub use flat_forms::{FieldPlace, FlatJob, FlatLayout, FlatRecord};
 pub use items::{Items, copy_numbers};
 pub use laws::{
-    examples, falls_where_under_in_each, flat_is_code_tree, flat_jobs_are_their_texts,
-    flat_layouts_are_their_texts, names_are_first, places_are_lexicographic, ranking_is_fair,
-    under_is_tested,
+    examples, falls_where_under_in_each, flat_is_code_tree, names_are_first,
+    places_are_lexicographic, ranking_is_fair, under_is_tested,
 };
 pub use memory::Memory;
+pub use method::Method;
 pub use node_list::{Node, NodeList};
 pub use number_fault::NumberFault;
 pub use rows::{Row, falls, freq_of, largest_of, tops_of, truth_of};
+pub use rule::{Rule, Rules};
 pub use rules::is_too_few;
 pub use text::Text;
 pub use tops::{TopList, Tops, Unit};

@@ -1,6 +1,6 @@
 use Rattle.std.proofs.Common.{refl}
 use Rattle.std.proofs.lemmas.Result.{err_from_is_err_and}
-use Rattle.sdc_base.specs.FlatJobs.{job_fields_of}
+use Rattle.job_run.specs.FlatJobs.{job_fields_of}
 use Rattle.job_run.proofs.flat_job.fields_of_job.Goals as goal
 
 pub returns-in_err-percent : goal.returns-in_err-percent

@@ -1,6 +1,6 @@
 use Rattle.std.proofs.Common.{◌≡◌, length}
 use Rattle.sdc_base.specs.Lines.{lines}
-use Rattle.sdc_base.specs.FlatRecords.{records_of}
+use Rattle.job_run.specs.FlatRecords.{records_of}
 use Rattle.job_run.proofs.RecordLines.{read_before}
 use Rattle.job_run.proofs.flat_records.records_of_lines.Given as goal
 

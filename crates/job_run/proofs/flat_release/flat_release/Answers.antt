@@ -1,5 +1,5 @@
 use Rattle.std.proofs.Common.{◌∙◌, ap, subst, List}
-use Rattle.sdc_base.specs.declared.flat_forms.FlatRecord.{FlatRecord}
+use Rattle.job_run.specs.declared.flat_forms.FlatRecord.{FlatRecord}
 use Rattle.job_run.specs.FlatCells.{AreCellsOf}
 use Rattle.job_run.specs.FlatRelease.{puts_of, summary_of}
 use Rattle.job_run.proofs.FlatReleases.{release-is-made}

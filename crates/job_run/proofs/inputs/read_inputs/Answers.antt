@@ -1,7 +1,7 @@
 use Rattle.std.proofs.Common.{◌≡◌, Err, Ok, ap, refl, sym, subst, ◌∙◌, List, ℕ}
 use Rattle.std.proofs.lemmas.Result.{err_from_is_err_and}
-use Rattle.sdc_base.specs.FlatJobs.{flat_job_of}
-use Rattle.sdc_base.specs.FlatMetadata.{flat_layout_of}
+use Rattle.job_run.specs.FlatJobs.{flat_job_of}
+use Rattle.job_run.specs.FlatMetadata.{flat_layout_of}
 use Rattle.job_run.specs.Outcome.{built}
 use Rattle.job_run.specs.declared.stop.Stop.TheVariants as stop
 use Rattle.job_run.specs.declared.report.FileRef.TheVariants as file

@@ -1,5 +1,5 @@
 use Rattle.std.proofs.Common.{◌≡◌, None, Some, sym, ◌∙◌}
-use Rattle.sdc_base.specs.Fields.{number_in}
+use Rattle.sdc_base.specs.Tokens.{number_in}
 use Rattle.rda_meta.proofs.NumberList.{goes_on, stops, ends}
 use Rattle.rda_meta.proofs.arguments.numbers_of.Goals as goal
 

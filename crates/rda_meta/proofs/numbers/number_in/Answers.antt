@@ -1,7 +1,0 @@
-use Rattle.std.proofs.Common.{arith, rules}
-use Rattle.rda_meta.proofs.Digits.{too_much}
-use Rattle.rda_meta.proofs.numbers.number_in.Goals as goal
-
-pub returns-then-value-high-clause-value : goal.returns-then-value-high-clause-value
-returns-then-value-high-clause-value c =
-    too_much c.args.low c.args.high c.args.word.now c.digits.b-index c.digits.value (omega arith) (search rules) c.digits.invariant.value (omega arith)
