@@ -5,6 +5,7 @@ mod cell;
 mod cells;
 mod facts;
 mod few;
+mod hidden;
 mod items;
 mod laws;
 mod memory;
@@ -23,6 +24,7 @@ pub use cell::{Cell, Kind};
 pub use cells::cells_of;
 pub use facts::{CellFacts, Levels};
 pub use few::{Few, Place};
+pub use hidden::Hidden;
 pub use items::{Items, copy_numbers};
 pub use laws::{
     examples, falls_where_under_in_each, flat_is_code_tree, names_are_first,
