@@ -1,0 +1,7 @@
+use Rattle.std.proofs.Common.{◌≡◌, drop}
+use Rattle.sdc_base.specs.RuleLevels.{told, upper_of}
+use Rattle.primary_rules.specs.OneRule.{greater_of}
+use Rattle.primary_rules.proofs.levels.greatest.Given as goal
+
+abbrev pub invariant-loop-rule : goal.invariant-loop-rule
+invariant-loop-rule l = greater_of l.most (upper_of (drop l.rule-index l.rules) (told l.facts)) ≡ upper_of l.rules (told l.facts)
