@@ -1,2 +1,5 @@
 pub mod OneByOne
 pub mod Bounds
+pub mod Rounding
+pub mod NamedCells
+pub mod KeptFigures

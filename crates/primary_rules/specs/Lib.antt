@@ -1,2 +1,4 @@
 pub mod Ranges
 pub mod OneRule
+pub mod Naming
+pub mod Kept
