@@ -3,3 +3,4 @@ pub mod Bounds
 pub mod Rounding
 pub mod NamedCells
 pub mod KeptFigures
+pub mod Stricter

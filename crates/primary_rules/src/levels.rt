@@ -1,7 +1,11 @@
-ghost use Rattle.std.specs.Prelude.{◌≡◌, ◌≤◌, ◌^◌, All, pos, ◌≤ℤ◌};
-ghost use Rattle.sdc_base.specs.RuleLevels.{told, upper_of, level_of, manual_of, keep_of, looks_at, levels_up_to};
+ghost use Rattle.std.specs.Prelude.{◌≡◌, ◌≤◌, List, All};
+ghost use Rattle.sdc_base.specs.Trees.{Tree};
+ghost use Rattle.sdc_base.specs.Records.{Name};
+ghost use Rattle.sdc_base.specs.declared.rows.Row.{Row};
+ghost use Rattle.sdc_base.specs.RuleLevels.{told, figures_in, upper_of, level_of, manual_of, keep_of, looks_at, levels_up_to};
 ghost use Rattle.primary_rules.specs.Ranges.{IsInRange, AreInRange, IsTruth};
 ghost use Rattle.primary_rules.specs.OneRule.{greater_of};
+ghost use Rattle.primary_rules.specs.Kept.{AreFactsOf};
 
 use crate::naming::up_under;
 use crate::quotient::{hundredths, up_from};
@@ -12,9 +16,19 @@ pub fn level(rules: &Rules, facts: &CellFacts) -> Option<Levels>
     requires in_range { AreInRange rules.now }
     requires truth { IsTruth facts.now.truth }
     requires kept { keep_of rules.now.list ≤ facts.now.tops.keep }
-    ensures exact { result ≡ level_of rules.now.list (told facts.now) }
+    ensures told { result ≡ level_of rules.now.list (told facts.now) }
+    ensures over_records { (trees : List Tree) (name : Name) (rows : List Row) → AreFactsOf facts.now trees name rows → result ≡ level_of rules.now.list (figures_in trees name rows facts.now.tops.scale) }
 {
-    let up = greatest(rules.list.as_slice(), facts)?;
+    levels_by(rules.list.as_slice(), facts)
+}
+
+// The levels of a cell by these rules.
+fn levels_by(rules: &[Rule], facts: &CellFacts) -> Option<Levels>
+    requires in_range { All IsInRange rules.now }
+    requires truth { IsTruth facts.now.truth }
+    ensures { result ≡ level_of rules.now (told facts.now) }
+{
+    let up = greatest(rules, facts)?;
     Some(up_to(up, facts.truth))
 }
 
@@ -44,7 +58,7 @@ fn greater(one: Option<i128>, other: Option<i128>) -> Option<i128>
 pub fn manual(rules: &Rules, truth: i128) -> Levels
     requires in_range { AreInRange rules.now }
     requires truth { IsTruth truth }
-    ensures exact { result ≡ manual_of rules.now.man truth }
+    ensures { result ≡ manual_of rules.now.man truth }
 {
     up_to(up_from(hundredths(rules.man, truth), 100), truth)
 }
@@ -62,7 +76,7 @@ fn up_to(up: i128, truth: i128) -> Levels
 /// How many of the largest contributions the rules look at, two at least.
 pub fn keep(rules: &Rules) -> u8
     requires in_range { AreInRange rules.now }
-    ensures exact { result ≡ keep_of rules.now.list }
+    ensures { result ≡ keep_of rules.now.list }
 {
     let mut most = 2;
     for rule in rules.list.as_slice() {

@@ -2,9 +2,11 @@
 #![tactic(auto)]
 
 mod kept;
+mod laws;
 mod levels;
 mod naming;
 mod quotient;
 
+pub use laws::{kept_are_enough, levels_are_greatest, names_where_disclosing, none_where_none_names, rounding_is_least};
 pub use levels::{keep, level, manual};
 pub use sdc_base::{Rule, Rules};
