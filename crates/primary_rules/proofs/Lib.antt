@@ -4,3 +4,7 @@ pub mod Rounding
 pub mod NamedCells
 pub mod KeptFigures
 pub mod Stricter
+pub mod Rescaling
+pub mod RescaledRecords
+pub mod FurtherContributor
+pub mod FromZero

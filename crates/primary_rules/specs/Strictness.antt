@@ -1,6 +1,9 @@
 -- Stricter rules name more cells, and want them more open (handbook, sensitivity rules; the order of rules: own).
-use Rattle.std.specs.Prelude.{◌≡◌, ◌≤◌, ◌++◌, ℕ, IsTrue, List, [], ◌∷◌, Option, None, Some, ℤ, pos, ◌≤ℤ◌}
-use Rattle.sdc_base.specs.RuleLevels.{Figures, names, wanted, rounded_up, level_of, manual_of}
+use Rattle.std.specs.Prelude.{◌≡◌, ◌≤◌, ◌++◌, ℕ, IsTrue, List, [], ◌∷◌, All, Option, None, Some, ℤ, pos, ◌≤ℤ◌}
+use Rattle.sdc_base.specs.Trees.{Tree}
+use Rattle.sdc_base.specs.Records.{Name}
+use Rattle.sdc_base.specs.declared.rows.Row.{Row}
+use Rattle.sdc_base.specs.RuleLevels.{Figures, figures_in, names, wanted, rounded_up, level_of, manual_of}
 use Rattle.sdc_base.specs.declared.facts.Levels.{Levels}
 use Rattle.sdc_base.specs.declared.rule.Rule.{Rule}
 use Rattle.sdc_base.specs.declared.rule.Rule.TheVariants as rule
@@ -19,6 +22,10 @@ pub record AreFromZero (cell : Figures) : Type 0 where
   pub truth : pos 0 ≤ℤ cell.truth
   pub largest : (n : ℕ) → pos 0 ≤ℤ cell.largest n
   pub more : (n m : ℕ) → n ≤ m → cell.largest n ≤ℤ cell.largest m
+
+-- where no value is below 0, the figures of a cell over the records are such figures
+abbrev pub ValuesFromZeroAreEnough : Type 0
+ValuesFromZeroAreEnough = (trees : List Tree) (name : Name) (rows : List Row) (scale : ℕ) → All (λ row. pos 0 ≤ℤ row.value) rows → AreFromZero (figures_in trees name rows scale)
 
 -- levels are there where these are, and no lower
 pub data AreNoLower : Option Levels → Option Levels → Type 0 where

@@ -2,6 +2,9 @@
 
 ghost use Rattle.primary_rules.specs.Naming.{NamesWhereDisclosing, RoundingIsLeast, NoneWhereNoneNames, LevelsAreGreatest};
 ghost use Rattle.primary_rules.specs.Kept.{KeptAreEnough};
+ghost use Rattle.primary_rules.specs.Units.{UnitsChangeNoNaming, RecordsAreRescaled};
+ghost use Rattle.primary_rules.specs.Strictness.{StricterWantsMore, StricterLowersNone, FurtherLowersNone, MoreLowersNoManual, ValuesFromZeroAreEnough};
+ghost use Rattle.primary_rules.specs.Contributors.{FurtherIsNotNamed};
 
 /// A rule names exactly the cells for which its inequality holds, which is strict.
 #[tactic(auto, using(crate::proofs::NamedCells::names_where_disclosing))]
@@ -30,4 +33,27 @@ pub fn levels_are_greatest()
 #[tactic(auto, using(crate::proofs::KeptFigures::kept_are_enough))]
 pub fn kept_are_enough()
     ensures { KeptAreEnough }
+{}
+
+/// Where all values are written in a smaller unit, truth and largest contributions are, and the same cells are named; the
+/// levels stay but for rounding.
+pub fn units_change_no_naming()
+    ensures records { RecordsAreRescaled }
+    ensures levels { UnitsChangeNoNaming }
+{}
+
+/// A stricter rule names more cells and wants them more open, in a list of rules too; a further rule lowers no level, nor
+/// does a greater percentage for cells that are declared unsafe.
+pub fn stricter_lowers_none()
+    ensures wants { StricterWantsMore }
+    ensures among_rules { StricterLowersNone }
+    ensures further { FurtherLowersNone }
+    ensures manual { MoreLowersNoManual }
+    ensures from_zero { ValuesFromZeroAreEnough }
+{}
+
+/// A further contributor that isn't the largest never makes the p-percent rule name a cell.
+#[tactic(auto, using(crate::proofs::FurtherContributor::further_is_not_named))]
+pub fn further_is_not_named()
+    ensures { FurtherIsNotNamed }
 {}
