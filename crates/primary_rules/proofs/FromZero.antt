@@ -1,5 +1,5 @@
 -- Where no value is below 0, no figure is.
-use Rattle.std.proofs.Common.{◌≡◌, ℕ, ◌+◌, ◌-◌, ◌*◌, ◌≤◌, min, true, false, List, [], ◌∷◌, All, fold, map, ℤ, pos, ◌+ℤ◌, ◌*ℤ◌, ◌≤ℤ◌, arith, refl, mul-le-mul_right, if◌then◌else◌}
+use Rattle.std.proofs.Common.{ℕ, ◌-◌, ◌*◌, min, true, false, List, [], ◌∷◌, All, fold, map, ℤ, pos, ◌+ℤ◌, ◌*ℤ◌, ◌≤ℤ◌, arith, mul-le-mul_right, if◌then◌else◌}
 use Rattle.std.proofs.lemmas.Int.{ints}
 use Rattle.std.proofs.lemmas.List.Elements.{All-head, All-tail, All-cons, All-nil}
 use Rattle.sdc_base.specs.Trees.{Tree}
@@ -8,7 +8,7 @@ use Rattle.sdc_base.specs.Sums.{rows_in, weighted}
 use Rattle.sdc_base.specs.Largest.{contribution, ranked, first_steps, contributions}
 use Rattle.sdc_base.specs.declared.rows.Row.{Row}
 use Rattle.sdc_base.specs.declared.tops.Unit.{Unit as Contribution}
-use Rattle.primary_rules.specs.Strictness.{AreFromZero, ValuesFromZeroAreEnough}
+use Rattle.primary_rules.specs.Strictness.{ValuesFromZeroAreEnough}
 use Rattle.primary_rules.proofs.Stricter.{times_of}
 use Rattle.primary_rules.proofs.FurtherContributor.{FromZero, from_zero_ranked, more_steps}
 

@@ -1,14 +1,14 @@
 -- A further contributor that isn't the largest hides what the largest one contributes.
-use Rattle.std.proofs.Common.{◌≡◌, ℕ, zero, suc, ◌+◌, ◌-◌, ◌*◌, ◌<◌, ◌≤◌, min, true, false, IsTrue, List, [], ◌∷◌, ◌++◌, All, fold, sum_by, ℤ, pos, neg_ℤ, ◌+ℤ◌, ◌*ℤ◌, ◌≤ℤ◌, ◌<ℤ◌, int_lt, arith, refl, ap, sym, subst, ◌∙◌, if◌then◌else◌}
+use Rattle.std.proofs.Common.{◌≡◌, ℕ, ◌+◌, ◌-◌, ◌*◌, ◌≤◌, min, true, false, List, [], ◌∷◌, ◌++◌, All, fold, sum_by, ℤ, pos, ◌+ℤ◌, ◌*ℤ◌, ◌≤ℤ◌, ◌<ℤ◌, int_lt, arith, refl, ap, sym, subst, ◌∙◌, if◌then◌else◌}
 use Rattle.std.specs.List.{AllByRecursion}
 use Rattle.std.proofs.lemmas.Int.{ints}
 use Rattle.std.proofs.lemmas.List.Elements.{All-head, All-tail}
 use Rattle.std.proofs.lemmas.List.Sums.{fold_push, sum_by-cons}
 use Rattle.sdc_base.proofs.WholeNumbers.{times_up}
 use Rattle.sdc_base.specs.declared.tops.Unit.{Unit as Contribution}
-use Rattle.sdc_base.specs.Largest.{placed, ranked, first_steps, largest}
+use Rattle.sdc_base.specs.Largest.{placed, ranked, first_steps}
 use Rattle.sdc_base.specs.Shares.{weight_from}
-use Rattle.sdc_base.specs.RuleLevels.{Figures, names, rest}
+use Rattle.sdc_base.specs.RuleLevels.{Figures, rest}
 use Rattle.primary_rules.specs.Contributors.{figures_of, FurtherIsNotNamed}
 use Rattle.primary_rules.proofs.Stricter.{times_of}
 

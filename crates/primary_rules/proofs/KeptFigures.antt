@@ -1,6 +1,6 @@
 -- The rules look at no more contributions than they say.
-use Rattle.std.proofs.Common.{◌≡◌, ℕ, zero, suc, ◌+◌, ◌*◌, ◌<◌, ◌≤◌, max, true, false, List, [], ◌∷◌, fold, Option, None, Some, ℤ, pos, neg_ℤ, ◌+ℤ◌, ◌*ℤ◌, int_lt, arith, refl, ap, sym, subst, ◌∙◌, if◌then◌else◌}
-use Rattle.sdc_base.specs.RuleLevels.{Figures, names, wanted, rest, rounded_up, greater, upper_of, level_of, keep_of, looks_at, told, figures_in, levels_up_to}
+use Rattle.std.proofs.Common.{◌≡◌, ℕ, ◌≤◌, max, List, [], ◌∷◌, fold, arith, refl, ap}
+use Rattle.sdc_base.specs.RuleLevels.{Figures, names, wanted, upper_of, level_of, keep_of, looks_at, told, figures_in}
 use Rattle.sdc_base.specs.Trees.{Tree}
 use Rattle.sdc_base.specs.Records.{Name}
 use Rattle.sdc_base.specs.Largest.{contributions}

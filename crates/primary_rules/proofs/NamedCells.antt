@@ -1,13 +1,13 @@
 -- Where rules name a cell, and that the levels are the greatest.
-use Rattle.std.proofs.Common.{◌≡◌, ◌↔◌, ◌⊎◌, ℕ, zero, suc, ◌+◌, ◌<◌, ◌≤◌, true, false, IsTrue, List, [], ◌∷◌, All, length, Option, None, Some, option_map, inl, inr, ℤ, pos, ◌≤ℤ◌, ◌<ℤ◌, int_lt, slice_index_or, arith, rules, refl, ap, sym, subst, ◌∙◌, if◌then◌else◌}
+use Rattle.std.proofs.Common.{◌≡◌, suc, true, false, IsTrue, List, [], ◌∷◌, All, Option, None, Some, option_map, inl, inr, ℤ, ◌≤ℤ◌, int_lt, arith, rules, refl, ap, subst, if◌then◌else◌}
 use Rattle.std.specs.List.{Any}
-use Rattle.std.proofs.lemmas.Int.{ints, by_lt_z}
+use Rattle.std.proofs.lemmas.Int.{ints}
 use Rattle.std.proofs.lemmas.List.Elements.{All-head, All-tail, All-cons, All-nil}
-use Rattle.sdc_base.specs.RuleLevels.{Figures, names, wanted, rounded_up, greater, upper_of, levels_up_to, level_of}
+use Rattle.sdc_base.specs.RuleLevels.{Figures, names, wanted, rounded_up, greater, upper_of, levels_up_to}
 use Rattle.sdc_base.specs.declared.facts.Levels.{Levels}
 use Rattle.sdc_base.specs.declared.rule.Rule.{Rule}
 use Rattle.sdc_base.specs.declared.rule.Rule.TheVariants as rule
-use Rattle.primary_rules.specs.Naming.{Discloses, NamesWhereDisclosing, IsLesser, AreGreatest, NoneWhereNoneNames, LevelsAreGreatest}
+use Rattle.primary_rules.specs.Naming.{NamesWhereDisclosing, IsLesser, AreGreatest, NoneWhereNoneNames, LevelsAreGreatest}
 
 pub names_where_disclosing : NamesWhereDisclosing
 names_where_disclosing (rule.Freq n r) cell = (λ h. search (arith, rules), λ h. search (arith, rules))
@@ -85,13 +85,13 @@ with_own one rules cell (Some level) is some before =
     let rest : IsMost rules cell level = before level refl in
     elim (int_lt own level) as (λ b. int_lt own level ≡ b → IsMost (one ∷ rules) cell (if b then level else own)) [
       | true ↦ λ less. record {
-          by_one = any_tail {P = WantsIt cell level} one rules rest.by_one;
-          most = All-cons (AtMost cell level) one rules (λ _. grind (arith, ints, less)) rest.most;
-        }
+        by_one = any_tail {P = WantsIt cell level} one rules rest.by_one;
+        most = All-cons (AtMost cell level) one rules (λ _. grind (arith, ints, less)) rest.most;
+      }
       | false ↦ λ more. record {
-          by_one = any_head {P = WantsIt cell own} one rules (named, refl);
-          most = All-cons (AtMost cell own) one rules (λ _. omega (arith, ints)) (raised rules cell level own (grind (arith, ints, more)) rest.most);
-        }
+        by_one = any_head {P = WantsIt cell own} one rules (named, refl);
+        most = All-cons (AtMost cell own) one rules (λ _. omega (arith, ints)) (raised rules cell level own (grind (arith, ints, more)) rest.most);
+      }
     ] refl
 
 same_some : (a b : ℤ) → Some a ≡ Some b → a ≡ b

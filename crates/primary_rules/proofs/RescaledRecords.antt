@@ -1,16 +1,15 @@
 -- Where all values are in the new unit, so are the figures of each cell.
-use Rattle.std.proofs.Common.{◌≡◌, ℕ, zero, suc, ◌+◌, ◌-◌, ◌*◌, ◌<◌, ◌≤◌, min, true, false, Bool, List, [], ◌∷◌, map, filter, fold, length, ℤ, pos, ◌+ℤ◌, ◌*ℤ◌, int_lt, arith, refl, ap, sym, subst, ◌∙◌, if◌then◌else◌}
+use Rattle.std.proofs.Common.{◌≡◌, ℕ, ◌-◌, ◌*◌, ◌≤◌, min, true, false, List, [], ◌∷◌, map, fold, length, ℤ, pos, ◌+ℤ◌, ◌*ℤ◌, int_lt, arith, refl, ap, sym, subst, ◌∙◌, if◌then◌else◌}
 use Rattle.std.proofs.lemmas.Int.{ints}
 use Rattle.std.proofs.lemmas.List.{length-map}
 use Rattle.sdc_base.proofs.WholeNumbers.{distrib, swap_times}
 use Rattle.sdc_base.specs.Trees.{Tree}
 use Rattle.sdc_base.specs.Records.{Name, row_falls}
-use Rattle.sdc_base.specs.Sums.{rows_in, weighted, truth, freq}
-use Rattle.sdc_base.specs.Largest.{contribution, placed, ranked, first_steps, largest, contributions, largest_in}
-use Rattle.sdc_base.specs.RuleLevels.{Figures, figures_in}
+use Rattle.sdc_base.specs.Sums.{rows_in, weighted}
+use Rattle.sdc_base.specs.Largest.{contribution, placed, ranked, first_steps, largest, contributions}
 use Rattle.sdc_base.specs.declared.rows.Row.{Row}
 use Rattle.sdc_base.specs.declared.tops.Unit.{Unit as Contribution}
-use Rattle.primary_rules.specs.Units.{IsRescaled, rescaled, RecordsAreRescaled}
+use Rattle.primary_rules.specs.Units.{rescaled, RecordsAreRescaled}
 use Rattle.primary_rules.proofs.Rescaling.{less_rescaled}
 
 rows_rescaled : (t : ℕ) (trees : List Tree) (name : Name) (rows : List Row) → rows_in trees name (map (rescaled t) rows) ≡ map (rescaled t) (rows_in trees name rows)
@@ -25,7 +24,7 @@ sum_rescaled : (t : ℕ) (start : ℤ) (rows : List Row) → fold (λ sum row. s
 sum_rescaled t start [] = refl
 sum_rescaled t start (row ∷ rows) =
     let next : pos t *ℤ start +ℤ pos row.weight *ℤ (pos t *ℤ row.value) ≡ pos t *ℤ (start +ℤ weighted row) =
-      omega (arith, ints, swap_times (pos row.weight) (pos t) row.value, distrib (pos t) start (pos row.weight *ℤ row.value)) in
+    omega (arith, ints, swap_times (pos row.weight) (pos t) row.value, distrib (pos t) start (pos row.weight *ℤ row.value)) in
     ap (λ s. fold (λ sum r. sum +ℤ weighted r) s (map (rescaled t) rows)) next ∙ sum_rescaled t (start +ℤ weighted row) rows
 
 -- ---- the largest contributions

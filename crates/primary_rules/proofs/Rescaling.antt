@@ -1,10 +1,10 @@
 -- A change of the unit changes no naming, and levels only within rounding.
-use Rattle.std.proofs.Common.{◌≡◌, ℕ, zero, suc, ◌+◌, ◌*◌, ◌<◌, ◌≤◌, true, false, Bool, List, [], ◌∷◌, All, Option, None, Some, option_map, ℤ, pos, negsuc, neg_ℤ, ◌+ℤ◌, ◌*ℤ◌, ◌≤ℤ◌, ◌<ℤ◌, int_lt, arith, refl, ap, sym, subst, ◌∙◌, if◌then◌else◌}
+use Rattle.std.proofs.Common.{◌≡◌, ℕ, ◌≤◌, true, false, List, [], ◌∷◌, All, Option, None, Some, option_map, ℤ, pos, negsuc, neg_ℤ, ◌+ℤ◌, ◌*ℤ◌, ◌≤ℤ◌, ◌<ℤ◌, int_lt, arith, refl, ap, sym, subst, ◌∙◌, if◌then◌else◌}
 use Rattle.std.proofs.lemmas.Int.{ints, by_lt_z}
 use Rattle.std.proofs.Math.IntN.{*ℤ_comm}
 use Rattle.std.proofs.lemmas.List.Elements.{All-head, All-tail}
 use Rattle.sdc_base.proofs.WholeNumbers.{distrib, swap_times, minus_times, times_up, times_more}
-use Rattle.sdc_base.specs.RuleLevels.{Figures, Fraction, divided, names, rest, wanted, rounded_up, IsRoundedUp, greater, upper_of, levels_up_to, level_of}
+use Rattle.sdc_base.specs.RuleLevels.{Figures, divided, names, rest, wanted, rounded_up, IsRoundedUp, greater, upper_of, levels_up_to, level_of}
 use Rattle.sdc_base.specs.declared.rule.Rule.{Rule}
 use Rattle.sdc_base.specs.declared.rule.Rule.TheVariants as rule
 use Rattle.primary_rules.specs.Ranges.{IsInRange}
@@ -48,8 +48,8 @@ rounded_within t d over h under =
       at_most = that.least (pos t *ℤ level) least_one reach_wide;
       above = by_lt_z (pos t *ℤ before) other (λ less. less) (λ low.
           let positive : pos 1 ≤ℤ before = by_lt_z (pos 0) before (λ less. omega (arith, ints, less)) (λ none.
-              let nothing : (pos t *ℤ before) ≤ℤ (pos t *ℤ pos 0) = times_up (pos t) before (pos 0) (omega (arith, ints)) none in
-              absurd (omega (arith, ints, nothing, low, one))) in
+          let nothing : (pos t *ℤ before) ≤ℤ (pos t *ℤ pos 0) = times_up (pos t) before (pos 0) (omega (arith, ints)) none in
+          absurd (omega (arith, ints, nothing, low, one))) in
           let reach_other : (pos t *ℤ over) ≤ℤ (pos d *ℤ other) = that.reaches in
           let more : (pos d *ℤ other) ≤ℤ (pos d *ℤ (pos t *ℤ before)) = times_up (pos d) other (pos t *ℤ before) (omega (arith, ints)) low in
           let here : (pos t *ℤ over) ≤ℤ (pos t *ℤ (pos d *ℤ before)) = omega (arith, ints, reach_other, more, swap_times (pos t) (pos d) before) in
@@ -120,13 +120,13 @@ wanted_within t (rule.Freq n r) cell other h range are =
     subst (λ x. IsWithinRounding t (rounded_up (wanted (rule.Freq n r) cell)) (rounded_up (divided x 100))) (sym over) (rounded_within t 100 (pos r *ℤ cell.truth) h (omega arith))
 wanted_within t (rule.Nk n k) cell other h range are =
     let over : pos 100 *ℤ other.largest n +ℤ neg_ℤ (pos k *ℤ other.truth) ≡ pos t *ℤ (pos 100 *ℤ cell.largest n +ℤ neg_ℤ (pos k *ℤ cell.truth)) =
-      rw (are.truth, are.largest n) (part_rescaled t 100 k (cell.largest n) cell.truth) in
+    rw (are.truth, are.largest n) (part_rescaled t 100 k (cell.largest n) cell.truth) in
     subst (λ x. IsWithinRounding t (rounded_up (wanted (rule.Nk n k) cell)) (rounded_up (divided x k))) (sym over) (rounded_within t k (pos 100 *ℤ cell.largest n +ℤ neg_ℤ (pos k *ℤ cell.truth)) h range.2)
 wanted_within t (rule.Percent p) cell other h range are =
     let over : pos p *ℤ other.largest 1 +ℤ neg_ℤ (pos 100 *ℤ rest other) ≡ pos t *ℤ (pos p *ℤ cell.largest 1 +ℤ neg_ℤ (pos 100 *ℤ rest cell)) =
-      ap (λ x. pos p *ℤ other.largest 1 +ℤ neg_ℤ (pos 100 *ℤ x)) (rest_rescaled t cell other are)
-      ∙ ap (λ x. pos p *ℤ x +ℤ neg_ℤ (pos 100 *ℤ (pos t *ℤ rest cell))) (are.largest 1)
-      ∙ part_rescaled t p 100 (cell.largest 1) (rest cell) in
+    ap (λ x. pos p *ℤ other.largest 1 +ℤ neg_ℤ (pos 100 *ℤ x)) (rest_rescaled t cell other are)
+    ∙ ap (λ x. pos p *ℤ x +ℤ neg_ℤ (pos 100 *ℤ (pos t *ℤ rest cell))) (are.largest 1)
+    ∙ part_rescaled t p 100 (cell.largest 1) (rest cell) in
     subst (λ x. IsWithinRounding t (rounded_up (wanted (rule.Percent p) cell)) (rounded_up (divided x 100))) (sym over) (rounded_within t 100 (pos p *ℤ cell.largest 1 +ℤ neg_ℤ (pos 100 *ℤ rest cell)) h (omega arith))
 
 -- ---- all rules

@@ -1,10 +1,10 @@
 -- Rounding up gives the least whole number that reaches the quotient.
-use Rattle.std.proofs.Common.{◌≡◌, ◌↔◌, ℕ, zero, suc, ◌+◌, ◌*◌, ◌/◌, ◌%◌, ◌<◌, ◌≤◌, true, false, ℤ, pos, negsuc, neg_ℤ, ◌+ℤ◌, ◌*ℤ◌, ◌≤ℤ◌, ◌<ℤ◌, int_lt, arith, refl, ap, sym, subst, ◌∙◌, if◌then◌else◌}
+use Rattle.std.proofs.Common.{◌≡◌, ℕ, ◌+◌, ◌*◌, ◌/◌, ◌<◌, ◌≤◌, true, false, ℤ, pos, negsuc, neg_ℤ, ◌+ℤ◌, ◌*ℤ◌, ◌≤ℤ◌, ◌<ℤ◌, int_lt, arith, refl, ap, sym, subst, ◌∙◌, if◌then◌else◌}
 use Rattle.std.specs.Int.{int_div_euclid}
 use Rattle.std.proofs.Math.Nat.{div-add-mod}
 use Rattle.std.proofs.lemmas.Nat.{mod_below}
 use Rattle.std.proofs.Math.IntN.{*ℤ_comm}
-use Rattle.std.proofs.lemmas.Int.{ints, by_lt_z}
+use Rattle.std.proofs.lemmas.Int.{ints}
 use Rattle.sdc_base.proofs.WholeNumbers.{distrib, times_up, minus_times, below_from_times}
 use Rattle.sdc_base.specs.RuleLevels.{Fraction, divided, rounded_up, IsRoundedUp}
 use Rattle.primary_rules.specs.Naming.{RoundingIsLeast}
@@ -40,7 +40,7 @@ up_least over other d h reaches =
     let near : neg_ℤ over <ℤ (pos d *ℤ int_div_euclid (neg_ℤ over) (pos d) +ℤ pos d) = quotient_high (neg_ℤ over) d h in
     let before : pos d *ℤ (up +ℤ negsuc 0) ≡ pos d *ℤ up +ℤ pos d *ℤ negsuc 0 = distrib (pos d) up (negsuc 0) in
     let below : (pos d *ℤ (up +ℤ negsuc 0)) <ℤ (pos d *ℤ other) =
-      omega (arith, ints, near, before, times_minus d (int_div_euclid (neg_ℤ over) (pos d)), reaches) in
+    omega (arith, ints, near, before, times_minus d (int_div_euclid (neg_ℤ over) (pos d)), reaches) in
     let positive : pos 1 ≤ℤ pos d = omega (arith, ints, h) in
     let less : (up +ℤ negsuc 0) <ℤ other = below_from_times (pos d) (up +ℤ negsuc 0) other positive below in
     omega (arith, ints, less)

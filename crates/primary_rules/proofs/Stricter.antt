@@ -1,10 +1,9 @@
 -- Stricter rules name more and want more.
-use Rattle.std.proofs.Common.{◌≡◌, ℕ, zero, suc, ◌+◌, ◌*◌, ◌<◌, ◌≤◌, ◌++◌, true, false, IsTrue, List, [], ◌∷◌, Option, None, Some, option_map, ℤ, pos, negsuc, neg_ℤ, ◌+ℤ◌, ◌*ℤ◌, ◌≤ℤ◌, ◌<ℤ◌, int_lt, arith, rules, refl, ap, sym, subst, ◌∙◌, if◌then◌else◌}
-use Rattle.std.proofs.lemmas.Int.{ints, by_lt_z}
+use Rattle.std.proofs.Common.{◌≡◌, ℕ, ◌≤◌, ◌++◌, true, false, List, [], ◌∷◌, Option, None, Some, option_map, ℤ, pos, neg_ℤ, ◌+ℤ◌, ◌*ℤ◌, ◌≤ℤ◌, arith, rules, refl, if◌then◌else◌}
+use Rattle.std.proofs.lemmas.Int.{ints}
 use Rattle.std.proofs.Math.IntN.{*ℤ_comm}
-use Rattle.sdc_base.proofs.WholeNumbers.{distrib, distrib_right, times_up}
-use Rattle.sdc_base.specs.RuleLevels.{Figures, Fraction, divided, names, rest, wanted, rounded_up, IsRoundedUp, greater, upper_of, levels_up_to, level_of, manual_of}
-use Rattle.sdc_base.specs.declared.facts.Levels.{Levels}
+use Rattle.sdc_base.proofs.WholeNumbers.{distrib, times_up}
+use Rattle.sdc_base.specs.RuleLevels.{Figures, divided, names, rest, wanted, rounded_up, IsRoundedUp, greater, upper_of, levels_up_to}
 use Rattle.sdc_base.specs.declared.rule.Rule.{Rule}
 use Rattle.sdc_base.specs.declared.rule.Rule.TheVariants as rule
 use Rattle.primary_rules.specs.Ranges.{IsInRange}
@@ -108,19 +107,19 @@ levels_rise truth (Some up) (Some more) h = from_some (levels_up_to truth up) (l
 pub stricter_lowers_none : StricterLowersNone
 stricter_lowers_none before behind one other cell here there from stricter =
     let own : RisesTo (upper_of (one ∷ behind) cell) (upper_of (other ∷ behind) cell) =
-      rw (upper_first one behind cell, upper_first other behind cell)
-      (rises_in_turn (up_by one cell) (up_by other cell) (upper_of behind cell) (upper_of behind cell) (one_rises one other cell here there from stricter) (rises_itself (upper_of behind cell))) in
+    rw (upper_first one behind cell, upper_first other behind cell)
+    (rises_in_turn (up_by one cell) (up_by other cell) (upper_of behind cell) (upper_of behind cell) (one_rises one other cell here there from stricter) (rises_itself (upper_of behind cell))) in
     levels_rise cell.truth (upper_of (before ++ one ∷ behind) cell) (upper_of (before ++ other ∷ behind) cell) (upper_rises before (one ∷ behind) (other ∷ behind) cell own)
 
 pub further_lowers_none : FurtherLowersNone
 further_lowers_none before behind one cell =
     let own : RisesTo (upper_of behind cell) (upper_of (one ∷ behind) cell) =
-      rw (upper_first one behind cell)
-      (rises_in_turn None (up_by one cell) (upper_of behind cell) (upper_of behind cell) tt (rises_itself (upper_of behind cell))) in
+    rw (upper_first one behind cell)
+    (rises_in_turn None (up_by one cell) (upper_of behind cell) (upper_of behind cell) tt (rises_itself (upper_of behind cell))) in
     levels_rise cell.truth (upper_of (before ++ behind) cell) (upper_of (before ++ one ∷ behind) cell) (upper_rises before behind (one ∷ behind) cell own)
 
 pub more_lowers_no_manual : MoreLowersNoManual
 more_lowers_no_manual percent more truth h from =
     let up : rounded_up (divided (pos percent *ℤ truth) 100) ≤ℤ rounded_up (divided (pos more *ℤ truth) 100) =
-      rounded_more (pos percent *ℤ truth) (pos more *ℤ truth) 100 (omega arith) (times_of percent more truth h from) in
+    rounded_more (pos percent *ℤ truth) (pos more *ℤ truth) 100 (omega arith) (times_of percent more truth h from) in
     (up, down_rises (rounded_up (divided (pos percent *ℤ truth) 100)) (rounded_up (divided (pos more *ℤ truth) 100)) truth up)

@@ -1,6 +1,6 @@
 -- A further contributor that isn't the largest hides what the largest one contributes (handbook, p-percent rule; the
 -- condition: own).
-use Rattle.std.specs.Prelude.{◌≡◌, ◌≤◌, ◌+◌, ◌++◌, ◌∷◌, [], ℕ, suc, IsTrue, List, All, fold, length, ℤ, pos, ◌+ℤ◌, ◌*ℤ◌, ◌≤ℤ◌}
+use Rattle.std.specs.Prelude.{◌≤◌, ◌++◌, ◌∷◌, [], ℕ, IsTrue, List, All, fold, length, pos, ◌+ℤ◌, ◌*ℤ◌, ◌≤ℤ◌}
 use Rattle.sdc_base.specs.Largest.{largest}
 use Rattle.sdc_base.specs.Shares.{weight_from}
 use Rattle.sdc_base.specs.RuleLevels.{Figures, names}

@@ -1,5 +1,5 @@
 -- Where rules name a cell, and which levels it then has, in words of their own (handbook, sensitivity rules; the words: own).
-use Rattle.std.specs.Prelude.{◌≡◌, ◌↔◌, ◌≤◌, ◌<◌, ◌⊎◌, ℕ, false, IsTrue, List, All, Any, Option, None, Some, ℤ, pos, ◌*ℤ◌, ◌≤ℤ◌, ◌<ℤ◌}
+use Rattle.std.specs.Prelude.{◌≡◌, ◌↔◌, ◌≤◌, ◌<◌, ◌⊎◌, false, IsTrue, List, All, Any, None, Some, ℤ, pos, ◌*ℤ◌, ◌≤ℤ◌, ◌<ℤ◌}
 use Rattle.sdc_base.specs.RuleLevels.{Figures, Fraction, names, rest, wanted, rounded_up, IsRoundedUp, level_of}
 use Rattle.sdc_base.specs.declared.facts.Levels.{Levels}
 use Rattle.sdc_base.specs.declared.rule.Rule.{Rule}

@@ -1,5 +1,5 @@
 -- Stricter rules name more cells, and want them more open (handbook, sensitivity rules; the order of rules: own).
-use Rattle.std.specs.Prelude.{◌≡◌, ◌≤◌, ◌++◌, ℕ, IsTrue, List, [], ◌∷◌, All, Option, None, Some, ℤ, pos, ◌≤ℤ◌}
+use Rattle.std.specs.Prelude.{◌≤◌, ◌++◌, ℕ, IsTrue, List, ◌∷◌, All, Option, None, Some, ℤ, pos, ◌≤ℤ◌}
 use Rattle.sdc_base.specs.Trees.{Tree}
 use Rattle.sdc_base.specs.Records.{Name}
 use Rattle.sdc_base.specs.declared.rows.Row.{Row}

@@ -11,7 +11,19 @@ use crate::naming::up_under;
 use crate::quotient::{hundredths, up_from};
 use sdc_base::{CellFacts, Levels, Rule, Rules};
 
-/// The levels of a cell by the rules.
+/// The levels of a cell by the rules, in units; none exactly where no rule names the cell.
+///
+/// The frequency rule `FREQ(n,r)` names a cell with a record and fewer than `n`, and wants it `r` percent of the truth open
+/// upwards. The dominance rule `NK(n,k)` names a cell where `100 * T > k * X`, with the truth `X` and the sum `T` over the
+/// `n` largest contributions, and wants `100 * T / k - X`. The p-percent rule `P(p)` names a cell where
+/// `100 * R < p * x`, with the largest contribution `x` and the rest `R` of the truth beside the two largest, and wants
+/// `p * x / 100 - R`. What a rule wants is rounded up to a unit and at least 1; the greatest of the rules that name the cell
+/// is the upper level, and the lesser of it and the truth the lower one.
+///
+/// The rules must be in their ranges, the truth from 0 to `10^29` units, and the facts must keep at least
+/// [`keep`] contributions. Nothing is refused, and no memory is taken. It takes time in proportion to the rules.
+///
+/// The rules and what they want are the handbook's (sensitivity rules); rounding and the lower level are this project's own.
 pub fn level(rules: &Rules, facts: &CellFacts) -> Option<Levels>
     requires in_range { AreInRange rules.now }
     requires truth { IsTruth facts.now.truth }
@@ -54,7 +66,12 @@ fn greater(one: Option<i128>, other: Option<i128>) -> Option<i128>
     Some(if n < m { m } else { n })
 }
 
-/// The levels of a cell that is declared unsafe.
+/// The levels of a cell of this truth that is declared unsafe, in units: `man` percent of the truth, rounded up to a unit
+/// and at least 1, and the lesser of that and the truth.
+///
+/// The rules must be in their ranges, and the truth from 0 to `10^29` units. Nothing is refused, and no memory is taken.
+///
+/// The percentage is that of `MAN` in a job, 20 where there is none (this project's own default).
 pub fn manual(rules: &Rules, truth: i128) -> Levels
     requires in_range { AreInRange rules.now }
     requires truth { IsTruth truth }
@@ -73,10 +90,15 @@ fn up_to(up: i128, truth: i128) -> Levels
     }
 }
 
-/// How many of the largest contributions the rules look at, two at least.
+/// How many of the largest contributions the rules look at: the greatest `n` of the dominance rules, and 2 at least, from 2
+/// to 10. Facts that keep so many are enough for [`level`].
+///
+/// The rules must be in their ranges. Nothing is refused, and no memory is taken.
 pub fn keep(rules: &Rules) -> u8
     requires in_range { AreInRange rules.now }
-    ensures { result ≡ keep_of rules.now.list }
+    ensures value { result ≡ keep_of rules.now.list }
+    ensures at_least_two { 2 ≤ result }
+    ensures at_most_ten { result ≤ 10 }
 {
     let mut most = 2;
     for rule in rules.list.as_slice() {
@@ -87,7 +109,9 @@ pub fn keep(rules: &Rules) -> u8
 
 // How many of the largest contributions a rule looks at.
 fn look(rule: Rule) -> u8
-    ensures { result ≡ looks_at rule }
+    requires { IsInRange rule }
+    ensures value { result ≡ looks_at rule }
+    ensures at_most_ten { result ≤ 10 }
 {
     match rule {
         Rule::Nk { n, .. } => n,

@@ -12,7 +12,7 @@ returns c =
     let factor : FitsSigned w128 (pos c.args.percent) = omega (arith, ints) in
     let whole : FitsSigned w128 (pos c.args.percent *ℤ c.args.amount) = omega (arith, ints) in
     let is : to_z w128 (of_z w128 (to_z w128 (of_z w128 c.from.result) *ℤ to_z w128 (of_z w128 c.args.amount))) ≡ pos c.args.percent *ℤ c.args.amount =
-      rw c.from.ensures (simp to_z-of_z) in
+    rw c.from.ensures (simp to_z-of_z) in
     record {
       value = is;
       low = rw is low;
