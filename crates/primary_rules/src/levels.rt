@@ -1,9 +1,10 @@
-ghost use Rattle.std.specs.Prelude.{◌≡◌, ◌≤◌, List, All};
+ghost use Rattle.std.specs.Prelude.{◌≡◌, ◌≤◌, List, All, pos, ◌≤ℤ◌};
+ghost use Rattle.std.specs.Option.{ForSome};
 ghost use Rattle.sdc_base.specs.Trees.{Tree};
 ghost use Rattle.sdc_base.specs.Records.{Name};
 ghost use Rattle.sdc_base.specs.declared.rows.Row.{Row};
 ghost use Rattle.sdc_base.specs.RuleLevels.{told, figures_in, upper_of, level_of, manual_of, keep_of, looks_at, levels_up_to};
-ghost use Rattle.primary_rules.specs.Ranges.{IsInRange, AreInRange, IsTruth};
+ghost use Rattle.primary_rules.specs.Ranges.{IsInRange, AreInRange, IsTruth, IsUpper, AreLevels};
 ghost use Rattle.primary_rules.specs.OneRule.{greater_of};
 ghost use Rattle.primary_rules.specs.Kept.{AreFactsOf};
 
@@ -28,6 +29,7 @@ pub fn level(rules: &Rules, facts: &CellFacts) -> Option<Levels>
     requires in_range { AreInRange rules.now }
     requires truth { IsTruth facts.now.truth }
     requires kept { keep_of rules.now.list ≤ facts.now.tops.keep }
+    ensures levels { ForSome result (AreLevels facts.now.truth) }
     ensures told { result ≡ level_of rules.now.list (told facts.now) }
     ensures over_records { (trees : List Tree) (name : Name) (rows : List Row) → AreFactsOf facts.now trees name rows → result ≡ level_of rules.now.list (figures_in trees name rows facts.now.tops.scale) }
 {
@@ -38,7 +40,8 @@ pub fn level(rules: &Rules, facts: &CellFacts) -> Option<Levels>
 fn levels_by(rules: &[Rule], facts: &CellFacts) -> Option<Levels>
     requires in_range { All IsInRange rules.now }
     requires truth { IsTruth facts.now.truth }
-    ensures { result ≡ level_of rules.now (told facts.now) }
+    ensures levels { ForSome result (AreLevels facts.now.truth) }
+    ensures value { result ≡ level_of rules.now (told facts.now) }
 {
     let up = greatest(rules, facts)?;
     Some(up_to(up, facts.truth))
@@ -48,7 +51,8 @@ fn levels_by(rules: &[Rule], facts: &CellFacts) -> Option<Levels>
 fn greatest(rules: &[Rule], facts: &CellFacts) -> Option<i128>
     requires in_range { All IsInRange rules.now }
     requires truth { IsTruth facts.now.truth }
-    ensures { result ≡ upper_of rules.now (told facts.now) }
+    ensures level { ForSome result IsUpper }
+    ensures value { result ≡ upper_of rules.now (told facts.now) }
 {
     let mut most = None;
     for rule in rules {
@@ -59,7 +63,10 @@ fn greatest(rules: &[Rule], facts: &CellFacts) -> Option<i128>
 
 // The greater of two levels that may be there.
 fn greater(one: Option<i128>, other: Option<i128>) -> Option<i128>
-    ensures { result ≡ greater_of one other }
+    requires one { ForSome one IsUpper }
+    requires other { ForSome other IsUpper }
+    ensures level { ForSome result IsUpper }
+    ensures value { result ≡ greater_of one other }
 {
     let Some(n) = one else { return other };
     let Some(m) = other else { return one };
@@ -75,14 +82,18 @@ fn greater(one: Option<i128>, other: Option<i128>) -> Option<i128>
 pub fn manual(rules: &Rules, truth: i128) -> Levels
     requires in_range { AreInRange rules.now }
     requires truth { IsTruth truth }
-    ensures { result ≡ manual_of rules.now.man truth }
+    ensures levels { AreLevels truth result }
+    ensures value { result ≡ manual_of rules.now.man truth }
 {
     up_to(up_from(hundredths(rules.man, truth), 100), truth)
 }
 
 // The levels with this upper one.
 fn up_to(up: i128, truth: i128) -> Levels
-    ensures { result ≡ levels_up_to truth up }
+    requires up { IsUpper up }
+    requires truth { pos 0 ≤ℤ truth }
+    ensures levels { AreLevels truth result }
+    ensures value { result ≡ levels_up_to truth up }
 {
     Levels {
         up,

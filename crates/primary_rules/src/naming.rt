@@ -1,7 +1,8 @@
 ghost use Rattle.std.specs.Prelude.{◌≡◌, ◌^◌, pos, neg_ℤ, ◌≤ℤ◌};
+ghost use Rattle.std.specs.Option.{ForSome};
 ghost use Rattle.sdc_base.specs.RuleLevels.{told, rest};
 ghost use Rattle.sdc_base.specs.declared.rule.Rule.TheVariants as rule;
-ghost use Rattle.primary_rules.specs.Ranges.{IsInRange, IsTruth};
+ghost use Rattle.primary_rules.specs.Ranges.{IsInRange, IsTruth, IsUpper};
 ghost use Rattle.primary_rules.specs.OneRule.{up_by};
 
 use crate::kept::sum_over;
@@ -12,7 +13,8 @@ use sdc_base::{CellFacts, Rule, is_too_few};
 pub(crate) fn up_under(rule: Rule, facts: &CellFacts) -> Option<i128>
     requires in_range { IsInRange rule }
     requires truth { IsTruth facts.now.truth }
-    ensures { result ≡ up_by rule (told facts.now) }
+    ensures level { ForSome result IsUpper }
+    ensures value { result ≡ up_by rule (told facts.now) }
 {
     match rule {
         Rule::Freq { n, r } => by_frequency(n, r, facts),
@@ -25,7 +27,8 @@ pub(crate) fn up_under(rule: Rule, facts: &CellFacts) -> Option<i128>
 fn by_frequency(n: u32, r: u32, facts: &CellFacts) -> Option<i128>
     requires in_range { IsInRange (rule.Freq n r) }
     requires truth { IsTruth facts.now.truth }
-    ensures { result ≡ up_by (rule.Freq n r) (told facts.now) }
+    ensures level { ForSome result IsUpper }
+    ensures value { result ≡ up_by (rule.Freq n r) (told facts.now) }
 {
     if is_too_few(facts.freq, n) {
         Some(up_from(hundredths(r, facts.truth), 100))
@@ -38,7 +41,8 @@ fn by_frequency(n: u32, r: u32, facts: &CellFacts) -> Option<i128>
 fn by_dominance(n: u8, k: u32, facts: &CellFacts) -> Option<i128>
     requires in_range { IsInRange (rule.Nk n k) }
     requires truth { IsTruth facts.now.truth }
-    ensures { result ≡ up_by (rule.Nk n k) (told facts.now) }
+    ensures level { ForSome result IsUpper }
+    ensures value { result ≡ up_by (rule.Nk n k) (told facts.now) }
 {
     let largest = hundredths(100, sum_over(&facts.tops, n));
     let bound = hundredths(k, facts.truth);
@@ -49,7 +53,8 @@ fn by_dominance(n: u8, k: u32, facts: &CellFacts) -> Option<i128>
 fn by_percent(p: u32, facts: &CellFacts) -> Option<i128>
     requires in_range { IsInRange (rule.Percent p) }
     requires truth { IsTruth facts.now.truth }
-    ensures { result ≡ up_by (rule.Percent p) (told facts.now) }
+    ensures level { ForSome result IsUpper }
+    ensures value { result ≡ up_by (rule.Percent p) (told facts.now) }
 {
     let rest = hundredths(100, rest_of(facts));
     let bound = hundredths(p, sum_over(&facts.tops, 1));
@@ -60,8 +65,8 @@ fn by_percent(p: u32, facts: &CellFacts) -> Option<i128>
 fn rest_of(facts: &CellFacts) -> i128
     requires truth { IsTruth facts.now.truth }
     ensures value { result ≡ rest (told facts.now) }
-    ensures low { neg_ℤ (pos (2 ^ 101)) ≤ℤ result }
-    ensures high { result ≤ℤ pos (2 ^ 101) }
+    ensures low { neg_ℤ (pos (2 ^ 80)) ≤ℤ result }
+    ensures high { result ≤ℤ pos (2 ^ 100) }
 {
     facts.truth - sum_over(&facts.tops, 2)
 }

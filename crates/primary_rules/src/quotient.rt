@@ -1,12 +1,16 @@
 ghost use Rattle.std.specs.Prelude.{◌≡◌, ◌≤◌, ◌^◌, if◌then◌else◌, None, Some, pos, neg_ℤ, ◌+ℤ◌, ◌*ℤ◌, ◌≤ℤ◌, int_lt};
+ghost use Rattle.std.specs.Option.{ForSome};
 ghost use Rattle.sdc_base.specs.RuleLevels.{divided, rounded_up};
+ghost use Rattle.primary_rules.specs.Ranges.{most_level, IsUpper};
 
 /// The least whole number that is not below the quotient, and 1 at least.
 pub(crate) fn up_from(over: i128, under: u32) -> i128
     requires under { 1 ≤ under }
     requires low { neg_ℤ (pos (2 ^ 126)) ≤ℤ over }
-    requires high { over ≤ℤ pos (2 ^ 126) }
-    ensures { result ≡ rounded_up (divided over under) }
+    requires high { over ≤ℤ (pos under *ℤ pos most_level) }
+    ensures value { result ≡ rounded_up (divided over under) }
+    ensures unit { pos 1 ≤ℤ result }
+    ensures at_most { result ≤ℤ pos most_level }
 {
     let down = (-over).div_euclid(i128::from(under));
     let up = -down;
@@ -32,7 +36,9 @@ pub(crate) fn excess(amount: i128, bound: i128, under: u32) -> Option<i128>
     requires high { amount ≤ℤ pos (2 ^ 120) }
     requires bound_low { neg_ℤ (pos (2 ^ 120)) ≤ℤ bound }
     requires bound_high { bound ≤ℤ pos (2 ^ 120) }
-    ensures { result ≡ (if int_lt bound amount then Some (rounded_up (divided (amount +ℤ neg_ℤ bound) under)) else None) }
+    requires most { (amount +ℤ neg_ℤ bound) ≤ℤ pos most_level }
+    ensures level { ForSome result IsUpper }
+    ensures value { result ≡ (if int_lt bound amount then Some (rounded_up (divided (amount +ℤ neg_ℤ bound) under)) else None) }
 {
     if amount > bound {
         Some(up_from(amount - bound, under))

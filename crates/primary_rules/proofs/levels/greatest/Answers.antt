@@ -9,6 +9,10 @@ use Rattle.primary_rules.proofs.levels.greatest.Goals as goal
 pub loop-rule-preserved : goal.loop-rule-preserved
 loop-rule-preserved c =
     let here = drop_more c.args.rules.now c.loop-rule.rule-index (rule.Freq 0 0) c.loop-rule-test.true in
-    ap (λ m. greater_of m (upper_of (drop (c.loop-rule.rule-index + 1) c.args.rules.now) (told c.args.facts.now))) (c.greater-most.ensures ∙ ap (λ u. greater_of c.loop-rule.most u) c.up_under.ensures)
-    ∙ one_more c.loop-rule.most c.loop-rule.rule-index c.args.rules.now (get_or c.args.rules.now c.loop-rule.rule-index (rule.Freq 0 0)) (told c.args.facts.now) here
-    ∙ c.loop-rule.invariant
+    record {
+      level = c.greater-most.ensures.level;
+      value =
+          ap (λ m. greater_of m (upper_of (drop (c.loop-rule.rule-index + 1) c.args.rules.now) (told c.args.facts.now))) (c.greater-most.ensures.value ∙ ap (λ u. greater_of c.loop-rule.most u) c.up_under.ensures.value)
+          ∙ one_more c.loop-rule.most c.loop-rule.rule-index c.args.rules.now (get_or c.args.rules.now c.loop-rule.rule-index (rule.Freq 0 0)) (told c.args.facts.now) here
+          ∙ c.loop-rule.invariant.value;
+    }
