@@ -1,0 +1,6 @@
+pub mod PlaceSteps
+pub mod CellLists
+pub mod Finding
+pub mod Faults
+pub mod Below
+pub mod TableSteps

@@ -1,7 +1,6 @@
 -- The cells of a book, and which cell stands at a place of a table (tau-ARGUS user manual, linked tables).
-use Rattle.std.specs.Prelude.{◌≡◌, ℕ, ◌+◌, ◌≤◌, Bool, false, List, [], length, take, drop, slice_get, bytes_eq, if◌then◌else◌, All, Option, None}
+use Rattle.std.specs.Prelude.{◌≡◌, ℕ, ◌+◌, ◌≤◌, Bool, false, List, [], length, take, slice_get, slice_range, bytes_eq, if◌then◌else◌, All, Option, None}
 use Rattle.std.specs.Option.{option_and_then, option_map_or}
-use Rattle.sdc_base.specs.Trees.{IsCodeTree}
 use Rattle.sdc_base.specs.Records.{Name}
 use Rattle.sdc_base.specs.Places.{first_place}
 use Rattle.sdc_base.specs.Cells.{cells_of, name_of, trees_of}
@@ -48,7 +47,7 @@ earlier_marks book t = take (first_own book t) book.marks
 
 -- the marks of the cells that table t names first
 abbrev pub own_marks : Held → ℕ → List Mark
-own_marks book t = drop (first_own book t) (take (first_own book (t + 1)) book.marks)
+own_marks book t = slice_range book.marks (first_own book t) (first_own book (t + 1))
 
 -- the table spans variables of the book, none of them twice
 pub record IsTable (variables : ℕ) (table : List ℕ) : Type 0 where
@@ -58,7 +57,6 @@ pub record IsTable (variables : ℕ) (table : List ℕ) : Type 0 where
 -- what holds of every book
 pub record IsBook (book : Held) : Type 0 where
   pub few : length book.trees ≤ 8
-  pub trees : All IsCodeTree book.trees
   pub tables : All (IsTable (length book.trees)) book.tables
   pub one_each : length book.marks ≡ length (cells book)
   pub at_most : length (cells book) ≤ most_cells

@@ -80,12 +80,8 @@ impl Book {
         ensures name { IfSome result (λ cell. slice_get (cells_in self.now) cell ≡ Some (name_in self.now t place.now)) }
         ensures within { IfSome result (λ cell. cell < length self.now.marks) }
     {
-        let table = self.tables.get(t as usize)?;
-        if !is_place(&self.trees, table.as_slice(), place) {
-            return None;
-        }
-        let name = Name::new(name_at(self.trees.len(), table.as_slice(), place));
-        let number = self.names.number_of(&name)?;
+        let table = self.spans(t)?;
+        let number = self.number_in(table.as_slice(), place)?;
         Some(number as u32)
     }
 
@@ -137,15 +133,31 @@ impl Book {
 
 impl Book {
     ghost use Rattle.std.specs.Borrow.{sem};
+    ghost use Rattle.std.specs.Prelude.{if◌then◌else◌, None};
+    ghost use Rattle.linked_tables.specs.Tables.{most_cells};
+    ghost use Rattle.linked_tables.specs.Shared.{is_in, named, number_of};
     ghost use Rattle.linked_tables.specs.Lending.{LendsMark, LendsPart};
+
+    // The number of the cell at a place of a table that spans these variables.
+    fn number_in(&self, table: &[u32], place: &[u32]) -> Option<usize>
+        ensures number { result ≡ (if is_in self.now table.now place.now then number_of self.now (named self.now table.now place.now) else None) }
+        ensures within { IfSome result (λ number. number < length self.now.marks) }
+        ensures few { length self.now.marks ≤ most_cells }
+    {
+        if !is_place(&self.trees, table, place) {
+            return None;
+        }
+        let name = Name::new(name_at(self.trees.len(), table, place));
+        self.names.number_of(&name)
+    }
 
     /// How many cells the tables before t name, which is the number of the first cell of its own.
     pub(crate) fn start_of(&self, t: usize) -> usize
         ensures start { result ≡ first_own self.now t }
         ensures within { result ≤ length self.now.marks }
     {
-        match self.starts.get(t) {
-            Some(start) => *start as usize,
+        match number_at(&self.starts, t) {
+            Some(start) => start as usize,
             None => self.marks.len(),
         }
     }
@@ -167,4 +179,12 @@ impl Book {
     {
         self.marks.slice_mut(from..to)
     }
+}
+
+// The number at a place.
+fn number_at(numbers: &[u32], place: usize) -> Option<u32>
+    ensures { result ≡ slice_get numbers.now place }
+{
+    let number = numbers.get(place)?;
+    Some(*number)
 }

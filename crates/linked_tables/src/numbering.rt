@@ -1,8 +1,8 @@
-ghost use Rattle.std.specs.Prelude.{◌≡◌, ◌≤◌, ◌<◌, ◌^◌, length, fold, All, IfOk};
-ghost use Rattle.sdc_base.specs.Answers.{Gives};
+ghost use Rattle.std.specs.Prelude.{◌≡◌, ◌≤◌, ◌<◌, ◌^◌, ◌++◌, ◌∷◌, [], length, fold, All, None, Ok, IfOk, IfErr, OnOk};
+ghost use Rattle.sdc_base.specs.Answers.{Fails};
 ghost use Rattle.sdc_base.specs.Cells.{named_by, with_name};
 ghost use Rattle.linked_tables.specs.Blank.{IsBlank};
-ghost use Rattle.linked_tables.specs.Tables.{book_of, fault_of, most_cells, unless_fault, variables_fault};
+ghost use Rattle.linked_tables.specs.Tables.{book_of, fault_of, first_fault, most_cells, unless_fault, variables_fault};
 ghost use Rattle.linked_tables.specs.Kept.{IsNumbered, capped, names_below};
 
 use crate::book_fault::BookFault;
@@ -32,7 +32,8 @@ pub(crate) fn number_cells(
 ) -> Result<Numbering, BookFault>
     requires few { length trees.now ≤ 8 }
     requires fewer { length tables.now < 2 ^ 32 }
-    ensures exact { Gives fault_of (λ _. (trees.now, tables.now)) result (book_of trees.now tables.now) }
+    ensures none { OnOk result (first_fault trees.now [] tables.now ≡ None) }
+    ensures fault { IfErr result (λ fault. Fails (fault_of fault) (book_of trees.now tables.now)) }
     ensures numbered { IfOk result (λ made. IsNumbered trees.now tables.now made.names made.starts.items) }
 {
     let mut names = Names::new(alloc);
@@ -48,7 +49,8 @@ pub(crate) fn number_cells(
 
 // Refuses a table that spans a variable that there isn't, or one twice.
 fn check_variables(variables: usize, t: u32, table: &[u32]) -> Result<(), BookFault>
-    ensures { Gives fault_of (λ done. done) result (unless_fault (variables_fault variables t table.now) tt) }
+    ensures none { OnOk result (variables_fault variables t table.now ≡ None) }
+    ensures fault { IfErr result (λ fault. Fails (fault_of fault) (unless_fault (variables_fault variables t table.now) (tt {0}))) }
 {
     if spans_unknown(variables, table) {
         return Err(BookFault::NoSuchVariable(t));
@@ -70,7 +72,8 @@ fn name_below(
     requires few { length trees.now ≤ 8 }
     requires begun { length place.now ≤ length table.now }
     requires room { length names.old ≤ most_cells }
-    ensures { Gives fault_of (λ _. names.new) result (capped t (fold with_name names.old (names_below trees.now table.now place.now))) }
+    ensures names { OnOk result (capped t (fold with_name names.old (names_below trees.now table.now place.now)) ≡ Ok names.new) }
+    ensures fault { IfErr result (λ fault. Fails (fault_of fault) (capped t (fold with_name names.old (names_below trees.now table.now place.now)))) }
 {
     if place.len() >= table.len() {
         let name = name_at(trees.len(), table.as_slice(), place);
@@ -86,7 +89,8 @@ fn name_below(
 
 // Adds a name, unless it is there already; refuses one that is too many.
 fn add_name(t: u32, name: Name, names: &mut Names) -> Result<(), BookFault>
-    ensures { Gives fault_of (λ _. names.new) result (capped t (with_name names.old name)) }
+    ensures names { OnOk result (capped t (with_name names.old name) ≡ Ok names.new) }
+    ensures fault { IfErr result (λ fault. Fails (fault_of fault) (capped t (with_name names.old name))) }
 {
     names.add(name)?;
     if names.len() > MOST_CELLS {

@@ -1,4 +1,5 @@
-ghost use Rattle.std.specs.Prelude.{◌≡◌, ◌<◌, ◌≤◌, length, slice_index_or, All};
+ghost use Rattle.std.specs.Prelude.{◌≡◌, ◌≤◌, ◌==◌, [], length, slice_index_or};
+ghost use Rattle.std.specs.List.{list_any};
 ghost use Rattle.sdc_base.specs.Cells.{trees_of};
 ghost use Rattle.sdc_base.specs.CellOrder.{is_place_in};
 ghost use Rattle.linked_tables.specs.Tables.{has_unknown, has_twice};
@@ -7,7 +8,8 @@ use hierarchy::CodeTree;
 
 /// How many codes the tree of a variable has, and none where there is no such variable.
 pub(crate) fn size_at(trees: &[CodeTree], variable: u32) -> usize
-    ensures { result ≡ length (slice_index_or trees.now variable []) }
+    ensures size { result ≡ length (slice_index_or trees.now variable []) }
+    ensures small { result ≤ 5001 }
 {
     match trees.get(variable as usize) {
         Some(tree) => tree.len(),
@@ -42,10 +44,16 @@ pub(crate) fn spans_twice(table: &[u32]) -> bool
     ensures { result ≡ has_twice table.now }
 {
     for (k, variable) in table.iter().enumerate() {
-        let later = &table[k + 1..];
-        if later.iter().any(|other| *other == *variable) {
+        if spans(&table[k + 1..], *variable) {
             return true;
         }
     }
     false
+}
+
+// Whether a variable is one of these.
+fn spans(table: &[u32], variable: u32) -> bool
+    ensures { result ≡ list_any (λ other. other == variable) table.now }
+{
+    table.iter().any(|other| *other == variable)
 }
