@@ -78,15 +78,13 @@ start-found trees tables n t start found =
 pub start-past : (trees : List Tree) (tables : List (List ℕ)) (t : ℕ) → length tables ≤ t → length (cells_of trees (take t tables)) ≡ length (cells_of trees tables)
 start-past trees tables t h = ap (λ taken. length (cells_of trees taken)) (take_all t tables h)
 
+lt_or_le : (a b : ℕ) → (a < b) ⊎ (b ≤ a)
+lt_or_le a b = grind arith
+
 -- where no start is found all cells are named
 pub start-none : (trees : List Tree) (tables : List (List ℕ)) (t : ℕ) → slice_get (starts_of trees tables (length tables + 1)) t ≡ None → length (cells_of trees (take t tables)) ≡ length (cells_of trees tables)
-start-none trees tables t none = start-past trees tables t (omega (arith, past))
+start-none trees tables t none = start-past trees tables t (by (lt_or_le t (length tables + 1)))
   where
-    past : length tables + 1 ≤ t
-    past = elim_past (lt_or_le t (length tables + 1))
-      where
-        elim_past : (t < length tables + 1) ⊎ (length tables + 1 ≤ t) → length tables + 1 ≤ t
-        elim_past (inl h) = let found = sym none ∙ starts-at trees tables (length tables + 1) t h in cc
-        elim_past (inr h) = h
-    lt_or_le : (a b : ℕ) → (a < b) ⊎ (b ≤ a)
-    lt_or_le a b = grind arith
+    by : (t < length tables + 1) ⊎ (length tables + 1 ≤ t) → length tables ≤ t
+    by (inl h) = let found : None ≡ Some (length (cells_of trees (take t tables))) = sym none ∙ starts-at trees tables (length tables + 1) t h in cc
+    by (inr h) = omega (arith, h)

@@ -1,6 +1,6 @@
 -- One table more.
 use Rattle.std.proofs.Common.{◌≡◌, ℕ, ◌+◌, ◌<◌, ◌≤◌, nat_lt, false, List, [], ◌∷◌, ◌++◌, length, fold, take, drop, slice_get, All, Option, None, Some, arith, refl, ap, sym, ◌∙◌, subst, length-append}
-use Rattle.std.proofs.lemmas.List.{take-append-drop}
+use Rattle.std.proofs.lemmas.List.{length-take-le}
 use Rattle.std.proofs.lemmas.List.Elements.{All-append, All-cons}
 use Rattle.std.proofs.lemmas.Option.{slice_get_within}
 use Rattle.std.proofs.lemmas.Bool.Decides.{nat_tests}
@@ -21,10 +21,7 @@ abbrev pub with_table : List Tree → List (List ℕ) → ℕ → List ℕ → L
 with_table trees tables t table = fold with_name (cells_of trees (take t tables)) (named_by trees table)
 
 taken : {X : Type 0} (xs : List X) (t : ℕ) → t < length xs → length (take t xs) ≡ t
-taken xs t h = length-take-below t xs h
-  where
-    length-take-below : {X : Type 0} (t : ℕ) (xs : List X) → t < length xs → length (take t xs) ≡ t
-    length-take-below t xs h = grind arith
+taken xs t h = length-take-le t xs (omega (arith, h))
 
 pub cells-next : (trees : List Tree) (tables : List (List ℕ)) (t : ℕ) (table : List ℕ) → slice_get tables t ≡ Some table → cells_of trees (take (t + 1) tables) ≡ with_table trees tables t table
 cells-next trees tables t table at = ap (cells_of trees) (take-at tables t table at) ∙ cells-more trees (take t tables) table
@@ -55,15 +52,15 @@ table-next trees tables t table at none few =
 pub variables-stop : (trees : List Tree) (tables : List (List ℕ)) (t : ℕ) (table : List ℕ) (named : Option BookFault) → slice_get tables t ≡ Some table → first_fault trees [] tables ≡ first_fault trees (take t tables) (drop t tables)
     → Fails named (unless_fault (variables_fault (length trees) t table) (tt {0})) → Fails named (book_of trees tables)
 variables-stop trees tables t table named at so_far fails =
-    subst (λ told. Fails named (unless_fault told (trees, tables))) (sym (so_far ∙ first-step trees tables t table at))
-    (fails-first named (variables_fault (length trees) t table) (cells_fault t (with_table trees tables t table)) (first_fault trees (take (t + 1) tables) (drop (t + 1) tables)) (tt {0}) (trees, tables) fails)
+    subst (λ told. Fails {Y = List Tree × List (List ℕ)} named (unless_fault told (trees, tables))) (sym (so_far ∙ first-step trees tables t table at))
+    (fails-first {Y = List Tree × List (List ℕ)} named (variables_fault (length trees) t table) (cells_fault t (with_table trees tables t table)) (first_fault trees (take (t + 1) tables) (drop (t + 1) tables)) (tt {0}) (trees, tables) fails)
 
 -- a table with too many cells
 pub cells-stop : (trees : List Tree) (tables : List (List ℕ)) (t : ℕ) (table : List ℕ) (named : Option BookFault) → slice_get tables t ≡ Some table → first_fault trees [] tables ≡ first_fault trees (take t tables) (drop t tables)
     → variables_fault (length trees) t table ≡ None → Fails named (capped t (with_table trees tables t table)) → Fails named (book_of trees tables)
 cells-stop trees tables t table named at so_far none fails =
-    subst (λ told. Fails named (unless_fault told (trees, tables))) (sym (so_far ∙ first-step trees tables t table at))
-    (fails-second named (variables_fault (length trees) t table) (cells_fault t (with_table trees tables t table)) (first_fault trees (take (t + 1) tables) (drop (t + 1) tables)) (with_table trees tables t table) (trees, tables) none fails)
+    subst (λ told. Fails {Y = List Tree × List (List ℕ)} named (unless_fault told (trees, tables))) (sym (so_far ∙ first-step trees tables t table at))
+    (fails-second {Y = List Tree × List (List ℕ)} named (variables_fault (length trees) t table) (cells_fault t (with_table trees tables t table)) (first_fault trees (take (t + 1) tables) (drop (t + 1) tables)) (with_table trees tables t table) (trees, tables) none fails)
 
 -- the tables so far can stand in a book
 pub sound-next : (variables : ℕ) (tables : List (List ℕ)) (t : ℕ) (table : List ℕ) → slice_get tables t ≡ Some table → All (IsTable variables) (take t tables) → variables_fault variables t table ≡ None → All (IsTable variables) (take (t + 1) tables)

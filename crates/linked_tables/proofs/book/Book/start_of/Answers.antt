@@ -30,6 +30,5 @@ returns-in-None-clause-start c =
     let past : slice_get (starts_of s.trees.items s.tables.items (length s.tables.items + 1)) c.args.t ≡ None =
         sym (c.in-None.ensures ∙ ap (λ (starts : List ℕ). slice_get starts c.args.t) (c.deref.ensures.value ∙ c.self.invariant.numbered.begun))
     in
-    let all = start-none s.trees.items s.tables.items c.args.t past in
-    let same : first_own record { trees = s.trees.items; tables = s.tables.items; marks = s.marks.items } c.args.t ≡ first_own c.args.self.now c.args.t = ap (λ (book : Held). first_own book c.args.t) c.self.view_is in
-    c.len.ensures ∙ ?
+    let marks = c.len.ensures ∙ c.self.inside.marks.ok.0 ∙ c.self.invariant.one_each ∙ ap (λ (names : List Name). length names) c.self.invariant.numbered.named in
+    marks ∙ sym (start-none s.trees.items s.tables.items c.args.t past) ∙ ap (λ (book : Held). first_own book c.args.t) c.self.view_is
