@@ -48,7 +48,7 @@ found-name (other ∷ names) name k h =
 
 -- ---- each place of a table is named
 
-named-map : (variables : ℕ) (table : List ℕ) (found : List (List ℕ)) (place : List ℕ) → is_named found place ≡ true → is_named (map (name_of variables table) found) (name_of variables table place) ≡ true
+pub named-map : (variables : ℕ) (table : List ℕ) (found : List (List ℕ)) (place : List ℕ) → is_named found place ≡ true → is_named (map (name_of variables table) found) (name_of variables table place) ≡ true
 named-map variables table [] place h = cc
 named-map variables table (other ∷ found) place h =
     elim (bytes_eq place other) as (λ b. bytes_eq place other ≡ b → (b || is_named found place) ≡ true → (bytes_eq (name_of variables table place) (name_of variables table other) || is_named (map (name_of variables table) found) (name_of variables table place)) ≡ true) [

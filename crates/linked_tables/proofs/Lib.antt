@@ -4,3 +4,5 @@ pub mod Finding
 pub mod Faults
 pub mod Below
 pub mod TableSteps
+pub mod Sharing
+pub mod Numbers

@@ -21,12 +21,13 @@ with_mark book cell mark = record book { marks = slice_set book.marks cell mark 
 abbrev pub with_mark_at : Held → ℕ → List ℕ → Mark → Held
 with_mark_at book t place mark = option_map_or (λ cell. with_mark book cell mark) (cell_at book t place) book
 
--- these marks written over the others from one on; what would go beyond the last is left out
+-- these marks in the place of as many others, from one on
+abbrev pub replaced_from : List Mark → ℕ → List Mark → List Mark
+replaced_from marks from own = take from marks ++ (own ++ drop (length own) (drop from marks))
+
+-- the same, with as many marks as before: what would go beyond the last is left out
 abbrev pub written_from : List Mark → ℕ → List Mark → List Mark
-written_from marks from own = take (length marks) (front ++ drop (length front) marks)
-  where
-    front : List Mark
-    front = take from marks ++ (own ++ drop (length own) (drop from marks))
+written_from marks from own = take (length marks) (replaced_from marks from own ++ drop (length (replaced_from marks from own)) marks)
 
 -- the book with these marks for the cells that table t names first
 abbrev pub with_own : Held → ℕ → List Mark → Held

@@ -4,3 +4,4 @@ pub mod Blank
 pub mod Shared
 pub mod Kept
 pub mod Lending
+pub mod Laws
