@@ -162,12 +162,13 @@ impl Book {
         }
     }
 
-    /// The mark of a cell, to write.
-    pub(crate) fn mark_mut(&mut self, cell: usize) -> Option<&mut Mark>
+    /// The mark of a cell, to write, or none behind the last cell. What is written is read through every table that
+    /// has the cell, and no other mark, no tree and no table changes. It takes no memory.
+    pub fn mark_mut(&mut self, cell: u32) -> Option<&mut Mark>
         ensures* writes_back { sem 𝓛 (LendsMark self.entry cell result) }
         ensures mark { option_map (λ mark. mark.now) result ≡ slice_get self.old.marks cell }
     {
-        self.marks.get_mut(cell)
+        self.marks.get_mut(cell as usize)
     }
 
     /// Marks that stand side by side, to write.

@@ -1,0 +1,4 @@
+pub mod ListReads
+pub mod MarkSteps
+pub mod PlaceSteps
+pub mod Walking

@@ -1,0 +1,4 @@
+pub mod Holding
+pub mod Tuples
+pub mod Giving
+pub mod Tabulated
