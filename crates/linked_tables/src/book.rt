@@ -9,7 +9,7 @@ use crate::book_fault::BookFault;
 use crate::mark::Mark;
 use crate::names::{Name, Names};
 use crate::numbering::{Numbering, blank_marks, number_cells};
-use crate::places::is_place;
+use crate::places::{is_place, know_trees};
 use hierarchy::CodeTree;
 use sdc_base::{Place, name_at};
 use std::alloc::Global;
@@ -61,6 +61,7 @@ impl Book {
         ensures blank { IfOk result (λ book. All IsBlank book.marks) }
         ensures one_each { IfOk result (λ book. length book.marks ≡ length (cells_in book)) }
     {
+        know_trees(&trees);
         let Numbering { names, starts } = number_cells(alloc, &trees, &tables)?;
         let marks = blank_marks(alloc, names.len())?;
         Ok(Book {

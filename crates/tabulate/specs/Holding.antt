@@ -38,3 +38,7 @@ kept_at marks cell = option_map kept_of (slice_get marks cell)
 -- no cell's scale is above this weight
 abbrev pub AreFine : ℕ → List Mark → Type 0
 AreFine weight marks = (cell : ℕ) (mark : Mark) → slice_get marks cell ≡ Some mark → mark.facts.tops.scale ≤ weight
+
+-- whether the cell is hidden
+abbrev pub hidden_at : List Mark → ℕ → Option Bool
+hidden_at marks cell = option_map (λ mark. mark.hidden) (slice_get marks cell)

@@ -1,4 +1,4 @@
-ghost use Rattle.std.specs.Prelude.{◌≡◌, ◌<◌, ◌≤◌, ◌++◌, ◌∷◌, [], length, drop, slice_get, slice_index, slice_index_or, pos, ◌≤ℤ◌};
+ghost use Rattle.std.specs.Prelude.{◌≡◌, ◌<◌, ◌≤◌, ◌++◌, ◌∷◌, [], length, drop, slice_get, slice_index, slice_index_or, pos, ◌≤ℤ◌, IfSome};
 ghost use Rattle.sdc_base.specs.Trees.{parent_at};
 ghost use Rattle.tabulate.specs.Holding.{AreFine};
 ghost use Rattle.tabulate.specs.Tuples.{tuples_from};
@@ -7,12 +7,11 @@ ghost use Rattle.tabulate.specs.Giving.{Gave, spanned};
 use crate::adding::add;
 use arrayvec::ArrayVec;
 use linked_tables::Book;
-use sdc_base::Row;
+use sdc_base::{Place, Row};
 
 /// Gives a record to the cells at the places of table t that begin so and go on with codes above the record's. The
 /// cells before the first one are left out.
 pub(crate) fn give_below(book: &mut Book, t: u32, first: u32, row: &Row, place: &[u32])
-    requires narrow { length (spanned book.old t) ≤ 8 }
     requires begun { length place.now ≤ length (spanned book.old t) }
     requires from_zero { pos 0 ≤ℤ row.now.value }
     requires fine { AreFine row.now.weight book.old.marks }
@@ -52,20 +51,24 @@ fn give_at(book: &mut Book, t: u32, first: u32, row: &Row, place: &[u32])
 
 // The variable that comes next in table t.
 fn variable_at(book: &Book, t: u32, k: usize) -> Option<u32>
-    ensures { result ≡ slice_get (spanned book.now t) k }
+    ensures variable { result ≡ slice_get (spanned book.now t) k }
+    ensures within { IfSome result (λ _. k < 8) }
 {
     match book.spans(t) {
-        Some(table) => number_at(table.as_slice(), k),
+        Some(table) => number_at(table, k),
         None => None,
     }
 }
 
-// The number at a place.
-fn number_at(numbers: &[u32], k: usize) -> Option<u32>
-    ensures { result ≡ slice_get numbers.now k }
+// The number at a place of a short list.
+fn number_at(numbers: &Place, k: usize) -> Option<u32>
+    ensures number { result ≡ slice_get numbers.now k }
+    ensures within { IfSome result (λ _. k < 8) }
 {
-    let number = numbers.get(k)?;
-    Some(*number)
+    if k >= numbers.len() {
+        return None;
+    }
+    Some(numbers.as_slice()[k])
 }
 
 // The code of a record for a variable, and 0 where it has none.

@@ -15,7 +15,7 @@ returns-in_default t c =
     let place = c.args.place.now in
     let table = spanned book c.args.t in
     subst (λ (places : List (List ℕ)). Gave book c.give_at.new.book c.args.t c.args.first c.args.row.now places)
-      (sym (tuples-end book.trees c.args.row.now.codes place table (length place) (past-end table (length place) c.in_default.ensures)))
+      (sym (tuples-end book.trees c.args.row.now.codes place table (length place) (past-end table (length place) c.in_default.ensures.variable)))
       c.give_at.ensures
 
 pub upward-init : goal.upward-init
@@ -32,7 +32,7 @@ upward-init t c =
       [],
       (
         gave-nothing book c.args.t c.args.first c.args.row.now,
-        tuples-begun trees codes place table (length place) variable (sym c.in-Some.ensures)
+        tuples-begun trees codes place table (length place) variable (sym c.in-Some.ensures.variable)
         ∙ ap (λ (n : ℕ). going_on place rests (met_in n (slice_index_or trees variable []) (Some (slice_index codes variable)))) steps
         ∙ ap (λ (code : ℕ). going_on place rests (met_in (c.size_of-end.result - 0) (slice_index_or trees variable []) (Some code))) (sym c.code_of.ensures)
       )
@@ -44,13 +44,13 @@ give_below-requires t c =
     let place = c.args.place.now in
     let gave = c.upward.invariant.1.0 in
     let same : length (spanned c.upward.book c.args.t) ≡ length (spanned book c.args.t) = ap (λ (b : Held). length (spanned b c.args.t)) gave.frame in
-    let inside : length place < length (spanned book c.args.t) = slice_get_within (spanned book c.args.t) (length place) c.in-Some.variable (sym c.in-Some.ensures) in
+    let inside : length place < length (spanned book c.args.t) = slice_get_within (spanned book c.args.t) (length place) c.in-Some.variable (sym c.in-Some.ensures.variable) in
     let longer : length c.as_slice.result.now ≡ length place + 1 = ap (λ (one : List ℕ). length one) (c.as_slice.ensures.value ∙ c.with_code-longer.ensures) ∙ length-append place (c.in-Some-met.above ∷ []) in
     (
       omega (arith, c.decreases, same, inside, longer),
       (
-        omega (arith, same, c.requires.narrow),
-        (omega (arith, same, inside, longer), (c.requires.from_zero, fine-kept c.args.row.now.weight book.marks c.upward.book.marks gave.kept c.requires.fine))
+        omega (arith, same, inside, longer),
+        (c.requires.from_zero, fine-kept c.args.row.now.weight book.marks c.upward.book.marks gave.kept c.requires.fine)
       )
     )
 
