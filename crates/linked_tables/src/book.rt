@@ -3,7 +3,7 @@ ghost use Rattle.std.specs.Option.{ForSome};
 ghost use Rattle.sdc_base.specs.Answers.{Gives};
 ghost use Rattle.linked_tables.specs.Blank.{IsBlank};
 ghost use Rattle.linked_tables.specs.Tables.{book_of, fault_of};
-ghost use Rattle.linked_tables.specs.Shared.{cells as cells_in, cell_at, is_place_of, name_at as name_in, first_own, IsBook};
+ghost use Rattle.linked_tables.specs.Shared.{cells as cells_in, cell_at, is_place_of, name_at as name_in, first_own as first_in, IsBook};
 
 use crate::book_fault::BookFault;
 use crate::mark::Mark;
@@ -124,6 +124,14 @@ impl Book {
         self.marks.len() as u32
     }
 
+    /// The number of the first cell that no table before t names: the cells that t is the first to name begin there,
+    /// where there are any. It is the number of cells behind the last table.
+    pub fn first_own(&self, t: u32) -> u32
+        ensures { result ≡ first_in self.now t }
+    {
+        self.start_of(t as usize) as u32
+    }
+
     /// How many tables there are.
     pub fn tables(&self) -> u32
         ensures { result ≡ length self.now.tables }
@@ -154,8 +162,9 @@ impl Book {
 
     /// How many cells the tables before t name, which is the number of the first cell of its own.
     pub(crate) fn start_of(&self, t: usize) -> usize
-        ensures start { result ≡ first_own self.now t }
+        ensures start { result ≡ first_in self.now t }
         ensures within { result ≤ length self.now.marks }
+        ensures few { length self.now.marks ≤ most_cells }
     {
         match number_at(&self.starts, t) {
             Some(start) => start as usize,

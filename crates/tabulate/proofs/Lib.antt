@@ -2,3 +2,5 @@ pub mod ListReads
 pub mod MarkSteps
 pub mod PlaceSteps
 pub mod Walking
+pub mod RowSteps
+pub mod Counting

@@ -1,5 +1,4 @@
 ghost use Rattle.std.specs.Prelude.{◌≡◌, ◌≢◌, ◌≤◌, ◌<◌, ℕ, Some, length, slice_get, pos, ◌≤ℤ◌, All};
-ghost use Rattle.linked_tables.specs.Shared.{first_own};
 ghost use Rattle.linked_tables.specs.declared.mark.Mark.{Mark as Noted};
 ghost use Rattle.tabulate.specs.Holding.{AreFine, hidden_at};
 ghost use Rattle.tabulate.specs.Giving.{GaveAll};
@@ -34,7 +33,7 @@ pub fn tabulate(book: &mut Book, rows: &[Row], keep: u8, scale: u32)
 {
     start(book, keep, scale);
     'tables: for t in 0..book.tables() {
-        let first = first_of(book, t);
+        let first = book.first_own(t);
         give_rows(book, t, first, rows);
     }
 }
@@ -77,18 +76,6 @@ fn start_mark(mark: &mut Mark, keep: u8, scale: u32)
     ensures { IsStarted keep scale mark.old mark.new }
 {
     mark.facts.tops = Tops::new(keep, scale);
-}
-
-// The number of the first cell of a table's own.
-fn first_of(book: &mut Book, t: u32) -> u32
-    requires { t < length book.old.tables }
-    ensures first { result ≡ first_own book.old t }
-    ensures same { book.new ≡ book.old }
-{
-    match book.lend(t) {
-        Some(lent) => lent.earlier().len() as u32,
-        None => 0,
-    }
 }
 
 // Gives records to the cells of table t, but for those before the first one.
