@@ -4,3 +4,5 @@ pub mod PlaceSteps
 pub mod Walking
 pub mod RowSteps
 pub mod Counting
+pub mod Standing
+pub mod Whole
