@@ -6,3 +6,4 @@ pub mod RowSteps
 pub mod Counting
 pub mod Standing
 pub mod Whole
+pub mod Finish

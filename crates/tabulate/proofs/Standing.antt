@@ -64,7 +64,7 @@ found-early (first ∷ names) more name k h at =
     later rest None is h = cc
     later rest (Some n) is h = let below = rest n is in let at : n + 1 ≡ k = cc in omega (arith, below, at)
 
-named-where : (names : List Name) (k : ℕ) (name : Name) → slice_get names k ≡ Some name → is_named names name ≡ true
+pub named-where : (names : List Name) (k : ℕ) (name : Name) → slice_get names k ≡ Some name → is_named names name ≡ true
 named-where [] k name at = cc
 named-where (first ∷ names) zero name at = let same : first ≡ name = cc in let test : bytes_eq name first ≡ true = (bytes_eq-Decides name first).1 (sym same) in rw test refl
 named-where (first ∷ names) (suc k) name at = let rest = named-where names k name at in rw rest (either (bytes_eq name first))

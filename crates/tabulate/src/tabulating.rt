@@ -1,5 +1,6 @@
 ghost use Rattle.std.specs.Prelude.{◌≡◌, ◌≢◌, ◌≤◌, ◌<◌, ℕ, Some, length, slice_get, pos, ◌≤ℤ◌, All};
 ghost use Rattle.linked_tables.specs.declared.mark.Mark.{Mark as Noted};
+ghost use Rattle.linked_tables.specs.Shared.{IsBook};
 ghost use Rattle.tabulate.specs.Holding.{AreFine, hidden_at};
 ghost use Rattle.tabulate.specs.Giving.{GaveAll};
 ghost use Rattle.tabulate.specs.Starting.{IsStarted, Started};
@@ -44,7 +45,8 @@ fn start(book: &mut Book, keep: u8, scale: u32)
     requires at_most_ten { keep ≤ 10 }
     requires whole { 1 ≤ scale }
     requires fine { scale ≤ 10000 }
-    ensures { Started book.old book.new keep scale (length book.old.marks) }
+    ensures started { Started book.old book.new keep scale (length book.old.marks) }
+    ensures book { IsBook book.old }
 {
     'cells: for cell in 0..book.cells() {
         start_cell(book, cell, keep, scale);
