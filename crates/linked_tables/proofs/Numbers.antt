@@ -10,7 +10,7 @@ use Rattle.linked_tables.specs.Laws.{NumbersAreNames, WrittenStand}
 use Rattle.linked_tables.proofs.Finding.{cell-found, cell-named}
 
 -- the number at a place is that of its name
-number-of-name : (book : Held) (t : ℕ) (place : List ℕ) → is_place_of book t place ≡ true → cell_at book t place ≡ number_of book (name_at book t place)
+pub number-of-name : (book : Held) (t : ℕ) (place : List ℕ) → is_place_of book t place ≡ true → cell_at book t place ≡ number_of book (name_at book t place)
 number-of-name book t place = by_table (slice_get book.tables t)
   where
     inside : (table : List ℕ) (b : Bool) → b ≡ true → (if b then number_of book (named book table place) else None) ≡ number_of book (named book table place)

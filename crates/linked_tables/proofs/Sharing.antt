@@ -52,10 +52,10 @@ code-good trees (spanned ∷ table) (code ∷ place) variable h =
 
 -- ---- the place of a name
 
-abbrev codes_at : Name → List ℕ → List ℕ
+abbrev pub codes_at : Name → List ℕ → List ℕ
 codes_at name table = map (λ variable. get_or name variable 0) table
 
-code-back : (name : Name) (table : List ℕ) (variable : ℕ) → code_for table (codes_at name table) variable ≡ (if spans table variable then get_or name variable 0 else 0)
+pub code-back : (name : Name) (table : List ℕ) (variable : ℕ) → code_for table (codes_at name table) variable ≡ (if spans table variable then get_or name variable 0 else 0)
 code-back name [] variable = refl
 code-back name (spanned ∷ table) variable =
     elim (spanned == variable) as (λ b. (spanned == variable) ≡ b → (if b then get_or name spanned 0 else code_for table (codes_at name table) variable) ≡ (if b || spans table variable then get_or name variable 0 else 0)) [
@@ -64,7 +64,7 @@ code-back name (spanned ∷ table) variable =
     ] refl
 
 -- a place whose codes are all in their trees
-place-good : (trees : List Tree) (name : Name) (table : List ℕ) → ((variable : ℕ) → spans table variable ≡ true → nat_lt (get_or name variable 0) (length (slice_index_or trees variable [])) ≡ true)
+pub place-good : (trees : List Tree) (name : Name) (table : List ℕ) → ((variable : ℕ) → spans table variable ≡ true → nat_lt (get_or name variable 0) (length (slice_index_or trees variable [])) ≡ true)
     → is_place_in (trees_of trees table) (codes_at name table) ≡ true
 place-good trees name [] each = refl
 place-good trees name (spanned ∷ table) each =
@@ -79,7 +79,7 @@ place-good trees name (spanned ∷ table) each =
 
 -- ---- lists of equal length with equal items
 
-same-items : (xs ys : List ℕ) → length xs ≡ length ys → ((i : ℕ) → i < length xs → get_or xs i 0 ≡ get_or ys i 0) → xs ≡ ys
+pub same-items : (xs ys : List ℕ) → length xs ≡ length ys → ((i : ℕ) → i < length xs → get_or xs i 0 ≡ get_or ys i 0) → xs ≡ ys
 same-items [] [] h each = refl
 same-items [] (y ∷ ys) h each = cc
 same-items (x ∷ xs) [] h each = cc
@@ -89,10 +89,10 @@ same-items (x ∷ xs) (y ∷ ys) h each =
     let rest : xs ≡ ys = same-items xs ys lengths (λ i inside. each (suc i) (omega (arith, inside))) in
     ap (λ z. z ∷ xs) first ∙ ap (λ zs. y ∷ zs) rest
 
-name-codes : (n : ℕ) (table place : List ℕ) (variable : ℕ) → variable < n → get_or (name_of n table place) variable 0 ≡ code_for table place variable
+pub name-codes : (n : ℕ) (table place : List ℕ) (variable : ℕ) → variable < n → get_or (name_of n table place) variable 0 ≡ code_for table place variable
 name-codes n table place variable h = get_or-map-range_with_len (code_for table place) 0 n variable variable 0 h (omega arith)
 
-known-below : (variables : ℕ) (table : List ℕ) (variable : ℕ) → has_unknown variables table ≡ false → spans table variable ≡ true → variable < variables
+pub known-below : (variables : ℕ) (table : List ℕ) (variable : ℕ) → has_unknown variables table ≡ false → spans table variable ≡ true → variable < variables
 known-below variables [] variable known h = cc
 known-below variables (spanned ∷ table) variable known h =
     elim (spanned == variable) as (λ b. (spanned == variable) ≡ b → (b || spans table variable) ≡ true → variable < variables) [
@@ -111,7 +111,7 @@ known-below variables (spanned ∷ table) variable known h =
 
 -- ---- the cells of a table by their codes
 
-named-codes : (trees : List Tree) (table : List ℕ) (name : Name) → is_named (named_by trees table) name ≡ true → (variable : ℕ) → variable < length trees → is_code trees table variable (get_or name variable 0) ≡ true
+pub named-codes : (trees : List Tree) (table : List ℕ) (name : Name) → is_named (named_by trees table) name ≡ true → (variable : ℕ) → variable < length trees → is_code trees table variable (get_or name variable 0) ≡ true
 named-codes trees table name h variable below =
     let found = unmapped (length trees) table (places (trees_of trees table)) name h in
     let inside : is_place_in (trees_of trees table) found.0 ≡ true = sym (places_are_lexicographic.all (trees_of trees table) found.0) ∙ found.1 in
@@ -142,7 +142,7 @@ cells_by_code = λ trees table name sound long. (named-codes trees table name, c
 
 -- ---- tables over the same variables
 
-name-long : (trees : List Tree) (table : List ℕ) (name : Name) → is_named (named_by trees table) name ≡ true → length name ≡ length trees
+pub name-long : (trees : List Tree) (table : List ℕ) (name : Name) → is_named (named_by trees table) name ≡ true → length name ≡ length trees
 name-long trees table name h =
     let found = unmapped (length trees) table (places (trees_of trees table)) name h in
     ap length found.2 ∙ name_length table found.0 (length trees)

@@ -1,8 +1,8 @@
 -- One table more.
-use Rattle.std.proofs.Common.{◌≡◌, ℕ, ◌+◌, ◌<◌, ◌≤◌, nat_lt, false, List, [], ◌∷◌, ◌++◌, length, fold, take, drop, slice_get, All, Option, None, Some, arith, refl, ap, sym, ◌∙◌, subst, length-append}
+use Rattle.std.proofs.Common.{◌≡◌, ℕ, ◌+◌, ◌<◌, ◌≤◌, nat_lt, false, List, [], ◌∷◌, ◌++◌, length, fold, take, drop, slice_get, slice_index_or, All, ◌⊎◌, inl, inr, Option, None, Some, arith, refl, ap, sym, ◌∙◌, subst, length-append}
 use Rattle.std.proofs.lemmas.List.{length-take-le}
 use Rattle.std.proofs.lemmas.List.Elements.{All-append, All-cons}
-use Rattle.std.proofs.lemmas.Option.{slice_get_within}
+use Rattle.std.proofs.lemmas.Option.{slice_get_within, get_or_from_slice_get}
 use Rattle.std.proofs.lemmas.Bool.Decides.{nat_tests}
 use Rattle.sdc_base.specs.Trees.{Tree}
 use Rattle.sdc_base.specs.Records.{Name}
@@ -67,3 +67,13 @@ pub sound-next : (variables : ℕ) (tables : List (List ℕ)) (t : ℕ) (table :
 sound-next variables tables t table at sound none =
     subst (λ some. All (IsTable variables) some) (sym (take-at tables t table at))
     (All-append (IsTable variables) (take t tables) (table ∷ []) sound (All-cons (IsTable variables) table [] (sound-table variables t table none) (grind arith)))
+
+-- one more of which it is so
+pub each-next : {X : Type 0} (P : X → Type 0) (xs : List X) (i : ℕ) (x : X) → slice_get xs i ≡ Some x → P x → ((k : ℕ) (d : X) → k < i → P (slice_index_or xs k d)) → (k : ℕ) (d : X) → k < i + 1 → P (slice_index_or xs k d)
+each-next P xs i x at here each k d below = by (less_or_same k i below)
+  where
+    less_or_same : (k i : ℕ) → k < i + 1 → (k < i) ⊎ (k ≡ i)
+    less_or_same k i h = grind arith
+    by : (k < i) ⊎ (k ≡ i) → P (slice_index_or xs k d)
+    by (inl h) = each k d h
+    by (inr h) = subst P (sym (ap (λ n. slice_index_or xs n d) h ∙ get_or_from_slice_get xs i x d at)) here

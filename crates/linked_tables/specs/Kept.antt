@@ -1,7 +1,7 @@
 -- What a book keeps beside what contracts see of it (own).
 use Rattle.std.specs.Prelude.{◌≡◌, ℕ, ◌+◌, ◌<◌, ◌≤◌, ◌^◌, List, ◌++◌, length, map, take, drop, fold, All, Result}
 use Rattle.std.specs.List.{range_with_len}
-use Rattle.sdc_base.specs.Trees.{Tree}
+use Rattle.sdc_base.specs.Trees.{Tree, IsCodeTree}
 use Rattle.sdc_base.specs.Records.{Name}
 use Rattle.sdc_base.specs.Cells.{cells_of, name_of, places, trees_of}
 use Rattle.linked_tables.specs.declared.mark.Mark.{Mark}
@@ -23,6 +23,7 @@ pub record IsNumbered (trees : List Tree) (tables : List (List ℕ)) (names : Li
 -- the invariant of a book
 pub record IsKept (trees : List Tree) (tables : List (List ℕ)) (names : List Name) (starts : List ℕ) (marks : List Mark) : Type 0 where
   pub few : length trees ≤ 8
+  pub each : All IsCodeTree trees
   pub countable : length tables < 2 ^ 32
   pub numbered : IsNumbered trees tables names starts
   pub one_each : length marks ≡ length names

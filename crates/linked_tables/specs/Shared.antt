@@ -1,6 +1,7 @@
 -- The cells of a book, and which cell stands at a place of a table (tau-ARGUS user manual, linked tables).
 use Rattle.std.specs.Prelude.{◌≡◌, ℕ, ◌+◌, ◌≤◌, Bool, false, List, [], length, take, slice_get, slice_range, bytes_eq, if◌then◌else◌, All, Option, None}
 use Rattle.std.specs.Option.{option_and_then, option_map_or}
+use Rattle.sdc_base.specs.Trees.{IsCodeTree}
 use Rattle.sdc_base.specs.Records.{Name}
 use Rattle.sdc_base.specs.Places.{first_place}
 use Rattle.sdc_base.specs.Cells.{cells_of, name_of, trees_of}
@@ -57,6 +58,7 @@ pub record IsTable (variables : ℕ) (table : List ℕ) : Type 0 where
 -- what holds of every book
 pub record IsBook (book : Held) : Type 0 where
   pub few : length book.trees ≤ 8
+  pub trees : All IsCodeTree book.trees
   pub tables : All (IsTable (length book.trees)) book.tables
   pub one_each : length book.marks ≡ length (cells book)
   pub at_most : length (cells book) ≤ most_cells

@@ -3,13 +3,13 @@ ghost use Rattle.std.specs.Option.{ForSome};
 ghost use Rattle.sdc_base.specs.Answers.{Gives};
 ghost use Rattle.linked_tables.specs.Blank.{IsBlank};
 ghost use Rattle.linked_tables.specs.Tables.{book_of, fault_of};
-ghost use Rattle.linked_tables.specs.Shared.{cells as cells_in, cell_at, is_place_of, name_at as name_in, first_own, IsBook};
+ghost use Rattle.linked_tables.specs.Shared.{cells as cells_in, cell_at, is_place_of, name_at as name_in, first_own as first_in, IsBook};
 
 use crate::book_fault::BookFault;
 use crate::mark::Mark;
 use crate::names::{Name, Names};
 use crate::numbering::{Numbering, blank_marks, number_cells};
-use crate::places::is_place;
+use crate::places::{is_place, know_trees};
 use hierarchy::CodeTree;
 use sdc_base::{Place, name_at};
 use std::alloc::Global;
@@ -61,6 +61,7 @@ impl Book {
         ensures blank { IfOk result (λ book. All IsBlank book.marks) }
         ensures one_each { IfOk result (λ book. length book.marks ≡ length (cells_in book)) }
     {
+        know_trees(&trees);
         let Numbering { names, starts } = number_cells(alloc, &trees, &tables)?;
         let marks = blank_marks(alloc, names.len())?;
         Ok(Book {
@@ -123,6 +124,14 @@ impl Book {
         self.marks.len() as u32
     }
 
+    /// The number of the first cell that no table before t names: the cells that t is the first to name begin there,
+    /// where there are any. It is the number of cells behind the last table.
+    pub fn first_own(&self, t: u32) -> u32
+        ensures { result ≡ first_in self.now t }
+    {
+        self.start_of(t as usize) as u32
+    }
+
     /// How many tables there are.
     pub fn tables(&self) -> u32
         ensures { result ≡ length self.now.tables }
@@ -153,8 +162,9 @@ impl Book {
 
     /// How many cells the tables before t name, which is the number of the first cell of its own.
     pub(crate) fn start_of(&self, t: usize) -> usize
-        ensures start { result ≡ first_own self.now t }
+        ensures start { result ≡ first_in self.now t }
         ensures within { result ≤ length self.now.marks }
+        ensures few { length self.now.marks ≤ most_cells }
     {
         match number_at(&self.starts, t) {
             Some(start) => start as usize,
@@ -162,12 +172,13 @@ impl Book {
         }
     }
 
-    /// The mark of a cell, to write.
-    pub(crate) fn mark_mut(&mut self, cell: usize) -> Option<&mut Mark>
+    /// The mark of a cell, to write, or none behind the last cell. What is written is read through every table that
+    /// has the cell, and no other mark, no tree and no table changes. It takes no memory.
+    pub fn mark_mut(&mut self, cell: u32) -> Option<&mut Mark>
         ensures* writes_back { sem 𝓛 (LendsMark self.entry cell result) }
         ensures mark { option_map (λ mark. mark.now) result ≡ slice_get self.old.marks cell }
     {
-        self.marks.get_mut(cell)
+        self.marks.get_mut(cell as usize)
     }
 
     /// Marks that stand side by side, to write.

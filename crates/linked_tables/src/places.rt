@@ -1,5 +1,6 @@
-ghost use Rattle.std.specs.Prelude.{◌≡◌, ◌≤◌, ◌==◌, [], length, slice_index_or};
+ghost use Rattle.std.specs.Prelude.{◌≡◌, ◌≤◌, ◌==◌, [], length, slice_index_or, All};
 ghost use Rattle.std.specs.List.{list_any};
+ghost use Rattle.sdc_base.specs.Trees.{IsCodeTree};
 ghost use Rattle.sdc_base.specs.Cells.{trees_of};
 ghost use Rattle.sdc_base.specs.CellOrder.{is_place_in};
 ghost use Rattle.linked_tables.specs.Tables.{has_unknown, has_twice};
@@ -14,6 +15,15 @@ pub(crate) fn size_at(trees: &[CodeTree], variable: u32) -> usize
     match trees.get(variable as usize) {
         Some(tree) => tree.len(),
         None => 0,
+    }
+}
+
+/// What each tree says of itself: it has its total, and few codes. It does nothing.
+pub(crate) fn know_trees(trees: &[CodeTree])
+    ensures { All IsCodeTree trees.now }
+{
+    'trees: for tree in trees {
+        let _ = tree.len();
     }
 }
 

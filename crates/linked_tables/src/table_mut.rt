@@ -44,6 +44,6 @@ impl<'a> TableMut<'a> {
     {
         let cell = self.book.id(self.number, place)?;
         let book = &mut *self.book;
-        book.mark_mut(cell as usize)
+        book.mark_mut(cell)
     }
 }

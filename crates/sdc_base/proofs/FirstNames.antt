@@ -27,7 +27,7 @@ with_name-named names new name =
       | false ↦ λ is. list_any-append (bytes_eq name) names (new ∷ []) ∙ ap (λ b. is_named names name || b) (or-false (bytes_eq name new))
     ] refl
 
-all_named : (names more : List Name) (name : Name) → is_named (fold with_name names more) name ≡ (is_named names name || is_named more name)
+pub all_named : (names more : List Name) (name : Name) → is_named (fold with_name names more) name ≡ (is_named names name || is_named more name)
 all_named names [] name = sym (or-false (is_named names name))
 all_named names (new ∷ more) name =
     all_named (with_name names new) more name

@@ -1,0 +1,247 @@
+-- At which places of a table a cell stands.
+use Rattle.std.proofs.Common.{◌≡◌, ◌≢◌, ℕ, zero, suc, ◌+◌, ◌<◌, ◌≤◌, ◌==◌, ◌&&◌, ◌||◌, nat_le, nat_lt, Bool, true, false, cond, List, [], ◌∷◌, ◌++◌, length, map, fold, take, drop, get_or, slice_get, slice_index, slice_index_or, bytes_eq, if◌then◌else◌, Option, None, Some, option_map, is_some, refl, ap, sym, ◌∙◌, subst, arith, add-one, ◌⊎◌, inl, inr}
+use Rattle.std.specs.List.{IsDistinct, AllByRecursion, list_any, flat_map}
+use Rattle.std.specs.Option.{option_map_or, option_and_then}
+use Rattle.std.proofs.lemmas.Bool.Decides.{nat_tests, Decides-eqb}
+use Rattle.std.proofs.lemmas.List.{take-append-drop}
+use Rattle.std.proofs.lemmas.Map.Keys.{IsDistinct-head, IsDistinct-tail}
+use Rattle.std.proofs.lemmas.Option.{slice_get_within}
+use Rattle.std.proofs.lemmas.Slice.Eq.{bytes_eq-Decides}
+use Rattle.sdc_base.specs.Trees.{Tree}
+use Rattle.sdc_base.specs.Records.{Name}
+use Rattle.sdc_base.specs.Places.{first_place}
+use Rattle.sdc_base.specs.Cells.{cells_of, code_for, is_named, named_by, name_of, trees_of, with_name}
+use Rattle.sdc_base.specs.CellOrder.{is_place_in}
+use Rattle.sdc_base.proofs.FirstNames.{all_named, names_are_first}
+use Rattle.sdc_base.proofs.PlaceLists.{name_length}
+use Rattle.linked_tables.specs.Held.{Held}
+use Rattle.linked_tables.specs.Tables.{has_twice, has_unknown}
+use Rattle.linked_tables.specs.Shared.{IsBook, IsTable, cells, cell_at, first_own, is_in, is_place_of, name_at, named, number_of}
+use Rattle.linked_tables.specs.Laws.{is_code, spans}
+use Rattle.linked_tables.proofs.CellLists.{cells-stay}
+use Rattle.linked_tables.proofs.TableSteps.{cells-next}
+use Rattle.linked_tables.proofs.Finding.{cell-found, cell-named, place-named}
+use Rattle.linked_tables.proofs.Sharing.{codes_at, code-back, known-below, name-codes, name-long, named-codes, place-good, same-items}
+use Rattle.tabulate.specs.Giving.{is_at}
+
+-- ---- numbers of distinct names
+
+head-apart : (y x : Name) (ys : List Name) (k : ℕ) → AllByRecursion (λ other. bytes_eq y other ≡ false) ys → slice_get ys k ≡ Some x → bytes_eq y x ≡ false
+head-apart y x [] k all at = cc
+head-apart y x (z ∷ ys) zero all at = let same : z ≡ x = some-same at in subst (λ one. bytes_eq y one ≡ false) same all.0
+  where
+    some-same : Some z ≡ Some x → z ≡ x
+    some-same h = cc
+head-apart y x (z ∷ ys) (suc k) all at = head-apart y x ys k all.1 at
+
+-- a name that stands once is found where it stands
+pub found-where : (names : List Name) (k : ℕ) (name : Name) → IsDistinct bytes_eq names → slice_get names k ≡ Some name → first_place (bytes_eq name) names ≡ Some k
+found-where [] k name once at = cc
+found-where (first ∷ names) zero name once at =
+    let same : first ≡ name = cc in
+    let test : bytes_eq name first ≡ true = (bytes_eq-Decides name first).1 (sym same) in
+    rw test refl
+found-where (first ∷ names) (suc k) name once at =
+    let apart : bytes_eq first name ≡ false = head-apart first name names k (IsDistinct-head bytes_eq first names once) at in
+    let test : bytes_eq name first ≡ false = turned (bytes_eq name first) refl apart in
+    let rest = found-where names k name (IsDistinct-tail bytes_eq first names once) at in
+    rw (test, rest) (ap Some (add-one k))
+  where
+    turned : (b : Bool) → bytes_eq name first ≡ b → bytes_eq first name ≡ false → bytes_eq name first ≡ false
+    turned true is apart = let same : bytes_eq first name ≡ true = (bytes_eq-Decides first name).1 (sym ((bytes_eq-Decides name first).0 is)) in cc
+    turned false is apart = is
+
+-- a name that is among the first ones has a number below theirs
+pub found-early : (names more : List Name) (name : Name) (k : ℕ) → is_named names name ≡ true → first_place (bytes_eq name) (names ++ more) ≡ Some k → k < length names
+found-early [] more name k h at = cc
+found-early (first ∷ names) more name k h at =
+    elim (bytes_eq name first) as (λ b. (b || is_named names name) ≡ true → cond b (Some 0) (option_map (λ n. n + 1) (first_place (bytes_eq name) (names ++ more))) ≡ Some k → k < length (first ∷ names)) [
+      | true ↦ λ h at. let here : 0 ≡ k = cc in omega (arith, here)
+      | false ↦ λ h at. later (λ n at. found-early names more name n h at) (first_place (bytes_eq name) (names ++ more)) refl at
+    ] h at
+  where
+    later : ((n : ℕ) → first_place (bytes_eq name) (names ++ more) ≡ Some n → n < length names) → (found : Option ℕ) → first_place (bytes_eq name) (names ++ more) ≡ found → option_map (λ n. n + 1) found ≡ Some k → k < length (first ∷ names)
+    later rest None is h = cc
+    later rest (Some n) is h = let below = rest n is in let at : n + 1 ≡ k = cc in omega (arith, below, at)
+
+pub named-where : (names : List Name) (k : ℕ) (name : Name) → slice_get names k ≡ Some name → is_named names name ≡ true
+named-where [] k name at = cc
+named-where (first ∷ names) zero name at = let same : first ≡ name = cc in let test : bytes_eq name first ≡ true = (bytes_eq-Decides name first).1 (sym same) in rw test refl
+named-where (first ∷ names) (suc k) name at = let rest = named-where names k name at in rw rest (either (bytes_eq name first))
+  where
+    either : (b : Bool) → (b || true) ≡ true
+    either true = refl
+    either false = refl
+
+at-front : {X : Type 0} (xs ys : List X) (k : ℕ) → k < length xs → slice_get (xs ++ ys) k ≡ slice_get xs k
+at-front [] ys k h = absurd (omega (arith, h))
+at-front (x ∷ xs) ys zero h = refl
+at-front (x ∷ xs) ys (suc k) h = at-front xs ys k (omega (arith, h))
+
+once-cells : (book : Held) → IsDistinct bytes_eq (cells book)
+once-cells book = names_are_first.once (flat_map (named_by book.trees) book.tables)
+
+-- the cells of the tables before are the first ones
+front-cells : (book : Held) (t : ℕ) → (later : List Name) × (cells book ≡ cells_of book.trees (take t book.tables) ++ later)
+front-cells book t =
+    let stay = cells-stay book.trees (take t book.tables) (drop t book.tables) in
+    (stay.0, ap (cells_of book.trees) (sym (take-append-drop t book.tables)) ∙ stay.1)
+
+-- a cell that a table is the first to name is one of the table's
+pub own-named : (book : Held) (t cell : ℕ) (table : List ℕ) (name : Name) → slice_get book.tables t ≡ Some table → slice_get (cells book) cell ≡ Some name → first_own book t ≤ cell → cell < first_own book (t + 1) → is_named (named_by book.trees table) name ≡ true
+own-named book t cell table name at is late early =
+    let front = front-cells book (t + 1) in
+    let here : slice_get (cells_of book.trees (take (t + 1) book.tables)) cell ≡ Some name =
+        sym (at-front (cells_of book.trees (take (t + 1) book.tables)) front.0 cell early) ∙ ap (λ names. slice_get names cell) (sym front.1) ∙ is
+    in
+    let among : is_named (cells_of book.trees (take (t + 1) book.tables)) name ≡ true = named-where (cells_of book.trees (take (t + 1) book.tables)) cell name here in
+    let either : (is_named (cells_of book.trees (take t book.tables)) name || is_named (named_by book.trees table) name) ≡ true =
+        sym (all_named (cells_of book.trees (take t book.tables)) (named_by book.trees table) name) ∙ ap (λ names. is_named names name) (sym (cells-next book.trees book.tables t table at)) ∙ among
+    in
+    by (is_named (cells_of book.trees (take t book.tables)) name) refl either
+  where
+    number : first_place (bytes_eq name) (cells book) ≡ Some cell
+    number = found-where (cells book) cell name (once-cells book) is
+    by : (b : Bool) → is_named (cells_of book.trees (take t book.tables)) name ≡ b → (b || is_named (named_by book.trees table) name) ≡ true → is_named (named_by book.trees table) name ≡ true
+    by true before h =
+        let front = front-cells book t in
+        let below : cell < first_own book t = found-early (cells_of book.trees (take t book.tables)) front.0 name cell before (ap (first_place (bytes_eq name)) (sym front.1) ∙ number) in
+        absurd (omega (arith, below, late))
+    by false before h = h
+
+take-here : (tables : List (List ℕ)) (t : ℕ) (table : List ℕ) → slice_get tables t ≡ Some table → slice_get (take (t + 1) tables) t ≡ Some table
+take-here tables t table at = ap (λ n. slice_get (take n tables) t) (add-one t) ∙ by tables t at
+  where
+    by : (tables : List (List ℕ)) (t : ℕ) → slice_get tables t ≡ Some table → slice_get (take (suc t) tables) t ≡ Some table
+    by [] t at = cc
+    by (first ∷ tables) zero at = at
+    by (first ∷ tables) (suc t) at = by tables t at
+
+-- a cell at a place of a table is none behind the table's last
+pub cell-early : (book : Held) (t found : ℕ) (place : List ℕ) → cell_at book t place ≡ Some found → found < first_own book (t + 1)
+cell-early book t found place is = by_table (slice_get book.tables t) refl is
+  where
+    inside : (table : List ℕ) → slice_get book.tables t ≡ Some table → (b : Bool) → is_in book table place ≡ b → (if b then number_of book (named book table place) else None) ≡ Some found → found < first_own book (t + 1)
+    inside table at true good is =
+        let front = front-cells book (t + 1) in
+        let taken : slice_get (take (t + 1) book.tables) t ≡ Some table = take-here book.tables t table at in
+        let among : is_named (cells_of book.trees (take (t + 1) book.tables)) (named book table place) ≡ true = place-named book.trees (take (t + 1) book.tables) t table place taken good in
+        found-early (cells_of book.trees (take (t + 1) book.tables)) front.0 (named book table place) found among (ap (first_place (bytes_eq (named book table place))) (sym front.1) ∙ is)
+    inside table at false good is = cc
+    by_table : (found_table : Option (List ℕ)) → slice_get book.tables t ≡ found_table → option_and_then (λ table. if is_in book table place then number_of book (named book table place) else None) found_table ≡ Some found → found < first_own book (t + 1)
+    by_table None at is = cc
+    by_table (Some table) at is = inside table at (is_in book table place) refl is
+
+-- ---- the one place of a cell in a table
+
+place-long : (trees : List Tree) (table place : List ℕ) → is_place_in (trees_of trees table) place ≡ true → length place ≡ length table
+place-long trees [] [] h = refl
+place-long trees [] (code ∷ place) h = cc
+place-long trees (variable ∷ table) [] h = cc
+place-long trees (variable ∷ table) (code ∷ place) h =
+    let rest = place-long trees table place (second (nat_lt code (length (slice_index_or trees variable []))) (is_place_in (trees_of trees table) place) h) in
+    omega (arith, rest)
+  where
+    second : (a b : Bool) → (a && b) ≡ true → b ≡ true
+    second true b h = h
+    second false b h = cc
+
+skip : (variable code : ℕ) (table place some : List ℕ) → list_any (λ other. other == variable) some ≡ false → map (code_for (variable ∷ table) (code ∷ place)) some ≡ map (code_for table place) some
+skip variable code table place [] apart = refl
+skip variable code table place (one ∷ some) apart =
+    let parts = both (one == variable) (list_any (λ other. other == variable) some) apart in
+    let test : (variable == one) ≡ false = grind (arith, nat_tests, parts.0) in
+    let rest = skip variable code table place some parts.1 in
+    rw (test, rest) refl
+  where
+    both : (a b : Bool) → (a || b) ≡ false → (a ≡ false) × (b ≡ false)
+    both true b h = cc
+    both false b h = (refl, h)
+
+codes-forth : (table place : List ℕ) → has_twice table ≡ false → length place ≡ length table → map (code_for table place) table ≡ place
+codes-forth [] [] once long = refl
+codes-forth [] (code ∷ place) once long = cc
+codes-forth (variable ∷ table) [] once long = cc
+codes-forth (variable ∷ table) (code ∷ place) once long =
+    let parts = both (list_any (λ other. other == variable) table) (has_twice table) once in
+    let here : (variable == variable) ≡ true = (Decides-eqb variable variable).1 refl in
+    let rest : map (code_for (variable ∷ table) (code ∷ place)) table ≡ place = skip variable code table place table parts.0 ∙ codes-forth table place parts.1 (omega (arith, long)) in
+    rw (here, rest) refl
+  where
+    both : (a b : Bool) → (a || b) ≡ false → (a ≡ false) × (b ≡ false)
+    both true b h = cc
+    both false b h = (refl, h)
+
+codes-of-name : (n : ℕ) (table place some : List ℕ) → has_unknown n some ≡ false → codes_at (name_of n table place) some ≡ map (code_for table place) some
+codes-of-name n table place [] known = refl
+codes-of-name n table place (variable ∷ some) known =
+    let parts = both (nat_le n variable) (has_unknown n some) known in
+    let below : variable < n = grind (arith, nat_tests, parts.0) in
+    let first = name-codes n table place variable below in
+    let rest = codes-of-name n table place some parts.1 in
+    rw (first, rest) refl
+  where
+    both : (a b : Bool) → (a || b) ≡ false → (a ≡ false) × (b ≡ false)
+    both true b h = cc
+    both false b h = (refl, h)
+
+-- a place is that of its name
+place-of-name : (trees : List Tree) (table place : List ℕ) → IsTable (length trees) table → is_place_in (trees_of trees table) place ≡ true → codes_at (name_of (length trees) table place) table ≡ place
+place-of-name trees table place sound inside = codes-of-name (length trees) table place table sound.known ∙ codes-forth table place sound.once (place-long trees table place inside)
+
+spanned-code : (trees : List Tree) (table : List ℕ) (name : Name) → IsTable (length trees) table → is_named (named_by trees table) name ≡ true → (variable : ℕ) → spans table variable ≡ true → nat_lt (get_or name variable 0) (length (slice_index_or trees variable [])) ≡ true
+spanned-code trees table name sound h variable spanned =
+    ap (λ b. if b then nat_lt (get_or name variable 0) (length (slice_index_or trees variable [])) else get_or name variable 0 == 0) (sym spanned)
+    ∙ named-codes trees table name h variable (known-below (length trees) table variable sound.known spanned)
+
+-- a name of a table is that of its place, which is one of the table's
+name-back : (trees : List Tree) (table : List ℕ) (name : Name) → is_named (named_by trees table) name ≡ true → name_of (length trees) table (codes_at name table) ≡ name
+name-back trees table name h =
+    same-items (name_of (length trees) table (codes_at name table)) name (name_length table (codes_at name table) (length trees) ∙ sym (name-long trees table name h))
+      (λ variable below. let under : variable < length trees = subst (λ n. variable < n) (name_length table (codes_at name table) (length trees)) below in
+          name-codes (length trees) table (codes_at name table) variable under ∙ code-back name table variable ∙ back variable (spans table variable) (named-codes trees table name h variable under))
+  where
+    back : (variable : ℕ) (b : Bool) → (if b then nat_lt (get_or name variable 0) (length (slice_index_or trees variable [])) else get_or name variable 0 == 0) ≡ true → (if b then get_or name variable 0 else 0) ≡ get_or name variable 0
+    back variable true good = refl
+    back variable false good = sym ((Decides-eqb (get_or name variable 0) 0).0 good)
+
+-- a cell of a table stands at exactly one place
+pub stands-once : (book : Held) (t first cell : ℕ) (table : List ℕ) (name : Name) (place : List ℕ) → slice_get book.tables t ≡ Some table → IsTable (length book.trees) table → slice_get (cells book) cell ≡ Some name → first ≤ cell
+    → is_named (named_by book.trees table) name ≡ true → is_at book t first place cell ≡ bytes_eq place (codes_at name table)
+stands-once book t first cell table name place at sound is late given = by (bytes_eq place (codes_at name table)) refl
+  where
+    good : is_place_in (trees_of book.trees table) (codes_at name table) ≡ true
+    good = place-good book.trees name table (λ variable h. spanned-code book.trees table name sound given variable h)
+    here : cell_at book t (codes_at name table) ≡ Some cell
+    here =
+        ap (λ found. option_and_then (λ one. if is_in book one (codes_at name table) then number_of book (named book one (codes_at name table)) else None) found) at
+        ∙ ap (λ b. if b then number_of book (named book table (codes_at name table)) else None) good
+        ∙ ap (number_of book) (name-back book.trees table name given)
+        ∙ found-where (cells book) cell name (once-cells book) is
+    stands : is_at book t first (codes_at name table) cell ≡ true
+    stands =
+        let same : (cell == cell) ≡ true = (Decides-eqb cell cell).1 refl in
+        let test : nat_le first cell ≡ true = grind (arith, nat_tests) in
+        ap (λ found. option_map_or (λ one. one == cell && nat_le first one) found false) here ∙ rw (same, test) refl
+    found : (o : Option ℕ) → option_map_or (λ one. one == cell && nat_le first one) o false ≡ true → o ≡ Some cell
+    found None h = cc
+    found (Some one) h = ap Some ((Decides-eqb one cell).0 (front (one == cell) (nat_le first one) h))
+      where
+        front : (a b : Bool) → (a && b) ≡ true → a ≡ true
+        front true b h = refl
+        front false b h = cc
+    some-same : {a b : Name} → Some a ≡ Some b → a ≡ b
+    some-same h = cc
+    back : is_at book t first place cell ≡ true → place ≡ codes_at name table
+    back h =
+        let there : cell_at book t place ≡ Some cell = found (cell_at book t place) h in
+        let same : name_at book t place ≡ name = some-same (sym (cell-named book t place cell there) ∙ is) in
+        let whole : named book table place ≡ name = ap (λ o. option_map_or (λ one. named book one place) o []) (sym at) ∙ same in
+        let inside : is_in book table place ≡ true = ap (λ o. option_map_or (λ one. is_in book one place) o false) (sym at) ∙ sym (cell-found book t place) ∙ ap is_some there in
+        sym (place-of-name book.trees table place sound inside) ∙ ap (λ one. codes_at one table) whole
+    never : (b : Bool) → is_at book t first place cell ≡ b → bytes_eq place (codes_at name table) ≡ false → is_at book t first place cell ≡ false
+    never true h apart = let same : bytes_eq place (codes_at name table) ≡ true = (bytes_eq-Decides place (codes_at name table)).1 (back h) in cc
+    never false h apart = h
+    by : (b : Bool) → bytes_eq place (codes_at name table) ≡ b → is_at book t first place cell ≡ bytes_eq place (codes_at name table)
+    by true same = subst (λ one. is_at book t first one cell ≡ true) (sym ((bytes_eq-Decides place (codes_at name table)).0 same)) stands ∙ sym same
+    by false apart = never (is_at book t first place cell) refl apart ∙ sym apart

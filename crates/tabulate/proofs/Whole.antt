@@ -1,0 +1,180 @@
+-- What the cells of a book are given, table after table.
+use Rattle.std.proofs.Common.{◌≡◌, ℕ, zero, suc, ◌+◌, ◌-◌, ◌*◌, ◌^◌, ◌<◌, ◌≤◌, ◌==◌, ◌&&◌, ◌||◌, nat_le, nat_lt, min, Bool, true, false, cond, List, [], ◌∷◌, ◌++◌, length, map, fold, filter, take, replicate, slice_get, slice_index, slice_index_or, bytes_eq, if◌then◌else◌, Option, None, Some, option_map, All, refl, ap, sym, ◌∙◌, subst, arith, ℤ, pos, negsuc, ◌+ℤ◌, ◌*ℤ◌, ◌≤ℤ◌, ◌<ℤ◌, ◌⊎◌, inl, inr}
+use Rattle.std.specs.List.{list_any, flat_map}
+use Rattle.std.specs.Option.{option_map_or}
+use Rattle.std.proofs.lemmas.Bool.Decides.{nat_tests, Decides-eqb}
+use Rattle.std.proofs.lemmas.Int.{ints}
+use Rattle.std.proofs.lemmas.List.{append-nil}
+use Rattle.std.proofs.lemmas.List.Elements.{All-head, All-tail}
+use Rattle.std.proofs.lemmas.Option.{slice_get_within, get_or_from_slice_get}
+use Rattle.sdc_base.specs.Trees.{Tree, IsCodeTree, is_under, upward}
+use Rattle.sdc_base.specs.Records.{Name, falls_in, row_falls}
+use Rattle.sdc_base.specs.Sums.{rows_in}
+use Rattle.sdc_base.specs.Cells.{is_named, named_by}
+use Rattle.sdc_base.specs.declared.rows.Row.{Row}
+use Rattle.sdc_base.proofs.Walks.{under_is_tested}
+use Rattle.sdc_base.proofs.InEach.{falls_where_under_in_each}
+use Rattle.linked_tables.specs.declared.mark.Mark.{Mark}
+use Rattle.linked_tables.specs.Held.{Held}
+use Rattle.linked_tables.specs.Tables.{has_unknown}
+use Rattle.linked_tables.specs.Shared.{IsBook, IsTable, cells, cell_at, first_own}
+use Rattle.linked_tables.specs.Laws.{is_code, spans}
+use Rattle.linked_tables.proofs.CellLists.{starts-rise}
+use Rattle.linked_tables.proofs.Sharing.{codes_at, known-below, named-codes}
+use Rattle.tabulate.specs.Holding.{AreGiven, Holds}
+use Rattle.tabulate.specs.Tuples.{lines_above, places_over}
+use Rattle.tabulate.specs.Giving.{count, hits, is_at, rows_for, spanned, tuples}
+use Rattle.tabulate.specs.Tabulated.{IsRow}
+use Rattle.tabulate.proofs.Counting.{count-map, count-none, count-same, tuple-count, under_all, upward-count}
+use Rattle.tabulate.proofs.ListReads.{read-none}
+use Rattle.tabulate.proofs.Standing.{cell-early, own-named, stands-once}
+
+-- ---- falling in a cell is being under its code for each variable of a table that has it
+
+under-total : (tree : Tree) → IsCodeTree tree → (code : ℕ) → code < length tree → is_under tree code 0 ≡ true
+under-total tree is code within = let up = is.shallow code within in (under_is_tested tree is code 0 within).1 (up.0, up.2)
+
+under-each : (trees : List Tree) (codes name : Name) (table : List ℕ) (variable : ℕ) → under_all trees codes name table ≡ true → spans table variable ≡ true → is_under (slice_index_or trees variable []) (slice_index codes variable) (slice_index name variable) ≡ true
+under-each trees codes name [] variable all h = cc
+under-each trees codes name (one ∷ table) variable all h =
+    let parts = both (is_under (slice_index_or trees one []) (slice_index codes one) (slice_index name one)) (under_all trees codes name table) all in
+    elim (one == variable) as (λ b. (one == variable) ≡ b → (b || spans table variable) ≡ true → is_under (slice_index_or trees variable []) (slice_index codes variable) (slice_index name variable) ≡ true) [
+      | true ↦ λ is h. subst (λ v. is_under (slice_index_or trees v []) (slice_index codes v) (slice_index name v) ≡ true) ((Decides-eqb one variable).0 is) parts.0
+      | false ↦ λ is h. under-each trees codes name table variable parts.1 h
+    ] refl h
+  where
+    both : (a b : Bool) → (a && b) ≡ true → (a ≡ true) × (b ≡ true)
+    both true b h = (refl, h)
+    both false b h = cc
+
+each-under : (trees : List Tree) (codes name : Name) (n : ℕ) (some : List ℕ) → has_unknown n some ≡ false → ((variable : ℕ) → variable < n → is_under (slice_index_or trees variable []) (slice_index codes variable) (slice_index name variable) ≡ true) → under_all trees codes name some ≡ true
+each-under trees codes name n [] known each = refl
+each-under trees codes name n (one ∷ some) known each =
+    let parts = both (nat_le n one) (has_unknown n some) known in
+    let below : one < n = grind (arith, nat_tests, parts.0) in
+    let first = each one below in
+    let rest = each-under trees codes name n some parts.1 each in
+    rw (first, rest) refl
+  where
+    both : (a b : Bool) → (a || b) ≡ false → (a ≡ false) × (b ≡ false)
+    both true b h = cc
+    both false b h = (refl, h)
+
+falls-under : (trees : List Tree) (codes name : Name) (table : List ℕ) → All IsCodeTree trees → IsTable (length trees) table → is_named (named_by trees table) name ≡ true → length name ≡ length trees → length codes ≡ length trees
+    → ((variable : ℕ) → variable < length trees → slice_index codes variable < length (slice_index_or trees variable [])) → falls_in trees name codes ≡ under_all trees codes name table
+falls-under trees codes name table each sound given long coded inside = by (under_all trees codes name table) refl
+  where
+    whole : under_all trees codes name table ≡ true → (variable : ℕ) → variable < length trees → is_under (slice_index_or trees variable []) (slice_index codes variable) (slice_index name variable) ≡ true
+    whole all variable below = split (spans table variable) refl (named-codes trees table name given variable below)
+      where
+        split : (b : Bool) → spans table variable ≡ b → (if b then nat_lt (slice_index name variable) (length (slice_index_or trees variable [])) else slice_index name variable == 0) ≡ true → is_under (slice_index_or trees variable []) (slice_index codes variable) (slice_index name variable) ≡ true
+        split true h good = under-each trees codes name table variable all h
+        split false h good =
+            let none : slice_index name variable ≡ 0 = (Decides-eqb (slice_index name variable) 0).0 good in
+            ap (is_under (slice_index_or trees variable []) (slice_index codes variable)) none ∙ under-total (slice_index_or trees variable []) (each variable [] below) (slice_index codes variable) (inside variable below)
+    back : falls_in trees name codes ≡ true → under_all trees codes name table ≡ true
+    back falls = each-under trees codes name (length trees) table sound.known ((falls_where_under_in_each trees name codes long coded).0 falls)
+    never : (b : Bool) → falls_in trees name codes ≡ b → under_all trees codes name table ≡ false → falls_in trees name codes ≡ false
+    never true h apart = let all = back h in cc
+    never false h apart = h
+    by : (b : Bool) → under_all trees codes name table ≡ b → falls_in trees name codes ≡ under_all trees codes name table
+    by true h = (falls_where_under_in_each trees name codes long coded).1 (whole h) ∙ sym h
+    by false h = never (falls_in trees name codes) refl h ∙ sym h
+
+-- ---- a record goes once to each cell of its own in which it falls
+
+-- the record is one of these trees
+pub record IsOf (trees : List Tree) (row : Row) : Type 0 where
+  pub coded : length row.codes ≡ length trees
+  pub inside : (variable : ℕ) → variable < length trees → slice_index row.codes variable < length (slice_index_or trees variable [])
+
+spanned-is : (book : Held) (t : ℕ) (table : List ℕ) → slice_get book.tables t ≡ Some table → spanned book t ≡ table
+spanned-is book t table at = ap (λ found. option_map_or (λ one. one) found []) at
+
+hit-once : (book : Held) (t first cell : ℕ) (table : List ℕ) (name : Name) (row : Row) → All IsCodeTree book.trees → IsTable (length book.trees) table → slice_get book.tables t ≡ Some table → slice_get (cells book) cell ≡ Some name → first ≤ cell
+    → is_named (named_by book.trees table) name ≡ true → length name ≡ length book.trees → IsOf book.trees row → hits book t first (tuples book t row) cell ≡ (if row_falls book.trees name row then 1 else 0)
+hit-once book t first cell table name row each sound at is late given long good =
+    let over = places_over (lines_above book.trees row.codes table) in
+    ap (λ spanned_table. count (λ place. is_at book t first place cell) (map (λ rest. [] ++ rest) (places_over (lines_above book.trees row.codes spanned_table)))) (spanned-is book t table at)
+    ∙ count-map (λ place. is_at book t first place cell) (λ rest. [] ++ rest) over
+    ∙ count-same (λ place. is_at book t first place cell) (λ place. bytes_eq place (codes_at name table)) over (λ place. stands-once book t first cell table name place at sound is late given)
+    ∙ tuple-count book.trees row.codes name table (λ variable. walk variable)
+    ∙ ap (λ b. if b then 1 else 0) (sym (falls-under book.trees row.codes name table each sound given long good.coded good.inside))
+  where
+    walk : (variable : ℕ) → count (λ met. met == slice_index name variable) (upward (slice_index_or book.trees variable []) (slice_index row.codes variable)) ≡ (if is_under (slice_index_or book.trees variable []) (slice_index row.codes variable) (slice_index name variable) then 1 else 0)
+    walk variable = split (slice_get book.trees variable) refl
+      where
+        split : (found : Option Tree) → slice_get book.trees variable ≡ found → count (λ met. met == slice_index name variable) (upward (slice_index_or book.trees variable []) (slice_index row.codes variable)) ≡ (if is_under (slice_index_or book.trees variable []) (slice_index row.codes variable) (slice_index name variable) then 1 else 0)
+        split None none =
+            subst (λ tree. count (λ met. met == slice_index name variable) (upward tree (slice_index row.codes variable)) ≡ (if is_under tree (slice_index row.codes variable) (slice_index name variable) then 1 else 0))
+              (sym (read-none book.trees variable [] (sym none))) refl
+        split (Some tree) some = upward-count (slice_index_or book.trees variable []) (each variable [] (slice_get_within book.trees variable tree some)) (slice_index row.codes variable) (slice_index name variable)
+
+-- the rows that a cell is given are those that fall in it
+rows-once : (book : Held) (t first cell : ℕ) (falls : Row → Bool) (rows : List Row) → ((row : Row) → IsOf book.trees row → hits book t first (tuples book t row) cell ≡ (if falls row then 1 else 0)) → All (IsOf book.trees) rows → rows_for book t first rows cell ≡ filter falls rows
+rows-once book t first cell falls [] each good = refl
+rows-once book t first cell falls (row ∷ rows) each good =
+    let here = each row (All-head (IsOf book.trees) row rows good) in
+    let rest = rows-once book t first cell falls rows each (All-tail (IsOf book.trees) row rows good) in
+    ap (λ n. replicate n row ++ rows_for book t first rows cell) here
+    ∙ ap (λ more. replicate (if falls row then 1 else 0) row ++ more) rest
+    ∙ elim (falls row) as (λ b. replicate (if b then 1 else 0) row ++ filter falls rows ≡ cond b (row ∷ filter falls rows) (filter falls rows)) [ true ↦ refl | false ↦ refl ]
+
+-- no rows for a cell that stands at no place
+rows-never : (book : Held) (t first cell : ℕ) (rows : List Row) → ((place : List ℕ) → is_at book t first place cell ≡ false) → rows_for book t first rows cell ≡ []
+rows-never book t first cell [] none = refl
+rows-never book t first cell (row ∷ rows) none =
+    ap (λ n. replicate n row ++ rows_for book t first rows cell) (count-none (λ place. is_at book t first place cell) (tuples book t row) none) ∙ rows-never book t first cell rows none
+
+never-early : (book : Held) (t first cell : ℕ) (place : List ℕ) → cell < first → is_at book t first place cell ≡ false
+never-early book t first cell place early = by (cell_at book t place)
+  where
+    by : (found : Option ℕ) → option_map_or (λ one. one == cell && nat_le first one) found false ≡ false
+    by None = refl
+    by (Some one) = grind (arith, nat_tests)
+
+never-late : (book : Held) (t first cell : ℕ) (place : List ℕ) → first_own book (t + 1) ≤ cell → is_at book t first place cell ≡ false
+never-late book t first cell place late = by (cell_at book t place) refl
+  where
+    by : (found : Option ℕ) → cell_at book t place ≡ found → option_map_or (λ one. one == cell && nat_le first one) found false ≡ false
+    by None is = refl
+    by (Some one) is =
+        let early = cell-early book t one place is in
+        let test : (one == cell) ≡ false = grind (arith, nat_tests) in
+        rw test refl
+
+-- ---- table after table
+
+-- what a cell was given by the first t tables
+abbrev pub given_to : Held → List Row → ℕ → ℕ → List Row
+given_to book rows t cell = if nat_lt cell (first_own book t) then rows_in book.trees (slice_index_or (cells book) cell []) rows else []
+
+pub given-next : (book : Held) (rows : List Row) (t : ℕ) (table : List ℕ) (cell : ℕ) (name : Name) → IsBook book → All (IsOf book.trees) rows → slice_get book.tables t ≡ Some table → slice_get (cells book) cell ≡ Some name → length name ≡ length book.trees
+    → given_to book rows t cell ++ rows_for book t (first_own book t) rows cell ≡ given_to book rows (t + 1) cell
+given-next book rows t table cell name is good at named long = by (below cell (first_own book t)) (below cell (first_own book (t + 1)))
+  where
+    below : (a b : ℕ) → (a < b) ⊎ (b ≤ a)
+    below a b = grind arith
+    rise : first_own book t ≤ first_own book (t + 1)
+    rise = starts-rise book.trees book.tables t
+    name-at : slice_index_or (cells book) cell [] ≡ name
+    name-at = get_or_from_slice_get (cells book) cell name [] named
+    sound : IsTable (length book.trees) table
+    sound = subst (IsTable (length book.trees)) (get_or_from_slice_get book.tables t table [] at) (is.tables t [] (slice_get_within book.tables t table at))
+    by : (cell < first_own book t) ⊎ (first_own book t ≤ cell) → (cell < first_own book (t + 1)) ⊎ (first_own book (t + 1) ≤ cell) → given_to book rows t cell ++ rows_for book t (first_own book t) rows cell ≡ given_to book rows (t + 1) cell
+    by (inl early) other =
+        let here : nat_lt cell (first_own book t) ≡ true = grind (arith, nat_tests) in
+        let next : nat_lt cell (first_own book (t + 1)) ≡ true = grind (arith, nat_tests, rise) in
+        let none = rows-never book t (first_own book t) cell rows (λ place. never-early book t (first_own book t) cell place early) in
+        rw (here, next, none) (append-nil (rows_in book.trees (slice_index_or (cells book) cell []) rows))
+    by (inr late) (inl early) =
+        let here : nat_lt cell (first_own book t) ≡ false = grind (arith, nat_tests) in
+        let next : nat_lt cell (first_own book (t + 1)) ≡ true = grind (arith, nat_tests) in
+        let one = own-named book t cell table name at named late early in
+        let each = rows-once book t (first_own book t) cell (row_falls book.trees name) rows (λ row fits. hit-once book t (first_own book t) cell table name row is.trees sound at named late one long fits) good in
+        rw (here, next) (each ∙ ap (λ n. rows_in book.trees n rows) (sym name-at))
+    by (inr late) (inr past) =
+        let here : nat_lt cell (first_own book t) ≡ false = grind (arith, nat_tests) in
+        let next : nat_lt cell (first_own book (t + 1)) ≡ false = grind (arith, nat_tests) in
+        let none = rows-never book t (first_own book t) cell rows (λ place. never-late book t (first_own book t) cell place past) in
+        rw (here, next, none) refl

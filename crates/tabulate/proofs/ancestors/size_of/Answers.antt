@@ -1,0 +1,9 @@
+use Rattle.std.proofs.Common.{ap, sym, [], length, List, ℕ}
+use Rattle.sdc_base.specs.Trees.{Tree}
+use Rattle.tabulate.proofs.ListReads.{read-none}
+use Rattle.tabulate.proofs.PlaceSteps.{gave-one}
+use Rattle.tabulate.proofs.MarkSteps.{holds-more}
+use Rattle.tabulate.proofs.ancestors.size_of.Goals as goal
+
+pub returns-in-None : goal.returns-in-None
+returns-in-None c = ap (λ (tree : Tree). length tree) (sym (read-none c.args.book.now.trees c.args.variable [] c.in-None.ensures))

@@ -1,0 +1,39 @@
+use Rattle.std.proofs.Common.{◌≡◌, ◌<◌, ◌∙◌, ap, sym, length, List, ℕ, All, arith}
+use Rattle.linked_tables.specs.Held.{Held}
+use Rattle.sdc_base.specs.declared.rows.Row.{Row}
+use Rattle.tabulate.proofs.Finish.{all-given, read-within, started-given, started-kept, table-given}
+use Rattle.tabulate.proofs.Whole.{IsOf}
+use Rattle.tabulate.proofs.tabulating.tabulate.Goals as goal
+
+pub tables-init : goal.tables-init
+tables-init c =
+    let old = c.args.book.now in
+    let new = c.start.new.book in
+    record {
+      frame = c.start.ensures.started.frame;
+      kept = started-kept old new c.args.keep c.args.scale c.start.ensures.started;
+      given = started-given old new c.args.keep c.args.scale c.args.rows.now c.start.ensures.started c.requires.none;
+    }
+
+pub tables-preserved : goal.tables-preserved
+tables-preserved c =
+    let book = c.args.book.now in
+    let now = c.tables.book in
+    let next = c.give_rows.new.book in
+    let t = c.tables.t in
+    let same : length c.start.new.book.tables ≡ length book.tables = ap (λ (b : Held). length b.tables) c.start.ensures.started.frame in
+    let below : t < length book.tables = omega (arith, c.tables-test.true, c.tables-t-end.ensures, same) in
+    let table = read-within book.tables t below in
+    let good : All (IsOf book.trees) c.args.rows.now = λ k d h. let row = c.requires.rows k d h in record { coded = row.each; inside = row.inside } in
+    let kept = λ (cell : ℕ). c.give_rows.ensures.kept cell ∙ c.tables.invariant.kept cell in
+    record {
+      frame = c.give_rows.ensures.frame ∙ ap (λ (b : Held). record b { marks = next.marks }) c.tables.invariant.frame;
+      kept = kept;
+      given = table-given book now next c.args.keep c.args.scale c.args.rows.now t c.first_own-first.result table.0 c.start.ensures.book good table.1 c.tables.invariant.frame kept c.first_own-first.ensures c.give_rows.ensures c.tables.invariant.given;
+    }
+
+pub returns-clause-marks : goal.returns-clause-marks
+returns-clause-marks c =
+    let book = c.args.book.now in
+    let same : length c.start.new.book.tables ≡ length book.tables = ap (λ (b : Held). length b.tables) c.start.ensures.started.frame in
+    all-given book c.tables.book c.args.keep c.args.scale c.args.rows.now c.tables.t (omega (arith, c.tables-test.false, c.tables-t-end.ensures, same)) c.start.ensures.book c.requires.rows c.requires.few c.tables.invariant.frame c.tables.invariant.kept c.tables.invariant.given

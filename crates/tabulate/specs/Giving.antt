@@ -1,0 +1,45 @@
+-- What a book becomes where its cells are given records (own).
+use Rattle.std.specs.Prelude.{◌≡◌, ℕ, ◌+◌, ◌==◌, ◌&&◌, nat_le, Bool, false, List, [], ◌∷◌, ◌++◌, flat_map, replicate, slice_get, if◌then◌else◌}
+use Rattle.std.specs.Option.{option_map_or}
+use Rattle.sdc_base.specs.declared.rows.Row.{Row}
+use Rattle.linked_tables.specs.Held.{Held}
+use Rattle.linked_tables.specs.Shared.{cell_at}
+use Rattle.tabulate.specs.Holding.{AreGiven, kept_at}
+use Rattle.tabulate.specs.Tuples.{tuples_from}
+
+-- the cell stands at a place of table t, and is not one of the first ones
+abbrev pub is_at : Held → ℕ → ℕ → List ℕ → ℕ → Bool
+is_at book t first place cell = option_map_or (λ found. found == cell && nat_le first found) (cell_at book t place) false
+
+-- how many of these pass the test
+abbrev pub count : {X : Type 0} → (X → Bool) → List X → ℕ
+count test [] = 0
+count test (x ∷ xs) = (if test x then 1 else 0) + count test xs
+
+-- at how many of these places it stands
+abbrev pub hits : Held → ℕ → ℕ → List (List ℕ) → ℕ → ℕ
+hits book t first places cell = count (λ place. is_at book t first place cell) places
+
+-- the variables that table t spans
+abbrev pub spanned : Held → ℕ → List ℕ
+spanned book t = option_map_or (λ table. table) (slice_get book.tables t) []
+
+-- the places of table t that a record falls in
+abbrev pub tuples : Held → ℕ → Row → List (List ℕ)
+tuples book t row = tuples_from book.trees row.codes [] (spanned book t)
+
+-- a record was given to each of table t's cells at these places, but for the first ones; all else stayed
+pub record Gave (old new : Held) (t first : ℕ) (row : Row) (places : List (List ℕ)) : Type 0 where
+  pub frame : new ≡ record old { marks = new.marks }
+  pub kept : (cell : ℕ) → kept_at new.marks cell ≡ kept_at old.marks cell
+  pub given : (given : ℕ → List Row) → AreGiven old.marks given → AreGiven new.marks (λ cell. given cell ++ replicate (hits old t first places cell) row)
+
+-- the records that a cell is given through table t
+abbrev pub rows_for : Held → ℕ → ℕ → List Row → ℕ → List Row
+rows_for book t first rows cell = flat_map (λ row. replicate (hits book t first (tuples book t row) cell) row) rows
+
+-- records were given to the cells of table t, but for the first ones; all else stayed
+pub record GaveAll (old new : Held) (t first : ℕ) (rows : List Row) : Type 0 where
+  pub frame : new ≡ record old { marks = new.marks }
+  pub kept : (cell : ℕ) → kept_at new.marks cell ≡ kept_at old.marks cell
+  pub given : (given : ℕ → List Row) → AreGiven old.marks given → AreGiven new.marks (λ cell. given cell ++ rows_for old t first rows cell)

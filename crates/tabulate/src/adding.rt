@@ -1,0 +1,49 @@
+ghost use Rattle.std.specs.Prelude.{◌≡◌, ◌≤◌, ◌++◌, ◌∷◌, [], List, pos, ◌≤ℤ◌};
+ghost use Rattle.std.specs.Prelude.{◌+ℤ◌};
+ghost use Rattle.std.specs.Int.{saturate_signed, w128};
+ghost use Rattle.sdc_base.specs.Sums.{weighted};
+ghost use Rattle.sdc_base.specs.Largest.{contribution};
+ghost use Rattle.sdc_base.specs.Tells.{Tells};
+ghost use Rattle.sdc_base.specs.declared.tops.Unit.{Unit as Contribution};
+ghost use Rattle.sdc_base.specs.declared.rows.Row.{Row as Record};
+ghost use Rattle.tabulate.specs.Holding.{Holds, kept_of};
+
+use linked_tables::Mark;
+use sdc_base::{Row, TopList, Tops};
+
+/// Gives a record to the mark of a cell. The sum of a million records has room.
+pub(crate) fn add(mark: &mut Mark, row: &Row)
+    requires from_zero { pos 0 ≤ℤ row.now.value }
+    requires heavy { mark.old.facts.tops.scale ≤ row.now.weight }
+    ensures given { (rows : List Record) → Holds mark.old rows → Holds mark.new (rows ++ row.now ∷ []) }
+    ensures kept { kept_of mark.new ≡ kept_of mark.old }
+{
+    let facts = &mut mark.facts;
+    facts.truth = added(facts.truth, row);
+    facts.freq = facts.freq.saturating_add(1);
+    offer(&mut facts.tops, row);
+}
+
+// The sum with a record more.
+fn added(sum: i128, row: &Row) -> i128
+    ensures { result ≡ saturate_signed w128 (sum +ℤ weighted row.now) }
+{
+    sum.saturating_add(weighed(row))
+}
+
+// Offers a record's contribution.
+fn offer(tops: &mut Tops, row: &Row)
+    requires heavy { tops.old.scale ≤ row.now.weight }
+    ensures tells { (units : List Contribution) → Tells tops.old units → Tells tops.new (units ++ contribution row.now.value row.now.weight ∷ []) }
+    ensures keep { tops.new.keep ≡ tops.old.keep }
+    ensures scale { tops.new.scale ≡ tops.old.scale }
+{
+    tops.offer(row.value, row.weight);
+}
+
+// Weight times value.
+fn weighed(row: &Row) -> i128
+    ensures { result ≡ weighted row.now }
+{
+    i128::from(row.weight) * i128::from(row.value)
+}
