@@ -1,0 +1,4 @@
+pub mod CsvFields
+pub mod BegunLines
+pub mod BegunPlaces
+pub mod ShownText

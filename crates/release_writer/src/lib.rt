@@ -1,0 +1,11 @@
+//! The texts of release tables.
+#![tactic(auto)]
+
+mod csv_line;
+mod lines;
+mod numbers;
+mod shown;
+mod tables;
+
+pub use shown::Shown;
+pub use tables::table_bytes;
