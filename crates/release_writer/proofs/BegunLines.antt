@@ -1,8 +1,7 @@
 -- A line, field after field.
-use Rattle.std.proofs.Common.{◌≡◌, ℕ, zero, suc, ◌+◌, ◌-◌, ◌<◌, ◌≤◌, ◌==◌, slice_index_or, true, false, List, [], ◌∷◌, ◌++◌, length, map, take, get_or, slice_get, subst, Option, None, Some, option_map, arith, refl, ap, sym, ◌∙◌, append_assoc, append-nil, if◌then◌else◌}
+use Rattle.std.proofs.Common.{◌≡◌, ℕ, zero, suc, ◌+◌, ◌<◌, ◌≤◌, ◌==◌, slice_index_or, false, List, [], ◌∷◌, ◌++◌, length, map, take, get_or, slice_get, subst, Option, None, Some, option_map, arith, refl, ap, sym, ◌∙◌, append_assoc}
 use Rattle.std.specs.List.{join_with_byte}
 use Rattle.std.proofs.lemmas.Bool.Decides.{nat_tests}
-use Rattle.std.proofs.lemmas.List.{take_more}
 use Rattle.csv.specs.Writing.{default_writer, next_sep}
 use Rattle.csv.specs.Writing.{field_text as csv_text}
 use Rattle.sdc_base.specs.TableText.{comma, field_text, line_text, codes_of_place}

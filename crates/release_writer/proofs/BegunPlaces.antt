@@ -1,7 +1,7 @@
 -- The lines of the places that begin alike.
 use Rattle.std.proofs.Common.{◌≡◌, ℕ, zero, suc, ◌+◌, ◌<◌, ◌≤◌, ◌&&◌, nat_lt, true, false, List, [], ◌∷◌, ◌++◌, length, map, take, drop, get_or, slice_get, slice_index_or, Option, None, Some, option_map, arith, refl, ap, sym, ◌∙◌, length-append, append_assoc, append-nil}
-use Rattle.std.specs.List.{flat_map, range_with_len}
-use Rattle.std.proofs.lemmas.List.{drop_more, drop_all, take_more}
+use Rattle.std.specs.List.{flat_map}
+use Rattle.std.proofs.lemmas.List.{drop_more, drop_all}
 use Rattle.std.proofs.lemmas.Bool.Decides.{nat_tests}
 use Rattle.sdc_base.specs.Trees.{Tree}
 use Rattle.sdc_base.specs.Cells.{places, trees_of}
@@ -76,3 +76,6 @@ pub size-none : (trees : List Tree) (variable : ℕ) → slice_get trees variabl
 size-none [] variable none = refl
 size-none (tree ∷ trees) zero none = absurd (grind (arith, none))
 size-none (tree ∷ trees) (suc variable) none = size-none trees variable none
+
+pub same-some : (a b : List ℕ) → Some a ≡ Some b → a ≡ b
+same-some a b h = grind (arith, h)

@@ -1,7 +1,7 @@
 -- A field as the csv writer writes it is a field of a table.
-use Rattle.std.proofs.Common.{◌≡◌, ℕ, Bool, true, false, cond, ◌||◌, ◌==◌, List, [], ◌∷◌, refl, ap, ◌∙◌, append-nil}
+use Rattle.std.proofs.Common.{◌≡◌, ℕ, Bool, true, false, cond, ◌||◌, ◌==◌, List, [], ◌∷◌, refl, ap, ◌∙◌}
 use Rattle.std.specs.List.{list_any}
-use Rattle.csv.specs.Writing.{default_writer, needs_quotes, needs_byte, escaped, field_text, fields_text, is_blank, row_text}
+use Rattle.csv.specs.Writing.{default_writer, needs_quotes, needs_byte, escaped, field_text}
 use Rattle.sdc_base.specs.TableText.{is_special, doubled}
 use Rattle.sdc_base.specs.TableText.{field_text as own_text}
 
@@ -29,4 +29,3 @@ escaped-doubled (b ∷ field) = elim (b == 34) as (λ t. cond t (34 ∷ b ∷ es
 
 pub field-same : (field : List ℕ) → field_text default_writer field ≡ own_text field
 field-same field = rw (any-special field, escaped-doubled field) refl
-

@@ -131,7 +131,13 @@ fn write_whole(
     ensures text { OnOk result (written writer.new ≡ option_map (λ text. text ++ place_line page.now.book.now page.now.table.now page.now.decimals page.now.shown place.now) (written writer.old)) }
 {
     let number = number_text(alloc, page.book, page.t, place, page.decimals, page.shown)?;
-    write_place(writer, page.book, page.table.as_slice(), place, number.as_slice())
+    write_place(
+        writer,
+        page.book,
+        page.table.as_slice(),
+        place,
+        number.as_slice(),
+    )
 }
 
 // How many codes a variable has, the total included.

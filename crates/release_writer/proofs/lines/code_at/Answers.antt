@@ -1,4 +1,4 @@
-use Rattle.std.proofs.Common.{◌≡◌, None, option_map, slice_get, sym, ap, ◌∙◌, rules, arith}
+use Rattle.std.proofs.Common.{sym, arith}
 use Rattle.release_writer.proofs.BegunLines.{code-none}
 use Rattle.release_writer.proofs.lines.code_at.Goals as goal
 

@@ -1,4 +1,4 @@
-use Rattle.std.proofs.Common.{◌≡◌, ℕ, ◌+◌, ◌<◌, ◌++◌, ◌∷◌, [], List, length, take, get_or, ap, sym, ◌∙◌, subst, option_map, arith}
+use Rattle.std.proofs.Common.{◌≡◌, ◌+◌, ◌<◌, ◌++◌, ◌∷◌, [], length, take, ap, sym, ◌∙◌, subst, option_map, arith}
 use Rattle.std.proofs.lemmas.List.{take_more}
 use Rattle.csv.specs.Writing.{default_writer, fields_written, next_sep}
 use Rattle.csv.specs.Writing.{field_text as csv_text}
@@ -20,5 +20,5 @@ names-preserved c =
       fields = c.in_ok-put_field.ensures.fields ∙ ap (λ n. n + 1) c.names.invariant.fields;
       shown = λ one some. c.in_ok-put_field.ensures.shown (subst (λ n. 0 < length n) (sym lent) (first-shows names name i one c.name-item.is some));
       text = put-more (take i names) name (written c.args.writer.now) (written c.names.writer) (written c.put_field.new.writer) c.names.invariant.text after
-        ∙ ap (λ f. option_map (λ text. text ++ begun_line f) (written c.args.writer.now)) (sym more);
+          ∙ ap (λ f. option_map (λ text. text ++ begun_line f) (written c.args.writer.now)) (sym more);
     }

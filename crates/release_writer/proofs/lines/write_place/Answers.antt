@@ -1,4 +1,4 @@
-use Rattle.std.proofs.Common.{◌≡◌, ℕ, ◌+◌, ◌<◌, ◌≤◌, ◌++◌, ◌∷◌, [], List, length, take, get_or, ap, sym, ◌∙◌, subst, option_map, arith}
+use Rattle.std.proofs.Common.{◌≡◌, ℕ, ◌+◌, ◌<◌, ◌++◌, ◌∷◌, [], List, length, take, ap, sym, ◌∙◌, option_map, arith}
 use Rattle.std.proofs.lemmas.List.{take_all}
 use Rattle.std.proofs.lemmas.Result.{on_ok_weaker}
 use Rattle.csv.specs.Writing.{default_writer, fields_written, next_sep}
@@ -25,7 +25,7 @@ codes-preserved c =
       setup = c.in_ok-put_field.ensures.setup;
       fields = c.in_ok-put_field.ensures.fields ∙ ap (λ n. n + 1) c.codes.invariant.fields;
       text = put-more fields field (written c.args.writer.now) (written c.codes.writer) (written c.put_field.new.writer) c.codes.invariant.text after
-        ∙ ap (λ f. option_map (λ text. text ++ begun_line f) (written c.args.writer.now)) more;
+          ∙ ap (λ f. option_map (λ text. text ++ begun_line f) (written c.args.writer.now)) more;
     }
 
 pub returns-clause-text : goal.returns-clause-text
