@@ -6,6 +6,8 @@ mod lines;
 mod numbers;
 mod shown;
 mod tables;
+#[cfg(test)]
+mod tests;
 
 pub use shown::Shown;
 pub use tables::table_bytes;
