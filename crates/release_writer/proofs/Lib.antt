@@ -2,3 +2,4 @@ pub mod CsvFields
 pub mod BegunLines
 pub mod BegunPlaces
 pub mod ShownText
+pub mod Entering

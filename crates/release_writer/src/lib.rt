@@ -2,6 +2,7 @@
 #![tactic(auto)]
 
 mod csv_line;
+mod laws;
 mod lines;
 mod numbers;
 mod shown;
@@ -9,5 +10,6 @@ mod tables;
 #[cfg(test)]
 mod tests;
 
+pub use laws::only_what_is_shown_enters;
 pub use shown::Shown;
 pub use tables::table_bytes;
