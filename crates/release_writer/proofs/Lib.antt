@@ -1,0 +1,5 @@
+pub mod CsvFields
+pub mod BegunLines
+pub mod BegunPlaces
+pub mod ShownText
+pub mod Entering

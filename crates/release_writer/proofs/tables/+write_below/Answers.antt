@@ -1,0 +1,47 @@
+use Rattle.std.proofs.Common.{◌≡◌, ℕ, ◌+◌, ◌<◌, ◌++◌, ◌∷◌, [], List, true, length, take, get_or, slice_index_or, ap, sym, ◌∙◌, subst, option_map, arith, length-append}
+use Rattle.std.proofs.lemmas.Result.{on_ok_weaker}
+use Rattle.sdc_base.specs.Cells.{trees_of}
+use Rattle.sdc_base.specs.CellOrder.{is_place_in}
+use Rattle.release_writer.specs.Lines.{written, lines_below}
+use Rattle.release_writer.proofs.BegunPlaces.{below-whole, begun-next, written-more, place-more, lines_begun}
+use Rattle.release_writer.proofs.tables.+write_below.Goals as goal
+
+pub returns-then-place-len-clause-text : goal.returns-then-place-len-clause-text
+returns-then-place-len-clause-text t c =
+    let page = c.args.page.now in
+    let place = c.args.place.now in
+    let start = written c.args.writer.now in
+    on_ok_weaker c.write_whole.result
+    (λ text. text ∙ ap (λ line. option_map (λ before. before ++ line) start) (sym (below-whole page.book.now page.table.now page.decimals page.shown place (omega (arith, c.if-place-len.true, c.len.ensures.len)))))
+    c.write_whole.ensures.text
+
+pub write_below-requires : goal.write_below-requires
+write_below-requires t c =
+    let page = c.args.page.now in
+    let trees = page.book.now.trees in
+    let table = page.table.now in
+    let place = c.args.place.now in
+    let code = c.codes.code in
+    let longer = c.as_slice-in-codes.result.now in
+    let short : length place < length table = omega (arith, c.if-place-len.false, c.len.ensures.len) in
+    let same : longer ≡ place ++ code ∷ [] = c.as_slice-in-codes.ensures.value ∙ c.with_code-longer.ensures in
+    let size : length longer ≡ length place + 1 = ap (λ (p : List ℕ). length p) same ∙ length-append place (code ∷ []) in
+    let sizes = c.size_at-size.ensures.size ∙ ap (λ (spanned : List ℕ). length (slice_index_or trees (get_or spanned (length place) 0) [])) c.as_slice.ensures in
+    let small : code < length (slice_index_or trees (get_or table (length place) 0) []) = omega (arith, c.codes-test.true, sizes) in
+    (omega (arith, size, short, c.decreases), (c.codes.invariant.ready, (c.requires.page, (omega (arith, size, short), subst (λ (p : List ℕ). is_place_in (trees_of trees (take (length p) table)) p ≡ true) (sym same) (place-more trees table place code short c.requires.place small)))))
+
+pub codes-preserved : goal.codes-preserved
+codes-preserved t c =
+    let page = c.args.page.now in
+    let place = c.args.place.now in
+    let code = c.codes.code in
+    let start = written c.args.writer.now in
+    let longer = c.as_slice-in-codes.result.now in
+    let same : longer ≡ place ++ code ∷ [] = c.as_slice-in-codes.ensures.value ∙ c.with_code-longer.ensures in
+    let after : written c.write_below.new.writer ≡ option_map (λ text. text ++ lines_below page.book.now page.table.now page.decimals page.shown (place ++ code ∷ [])) (written c.codes.writer) =
+    c.in_ok-write_below.ensures.text ∙ ap (λ p. option_map (λ text. text ++ lines_below page.book.now page.table.now page.decimals page.shown p) (written c.codes.writer)) same in
+    record {
+      ready = c.in_ok-write_below.ensures.ready;
+      text = written-more (lines_begun page.book.now page.table.now page.decimals page.shown place code) (lines_below page.book.now page.table.now page.decimals page.shown (place ++ code ∷ [])) (lines_begun page.book.now page.table.now page.decimals page.shown place (code + 1)) start (written c.codes.writer) (written c.write_below.new.writer)
+          (begun-next page.book.now page.table.now page.decimals page.shown place code) c.codes.invariant.text after;
+    }

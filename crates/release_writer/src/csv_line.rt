@@ -1,0 +1,36 @@
+ghost use Rattle.std.specs.Prelude.{◌≡◌, ◌<◌, ◌+◌, ◌-◌, ◌^◌, ◌++◌, ◌∷◌, [], length, true, OnOk, option_map};
+ghost use Rattle.csv.specs.Writing.{default_writer, writer_setup, fields_written, has_written, next_sep};
+ghost use Rattle.csv.specs.Writing.{field_text as csv_text};
+ghost use Rattle.release_writer.specs.Lines.{IsReady, written};
+
+use csv::Writer;
+use sdc_base::Memory;
+
+/// Writes one more field of a line.
+pub(crate) fn put_field(writer: &mut Writer<Vec<u8>>, field: &[u8]) -> Result<(), Memory>
+    requires setup { writer_setup writer.old ≡ default_writer }
+    requires few { fields_written writer.old < 2 ^ 64 - 1 }
+    ensures setup { OnOk result (writer_setup writer.new ≡ default_writer) }
+    ensures fields { OnOk result (fields_written writer.new ≡ fields_written writer.old + 1) }
+    ensures text { OnOk result (written writer.new ≡ option_map (λ text. text ++ (next_sep default_writer (fields_written writer.old) ++ csv_text default_writer field.now)) (written writer.old)) }
+    ensures shown { 0 < length field.now → OnOk result (has_written writer.new ≡ true) }
+{
+    match writer.write_field(field) {
+        Ok(()) => Ok(()),
+        Err(_) => Err(Memory),
+    }
+}
+
+/// Ends a line that has shown something.
+pub(crate) fn end_line(writer: &mut Writer<Vec<u8>>) -> Result<(), Memory>
+    requires setup { writer_setup writer.old ≡ default_writer }
+    requires some { 0 < fields_written writer.old }
+    requires shown { fields_written writer.old ≡ 1 → has_written writer.old ≡ true }
+    ensures ready { OnOk result (IsReady writer.new) }
+    ensures text { OnOk result (written writer.new ≡ option_map (λ text. text ++ 10 ∷ []) (written writer.old)) }
+{
+    match writer.end_record() {
+        Ok(()) => Ok(()),
+        Err(_) => Err(Memory),
+    }
+}

@@ -1,0 +1,59 @@
+ghost use Rattle.std.specs.Prelude.{◌≡◌, ◌≤◌, ◌<◌, ◌++◌, ◌∷◌, [], length, slice_index_or, OnOk, option_map};
+ghost use Rattle.sdc_base.specs.Trees.{code_in};
+ghost use Rattle.sdc_base.specs.Cells.{trees_of};
+ghost use Rattle.sdc_base.specs.TableText.{line_text, codes_of_place};
+ghost use Rattle.release_writer.specs.Lines.{IsReady, written};
+
+use crate::csv_line::{end_line, put_field};
+use csv::Writer;
+use linked_tables::Book;
+use sdc_base::{Memory, Text};
+
+/// Writes the line of a table's names, of which one alone isn't empty.
+pub(crate) fn write_names(writer: &mut Writer<Vec<u8>>, names: &[Text]) -> Result<(), Memory>
+    requires ready { IsReady writer.old }
+    requires some { 0 < length names.now }
+    requires shown { length names.now ≡ 1 → 0 < length (slice_index_or names.now 0 []) }
+    ensures ready { OnOk result (IsReady writer.new) }
+    ensures text { OnOk result (written writer.new ≡ option_map (λ text. text ++ line_text names.now) (written writer.old)) }
+{
+    'names: for name in names {
+        put_field(writer, name.as_slice())?;
+    }
+    end_line(writer)
+}
+
+/// Writes the line of a place: its codes, and the text of its number.
+pub(crate) fn write_place(
+    writer: &mut Writer<Vec<u8>>,
+    book: &Book,
+    table: &[u32],
+    place: &[u32],
+    number: &[u8],
+) -> Result<(), Memory>
+    requires ready { IsReady writer.old }
+    requires whole { length place.now ≡ length table.now }
+    requires few { length table.now ≤ 8 }
+    requires number { 0 < length number.now }
+    ensures ready { OnOk result (IsReady writer.new) }
+    ensures text { OnOk result (written writer.new ≡ option_map (λ text. text ++ line_text (codes_of_place (trees_of book.now.trees table.now) place.now ++ number.now ∷ [])) (written writer.old)) }
+{
+    'codes: for (k, variable) in table.iter().enumerate() {
+        put_field(writer, code_at(book, *variable, place[k]))?;
+    }
+    put_field(writer, number)?;
+    end_line(writer)
+}
+
+// A code of a variable.
+fn code_at(book: &Book, variable: u32, code: u32) -> &[u8]
+    ensures { result.now ≡ code_in (slice_index_or book.now.trees variable []) code }
+{
+    match book.tree(variable) {
+        Some(tree) => match tree.code(code) {
+            Some(bytes) => bytes,
+            None => &[],
+        },
+        None => &[],
+    }
+}

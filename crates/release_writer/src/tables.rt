@@ -1,0 +1,176 @@
+ghost use Rattle.std.specs.Prelude.{◌≡◌, ◌≤◌, ◌<◌, ◌+◌, ◌++◌, ◌∷◌, [], true, false, length, take, slice_index_or, option_map, Some, IfOk, OnOk};
+ghost use Rattle.sdc_base.specs.Cells.{trees_of};
+ghost use Rattle.sdc_base.specs.CellOrder.{is_place_in};
+ghost use Rattle.sdc_base.specs.TableText.{line_text};
+ghost use Rattle.release_writer.specs.Shown.{CanBeShown, release_text};
+ghost use Rattle.release_writer.specs.Lines.{IsReady, written, lines_below, place_line};
+ghost use Rattle.release_writer.specs.Pages.{IsPage};
+
+use crate::lines::{write_names, write_place};
+use crate::numbers::number_text;
+use crate::shown::Shown;
+use arrayvec::ArrayVec;
+use csv::{Writer, WriterBuilder};
+use linked_tables::Book;
+use sdc_base::{Memory, Place, Text};
+use std::alloc::Global;
+
+/// The bytes of table `t` of a release: a line of `names`, and then a line for each place of the table in lexicographic
+/// order, with its codes and what its cell shows. Each line ends in LF, its fields have commas between them, and a field
+/// stands in quotes exactly where it has a comma, a quote, CR or LF, with each quote inside doubled.
+///
+/// `t` is a table of the book, numbered from 0. `names` are those of the table's variables and of the response. `decimals`
+/// are those of a unit, at most 13. `shown` has a flag for each cell, and truths are from 0, or a number for each cell, from
+/// 0 and below `10^37` units. A hidden cell shows `x`, whatever hides it; nothing of its truth enters the text.
+///
+/// Want of memory is the only refusal, and leaves the book as it is. It takes one look-up for each place.
+///
+/// The lines are the manual's, quotes, order and `x` are this project's own.
+pub fn table_bytes(
+    alloc: Global,
+    book: &Book,
+    t: u32,
+    names: &[Text],
+    decimals: u8,
+    shown: Shown<'_>,
+) -> Result<Vec<u8>, Memory>
+    requires table { t < length book.now.tables }
+    requires names { length names.now ≡ length (slice_index_or book.now.tables t []) + 1 }
+    requires decimals { decimals ≤ 13 }
+    requires shown { CanBeShown book.now shown }
+    ensures text { IfOk result (λ bytes. bytes.items ≡ release_text book.now t names.now decimals shown.entry) }
+{
+    // There is such a table.
+    let Some(table) = book.spans(t) else {
+        return Err(Memory);
+    };
+    let page = Page {
+        book,
+        table,
+        t,
+        decimals,
+        shown,
+    };
+    let mut writer = begin(alloc, names)?;
+    write_below(alloc, &mut writer, &page, &[])?;
+    bytes_of(writer)
+}
+
+// The bytes that a writer has written.
+fn bytes_of(writer: Writer<Vec<u8>>) -> Result<Vec<u8>, Memory>
+    ensures text { IfOk result (λ bytes. Some bytes.items ≡ written writer) }
+{
+    match writer.into_inner() {
+        Ok(bytes) => Ok(bytes),
+        Err(_) => Err(Memory),
+    }
+}
+
+// A writer behind the line of a table's names.
+fn begin(alloc: Global, names: &[Text]) -> Result<Writer<Vec<u8>>, Memory>
+    requires some { 0 < length names.now }
+    ensures ready { IfOk result IsReady }
+    ensures text { IfOk result (λ writer. written writer ≡ Some (line_text names.now)) }
+{
+    let mut start = Vec::new(alloc);
+    if is_empty_line(names) {
+        // The csv writer would write two quotes here.
+        start.push(b'\n')?;
+        return Ok(WriterBuilder::new().from_writer(start));
+    }
+    let mut writer = WriterBuilder::new().from_writer(start);
+    write_names(&mut writer, names)?;
+    Ok(writer)
+}
+
+// Whether a line has one name alone, which is empty.
+fn is_empty_line(names: &[Text]) -> bool
+    ensures empty { result ≡ true → line_text names.now ≡ 10 ∷ [] }
+    ensures shown { result ≡ false → length names.now ≡ 1 → 0 < length (slice_index_or names.now 0 []) }
+{
+    names.len() == 1 && names[0].as_slice().is_empty()
+}
+
+// What the lines of a table are written from.
+#[derive(Clone, Copy)]
+struct Page<'a> {
+    book: &'a Book,
+    table: &'a Place,
+    t: u32,
+    decimals: u8,
+    shown: Shown<'a>,
+}
+
+// Writes the lines of the places that begin with this one.
+fn write_below(
+    alloc: Global,
+    writer: &mut Writer<Vec<u8>>,
+    page: &Page<'_>,
+    place: &[u32],
+) -> Result<(), Memory>
+    requires ready { IsReady writer.old }
+    requires page { IsPage page.now }
+    requires begun { length place.now ≤ length page.now.table.now }
+    requires place { is_place_in (trees_of page.now.book.now.trees (take (length place.now) page.now.table.now)) place.now ≡ true }
+    ensures ready { OnOk result (IsReady writer.new) }
+    ensures text { OnOk result (written writer.new ≡ option_map (λ text. text ++ lines_below page.now.book.now page.now.table.now page.now.decimals page.now.shown place.now) (written writer.old)) }
+{
+    if place.len() >= page.table.len() {
+        return write_whole(alloc, writer, page, place);
+    }
+    let size = size_at(page.book, page.table.as_slice()[place.len()]);
+    'codes: for code in 0..size {
+        let longer = with_code(place, code as u32);
+        write_below(alloc, writer, page, longer.as_slice())?;
+    }
+    Ok(())
+}
+
+// Writes the line of a place.
+fn write_whole(
+    alloc: Global,
+    writer: &mut Writer<Vec<u8>>,
+    page: &Page<'_>,
+    place: &[u32],
+) -> Result<(), Memory>
+    requires ready { IsReady writer.old }
+    requires page { IsPage page.now }
+    requires few { length page.now.table.now ≤ 8 }
+    requires whole { length place.now ≡ length page.now.table.now }
+    requires place { is_place_in (trees_of page.now.book.now.trees page.now.table.now) place.now ≡ true }
+    ensures ready { OnOk result (IsReady writer.new) }
+    ensures text { OnOk result (written writer.new ≡ option_map (λ text. text ++ place_line page.now.book.now page.now.table.now page.now.decimals page.now.shown place.now) (written writer.old)) }
+{
+    let number = number_text(alloc, page.book, page.t, place, page.decimals, page.shown)?;
+    write_place(
+        writer,
+        page.book,
+        page.table.as_slice(),
+        place,
+        number.as_slice(),
+    )
+}
+
+// How many codes a variable has, the total included.
+fn size_at(book: &Book, variable: u32) -> usize
+    ensures size { result ≡ length (slice_index_or book.now.trees variable []) }
+    ensures small { result ≤ 5001 }
+{
+    match book.tree(variable) {
+        Some(tree) => tree.len(),
+        None => 0,
+    }
+}
+
+// The place with a code more.
+fn with_code(place: &[u32], code: u32) -> ArrayVec<u32, 8>
+    requires { length place.now < 8 }
+    ensures { result.items ≡ place.now ++ code ∷ [] }
+{
+    let mut longer: ArrayVec<u32, 8> = ArrayVec::new();
+    'codes: for next in place {
+        longer.push(*next);
+    }
+    longer.push(code);
+    longer
+}
