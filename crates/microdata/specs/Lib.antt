@@ -1,0 +1,9 @@
+pub mod Faults
+pub mod Fields
+pub mod Layouts
+pub mod SeenCodes
+pub mod OneRecord
+pub mod Closing
+pub mod Microdata
+pub mod Feeding
+pub mod Keeping

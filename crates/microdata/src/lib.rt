@@ -1,0 +1,19 @@
+//! Records of microdata, read from bytes that come in pieces.
+#![tactic(auto)]
+
+mod ascending;
+mod closing;
+mod codes;
+mod faults;
+mod fields;
+mod layout;
+mod numbers;
+mod reader;
+mod record;
+mod records;
+mod taking;
+
+pub use faults::{RowError, RowWhy};
+pub use layout::{Field, Layout, NumberField, Source};
+pub use reader::Reader;
+pub use records::Records;
