@@ -1,0 +1,9 @@
+pub mod CodeSets
+pub mod FaultsAt
+pub mod Leaves
+pub mod LevelCodes
+pub mod FlatCodes
+pub mod VariableSteps
+pub mod TreesMade
+pub mod FeedLines
+pub mod Pieces

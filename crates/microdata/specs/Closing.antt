@@ -25,7 +25,7 @@ tree_of (source.Flat codes total) seen = flat_tree total (codes ++ seen.nodes)
 
 -- the places of codes in a tree
 abbrev pub places_in : Tree → List (List ℕ) → List ℕ
-places_in tree codes = map (λ code. unwrap_or 0 (find tree code)) codes
+places_in tree codes = map (λ code. unwrap_or (find tree code) 0) codes
 
 -- a variable's tree, and the places in it of its codes in the order of their first records
 abbrev pub closed_of : Variable → Closed

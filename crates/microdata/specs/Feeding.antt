@@ -1,5 +1,5 @@
 -- Bytes that come in pieces: what the lines that have ended say, and when the line that has begun is too long (own).
-use Rattle.std.specs.Prelude.{◌≡◌, ℕ, ◌+◌, ◌≤◌, ◌^◌, nat_lt, Bool, if◌then◌else◌, List, [], ◌∷◌, ◌++◌, length, take, count_by, Option, None, Some, Result, Ok, Err}
+use Rattle.std.specs.Prelude.{◌≡◌, ℕ, ◌+◌, ◌≤◌, ◌^◌, nat_lt, Bool, if◌then◌else◌, List, [], ◌∷◌, ◌++◌, length, Option, None, Some, Result, Ok, Err}
 use Rattle.std.specs.List.{list_any}
 use Rattle.std.specs.Str.Lines.{strip_carriage_return}
 use Rattle.sdc_base.specs.Lines.{lines, is_line_feed, HasNoFeed}
@@ -14,9 +14,14 @@ use Rattle.microdata.specs.declared.layout.Layout.{Layout}
 use Rattle.microdata.specs.declared.layout.Measures.{Measures}
 use Rattle.microdata.specs.declared.record.SoFar.{SoFar}
 
--- the lines that have ended: the first ones, as many as there are line feeds
+-- the bytes up to the last line feed
+abbrev pub up_to_last_feed : List ℕ → List ℕ
+up_to_last_feed [] = []
+up_to_last_feed (b ∷ bytes) = if list_any is_line_feed (b ∷ bytes) then b ∷ up_to_last_feed bytes else []
+
+-- the lines that have ended
 abbrev pub ended : List ℕ → List (List ℕ)
-ended bytes = take (count_by is_line_feed bytes) (lines bytes)
+ended bytes = lines (up_to_last_feed bytes)
 
 -- the line that has begun: what stands behind the last line feed
 abbrev pub begun : List ℕ → List ℕ

@@ -43,7 +43,7 @@ pub record IsVariable (needed : ℕ) (variable : Variable) : Type 0 where
 
 -- the records so far
 pub record IsSound (measures : Measures) (so_far : SoFar) : Type 0 where
-  pub measures : AreMeasures measures
+  pub numbers : AreMeasures measures
   pub variables : All (IsVariable measures.needed) so_far.variables
   pub few : length so_far.variables ≤ 8
   pub records : so_far.number ≤ 1000000

@@ -1,6 +1,6 @@
 -- Which layouts are read by: where their fields stand, and which codes they list (own).
-use Rattle.std.specs.Prelude.{ℕ, ◌+◌, ◌<◌, ◌≤◌, List, [], ◌∷◌, length, Option, None, Some}
-use Rattle.std.specs.List.{AllByRecursion, IsDistinct}
+use Rattle.std.specs.Prelude.{ℕ, ◌+◌, ◌<◌, ◌≤◌, All, List, [], ◌∷◌, length, Option, None, Some}
+use Rattle.std.specs.List.{IsDistinct}
 use Rattle.std.specs.Str.{bytes_eq}
 use Rattle.microdata.specs.declared.layout.Field.{Field}
 use Rattle.microdata.specs.declared.layout.Layout.{Layout}
@@ -18,7 +18,7 @@ pub record IsWithin (needed first width : ℕ) : Type 0 where
 -- levels have 1 to 9 widths above 0; listed codes are distinct, at most 5,000, and none is the total
 abbrev pub IsSource : Source → Type 0
 IsSource (source.Listed tree) = Unit {0}
-IsSource (source.Levels widths total) = (0 < length widths) × (length widths ≤ 9) × AllByRecursion (λ width. 0 < width) widths
+IsSource (source.Levels widths total) = (0 < length widths) × (length widths ≤ 9) × All (λ width. 0 < width) widths
 IsSource (source.Flat codes total) = IsDistinct bytes_eq (total ∷ codes) × (length codes ≤ 5000)
 
 -- a field that stands within a record, with codes that can be read by
@@ -50,4 +50,4 @@ measures_of layout = record { response = layout.response; weight = layout.weight
 pub record IsLayout (layout : Layout) : Type 0 where
   pub few : length layout.spanning ≤ 8
   pub measures : AreMeasures (measures_of layout)
-  pub fields : AllByRecursion (IsField layout.needed) layout.spanning
+  pub fields : All (IsField layout.needed) layout.spanning

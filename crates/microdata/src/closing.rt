@@ -1,7 +1,11 @@
-ghost use Rattle.std.specs.Prelude.{◌≡◌, ◌≤◌, All, map, length, IfOk};
+ghost use Rattle.std.specs.Prelude.{◌≡◌, ◌≤◌, ◌<◌, ◌+◌, ◌++◌, ◌∷◌, [], All, map, length, sum, None, IfOk};
+ghost use Rattle.std.specs.List.{IsDistinct};
+ghost use Rattle.std.specs.Str.{bytes_eq};
+ghost use Rattle.sdc_base.specs.Trees.{flat_tree as flat_of};
+ghost use Rattle.hierarchy.specs.Levels.{boundaries, tree_of_codes, gathered, first_level_fault};
 ghost use Rattle.sdc_base.specs.Answers.{Gives};
 ghost use Rattle.microdata.specs.Closing.{closed_of, tree_of, places_in, place_of as place_meant, leaf_of as leaf_meant, leaves_of as leaves_meant, row_of as row_meant, rows_of as rows_meant};
-ghost use Rattle.microdata.specs.Faults.{fault_of, why_of};
+ghost use Rattle.microdata.specs.Faults.{fault_of, why_of, at_record};
 ghost use Rattle.microdata.specs.Keeping.{AreSeen, IsSound, IsVariable};
 ghost use Rattle.microdata.specs.Layouts.{IsSource};
 ghost use Rattle.microdata.specs.Microdata.{closed_records};
@@ -13,7 +17,7 @@ use crate::record::{Kept, SoFar, Variable};
 use crate::records::Records;
 use crate::taking::Seen;
 use arrayvec::ArrayVec;
-use hierarchy::{CodeTree, flat, from_levels};
+use hierarchy::{CodeTree, TreeFault, flat, from_levels};
 use sdc_base::{Few, Items, Memory, Place, Row, Text};
 use std::alloc::Global;
 
@@ -121,13 +125,21 @@ fn rows_of(alloc: Global, closed: &[Closed], kept: Items<Kept>) -> Result<Items<
 {
     let mut rows = Items::empty(alloc);
     'kept: for one in kept.into_vec() {
-        let row = match row_of(closed, &one) {
-            Ok(row) => row,
-            Err(error) => return Err(error_at(one.number, error)),
-        };
-        rows.push(row)?;
+        rows.push(row_at(closed, &one)?)?;
     }
     Ok(rows)
+}
+
+// A record with the places of its codes, or its fault with its number.
+#[tactic(auto, using(crate::proofs::FaultsAt::fails_at))]
+fn row_at(closed: &[Closed], kept: &Kept) -> Result<Row, RowError>
+    requires few { length closed.now ≤ 8 }
+    ensures { Gives fault_of (λ row. row) result (at_record kept.now.number (row_meant closed.now kept.now)) }
+{
+    match row_of(closed, kept) {
+        Ok(row) => Ok(row),
+        Err(error) => Err(error_at(kept.number, error)),
+    }
 }
 
 // A record with the places of its codes.
@@ -182,20 +194,41 @@ fn place_of(closed: &Closed, number: u32) -> u32
     }
 }
 
-fn level_tree(alloc: Global, codes: &[Text], widths: &[u8], total: &Text) -> Result<CodeTree, Memory> {
+// The tree of codes by levels.
+fn level_tree(alloc: Global, codes: &[Text], widths: &[u8], total: &Text) -> Result<CodeTree, Memory>
+    requires some { 0 < length widths.now }
+    requires levels { length widths.now ≤ 9 }
+    requires positive { All (λ width. 0 < width) widths.now }
+    requires short { All (λ code. length code ≤ sum widths.now) codes.now }
+    requires fine { first_level_fault total.now (boundaries 0 widths.now) 1 [] [] codes.now ≡ None }
+    ensures { IfOk result (λ tree. tree ≡ tree_of_codes total.now (boundaries 0 widths.now) ((total.now, None) ∷ []) (gathered (boundaries 0 widths.now) [] codes.now)) }
+{
     match from_levels(alloc, codes, widths, total) {
         Ok(tree) => Ok(tree),
-        Err(_) => Err(Memory),
+        Err(fault) => Err(want_of(fault)),
     }
 }
 
-fn flat_tree(alloc: Global, codes: Items<Text>, nodes: Ascending, total: &Text) -> Result<CodeTree, Memory> {
-    let mut all = codes.into_vec();
-    'nodes: for node in nodes.into_texts(alloc)? {
-        all.push(node)?;
+// The want of memory that a maker of trees answers; nothing else comes.
+fn want_of(fault: TreeFault) -> Memory
+    requires { fault ≡ TreeFault.Memory }
+{
+    match fault {
+        _ => Memory,
     }
-    match flat(alloc, &all, total) {
+}
+
+// The flat tree of the listed codes and the further ones.
+fn flat_tree(alloc: Global, listed: Items<Text>, further: Ascending, total: &Text) -> Result<CodeTree, Memory>
+    requires distinct { IsDistinct bytes_eq (total.now ∷ (listed ++ further)) }
+    requires few { length listed + length further ≤ 5000 }
+    ensures { IfOk result (λ tree. tree ≡ flat_of total.now (listed ++ further)) }
+{
+    let mut codes = listed.into_vec();
+    let mut further = further.into_texts(alloc)?;
+    codes.append(&mut further)?;
+    match flat(alloc, &codes, total) {
         Ok(tree) => Ok(tree),
-        Err(_) => Err(Memory),
+        Err(fault) => Err(want_of(fault)),
     }
 }

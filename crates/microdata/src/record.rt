@@ -48,6 +48,7 @@ pub(crate) struct SoFar {
 
 /// Takes in a line without its end: one record more where it has a byte, and else nothing. After an error what was
 /// lent is to be let go.
+#[tactic(auto, using(crate::proofs::FaultsAt::fails_at))]
 pub(crate) fn take_line(
     alloc: Global,
     measures: &Measures,

@@ -1,4 +1,4 @@
-ghost use Rattle.std.specs.Prelude.{◌≡◌, ◌<◌, ◌≤◌, ◌^◌, drop, length, sum, false, position, IfOk, OnOk};
+ghost use Rattle.std.specs.Prelude.{◌≡◌, ℕ, List, ◌<◌, ◌≤◌, ◌^◌, drop, length, sum, false, position, IfOk, OnOk};
 ghost use Rattle.std.specs.List.{list_any};
 ghost use Rattle.std.specs.Str.{bytes_eq};
 ghost use Rattle.sdc_base.specs.Answers.{Gives};
@@ -7,6 +7,7 @@ ghost use Rattle.hierarchy.specs.Levels.{boundaries, prefixes, with_prefixes};
 ghost use Rattle.microdata.specs.Faults.{why_of};
 ghost use Rattle.microdata.specs.SeenCodes.{listed_place as place_listed, with_code, known_or_new, with_level_code, with_flat_code};
 ghost use Rattle.microdata.specs.Keeping.{AreSeen, AreLevelCodes, AreFlatCodes};
+ghost use Rattle.microdata.specs.Layouts.{IsSource};
 
 use crate::ascending::Ascending;
 use crate::codes::Codes;
@@ -38,7 +39,8 @@ pub(crate) fn take_code(
     seen: &mut Seen,
     code: &[u8],
 ) -> Result<u32, RecordError>
-    requires { AreSeen source.now seen.old }
+    requires source { IsSource source.now }
+    requires seen { AreSeen source.now seen.old }
     ensures said { Gives why_of (λ place. (seen.new, place)) result (with_code source.now seen.old code.now) }
     ensures seen { OnOk result (AreSeen source.now seen.new) }
 {
@@ -67,6 +69,7 @@ fn listed_place(tree: &CodeTree, code: &[u8]) -> Result<u32, RecordError>
     Ok(place)
 }
 
+// Takes in a code by levels.
 fn take_level_code(
     alloc: Global,
     widths: &[u8],
@@ -74,16 +77,17 @@ fn take_level_code(
     seen: &mut Seen,
     code: &[u8],
 ) -> Result<u32, RecordError>
-    requires { AreLevelCodes widths.now total.now seen.old }
+    requires few { length widths.now ≤ 9 }
+    requires sound { AreLevelCodes widths.now total.now seen.old }
     ensures said { Gives why_of (λ place. (seen.new, place)) result (known_or_new seen.old (position (bytes_eq code.now) seen.old.codes) (with_level_code widths.now total.now seen.old code.now)) }
     ensures seen { OnOk result (AreLevelCodes widths.now total.now seen.new) }
 {
+    let count = seen.codes.len();
     if let Some(place) = seen.codes.place_of(code) {
         return Ok(place as u32);
     }
-    let place = seen.codes.len();
     add_level_code(alloc, widths, total, seen, code)?;
-    Ok(place as u32)
+    Ok(count as u32)
 }
 
 // One new code by levels more, with its prefixes.
@@ -95,6 +99,7 @@ fn add_level_code(
     seen: &mut Seen,
     code: &[u8],
 ) -> Result<(), RecordError>
+    requires few { length widths.now ≤ 9 }
     requires new { list_any (bytes_eq code.now) seen.old.codes ≡ false }
     ensures said { Gives why_of (λ _. seen.new) result (with_level_code widths.now total.now seen.old code.now) }
 {
@@ -176,6 +181,7 @@ fn add_prefixes(
     nodes.insert(alloc, code)
 }
 
+// Takes in a code without levels.
 fn take_flat_code(
     alloc: Global,
     total: &[u8],
@@ -184,13 +190,14 @@ fn take_flat_code(
 ) -> Result<u32, RecordError>
     requires { length seen.old.codes ≤ 5000 }
     ensures said { Gives why_of (λ place. (seen.new, place)) result (known_or_new seen.old (position (bytes_eq code.now) seen.old.codes) (with_flat_code total.now seen.old code.now)) }
+    ensures seen { (codes : List (List ℕ)) → AreFlatCodes codes total.now seen.old → OnOk result (AreFlatCodes codes total.now seen.new) }
 {
+    let count = seen.codes.len();
     if let Some(place) = seen.codes.place_of(code) {
         return Ok(place as u32);
     }
-    let place = seen.codes.len();
     add_flat_code(alloc, total, seen, code)?;
-    Ok(place as u32)
+    Ok(count as u32)
 }
 
 // One new code without levels more.
