@@ -1,5 +1,5 @@
 -- The lines that have ended and the line that has begun, once a line ends.
-use Rattle.std.proofs.Common.{◌≡◌, ℕ, suc, ◌+◌, ◌-◌, ◌<◌, ◌≤◌, ◌==◌, nat_lt, Bool, true, false, cond, ◌&&◌, ◌||◌, not, List, [], ◌∷◌, ◌++◌, length, take, length-take, length-append, refl, ap, sym, ◌∙◌, subst, arith, add-one, append_assoc, append-nil, ◌⊎◌, inl, inr}
+use Rattle.std.proofs.Common.{◌≡◌, ℕ, suc, ◌+◌, ◌-◌, ◌<◌, ◌≤◌, ◌==◌, nat_lt, Bool, true, false, cond, ◌&&◌, ◌||◌, not, List, [], ◌∷◌, ◌++◌, length, take, length-take, length-append, refl, ap, sym, ◌∙◌, subst, arith, add-one, append_assoc, append-nil, ◌⊎◌, inl, inr, slice_index}
 use Rattle.std.specs.List.{list_any, AllByRecursion}
 use Rattle.std.specs.Str.Lines.{strip_carriage_return}
 use Rattle.std.proofs.lemmas.Bool.Decides.{nat_tests, Decides-eqb}
@@ -63,10 +63,10 @@ ended-open [] h = refl
 ended-open (b ∷ line) h = rw h refl
 
 strip-short : (line : List ℕ) → length line ≤ length (strip_carriage_return line) + 1
-strip-short line = ?
+strip-short line = elim (slice_index line (length line - 1) == 13) as (λ t. length line ≤ length (cond t (take (length line - 1) line) line) + 1) [ true ↦ omega (arith, length-take (length line - 1) line) | false ↦ omega arith ]
 
 strip-few : (line : List ℕ) → length (strip_carriage_return line) ≤ length line
-strip-few line = ?
+strip-few line = elim (slice_index line (length line - 1) == 13) as (λ t. length (cond t (take (length line - 1) line) line) ≤ length line) [ true ↦ omega (arith, length-take (length line - 1) line) | false ↦ omega arith ]
 
 above : (a b : ℕ) → nat_lt a b ≡ true → a < b
 above a b h = grind (arith, nat_tests)
@@ -78,3 +78,9 @@ is-above a b h = grind (arith, nat_tests)
 pub long-more : (line more : List ℕ) → is_too_long line ≡ true → 1000 < length (strip_carriage_return (line ++ more))
 long-more line [] h = subst (λ l. 1000 < length (strip_carriage_return l)) (sym (append-nil line)) (above _ _ h)
 long-more line (b ∷ more) h = omega (arith, above _ _ h, strip-few line, strip-short (line ++ b ∷ more), length-append line (b ∷ more))
+
+pub long-open : (line more : List ℕ) → is_too_long line ≡ true → 1000 < length (line ++ more)
+long-open line more h = omega (arith, above _ _ h, strip-few line, length-append line more)
+
+pub not-feed : (b : ℕ) → (b ≡ 10 → ⊥) → is_line_feed b ≡ false
+not-feed b other = elim (b == 10) as (λ t. (b == 10) ≡ t → t ≡ false) [ true ↦ λ e. absurd (other ((Decides-eqb b 10).0 e)) | false ↦ λ e. refl ] refl

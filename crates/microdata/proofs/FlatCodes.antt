@@ -124,7 +124,7 @@ flat-sound codes total old new code fresh sound said =
     subst (AreFlatCodes codes total) (value_is _ new b.1) (grown-sound codes total old code fresh sound a.0 b.0)
 
 -- a code is none of those before it
-none-before : (before rest : List (List ℕ)) (code : List ℕ) → IsDistinct bytes_eq (before ++ code ∷ rest) → list_any (bytes_eq code) before ≡ false
+pub none-before : (before rest : List (List ℕ)) (code : List ℕ) → IsDistinct bytes_eq (before ++ code ∷ rest) → list_any (bytes_eq code) before ≡ false
 none-before [] rest code distinct = refl
 none-before (first ∷ before) rest code distinct =
     rw (turned first code (at-code before (IsDistinct-head bytes_eq first (before ++ code ∷ rest) distinct))) (none-before before rest code (IsDistinct-tail bytes_eq first (before ++ code ∷ rest) distinct))

@@ -7,3 +7,4 @@ pub mod VariableSteps
 pub mod TreesMade
 pub mod FeedLines
 pub mod Pieces
+pub mod SeenFirst

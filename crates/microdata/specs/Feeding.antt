@@ -1,5 +1,5 @@
 -- Bytes that come in pieces: what the lines that have ended say, and when the line that has begun is too long (own).
-use Rattle.std.specs.Prelude.{◌≡◌, ℕ, ◌+◌, ◌≤◌, ◌^◌, nat_lt, Bool, if◌then◌else◌, List, [], ◌∷◌, ◌++◌, length, Option, None, Some, Result, Ok, Err}
+use Rattle.std.specs.Prelude.{◌≡◌, ℕ, ◌+◌, ◌≤◌, ◌^◌, nat_lt, Bool, if◌then◌else◌, List, [], ◌∷◌, ◌++◌, length, true, Option, None, Some, Result, Ok, Err}
 use Rattle.std.specs.List.{list_any}
 use Rattle.std.specs.Str.Lines.{strip_carriage_return}
 use Rattle.sdc_base.specs.Lines.{lines, is_line_feed, HasNoFeed}
@@ -77,3 +77,8 @@ pub record HasRead (reader : Reading) (layout : Layout) (bytes : List ℕ) : Typ
 -- the error that a reader has answered, if it has
 abbrev pub answered : Reading → Option RowError
 answered reader = reader.error
+
+-- the error is want of memory, or says that this line, behind so many records, is too long
+abbrev pub StopsLong : RowError → ℕ → List ℕ → Type 0
+StopsLong row_error.Memory number line = Unit {0}
+StopsLong (row_error.At at why) number line = (at ≡ number + 1) × (why ≡ TooLong) × (is_too_long line ≡ true)

@@ -96,6 +96,16 @@ impl From<AllocError> for RowError {
     }
 }
 
+impl<T: Drop> From<AllocFailed<T>> for RowError {
+    ghost use Rattle.microdata.specs.declared.faults.RowError.TheVariants as row_error;
+
+    ghost from_gives = { λ _ e. e ≡ row_error.Memory };
+
+    fn from(_: AllocFailed<T>) -> Self {
+        RowError::Memory
+    }
+}
+
 /// The error of the record with this number.
 pub(crate) fn error_at(number: u64, error: RecordError) -> RowError
     ensures { result ≡ error_of number error }

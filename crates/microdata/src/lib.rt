@@ -5,6 +5,7 @@ mod ascending;
 mod closing;
 mod codes;
 mod faults;
+mod feeding;
 mod fields;
 mod layout;
 mod numbers;
