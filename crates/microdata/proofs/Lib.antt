@@ -8,3 +8,5 @@ pub mod TreesMade
 pub mod FeedLines
 pub mod Pieces
 pub mod SeenFirst
+pub mod Kept
+pub mod Within

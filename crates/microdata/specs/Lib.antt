@@ -7,3 +7,4 @@ pub mod Closing
 pub mod Microdata
 pub mod Feeding
 pub mod Keeping
+pub mod Ranges

@@ -1,7 +1,7 @@
 ghost use Rattle.std.specs.Prelude.{◌≡◌, ◌≤◌, ◌<◌, ◌+◌, ◌++◌, ◌∷◌, [], All, map, length, sum, None, IfOk};
-ghost use Rattle.std.specs.List.{IsDistinct};
+ghost use Rattle.std.specs.List.{AllByRecursion, IsDistinct};
 ghost use Rattle.std.specs.Str.{bytes_eq};
-ghost use Rattle.sdc_base.specs.Trees.{flat_tree as flat_of};
+ghost use Rattle.sdc_base.specs.Trees.{flat_tree as flat_of, IsCodeTree};
 ghost use Rattle.hierarchy.specs.Levels.{boundaries, tree_of_codes, gathered, first_level_fault};
 ghost use Rattle.sdc_base.specs.Answers.{Gives};
 ghost use Rattle.microdata.specs.Closing.{closed_of, tree_of, places_in, place_of as place_meant, leaf_of as leaf_meant, leaves_of as leaves_meant, row_of as row_meant, rows_of as rows_meant};
@@ -36,7 +36,8 @@ pub(crate) fn close(alloc: Global, so_far: SoFar) -> Result<Records, RowError>
     requires variables { All (λ variable. IsSource variable.field.source) so_far.variables }
     requires seen { All (λ variable. AreSeen variable.field.source variable.seen) so_far.variables }
     requires few { length so_far.variables ≤ 8 }
-    ensures { Gives fault_of (λ records. records) result (closed_records so_far) }
+    ensures exact { Gives fault_of (λ records. records) result (closed_records so_far) }
+    ensures trees { IfOk result (λ records. AllByRecursion IsCodeTree records.trees) }
 {
     let closed = closed_variables(alloc, so_far.variables)?;
     let rows = rows_of(alloc, closed.as_slice(), so_far.rows)?;
@@ -95,6 +96,15 @@ fn tree_of_source(
     }
 }
 
+// The tree as it is, of which this says that it is a code tree.
+fn code_tree(tree: CodeTree) -> CodeTree
+    ensures same { result ≡ tree }
+    ensures tree { IsCodeTree result }
+{
+    tree.len();
+    tree
+}
+
 // The places of codes in a tree.
 fn places_in_tree(alloc: Global, tree: &CodeTree, codes: &[Text]) -> Result<Items<u32>, Memory>
     ensures { IfOk result (λ places. places ≡ places_in tree.now codes.now) }
@@ -108,11 +118,12 @@ fn places_in_tree(alloc: Global, tree: &CodeTree, codes: &[Text]) -> Result<Item
 
 // The trees alone.
 fn trees_of(alloc: Global, closed: Items<Closed>) -> Result<Items<CodeTree>, Memory>
-    ensures { IfOk result (λ trees. trees ≡ map (λ one. one.tree) closed) }
+    ensures trees { IfOk result (λ trees. trees ≡ map (λ one. one.tree) closed) }
+    ensures made { IfOk result (λ trees. AllByRecursion IsCodeTree trees) }
 {
     let mut trees = Items::empty(alloc);
     'closed: for one in closed.into_vec() {
-        trees.push(one.tree)?;
+        trees.push(code_tree(one.tree))?;
     }
     Ok(trees)
 }

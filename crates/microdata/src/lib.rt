@@ -7,6 +7,7 @@ mod codes;
 mod faults;
 mod feeding;
 mod fields;
+mod laws;
 mod layout;
 mod numbers;
 mod reader;
@@ -15,6 +16,7 @@ mod records;
 mod taking;
 
 pub use faults::{RowError, RowWhy};
+pub use laws::read_is_within_limits;
 pub use layout::{Field, Layout, NumberField, Source};
 pub use reader::Reader;
 pub use records::Records;

@@ -1,5 +1,6 @@
 ghost use Rattle.std.specs.Option.{ForSome};
-ghost use Rattle.std.specs.List.{IsDistinct};
+ghost use Rattle.std.specs.List.{AllByRecursion, IsDistinct};
+ghost use Rattle.sdc_base.specs.Trees.{IsCodeTree};
 ghost use Rattle.std.specs.Str.{bytes_eq};
 ghost use Rattle.sdc_base.specs.Lines.{HasNoFeed};
 ghost use Rattle.microdata.specs.Keeping.{IsSound};
@@ -103,6 +104,7 @@ impl Reader {
     pub fn finish(self) -> Result<Records, RowError>
         ensures exact { (layout : AnyLayout) (bytes : List ℕ) → HasRead self layout bytes → Gives fault_of (λ records. records) result (records_of layout bytes) }
         ensures again { ForSome (answered self) (λ error. result ≡ Err error) }
+        ensures trees { IfOk result (λ records. AllByRecursion IsCodeTree records.trees) }
     {
         let Reader {
             alloc,
@@ -128,7 +130,8 @@ fn read_out(
 ) -> Result<Records, RowError>
     requires sound { IsSound measures.now so_far }
     requires plain { HasNoFeed last.now }
-    ensures { Gives fault_of (λ records. records) result (records_behind measures.now so_far last.now) }
+    ensures exact { Gives fault_of (λ records. records) result (records_behind measures.now so_far last.now) }
+    ensures trees { IfOk result (λ records. AllByRecursion IsCodeTree records.trees) }
 {
     let mut so_far = so_far;
     take_line(alloc, measures, &mut so_far, last)?;

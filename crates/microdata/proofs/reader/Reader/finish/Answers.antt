@@ -25,4 +25,4 @@ returns-clause-exact c =
     let h : HasRead r layout bytes = subst (λ (r : Reading). HasRead r layout bytes) (sym c.self.view_is) read in
     let ready = subst (λ (e : Option RowError). IsReady e r.measures r.so_far r.begun) c.in_default.is c.self.invariant in
     subst (λ (meant : Result Records (ℕ × RowWhy)). Gives fault_of (λ records. records) c.read_out.result meant) (sym (all-read r layout bytes c.in_default.is h ready.1))
-    (subst (λ (last : List ℕ). Gives fault_of (λ records. records) c.read_out.result (records_behind c.self.inside.measures c.self.inside.so_far last)) c.deref.ensures.value c.read_out.ensures)
+    (subst (λ (last : List ℕ). Gives fault_of (λ records. records) c.read_out.result (records_behind c.self.inside.measures c.self.inside.so_far last)) c.deref.ensures.value c.read_out.ensures.exact)

@@ -1,0 +1,10 @@
+//! Laws of microdata, as contracts of functions that do nothing.
+
+ghost use Rattle.microdata.specs.Ranges.{ReadIsWithinLimits};
+
+/// Whatever is read is within its limits: at most a million records, each with one place in each tree, with a
+/// value from 0 and below `10^15` units and a weight of at least one and below `10^8` steps; and there are as many
+/// trees as spanning variables.
+pub fn read_is_within_limits()
+    ensures { ReadIsWithinLimits }
+{}
