@@ -6,7 +6,8 @@ pub mod FlatCodes
 pub mod VariableSteps
 pub mod TreesMade
 pub mod FeedLines
-pub mod Pieces
+pub mod Cuts
 pub mod SeenFirst
 pub mod Kept
 pub mod Within
+pub mod Standing

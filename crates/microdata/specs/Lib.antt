@@ -8,3 +8,4 @@ pub mod Microdata
 pub mod Feeding
 pub mod Keeping
 pub mod Ranges
+pub mod Laws

@@ -1,5 +1,6 @@
 //! Laws of microdata, as contracts of functions that do nothing.
 
+ghost use Rattle.microdata.specs.Laws.{FaultsStand};
 ghost use Rattle.microdata.specs.Ranges.{ReadIsWithinLimits};
 
 /// Whatever is read is within its limits: at most a million records, each with one place in each tree, with a
@@ -7,4 +8,9 @@ ghost use Rattle.microdata.specs.Ranges.{ReadIsWithinLimits};
 /// trees as spanning variables.
 pub fn read_is_within_limits()
     ensures { ReadIsWithinLimits }
+{}
+
+/// A fault that a reader finds before all bytes are there is the fault of all of them, whatever follows.
+pub fn faults_stand()
+    ensures { FaultsStand }
 {}

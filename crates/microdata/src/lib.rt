@@ -10,13 +10,15 @@ mod fields;
 mod laws;
 mod layout;
 mod numbers;
+mod pieces;
 mod reader;
 mod record;
 mod records;
 mod taking;
 
 pub use faults::{RowError, RowWhy};
-pub use laws::read_is_within_limits;
+pub use laws::{faults_stand, read_is_within_limits};
 pub use layout::{Field, Layout, NumberField, Source};
+pub use pieces::read_pieces;
 pub use reader::Reader;
 pub use records::Records;

@@ -4,7 +4,7 @@ use Rattle.std.specs.Str.Lines.{strip_carriage_return}
 use Rattle.sdc_base.specs.Answers.{Fails}
 use Rattle.microdata.specs.Faults.{fault_of}
 use Rattle.microdata.specs.OneRecord.{line_says}
-use Rattle.microdata.proofs.Pieces.{line-ends, line-stops}
+use Rattle.microdata.proofs.Cuts.{line-ends, line-stops}
 use Rattle.microdata.proofs.feeding.end_line.Goals as goal
 
 pub returns-in_err-take_line-clause-stops : goal.returns-in_err-take_line-clause-stops

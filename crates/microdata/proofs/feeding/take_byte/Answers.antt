@@ -1,7 +1,7 @@
 use Rattle.std.proofs.Common.{◌++◌, ◌∷◌, [], Some}
 use Rattle.microdata.specs.Feeding.{StopsLong, IsKeptOf}
 use Rattle.microdata.proofs.FeedLines.{not-feed}
-use Rattle.microdata.proofs.Pieces.{grown-stops, more-plain, said-so}
+use Rattle.microdata.proofs.Cuts.{grown-stops, more-plain, said-so}
 use Rattle.microdata.proofs.feeding.take_byte.Goals as goal
 
 pub returns-clause-stops : goal.returns-clause-stops

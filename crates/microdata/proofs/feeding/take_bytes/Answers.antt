@@ -2,7 +2,7 @@ use Rattle.std.proofs.Common.{◌≡◌, ◌+◌, ◌++◌, ◌∷◌, [], ap, s
 use Rattle.std.proofs.lemmas.List.{take_more, take-append-drop}
 use Rattle.std.proofs.lemmas.Result.{err_from_is_err_and}
 use Rattle.microdata.specs.Feeding.{SaysAsFrom, IsKeptOf}
-use Rattle.microdata.proofs.Pieces.{says-on, kept-on, kept-more, kept-any, one-more, and-rest}
+use Rattle.microdata.proofs.Cuts.{says-on, kept-on, kept-more, kept-any, one-more, and-rest}
 use Rattle.microdata.proofs.feeding.take_bytes.Goals as goal
 
 pub returns-in_err-take_byte-clause-stops : goal.returns-in_err-take_byte-clause-stops

@@ -1,6 +1,6 @@
 use Rattle.std.proofs.Common.{◌≡◌, ◌++◌, sym, List, ℕ, subst, Some}
 use Rattle.microdata.specs.Feeding.{Reading, HasRead}
-use Rattle.microdata.proofs.Pieces.{feed-fine, feed-stops, kept-fails, kept-any}
+use Rattle.microdata.proofs.Cuts.{feed-fine, feed-stops, kept-fails, kept-any}
 use Rattle.microdata.specs.OneRecord.{nothing}
 use Rattle.microdata.proofs.reader.Reader.feed.Goals as goal
 

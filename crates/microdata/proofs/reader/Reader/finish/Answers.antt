@@ -8,7 +8,7 @@ use Rattle.microdata.specs.OneRecord.{nothing}
 use Rattle.microdata.specs.declared.faults.RowError.{RowError}
 use Rattle.microdata.specs.declared.faults.RowWhy.{RowWhy}
 use Rattle.microdata.specs.declared.records.Records.{Records}
-use Rattle.microdata.proofs.Pieces.{all-fails, all-read}
+use Rattle.microdata.proofs.Cuts.{all-fails, all-read}
 use Rattle.microdata.proofs.reader.Reader.finish.Goals as goal
 
 pub returns-in-Some-clause-exact : goal.returns-in-Some-clause-exact

@@ -32,13 +32,13 @@ says-on m first so_far last bytes rest piece end one two = record {
   fed = λ more. ap (fed_says m first) (append_assoc bytes piece more) ∙ one.fed (piece ++ more) ∙ ap (fed_says m so_far) (sym (append_assoc rest piece more)) ∙ two.fed more;
 }
 
-fault-on : (m : Measures) (first so_far : SoFar) (bytes rest piece : List ℕ) (fault : ℕ × RowWhy) → SaysAsFrom m first bytes so_far rest → HasFault m so_far (rest ++ piece) fault → HasFault m first (bytes ++ piece) fault
+pub fault-on : (m : Measures) (first so_far : SoFar) (bytes rest piece : List ℕ) (fault : ℕ × RowWhy) → SaysAsFrom m first bytes so_far rest → HasFault m so_far (rest ++ piece) fault → HasFault m first (bytes ++ piece) fault
 fault-on m first so_far bytes rest piece fault one two = record {
   all = λ more. ap (all_says m first) (append_assoc bytes piece more) ∙ one.all (piece ++ more) ∙ ap (all_says m so_far) (sym (append_assoc rest piece more)) ∙ two.all more;
   fed = λ more. ap (fed_says m first) (append_assoc bytes piece more) ∙ one.fed (piece ++ more) ∙ ap (fed_says m so_far) (sym (append_assoc rest piece more)) ∙ two.fed more;
 }
 
-fault-more : (m : Measures) (first : SoFar) (bytes piece : List ℕ) (fault : ℕ × RowWhy) → HasFault m first bytes fault → HasFault m first (bytes ++ piece) fault
+pub fault-more : (m : Measures) (first : SoFar) (bytes piece : List ℕ) (fault : ℕ × RowWhy) → HasFault m first bytes fault → HasFault m first (bytes ++ piece) fault
 fault-more m first bytes piece fault one = record {
   all = λ more. ap (all_says m first) (append_assoc bytes piece more) ∙ one.all (piece ++ more);
   fed = λ more. ap (fed_says m first) (append_assoc bytes piece more) ∙ one.fed (piece ++ more);
@@ -69,7 +69,7 @@ line-ends m so_far next line plain said =
       fed = λ more. ap (fed_says m so_far) (append_assoc line (10 ∷ []) more) ∙ rw (ended-next line more feeds, begun-next line more, said) refl;
     }
 
-line-fault : (m : Measures) (so_far : SoFar) (line : List ℕ) (fault : ℕ × RowWhy) → HasNoFeed line → line_says m so_far (strip_carriage_return line) ≡ Err fault → HasFault m so_far (line ++ 10 ∷ []) fault
+pub line-fault : (m : Measures) (so_far : SoFar) (line : List ℕ) (fault : ℕ × RowWhy) → HasNoFeed line → line_says m so_far (strip_carriage_return line) ≡ Err fault → HasFault m so_far (line ++ 10 ∷ []) fault
 unfolding fed_says lines_say
 line-fault m so_far line fault plain said =
     let feeds = no-feeds line plain in
