@@ -12,7 +12,7 @@ use Rattle.std.proofs.lemmas.Slice.Eq.{bytes_eq-Decides}
 use Rattle.sdc_base.specs.Steps.{◌>>=◌, refuse}
 use Rattle.hierarchy.specs.Among.{IsIn, AreAmong}
 use Rattle.hierarchy.specs.Faults.{code_fault, first_fault, or_else}
-use Rattle.hierarchy.proofs.Gathered.{in-any, all-back}
+use Rattle.hierarchy.proofs.Gathered.{in-any, all-back, all-stays, all-new}
 use Rattle.microdata.specs.Keeping.{AreFlatCodes}
 use Rattle.microdata.specs.SeenCodes.{with_flat_code}
 use Rattle.microdata.specs.declared.faults.RowWhy.{RowWhy}
@@ -94,6 +94,16 @@ among-insert codes nodes seen new among x h =
         ]
     ]
 
+back-insert : (codes nodes seen : List (List ℕ)) (new : List ℕ) → AreAmong seen (codes ++ nodes) → AreAmong (seen ++ new ∷ []) (codes ++ insert nodes new)
+back-insert codes nodes seen new back x h =
+    elim (in-either x seen (new ∷ []) h) [
+      | inl old ↦ elim (in-either x codes nodes (back x old)) [
+          | inl listed ↦ in-first x codes (insert nodes new) listed
+          | inr further ↦ in-second x codes (insert nodes new) (all-stays (new ∷ []) nodes x further)
+        ]
+      | inr it ↦ in-second x codes (insert nodes new) (all-new (new ∷ []) nodes x it)
+    ]
+
 length-insert : (nodes : List (List ℕ)) (new : List ℕ) → length (insert nodes new) ≤ length nodes + 1
 length-insert [] new = omega arith
 length-insert (node ∷ nodes) new =
@@ -111,6 +121,7 @@ grown-sound codes total old code new sound leaf room =
     record {
       distinct = distinct-behind code (total ∷ codes) old.nodes sound.distinct (leaf, apart-among code (codes ++ old.nodes) old.codes sound.among new);
       among = among-insert codes old.nodes old.codes code sound.among;
+      back = back-insert codes old.nodes old.codes code sound.back;
       count = omega (arith, sound.count, length-insert old.nodes code, more);
       few = omega (arith, not_at _ _ room, more);
     }

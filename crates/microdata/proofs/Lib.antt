@@ -11,3 +11,5 @@ pub mod SeenFirst
 pub mod Kept
 pub mod Within
 pub mod Standing
+pub mod RowsMeant
+pub mod RowsClosed

@@ -15,11 +15,12 @@ use Rattle.microdata.specs.declared.record.Variable.{Variable}
 use Rattle.microdata.proofs.FlatCodes.{none-before}
 
 pub first-sound : (s : Source) → IsSource s → AreSeen s (seen_first s)
-first-sound (source.Listed tree) h = tt
+first-sound (source.Listed tree) h = refl
 first-sound (source.Levels widths total) h = record { nodes = refl; fine = refl; short = All-nil (λ code. length code ≤ sum widths); among = λ code inside. inside; few = omega arith }
 first-sound (source.Flat codes total) h = record {
   distinct = subst (λ all. IsDistinct bytes_eq (total ∷ all)) (sym (append-nil codes)) h.0;
   among = λ code inside. subst (IsIn code) (append-nil codes) inside;
+  back = λ code inside. subst (IsIn code) (sym (append-nil codes)) inside;
   count = omega arith;
   few = h.1;
 }

@@ -27,12 +27,13 @@ pub record AreLevelCodes (widths total : List ℕ) (seen : Seen) : Type 0 where
 pub record AreFlatCodes (codes : List (List ℕ)) (total : List ℕ) (seen : Seen) : Type 0 where
   pub distinct : IsDistinct bytes_eq (total ∷ (codes ++ seen.nodes))
   pub among : AreAmong (codes ++ seen.nodes) seen.codes
+  pub back : AreAmong seen.codes (codes ++ seen.nodes)
   pub count : length codes + length seen.nodes ≤ length seen.codes
   pub few : length seen.codes ≤ 5000
 
 -- the codes so far of a variable
 abbrev pub AreSeen : Source → Seen → Type 0
-AreSeen (source.Listed tree) seen = Unit {0}
+AreSeen (source.Listed tree) seen = seen.codes ≡ []
 AreSeen (source.Levels widths total) seen = AreLevelCodes widths total seen
 AreSeen (source.Flat codes total) seen = AreFlatCodes codes total seen
 

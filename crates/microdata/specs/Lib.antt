@@ -9,3 +9,4 @@ pub mod Feeding
 pub mod Keeping
 pub mod Ranges
 pub mod Laws
+pub mod Meaning

@@ -15,9 +15,11 @@ mod reader;
 mod record;
 mod records;
 mod taking;
+#[cfg(test)]
+mod tests;
 
 pub use faults::{RowError, RowWhy};
-pub use laws::{faults_stand, read_is_within_limits};
+pub use laws::{faults_stand, read_is_within_limits, rows_are_their_records};
 pub use layout::{Field, Layout, NumberField, Source};
 pub use pieces::read_pieces;
 pub use reader::Reader;
