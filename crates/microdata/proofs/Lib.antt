@@ -1,0 +1,15 @@
+pub mod CodeSets
+pub mod FaultsAt
+pub mod Leaves
+pub mod LevelCodes
+pub mod FlatCodes
+pub mod VariableSteps
+pub mod TreesMade
+pub mod FeedLines
+pub mod Cuts
+pub mod SeenFirst
+pub mod Kept
+pub mod Within
+pub mod Standing
+pub mod RowsMeant
+pub mod RowsClosed

@@ -1,0 +1,55 @@
+-- The fields of a record, and the numbers in them (tau-ARGUS user manual, fixed-format microdata; limits and first fault own).
+use Rattle.std.specs.Prelude.{ℕ, ◌-◌, ◌^◌, ◌==◌, ◌||◌, nat_lt, Bool, false, if◌then◌else◌, List, [], ◌∷◌, length, take, drop, Option, None, Some, Result, Ok, Err, ℤ, pos, negsuc}
+use Rattle.std.specs.List.{list_any}
+use Rattle.std.specs.Str.{bytes_eq}
+use Rattle.sdc_base.specs.Blanks.{trim}
+use Rattle.sdc_base.specs.Numbers.{read_units}
+use Rattle.sdc_base.specs.Steps.{◌>>=◌, refuse}
+use Rattle.sdc_base.specs.declared.number_fault.NumberFault.{NumberFault}
+use Rattle.microdata.specs.declared.faults.RowWhy.{RowWhy}
+use Rattle.microdata.specs.declared.faults.RowWhy.TheVariants.{Negative, BadNumber, LightWeight}
+use Rattle.microdata.specs.declared.layout.NumberField.{NumberField}
+
+-- the bytes of a field, which begins at this position and has so many, without blanks at both ends
+abbrev pub field : ℕ → ℕ → List ℕ → List ℕ
+field first width line = trim (take width (drop (first - 1) line))
+
+-- the bytes begin with a minus
+abbrev pub is_negative : List ℕ → Bool
+is_negative [] = false
+is_negative (b ∷ bytes) = b == 45
+
+-- a number below a limit; whatever else was read is no number
+abbrev pub below : ℕ → Result ℤ NumberFault → Result ℕ RowWhy
+below limit (Err fault) = Err BadNumber
+below limit (Ok (pos n)) = if nat_lt n limit then Ok n else Err BadNumber
+below limit (Ok (negsuc n)) = Err BadNumber
+
+-- the number of a field, in its units, below a limit
+abbrev pub number_of : ℕ → NumberField → List ℕ → Result ℕ RowWhy
+number_of limit number line = below limit (read_units (field number.first number.width line) number.decimals)
+
+-- there is no response: its field is blank or has a missing code
+abbrev pub has_no_response : NumberField → List ℕ → Bool
+has_no_response response line =
+    let text = field response.first response.width line in
+    (length text == 0) || list_any (bytes_eq text) response.missing
+
+-- the response in units: not negative, and below 10^15
+unfoldable pub value_of : NumberField → List ℕ → Result ℕ RowWhy
+value_of response line = do
+  sign ← refuse Negative (is_negative (field response.first response.width line))
+  number_of (10 ^ 15) response line
+
+-- one, in steps of the weight
+abbrev pub scale_of : Option NumberField → ℕ
+scale_of None = 1
+scale_of (Some weight) = 10 ^ weight.decimals
+
+-- the weight in steps: at least one, and below 10^8; 1 where records have none
+unfoldable pub weight_of : Option NumberField → List ℕ → Result ℕ RowWhy
+weight_of None line = Ok 1
+weight_of (Some weight) line = do
+  steps ← number_of (10 ^ 8) weight line
+  heavy ← refuse LightWeight (nat_lt steps (10 ^ weight.decimals))
+  Ok steps

@@ -1,0 +1,56 @@
+-- What is kept of the records so far is sound: it can be read on, and closed (own).
+use Rattle.std.specs.Prelude.{◌≡◌, ℕ, ◌+◌, ◌<◌, ◌≤◌, false, List, [], ◌∷◌, ◌++◌, length, sum, All, Option, None, Some}
+use Rattle.std.specs.List.{AllByRecursion, IsDistinct, list_any}
+use Rattle.std.specs.Str.{bytes_eq}
+use Rattle.sdc_base.specs.Lines.{HasNoFeed}
+use Rattle.hierarchy.specs.Among.{AreAmong}
+use Rattle.hierarchy.specs.Levels.{boundaries, gathered, first_level_fault}
+use Rattle.microdata.specs.Feeding.{is_too_long}
+use Rattle.microdata.specs.Layouts.{IsField, AreMeasures}
+use Rattle.microdata.specs.declared.faults.RowError.{RowError}
+use Rattle.microdata.specs.declared.layout.Measures.{Measures}
+use Rattle.microdata.specs.declared.layout.Source.{Source}
+use Rattle.microdata.specs.declared.layout.Source.TheVariants as source
+use Rattle.microdata.specs.declared.record.SoFar.{SoFar}
+use Rattle.microdata.specs.declared.record.Variable.{Variable}
+use Rattle.microdata.specs.declared.taking.Seen.{Seen}
+
+-- the codes by levels make a tree, with their prefixes in order
+pub record AreLevelCodes (widths total : List ℕ) (seen : Seen) : Type 0 where
+  pub nodes : seen.nodes ≡ gathered (boundaries 0 widths) [] seen.codes
+  pub fine : first_level_fault total (boundaries 0 widths) 1 [] [] seen.codes ≡ None
+  pub short : All (λ code. length code ≤ sum widths) seen.codes
+  pub among : AreAmong seen.codes seen.nodes
+  pub few : length seen.nodes ≤ 5000
+
+-- the listed codes and the further ones in order make a tree
+pub record AreFlatCodes (codes : List (List ℕ)) (total : List ℕ) (seen : Seen) : Type 0 where
+  pub distinct : IsDistinct bytes_eq (total ∷ (codes ++ seen.nodes))
+  pub among : AreAmong (codes ++ seen.nodes) seen.codes
+  pub back : AreAmong seen.codes (codes ++ seen.nodes)
+  pub count : length codes + length seen.nodes ≤ length seen.codes
+  pub few : length seen.codes ≤ 5000
+
+-- the codes so far of a variable
+abbrev pub AreSeen : Source → Seen → Type 0
+AreSeen (source.Listed tree) seen = seen.codes ≡ []
+AreSeen (source.Levels widths total) seen = AreLevelCodes widths total seen
+AreSeen (source.Flat codes total) seen = AreFlatCodes codes total seen
+
+-- a variable with its codes so far
+pub record IsVariable (needed : ℕ) (variable : Variable) : Type 0 where
+  pub field : IsField needed variable.field
+  pub seen : AreSeen variable.field.source variable.seen
+
+-- the records so far
+pub record IsSound (measures : Measures) (so_far : SoFar) : Type 0 where
+  pub numbers : AreMeasures measures
+  pub variables : All (IsVariable measures.needed) so_far.variables
+  pub few : length so_far.variables ≤ 8
+  pub records : so_far.number ≤ 1000000
+  pub skipped : so_far.skipped ≤ so_far.number
+
+-- before an error, the records so far are sound, and the line that has begun isn't too long
+abbrev pub IsReady : Option RowError → Measures → SoFar → List ℕ → Type 0
+IsReady None measures so_far begun = IsSound measures so_far × HasNoFeed begun × (is_too_long begun ≡ false)
+IsReady (Some error) measures so_far begun = Unit {0}

@@ -1,0 +1,12 @@
+pub mod Faults
+pub mod Fields
+pub mod Layouts
+pub mod SeenCodes
+pub mod OneRecord
+pub mod Closing
+pub mod Microdata
+pub mod Feeding
+pub mod Keeping
+pub mod Ranges
+pub mod Laws
+pub mod Meaning

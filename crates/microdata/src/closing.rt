@@ -1,0 +1,245 @@
+ghost use Rattle.std.specs.Prelude.{◌≡◌, ◌≤◌, ◌<◌, ◌+◌, ◌++◌, ◌∷◌, [], All, map, length, sum, None, IfOk};
+ghost use Rattle.std.specs.List.{AllByRecursion, IsDistinct};
+ghost use Rattle.std.specs.Str.{bytes_eq};
+ghost use Rattle.sdc_base.specs.Trees.{flat_tree as flat_of, IsCodeTree};
+ghost use Rattle.hierarchy.specs.Levels.{boundaries, tree_of_codes, gathered, first_level_fault};
+ghost use Rattle.sdc_base.specs.Answers.{Gives};
+ghost use Rattle.microdata.specs.Closing.{closed_of, tree_of, places_in, place_of as place_meant, leaf_of as leaf_meant, leaves_of as leaves_meant, row_of as row_meant, rows_of as rows_meant};
+ghost use Rattle.microdata.specs.Faults.{fault_of, why_of, at_record};
+ghost use Rattle.microdata.specs.Keeping.{AreSeen, IsSound, IsVariable};
+ghost use Rattle.microdata.specs.Layouts.{IsSource};
+ghost use Rattle.microdata.specs.Microdata.{closed_records};
+
+use crate::ascending::Ascending;
+use crate::faults::{RecordError, RowError, RowWhy, error_at};
+use crate::layout::Source;
+use crate::record::{Kept, SoFar, Variable};
+use crate::records::Records;
+use crate::taking::Seen;
+use arrayvec::ArrayVec;
+use hierarchy::{CodeTree, TreeFault, flat, from_levels};
+use sdc_base::{Few, Items, Memory, Place, Row, Text};
+use std::alloc::Global;
+
+/// A spanning variable behind the last record: its tree, and the places in it of its codes in the order of their
+/// first records. A listed tree needs no such places, since the records have them already.
+#[derive(Drop)]
+pub(crate) struct Closed {
+    pub tree: CodeTree,
+    pub places: Items<u32>,
+}
+
+/// The records with the places of their codes, or the first one with a code that has others below it. It takes one
+/// pass over the records, and a look-up for each code that they brought.
+#[tactic(auto, unfolding(crate::specs::Microdata::closed_records))]
+pub(crate) fn close(alloc: Global, so_far: SoFar) -> Result<Records, RowError>
+    requires variables { All (λ variable. IsSource variable.field.source) so_far.variables }
+    requires seen { All (λ variable. AreSeen variable.field.source variable.seen) so_far.variables }
+    requires few { length so_far.variables ≤ 8 }
+    ensures exact { Gives fault_of (λ records. records) result (closed_records so_far) }
+    ensures trees { IfOk result (λ records. AllByRecursion IsCodeTree records.trees) }
+{
+    let closed = closed_variables(alloc, so_far.variables)?;
+    let rows = rows_of(alloc, closed.as_slice(), so_far.rows)?;
+    let trees = trees_of(alloc, closed)?;
+    Ok(Records {
+        trees,
+        rows,
+        skipped: so_far.skipped,
+    })
+}
+
+// The variables with their trees.
+fn closed_variables(alloc: Global, variables: Items<Variable>) -> Result<Items<Closed>, Memory>
+    requires variables { All (λ variable. IsSource variable.field.source) variables }
+    requires seen { All (λ variable. AreSeen variable.field.source variable.seen) variables }
+    ensures { IfOk result (λ closed. closed ≡ map closed_of variables) }
+{
+    let mut closed = Items::empty(alloc);
+    'variables: for variable in variables.into_vec() {
+        closed.push(closed_variable(alloc, variable)?)?;
+    }
+    Ok(closed)
+}
+
+// A variable with its tree.
+fn closed_variable(alloc: Global, variable: Variable) -> Result<Closed, Memory>
+    requires source { IsSource variable.field.source }
+    requires seen { AreSeen variable.field.source variable.seen }
+    ensures { IfOk result (λ closed. closed ≡ closed_of variable) }
+{
+    let Seen { codes, nodes } = variable.seen;
+    let texts = codes.texts(alloc)?;
+    let tree = tree_of_source(alloc, variable.field.source, texts.as_slice(), nodes)?;
+    let places = places_in_tree(alloc, &tree, texts.as_slice())?;
+    Ok(Closed { tree, places })
+}
+
+// The tree of a variable.
+fn tree_of_source(
+    alloc: Global,
+    source: Source,
+    codes: &[Text],
+    nodes: Ascending,
+) -> Result<CodeTree, Memory>
+    requires source { IsSource source }
+    requires seen { AreSeen source (record { codes = codes.now; nodes = nodes }) }
+    ensures { IfOk result (λ tree. tree ≡ tree_of source (record { codes = codes.now; nodes = nodes })) }
+{
+    match source {
+        Source::Listed(tree) => Ok(tree),
+        Source::Levels { widths, total } => level_tree(alloc, codes, widths.as_slice(), &total),
+        Source::Flat {
+            codes: listed,
+            total,
+        } => flat_tree(alloc, listed, nodes, &total),
+    }
+}
+
+// The tree as it is, of which this says that it is a code tree.
+fn code_tree(tree: CodeTree) -> CodeTree
+    ensures same { result ≡ tree }
+    ensures tree { IsCodeTree result }
+{
+    tree.len();
+    tree
+}
+
+// The places of codes in a tree.
+fn places_in_tree(alloc: Global, tree: &CodeTree, codes: &[Text]) -> Result<Items<u32>, Memory>
+    ensures { IfOk result (λ places. places ≡ places_in tree.now codes.now) }
+{
+    let mut places = Items::empty(alloc);
+    'codes: for code in codes {
+        places.push(tree.find(code.as_slice()).unwrap_or(0))?;
+    }
+    Ok(places)
+}
+
+// The trees alone.
+fn trees_of(alloc: Global, closed: Items<Closed>) -> Result<Items<CodeTree>, Memory>
+    ensures trees { IfOk result (λ trees. trees ≡ map (λ one. one.tree) closed) }
+    ensures made { IfOk result (λ trees. AllByRecursion IsCodeTree trees) }
+{
+    let mut trees = Items::empty(alloc);
+    'closed: for one in closed.into_vec() {
+        trees.push(code_tree(one.tree))?;
+    }
+    Ok(trees)
+}
+
+// The records with the places of their codes, or the first one with a code that has others below it.
+#[tactic(auto, unfolding(crate::specs::Closing::rows_of))]
+fn rows_of(alloc: Global, closed: &[Closed], kept: Items<Kept>) -> Result<Items<Row>, RowError>
+    requires few { length closed.now ≤ 8 }
+    ensures { Gives fault_of (λ rows. rows) result (rows_meant closed.now kept) }
+{
+    let mut rows = Items::empty(alloc);
+    'kept: for one in kept.into_vec() {
+        rows.push(row_at(closed, &one)?)?;
+    }
+    Ok(rows)
+}
+
+// A record with the places of its codes, or its fault with its number.
+#[tactic(auto, using(crate::proofs::FaultsAt::fails_at))]
+fn row_at(closed: &[Closed], kept: &Kept) -> Result<Row, RowError>
+    requires few { length closed.now ≤ 8 }
+    ensures { Gives fault_of (λ row. row) result (at_record kept.now.number (row_meant closed.now kept.now)) }
+{
+    match row_of(closed, kept) {
+        Ok(row) => Ok(row),
+        Err(error) => Err(error_at(kept.number, error)),
+    }
+}
+
+// A record with the places of its codes.
+#[tactic(auto, unfolding(crate::specs::Closing::row_of))]
+fn row_of(closed: &[Closed], kept: &Kept) -> Result<Row, RecordError>
+    requires few { length closed.now ≤ 8 }
+    ensures { Gives why_of (λ row. row) result (row_meant closed.now kept.now) }
+{
+    let codes = leaves_of(closed, kept.places.as_slice())?;
+    Ok(Row {
+        codes,
+        value: kept.value,
+        weight: kept.weight,
+    })
+}
+
+// The places of a record's codes, where no others stand below them.
+#[tactic(auto, unfolding(crate::specs::Closing::leaves_of))]
+fn leaves_of(closed: &[Closed], numbers: &[u32]) -> Result<Place, RecordError>
+    requires few { length closed.now ≤ 8 }
+    ensures { Gives why_of (λ places. places) result (leaves_meant closed.now numbers.now) }
+{
+    let mut places = ArrayVec::new();
+    for (k, one) in closed.iter().enumerate() {
+        if k >= numbers.len() {
+            return Ok(Few::new(places));
+        }
+        let place = leaf_of(one, numbers[k])?;
+        places.push(place);
+    }
+    Ok(Few::new(places))
+}
+
+// The place of a code, where no others stand below it.
+fn leaf_of(closed: &Closed, number: u32) -> Result<u32, RecordError>
+    ensures { Gives why_of (λ place. place) result (leaf_meant closed.now number) }
+{
+    let place = place_of(closed, number);
+    if closed.tree.first_child(place).is_some() {
+        return Err(RecordError::Fault(RowWhy::NotLeaf));
+    }
+    Ok(place)
+}
+
+// The place in the tree of the code with this number.
+fn place_of(closed: &Closed, number: u32) -> u32
+    ensures { result ≡ place_meant closed.now number }
+{
+    match closed.places.as_slice().get(number as usize) {
+        Some(place) => *place,
+        None => number,
+    }
+}
+
+// The tree of codes by levels.
+fn level_tree(alloc: Global, codes: &[Text], widths: &[u8], total: &Text) -> Result<CodeTree, Memory>
+    requires some { 0 < length widths.now }
+    requires levels { length widths.now ≤ 9 }
+    requires positive { All (λ width. 0 < width) widths.now }
+    requires short { All (λ code. length code ≤ sum widths.now) codes.now }
+    requires fine { first_level_fault total.now (boundaries 0 widths.now) 1 [] [] codes.now ≡ None }
+    ensures { IfOk result (λ tree. tree ≡ tree_of_codes total.now (boundaries 0 widths.now) ((total.now, None) ∷ []) (gathered (boundaries 0 widths.now) [] codes.now)) }
+{
+    match from_levels(alloc, codes, widths, total) {
+        Ok(tree) => Ok(tree),
+        Err(fault) => Err(want_of(fault)),
+    }
+}
+
+// The want of memory that a maker of trees answers; nothing else comes.
+fn want_of(fault: TreeFault) -> Memory
+    requires { fault ≡ TreeFault.Memory }
+{
+    match fault {
+        _ => Memory,
+    }
+}
+
+// The flat tree of the listed codes and the further ones.
+fn flat_tree(alloc: Global, listed: Items<Text>, further: Ascending, total: &Text) -> Result<CodeTree, Memory>
+    requires distinct { IsDistinct bytes_eq (total.now ∷ (listed ++ further)) }
+    requires few { length listed + length further ≤ 5000 }
+    ensures { IfOk result (λ tree. tree ≡ flat_of total.now (listed ++ further)) }
+{
+    let mut codes = listed.into_vec();
+    let mut further = further.into_texts(alloc)?;
+    codes.append(&mut further)?;
+    match flat(alloc, &codes, total) {
+        Ok(tree) => Ok(tree),
+        Err(fault) => Err(want_of(fault)),
+    }
+}

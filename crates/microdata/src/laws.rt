@@ -1,0 +1,24 @@
+//! Laws of microdata, as contracts of functions that do nothing.
+
+ghost use Rattle.microdata.specs.Laws.{FaultsStand};
+ghost use Rattle.microdata.specs.Meaning.{RowsAreTheirRecords};
+ghost use Rattle.microdata.specs.Ranges.{ReadIsWithinLimits};
+
+/// Whatever is read is within its limits: at most a million records, each with one place in each tree, with a
+/// value from 0 and below `10^15` units and a weight of at least one and below `10^8` steps; and there are as many
+/// trees as spanning variables.
+pub fn read_is_within_limits()
+    ensures { ReadIsWithinLimits }
+{}
+
+/// A fault that a reader finds before all bytes are there is the fault of all of them, whatever follows.
+pub fn faults_stand()
+    ensures { FaultsStand }
+{}
+
+/// The rows are those of the records with a response, in their order, each as its record says by itself: its places
+/// are those of the codes in the record's fields, and no other places have these codes; its value and weight are those
+/// that stand there. The records without a response are counted.
+pub fn rows_are_their_records()
+    ensures { RowsAreTheirRecords }
+{}

@@ -1,0 +1,26 @@
+//! Records of microdata, read from bytes that come in pieces.
+#![tactic(auto)]
+
+mod ascending;
+mod closing;
+mod codes;
+mod faults;
+mod feeding;
+mod fields;
+mod laws;
+mod layout;
+mod numbers;
+mod pieces;
+mod reader;
+mod record;
+mod records;
+mod taking;
+#[cfg(test)]
+mod tests;
+
+pub use faults::{RowError, RowWhy};
+pub use laws::{faults_stand, read_is_within_limits, rows_are_their_records};
+pub use layout::{Field, Layout, NumberField, Source};
+pub use pieces::read_pieces;
+pub use reader::Reader;
+pub use records::Records;

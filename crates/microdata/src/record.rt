@@ -1,0 +1,171 @@
+ghost use Rattle.std.specs.Prelude.{◌≡◌, ◌+◌, ◌<◌, ◌≤◌, ◌^◌, All, length, pos, IfOk, OnOk};
+ghost use Rattle.sdc_base.specs.Answers.{Gives};
+ghost use Rattle.microdata.specs.Faults.{fault_of, why_of, at_record};
+ghost use Rattle.microdata.specs.Keeping.{IsVariable, IsSound};
+ghost use Rattle.microdata.specs.OneRecord.{line_says, record_says, response_says, variable_says, variables_say, with_skipped};
+
+use crate::faults::{RecordError, RowError, RowWhy, error_at};
+use crate::fields::field;
+use crate::layout::{Field, Measures};
+use crate::numbers::{has_no_response, value_of, weight_of};
+use crate::taking::{Seen, take_code};
+use arrayvec::ArrayVec;
+use sdc_base::{Few, Items, Memory, Place};
+use std::alloc::Global;
+use std::mem;
+
+// The most bytes of a record.
+const MOST_BYTES: usize = 1000;
+
+// The most records.
+const MOST_RECORDS: u64 = 1_000_000;
+
+/// A spanning variable with its codes so far.
+#[derive(Drop)]
+pub(crate) struct Variable {
+    pub field: Field,
+    pub seen: Seen,
+}
+
+/// What is kept of a record: its number from 1, where its codes stand among those of each variable, its value in
+/// units, and its weight in steps.
+#[derive(Drop)]
+pub(crate) struct Kept {
+    pub number: u64,
+    pub places: Place,
+    pub value: i64,
+    pub weight: u32,
+}
+
+/// What the records so far say.
+#[derive(Drop)]
+pub(crate) struct SoFar {
+    pub variables: Items<Variable>,
+    pub rows: Items<Kept>,
+    pub number: u64,
+    pub skipped: u64,
+}
+
+/// Takes in a line without its end: one record more where it has a byte, and else nothing. After an error what was
+/// lent is to be let go.
+#[tactic(auto, using(crate::proofs::FaultsAt::fails_at))]
+pub(crate) fn take_line(
+    alloc: Global,
+    measures: &Measures,
+    so_far: &mut SoFar,
+    line: &[u8],
+) -> Result<(), RowError>
+    requires { IsSound measures.now so_far.old }
+    ensures said { Gives fault_of (λ _. so_far.new) result (line_says measures.now so_far.old line.now) }
+    ensures sound { OnOk result (IsSound measures.now so_far.new) }
+{
+    if line.is_empty() {
+        return Ok(());
+    }
+    let number = so_far.number + 1;
+    match take_record(alloc, measures, so_far, line) {
+        Ok(()) => Ok(()),
+        Err(error) => Err(error_at(number, error)),
+    }
+}
+
+// Takes in a record.
+#[tactic(auto, unfolding(crate::specs::OneRecord::record_says))]
+fn take_record(
+    alloc: Global,
+    measures: &Measures,
+    so_far: &mut SoFar,
+    line: &[u8],
+) -> Result<(), RecordError>
+    requires { IsSound measures.now so_far.old }
+    ensures said { Gives why_of (λ _. so_far.new) result (record_says measures.now so_far.old line.now) }
+    ensures sound { OnOk result (IsSound measures.now so_far.new) }
+{
+    if line.len() > MOST_BYTES {
+        return Err(RecordError::Fault(RowWhy::TooLong));
+    }
+    if so_far.number >= MOST_RECORDS {
+        return Err(RecordError::Fault(RowWhy::TooMany));
+    }
+    if line.len() < measures.needed as usize {
+        return Err(RecordError::Fault(RowWhy::Short));
+    }
+    if has_no_response(&measures.response, line) {
+        so_far.number += 1;
+        so_far.skipped += 1;
+        return Ok(());
+    }
+    take_response(alloc, measures, so_far, line)
+}
+
+// Takes in a record with a response.
+#[tactic(auto, unfolding(crate::specs::OneRecord::response_says))]
+fn take_response(
+    alloc: Global,
+    measures: &Measures,
+    so_far: &mut SoFar,
+    line: &[u8],
+) -> Result<(), RecordError>
+    requires sound { IsSound measures.now so_far.old }
+    requires more { so_far.old.number < 1000000 }
+    requires whole { measures.now.needed ≤ length line.now }
+    requires few { length line.now ≤ 1000 }
+    ensures said { Gives why_of (λ _. so_far.new) result (response_says measures.now so_far.old line.now) }
+    ensures sound { OnOk result (IsSound measures.now so_far.new) }
+{
+    let value = value_of(&measures.response, line)?;
+    let weight = weight_of(&measures.weight, line)?;
+    let variables = mem::replace(&mut so_far.variables, Items::empty(alloc));
+    let (variables, places) = take_codes(alloc, variables, measures.needed, line)?;
+    so_far.variables = variables;
+    so_far.number += 1;
+    so_far.rows.push(Kept {
+        number: so_far.number,
+        places,
+        value: value as i64,
+        weight,
+    })?;
+    Ok(())
+}
+
+// Takes in the codes of a record, each at its variable, and says where they stand.
+fn take_codes(
+    alloc: Global,
+    variables: Items<Variable>,
+    needed: u32,
+    line: &[u8],
+) -> Result<(Items<Variable>, Place), RecordError>
+    requires variables { All (IsVariable needed) variables }
+    requires few { length variables ≤ 8 }
+    requires whole { needed ≤ length line.now }
+    ensures said { Gives why_of (λ taken. taken) result (variables_say variables line.now) }
+    ensures sound { IfOk result (λ taken. All (IsVariable needed) taken.0) }
+    ensures few { IfOk result (λ taken. length taken.0 ≤ 8) }
+{
+    let mut variables = variables.into_vec();
+    let mut places = ArrayVec::new();
+    let mut k = 0;
+    'variables: while k < variables.len() {
+        let place = take_variable(alloc, &mut variables[k], needed, line)?;
+        places.push(place);
+        k += 1;
+    }
+    Ok((Items::new(variables), Few::new(places)))
+}
+
+// Takes in the code of a record at one variable.
+#[tactic(auto, unfolding(crate::specs::OneRecord::variable_says))]
+fn take_variable(
+    alloc: Global,
+    variable: &mut Variable,
+    needed: u32,
+    line: &[u8],
+) -> Result<u32, RecordError>
+    requires variable { IsVariable needed variable.old }
+    requires whole { needed ≤ length line.now }
+    ensures said { Gives why_of (λ place. (variable.new, place)) result (variable_says variable.old line.now) }
+    ensures sound { OnOk result (IsVariable needed variable.new) }
+{
+    let code = field(variable.field.first, variable.field.width, line);
+    take_code(alloc, &variable.field.source, &mut variable.seen, code)
+}
