@@ -75,3 +75,17 @@ impl<T: Default + Drop, const N: usize> Few<T, N> {
         self.items.insert(at, item);
     }
 }
+
+impl<T: Copy + Default + Drop, const N: usize> Few<T, N> {
+    /// A list of the same items.
+    pub fn copy(&self) -> Few<T, N>
+        ensures { result ≡ self.now }
+    {
+        let mut items = ArrayVec::new();
+        let all = self.items.as_slice();
+        for item in all {
+            items.push(*item);
+        }
+        Few { items }
+    }
+}
