@@ -167,10 +167,14 @@ priors_in (s ∷ rest) = prior_in s.line s.said ++ priors_in rest
 abbrev pub needed : {A : Type 0} → Command → Option A → Result A (ℕ × JobWhy)
 needed which found = or_fault (0, Missing which) found
 
--- the outputs of so many tables from this place on, each of which must have one
+-- the output of the table at this place, which must have one
+abbrev pub output_of_table : ℕ → List Statement → Result OutputLine (ℕ × JobWhy)
+output_of_table place all = needed command.WriteTable (file_line (output_said place all))
+
+-- the outputs of so many tables from this place on
 unfoldable pub outputs_from : ℕ → ℕ → List Statement → Result (List OutputLine) (ℕ × JobWhy)
 outputs_from zero place all = Ok []
 outputs_from (suc more) place all = do
-  output ← needed command.WriteTable (file_line (output_said place all))
+  output ← output_of_table place all
   outputs ← outputs_from more (place + 1) all
   Ok (output ∷ outputs)

@@ -48,12 +48,16 @@ further_one text = do
   one ← number_at 1 1 comma
   closed one.1
 
+-- what stands behind the p of P
+abbrev pub percent_behind : List ℕ → Result (Unit {0}) JobWhy
+percent_behind text = if is_next 44 text then further_one text else closed text
+
 -- P(p) or P(p,1): p from 1 to 1,000
 unfoldable pub percent_clause : List ℕ → Result RuleClause JobWhy
 percent_clause text = do
   open_ ← behind_mark 40 text
   p ← number_at 1 1000 open_
-  end ← if is_next 44 p.1 then further_one p.1 else closed p.1
+  end ← percent_behind p.1
   Ok (Named (Percent p.0))
 
 -- MAN(r): r from 0 to 1,000

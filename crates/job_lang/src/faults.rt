@@ -64,6 +64,16 @@ pub(crate) enum LineError {
     Memory,
 }
 
+impl From<JobWhy> for LineError {
+    ghost use Rattle.job_lang.specs.declared.faults.LineError.TheVariants as line_error;
+
+    ghost from_gives = { λ why e. e ≡ line_error.Fault why };
+
+    fn from(why: JobWhy) -> Self {
+        LineError::Fault(why)
+    }
+}
+
 impl From<Memory> for LineError {
     ghost use Rattle.job_lang.specs.declared.faults.LineError.TheVariants as line_error;
 

@@ -1,15 +1,27 @@
 //! Jobs: what an office wants done with its microdata, read exactly and bound to metadata.
 #![tactic(auto)]
 
+mod arguments;
 mod bound;
+mod closing;
+mod cursor;
 mod faults;
+mod keywords;
+mod lines;
+mod pieces;
 mod job;
 mod looked_up;
+mod reading;
 mod rule_clauses;
+mod rule_texts;
+mod rules;
 mod statement;
+mod table_texts;
+mod texts;
 
 pub use bound::Bound;
 pub use cost_rule::CostKind;
 pub use faults::{Command, JobError, JobWhy};
 pub use job::{Job, OutputLine, PriorLine, TableLine};
+pub use reading::read_job;
 pub use sdc_base::{Method, Rule, Rules};
