@@ -5,3 +5,7 @@ pub mod RuleLists
 pub mod NameLists
 pub mod LineSteps
 pub mod OutputLists
+pub mod Known
+pub mod ClausesHold
+pub mod DraftHolds
+pub mod JobHolds

@@ -26,9 +26,13 @@ is_named name variable = bytes_eq variable.name name
 abbrev pub is_absent : List Variable → List ℕ → Bool
 is_absent variables name = not (list_any (λ v. is_named name v) variables)
 
+-- the variable has this name and is numeric
+abbrev pub is_numeric_named : List ℕ → Variable → Bool
+is_numeric_named name variable = is_named name variable && variable.numeric
+
 -- a numeric variable has this name
 abbrev pub is_numeric : List Variable → List ℕ → Bool
-is_numeric variables name = list_any (λ v. is_named name v && v.numeric) variables
+is_numeric variables name = list_any (λ v. is_numeric_named name v) variables
 
 -- The fault of a table's line: a name of no variable, a numeric variable that spans it, or a response that isn't numeric; each over the whole line.
 abbrev pub table_fault : List Variable → TableLine → Option JobWhy

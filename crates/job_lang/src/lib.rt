@@ -2,6 +2,7 @@
 #![tactic(auto)]
 
 mod arguments;
+mod binding_faults;
 mod bound;
 mod closing;
 mod cursor;
