@@ -9,3 +9,5 @@ pub mod Known
 pub mod ClausesHold
 pub mod DraftHolds
 pub mod JobHolds
+pub mod PlacesFit
+pub mod Placed

@@ -121,6 +121,10 @@ abbrev pub decimals_of : Option Variable → ℕ
 decimals_of None = 0
 decimals_of (Some v) = v.decimals
 
+-- the digits behind the point of the response
+abbrev pub response_decimals : List TableLine → List Variable → ℕ
+response_decimals tables variables = decimals_of (find (λ v. is_named (response_of tables) v) variables)
+
 -- the digits behind the point of the weight, where records have weights
 abbrev pub weight_decimals : Rules → List Variable → ℕ
 weight_decimals rules variables = if rules.weighted then decimals_of (find (λ v. v.weight) variables) else 0
@@ -136,7 +140,7 @@ places_of job variables = record {
   tables = map (λ t. table_places (spanning_of job.tables variables) variables t) job.tables;
   response = variable_place variables (response_of job.tables);
   weight = weight_place job.rules variables;
-  decimals = decimals_of (find (λ v. is_named (response_of job.tables) v) variables) + weight_decimals job.rules variables;
+  decimals = response_decimals job.tables variables + weight_decimals job.rules variables;
   scale = 10 ^ weight_decimals job.rules variables;
 }
 

@@ -2,6 +2,7 @@
 #![tactic(auto)]
 
 mod arguments;
+mod binding;
 mod binding_faults;
 mod bound;
 mod closing;
@@ -20,6 +21,7 @@ mod statement;
 mod table_texts;
 mod texts;
 
+pub use binding::bind;
 pub use bound::Bound;
 pub use cost_rule::CostKind;
 pub use faults::{Command, JobError, JobWhy};

@@ -1,0 +1,14 @@
+use Rattle.job_lang.proofs.PlacesFit.{widths_few, spanning_few, response_few, weight_few}
+use Rattle.job_lang.proofs.binding.bind.Goals as goal
+
+pub places_of-requires-clause-spanning : goal.places_of-requires-clause-spanning
+places_of-requires-clause-spanning c = rw c.as_slice-variables.ensures (spanning_few c.args.job.now.tables c.args.meta.now.variables c.requires.tables c.requires.variables)
+
+pub places_of-requires-clause-widths : goal.places_of-requires-clause-widths
+places_of-requires-clause-widths c = widths_few c.args.job.now.tables c.requires.tables
+
+pub places_of-requires-clause-decimals : goal.places_of-requires-clause-decimals
+places_of-requires-clause-decimals c = rw c.as_slice-variables.ensures (response_few c.args.job.now.tables c.args.meta.now.variables c.requires.variables)
+
+pub places_of-requires-clause-weight : goal.places_of-requires-clause-weight
+places_of-requires-clause-weight c = rw c.as_slice-variables.ensures (weight_few c.args.job.now.rules c.args.meta.now.variables c.requires.variables)
