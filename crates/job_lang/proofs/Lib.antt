@@ -11,3 +11,4 @@ pub mod DraftHolds
 pub mod JobHolds
 pub mod PlacesFit
 pub mod Placed
+pub mod BoundHolds

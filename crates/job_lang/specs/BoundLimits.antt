@@ -1,7 +1,6 @@
 -- What binding needs of metadata, and what holds of a job that is bound (own).
-use Rattle.std.specs.Prelude.{◌≡◌, ◌==◌, ℕ, ◌+◌, ◌^◌, ◌<◌, ◌≤◌, Bool, true, false, IsTrue, List, length, map, Option, Some, slice_get}
+use Rattle.std.specs.Prelude.{◌≡◌, ◌==◌, ℕ, ◌+◌, ◌^◌, ◌<◌, ◌≤◌, Bool, true, false, IsTrue, List, [], ◌∷◌, length, map, Option, Some, slice_get}
 use Rattle.std.specs.List.{AllByRecursion, IsDistinct, count_by}
-use Rattle.std.specs.List.Sorted.{IsStrictlyIncreasing}
 use Rattle.std.specs.Option.{IfSome}
 use Rattle.std.specs.Str.{bytes_eq}
 use Rattle.rda_meta.specs.declared.meta.Variable.{Variable}
@@ -18,6 +17,11 @@ pub record AreVariables (variables : List Variable) : Type 0 where
   pub decimals : AllByRecursion (λ v. v.decimals ≤ 9) variables
   pub weight_decimals : AllByRecursion (λ v. IsTrue v.weight → v.decimals ≤ 4) variables
 
+-- each place is below those behind it
+abbrev pub AreAscending : List ℕ → Type 0
+AreAscending [] = Unit {0}
+AreAscending (place ∷ places) = AllByRecursion (λ other. place < other) places × AreAscending places
+
 -- the variable at this place is a number, or isn't one
 abbrev pub IsNumericAt : Bool → List Variable → ℕ → Type 0
 IsNumericAt numeric variables place = (v : Variable) × (slice_get variables place ≡ Some v) × (v.numeric ≡ numeric)
@@ -25,7 +29,7 @@ IsNumericAt numeric variables place = (v : Variable) × (slice_get variables pla
 -- A bound job: the variables that span its tables ascend and aren't numeric, the tables have places among them, none
 -- twice, and the response is numeric.
 pub record IsBound (job : Job) (variables : List Variable) (bound : Bound) : Type 0 where
-  pub ascending : IsStrictlyIncreasing bound.spanning
+  pub ascending : AreAscending bound.spanning
   pub few : length bound.spanning ≤ 8
   pub spanning : AllByRecursion (IsNumericAt false variables) bound.spanning
   pub tables : map (λ places. length places) bound.tables ≡ map (λ t. length t.variables) job.tables

@@ -34,6 +34,7 @@ pub fn bind(alloc: Global, job: &Job, meta: &Meta) -> Result<Bound, JobError>
     requires tables { AreTables job.now.tables }
     requires variables { AreVariables meta.now.variables }
     ensures exact { Gives fault_of (λ bound. bound) result (bound_of job.now meta.now) }
+    ensures within { IfOk result (λ bound. IsBound job.now meta.now.variables bound) }
 {
     let variables = meta.variables.as_slice();
     if let Some((line, why)) = earliest_fault(job, variables) {
