@@ -41,3 +41,7 @@ number_range low high digits n h = number_range' _ low high _ n h
 pub all_and_last : {A : Type 0} (P : A → Type 0) (xs : List A) (x : A) → AllByRecursion P xs → P x → AllByRecursion P (xs ++ x ∷ [])
 all_and_last P [] x all h = (h, tt)
 all_and_last P (y ∷ xs) x all h = (all.0, all_and_last P xs x all.1 h)
+
+-- a value is what it is
+pub same_value : {A F : Type 0} (x y : A) → ◌≡◌ {A = Result A F} (Ok x) (Ok y) → x ≡ y
+same_value x y h = cc

@@ -12,3 +12,7 @@ pub mod JobHolds
 pub mod PlacesFit
 pub mod Placed
 pub mod BoundHolds
+pub mod RowsHold
+pub mod FirstFault
+pub mod Made
+pub mod NamesApart

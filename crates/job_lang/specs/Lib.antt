@@ -11,3 +11,5 @@ pub mod Jobs
 pub mod Binding
 pub mod JobLimits
 pub mod BoundLimits
+pub mod Rows
+pub mod Laws

@@ -9,6 +9,7 @@ mod closing;
 mod cursor;
 mod faults;
 mod keywords;
+mod laws;
 mod lines;
 mod pieces;
 mod job;
@@ -19,12 +20,15 @@ mod rule_texts;
 mod rules;
 mod statement;
 mod table_texts;
+#[cfg(test)]
+mod tests;
 mod texts;
 
 pub use binding::bind;
 pub use bound::Bound;
 pub use cost_rule::CostKind;
 pub use faults::{Command, JobError, JobWhy};
+pub use laws::{names_apart, order, rows};
 pub use job::{Job, OutputLine, PriorLine, TableLine};
 pub use reading::read_job;
 pub use sdc_base::{Method, Rule, Rules};
