@@ -1,10 +1,33 @@
-/// What the cost of a cell goes by. The kinds are argus's own, after the cost variables of tau-ARGUS.
+ghost use Rattle.std.specs.Prelude.{◌≡◌};
+ghost use Rattle.cost_rule.specs.Costs.{cost_of};
+
+use sdc_base::CellFacts;
+
+/// The most of a truth that counts in a cost by value: one unit less than `2^40`.
+pub const MOST_VALUE: u128 = 1099511627775;
+
+/// What hiding a cell costs.
 #[derive(Clone, Copy, Debug, PartialEq, Eq)]
 pub enum CostKind {
-    /// `VALUE`: one more than the truth, and no more than 2^40.
+    /// By its value: `1 + min(truth, 2^40 - 1)`, the truth in units.
     Value,
-    /// `FREQ`: one more than the number of records.
+    /// By its frequency: `1 + freq`.
     Freq,
-    /// `UNIT`: 1 for each cell.
+    /// The same for each cell: 1.
     One,
+}
+
+impl CostKind {
+    /// What hiding a cell with these facts costs by this kind, at most `2^40`.
+    ///
+    /// A closure that calls it is a cost rule of this kind. It takes the same time for all facts, and no memory.
+    pub fn cost(self, facts: &CellFacts) -> u64
+        ensures value { result ≡ cost_of self facts.now }
+    {
+        match self {
+            CostKind::Value => 1 + facts.truth.unsigned_abs().min(MOST_VALUE) as u64,
+            CostKind::Freq => 1 + u64::from(facts.freq),
+            CostKind::One => 1,
+        }
+    }
 }

@@ -1,6 +1,12 @@
-//! What it costs to hide a cell that no rule names.
+//! What it costs to hide a cell: the office's rule, a closure kept beside what is known of it.
 #![tactic(auto)]
 
 mod kind;
+mod stored;
+mod tells;
+#[cfg(test)]
+mod tests;
 
 pub use kind::CostKind;
+pub use stored::CostRule;
+pub use tells::TellsCosts;

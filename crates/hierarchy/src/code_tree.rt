@@ -34,6 +34,14 @@ impl Model for CodeTree {
 }
 
 impl CodeTree {
+    /// How many codes there are, the total included.
+    pub fn len(&self) -> usize
+        ensures len { result ≡ length self.now }
+        ensures tree { IsCodeTree self.now }
+    {
+        self.depths.len()
+    }
+
     /// The place of a code, or none where the tree doesn't have it. It takes one look-up by the code's bytes.
     pub fn find(&self, code: &[u8]) -> Option<u32>
         ensures { result ≡ find self.now code.now }

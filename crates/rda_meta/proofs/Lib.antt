@@ -11,3 +11,4 @@ pub mod SpelledLines
 pub mod SpelledText
 pub mod RowsHold
 pub mod RoundTrip
+pub mod WithinLimits

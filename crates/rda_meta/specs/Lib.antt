@@ -9,5 +9,6 @@ pub mod Metadata
 pub mod Spelling
 pub mod Canonical
 pub mod Meaning
+pub mod Limits
 pub mod Laws
 pub mod Rows

@@ -2,6 +2,7 @@ ghost use Rattle.std.specs.Prelude.{◌≡◌, ◌<◌, ◌^◌, length, map, If
 ghost use Rattle.sdc_base.specs.Lines.{lines as lines_of};
 ghost use Rattle.sdc_base.specs.Answers.{Gives};
 ghost use Rattle.rda_meta.specs.Faults.{fault_of};
+ghost use Rattle.rda_meta.specs.Limits.{IsMeta};
 ghost use Rattle.rda_meta.specs.Metadata.{lines_say, nothing, no_clash as clashless, variable_of as meant, meta_of};
 
 use crate::entry::{Entry, SoFar};
@@ -22,12 +23,24 @@ use std::alloc::Global;
 /// The caller sees to it that there are fewer than `2^32` bytes, so that a line's number fits. Want of
 /// memory aside, the answer is the definition's.
 ///
+/// What is read is within the limits of metadata: names, places, decimals, levels and file names.
+///
 /// The cost is a look at each byte a few times, and for each line one at what was said of the
 /// variables before it, which are at most 64.
-#[tactic(auto, unfolding(crate::specs::Metadata::meta_of))]
+#[tactic(auto, using(crate::proofs::WithinLimits::limits_given))]
 pub fn read_meta(alloc: Global, bytes: &[u8]) -> Result<Meta, MetaError>
     requires { length bytes.now < 2 ^ 32 }
     ensures exact { Gives fault_of (λ meta. meta) result (meta_of bytes.now) }
+    ensures within { IfOk result IsMeta }
+{
+    meta_in(alloc, bytes)
+}
+
+// The metadata that the bytes state.
+#[tactic(auto, unfolding(crate::specs::Metadata::meta_of))]
+fn meta_in(alloc: Global, bytes: &[u8]) -> Result<Meta, MetaError>
+    requires { length bytes.now < 2 ^ 32 }
+    ensures { Gives fault_of (λ meta. meta) result (meta_of bytes.now) }
 {
     let so_far = read_lines(alloc, bytes)?;
     no_clash(so_far.entries.as_slice())?;

@@ -45,7 +45,7 @@ once_all : (names more : List Name) → IsDistinct bytes_eq names → IsDistinct
 once_all names [] once = once
 once_all names (new ∷ more) once = once_all (with_name names new) more (once_with names new once)
 
-stay : (names more : List Name) → (later : List Name) × (fold with_name names more ≡ names ++ later)
+pub stay : (names more : List Name) → (later : List Name) × (fold with_name names more ≡ names ++ later)
 stay names [] = ([], sym (append-nil names))
 stay names (new ∷ more) =
     elim (is_named names new) as (λ b. (later : List Name) × (fold with_name (if b then names else names ++ new ∷ []) more ≡ names ++ later)) [

@@ -63,9 +63,13 @@ fn has_name(names: &[Place], name: &[u32]) -> bool
     names.iter().any(|other| name == other.as_slice())
 }
 
-// The name of a table's place.
+/// The name of the cell that stands at a table's place: the place's code for each variable that the
+/// table spans, and the total's for the others.
+///
+/// There are at most 8 variables, numbered from 0; the place has a code for each variable of the table,
+/// in the table's order. It takes no memory, and looks through the table once for each variable.
 #[tactic(auto, using(crate::proofs::PlaceLists::name_length, crate::proofs::PlaceLists::name_more))]
-fn name_at(variables: usize, table: &[u32], place: &[u32]) -> Place
+pub fn name_at(variables: usize, table: &[u32], place: &[u32]) -> Place
     requires { variables ≤ 8 }
     ensures { result ≡ name_of variables table.now place.now }
 {

@@ -41,6 +41,14 @@ impl<T, const N: usize> Few<T, N> {
         self.items.as_slice()
     }
 
+    /// How many items there are.
+    pub fn len(&self) -> usize
+        ensures len { result ≡ length self.now }
+        ensures fits { result ≤ N }
+    {
+        self.items.len()
+    }
+
     /// The array of the items.
     pub fn into_array(self) -> ArrayVec<T, N>
         ensures { result.items ≡ self }

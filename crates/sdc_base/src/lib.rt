@@ -21,7 +21,7 @@ mod text;
 mod tops;
 
 pub use cell::{Cell, Kind};
-pub use cells::cells_of;
+pub use cells::{cells_of, name_at};
 pub use facts::{CellFacts, Levels};
 pub use few::{Few, Place};
 pub use hidden::Hidden;

@@ -1,0 +1,190 @@
+ghost use Rattle.std.specs.Prelude.{◌≡◌, ◌↔◌, ◌≤◌, ◌<◌, ◌^◌, ◌+◌, ◌-◌, length, take, drop, slice_get, is_some, option_map, All, IsNone, IfSome, IfOk};
+ghost use Rattle.std.specs.Option.{ForSome};
+ghost use Rattle.sdc_base.specs.Answers.{Gives};
+ghost use Rattle.linked_tables.specs.Blank.{IsBlank};
+ghost use Rattle.linked_tables.specs.Tables.{book_of, fault_of};
+ghost use Rattle.linked_tables.specs.Shared.{cells as cells_in, cell_at, is_place_of, name_at as name_in, first_own, IsBook};
+
+use crate::book_fault::BookFault;
+use crate::mark::Mark;
+use crate::names::{Name, Names};
+use crate::numbering::{Numbering, blank_marks, number_cells};
+use crate::places::is_place;
+use hierarchy::CodeTree;
+use sdc_base::{Place, name_at};
+use std::alloc::Global;
+use std::marker::Model;
+
+/// Linked tables over the trees of some variables, with one mark for each cell, which contracts see as the trees,
+/// the tables and the marks. A table is the list of the variables that it spans.
+///
+/// A cell's name is one code for each variable, the total for those that a table doesn't span, and two tables share
+/// a cell where the names are equal. Cells are numbered from 0 in the order in which the tables first name them, the
+/// places of a table in lexicographic order. There are at most 8 variables and 20,000 cells.
+#[derive(Drop)]
+pub struct Book {
+    trees: Vec<CodeTree>,
+    tables: Vec<Place>,
+    names: Names,
+    starts: Vec<u32>,
+    marks: Vec<Mark>,
+}
+
+impl Model for Book {
+    ghost use Rattle.linked_tables.specs.Held.{Held};
+    ghost use Rattle.linked_tables.specs.Kept.{IsKept};
+
+    ghost Value = { Held };
+
+    ghost view = { λ s. record { trees = s.trees.items; tables = s.tables.items; marks = s.marks.items } };
+
+    ghost invariant = { λ s. IsKept s.trees.items s.tables.items s.names s.starts.items s.marks.items };
+}
+
+impl Book {
+    /// A book of these tables, each of which spans some of the variables that have these trees. Its marks have no
+    /// records, keep the two largest contributions at scale 1, and aren't hidden.
+    ///
+    /// The first table that has a fault is refused by its number, with what comes first of: a variable that there
+    /// isn't, a variable that stands twice in it, and more than 20,000 distinct cells in the tables up to it; want of
+    /// memory is `Memory`. Each drops what was handed over. It takes one look-up for each place of each table, and
+    /// stops at the first cell too many. Numbering is the manual's order of tables, the limit and the order of
+    /// refusals are argus's own.
+    pub fn new(
+        alloc: Global,
+        trees: Vec<CodeTree>,
+        tables: Vec<Place>,
+    ) -> Result<Book, BookFault>
+        requires few { length trees.items ≤ 8 }
+        requires fewer { length tables.items < 2 ^ 32 }
+        ensures exact { Gives fault_of (λ book. (book.trees, book.tables)) result (book_of trees.items tables.items) }
+        ensures blank { IfOk result (λ book. All IsBlank book.marks) }
+        ensures one_each { IfOk result (λ book. length book.marks ≡ length (cells_in book)) }
+    {
+        let Numbering { names, starts } = number_cells(alloc, &trees, &tables)?;
+        let marks = blank_marks(alloc, names.len())?;
+        Ok(Book {
+            trees,
+            tables,
+            names,
+            starts,
+            marks,
+        })
+    }
+
+    /// The number of the cell at a place of table t, or none exactly where t is no table or the place isn't in it:
+    /// a place is one code for each variable of the table, in the table's order. It takes one look-up and no memory.
+    pub fn id(&self, t: u32, place: &[u32]) -> Option<u32>
+        ensures cell { result ≡ cell_at self.now t place.now }
+        ensures found { is_some result ≡ is_place_of self.now t place.now }
+        ensures name { IfSome result (λ cell. slice_get (cells_in self.now) cell ≡ Some (name_in self.now t place.now)) }
+        ensures within { IfSome result (λ cell. cell < length self.now.marks) }
+    {
+        let table = self.spans(t)?;
+        let number = self.number_in(table.as_slice(), place)?;
+        Some(number as u32)
+    }
+
+    /// The marks, in the order of the cells' numbers.
+    pub fn marks(&self) -> &[Mark]
+        ensures { result.now ≡ self.now.marks }
+    {
+        self.marks.as_slice()
+    }
+
+    /// The name of a cell, or none behind the last cell: one code for each variable, the total's where the tables
+    /// that have the cell don't span it.
+    pub fn name(&self, cell: u32) -> Option<&Place>
+        ensures { option_map (λ name. name.now) result ≡ slice_get (cells_in self.now) cell }
+    {
+        self.names.get(cell as usize)
+    }
+
+    /// The tree of a variable, or none behind the last one.
+    pub fn tree(&self, variable: u32) -> Option<&CodeTree>
+        ensures { option_map (λ tree. tree.now) result ≡ slice_get self.now.trees variable }
+    {
+        self.trees.get(variable as usize)
+    }
+
+    /// The variables that table t spans, or none behind the last table.
+    pub fn spans(&self, t: u32) -> Option<&Place>
+        ensures { option_map (λ table. table.now) result ≡ slice_get self.now.tables t }
+    {
+        self.tables.get(t as usize)
+    }
+
+    /// How many cells there are, and what holds of every book.
+    pub fn cells(&self) -> u32
+        ensures cells { result ≡ length (cells_in self.now) }
+        ensures marks { result ≡ length self.now.marks }
+        ensures book { IsBook self.now }
+    {
+        self.marks.len() as u32
+    }
+
+    /// How many tables there are.
+    pub fn tables(&self) -> u32
+        ensures { result ≡ length self.now.tables }
+    {
+        self.tables.len() as u32
+    }
+}
+
+impl Book {
+    ghost use Rattle.std.specs.Borrow.{sem};
+    ghost use Rattle.std.specs.Prelude.{if◌then◌else◌, None};
+    ghost use Rattle.linked_tables.specs.Tables.{most_cells};
+    ghost use Rattle.linked_tables.specs.Shared.{is_in, named, number_of};
+    ghost use Rattle.linked_tables.specs.Lending.{LendsMark, LendsPart};
+
+    // The number of the cell at a place of a table that spans these variables.
+    fn number_in(&self, table: &[u32], place: &[u32]) -> Option<usize>
+        ensures number { result ≡ (if is_in self.now table.now place.now then number_of self.now (named self.now table.now place.now) else None) }
+        ensures within { IfSome result (λ number. number < length self.now.marks) }
+        ensures few { length self.now.marks ≤ most_cells }
+    {
+        if !is_place(&self.trees, table, place) {
+            return None;
+        }
+        let name = Name::new(name_at(self.trees.len(), table, place));
+        self.names.number_of(&name)
+    }
+
+    /// How many cells the tables before t name, which is the number of the first cell of its own.
+    pub(crate) fn start_of(&self, t: usize) -> usize
+        ensures start { result ≡ first_own self.now t }
+        ensures within { result ≤ length self.now.marks }
+    {
+        match number_at(&self.starts, t) {
+            Some(start) => start as usize,
+            None => self.marks.len(),
+        }
+    }
+
+    /// The mark of a cell, to write.
+    pub(crate) fn mark_mut(&mut self, cell: usize) -> Option<&mut Mark>
+        ensures* writes_back { sem 𝓛 (LendsMark self.entry cell result) }
+        ensures mark { option_map (λ mark. mark.now) result ≡ slice_get self.old.marks cell }
+    {
+        self.marks.get_mut(cell)
+    }
+
+    /// Marks that stand side by side, to write.
+    pub(crate) fn part_mut(&mut self, from: usize, to: usize) -> &mut [Mark]
+        requires order { from ≤ to }
+        requires within { to ≤ length self.old.marks }
+        ensures* writes_back { sem 𝓛 (LendsPart self.entry from result) }
+        ensures marks { result.now ≡ take (to - from) (drop from self.old.marks) }
+    {
+        self.marks.slice_mut(from..to)
+    }
+}
+
+// The number at a place.
+fn number_at(numbers: &[u32], place: usize) -> Option<u32>
+    ensures { result ≡ slice_get numbers.now place }
+{
+    let number = numbers.get(place)?;
+    Some(*number)
+}

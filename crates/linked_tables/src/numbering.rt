@@ -1,0 +1,125 @@
+ghost use Rattle.std.specs.Prelude.{◌≡◌, ◌≤◌, ◌<◌, ◌^◌, ◌++◌, ◌∷◌, [], length, fold, All, None, Ok, IfOk, IfErr, OnOk};
+ghost use Rattle.sdc_base.specs.Answers.{Fails};
+ghost use Rattle.sdc_base.specs.Cells.{named_by, with_name};
+ghost use Rattle.linked_tables.specs.Blank.{IsBlank};
+ghost use Rattle.linked_tables.specs.Tables.{book_of, fault_of, first_fault, most_cells, unless_fault, variables_fault};
+ghost use Rattle.linked_tables.specs.Kept.{IsNumbered, capped, names_below};
+
+use crate::book_fault::BookFault;
+use crate::mark::Mark;
+use crate::names::{Name, Names};
+use crate::places::{size_at, spans_twice, spans_unknown};
+use arrayvec::ArrayVec;
+use hierarchy::CodeTree;
+use sdc_base::{Place, name_at};
+use std::alloc::{AllocError, Global};
+
+// The most cells of a book.
+const MOST_CELLS: usize = 20_000;
+
+/// The names of cells in the order of their numbers, and how many of them the first t tables name, for each t.
+#[derive(Drop)]
+pub(crate) struct Numbering {
+    pub(crate) names: Names,
+    pub(crate) starts: Vec<u32>,
+}
+
+/// Numbers the cells of tables.
+pub(crate) fn number_cells(
+    alloc: Global,
+    trees: &[CodeTree],
+    tables: &[Place],
+) -> Result<Numbering, BookFault>
+    requires few { length trees.now ≤ 8 }
+    requires fewer { length tables.now < 2 ^ 32 }
+    ensures none { OnOk result (first_fault trees.now [] tables.now ≡ None) }
+    ensures fault { IfErr result (λ fault. Fails (fault_of fault) (book_of trees.now tables.now)) }
+    ensures numbered { IfOk result (λ made. IsNumbered trees.now tables.now made.names made.starts.items) }
+{
+    let mut names = Names::new(alloc);
+    let mut starts = Vec::new(alloc);
+    starts.push(0)?;
+    'tables: for (t, table) in tables.iter().enumerate() {
+        check_variables(trees.len(), t as u32, table.as_slice())?;
+        name_below(trees, t as u32, table, &[], &mut names)?;
+        starts.push(names.len() as u32)?;
+    }
+    Ok(Numbering { names, starts })
+}
+
+// Refuses a table that spans a variable that there isn't, or one twice.
+fn check_variables(variables: usize, t: u32, table: &[u32]) -> Result<(), BookFault>
+    ensures none { OnOk result (variables_fault variables t table.now ≡ None) }
+    ensures fault { IfErr result (λ fault. Fails (fault_of fault) (unless_fault (variables_fault variables t table.now) (tt {0}))) }
+{
+    if spans_unknown(variables, table) {
+        return Err(BookFault::NoSuchVariable(t));
+    }
+    if spans_twice(table) {
+        return Err(BookFault::TwiceInTable(t));
+    }
+    Ok(())
+}
+
+// Adds the names of the places of a table that begin with this one, and stops at the first that is too many.
+fn name_below(
+    trees: &[CodeTree],
+    t: u32,
+    table: &Place,
+    place: &[u32],
+    names: &mut Names,
+) -> Result<(), BookFault>
+    requires few { length trees.now ≤ 8 }
+    requires begun { length place.now ≤ length table.now }
+    requires room { length names.old ≤ most_cells }
+    ensures names { OnOk result (capped t (fold with_name names.old (names_below trees.now table.now place.now)) ≡ Ok names.new) }
+    ensures fault { IfErr result (λ fault. Fails (fault_of fault) (capped t (fold with_name names.old (names_below trees.now table.now place.now)))) }
+{
+    if place.len() >= table.len() {
+        let name = name_at(trees.len(), table.as_slice(), place);
+        return add_name(t, Name::new(name), names);
+    }
+    let size = size_at(trees, table.as_slice()[place.len()]);
+    'codes: for code in 0..size {
+        let longer = with_code(place, code as u32);
+        name_below(trees, t, table, longer.as_slice(), names)?;
+    }
+    Ok(())
+}
+
+// Adds a name, unless it is there already; refuses one that is too many.
+fn add_name(t: u32, name: Name, names: &mut Names) -> Result<(), BookFault>
+    ensures names { OnOk result (capped t (with_name names.old name) ≡ Ok names.new) }
+    ensures fault { IfErr result (λ fault. Fails (fault_of fault) (capped t (with_name names.old name))) }
+{
+    names.add(name)?;
+    if names.len() > MOST_CELLS {
+        return Err(BookFault::TooManyCells(t));
+    }
+    Ok(())
+}
+
+// The place with a code more.
+fn with_code(place: &[u32], code: u32) -> ArrayVec<u32, 8>
+    requires { length place.now < 8 }
+    ensures { result.items ≡ place.now ++ code ∷ [] }
+{
+    let mut longer: ArrayVec<u32, 8> = ArrayVec::new();
+    'codes: for next in place {
+        longer.push(*next);
+    }
+    longer.push(code);
+    longer
+}
+
+/// As many marks without records.
+pub(crate) fn blank_marks(alloc: Global, cells: usize) -> Result<Vec<Mark>, AllocError>
+    ensures len { IfOk result (λ marks. length marks.items ≡ cells) }
+    ensures blank { IfOk result (λ marks. All IsBlank marks.items) }
+{
+    let mut marks = Vec::new(alloc);
+    'marks: for _ in 0..cells {
+        marks.push(Mark::blank())?;
+    }
+    Ok(marks)
+}

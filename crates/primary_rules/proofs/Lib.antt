@@ -1,0 +1,10 @@
+pub mod OneByOne
+pub mod Bounds
+pub mod Rounding
+pub mod NamedCells
+pub mod KeptFigures
+pub mod Stricter
+pub mod Rescaling
+pub mod RescaledRecords
+pub mod FurtherContributor
+pub mod FromZero

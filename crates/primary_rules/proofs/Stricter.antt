@@ -1,0 +1,125 @@
+-- Stricter rules name more and want more.
+use Rattle.std.proofs.Common.{◌≡◌, ℕ, ◌≤◌, ◌++◌, true, false, List, [], ◌∷◌, Option, None, Some, option_map, ℤ, pos, neg_ℤ, ◌+ℤ◌, ◌*ℤ◌, ◌≤ℤ◌, arith, rules, refl, if◌then◌else◌}
+use Rattle.std.proofs.lemmas.Int.{ints}
+use Rattle.std.proofs.Math.IntN.{*ℤ_comm}
+use Rattle.sdc_base.proofs.WholeNumbers.{distrib, times_up}
+use Rattle.sdc_base.specs.RuleLevels.{Figures, divided, names, rest, wanted, rounded_up, IsRoundedUp, greater, upper_of, levels_up_to}
+use Rattle.sdc_base.specs.declared.rule.Rule.{Rule}
+use Rattle.sdc_base.specs.declared.rule.Rule.TheVariants as rule
+use Rattle.primary_rules.specs.Ranges.{IsInRange}
+use Rattle.primary_rules.specs.Strictness.{IsStricter, AreFromZero, AreNoLower, from_none, from_some, StricterWantsMore, StricterLowersNone, FurtherLowersNone, MoreLowersNoManual}
+use Rattle.primary_rules.specs.OneRule.{up_by, greater_of}
+use Rattle.primary_rules.proofs.Rounding.{rounded_is}
+use Rattle.primary_rules.proofs.OneByOne.{upper_first}
+
+-- more times a number from 0 is more
+pub times_of : (m n : ℕ) (a : ℤ) → m ≤ n → pos 0 ≤ℤ a → (pos m *ℤ a) ≤ℤ (pos n *ℤ a)
+times_of m n a h from = omega (arith, ints, times_up a (pos m) (pos n) from (omega (arith, ints, h)), *ℤ_comm a (pos m), *ℤ_comm a (pos n))
+
+-- a quotient by the same divisor that is no less rounds up to no less
+pub rounded_more : (over more : ℤ) (d : ℕ) → 1 ≤ d → over ≤ℤ more → rounded_up (divided over d) ≤ℤ rounded_up (divided more d)
+rounded_more over more d h less =
+    let that : IsRoundedUp (divided more d) (rounded_up (divided more d)) = rounded_is more d h in
+    let reaches : more ≤ℤ (pos d *ℤ rounded_up (divided more d)) = that.reaches in
+    let this : IsRoundedUp (divided over d) (rounded_up (divided over d)) = rounded_is over d h in
+    this.least (rounded_up (divided more d)) that.unit (omega (arith, ints, less, reaches))
+
+-- the sum over n contributions over k percent, less the truth, and a sum over no fewer over a lower percentage
+share_more : (k l : ℕ) (truth sum more : ℤ) → 1 ≤ l → l ≤ k → pos 0 ≤ℤ truth → sum ≤ℤ more → rounded_up (divided (sum +ℤ neg_ℤ (pos k *ℤ truth)) k) ≤ℤ rounded_up (divided (more +ℤ neg_ℤ (pos l *ℤ truth)) l)
+share_more k l truth sum more least h from less =
+    let up : ℤ = rounded_up (divided (more +ℤ neg_ℤ (pos l *ℤ truth)) l) in
+    let that : IsRoundedUp (divided (more +ℤ neg_ℤ (pos l *ℤ truth)) l) up = rounded_is (more +ℤ neg_ℤ (pos l *ℤ truth)) l least in
+    let reaches : (more +ℤ neg_ℤ (pos l *ℤ truth)) ≤ℤ (pos l *ℤ up) = that.reaches in
+    let unit : pos 1 ≤ℤ up = that.unit in
+    let whole : pos 0 ≤ℤ (up +ℤ truth) = omega (arith, ints, unit, from) in
+    let wider : (pos l *ℤ (up +ℤ truth)) ≤ℤ (pos k *ℤ (up +ℤ truth)) = times_of l k (up +ℤ truth) h whole in
+    let this : IsRoundedUp (divided (sum +ℤ neg_ℤ (pos k *ℤ truth)) k) (rounded_up (divided (sum +ℤ neg_ℤ (pos k *ℤ truth)) k)) = rounded_is (sum +ℤ neg_ℤ (pos k *ℤ truth)) k (omega (arith, least, h)) in
+    this.least up unit (omega (arith, ints, less, reaches, wider, distrib (pos l) up truth, distrib (pos k) up truth))
+
+pub stricter_wants_more : StricterWantsMore
+stricter_wants_more (rule.Freq n r) (rule.Freq m s) cell here there from stricter named =
+    (search (arith, rules), rounded_more (pos r *ℤ cell.truth) (pos s *ℤ cell.truth) 100 (omega arith) (times_of r s cell.truth stricter.1 from.truth))
+stricter_wants_more (rule.Nk n k) (rule.Nk m l) cell here there from stricter named =
+    let less : cell.largest n ≤ℤ cell.largest m = from.more n m stricter.0 in
+    let hundred : (pos 100 *ℤ cell.largest n) ≤ℤ (pos 100 *ℤ cell.largest m) = times_up (pos 100) (cell.largest n) (cell.largest m) (omega (arith, ints)) less in
+    let bound : (pos l *ℤ cell.truth) ≤ℤ (pos k *ℤ cell.truth) = times_of l k cell.truth stricter.1 from.truth in
+    (grind (arith, ints, named, hundred, bound), share_more k l cell.truth (pos 100 *ℤ cell.largest n) (pos 100 *ℤ cell.largest m) there.2 stricter.1 from.truth hundred)
+stricter_wants_more (rule.Percent p) (rule.Percent q) cell here there from stricter named =
+    let more : (pos p *ℤ cell.largest 1) ≤ℤ (pos q *ℤ cell.largest 1) = times_of p q (cell.largest 1) stricter (from.largest 1) in
+    (grind (arith, ints, named, more), rounded_more (pos p *ℤ cell.largest 1 +ℤ neg_ℤ (pos 100 *ℤ rest cell)) (pos q *ℤ cell.largest 1 +ℤ neg_ℤ (pos 100 *ℤ rest cell)) 100 (omega arith) (omega (arith, ints, more)))
+stricter_wants_more one other cell here there from stricter named = absurd stricter
+
+-- ---- levels that are there where others are, and no lower
+
+abbrev RisesTo : Option ℤ → Option ℤ → Type 0
+RisesTo None others = Unit {0}
+RisesTo (Some n) None = ⊥
+RisesTo (Some n) (Some m) = n ≤ℤ m
+
+rises_itself : (up : Option ℤ) → RisesTo up up
+rises_itself None = tt
+rises_itself (Some n) = omega (arith, ints)
+
+greater_left : (n m : ℤ) → n ≤ℤ greater n (Some m)
+greater_left n m = grind (arith, ints)
+
+greater_both : (n m a b : ℤ) → n ≤ℤ a → m ≤ℤ b → greater n (Some m) ≤ℤ greater a (Some b)
+greater_both n m a b h k = grind (arith, ints, h, k)
+
+rises_in_turn : (one other rest more : Option ℤ) → RisesTo one other → RisesTo rest more → RisesTo (greater_of one rest) (greater_of other more)
+rises_in_turn None None rest more h k = k
+rises_in_turn None (Some a) None more h k = tt
+rises_in_turn None (Some a) (Some m) None h k = absurd k
+rises_in_turn None (Some a) (Some m) (Some b) h k = grind (arith, ints, k)
+rises_in_turn (Some n) None rest more h k = absurd h
+rises_in_turn (Some n) (Some a) None None h k = h
+rises_in_turn (Some n) (Some a) None (Some b) h k = grind (arith, ints, h)
+rises_in_turn (Some n) (Some a) (Some m) None h k = absurd k
+rises_in_turn (Some n) (Some a) (Some m) (Some b) h k = greater_both n m a b h k
+
+one_rises : (one other : Rule) (cell : Figures) → IsInRange one → IsInRange other → AreFromZero cell → IsStricter one other → RisesTo (up_by one cell) (up_by other cell)
+one_rises one other cell here there from stricter =
+    let low : ℤ = rounded_up (wanted one cell) in
+    let high : ℤ = rounded_up (wanted other cell) in
+    elim (names one cell) as (λ b. names one cell ≡ b → RisesTo (if b then Some low else None) (up_by other cell)) [
+      | true ↦ λ is.
+          let more = stricter_wants_more one other cell here there from stricter (grind (arith, is)) in
+          let named : names other cell ≡ true = grind (arith, more.0) in
+          rw named more.1
+      | false ↦ λ is. tt
+    ] refl
+
+-- what stands before and behind is the same
+upper_rises : (before first second : List Rule) (cell : Figures) → RisesTo (upper_of first cell) (upper_of second cell) → RisesTo (upper_of (before ++ first) cell) (upper_of (before ++ second) cell)
+upper_rises [] first second cell h = h
+upper_rises (one ∷ before) first second cell h =
+    rw (upper_first one (before ++ first) cell, upper_first one (before ++ second) cell)
+    (rises_in_turn (up_by one cell) (up_by one cell) (upper_of (before ++ first) cell) (upper_of (before ++ second) cell) (rises_itself (up_by one cell)) (upper_rises before first second cell h))
+
+down_rises : (up more truth : ℤ) → up ≤ℤ more → (levels_up_to truth up).down ≤ℤ (levels_up_to truth more).down
+down_rises up more truth h = grind (arith, ints, h)
+
+levels_rise : (truth : ℤ) (up more : Option ℤ) → RisesTo up more → AreNoLower (option_map (levels_up_to truth) up) (option_map (levels_up_to truth) more)
+levels_rise truth None more h = from_none (option_map (levels_up_to truth) more)
+levels_rise truth (Some up) None h = absurd h
+levels_rise truth (Some up) (Some more) h = from_some (levels_up_to truth up) (levels_up_to truth more) h (down_rises up more truth h)
+
+pub stricter_lowers_none : StricterLowersNone
+stricter_lowers_none before behind one other cell here there from stricter =
+    let own : RisesTo (upper_of (one ∷ behind) cell) (upper_of (other ∷ behind) cell) =
+    rw (upper_first one behind cell, upper_first other behind cell)
+    (rises_in_turn (up_by one cell) (up_by other cell) (upper_of behind cell) (upper_of behind cell) (one_rises one other cell here there from stricter) (rises_itself (upper_of behind cell))) in
+    levels_rise cell.truth (upper_of (before ++ one ∷ behind) cell) (upper_of (before ++ other ∷ behind) cell) (upper_rises before (one ∷ behind) (other ∷ behind) cell own)
+
+pub further_lowers_none : FurtherLowersNone
+further_lowers_none before behind one cell =
+    let own : RisesTo (upper_of behind cell) (upper_of (one ∷ behind) cell) =
+    rw (upper_first one behind cell)
+    (rises_in_turn None (up_by one cell) (upper_of behind cell) (upper_of behind cell) tt (rises_itself (upper_of behind cell))) in
+    levels_rise cell.truth (upper_of (before ++ behind) cell) (upper_of (before ++ one ∷ behind) cell) (upper_rises before behind (one ∷ behind) cell own)
+
+pub more_lowers_no_manual : MoreLowersNoManual
+more_lowers_no_manual percent more truth h from =
+    let up : rounded_up (divided (pos percent *ℤ truth) 100) ≤ℤ rounded_up (divided (pos more *ℤ truth) 100) =
+    rounded_more (pos percent *ℤ truth) (pos more *ℤ truth) 100 (omega arith) (times_of percent more truth h from) in
+    (up, down_rises (rounded_up (divided (pos percent *ℤ truth) 100)) (rounded_up (divided (pos more *ℤ truth) 100)) truth up)

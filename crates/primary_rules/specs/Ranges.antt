@@ -1,0 +1,59 @@
+-- The ranges of the numbers in primary rules, and of the truths that they look at (own).
+use Rattle.std.specs.Prelude.{ℕ, ◌≤◌, ◌^◌, All, ℤ, pos, ◌≤ℤ◌}
+use Rattle.sdc_base.specs.declared.facts.Levels.{Levels}
+use Rattle.sdc_base.specs.declared.rule.Rule.{Rule}
+use Rattle.sdc_base.specs.declared.rule.Rule.TheVariants as rule
+use Rattle.sdc_base.specs.declared.rule.Rules.{Rules}
+
+-- the greatest frequency of a rule: that of all records
+abbrev pub most_records : ℕ
+most_records = 1000000
+
+-- the most contributions that a dominance rule adds up
+abbrev pub most_contributions : ℕ
+most_contributions = 10
+
+-- the greatest share of the truth, in percent
+abbrev pub whole_share : ℕ
+whole_share = 100
+
+-- the greatest percentage of a level, and of the p-percent rule
+abbrev pub most_percent : ℕ
+most_percent = 1000
+
+-- the greatest truth: 10 ^ 15 units in 10 ^ 8 weight steps for each of 10 ^ 6 records
+abbrev pub most_truth : ℕ
+most_truth = 10 ^ 29
+
+-- the greatest level
+abbrev pub most_level : ℕ
+most_level = 10 ^ 31
+
+-- A rule's numbers are in their ranges: a frequency from 1 and the percentage of its level; from 1 contribution and from 1
+-- percent of the truth; or from 1 percent.
+abbrev pub IsInRange : Rule → Type 0
+IsInRange (rule.Freq n r) = (1 ≤ n) × (n ≤ most_records) × (r ≤ most_percent)
+IsInRange (rule.Nk n k) = (1 ≤ n) × (n ≤ most_contributions) × (1 ≤ k) × (k ≤ whole_share)
+IsInRange (rule.Percent p) = (1 ≤ p) × (p ≤ most_percent)
+
+-- all rules of a job are in their ranges, and so is the percentage of cells that are declared unsafe
+pub record AreInRange (rules : Rules) : Type 0 where
+  pub list : All IsInRange rules.list
+  pub man : rules.man ≤ most_percent
+
+-- a truth is from 0 to the greatest
+pub record IsTruth (truth : ℤ) : Type 0 where
+  pub from_zero : pos 0 ≤ℤ truth
+  pub at_most : truth ≤ℤ pos most_truth
+
+-- an upper level is from a unit to the greatest
+pub record IsUpper (level : ℤ) : Type 0 where
+  pub unit : pos 1 ≤ℤ level
+  pub at_most : level ≤ℤ pos most_level
+
+-- levels of a cell of this truth: an upper one, and a lower one from 0 to the truth and to the upper one
+pub record AreLevels (truth : ℤ) (levels : Levels) : Type 0 where
+  pub up : IsUpper levels.up
+  pub from_zero : pos 0 ≤ℤ levels.down
+  pub within : levels.down ≤ℤ truth
+  pub down : levels.down ≤ℤ levels.up

@@ -1,0 +1,72 @@
+ghost use Rattle.std.specs.Prelude.{◌≡◌, ◌^◌, pos, neg_ℤ, ◌≤ℤ◌};
+ghost use Rattle.std.specs.Option.{ForSome};
+ghost use Rattle.sdc_base.specs.RuleLevels.{told, rest};
+ghost use Rattle.sdc_base.specs.declared.rule.Rule.TheVariants as rule;
+ghost use Rattle.primary_rules.specs.Ranges.{IsInRange, IsTruth, IsUpper};
+ghost use Rattle.primary_rules.specs.OneRule.{up_by};
+
+use crate::kept::sum_over;
+use crate::quotient::{excess, hundredths, up_from};
+use sdc_base::{CellFacts, Rule, is_too_few};
+
+/// The upper level of a cell that the rule names.
+pub(crate) fn up_under(rule: Rule, facts: &CellFacts) -> Option<i128>
+    requires in_range { IsInRange rule }
+    requires truth { IsTruth facts.now.truth }
+    ensures level { ForSome result IsUpper }
+    ensures value { result ≡ up_by rule (told facts.now) }
+{
+    match rule {
+        Rule::Freq { n, r } => by_frequency(n, r, facts),
+        Rule::Nk { n, k } => by_dominance(n, k, facts),
+        Rule::Percent(p) => by_percent(p, facts),
+    }
+}
+
+// By the frequency rule.
+fn by_frequency(n: u32, r: u32, facts: &CellFacts) -> Option<i128>
+    requires in_range { IsInRange (rule.Freq n r) }
+    requires truth { IsTruth facts.now.truth }
+    ensures level { ForSome result IsUpper }
+    ensures value { result ≡ up_by (rule.Freq n r) (told facts.now) }
+{
+    if is_too_few(facts.freq, n) {
+        Some(up_from(hundredths(r, facts.truth), 100))
+    } else {
+        None
+    }
+}
+
+// By the dominance rule.
+fn by_dominance(n: u8, k: u32, facts: &CellFacts) -> Option<i128>
+    requires in_range { IsInRange (rule.Nk n k) }
+    requires truth { IsTruth facts.now.truth }
+    ensures level { ForSome result IsUpper }
+    ensures value { result ≡ up_by (rule.Nk n k) (told facts.now) }
+{
+    let largest = hundredths(100, sum_over(&facts.tops, n));
+    let bound = hundredths(k, facts.truth);
+    excess(largest, bound, k)
+}
+
+// By the p-percent rule.
+fn by_percent(p: u32, facts: &CellFacts) -> Option<i128>
+    requires in_range { IsInRange (rule.Percent p) }
+    requires truth { IsTruth facts.now.truth }
+    ensures level { ForSome result IsUpper }
+    ensures value { result ≡ up_by (rule.Percent p) (told facts.now) }
+{
+    let rest = hundredths(100, rest_of(facts));
+    let bound = hundredths(p, sum_over(&facts.tops, 1));
+    excess(bound, rest, 100)
+}
+
+// What the truth has beside the two largest contributions.
+fn rest_of(facts: &CellFacts) -> i128
+    requires truth { IsTruth facts.now.truth }
+    ensures value { result ≡ rest (told facts.now) }
+    ensures low { neg_ℤ (pos (2 ^ 80)) ≤ℤ result }
+    ensures high { result ≤ℤ pos (2 ^ 100) }
+{
+    facts.truth - sum_over(&facts.tops, 2)
+}
