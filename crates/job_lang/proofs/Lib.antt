@@ -16,3 +16,4 @@ pub mod RowsHold
 pub mod FirstFault
 pub mod Made
 pub mod NamesApart
+pub mod MetadataLimits

@@ -4,6 +4,7 @@ use Rattle.std.specs.List.{AllByRecursion, IsDistinct, list_any}
 use Rattle.std.specs.Str.{bytes_eq}
 use Rattle.sdc_base.specs.Blanks.{trim}
 use Rattle.sdc_base.specs.Lines.{lines}
+use Rattle.rda_meta.specs.Limits.{IsMeta}
 use Rattle.rda_meta.specs.declared.meta.Meta.{Meta}
 use Rattle.rda_meta.specs.declared.meta.Shape.{Shape}
 use Rattle.rda_meta.specs.declared.meta.Shape.TheVariants as shape
@@ -21,6 +22,7 @@ use Rattle.job_lang.specs.declared.statement.Draft.{Draft}
 use Rattle.job_lang.specs.Statements.{text_says, lines_say, nothing}
 use Rattle.job_lang.specs.ClosingLooks.{is_astray, is_meeting, said_by, file_line, rules_line, method_of, output_said}
 use Rattle.job_lang.specs.Jobs.{job_of}
+use Rattle.job_lang.specs.BoundLimits.{AreVariables}
 use Rattle.job_lang.specs.Binding.{table_fault, weight_fault, file_fault, is_spanning, bound_of}
 
 -- ---- the order of faults
@@ -104,3 +106,9 @@ PutsAreNotRead = (bytes : List ℕ) (job : Job) → job_of bytes ≡ Ok job → 
 -- No file that a bound job puts is a code list or a hierarchy file that is read for it.
 abbrev pub PutsAreNotNamed : Type 0
 PutsAreNotNamed = (job : Job) (meta : Meta) (bound : Bound) → bound_of job meta ≡ Ok bound → AllByRecursion (λ put. AllByRecursion (λ read. put ≢ read) (files_of job.tables meta.variables)) (puts_of job)
+
+-- ---- metadata that were read
+
+-- Metadata within their limits, as all are that were read, can have a job bound to them.
+abbrev pub MetadataFit : Type 0
+MetadataFit = (meta : Meta) → IsMeta meta → AreVariables meta.variables

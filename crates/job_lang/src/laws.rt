@@ -1,6 +1,6 @@
 //! Laws of jobs, each the contract of a function with an empty body.
 
-ghost use Rattle.job_lang.specs.Laws.{IsInOrder, PutsAreNotRead, PutsAreNotNamed};
+ghost use Rattle.job_lang.specs.Laws.{IsInOrder, PutsAreNotRead, PutsAreNotNamed, MetadataFit};
 ghost use Rattle.job_lang.specs.Rows.{EightLines, NameBeforeMissing, Bindable, CodeListMet};
 
 /// The definitions give what worked jobs say by hand.
@@ -23,4 +23,10 @@ pub fn order()
 pub fn names_apart()
     ensures read { PutsAreNotRead }
     ensures named { PutsAreNotNamed }
+{}
+
+/// Metadata that were read can have a job bound to them.
+#[tactic(auto, using(crate::proofs::MetadataLimits::metadata_fit))]
+pub fn metadata_fit()
+    ensures { MetadataFit }
 {}
