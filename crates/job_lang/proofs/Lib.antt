@@ -17,3 +17,4 @@ pub mod FirstFault
 pub mod Made
 pub mod NamesApart
 pub mod MetadataLimits
+pub mod Meant

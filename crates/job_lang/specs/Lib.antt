@@ -13,3 +13,4 @@ pub mod JobLimits
 pub mod BoundLimits
 pub mod Rows
 pub mod Laws
+pub mod Meaning

@@ -1,6 +1,7 @@
 //! Laws of jobs, each the contract of a function with an empty body.
 
 ghost use Rattle.job_lang.specs.Laws.{IsInOrder, PutsAreNotRead, PutsAreNotNamed, MetadataFit};
+ghost use Rattle.job_lang.specs.Meaning.{JobsAreMeant};
 ghost use Rattle.job_lang.specs.Rows.{EightLines, NameBeforeMissing, Bindable, CodeListMet};
 
 /// The definitions give what worked jobs say by hand.
@@ -29,4 +30,10 @@ pub fn names_apart()
 #[tactic(auto, using(crate::proofs::MetadataLimits::metadata_fit))]
 pub fn metadata_fit()
     ensures { MetadataFit }
+{}
+
+/// A job has what its lines state, each by itself, and the defaults where none does.
+#[tactic(auto, using(crate::proofs::Meant::are_meant))]
+pub fn meaning()
+    ensures { JobsAreMeant }
 {}

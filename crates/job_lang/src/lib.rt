@@ -28,7 +28,7 @@ pub use binding::bind;
 pub use bound::Bound;
 pub use cost_rule::CostKind;
 pub use faults::{Command, JobError, JobWhy};
-pub use laws::{metadata_fit, names_apart, order, rows};
+pub use laws::{meaning, metadata_fit, names_apart, order, rows};
 pub use job::{Job, OutputLine, PriorLine, TableLine};
 pub use reading::read_job;
 pub use sdc_base::{Method, Rule, Rules};

@@ -1,4 +1,4 @@
-use crate::{Command, JobError, JobWhy, bind, read_job};
+use crate::{Command, JobError, JobWhy, bind, metadata_fit, read_job};
 use rda_meta::read_meta;
 use std::alloc::Global;
 use std::rt::HostRuntime;
@@ -166,4 +166,53 @@ fn a_ninth_line(rt: HostRuntime) -> Result<(), Fail> {
         assert_eq!(rt; found, Some(*expected));
     }
     Ok(())
+}
+
+// The places of a bound job: how many variables span its tables, the response, the digits of a unit and the scale; or
+// the line of the first fault and what is wrong with it.
+type Places = Result<(usize, u32, u8, u32), (u32, JobWhy)>;
+
+// What binding the job of one text to the metadata of another gives; nothing where one isn't read or memory wants.
+fn places(alloc: Global, job: &[u8], meta: &[u8]) -> Option<Places> {
+    metadata_fit();
+    if job.len() > 10000 || meta.len() > 10000 {
+        return None;
+    }
+    let Ok(job) = read_job(alloc, job) else {
+        return None;
+    };
+    let Ok(meta) = read_meta(alloc, meta) else {
+        return None;
+    };
+    match bind(alloc, &job, &meta) {
+        Ok(bound) => Some(Ok((bound.spanning.as_slice().len(), bound.response, bound.decimals, bound.scale))),
+        Err(JobError::At { line, why }) => Some(Err((line, why))),
+        Err(JobError::Memory) => None,
+    }
+}
+
+#[test]
+fn jobs_bound_to_metadata(rt: HostRuntime) {
+    use JobWhy::{NoSuchVariable, NoWeight, NotNumeric, NotSpanning, SameName};
+    let flat = "<OPENMICRODATA> \"m.asc\"\n<OPENMETADATA> \"m.rda\"\n<SPECIFYTABLE> \"A\"|\"V\"\n<SAFETYRULE> FREQ(3,30)\n<SUPPRESS> MOD()\n<WRITETABLE> (1,\"t.csv\")\n<CERTIFICATE> \"t.cert\"\n";
+    let weighted = "<WRITETABLE> (1,\"t.csv\")\n<SAFETYRULE> P(10)|WGT(1)\n<OPENMICRODATA> \"m.asc\"\n<OPENMETADATA> \"m.rda\"\n<SPECIFYTABLE> \"B\"\"A\"|\"V\"\n<SUPPRESS> MOD()\n<CERTIFICATE> \"t.cert\"\n";
+    let rows = [
+        (flat, "A 1 1\nV 2 3\n<NUMERIC>\n", Ok((1, 1, 0, 1))),
+        (flat, "V 2 3\n<NUMERIC>\n<DECIMALS> 2\nW 5 1\n<WEIGHT>\n<DECIMALS> 3\nA 1 1\n", Ok((1, 0, 2, 1))),
+        (flat, "a 1 1\nV 2 3\n<NUMERIC>\n", Err((3, NoSuchVariable))),
+        (flat, "A 1 1\n<NUMERIC>\nW 2 3\n<NUMERIC>\n", Err((3, NoSuchVariable))),
+        (flat, "A 1 1\n<NUMERIC>\nV 2 3\n", Err((3, NotSpanning))),
+        (flat, "A 1 1\nV 2 3\n", Err((3, NotNumeric))),
+        (flat, "A 1 1\n<CODELIST> t.csv\nV 2 3\n<NUMERIC>\n", Err((6, SameName))),
+        (flat, "A 1 1\n<HIERCODELIST> t.cert\nV 2 3\n<NUMERIC>\n", Err((7, SameName))),
+        (flat, "A 1 1\nB 1 1\n<CODELIST> t.csv\nV 2 3\n<NUMERIC>\n<CODELIST> t.csv\n", Ok((1, 2, 0, 1))),
+        (weighted, "A 1 1\nB 1 1\nV 2 3\n<NUMERIC>\n", Err((2, NoWeight))),
+        (weighted, "A 1 1\n<CODELIST> t.csv\nB 1 1\nV 2 3\n<NUMERIC>\n", Err((1, SameName))),
+        (weighted, "A 1 1\nC 1 1\nV 2 3\n<NUMERIC>\nW 5 3\n<WEIGHT>\n", Err((5, NoSuchVariable))),
+        (weighted, "A 1 1\nB 1 1\nV 2 3\n<NUMERIC>\n<DECIMALS> 1\nW 5 3\n<WEIGHT>\n<DECIMALS> 2\n", Ok((2, 2, 3, 100))),
+    ];
+    for (job, meta, expected) in &rows {
+        let found = places(rt.alloc(), job.as_bytes(), meta.as_bytes());
+        assert_eq!(rt; found, Some(*expected));
+    }
 }
