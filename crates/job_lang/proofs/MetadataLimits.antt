@@ -1,0 +1,22 @@
+-- Metadata within their limits can have a job bound to them.
+use Rattle.std.proofs.Common.{◌≡◌, ℕ, zero, suc, ◌≤◌, List, [], ◌∷◌, length, refl, arith, ◌∙◌}
+use Rattle.std.proofs.lemmas.List.Sums.{length-filter}
+use Rattle.std.specs.Prelude.{slice_get, Some, IsTrue, true}
+use Rattle.std.specs.List.{AllByRecursion}
+use Rattle.rda_meta.specs.Limits.{IsVariable, IsMeta}
+use Rattle.rda_meta.specs.declared.meta.Meta.{Meta}
+use Rattle.rda_meta.specs.declared.meta.Variable.{Variable}
+use Rattle.job_lang.specs.Laws.{MetadataFit}
+
+each_holds : (P : Variable → Type 0) (variables : List Variable) → ((place : ℕ) (v : Variable) → slice_get variables place ≡ Some v → P v) → AllByRecursion P variables
+each_holds P [] h = tt
+each_holds P (v ∷ variables) h = (h 0 v refl, each_holds P variables (λ place w at. h (suc place) w at))
+
+pub metadata_fit : MetadataFit
+metadata_fit meta is = record {
+  few = is.few;
+  names = is.distinct;
+  weights = let count = length-filter (λ (v : Variable). v.weight) meta.variables in omega (arith, count, is.one_weight);
+  decimals = each_holds (λ v. v.decimals ≤ 9) meta.variables (λ place v at. (is.each place v at).fine);
+  weight_decimals = each_holds (λ v. IsTrue v.weight → v.decimals ≤ 4) meta.variables (λ place v at. (is.each place v at).weight_fine);
+}

@@ -1,0 +1,8 @@
+use Rattle.std.proofs.Common.{◌≡◌, ◌+◌, ◌==◌, ◌++◌, drop, take, map, Option, Some}
+use Rattle.std.specs.Prelude.{find, option_map}
+use Rattle.sdc_base.specs.Places.{first_place}
+use Rattle.job_lang.specs.Binding.{is_named, is_spanning, places_from, spanning_of, variable_place, spanning_place, table_places}
+use Rattle.job_lang.proofs.binding.spanning_place.Given as goal
+
+abbrev pub invariant-loop-k : goal.invariant-loop-k
+invariant-loop-k l = first_place (λ j. j == l.place) l.spanning ≡ option_map (λ j. l.k + j) (first_place (λ j. j == l.place) (drop l.k l.spanning))

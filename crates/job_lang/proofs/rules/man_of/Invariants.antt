@@ -1,0 +1,6 @@
+use Rattle.std.proofs.Common.{◌≡◌, ◌+◌, ◌++◌, length, drop}
+use Rattle.job_lang.specs.RuleTexts.{named_in, man_of, weighted_of}
+use Rattle.job_lang.proofs.rules.man_of.Given as goal
+
+abbrev pub invariant-loop-clause : goal.invariant-loop-clause
+invariant-loop-clause l = man_of (drop l.clause-index l.clauses) ≡ man_of l.clauses

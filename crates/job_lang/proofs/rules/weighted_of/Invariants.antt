@@ -1,0 +1,6 @@
+use Rattle.std.proofs.Common.{◌≡◌, ◌+◌, ◌++◌, length, drop}
+use Rattle.job_lang.specs.RuleTexts.{named_in, man_of, weighted_of}
+use Rattle.job_lang.proofs.rules.weighted_of.Given as goal
+
+abbrev pub invariant-loop-clause : goal.invariant-loop-clause
+invariant-loop-clause l = weighted_of (drop l.clause-index l.clauses) ≡ weighted_of l.clauses

@@ -1,0 +1,135 @@
+-- The argument of each command: what it says, or BadValue (tau-ARGUS user manual; ranges, COST, STEPS and NODES own).
+use Rattle.std.specs.Prelude.{ℕ, ◌^◌, Bool, not, ◌==◌, ◌||◌, codes, if◌then◌else◌, List, [], ◌∷◌, Option, None, Some, Result, Ok, Err, pos}
+use Rattle.std.specs.Char.{is_ascii_digit}
+use Rattle.std.specs.Str.{str_eq_ignore_ascii_case}
+use Rattle.cost_rule.specs.declared.kind.CostKind.{CostKind}
+use Rattle.cost_rule.specs.declared.kind.CostKind.TheVariants as kind
+use Rattle.sdc_base.specs.Blanks.{is_blank}
+use Rattle.sdc_base.specs.Numbers.{is_point}
+use Rattle.sdc_base.specs.Steps.{◌>>=◌, or_fault, refuse}
+use Rattle.sdc_base.specs.Tokens.{is_quote, is_file_name}
+use Rattle.sdc_base.specs.declared.method.Method.{Method}
+use Rattle.sdc_base.specs.declared.method.Method.TheVariants.{Gh, Modular, Rnd}
+use Rattle.job_lang.specs.declared.faults.JobWhy.{JobWhy}
+use Rattle.job_lang.specs.declared.faults.JobWhy.TheVariants.{BadValue}
+use Rattle.job_lang.specs.declared.statement.Keyword.{Keyword}
+use Rattle.job_lang.specs.declared.statement.Keyword.TheVariants.{OpenMicrodata, OpenMetadata, SpecifyTable, SafetyRule, ReadMicrodata, Apriori, Cost, Steps, Nodes, Suppress, WriteTable, Certificate}
+use Rattle.job_lang.specs.declared.statement.Said.{Said}
+use Rattle.job_lang.specs.declared.statement.Said.TheVariants as said
+use Rattle.job_lang.specs.LineTokens.{behind_mark, quoted_at, run_of, behind_run, number_at, digits_at, ended, closed}
+use Rattle.job_lang.specs.RuleTexts.{one_number, rules_in}
+use Rattle.job_lang.specs.TableTexts.{table_argument}
+
+-- a file name in quotes is the next token; it, and what stands behind it
+unfoldable pub file_at : List ℕ → Result (List ℕ × List ℕ) JobWhy
+file_at text = do
+  name ← quoted_at text
+  fine ← refuse BadValue (not (is_file_name name.0))
+  Ok name
+
+-- a file name in quotes, and nothing behind it
+unfoldable pub only_file : List ℕ → Result (List ℕ) JobWhy
+only_file text = do
+  name ← file_at text
+  end ← ended name.1
+  Ok name.0
+
+-- a byte that may separate fields: no digit, point, quote, blank or CR
+abbrev pub may_separate : ℕ → Bool
+may_separate b = not (is_ascii_digit b || is_point b || is_quote b || is_blank b || (b == 13))
+
+-- one byte that may separate fields
+abbrev pub separator_of : List ℕ → Option ℕ
+separator_of [] = None
+separator_of (b ∷ []) = if may_separate b then Some b else None
+separator_of (b ∷ c ∷ word) = None
+
+-- "name", the number of a table, and the separator in quotes
+unfoldable pub prior_argument : List ℕ → Result Said JobWhy
+prior_argument text = do
+  file ← file_at text
+  comma ← behind_mark 44 file.1
+  number ← digits_at comma
+  again ← behind_mark 44 number.1
+  word ← quoted_at again
+  separator ← or_fault BadValue (separator_of word.0)
+  end ← ended word.1
+  Ok (said.Prior file.0 number.0 separator)
+
+-- (t,"name"): the number of a table and the file that it is put in
+unfoldable pub output_argument : List ℕ → Result Said JobWhy
+output_argument text = do
+  open_ ← behind_mark 40 text
+  number ← digits_at open_
+  comma ← behind_mark 44 number.1
+  file ← file_at comma
+  end ← closed file.1
+  Ok (said.Output number.0 file.0)
+
+-- the kind of cost of this word, in letters of any case
+unfoldable pub cost_of : List ℕ → Option CostKind
+cost_of word =
+    if str_eq_ignore_ascii_case word (codes "VALUE") then Some kind.Value
+    else if str_eq_ignore_ascii_case word (codes "FREQ") then Some kind.Freq
+    else if str_eq_ignore_ascii_case word (codes "UNIT") then Some kind.One
+    else None
+
+-- VALUE, FREQ or UNIT
+unfoldable pub cost_argument : List ℕ → Result CostKind JobWhy
+cost_argument text = do
+  cost ← or_fault BadValue (cost_of (run_of text))
+  end ← ended (behind_run text)
+  Ok cost
+
+-- the greatest number of steps or nodes
+abbrev pub most_work : ℕ
+most_work = 10 ^ 12
+
+-- a number of steps or nodes, from 1
+unfoldable pub work_argument : List ℕ → Result ℕ JobWhy
+work_argument text = do
+  number ← number_at 1 most_work text
+  end ← ended number.1
+  Ok number.0
+
+-- GH(n): 1 to 8 passes
+unfoldable pub passes_method : List ℕ → Result Method JobWhy
+passes_method text = do
+  n ← one_number 1 8 text
+  Ok (Gh n)
+
+-- MOD()
+unfoldable pub modular_method : List ℕ → Result Method JobWhy
+modular_method text = do
+  open_ ← behind_mark 40 text
+  end ← closed open_
+  Ok Modular
+
+-- RND(b): the base, from 1 to 10^9
+unfoldable pub rounding_method : List ℕ → Result Method JobWhy
+rounding_method text = do
+  base ← one_number 1 1000000000 text
+  Ok (Rnd (pos base))
+
+-- how tables are protected, its word in letters of any case
+unfoldable pub method_argument : List ℕ → Result Method JobWhy
+method_argument text =
+    if str_eq_ignore_ascii_case (run_of text) (codes "GH") then passes_method (behind_run text)
+    else if str_eq_ignore_ascii_case (run_of text) (codes "MOD") then modular_method (behind_run text)
+    else if str_eq_ignore_ascii_case (run_of text) (codes "RND") then rounding_method (behind_run text)
+    else Err BadValue
+
+-- what the text behind a command says
+unfoldable pub argument_of : Keyword → List ℕ → Result Said JobWhy
+argument_of OpenMicrodata text = only_file text >>= λ name. Ok (said.Microdata name)
+argument_of OpenMetadata text = only_file text >>= λ name. Ok (said.Metadata name)
+argument_of SpecifyTable text = table_argument text
+argument_of SafetyRule text = rules_in text >>= λ rules. Ok (said.Safety rules)
+argument_of ReadMicrodata text = ended text >>= λ end. Ok said.Read
+argument_of Apriori text = prior_argument text
+argument_of Cost text = cost_argument text >>= λ cost. Ok (said.Cost cost)
+argument_of Steps text = work_argument text >>= λ steps. Ok (said.Steps steps)
+argument_of Nodes text = work_argument text >>= λ nodes. Ok (said.Nodes nodes)
+argument_of Suppress text = method_argument text >>= λ method. Ok (said.Suppress method)
+argument_of WriteTable text = output_argument text
+argument_of Certificate text = only_file text >>= λ name. Ok (said.Certificate name)

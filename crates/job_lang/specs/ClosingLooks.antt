@@ -1,0 +1,180 @@
+-- What is looked for behind the last line of a job: numbers of no table, names that meet, and commands that are missing (own).
+use Rattle.std.specs.Prelude.{ℕ, zero, suc, ◌+◌, ◌-◌, Bool, true, false, not, ◌||◌, nat_lt, if◌then◌else◌, List, [], ◌∷◌, ◌++◌, Option, None, Some, option_map, unwrap_or, find, Result, Ok, Err}
+use Rattle.std.specs.List.{list_any, count_by}
+use Rattle.std.specs.Option.{is_some, is_none}
+use Rattle.std.specs.Str.{bytes_eq}
+use Rattle.cost_rule.specs.declared.kind.CostKind.{CostKind}
+use Rattle.cost_rule.specs.declared.kind.CostKind.TheVariants as kind
+use Rattle.sdc_base.specs.Steps.{◌>>=◌, or_fault}
+use Rattle.sdc_base.specs.Tokens.{number_in}
+use Rattle.sdc_base.specs.declared.method.Method.{Method}
+use Rattle.sdc_base.specs.declared.rule.Rules.{Rules}
+use Rattle.job_lang.specs.declared.faults.JobWhy.{JobWhy}
+use Rattle.job_lang.specs.declared.faults.JobWhy.TheVariants.{NoSuchTable, SameName, Missing}
+use Rattle.job_lang.specs.declared.faults.Command.{Command}
+use Rattle.job_lang.specs.declared.faults.Command.TheVariants as command
+use Rattle.job_lang.specs.declared.job.OutputLine.{OutputLine}
+use Rattle.job_lang.specs.declared.job.PriorLine.{PriorLine}
+use Rattle.job_lang.specs.declared.statement.Keyword.{Keyword}
+use Rattle.job_lang.specs.declared.statement.Keyword.TheVariants as keyword
+use Rattle.job_lang.specs.declared.statement.Said.{Said}
+use Rattle.job_lang.specs.declared.statement.Said.TheVariants as said
+use Rattle.job_lang.specs.declared.statement.Statement.{Statement}
+use Rattle.job_lang.specs.declared.looked_up.RulesLine.{RulesLine}
+use Rattle.job_lang.specs.Statements.{is_by}
+
+-- ---- numbers of tables
+
+-- the number is that of no table, of which there are so many
+abbrev pub is_no_table : ℕ → List ℕ → Bool
+is_no_table count number = is_none (number_in 1 count number)
+
+-- an a priori file or an output of no table
+abbrev pub is_astray : ℕ → Said → Bool
+is_astray count (said.Prior file number separator) = is_no_table count number
+is_astray count (said.Output number file) = is_no_table count number
+is_astray count one = false
+
+-- the first line that names no table is a fault
+unfoldable pub no_stray : ℕ → List Statement → Result (Unit {0}) (ℕ × JobWhy)
+no_stray count [] = Ok tt
+no_stray count (s ∷ rest) = if is_astray count s.said then Err (s.line, NoSuchTable) else no_stray count rest
+
+-- ---- names of files
+
+-- a file of this name is put
+abbrev pub puts : List ℕ → Said → Bool
+puts name (said.Output number file) = bytes_eq file name
+puts name (said.Certificate file) = bytes_eq file name
+puts name one = false
+
+-- a file of this name is read
+abbrev pub reads : List ℕ → Said → Bool
+reads name (said.Microdata file) = bytes_eq file name
+reads name (said.Metadata file) = bytes_eq file name
+reads name (said.Prior file number separator) = bytes_eq file name
+reads name one = false
+
+-- two files of this name are put, or one is read
+abbrev pub is_shared : List ℕ → List Statement → Bool
+is_shared name all = nat_lt 1 (count_by (λ s. puts name s.said) all) || list_any (λ s. reads name s.said) all
+
+-- a file is put whose name another one has
+abbrev pub is_meeting : List Statement → Said → Bool
+is_meeting all (said.Output number file) = is_shared file all
+is_meeting all (said.Certificate file) = is_shared file all
+is_meeting all one = false
+
+-- the first line that puts such a file is a fault
+unfoldable pub no_same_name : List Statement → List Statement → Result (Unit {0}) (ℕ × JobWhy)
+no_same_name all [] = Ok tt
+no_same_name all (s ∷ rest) = if is_meeting all s.said then Err (s.line, SameName) else no_same_name all rest
+
+-- ---- look-ups
+
+-- the statement by this command
+abbrev pub said_by : Keyword → List Statement → Option Statement
+said_by word all = find (λ s. is_by word s.said) all
+
+-- an output of the table at this place, from 0
+abbrev pub is_output_at : ℕ → Said → Bool
+is_output_at place (said.Output number file) = is_some (number_in (place + 1) (place + 1) number)
+is_output_at place one = false
+
+-- the statement of that output
+abbrev pub output_said : ℕ → List Statement → Option Statement
+output_said place all = find (λ s. is_output_at place s.said) all
+
+-- the file of a command that names one alone, or of an output
+abbrev pub file_said : Said → Option (List ℕ)
+file_said (said.Microdata file) = Some file
+file_said (said.Metadata file) = Some file
+file_said (said.Certificate file) = Some file
+file_said (said.Output number file) = Some file
+file_said one = None
+
+-- that file with its line
+abbrev pub file_line : Option Statement → Option OutputLine
+file_line None = None
+file_line (Some s) = option_map (λ file. record { line = s.line; file = file }) (file_said s.said)
+
+-- the rules with their line
+abbrev pub rules_from : ℕ → Said → Option RulesLine
+rules_from line (said.Safety rules) = Some (record { line = line; rules = rules })
+rules_from line one = None
+
+-- the rules of a job with their line
+abbrev pub rules_line : Option Statement → Option RulesLine
+rules_line None = None
+rules_line (Some s) = rules_from s.line s.said
+
+-- the method
+abbrev pub method_from : Said → Option Method
+method_from (said.Suppress method) = Some method
+method_from one = None
+
+-- the method of a job
+abbrev pub method_of : Option Statement → Option Method
+method_of None = None
+method_of (Some s) = method_from s.said
+
+-- the kind of cost, its value where nothing else is said
+abbrev pub cost_from : Said → CostKind
+cost_from (said.Cost cost) = cost
+cost_from one = kind.Value
+
+-- the kind of cost of a job
+abbrev pub cost_of : Option Statement → CostKind
+cost_of None = kind.Value
+cost_of (Some s) = cost_from s.said
+
+-- a number of steps or nodes, or else this one
+abbrev pub work_from : ℕ → Said → ℕ
+work_from other (said.Steps steps) = steps
+work_from other (said.Nodes nodes) = nodes
+work_from other one = other
+
+-- the number of a job's steps or nodes, or else this one
+abbrev pub work_of : ℕ → Option Statement → ℕ
+work_of other None = other
+work_of other (Some s) = work_from other s.said
+
+-- the steps where a job says nothing
+abbrev pub usual_steps : ℕ
+usual_steps = 100000
+
+-- the nodes where a job says nothing
+abbrev pub usual_nodes : ℕ
+usual_nodes = 1000000
+
+-- the place of the table with this number, which is 1 to 8
+abbrev pub table_place : List ℕ → ℕ
+table_place number = unwrap_or (number_in 1 8 number) 1 - 1
+
+-- an a priori file with its line
+abbrev pub prior_in : ℕ → Said → List PriorLine
+prior_in line (said.Prior file number separator) = record { line = line; file = file; table = table_place number; separator = separator } ∷ []
+prior_in line one = []
+
+-- the a priori files in the order of their lines
+abbrev pub priors_in : List Statement → List PriorLine
+priors_in [] = []
+priors_in (s ∷ rest) = prior_in s.line s.said ++ priors_in rest
+
+-- ---- commands that are missing
+
+-- a job must have this command
+abbrev pub needed : {A : Type 0} → Command → Option A → Result A (ℕ × JobWhy)
+needed which found = or_fault (0, Missing which) found
+
+-- the output of the table at this place, which must have one
+abbrev pub output_of_table : ℕ → List Statement → Result OutputLine (ℕ × JobWhy)
+output_of_table place all = needed command.WriteTable (file_line (output_said place all))
+
+-- the outputs of so many tables from this place on
+unfoldable pub outputs_from : ℕ → ℕ → List Statement → Result (List OutputLine) (ℕ × JobWhy)
+outputs_from zero place all = Ok []
+outputs_from (suc more) place all = do
+  output ← output_of_table place all
+  outputs ← outputs_from more (place + 1) all
+  Ok (output ∷ outputs)

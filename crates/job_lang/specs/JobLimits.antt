@@ -1,0 +1,65 @@
+-- What holds of a job that is read: the limits of its tables, rules and numbers (own).
+use Rattle.std.specs.Prelude.{◌≡◌, ℕ, ◌<◌, ◌≤◌, ◌^◌, List, [], ◌∷◌, length, pos, ◌≤ℤ◌}
+use Rattle.std.specs.List.{AllByRecursion, IsDistinct}
+use Rattle.std.specs.Set.{distinct_count}
+use Rattle.std.specs.Str.{bytes_eq}
+use Rattle.sdc_base.specs.declared.method.Method.{Method}
+use Rattle.sdc_base.specs.declared.method.Method.TheVariants.{Gh, Modular, Rnd}
+use Rattle.sdc_base.specs.declared.rule.Rule.{Rule}
+use Rattle.sdc_base.specs.declared.rule.Rule.TheVariants.{Freq, Nk, Percent}
+use Rattle.sdc_base.specs.declared.rule.Rules.{Rules}
+use Rattle.job_lang.specs.declared.job.Job.{Job}
+use Rattle.job_lang.specs.declared.job.PriorLine.{PriorLine}
+use Rattle.job_lang.specs.declared.job.TableLine.{TableLine}
+use Rattle.job_lang.specs.Statements.{names_in}
+use Rattle.job_lang.specs.Binding.{response_of}
+
+-- no variable stands twice in a table
+abbrev pub HasNoTwice : TableLine → Type 0
+HasNoTwice table = IsDistinct bytes_eq table.variables
+
+-- What a job needs to be bound: tables of one response, each of distinct variables, which are at most 8 in all.
+pub record AreTables (tables : List TableLine) : Type 0 where
+  pub some : 0 < length tables
+  pub response : AllByRecursion (λ t. t.response ≡ response_of tables) tables
+  pub once : AllByRecursion HasNoTwice tables
+  pub variables : distinct_count bytes_eq (names_in tables) ≤ 8
+
+-- 1 to 4 variables
+abbrev pub HasVariables : TableLine → Type 0
+HasVariables table = (0 < length table.variables) × (length table.variables ≤ 4)
+
+-- the numbers of a rule are in their ranges
+abbrev pub IsInRange : Rule → Type 0
+IsInRange (Freq n r) = (1 ≤ n) × (n ≤ 1000000) × (r ≤ 1000)
+IsInRange (Nk n k) = (1 ≤ n) × (n ≤ 10) × (1 ≤ k) × (k ≤ 100)
+IsInRange (Percent p) = (1 ≤ p) × (p ≤ 1000)
+
+-- one to eight rules in their ranges
+pub record AreInRange (rules : Rules) : Type 0 where
+  pub some : 0 < length rules.list
+  pub few : length rules.list ≤ 8
+  pub ranges : AllByRecursion IsInRange rules.list
+  pub man : rules.man ≤ 1000
+
+-- the number of a method is in its range
+abbrev pub IsMethod : Method → Type 0
+IsMethod (Gh n) = (1 ≤ n) × (n ≤ 8)
+IsMethod Modular = Unit {0}
+IsMethod (Rnd base) = (pos 1 ≤ℤ base) × (base ≤ℤ pos 1000000000)
+
+-- from 1 to 10^12
+abbrev pub IsWork : ℕ → Type 0
+IsWork n = (1 ≤ n) × (n ≤ 10 ^ 12)
+
+-- a job within all limits
+pub record IsJob (job : Job) : Type 0 where
+  pub tables : AreTables job.tables
+  pub few : length job.tables ≤ 8
+  pub variables : AllByRecursion HasVariables job.tables
+  pub outputs : length job.outputs ≡ length job.tables
+  pub priors : AllByRecursion (λ prior. prior.table < length job.tables) job.priors
+  pub rules : AreInRange job.rules
+  pub method : IsMethod job.method
+  pub steps : IsWork job.steps
+  pub nodes : IsWork job.nodes

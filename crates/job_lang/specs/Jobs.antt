@@ -1,0 +1,51 @@
+-- The job that a text states, or its first fault with its line (tau-ARGUS user manual; first fault own).
+use Rattle.std.specs.Prelude.{ℕ, Bool, ◌==◌, List, [], ◌∷◌, length, Result, Ok}
+use Rattle.sdc_base.specs.Lines.{lines}
+use Rattle.sdc_base.specs.Steps.{◌>>=◌, refuse}
+use Rattle.job_lang.specs.declared.faults.JobWhy.{JobWhy}
+use Rattle.job_lang.specs.declared.faults.JobWhy.TheVariants.{Missing}
+use Rattle.job_lang.specs.declared.faults.Command.TheVariants as command
+use Rattle.job_lang.specs.declared.job.Job.{Job}
+use Rattle.job_lang.specs.declared.statement.Keyword.TheVariants as keyword
+use Rattle.job_lang.specs.declared.statement.Draft.{Draft}
+use Rattle.job_lang.specs.Statements.{lines_say, nothing}
+use Rattle.job_lang.specs.ClosingLooks.{no_stray, no_same_name, said_by, file_line, rules_line, method_of, cost_of, work_of, usual_steps, usual_nodes, priors_in, needed, outputs_from}
+
+-- The job of all that was said: each command that must be there, in the order of the table, and the others with their defaults.
+unfoldable pub job_made : Draft → Result Job (ℕ × JobWhy)
+job_made draft = do
+  micro ← needed command.OpenMicrodata (file_line (said_by keyword.OpenMicrodata draft.said))
+  meta ← needed command.OpenMetadata (file_line (said_by keyword.OpenMetadata draft.said))
+  some ← refuse (0, Missing command.SpecifyTable) (length draft.tables == 0)
+  rules ← needed command.SafetyRule (rules_line (said_by keyword.SafetyRule draft.said))
+  method ← needed command.Suppress (method_of (said_by keyword.Suppress draft.said))
+  outputs ← outputs_from (length draft.tables) 0 draft.said
+  certificate ← needed command.Certificate (file_line (said_by keyword.Certificate draft.said))
+  Ok (record {
+    micro = micro.file;
+    meta = meta.file;
+    tables = draft.tables;
+    rules = rules.rules;
+    rules_line = rules.line;
+    priors = priors_in draft.said;
+    cost = cost_of (said_by keyword.Cost draft.said);
+    steps = work_of usual_steps (said_by keyword.Steps draft.said);
+    nodes = work_of usual_nodes (said_by keyword.Nodes draft.said);
+    method = method;
+    outputs = outputs;
+    certificate = certificate.file;
+    certificate_line = certificate.line;
+  })
+
+-- the closing looks at what the lines say, and the job
+unfoldable pub closed_job : Draft → Result Job (ℕ × JobWhy)
+closed_job draft = do
+  placed ← no_stray (length draft.tables) draft.said
+  apart ← no_same_name draft.said draft.said
+  job_made draft
+
+-- the job that a text states, or its first fault with its line
+unfoldable pub job_of : List ℕ → Result Job (ℕ × JobWhy)
+job_of bytes = do
+  draft ← lines_say 0 nothing (lines bytes)
+  closed_job draft

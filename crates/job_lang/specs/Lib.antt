@@ -1,0 +1,16 @@
+pub mod Faults
+pub mod LineTokens
+pub mod Pieces
+pub mod Keywords
+pub mod RuleTexts
+pub mod TableTexts
+pub mod Arguments
+pub mod Statements
+pub mod ClosingLooks
+pub mod Jobs
+pub mod Binding
+pub mod JobLimits
+pub mod BoundLimits
+pub mod Rows
+pub mod Laws
+pub mod Meaning

@@ -1,0 +1,64 @@
+-- Worked jobs and what they say (own).
+use Rattle.std.specs.Prelude.{◌≡◌, ℕ, Bool, true, false, codes, List, [], ◌∷◌, Option, None, Some, Ok, Err}
+use Rattle.cost_rule.specs.declared.kind.CostKind.TheVariants as kind
+use Rattle.sdc_base.specs.Lines.{joined}
+use Rattle.sdc_base.specs.declared.method.Method.TheVariants as method
+use Rattle.sdc_base.specs.declared.rule.Rule.TheVariants as rule
+use Rattle.rda_meta.specs.declared.meta.Meta.{Meta}
+use Rattle.rda_meta.specs.declared.meta.Shape.TheVariants as shape
+use Rattle.rda_meta.specs.declared.meta.Variable.{Variable}
+use Rattle.job_lang.specs.declared.faults.JobWhy.TheVariants as why
+use Rattle.job_lang.specs.declared.faults.Command.TheVariants as command
+use Rattle.job_lang.specs.declared.job.Job.{Job}
+use Rattle.job_lang.specs.declared.bound.Bound.{Bound}
+use Rattle.job_lang.specs.Jobs.{job_of}
+use Rattle.job_lang.specs.Binding.{bound_of}
+
+-- the job of one table by one variable
+abbrev pub flat_job : Job
+flat_job = record {
+  micro = codes "m.asc";
+  meta = codes "m.rda";
+  tables = record { line = 3; variables = codes "A" ∷ []; response = codes "V" } ∷ [];
+  rules = record { list = rule.Freq 3 30 ∷ []; man = 20; weighted = false };
+  rules_line = 4;
+  priors = [];
+  cost = kind.Value;
+  steps = 100000;
+  nodes = 1000000;
+  method = method.Modular;
+  outputs = record { line = 7; file = codes "t.csv" } ∷ [];
+  certificate = codes "t.cert";
+  certificate_line = 8;
+}
+
+-- the eight lines of that job
+abbrev pub EightLines : Type 0
+EightLines =
+    job_of (joined (
+    codes "<OPENMICRODATA> \"m.asc\"" ∷ codes "<OPENMETADATA> \"m.rda\"" ∷ codes "<SPECIFYTABLE> \"A\"|\"V\"" ∷ codes "<SAFETYRULE> FREQ(3,30)" ∷ codes "<READMICRODATA>"
+    ∷ codes "<SUPPRESS> MOD()" ∷ codes "<WRITETABLE> (1,\"t.csv\")" ∷ codes "<CERTIFICATE> \"t.cert\"" ∷ []))
+    ≡ Ok flat_job
+
+-- An output that is named like the microdata is given before the certificate that is missing.
+abbrev pub NameBeforeMissing : Type 0
+NameBeforeMissing =
+    job_of (joined (
+    codes "<OPENMICRODATA> \"m.asc\"" ∷ codes "// a comment" ∷ [] ∷ codes "<specifytable> \"A\" | \"V\" | \"V\" | \"\" |" ∷ codes "<WRITETABLE> ( 01 , \"m.asc\" )" ∷ []))
+    ≡ Err (5, why.SameName)
+
+-- a variable of the metadata of that job
+abbrev pub variable : List ℕ → Bool → ℕ → Option (List ℕ) → Variable
+variable name numeric decimals file = record { name = name; first = 1; width = 1; missing = []; numeric = numeric; weight = false; decimals = decimals; total = codes "Total"; codes = file; shape = shape.Flat }
+
+-- Bound to metadata with the variable and the response in the other order.
+abbrev pub Bindable : Type 0
+Bindable =
+    bound_of flat_job (record { variables = variable (codes "V") true 2 None ∷ variable (codes "A") false 0 None ∷ []; passed_over = 0 })
+    ≡ Ok (record { spanning = 1 ∷ []; tables = (0 ∷ []) ∷ []; response = 0; weight = None; decimals = 2; scale = 1 })
+
+-- The certificate is the code list of the variable that spans the table.
+abbrev pub CodeListMet : Type 0
+CodeListMet =
+    bound_of flat_job (record { variables = variable (codes "A") false 0 (Some (codes "t.cert")) ∷ variable (codes "V") true 0 None ∷ []; passed_over = 0 })
+    ≡ Err (8, why.SameName)

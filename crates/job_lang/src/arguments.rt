@@ -1,0 +1,220 @@
+ghost use Rattle.std.specs.Prelude.{◌≡◌, ◌≤◌, ◌<◌, ◌^◌, IfOk};
+ghost use Rattle.std.specs.List.{list_any};
+ghost use Rattle.sdc_base.specs.Answers.{Gives};
+ghost use Rattle.job_lang.specs.Faults.{fault_itself, why_of};
+ghost use Rattle.job_lang.specs.Arguments.{file_at as filed, only_file as filed_alone, may_separate as separates, separator_of as separator, prior_argument as prior, output_argument as output, cost_of as costed, cost_argument as cost, work_argument as work, passes_method as passes, modular_method as modular, rounding_method as rounding, method_argument as method, argument_of as argued};
+
+use crate::cursor::{Cursor, at_front};
+use crate::faults::{JobWhy, LineError};
+use crate::keywords::spells;
+use crate::rule_texts::one_number;
+use crate::rules::rules_in;
+use crate::statement::{Keyword, Said};
+use crate::table_texts::table_argument;
+use crate::texts::text_of;
+use cost_rule::CostKind;
+use plain_text::{is_blank_byte, is_file_name};
+use sdc_base::{Method, Text};
+use std::alloc::Global;
+
+// The greatest number of steps or nodes.
+const MOST_WORK: u64 = 1_000_000_000_000;
+
+/// What the text behind a command says.
+#[tactic(auto, unfolding(crate::specs::Arguments::argument_of))]
+pub(crate) fn argument_of(alloc: Global, keyword: Keyword, text: &[u8]) -> Result<Said, LineError>
+    ensures { Gives why_of (λ said. said) result (argued keyword text.now) }
+{
+    match keyword {
+        Keyword::OpenMicrodata => Ok(Said::Microdata(only_file(alloc, text)?)),
+        Keyword::OpenMetadata => Ok(Said::Metadata(only_file(alloc, text)?)),
+        Keyword::SpecifyTable => table_argument(alloc, text),
+        Keyword::SafetyRule => Ok(Said::Safety(rules_in(alloc, text)?)),
+        Keyword::ReadMicrodata => nothing_more(text),
+        Keyword::Apriori => prior_argument(alloc, text),
+        Keyword::Cost => Ok(Said::Cost(cost_argument(text)?)),
+        Keyword::Steps => Ok(Said::Steps(work_argument(text)?)),
+        Keyword::Nodes => Ok(Said::Nodes(work_argument(text)?)),
+        Keyword::Suppress => Ok(Said::Suppress(method_argument(text)?)),
+        Keyword::WriteTable => output_argument(alloc, text),
+        Keyword::Certificate => Ok(Said::Certificate(only_file(alloc, text)?)),
+    }
+}
+
+// No token at all.
+#[tactic(auto, unfolding(crate::specs::Arguments::argument_of))]
+fn nothing_more(text: &[u8]) -> Result<Said, LineError>
+    ensures { Gives why_of (λ said. said) result (argued Keyword.ReadMicrodata text.now) }
+{
+    at_front(text).end()?;
+    Ok(Said::Read)
+}
+
+// The next token, which must be a file name in quotes.
+#[tactic(auto, unfolding(crate::specs::Arguments::file_at))]
+fn file_at<'a>(cursor: &mut Cursor<'a>) -> Result<&'a [u8], JobWhy>
+    ensures { Gives fault_itself (λ file. (file.now, cursor.new)) result (filed cursor.old) }
+{
+    let name = cursor.quoted()?;
+    if !is_file_name(name) {
+        return Err(JobWhy::BadValue);
+    }
+    Ok(name)
+}
+
+// A file name in quotes, and nothing behind it.
+#[tactic(auto, unfolding(crate::specs::Arguments::only_file))]
+fn only_file(alloc: Global, text: &[u8]) -> Result<Text, LineError>
+    ensures { Gives why_of (λ file. file) result (filed_alone text.now) }
+{
+    let mut cursor = at_front(text);
+    let file = file_at(&mut cursor)?;
+    cursor.end()?;
+    Ok(text_of(alloc, file)?)
+}
+
+// No digit, point, quote, blank or CR.
+fn may_separate(b: u8) -> bool
+    ensures { result ≡ separates b }
+{
+    !(b.is_ascii_digit() || b == b'.' || b == b'"' || is_blank_byte(b) || b == b'\r')
+}
+
+// One byte that may separate fields.
+fn separator_of(word: &[u8]) -> Option<u8>
+    ensures { result ≡ separator word.now }
+{
+    if word.len() != 1 {
+        return None;
+    }
+    let b = word[0];
+    if may_separate(b) { Some(b) } else { None }
+}
+
+// A file, the number of its table and its separator.
+#[tactic(auto, unfolding(crate::specs::Arguments::prior_argument))]
+fn prior_argument(alloc: Global, text: &[u8]) -> Result<Said, LineError>
+    ensures { Gives why_of (λ said. said) result (prior text.now) }
+{
+    let mut cursor = at_front(text);
+    let file = file_at(&mut cursor)?;
+    cursor.mark(b',')?;
+    let number = cursor.digits()?;
+    cursor.mark(b',')?;
+    let word = cursor.quoted()?;
+    let Some(separator) = separator_of(word) else {
+        return Err(LineError::Fault(JobWhy::BadValue));
+    };
+    cursor.end()?;
+    let file = text_of(alloc, file)?;
+    let number = text_of(alloc, number)?;
+    Ok(Said::Prior {
+        file,
+        number,
+        separator,
+    })
+}
+
+// The number of a table and its file.
+#[tactic(auto, unfolding(crate::specs::Arguments::output_argument))]
+fn output_argument(alloc: Global, text: &[u8]) -> Result<Said, LineError>
+    ensures { Gives why_of (λ said. said) result (output text.now) }
+{
+    let mut cursor = at_front(text);
+    cursor.mark(b'(')?;
+    let number = cursor.digits()?;
+    cursor.mark(b',')?;
+    let file = file_at(&mut cursor)?;
+    cursor.close()?;
+    let number = text_of(alloc, number)?;
+    let file = text_of(alloc, file)?;
+    Ok(Said::Output { number, file })
+}
+
+// The kind of cost of a word, in letters of any case.
+#[tactic(auto, unfolding(crate::specs::Arguments::cost_of))]
+fn cost_of(word: &[u8]) -> Option<CostKind>
+    ensures { result ≡ costed word.now }
+{
+    if spells(word, b"VALUE") {
+        return Some(CostKind::Value);
+    }
+    if spells(word, b"FREQ") {
+        return Some(CostKind::Freq);
+    }
+    if spells(word, b"UNIT") {
+        return Some(CostKind::One);
+    }
+    None
+}
+
+// A kind of cost, and nothing behind it.
+#[tactic(auto, unfolding(crate::specs::Arguments::cost_argument))]
+fn cost_argument(text: &[u8]) -> Result<CostKind, JobWhy>
+    ensures { Gives fault_itself (λ cost. cost) result (cost text.now) }
+{
+    let mut cursor = at_front(text);
+    let Some(cost) = cost_of(cursor.run()) else {
+        return Err(JobWhy::BadValue);
+    };
+    cursor.end()?;
+    Ok(cost)
+}
+
+// A number of steps or nodes, and nothing behind it.
+#[tactic(auto, unfolding(crate::specs::Arguments::work_argument))]
+fn work_argument(text: &[u8]) -> Result<u64, JobWhy>
+    ensures { Gives fault_itself (λ number. number) result (work text.now) }
+{
+    let mut cursor = at_front(text);
+    let number = cursor.number(1, MOST_WORK)?;
+    cursor.end()?;
+    Ok(number)
+}
+
+// The passes of GH.
+#[tactic(auto, unfolding(crate::specs::Arguments::passes_method))]
+fn passes_method(cursor: &mut Cursor) -> Result<Method, JobWhy>
+    ensures { Gives fault_itself (λ method. method) result (passes cursor.old) }
+{
+    let n = one_number(1, 8, cursor)?;
+    Ok(Method::Gh(n as u32))
+}
+
+// The empty parentheses of MOD.
+#[tactic(auto, unfolding(crate::specs::Arguments::modular_method))]
+fn modular_method(cursor: &mut Cursor) -> Result<Method, JobWhy>
+    ensures { Gives fault_itself (λ method. method) result (modular cursor.old) }
+{
+    cursor.mark(b'(')?;
+    cursor.close()?;
+    Ok(Method::Modular)
+}
+
+// The base of RND.
+#[tactic(auto, unfolding(crate::specs::Arguments::rounding_method))]
+fn rounding_method(cursor: &mut Cursor) -> Result<Method, JobWhy>
+    ensures { Gives fault_itself (λ method. method) result (rounding cursor.old) }
+{
+    let base = one_number(1, 1_000_000_000, cursor)?;
+    Ok(Method::Rnd(base as i128))
+}
+
+// How tables are protected, its word in letters of any case.
+#[tactic(auto, unfolding(crate::specs::Arguments::method_argument))]
+fn method_argument(text: &[u8]) -> Result<Method, JobWhy>
+    ensures { Gives fault_itself (λ method. method) result (method text.now) }
+{
+    let mut cursor = at_front(text);
+    let word = cursor.run();
+    if spells(word, b"GH") {
+        return passes_method(&mut cursor);
+    }
+    if spells(word, b"MOD") {
+        return modular_method(&mut cursor);
+    }
+    if spells(word, b"RND") {
+        return rounding_method(&mut cursor);
+    }
+    Err(JobWhy::BadValue)
+}

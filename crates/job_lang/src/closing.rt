@@ -1,0 +1,125 @@
+ghost use Rattle.std.specs.Prelude.{◌≡◌, ◌≤◌, Some};
+ghost use Rattle.std.specs.List.{list_any, count_by};
+ghost use Rattle.sdc_base.specs.Answers.{Gives};
+ghost use Rattle.job_lang.specs.Faults.{fault_of};
+ghost use Rattle.job_lang.specs.ClosingLooks.{is_no_table as no_table, is_astray as astray, no_stray as no_strays, puts as puts_file, reads as reads_file, is_shared as shared, is_meeting as meeting, no_same_name as no_same_names};
+
+use crate::faults::{JobError, JobWhy};
+use crate::statement::{Said, Statement};
+use plain_text::number_in;
+use sdc_base::Text;
+
+// The fault of a statement's line.
+fn at(statement: &Statement, why: JobWhy) -> JobError
+    ensures { fault_of result ≡ Some (statement.now.line, why) }
+{
+    JobError::At {
+        line: statement.line,
+        why,
+    }
+}
+
+// Whether no table has this number.
+fn is_no_table(count: usize, number: &Text) -> bool
+    requires { count ≤ 8 }
+    ensures { result ≡ no_table count number.now }
+{
+    number_in(1, count as u64, number.as_slice()).is_none()
+}
+
+// Whether it is said of no table.
+fn is_astray(count: usize, said: &Said) -> bool
+    requires { count ≤ 8 }
+    ensures { result ≡ astray count said.now }
+{
+    match said {
+        Said::Prior { number, .. } => is_no_table(count, number),
+        Said::Output { number, .. } => is_no_table(count, number),
+        _ => false,
+    }
+}
+
+/// The first statement of no table is a fault of its line, where there are so many tables.
+#[tactic(auto, unfolding(crate::specs::ClosingLooks::no_stray))]
+pub(crate) fn no_stray(count: usize, said: &[Statement]) -> Result<(), JobError>
+    requires { count ≤ 8 }
+    ensures { Gives fault_of (λ fine. fine) result (no_strays count said.now) }
+{
+    'said: for statement in said {
+        if is_astray(count, &statement.said) {
+            return Err(at(statement, JobWhy::NoSuchTable));
+        }
+    }
+    Ok(())
+}
+
+// Whether a file of this name is put.
+fn puts(name: &Text, said: &Said) -> bool
+    ensures { result ≡ puts_file name.now said.now }
+{
+    match said {
+        Said::Output { file, .. } => file.equals(name),
+        Said::Certificate(file) => file.equals(name),
+        _ => false,
+    }
+}
+
+// Whether a file of this name is read.
+fn reads(name: &Text, said: &Said) -> bool
+    ensures { result ≡ reads_file name.now said.now }
+{
+    match said {
+        Said::Microdata(file) => file.equals(name),
+        Said::Metadata(file) => file.equals(name),
+        Said::Prior { file, .. } => file.equals(name),
+        _ => false,
+    }
+}
+
+// How many files of this name are put.
+fn put_count(name: &Text, all: &[Statement]) -> usize
+    ensures { result ≡ count_by (λ s. puts_file name.now s.said) all.now }
+{
+    all.iter().filter(|s| puts(name, &s.said)).count()
+}
+
+// Whether some file of this name is read.
+fn is_read(name: &Text, all: &[Statement]) -> bool
+    ensures { result ≡ list_any (λ s. reads_file name.now s.said) all.now }
+{
+    all.iter().any(|s| reads(name, &s.said))
+}
+
+// Whether two files of this name are put, or one is read.
+fn is_shared(name: &Text, all: &[Statement]) -> bool
+    ensures { result ≡ shared name.now all.now }
+{
+    if put_count(name, all) > 1 {
+        return true;
+    }
+    is_read(name, all)
+}
+
+// Whether a file is put whose name another one has.
+fn is_meeting(all: &[Statement], said: &Said) -> bool
+    ensures { result ≡ meeting all.now said.now }
+{
+    match said {
+        Said::Output { file, .. } => is_shared(file, all),
+        Said::Certificate(file) => is_shared(file, all),
+        _ => false,
+    }
+}
+
+/// The first statement that puts a file whose name another one has is a fault of its line.
+#[tactic(auto, unfolding(crate::specs::ClosingLooks::no_same_name))]
+pub(crate) fn no_same_name(all: &[Statement]) -> Result<(), JobError>
+    ensures { Gives fault_of (λ fine. fine) result (no_same_names all.now all.now) }
+{
+    'said: for statement in all {
+        if is_meeting(all, &statement.said) {
+            return Err(at(statement, JobWhy::SameName));
+        }
+    }
+    Ok(())
+}

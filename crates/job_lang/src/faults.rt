@@ -1,0 +1,115 @@
+ghost use Rattle.std.specs.Prelude.{◌≡◌};
+ghost use Rattle.job_lang.specs.Faults.{error_of};
+
+use sdc_base::Memory;
+use std::alloc::AllocError;
+
+/// A command that a job must have.
+#[derive(Clone, Copy, Debug, PartialEq, Eq)]
+pub enum Command {
+    OpenMicrodata,
+    OpenMetadata,
+    SpecifyTable,
+    SafetyRule,
+    Suppress,
+    WriteTable,
+    Certificate,
+}
+
+/// What is wrong with a job. The kinds up to `OtherResponse` are looked for line by line, and within a line in their
+/// order; the next three behind the last line, one after the other; and the last four, with `SameName` once more,
+/// where a job is bound to metadata.
+#[derive(Clone, Copy, Debug, PartialEq, Eq)]
+pub enum JobWhy {
+    /// The line has no word between `<` and `>` at its front.
+    BadLine,
+    /// The word is no command.
+    UnknownCommand,
+    /// The argument isn't as the command wants it, is out of range, or names a variable twice in one table.
+    BadValue,
+    /// A command that stands once stands again, or once more for the same table.
+    Twice,
+    /// The table is the ninth, or the variables of all tables are now more than 8.
+    TooMany,
+    /// The table has another response than the first one.
+    OtherResponse,
+    /// The number is that of no table.
+    NoSuchTable,
+    /// A file to be put has the name of another one, or of a file that is read.
+    SameName,
+    /// The job lacks a command; the fault is given at line 0.
+    Missing(Command),
+    /// The metadata have no variable of this name.
+    NoSuchVariable,
+    /// A variable that spans a table is numeric.
+    NotSpanning,
+    /// The response isn't numeric.
+    NotNumeric,
+    /// Records have weights, and the metadata have no weight variable.
+    NoWeight,
+}
+
+/// Why a job isn't read or bound: the line with the first fault, from 1 and 0 for the job as a whole, and what is wrong
+/// with it; or want of memory.
+#[derive(Clone, Copy, Debug, PartialEq, Eq)]
+pub enum JobError {
+    At { line: u32, why: JobWhy },
+    Memory,
+}
+
+/// Why a line isn't taken in, whatever its number.
+#[derive(Clone, Copy, Debug, PartialEq, Eq)]
+pub(crate) enum LineError {
+    Fault(JobWhy),
+    Memory,
+}
+
+impl From<JobWhy> for LineError {
+    ghost use Rattle.job_lang.specs.declared.faults.LineError.TheVariants as line_error;
+
+    ghost from_gives = { λ why e. e ≡ line_error.Fault why };
+
+    fn from(why: JobWhy) -> Self {
+        LineError::Fault(why)
+    }
+}
+
+impl From<Memory> for LineError {
+    ghost use Rattle.job_lang.specs.declared.faults.LineError.TheVariants as line_error;
+
+    ghost from_gives = { λ _ e. e ≡ line_error.Memory };
+
+    fn from(_: Memory) -> Self {
+        LineError::Memory
+    }
+}
+
+impl From<AllocError> for LineError {
+    ghost use Rattle.job_lang.specs.declared.faults.LineError.TheVariants as line_error;
+
+    ghost from_gives = { λ _ e. e ≡ line_error.Memory };
+
+    fn from(_: AllocError) -> Self {
+        LineError::Memory
+    }
+}
+
+impl From<Memory> for JobError {
+    ghost use Rattle.job_lang.specs.declared.faults.JobError.TheVariants as job_error;
+
+    ghost from_gives = { λ _ e. e ≡ job_error.Memory };
+
+    fn from(_: Memory) -> Self {
+        JobError::Memory
+    }
+}
+
+/// The error of the line with this number.
+pub(crate) fn error_at(line: u32, error: LineError) -> JobError
+    ensures { result ≡ error_of line error }
+{
+    match error {
+        LineError::Fault(why) => JobError::At { line, why },
+        LineError::Memory => JobError::Memory,
+    }
+}

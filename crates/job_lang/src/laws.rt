@@ -1,0 +1,39 @@
+//! Laws of jobs, each the contract of a function with an empty body.
+
+ghost use Rattle.job_lang.specs.Laws.{IsInOrder, PutsAreNotRead, PutsAreNotNamed, MetadataFit};
+ghost use Rattle.job_lang.specs.Meaning.{JobsAreMeant};
+ghost use Rattle.job_lang.specs.Rows.{EightLines, NameBeforeMissing, Bindable, CodeListMet};
+
+/// The definitions give what worked jobs say by hand.
+#[tactic(auto, using(crate::proofs::RowsHold::eight_lines, crate::proofs::RowsHold::name_before_missing, crate::proofs::RowsHold::bindable, crate::proofs::RowsHold::code_list_met))]
+pub fn rows()
+    ensures eight_lines { EightLines }
+    ensures name_before_missing { NameBeforeMissing }
+    ensures bindable { Bindable }
+    ensures code_list_met { CodeListMet }
+{}
+
+/// The fault that is given is the first in the stated order.
+#[tactic(auto, using(crate::proofs::FirstFault::in_order))]
+pub fn order()
+    ensures { IsInOrder }
+{}
+
+/// No file that is put is one that is read.
+#[tactic(auto, using(crate::proofs::NamesApart::not_named))]
+pub fn names_apart()
+    ensures read { PutsAreNotRead }
+    ensures named { PutsAreNotNamed }
+{}
+
+/// Metadata that were read can have a job bound to them.
+#[tactic(auto, using(crate::proofs::MetadataLimits::metadata_fit))]
+pub fn metadata_fit()
+    ensures { MetadataFit }
+{}
+
+/// A job has what its lines state, each by itself, and the defaults where none does.
+#[tactic(auto, using(crate::proofs::Meant::are_meant))]
+pub fn meaning()
+    ensures { JobsAreMeant }
+{}

@@ -1,0 +1,34 @@
+//! Jobs: what an office wants done with its microdata, read exactly and bound to metadata.
+#![tactic(auto)]
+
+mod arguments;
+mod binding;
+mod binding_faults;
+mod bound;
+mod closing;
+mod cursor;
+mod faults;
+mod keywords;
+mod laws;
+mod lines;
+mod pieces;
+mod job;
+mod looked_up;
+mod reading;
+mod rule_clauses;
+mod rule_texts;
+mod rules;
+mod statement;
+mod table_texts;
+#[cfg(test)]
+mod tests;
+mod texts;
+
+pub use binding::bind;
+pub use bound::Bound;
+pub use cost_rule::CostKind;
+pub use faults::{Command, JobError, JobWhy};
+pub use laws::{meaning, metadata_fit, names_apart, order, rows};
+pub use job::{Job, OutputLine, PriorLine, TableLine};
+pub use reading::read_job;
+pub use sdc_base::{Method, Rule, Rules};

@@ -1,0 +1,249 @@
+ghost use Rattle.std.specs.Prelude.{◌≡◌, ◌<◌, ◌^◌, length, IfOk, OnOk};
+ghost use Rattle.std.specs.List.{list_any};
+ghost use Rattle.sdc_base.specs.Answers.{Gives};
+ghost use Rattle.sdc_base.specs.Blanks.{trim as trimmed};
+ghost use Rattle.sdc_base.specs.Lines.{lines as lines_of};
+ghost use Rattle.job_lang.specs.Faults.{why_of, fault_of, at_line};
+ghost use Rattle.job_lang.specs.Statements.{command_of as by_command, is_by as by, is_prior_of as prior_of, is_output_of as output_of, is_again as again, names_in as named, is_past_room as past_room, is_other_response as other_response, with_table as tabled, with_statement as stated, with_said as said_more, is_passed_over as passed, command_line as commanded, text_says as says_text, lines_say, nothing};
+
+use crate::arguments::argument_of;
+use crate::faults::{JobError, JobWhy, LineError, error_at};
+use crate::job::TableLine;
+use crate::keywords::{keyword_of, same_keyword, word_in};
+use crate::statement::{Draft, Keyword, Said, Statement};
+use crate::texts::{add_texts, distinct_count};
+use plain_text::{lines, trim};
+use sdc_base::{Items, Memory, Text};
+use std::alloc::Global;
+
+// The most tables of a job, and the most different variables that span them.
+const MOST_TABLES: usize = 8;
+const MOST_VARIABLES: usize = 8;
+
+/// What all lines say.
+pub(crate) fn read_lines(alloc: Global, bytes: &[u8]) -> Result<Draft, JobError>
+    requires { length bytes.now < 2 ^ 32 }
+    ensures { Gives fault_of (λ draft. draft) result (lines_say 0 nothing (lines_of bytes.now)) }
+{
+    let mut reader = lines(bytes);
+    let mut draft = Draft {
+        tables: Items::empty(alloc),
+        said: Items::empty(alloc),
+    };
+    'each: while let Some(line) = reader.next_line() {
+        read_line(alloc, line.number as u32, line.text, &mut draft)?;
+    }
+    Ok(draft)
+}
+
+// Takes in what the line with this number says.
+#[tactic(auto, using(crate::proofs::LineSteps::fails_at))]
+fn read_line(alloc: Global, line: u32, text: &[u8], draft: &mut Draft) -> Result<(), JobError>
+    ensures { Gives fault_of (λ _. draft.new) result (at_line line (says_text line draft.old (trimmed text.now))) }
+{
+    match text_says(alloc, line, trim(text), draft) {
+        Ok(()) => Ok(()),
+        Err(error) => Err(error_at(line, error)),
+    }
+}
+
+// What the bytes of a line say, without blanks at their ends.
+#[tactic(auto, unfolding(crate::specs::Statements::text_says))]
+fn text_says(alloc: Global, line: u32, text: &[u8], draft: &mut Draft) -> Result<(), LineError>
+    ensures { Gives why_of (λ _. draft.new) result (says_text line draft.old text.now) }
+{
+    if is_passed_over(text) {
+        return Ok(());
+    }
+    command_line(alloc, line, text, draft)
+}
+
+// Whether it is a blank line, or one that begins with two slashes.
+fn is_passed_over(text: &[u8]) -> bool
+    ensures { result ≡ passed text.now }
+{
+    if text.is_empty() {
+        return true;
+    }
+    if text.len() < 2 {
+        return false;
+    }
+    text[0] == b'/' && text[1] == b'/'
+}
+
+// A command and its argument.
+#[tactic(auto, unfolding(crate::specs::Statements::command_line))]
+fn command_line(alloc: Global, line: u32, text: &[u8], draft: &mut Draft) -> Result<(), LineError>
+    ensures { Gives why_of (λ _. draft.new) result (commanded line draft.old text.now) }
+{
+    let (word, rest) = word_in(text)?;
+    let Some(keyword) = keyword_of(word) else {
+        return Err(LineError::Fault(JobWhy::UnknownCommand));
+    };
+    let said = argument_of(alloc, keyword, rest)?;
+    take_said(alloc, line, draft, said)
+}
+
+// What is said goes to the tables, or to the rest.
+#[tactic(auto, unfolding(crate::specs::Statements::with_said))]
+fn take_said(alloc: Global, line: u32, draft: &mut Draft, said: Said) -> Result<(), LineError>
+    ensures { Gives why_of (λ _. draft.new) result (said_more line draft.old said) }
+{
+    match said {
+        Said::Table {
+            variables,
+            response,
+        } => take_table(alloc, line, draft, variables, response),
+        other => take_statement(line, draft, other),
+    }
+}
+
+// One table more.
+#[tactic(auto, unfolding(crate::specs::Statements::with_table))]
+fn take_table(
+    alloc: Global,
+    line: u32,
+    draft: &mut Draft,
+    variables: Items<Text>,
+    response: Text,
+) -> Result<(), LineError>
+    ensures { Gives why_of (λ _. draft.new) result (tabled line draft.old variables response) }
+{
+    if is_past_room(alloc, variables.as_slice(), draft.tables.as_slice())? {
+        return Err(LineError::Fault(JobWhy::TooMany));
+    }
+    if is_other_response(&response, draft.tables.as_slice()) {
+        return Err(LineError::Fault(JobWhy::OtherResponse));
+    }
+    draft.tables.push(TableLine {
+        line,
+        variables,
+        response,
+    })?;
+    Ok(())
+}
+
+// The names of all variables of tables.
+fn names_in(alloc: Global, tables: &[TableLine]) -> Result<Items<Text>, Memory>
+    ensures { IfOk result (λ names. names ≡ named tables.now) }
+{
+    let mut names = Items::empty(alloc);
+    for table in tables {
+        add_texts(alloc, &mut names, table.variables.as_slice())?;
+    }
+    Ok(names)
+}
+
+// Whether this table is one too many, or its variables are.
+fn is_past_room(alloc: Global, variables: &[Text], tables: &[TableLine]) -> Result<bool, Memory>
+    ensures { IfOk result (λ past. past ≡ past_room variables.now tables.now) }
+{
+    if tables.len() >= MOST_TABLES {
+        return Ok(true);
+    }
+    let mut names = names_in(alloc, tables)?;
+    add_texts(alloc, &mut names, variables)?;
+    Ok(distinct_count(names.as_slice()) > MOST_VARIABLES)
+}
+
+// Whether the first table has another response.
+fn is_other_response(response: &Text, tables: &[TableLine]) -> bool
+    ensures { result ≡ other_response response.now tables.now }
+{
+    let Some(first) = tables.first() else {
+        return false;
+    };
+    !first.response.equals(response)
+}
+
+// One statement more.
+#[tactic(auto, unfolding(crate::specs::Statements::with_statement))]
+fn take_statement(line: u32, draft: &mut Draft, said: Said) -> Result<(), LineError>
+    ensures { Gives why_of (λ _. draft.new) result (stated line draft.old said) }
+{
+    if is_again(&said, draft.said.as_slice()) {
+        return Err(LineError::Fault(JobWhy::Twice));
+    }
+    draft.said.push(Statement { line, said })?;
+    Ok(())
+}
+
+// The command by which it is said.
+fn command_of(said: &Said) -> Keyword
+    ensures { result ≡ by_command said.now }
+{
+    match said {
+        Said::Microdata(_) => Keyword::OpenMicrodata,
+        Said::Metadata(_) => Keyword::OpenMetadata,
+        Said::Table { .. } => Keyword::SpecifyTable,
+        Said::Safety(_) => Keyword::SafetyRule,
+        Said::Read => Keyword::ReadMicrodata,
+        Said::Prior { .. } => Keyword::Apriori,
+        Said::Cost(_) => Keyword::Cost,
+        Said::Steps(_) => Keyword::Steps,
+        Said::Nodes(_) => Keyword::Nodes,
+        Said::Suppress(_) => Keyword::Suppress,
+        Said::Output { .. } => Keyword::WriteTable,
+        Said::Certificate(_) => Keyword::Certificate,
+    }
+}
+
+/// Whether it is said by this command.
+pub(crate) fn is_by(keyword: Keyword, said: &Said) -> bool
+    ensures { result ≡ by keyword said.now }
+{
+    same_keyword(command_of(said), keyword)
+}
+
+// Whether it is an a priori file of the table with these digits.
+fn is_prior_of(number: &Text, said: &Said) -> bool
+    ensures { result ≡ prior_of number.now said.now }
+{
+    match said {
+        Said::Prior { number: other, .. } => other.equals(number),
+        _ => false,
+    }
+}
+
+// Whether it is an output of the table with these digits.
+fn is_output_of(number: &Text, said: &Said) -> bool
+    ensures { result ≡ output_of number.now said.now }
+{
+    match said {
+        Said::Output { number: other, .. } => other.equals(number),
+        _ => false,
+    }
+}
+
+// Whether the table with these digits has an a priori file.
+fn has_prior(number: &Text, before: &[Statement]) -> bool
+    ensures { result ≡ list_any (λ s. prior_of number.now s.said) before.now }
+{
+    before.iter().any(|s| is_prior_of(number, &s.said))
+}
+
+// Whether the table with these digits has an output.
+fn has_output(number: &Text, before: &[Statement]) -> bool
+    ensures { result ≡ list_any (λ s. output_of number.now s.said) before.now }
+{
+    before.iter().any(|s| is_output_of(number, &s.said))
+}
+
+// Whether something is said by this command.
+fn has_command(keyword: Keyword, before: &[Statement]) -> bool
+    ensures { result ≡ list_any (λ s. by keyword s.said) before.now }
+{
+    before.iter().any(|s| is_by(keyword, &s.said))
+}
+
+// Whether it is said before.
+fn is_again(said: &Said, before: &[Statement]) -> bool
+    ensures { result ≡ again said.now before.now }
+{
+    match said {
+        Said::Table { .. } => false,
+        Said::Prior { number, .. } => has_prior(number, before),
+        Said::Output { number, .. } => has_output(number, before),
+        _ => has_command(command_of(said), before),
+    }
+}

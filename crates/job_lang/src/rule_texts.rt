@@ -1,0 +1,129 @@
+ghost use Rattle.std.specs.Prelude.{◌≡◌, ◌<◌, ◌≤◌, ◌^◌, length, IfOk};
+ghost use Rattle.sdc_base.specs.Answers.{Gives};
+ghost use Rattle.job_lang.specs.Faults.{fault_itself};
+ghost use Rattle.job_lang.specs.RuleTexts.{one_number as one_number_in, frequency_clause as frequency, dominance_clause as dominance, further_one as further, percent_behind, percent_clause as percent, man_clause as man, weights_clause as weights, clause_in as clause};
+
+use crate::cursor::{Cursor, at_front};
+use crate::faults::JobWhy;
+use crate::keywords::spells;
+use crate::rule_clauses::RuleClause;
+use sdc_base::Rule;
+
+/// The number in parentheses that is all that is left, where it is in these bounds.
+#[tactic(auto, unfolding(crate::specs::RuleTexts::one_number))]
+pub(crate) fn one_number(low: u64, high: u64, cursor: &mut Cursor) -> Result<u64, JobWhy>
+    requires { high < 10 ^ 18 }
+    ensures exact { Gives fault_itself (λ number. number) result (one_number_in low high cursor.old) }
+    ensures within { IfOk result (λ number. (low ≤ number) × (number ≤ high)) }
+{
+    cursor.mark(b'(')?;
+    let number = cursor.number(low, high)?;
+    cursor.close()?;
+    Ok(number)
+}
+
+/// One rule, its word in letters of any case.
+#[tactic(auto, unfolding(crate::specs::RuleTexts::clause_in))]
+pub(crate) fn clause_in(text: &[u8]) -> Result<RuleClause, JobWhy>
+    ensures { Gives fault_itself (λ clause. clause) result (clause text.now) }
+{
+    let mut cursor = at_front(text);
+    let word = cursor.run();
+    if spells(word, b"FREQ") {
+        return frequency_clause(&mut cursor);
+    }
+    if spells(word, b"NK") {
+        return dominance_clause(&mut cursor);
+    }
+    if spells(word, b"P") {
+        return percent_clause(&mut cursor);
+    }
+    if spells(word, b"MAN") {
+        return man_clause(&mut cursor);
+    }
+    if spells(word, b"WGT") {
+        return weights_clause(&mut cursor);
+    }
+    Err(JobWhy::BadValue)
+}
+
+// The numbers of FREQ.
+#[tactic(auto, unfolding(crate::specs::RuleTexts::frequency_clause))]
+fn frequency_clause(cursor: &mut Cursor) -> Result<RuleClause, JobWhy>
+    ensures { Gives fault_itself (λ clause. clause) result (frequency cursor.old) }
+{
+    cursor.mark(b'(')?;
+    let n = cursor.number(1, 1_000_000)?;
+    cursor.mark(b',')?;
+    let r = cursor.number(0, 1000)?;
+    cursor.close()?;
+    Ok(RuleClause::Named(Rule::Freq {
+        n: n as u32,
+        r: r as u32,
+    }))
+}
+
+// The numbers of NK.
+#[tactic(auto, unfolding(crate::specs::RuleTexts::dominance_clause))]
+fn dominance_clause(cursor: &mut Cursor) -> Result<RuleClause, JobWhy>
+    ensures { Gives fault_itself (λ clause. clause) result (dominance cursor.old) }
+{
+    cursor.mark(b'(')?;
+    let n = cursor.number(1, 10)?;
+    cursor.mark(b',')?;
+    let k = cursor.number(1, 100)?;
+    cursor.close()?;
+    Ok(RuleClause::Named(Rule::Nk {
+        n: n as u8,
+        k: k as u32,
+    }))
+}
+
+// The 1 that may stand behind the number of P, and the end.
+#[tactic(auto, unfolding(crate::specs::RuleTexts::further_one))]
+fn further_one(cursor: &mut Cursor) -> Result<(), JobWhy>
+    ensures { Gives fault_itself (λ fine. fine) result (further cursor.old) }
+{
+    cursor.mark(b',')?;
+    cursor.number(1, 1)?;
+    cursor.close()
+}
+
+// What stands behind the number of P.
+fn percent_end(cursor: &mut Cursor) -> Result<(), JobWhy>
+    ensures { Gives fault_itself (λ fine. fine) result (percent_behind cursor.old) }
+{
+    if cursor.is_next(b',') {
+        return further_one(cursor);
+    }
+    cursor.close()
+}
+
+// The number of P.
+#[tactic(auto, unfolding(crate::specs::RuleTexts::percent_clause))]
+fn percent_clause(cursor: &mut Cursor) -> Result<RuleClause, JobWhy>
+    ensures { Gives fault_itself (λ clause. clause) result (percent cursor.old) }
+{
+    cursor.mark(b'(')?;
+    let p = cursor.number(1, 1000)?;
+    percent_end(cursor)?;
+    Ok(RuleClause::Named(Rule::Percent(p as u32)))
+}
+
+// The number of MAN.
+#[tactic(auto, unfolding(crate::specs::RuleTexts::man_clause))]
+fn man_clause(cursor: &mut Cursor) -> Result<RuleClause, JobWhy>
+    ensures { Gives fault_itself (λ clause. clause) result (man cursor.old) }
+{
+    let r = one_number(0, 1000, cursor)?;
+    Ok(RuleClause::Man(r as u32))
+}
+
+// The flag of WGT.
+#[tactic(auto, unfolding(crate::specs::RuleTexts::weights_clause))]
+fn weights_clause(cursor: &mut Cursor) -> Result<RuleClause, JobWhy>
+    ensures { Gives fault_itself (λ clause. clause) result (weights cursor.old) }
+{
+    let flag = one_number(0, 1, cursor)?;
+    Ok(RuleClause::Weights(flag == 1))
+}

@@ -1,0 +1,158 @@
+ghost use Rattle.std.specs.Prelude.{◌≡◌, ◌≤◌, length};
+ghost use Rattle.std.specs.List.{count_by};
+ghost use Rattle.sdc_base.specs.Answers.{Gives};
+ghost use Rattle.job_lang.specs.Faults.{why_of};
+ghost use Rattle.job_lang.specs.Pieces.{pieces};
+ghost use Rattle.job_lang.specs.RuleTexts.{clauses_in as clauses_of, named_in, is_frequency as frequent, is_man as manual, is_weights as weighing, are_rules as rules_are, man_of as man, weighted_of as weighted, rules_in as ruled};
+
+use crate::faults::{JobWhy, LineError};
+use crate::pieces::pieces_in;
+use crate::rule_clauses::RuleClause;
+use crate::rule_texts::clause_in;
+use arrayvec::ArrayVec;
+use sdc_base::{Few, Items, Rule, Rules};
+use std::alloc::Global;
+
+/// The rules that a text joins by bars.
+#[tactic(auto, unfolding(crate::specs::RuleTexts::rules_in))]
+pub(crate) fn rules_in(alloc: Global, text: &[u8]) -> Result<Rules, LineError>
+    ensures { Gives why_of (λ rules. rules) result (ruled text.now) }
+{
+    let clauses = clauses_in(alloc, text)?;
+    let clauses = clauses.as_slice();
+    if !are_rules(clauses) {
+        return Err(LineError::Fault(JobWhy::BadValue));
+    }
+    Ok(Rules {
+        list: named_rules(clauses),
+        man: man_of(clauses),
+        weighted: weighted_of(clauses),
+    })
+}
+
+// Each piece of a text as a rule.
+fn clauses_in(alloc: Global, text: &[u8]) -> Result<Items<RuleClause>, LineError>
+    ensures { Gives why_of (λ clauses. clauses) result (clauses_of (pieces text.now)) }
+{
+    let mut pieces = pieces_in(text);
+    let mut clauses = Items::empty(alloc);
+    'pieces: while let Some(piece) = pieces.next_piece() {
+        let clause = clause_in(piece)?;
+        clauses.push(clause)?;
+    }
+    Ok(clauses)
+}
+
+// Whether it is a rule on frequencies.
+fn is_frequency(clause: &RuleClause) -> bool
+    ensures { result ≡ frequent clause.now }
+{
+    match clause {
+        RuleClause::Named(Rule::Freq { .. }) => true,
+        _ => false,
+    }
+}
+
+// Whether it is the level of cells that are declared unsafe.
+fn is_man(clause: &RuleClause) -> bool
+    ensures { result ≡ manual clause.now }
+{
+    match clause {
+        RuleClause::Man(_) => true,
+        _ => false,
+    }
+}
+
+// Whether it says if records have weights.
+fn is_weights(clause: &RuleClause) -> bool
+    ensures { result ≡ weighing clause.now }
+{
+    match clause {
+        RuleClause::Weights(_) => true,
+        _ => false,
+    }
+}
+
+// How many are rules on frequencies.
+fn frequency_count(clauses: &[RuleClause]) -> usize
+    ensures { result ≡ count_by frequent clauses.now }
+{
+    clauses.iter().filter(|c| is_frequency(c)).count()
+}
+
+// How many are levels of cells that are declared unsafe.
+fn man_count(clauses: &[RuleClause]) -> usize
+    ensures { result ≡ count_by manual clauses.now }
+{
+    clauses.iter().filter(|c| is_man(c)).count()
+}
+
+// How many say if records have weights.
+fn weights_count(clauses: &[RuleClause]) -> usize
+    ensures { result ≡ count_by weighing clauses.now }
+{
+    clauses.iter().filter(|c| is_weights(c)).count()
+}
+
+// How many name cells.
+fn named_count(clauses: &[RuleClause]) -> usize
+    ensures { result ≡ length (named_in clauses.now) }
+{
+    let mut count = 0;
+    for clause in clauses {
+        if let RuleClause::Named(_) = clause {
+            count += 1;
+        }
+    }
+    count
+}
+
+// One to eight rules that name cells, at most one of them on frequencies, and at most one MAN and one WGT.
+fn are_rules(clauses: &[RuleClause]) -> bool
+    ensures { result ≡ rules_are clauses.now }
+{
+    let named = named_count(clauses);
+    0 < named
+        && named < 9
+        && frequency_count(clauses) < 2
+        && man_count(clauses) < 2
+        && weights_count(clauses) < 2
+}
+
+// The rules that name cells.
+fn named_rules(clauses: &[RuleClause]) -> Few<Rule, 8>
+    requires { length (named_in clauses.now) ≤ 8 }
+    ensures { result ≡ named_in clauses.now }
+{
+    let mut rules = ArrayVec::new();
+    for clause in clauses {
+        if let RuleClause::Named(rule) = clause {
+            rules.push(*rule);
+        }
+    }
+    Few::new(rules)
+}
+
+// The level of cells that are declared unsafe, 20 where no rule says so.
+fn man_of(clauses: &[RuleClause]) -> u32
+    ensures { result ≡ man clauses.now }
+{
+    for clause in clauses {
+        if let RuleClause::Man(r) = clause {
+            return *r;
+        }
+    }
+    20
+}
+
+// Whether records have weights; they have none where no rule says so.
+fn weighted_of(clauses: &[RuleClause]) -> bool
+    ensures { result ≡ weighted clauses.now }
+{
+    for clause in clauses {
+        if let RuleClause::Weights(flag) = clause {
+            return *flag;
+        }
+    }
+    false
+}
