@@ -22,10 +22,10 @@ same-text : (trees : List Tree) (table : List ℕ) (names : List (List ℕ)) (de
 same-text trees table names decimals one other same =
     ap (λ t. line_text names ++ t)
     (same-lines
-      (λ place. line_text (codes_of_place (trees_of trees table) place ++ shown_text decimals (one (name_of (length trees) table place)) ∷ []))
-      (λ place. line_text (codes_of_place (trees_of trees table) place ++ shown_text decimals (other (name_of (length trees) table place)) ∷ []))
-      (places (trees_of trees table))
-      (λ place. ap (λ number. line_text (codes_of_place (trees_of trees table) place ++ shown_text decimals number ∷ [])) (same (name_of (length trees) table place))))
+    (λ place. line_text (codes_of_place (trees_of trees table) place ++ shown_text decimals (one (name_of (length trees) table place)) ∷ []))
+    (λ place. line_text (codes_of_place (trees_of trees table) place ++ shown_text decimals (other (name_of (length trees) table place)) ∷ []))
+    (places (trees_of trees table))
+    (λ place. ap (λ number. line_text (codes_of_place (trees_of trees table) place ++ shown_text decimals number ∷ [])) (same (name_of (length trees) table place))))
 
 then-same : (f g : ℕ → Option ℤ) (cell : Option ℕ) → ((n : ℕ) → f n ≡ g n) → option_and_then f cell ≡ option_and_then g cell
 then-same f g None same = refl
@@ -34,9 +34,9 @@ then-same f g (Some cell) same = same cell
 pub only_what_is_shown_enters : OnlyWhatIsShownEnters
 only_what_is_shown_enters book other how others t names decimals trees tables same =
     let numbers : (name : Name) → number_of other name ≡ number_of book name = λ name.
-      ap (λ x. first_place (bytes_eq name) (cells_of x other.tables)) trees ∙ ap (λ x. first_place (bytes_eq name) (cells_of book.trees x)) tables in
+    ap (λ x. first_place (bytes_eq name) (cells_of x other.tables)) trees ∙ ap (λ x. first_place (bytes_eq name) (cells_of book.trees x)) tables in
     let shown : (name : Name) → shows other others name ≡ shows book how name = λ name.
-      ap (λ cell. option_and_then (shown_in other others) cell) (numbers name) ∙ then-same (shown_in other others) (shown_in book how) (number_of book name) same in
+    ap (λ cell. option_and_then (shown_in other others) cell) (numbers name) ∙ then-same (shown_in other others) (shown_in book how) (number_of book name) same in
     ap (λ x. table_text x (slice_index_or other.tables t []) names decimals (shows other others)) trees
     ∙ ap (λ x. table_text book.trees (slice_index_or x t []) names decimals (shows other others)) tables
     ∙ same-text book.trees (slice_index_or book.tables t []) names decimals (shows other others) (shows book how) shown
