@@ -1,5 +1,5 @@
 -- Nothing enters the text of a table but what its cells show.
-use Rattle.std.proofs.Common.{◌≡◌, ℕ, true, false, List, [], ◌∷◌, ◌++◌, length, slice_index_or, Option, None, Some, ℤ, refl, ap, sym, ◌∙◌}
+use Rattle.std.proofs.Common.{◌≡◌, ℕ, List, [], ◌∷◌, ◌++◌, length, slice_index_or, Option, None, Some, ℤ, refl, ap, ◌∙◌}
 use Rattle.std.specs.List.{flat_map}
 use Rattle.std.specs.Option.{option_and_then}
 use Rattle.sdc_base.specs.Records.{Name}
@@ -8,10 +8,8 @@ use Rattle.sdc_base.specs.Cells.{cells_of, places, trees_of, name_of}
 use Rattle.sdc_base.specs.Places.{first_place}
 use Rattle.sdc_base.specs.TableText.{line_text, codes_of_place, shown_text, table_text}
 use Rattle.std.specs.Prelude.{bytes_eq}
-use Rattle.linked_tables.specs.Held.{Held}
 use Rattle.linked_tables.specs.Shared.{number_of}
-use Rattle.release_writer.specs.Shown.{shown_in, shows, release_text}
-use Rattle.release_writer.specs.declared.shown.Shown.{Shown}
+use Rattle.release_writer.specs.Shown.{shown_in, shows}
 use Rattle.release_writer.specs.Laws.{OnlyWhatIsShownEnters, HiddenShowNothing}
 
 same-lines : (f g : List ℕ → List ℕ) (xs : List (List ℕ)) → ((x : List ℕ) → f x ≡ g x) → flat_map f xs ≡ flat_map g xs
