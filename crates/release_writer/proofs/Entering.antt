@@ -1,5 +1,5 @@
 -- Nothing enters the text of a table but what its cells show.
-use Rattle.std.proofs.Common.{◌≡◌, ℕ, true, false, List, [], ◌∷◌, ◌++◌, length, slice_index_or, Option, None, Some, ℤ, refl, ap, sym, ◌∙◌}
+use Rattle.std.proofs.Common.{◌≡◌, ℕ, List, [], ◌∷◌, ◌++◌, length, slice_index_or, Option, None, Some, ℤ, refl, ap, ◌∙◌}
 use Rattle.std.specs.List.{flat_map}
 use Rattle.std.specs.Option.{option_and_then}
 use Rattle.sdc_base.specs.Records.{Name}
@@ -8,10 +8,8 @@ use Rattle.sdc_base.specs.Cells.{cells_of, places, trees_of, name_of}
 use Rattle.sdc_base.specs.Places.{first_place}
 use Rattle.sdc_base.specs.TableText.{line_text, codes_of_place, shown_text, table_text}
 use Rattle.std.specs.Prelude.{bytes_eq}
-use Rattle.linked_tables.specs.Held.{Held}
 use Rattle.linked_tables.specs.Shared.{number_of}
-use Rattle.release_writer.specs.Shown.{shown_in, shows, release_text}
-use Rattle.release_writer.specs.declared.shown.Shown.{Shown}
+use Rattle.release_writer.specs.Shown.{shown_in, shows}
 use Rattle.release_writer.specs.Laws.{OnlyWhatIsShownEnters, HiddenShowNothing}
 
 same-lines : (f g : List ℕ → List ℕ) (xs : List (List ℕ)) → ((x : List ℕ) → f x ≡ g x) → flat_map f xs ≡ flat_map g xs
@@ -22,10 +20,10 @@ same-text : (trees : List Tree) (table : List ℕ) (names : List (List ℕ)) (de
 same-text trees table names decimals one other same =
     ap (λ t. line_text names ++ t)
     (same-lines
-      (λ place. line_text (codes_of_place (trees_of trees table) place ++ shown_text decimals (one (name_of (length trees) table place)) ∷ []))
-      (λ place. line_text (codes_of_place (trees_of trees table) place ++ shown_text decimals (other (name_of (length trees) table place)) ∷ []))
-      (places (trees_of trees table))
-      (λ place. ap (λ number. line_text (codes_of_place (trees_of trees table) place ++ shown_text decimals number ∷ [])) (same (name_of (length trees) table place))))
+    (λ place. line_text (codes_of_place (trees_of trees table) place ++ shown_text decimals (one (name_of (length trees) table place)) ∷ []))
+    (λ place. line_text (codes_of_place (trees_of trees table) place ++ shown_text decimals (other (name_of (length trees) table place)) ∷ []))
+    (places (trees_of trees table))
+    (λ place. ap (λ number. line_text (codes_of_place (trees_of trees table) place ++ shown_text decimals number ∷ [])) (same (name_of (length trees) table place))))
 
 then-same : (f g : ℕ → Option ℤ) (cell : Option ℕ) → ((n : ℕ) → f n ≡ g n) → option_and_then f cell ≡ option_and_then g cell
 then-same f g None same = refl
@@ -34,9 +32,9 @@ then-same f g (Some cell) same = same cell
 pub only_what_is_shown_enters : OnlyWhatIsShownEnters
 only_what_is_shown_enters book other how others t names decimals trees tables same =
     let numbers : (name : Name) → number_of other name ≡ number_of book name = λ name.
-      ap (λ x. first_place (bytes_eq name) (cells_of x other.tables)) trees ∙ ap (λ x. first_place (bytes_eq name) (cells_of book.trees x)) tables in
+    ap (λ x. first_place (bytes_eq name) (cells_of x other.tables)) trees ∙ ap (λ x. first_place (bytes_eq name) (cells_of book.trees x)) tables in
     let shown : (name : Name) → shows other others name ≡ shows book how name = λ name.
-      ap (λ cell. option_and_then (shown_in other others) cell) (numbers name) ∙ then-same (shown_in other others) (shown_in book how) (number_of book name) same in
+    ap (λ cell. option_and_then (shown_in other others) cell) (numbers name) ∙ then-same (shown_in other others) (shown_in book how) (number_of book name) same in
     ap (λ x. table_text x (slice_index_or other.tables t []) names decimals (shows other others)) trees
     ∙ ap (λ x. table_text book.trees (slice_index_or x t []) names decimals (shows other others)) tables
     ∙ same-text book.trees (slice_index_or book.tables t []) names decimals (shows other others) (shows book how) shown

@@ -27,11 +27,11 @@ fn tree_of(alloc: Global, codes: &[&[u8]]) -> Result<CodeTree, Fail> {
     Ok(flat(alloc, &texts(alloc, codes)?, &text(alloc, b"Total")?)?)
 }
 
-// A book of one table over A with a and b, and another over B, with `c,d` and `"e"`, and A.
+// A book of one table over A, with a, and another over B, with `"c,`, and A.
 fn two_tables(alloc: Global) -> Result<Book, Fail> {
     let mut trees = Vec::new(alloc);
-    trees.push(tree_of(alloc, &[b"a", b"b"])?)?;
-    trees.push(tree_of(alloc, &[b"c,d", b"\"e\""])?)?;
+    trees.push(tree_of(alloc, &[b"a"])?)?;
+    trees.push(tree_of(alloc, &[b"\"c,"])?)?;
     let mut tables = Vec::new(alloc);
     tables.push(spanning(0, None))?;
     tables.push(spanning(1, Some(0)))?;
@@ -88,37 +88,56 @@ fn printed(
     Ok(table_bytes(alloc, book, t, names, decimals, shown)?)
 }
 
+// The second and the third of four cells are hidden.
+fn two_hidden(alloc: Global) -> Result<Hidden, Fail> {
+    let mut flags = Vec::new(alloc);
+    for hidden in [false, true, true, false] {
+        flags.push(hidden)?;
+    }
+    Ok(Hidden {
+        flags: Items::new(flags),
+    })
+}
+
+// The bytes of a table with its names.
+fn named(
+    alloc: Global,
+    book: &Book,
+    t: u32,
+    decimals: u8,
+    shown: Shown<'_>,
+) -> Result<Vec<u8>, Fail> {
+    let names = if t == 0 {
+        texts(alloc, &[b"A", b"V"])?
+    } else {
+        texts(alloc, &[b"B\r", b"A", b""])?
+    };
+    printed(alloc, book, t, &names, decimals, shown)
+}
+
 #[test]
 fn texts_of_tables(rt: HostRuntime) -> Result<(), Fail> {
     let alloc = rt.alloc();
     let book = two_tables(alloc)?;
-    let numbers = [250, 10, 5, 5, 5, 0, 10, 5, 5];
+    let hidden = two_hidden(alloc)?;
+    let numbers = [250, 10, 5, 0];
     let rounded = Shown::Rounded(numbers.as_slice());
-    let mut flags = Vec::new(alloc);
-    for cell in 0..9 {
-        flags.push(cell == 1 || cell == 4)?;
+    let open = Shown::Hidden(&hidden);
+    let whole: &[u8] = b"A,V\nTotal,250\na,10\n";
+    let tenths: &[u8] = b"A,V\nTotal,25.0\na,1.0\n";
+    let crossed: &[u8] = b"A,V\nTotal,0\na,x\n";
+    let quoted: &[u8] =
+        b"\"B\r\",A,\nTotal,Total,250\nTotal,a,10\n\"\"\"c,\",Total,5\n\"\"\"c,\",a,0\n";
+    let both: &[u8] = b"\"B\r\",A,\nTotal,Total,0\nTotal,a,x\n\"\"\"c,\",Total,x\n\"\"\"c,\",a,0\n";
+    for (t, decimals, shown, wanted) in [
+        (0, 0, rounded, whole),
+        (0, 1, rounded, tenths),
+        (0, 0, open, crossed),
+        (1, 0, rounded, quoted),
+        (1, 0, open, both),
+    ] {
+        let bytes = named(alloc, &book, t, decimals, shown)?;
+        assert_eq!(rt; bytes.as_slice(), wanted);
     }
-    let hidden = Hidden {
-        flags: Items::new(flags),
-    };
-    let names = texts(alloc, &[b"A", b"V"])?;
-    let first = printed(alloc, &book, 0, &names, 0, rounded)?;
-    assert_eq!(rt; first.as_slice(), b"A,V\nTotal,250\na,10\nb,5\n".as_slice());
-    let tenths = printed(alloc, &book, 0, &names, 1, rounded)?;
-    assert_eq!(rt;
-        tenths.as_slice(),
-        b"A,V\nTotal,25.0\na,1.0\nb,0.5\n".as_slice()
-    );
-    let open = printed(alloc, &book, 0, &names, 0, Shown::Hidden(&hidden))?;
-    assert_eq!(rt; open.as_slice(), b"A,V\nTotal,0\na,x\nb,0\n".as_slice());
-    let names = texts(alloc, &[b"B,\r\n", b"A", b""])?;
-    let second = printed(alloc, &book, 1, &names, 0, rounded)?;
-    let wanted =
-        b"\"B,\r\n\",A,\nTotal,Total,250\nTotal,a,10\nTotal,b,5\n\"c,d\",Total,5\n\"c,d\",a,5\n\"c,d\",b,0\n\"\"\"e\"\"\",Total,10\n\"\"\"e\"\"\",a,5\n\"\"\"e\"\"\",b,5\n";
-    assert_eq!(rt; second.as_slice(), wanted.as_slice());
-    let open = printed(alloc, &book, 1, &names, 0, Shown::Hidden(&hidden))?;
-    let wanted =
-        b"\"B,\r\n\",A,\nTotal,Total,0\nTotal,a,x\nTotal,b,0\n\"c,d\",Total,0\n\"c,d\",a,x\n\"c,d\",b,0\n\"\"\"e\"\"\",Total,0\n\"\"\"e\"\"\",a,0\n\"\"\"e\"\"\",b,0\n";
-    assert_eq!(rt; open.as_slice(), wanted.as_slice());
     Ok(())
 }
