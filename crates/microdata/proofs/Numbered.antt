@@ -1,5 +1,5 @@
 -- Faults have the numbers of their records.
-use Rattle.std.proofs.Common.{◌≡◌, ℕ, ◌+◌, nat_lt, nat_le, Bool, true, false, cond, List, [], ◌∷◌, ◌++◌, length, map, filter, Result, Ok, Err, pos, refl, ap, sym, ◌∙◌, subst, arith, append_assoc, append-nil, ◌⊎◌, inl, inr}
+use Rattle.std.proofs.Common.{◌≡◌, ℕ, ◌+◌, nat_lt, nat_le, Bool, true, false, cond, List, [], ◌∷◌, ◌++◌, length, map, filter, Result, Ok, Err, pos, refl, ap, sym, ◌∙◌, subst, arith, append_assoc, append-nil, inl, inr}
 use Rattle.std.specs.List.{AllByRecursion}
 use Rattle.sdc_base.specs.Lines.{lines}
 use Rattle.sdc_base.specs.Steps.{◌>>=◌}
@@ -15,7 +15,6 @@ use Rattle.microdata.specs.OneRecord.{variables_say, response_says, record_says,
 use Rattle.microdata.specs.declared.closing.Closed.{Closed}
 use Rattle.microdata.specs.declared.faults.RowWhy.{RowWhy}
 use Rattle.microdata.specs.declared.faults.RowWhy.TheVariants.{TooLong, TooMany, Short}
-use Rattle.microdata.specs.declared.layout.Layout.{Layout}
 use Rattle.microdata.specs.declared.layout.Measures.{Measures}
 use Rattle.microdata.specs.declared.record.Kept.{Kept as KeptRow}
 use Rattle.microdata.specs.declared.record.SoFar.{SoFar}
