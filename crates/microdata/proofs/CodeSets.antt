@@ -1,5 +1,5 @@
 -- The keys of a set of codes, seen as codes.
-use Rattle.std.proofs.Common.{◌≡◌, ℕ, suc, ◌+◌, Bool, true, false, cond, ◌||◌, not, nat_lt, List, [], ◌∷◌, ◌++◌, length, map, position, Option, None, Some, is_some, refl, ap, sym, ◌∙◌}
+use Rattle.std.proofs.Common.{◌≡◌, ℕ, suc, ◌+◌, Bool, false, cond, ◌||◌, not, List, [], ◌∷◌, ◌++◌, length, map, position, Option, None, Some, is_some, refl, ap, sym, ◌∙◌}
 use Rattle.std.specs.List.{IsDistinct, AllByRecursion, position_or_len, list_any}
 use Rattle.std.specs.Option.{IfNone}
 use Rattle.std.specs.Str.{bytes_eq}

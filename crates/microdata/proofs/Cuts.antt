@@ -1,13 +1,13 @@
 -- What is kept of bytes that come in pieces.
-use Rattle.std.proofs.Common.{◌≡◌, ℕ, suc, ◌+◌, ◌<◌, ◌≤◌, nat_lt, Bool, true, false, cond, List, [], ◌∷◌, ◌++◌, length, Option, None, Some, Result, Ok, Err, refl, ap, sym, ◌∙◌, subst, arith, append_assoc, append-nil, inl, inr, take, drop, get_or}
+use Rattle.std.proofs.Common.{◌≡◌, ℕ, ◌+◌, ◌<◌, true, false, List, [], ◌∷◌, ◌++◌, length, None, Some, Result, Ok, Err, refl, ap, sym, ◌∙◌, subst, arith, append_assoc, append-nil, inl, inr, take, drop, get_or}
 use Rattle.std.proofs.lemmas.List.{take_more, take-append-drop}
 use Rattle.std.specs.Result.{IfErr}
 use Rattle.std.specs.Str.Lines.{strip_carriage_return}
 use Rattle.sdc_base.specs.Answers.{Fails}
-use Rattle.sdc_base.specs.Lines.{lines, is_line_feed, HasNoFeed}
-use Rattle.sdc_base.specs.Steps.{◌>>=◌, refuse}
+use Rattle.sdc_base.specs.Lines.{is_line_feed, HasNoFeed}
+use Rattle.sdc_base.specs.Steps.{◌>>=◌}
 use Rattle.plain_text.proofs.FirstLine.{NoFeeds, lines-open, lines-ended}
-use Rattle.microdata.specs.Feeding.{ended, begun, is_too_long, fed_says, all_says, fed_of, SaysAsFrom, HasFault, IsKeptOf, StopsLong, Reading, HasRead}
+use Rattle.microdata.specs.Feeding.{is_too_long, fed_says, all_says, fed_of, SaysAsFrom, HasFault, IsKeptOf, StopsLong, Reading, HasRead}
 use Rattle.microdata.specs.Faults.{fault_of}
 use Rattle.microdata.specs.Layouts.{measures_of}
 use Rattle.microdata.specs.Microdata.{records_of, records_behind, closed_records}

@@ -1,5 +1,5 @@
 -- Faults behind the numbers of their records.
-use Rattle.std.proofs.Common.{◌≡◌, ℕ, Result, refl}
+use Rattle.std.proofs.Common.{ℕ, Result, refl}
 use Rattle.sdc_base.specs.Answers.{Fails}
 use Rattle.microdata.specs.Faults.{why_of, fault_of, at_record, error_of}
 use Rattle.microdata.specs.declared.faults.RowWhy.{RowWhy}

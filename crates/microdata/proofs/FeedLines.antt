@@ -1,10 +1,10 @@
 -- The lines that have ended and the line that has begun, once a line ends.
-use Rattle.std.proofs.Common.{◌≡◌, ℕ, suc, ◌+◌, ◌-◌, ◌<◌, ◌≤◌, ◌==◌, nat_lt, Bool, true, false, cond, ◌&&◌, ◌||◌, not, List, [], ◌∷◌, ◌++◌, length, take, length-take, length-append, refl, ap, sym, ◌∙◌, subst, arith, add-one, append_assoc, append-nil, ◌⊎◌, inl, inr, slice_index}
-use Rattle.std.specs.List.{list_any, AllByRecursion}
+use Rattle.std.proofs.Common.{◌≡◌, ℕ, ◌+◌, ◌-◌, ◌<◌, ◌≤◌, ◌==◌, nat_lt, Bool, true, false, cond, ◌||◌, List, [], ◌∷◌, ◌++◌, length, take, length-take, length-append, refl, ap, sym, ◌∙◌, subst, arith, append-nil, ◌⊎◌, inl, inr, slice_index}
+use Rattle.std.specs.List.{list_any}
 use Rattle.std.specs.Str.Lines.{strip_carriage_return}
 use Rattle.std.proofs.lemmas.Bool.Decides.{nat_tests, Decides-eqb}
 use Rattle.sdc_base.specs.Lines.{lines, is_line_feed, HasNoFeed}
-use Rattle.plain_text.proofs.FirstLine.{NoFeeds, lines-open, lines-ended}
+use Rattle.plain_text.proofs.FirstLine.{NoFeeds, lines-ended}
 use Rattle.microdata.specs.Feeding.{up_to_last_feed, ended, begun, is_too_long}
 
 either-false : (a b : Bool) → a || b ≡ false → (a ≡ false) × (b ≡ false)

@@ -1,5 +1,5 @@
 -- A new code without levels keeps the codes sound, and sound codes make a flat tree.
-use Rattle.std.proofs.Common.{◌≡◌, ℕ, suc, ◌+◌, ◌≤◌, ◌<◌, nat_le, Bool, true, false, cond, ◌||◌, List, [], ◌∷◌, ◌++◌, length, Option, None, Some, Result, Ok, Err, refl, ap, sym, ◌∙◌, subst, arith, ◌⊎◌, inl, inr, append_assoc, length-append}
+use Rattle.std.proofs.Common.{◌≡◌, ℕ, suc, ◌+◌, ◌≤◌, ◌<◌, nat_le, Bool, true, false, ◌||◌, List, [], ◌∷◌, ◌++◌, length, None, Ok, refl, ap, sym, ◌∙◌, subst, arith, ◌⊎◌, inl, inr, append_assoc, length-append}
 use Rattle.std.specs.BTreeSet.{insert_key}
 use Rattle.std.specs.Cmp.Lexicographic.{slice_cmp}
 use Rattle.std.specs.List.{list_any, AllByRecursion, IsDistinct}
@@ -9,13 +9,11 @@ use Rattle.std.specs.declared.cmp.Ordering.TheVariants.{Less, Equal, Greater}
 use Rattle.std.proofs.lemmas.Bool.Decides.{nat_tests}
 use Rattle.std.proofs.lemmas.Map.Keys.{IsDistinct-head, IsDistinct-tail, IsDistinct-cons}
 use Rattle.std.proofs.lemmas.Slice.Eq.{bytes_eq-Decides}
-use Rattle.sdc_base.specs.Steps.{◌>>=◌, refuse}
 use Rattle.hierarchy.specs.Among.{IsIn, AreAmong}
 use Rattle.hierarchy.specs.Faults.{code_fault, first_fault, or_else}
 use Rattle.hierarchy.proofs.Gathered.{in-any, all-back, all-stays, all-new}
 use Rattle.microdata.specs.Keeping.{AreFlatCodes}
 use Rattle.microdata.specs.SeenCodes.{with_flat_code}
-use Rattle.microdata.specs.declared.faults.RowWhy.{RowWhy}
 use Rattle.microdata.specs.declared.faults.RowWhy.TheVariants.{NotLeaf, TooManyCodes}
 use Rattle.microdata.specs.declared.taking.Seen.{Seen}
 use Rattle.microdata.proofs.LevelCodes.{passed, value_is}
@@ -29,9 +27,9 @@ Apart code codes = AllByRecursion (λ other. bytes_eq code other ≡ false) code
 
 pub turned : (a b : List ℕ) → bytes_eq a b ≡ false → bytes_eq b a ≡ false
 turned a b h = elim (bytes_eq b a) as (λ t. bytes_eq b a ≡ t → t ≡ false) [
-      | true ↦ λ e. (let same : a ≡ b = sym ((bytes_eq-Decides b a).0 e) in let yes : bytes_eq a b ≡ true = (bytes_eq-Decides a b).1 same in cc)
-      | false ↦ λ e. refl
-    ] refl
+  | true ↦ λ e. (let same : a ≡ b = sym ((bytes_eq-Decides b a).0 e) in let yes : bytes_eq a b ≡ true = (bytes_eq-Decides a b).1 same in cc)
+  | false ↦ λ e. refl
+] refl
 
 apart-insert : (code new : List ℕ) (nodes : List (List ℕ)) → Apart code nodes → bytes_eq code new ≡ false → Apart code (insert nodes new)
 apart-insert code new [] apart other = (other, tt)
@@ -64,9 +62,10 @@ distinct-behind new (first ∷ front) nodes distinct apart =
 -- a code that is none of those is none of these, which are among those
 apart-among : (code : List ℕ) (these those : List (List ℕ)) → AreAmong these those → list_any (bytes_eq code) those ≡ false → Apart code these
 apart-among code [] those among none = tt
-apart-among code (first ∷ these) those among none =
-    (elim (bytes_eq code first) as (λ t. bytes_eq code first ≡ t → t ≡ false) [ true ↦ λ e. (let found = in-any (bytes_eq code) those first (among first (inl refl)) e in cc) | false ↦ λ e. refl ] refl,
-    apart-among code these those (λ x inside. among x (inr inside)) none)
+apart-among code (first ∷ these) those among none = (
+  elim (bytes_eq code first) as (λ t. bytes_eq code first ≡ t → t ≡ false) [ true ↦ λ e. (let found = in-any (bytes_eq code) those first (among first (inl refl)) e in cc) | false ↦ λ e. refl ] refl,
+  apart-among code these those (λ x inside. among x (inr inside)) none,
+)
 
 pub in-either : (x : List ℕ) (these those : List (List ℕ)) → IsIn x (these ++ those) → IsIn x these ⊎ IsIn x those
 in-either x [] those h = inr h
@@ -89,18 +88,18 @@ among-insert codes nodes seen new among x h =
     elim (in-either x codes (insert nodes new) h) [
       | inl listed ↦ in-first x seen (new ∷ []) (among x (in-first x codes nodes listed))
       | inr further ↦ elim (all-back (new ∷ []) nodes x further) [
-          | inl old ↦ in-first x seen (new ∷ []) (among x (in-second x codes nodes old))
-          | inr it ↦ in-second x seen (new ∷ []) it
-        ]
+        | inl old ↦ in-first x seen (new ∷ []) (among x (in-second x codes nodes old))
+        | inr it ↦ in-second x seen (new ∷ []) it
+      ]
     ]
 
 back-insert : (codes nodes seen : List (List ℕ)) (new : List ℕ) → AreAmong seen (codes ++ nodes) → AreAmong (seen ++ new ∷ []) (codes ++ insert nodes new)
 back-insert codes nodes seen new back x h =
     elim (in-either x seen (new ∷ []) h) [
       | inl old ↦ elim (in-either x codes nodes (back x old)) [
-          | inl listed ↦ in-first x codes (insert nodes new) listed
-          | inr further ↦ in-second x codes (insert nodes new) (all-stays (new ∷ []) nodes x further)
-        ]
+        | inl listed ↦ in-first x codes (insert nodes new) listed
+        | inr further ↦ in-second x codes (insert nodes new) (all-stays (new ∷ []) nodes x further)
+      ]
       | inr it ↦ in-second x codes (insert nodes new) (all-new (new ∷ []) nodes x it)
     ]
 

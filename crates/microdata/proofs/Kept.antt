@@ -1,5 +1,5 @@
 -- What is kept of each record stays within its limits.
-use Rattle.std.proofs.Common.{◌≡◌, ℕ, suc, ◌+◌, ◌-◌, ◌^◌, ◌<◌, ◌≤◌, nat_lt, nat_le, Bool, true, false, cond, not, List, [], ◌∷◌, ◌++◌, length, map, position, sum, ◌≤ℤ◌, ◌<ℤ◌, Option, None, Some, option_map, Result, Ok, Err, ℤ, pos, negsuc, refl, ap, sym, ◌∙◌, subst, arith, length-append}
+use Rattle.std.proofs.Common.{◌≡◌, ℕ, suc, ◌+◌, ◌^◌, ◌<◌, ◌≤◌, nat_lt, nat_le, Bool, true, false, cond, List, [], ◌∷◌, ◌++◌, length, map, position, sum, ◌≤ℤ◌, ◌<ℤ◌, Option, None, Some, option_map, Result, Ok, Err, ℤ, pos, negsuc, refl, ap, sym, ◌∙◌, subst, arith, length-append}
 use Rattle.std.specs.List.{AllByRecursion, position_or_len, list_any}
 use Rattle.std.specs.Str.{bytes_eq}
 use Rattle.std.proofs.lemmas.Bool.Decides.{nat_tests}
@@ -7,7 +7,7 @@ use Rattle.std.proofs.lemmas.Int.{ints}
 use Rattle.sdc_base.specs.Blanks.{is_blank}
 use Rattle.sdc_base.specs.Numbers.{read_units}
 use Rattle.sdc_base.specs.Places.{first_place}
-use Rattle.sdc_base.specs.Steps.{◌>>=◌, or_fault, refuse, map_fault}
+use Rattle.sdc_base.specs.Steps.{◌>>=◌, or_fault, refuse}
 use Rattle.sdc_base.proofs.StepLemmas.{bind_ok}
 use Rattle.sdc_base.specs.Trees.{Tree, find}
 use Rattle.sdc_base.specs.declared.number_fault.NumberFault.{NumberFault}
@@ -56,9 +56,9 @@ found-within test (node ∷ tree) place h =
     elim (test node) as (λ b. cond b (Some 0) (option_map (λ k. k + 1) (first_place test tree)) ≡ Some place → place < suc (length tree)) [
       | true ↦ λ e. (let zeroth : 0 ≡ place = cc in omega (arith, zeroth))
       | false ↦ λ e. elim (first_place test tree) as (λ o. first_place test tree ≡ o → option_map (λ k. k + 1) o ≡ Some place → place < suc (length tree)) [
-          | None ↦ λ is f. cc
-          | Some k ↦ λ is f. (let next : k + 1 ≡ place = cc in omega (arith, next, rest k is))
-        ] refl e
+        | None ↦ λ is f. cc
+        | Some k ↦ λ is f. (let next : k + 1 ≡ place = cc in omega (arith, next, rest k is))
+      ] refl e
     ] h
 
 pub find-within : (tree : Tree) (code : List ℕ) (place : ℕ) → find tree code ≡ Some place → place < length tree
@@ -246,7 +246,7 @@ response-good m spanning so_far next line room good h =
     subst (IsGood (scale_of m.weight) spanning) (value_of_ok (with_row so_far c.0.0 row) next c.2) (record {
       fields = same-fields so_far.variables c.0.0 codes.1 ∙ good.fields;
       rows = kept-more (scale_of m.weight) c.0.0 so_far.rows row (kept-grown (scale_of m.weight) so_far.variables c.0.0 so_far.rows codes.1 good.rows)
-      (record { places = codes.0; from_zero = omega (arith, ints); below = omega (arith, ints, value); heavy = weight.0; light = weight.1 });
+          (record { places = codes.0; from_zero = omega (arith, ints); below = omega (arith, ints, value); heavy = weight.0; light = weight.1 });
       few = omega (arith, good.few, length-append so_far.rows (row ∷ []));
       records = omega (arith, room);
     })

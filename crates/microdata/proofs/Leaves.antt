@@ -1,5 +1,5 @@
 -- The places of a record's codes, one variable after another.
-use Rattle.std.proofs.Common.{◌≡◌, ℕ, ◌+◌, List, [], ◌∷◌, ◌++◌, Result, Ok, Err}
+use Rattle.std.proofs.Common.{ℕ, List, ◌++◌, Result, Ok}
 use Rattle.sdc_base.specs.Steps.{◌>>=◌}
 use Rattle.microdata.specs.declared.faults.RowWhy.{RowWhy}
 

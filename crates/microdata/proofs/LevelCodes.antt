@@ -1,5 +1,5 @@
 -- A new code by levels keeps the codes sound.
-use Rattle.std.proofs.Common.{◌≡◌, ℕ, suc, ◌+◌, ◌≤◌, nat_lt, Bool, true, false, cond, All, List, [], ◌∷◌, ◌++◌, length, sum, Option, None, Some, Result, Ok, Err, refl, ap, sym, ◌∙◌, subst, arith, append_assoc, append-nil}
+use Rattle.std.proofs.Common.{◌≡◌, ℕ, ◌+◌, ◌≤◌, nat_lt, Bool, true, false, List, [], ◌∷◌, ◌++◌, length, sum, Option, None, Some, Result, Ok, refl, ap, sym, ◌∙◌, subst, arith, append_assoc, append-nil}
 use Rattle.std.specs.List.{list_any}
 use Rattle.std.specs.Str.{bytes_eq}
 use Rattle.std.proofs.lemmas.Bool.Decides.{nat_tests}
@@ -61,7 +61,7 @@ grown-sound widths total old code new sound plain short apart room =
     record {
       nodes = ap (λ nodes. with_prefixes bounds nodes code) sound.nodes ∙ sym (gathered-more bounds old.codes [] code);
       fine = fine-more total bounds 1 [] [] old.codes code sound.fine
-      (λ m. no-fault total bounds old.codes (gathered bounds [] old.codes) code m plain apart new (subst (λ nodes. nat_lt 5000 (length (with_prefixes bounds nodes code)) ≡ false) sound.nodes room));
+          (λ m. no-fault total bounds old.codes (gathered bounds [] old.codes) code m plain apart new (subst (λ nodes. nat_lt 5000 (length (with_prefixes bounds nodes code)) ≡ false) sound.nodes room));
       short = All-append (λ code. length code ≤ sum widths) old.codes (code ∷ []) sound.short (All-cons (λ code. length code ≤ sum widths) code [] (not_below _ _ short) (All-nil (λ code. length code ≤ sum widths)));
       among = among-more bounds old.codes old.nodes code sound.among;
       few = not_below 5000 _ room;

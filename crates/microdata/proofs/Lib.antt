@@ -13,3 +13,4 @@ pub mod Within
 pub mod Standing
 pub mod RowsMeant
 pub mod RowsClosed
+pub mod Numbered

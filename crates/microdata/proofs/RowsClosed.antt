@@ -1,14 +1,13 @@
 -- The places of the rows are those of their codes.
-use Rattle.std.proofs.Common.{◌≡◌, ℕ, zero, suc, ◌+◌, Bool, true, false, cond, ◌||◌, All, List, [], ◌∷◌, ◌++◌, length, map, filter, slice_get, slice_index_or, Option, None, Some, option_map, is_some, Result, Ok, Err, refl, ap, sym, ◌∙◌, subst, arith, append_assoc, append-nil, add-one, ◌⊎◌, inl, inr}
+use Rattle.std.proofs.Common.{◌≡◌, ℕ, zero, suc, ◌+◌, Bool, true, false, cond, All, List, [], ◌∷◌, ◌++◌, length, map, filter, slice_get, slice_index_or, None, Some, option_map, is_some, Result, Ok, Err, refl, ap, sym, ◌∙◌, subst, arith, append_assoc, append-nil, inl, inr}
 use Rattle.std.specs.List.{AllByRecursion}
 use Rattle.std.specs.Option.{unwrap_or}
 use Rattle.std.specs.Str.{bytes_eq}
-use Rattle.std.proofs.lemmas.List.Elements.{recursion_from_All, All-map}
+use Rattle.std.proofs.lemmas.List.Elements.{recursion_from_All}
 use Rattle.std.proofs.lemmas.Slice.Eq.{bytes_eq-Decides}
 use Rattle.sdc_base.specs.Lines.{lines}
-use Rattle.sdc_base.specs.Steps.{◌>>=◌}
 use Rattle.sdc_base.proofs.StepLemmas.{bind_ok}
-use Rattle.sdc_base.specs.Trees.{Tree, codes, find, flat_tree}
+use Rattle.sdc_base.specs.Trees.{Tree, codes, find}
 use Rattle.sdc_base.specs.declared.rows.Row.{Row}
 use Rattle.hierarchy.specs.Among.{IsIn}
 use Rattle.hierarchy.specs.Children.{first_child}
@@ -16,9 +15,9 @@ use Rattle.hierarchy.specs.Levels.{boundaries, above, tree_of_codes}
 use Rattle.hierarchy.proofs.Among.{codes-more}
 use Rattle.hierarchy.proofs.FlatSteps.{codes-flat}
 use Rattle.microdata.specs.Closing.{tree_of, places_in, closed_of, place_of, leaf_of, leaves_of, row_of, rows_of}
-use Rattle.microdata.specs.Fields.{field, value_of, weight_of}
-use Rattle.microdata.specs.Keeping.{AreSeen, IsVariable}
-use Rattle.microdata.specs.Layouts.{measures_of, IsLayout, IsField, IsSource}
+use Rattle.microdata.specs.Fields.{field}
+use Rattle.microdata.specs.Keeping.{AreSeen}
+use Rattle.microdata.specs.Layouts.{measures_of, IsField}
 use Rattle.microdata.specs.Meaning.{is_answered, is_unanswered, ArePlacesOf, IsRowOf, AreRowsOf, RowsAreTheirRecords}
 use Rattle.microdata.specs.Microdata.{records_of, closed_records}
 use Rattle.microdata.specs.OneRecord.{lines_say, nothing}
@@ -34,7 +33,7 @@ use Rattle.microdata.specs.declared.record.Variable.{Variable}
 use Rattle.microdata.specs.declared.records.Records.{Records}
 use Rattle.microdata.specs.declared.taking.Seen.{Seen}
 use Rattle.microdata.proofs.Kept.{value_of_ok, same-value}
-use Rattle.microdata.proofs.RowsMeant.{Stands, code_in, AreNumbersOf, IsKeptOf, AreKeptOf, IsMeantSoFar, lines-meant, get-in}
+use Rattle.microdata.proofs.RowsMeant.{Stands, code_in, AreNumbersOf, IsKeptOf, AreKeptOf, lines-meant, get-in}
 use Rattle.microdata.proofs.SeenFirst.{first_of, first-sound}
 
 -- ---- a code in its tree
@@ -46,9 +45,9 @@ find-some (node ∷ tree) code h =
     elim (bytes_eq code node.0) as (λ b. bytes_eq code node.0 ≡ b → (place : ℕ) × (cond b (Some 0) (option_map (λ k. k + 1) (find tree code)) ≡ Some place)) [
       | true ↦ λ is. (0, refl)
       | false ↦ λ is. elim h [
-          | inl here ↦ absurd (let yes : bytes_eq code node.0 ≡ true = (bytes_eq-Decides code node.0).1 here in cc)
-          | inr there ↦ (let found = later there in (found.0 + 1, ap (option_map (λ k. k + 1)) found.1))
-        ]
+        | inl here ↦ absurd (let yes : bytes_eq code node.0 ≡ true = (bytes_eq-Decides code node.0).1 here in cc)
+        | inr there ↦ (let found = later there in (found.0 + 1, ap (option_map (λ k. k + 1)) found.1))
+      ]
     ] refl
 
 codes-made : (total bounds : List ℕ) (below : List (List ℕ)) (tree : Tree) → codes (tree_of_codes total bounds tree below) ≡ codes tree ++ below

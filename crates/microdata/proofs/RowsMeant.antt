@@ -1,7 +1,6 @@
 -- The rows are those of their records.
-use Rattle.std.proofs.Common.{◌≡◌, ℕ, zero, suc, ◌+◌, ◌<◌, ◌≤◌, nat_lt, nat_le, ◌&&◌, not, Bool, true, false, cond, All, List, [], ◌∷◌, ◌++◌, length, map, filter, position, slice_get, slice_index_or, sum, Option, None, Some, option_map, is_some, Result, Ok, Err, pos, refl, ap, sym, ◌∙◌, subst, arith, append_assoc, append-nil, add-one, inl, inr}
+use Rattle.std.proofs.Common.{◌≡◌, ℕ, zero, suc, ◌+◌, nat_lt, nat_le, not, Bool, true, false, cond, List, [], ◌∷◌, ◌++◌, length, map, filter, position, slice_get, sum, Option, None, Some, option_map, Result, Ok, pos, refl, ap, sym, ◌∙◌, subst, arith, append_assoc, append-nil, add-one, inl, inr}
 use Rattle.std.specs.List.{AllByRecursion, list_any}
-use Rattle.std.specs.Option.{unwrap_or}
 use Rattle.std.specs.Str.{bytes_eq}
 use Rattle.std.proofs.lemmas.Slice.Eq.{bytes_eq-Decides}
 use Rattle.sdc_base.specs.Blanks.{is_blank}
@@ -9,22 +8,16 @@ use Rattle.sdc_base.specs.Lines.{lines}
 use Rattle.sdc_base.specs.Places.{first_place}
 use Rattle.sdc_base.specs.Steps.{◌>>=◌, or_fault, refuse}
 use Rattle.sdc_base.proofs.StepLemmas.{bind_ok}
-use Rattle.sdc_base.specs.Trees.{Tree, codes, find, flat_tree}
-use Rattle.sdc_base.specs.declared.rows.Row.{Row}
+use Rattle.sdc_base.specs.Trees.{Tree, codes, find}
 use Rattle.hierarchy.specs.Among.{IsIn}
-use Rattle.hierarchy.specs.Children.{first_child}
-use Rattle.hierarchy.specs.Levels.{boundaries, above, tree_of_codes, prefixes, with_prefixes}
-use Rattle.hierarchy.proofs.Among.{codes-more}
-use Rattle.hierarchy.proofs.FlatSteps.{codes-flat}
+use Rattle.hierarchy.specs.Levels.{boundaries, prefixes, with_prefixes}
 use Rattle.hierarchy.proofs.MapEntries.{position-first_place}
-use Rattle.microdata.specs.Closing.{tree_of, places_in, closed_of, place_of, leaf_of, leaves_of, row_of, rows_of}
 use Rattle.microdata.specs.Fields.{field, has_no_response, value_of, weight_of}
 use Rattle.microdata.specs.Keeping.{AreSeen}
-use Rattle.microdata.specs.Layouts.{measures_of, IsLayout, IsField}
-use Rattle.microdata.specs.Meaning.{is_answered, is_unanswered, ArePlacesOf, IsRowOf, AreRowsOf, RowsAreTheirRecords}
-use Rattle.microdata.specs.Microdata.{records_of, closed_records}
-use Rattle.microdata.specs.OneRecord.{variable_says, variables_say, response_says, record_says, line_says, lines_say, with_row, with_skipped, nothing}
-use Rattle.microdata.specs.SeenCodes.{is_above, listed_place, with_level_code, with_flat_code, known_or_new, with_code, seen_first}
+use Rattle.microdata.specs.Layouts.{measures_of}
+use Rattle.microdata.specs.Meaning.{is_answered, is_unanswered}
+use Rattle.microdata.specs.OneRecord.{variable_says, variables_say, response_says, record_says, line_says, lines_say, with_row, with_skipped}
+use Rattle.microdata.specs.SeenCodes.{is_above, listed_place, with_level_code, with_flat_code, known_or_new, with_code}
 use Rattle.microdata.specs.declared.faults.RowWhy.{RowWhy}
 use Rattle.microdata.specs.declared.faults.RowWhy.TheVariants.{TooLong, TooMany, Short, UnknownCode, NotLeaf, TooManyCodes}
 use Rattle.microdata.specs.declared.layout.Field.{Field}
@@ -34,12 +27,10 @@ use Rattle.microdata.specs.declared.layout.Source.TheVariants as source
 use Rattle.microdata.specs.declared.record.Kept.{Kept as KeptRow}
 use Rattle.microdata.specs.declared.record.SoFar.{SoFar}
 use Rattle.microdata.specs.declared.record.Variable.{Variable}
-use Rattle.microdata.specs.declared.records.Records.{Records}
 use Rattle.microdata.specs.declared.taking.Seen.{Seen}
-use Rattle.microdata.proofs.FlatCodes.{flat-sound, in-first, in-second}
+use Rattle.microdata.proofs.FlatCodes.{flat-sound}
 use Rattle.microdata.proofs.Kept.{value_of_ok, same-value}
 use Rattle.microdata.proofs.LevelCodes.{passed, level-sound}
-use Rattle.microdata.proofs.SeenFirst.{first-sound}
 
 -- ---- lists of codes
 
@@ -64,9 +55,9 @@ first-at (first ∷ codes) code place h =
     elim (bytes_eq code first) as (λ b. bytes_eq code first ≡ b → cond b (Some 0) (option_map (λ k. k + 1) (first_place (bytes_eq code) codes)) ≡ Some place → slice_get (first ∷ codes) place ≡ Some code) [
       | true ↦ λ is e. (let zeroth : 0 ≡ place = cc in subst (λ p. slice_get (first ∷ codes) p ≡ Some code) zeroth (ap Some (sym ((bytes_eq-Decides code first).0 is))))
       | false ↦ λ is e. elim (first_place (bytes_eq code) codes) as (λ o. first_place (bytes_eq code) codes ≡ o → option_map (λ k. k + 1) o ≡ Some place → slice_get (first ∷ codes) place ≡ Some code) [
-          | None ↦ λ found f. cc
-          | Some k ↦ λ found f. (let next : k + 1 ≡ place = cc in subst (λ p. slice_get (first ∷ codes) p ≡ Some code) (sym (add-one k) ∙ next) (rest k found))
-        ] refl e
+        | None ↦ λ found f. cc
+        | Some k ↦ λ found f. (let next : k + 1 ≡ place = cc in subst (λ p. slice_get (first ∷ codes) p ≡ Some code) (sym (add-one k) ∙ next) (rest k found))
+      ] refl e
     ] refl h
 
 position-at : (codes : List (List ℕ)) (code : List ℕ) (place : ℕ) → position (bytes_eq code) codes ≡ Some place → slice_get codes place ≡ Some code
@@ -278,7 +269,7 @@ response-meant layout answered unanswered so_far next line meant h =
       fields = grown-fields so_far.variables c.0.0 said.grown ∙ meant.fields;
       sound = said.sound;
       rows = kept-more layout c.0.0 answered so_far.rows line row (kept-grown layout so_far.variables c.0.0 answered so_far.rows said.grown meant.rows)
-      (record { numbers = said.numbers; value = (a.0, a.1, refl); weight = b.1 });
+          (record { numbers = said.numbers; value = (a.0, a.1, refl); weight = b.1 });
       skipped = meant.skipped;
     })
 
@@ -332,6 +323,6 @@ lines-meant layout answered unanswered so_far last ((b ∷ line) ∷ rest) meant
     elim (has_no_response layout.response (b ∷ line)) as (λ t. has_no_response layout.response (b ∷ line) ≡ t → cond {A = Result SoFar RowWhy} t (Ok (with_skipped so_far)) (response_says (measures_of layout) so_far (b ∷ line)) ≡ Ok a.0
     → IsMeantWith layout answered unanswered ((b ∷ line) ∷ rest) last) [
       | true ↦ λ is e. skip-step layout answered unanswered b line rest last is
-        (later answered (unanswered + 1) (subst (IsMeantSoFar layout answered (unanswered + 1)) (value_of_ok (with_skipped so_far) a.0 e) (record { fields = meant.fields; sound = meant.sound; rows = meant.rows; skipped = ap (λ n. n + 1) meant.skipped })))
+          (later answered (unanswered + 1) (subst (IsMeantSoFar layout answered (unanswered + 1)) (value_of_ok (with_skipped so_far) a.0 e) (record { fields = meant.fields; sound = meant.sound; rows = meant.rows; skipped = ap (λ n. n + 1) meant.skipped })))
       | false ↦ λ is e. take-step layout answered unanswered b line rest last is (later (answered ++ (b ∷ line) ∷ []) unanswered (response-meant layout answered unanswered so_far a.0 (b ∷ line) meant e))
     ] refl step

@@ -1,5 +1,5 @@
 -- A fault that is found before all bytes are there stands, whatever follows.
-use Rattle.std.proofs.Common.{◌≡◌, ℕ, zero, suc, ◌+◌, ◌≤◌, Bool, true, false, List, [], ◌∷◌, ◌++◌, length, Result, Ok, Err, refl, ap, sym, ◌∙◌, subst, arith, append_assoc, length-append, ◌⊎◌, inl, inr}
+use Rattle.std.proofs.Common.{◌≡◌, ℕ, zero, suc, ◌+◌, ◌≤◌, Bool, true, false, List, [], ◌∷◌, ◌++◌, length, Result, Ok, Err, refl, ap, sym, ◌∙◌, subst, arith, append_assoc, length-append, inl, inr}
 use Rattle.std.specs.Str.Lines.{strip_carriage_return}
 use Rattle.sdc_base.specs.Steps.{◌>>=◌, refuse}
 use Rattle.sdc_base.proofs.StepLemmas.{bind_err}
@@ -51,9 +51,9 @@ at-line m so_far bytes fault line rest none is said later =
 
 stands : (n : ℕ) (m : Measures) (so_far : SoFar) (bytes : List ℕ) (fault : ℕ × RowWhy) → length bytes ≤ n → fed_says m so_far bytes ≡ Err fault → HasFault m so_far bytes fault
 stands zero m so_far bytes fault few said = elim (at-feed bytes) [
-    | inl none ↦ open-stands m so_far bytes fault none said
-    | inr found ↦ absurd (omega (arith, few, ap length found.3, length-append found.0 (10 ∷ found.1)))
-  ]
+  | inl none ↦ open-stands m so_far bytes fault none said
+  | inr found ↦ absurd (omega (arith, few, ap length found.3, length-append found.0 (10 ∷ found.1)))
+]
 stands (suc n) m so_far bytes fault few said =
     let later = λ (rest : List ℕ) (short : length rest ≤ n) (next : SoFar) (h : fed_says m next rest ≡ Err fault). stands n m next rest fault short h in
     elim (at-feed bytes) [

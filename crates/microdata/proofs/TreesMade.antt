@@ -1,5 +1,5 @@
 -- A maker of trees that has no fault to give wants memory.
-use Rattle.std.proofs.Common.{◌≡◌, Result, Ok, Err, refl}
+use Rattle.std.proofs.Common.{◌≡◌, Result, Ok, refl}
 use Rattle.sdc_base.specs.Answers.{Fails}
 use Rattle.sdc_base.specs.Trees.{Tree}
 use Rattle.hierarchy.specs.Faults.{fault_of}

@@ -1,9 +1,8 @@
 -- What is read is within its limits.
-use Rattle.std.proofs.Common.{◌≡◌, ℕ, zero, suc, ◌+◌, ◌<◌, ◌≤◌, Bool, true, false, cond, List, [], ◌∷◌, ◌++◌, length, map, slice_index_or, Option, None, Some, is_some, Result, Ok, Err, refl, ap, sym, ◌∙◌, subst, arith, ◌⊎◌, inl, inr}
+use Rattle.std.proofs.Common.{◌≡◌, ℕ, zero, suc, ◌<◌, Bool, true, false, cond, List, [], ◌∷◌, ◌++◌, length, map, slice_index_or, Option, None, Some, is_some, Result, Ok, Err, refl, ap, ◌∙◌, subst, arith, ◌⊎◌, inl, inr}
 use Rattle.std.specs.List.{AllByRecursion}
 use Rattle.std.specs.Option.{unwrap_or}
 use Rattle.sdc_base.specs.Lines.{lines}
-use Rattle.sdc_base.specs.Steps.{◌>>=◌}
 use Rattle.sdc_base.proofs.StepLemmas.{bind_ok}
 use Rattle.sdc_base.specs.Trees.{Tree, find}
 use Rattle.sdc_base.specs.declared.rows.Row.{Row}
@@ -20,14 +19,12 @@ use Rattle.microdata.specs.declared.closing.Closed.{Closed}
 use Rattle.microdata.specs.declared.faults.RowWhy.{RowWhy}
 use Rattle.microdata.specs.declared.faults.RowWhy.TheVariants.{NotLeaf}
 use Rattle.microdata.specs.declared.layout.Field.{Field}
-use Rattle.microdata.specs.declared.layout.Layout.{Layout}
 use Rattle.microdata.specs.declared.layout.Source.{Source}
 use Rattle.microdata.specs.declared.layout.Source.TheVariants as source
 use Rattle.microdata.specs.declared.record.Kept.{Kept as KeptRow}
 use Rattle.microdata.specs.declared.record.Variable.{Variable}
-use Rattle.microdata.specs.declared.records.Records.{Records}
 use Rattle.microdata.specs.declared.taking.Seen.{Seen}
-use Rattle.microdata.proofs.Kept.{value_of_ok, find-within, bound, bound_of, Fit, IsKept, IsGood, lines-good, same-value}
+use Rattle.microdata.proofs.Kept.{value_of_ok, find-within, bound, bound_of, Fit, IsKept, lines-good, same-value}
 
 found-or-first : (tree : Tree) (code : List ℕ) → 0 < length tree → unwrap_or (find tree code) 0 < length tree
 found-or-first tree code some = by (find tree code) refl

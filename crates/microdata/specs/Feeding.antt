@@ -1,8 +1,8 @@
 -- Bytes that come in pieces: what the lines that have ended say, and when the line that has begun is too long (own).
-use Rattle.std.specs.Prelude.{◌≡◌, ℕ, ◌+◌, ◌≤◌, ◌^◌, nat_lt, Bool, if◌then◌else◌, List, [], ◌∷◌, ◌++◌, length, true, Option, None, Some, Result, Ok, Err}
+use Rattle.std.specs.Prelude.{◌≡◌, ℕ, ◌+◌, nat_lt, Bool, if◌then◌else◌, List, [], ◌∷◌, ◌++◌, length, true, Option, None, Some, Result, Err}
 use Rattle.std.specs.List.{list_any}
 use Rattle.std.specs.Str.Lines.{strip_carriage_return}
-use Rattle.sdc_base.specs.Lines.{lines, is_line_feed, HasNoFeed}
+use Rattle.sdc_base.specs.Lines.{lines, is_line_feed}
 use Rattle.sdc_base.specs.Steps.{◌>>=◌, refuse}
 use Rattle.microdata.specs.Layouts.{measures_of}
 use Rattle.microdata.specs.OneRecord.{lines_say, nothing}

@@ -1,6 +1,6 @@
 -- What is kept of the records so far is sound: it can be read on, and closed (own).
-use Rattle.std.specs.Prelude.{◌≡◌, ℕ, ◌+◌, ◌<◌, ◌≤◌, false, List, [], ◌∷◌, ◌++◌, length, sum, All, Option, None, Some}
-use Rattle.std.specs.List.{AllByRecursion, IsDistinct, list_any}
+use Rattle.std.specs.Prelude.{◌≡◌, ℕ, ◌+◌, ◌≤◌, false, List, [], ◌∷◌, ◌++◌, length, sum, All, Option, None, Some}
+use Rattle.std.specs.List.{IsDistinct}
 use Rattle.std.specs.Str.{bytes_eq}
 use Rattle.sdc_base.specs.Lines.{HasNoFeed}
 use Rattle.hierarchy.specs.Among.{AreAmong}

@@ -1,5 +1,5 @@
 -- Which layouts are read by: where their fields stand, and which codes they list (own).
-use Rattle.std.specs.Prelude.{ℕ, ◌+◌, ◌<◌, ◌≤◌, All, List, [], ◌∷◌, length, Option, None, Some}
+use Rattle.std.specs.Prelude.{ℕ, ◌+◌, ◌<◌, ◌≤◌, All, ◌∷◌, length, Option, None, Some}
 use Rattle.std.specs.List.{IsDistinct}
 use Rattle.std.specs.Str.{bytes_eq}
 use Rattle.microdata.specs.declared.layout.Field.{Field}

@@ -1,11 +1,12 @@
 -- What a row says of its record, read by itself (tau-ARGUS user manual, fixed-format microdata).
-use Rattle.std.specs.Prelude.{◌≡◌, ℕ, ◌&&◌, not, Bool, true, false, filter, List, [], ◌∷◌, length, Some, Ok, pos}
+use Rattle.std.specs.Prelude.{◌≡◌, ℕ, ◌+◌, ◌&&◌, not, Bool, true, false, filter, List, [], ◌∷◌, ◌++◌, length, Some, Ok, Err, pos}
 use Rattle.sdc_base.specs.Lines.{lines}
 use Rattle.sdc_base.specs.Trees.{Tree, find}
 use Rattle.sdc_base.specs.declared.rows.Row.{Row}
 use Rattle.microdata.specs.Fields.{field, has_no_response, value_of, weight_of}
 use Rattle.microdata.specs.Layouts.{IsLayout}
 use Rattle.microdata.specs.Microdata.{records_of}
+use Rattle.microdata.specs.declared.faults.RowWhy.{RowWhy}
 use Rattle.microdata.specs.declared.layout.Field.{Field}
 use Rattle.microdata.specs.declared.layout.Layout.{Layout}
 use Rattle.microdata.specs.declared.layout.NumberField.{NumberField}
@@ -46,3 +47,11 @@ AreRowsOf layout trees lines rows = ⊥
 abbrev pub RowsAreTheirRecords : Type 0
 RowsAreTheirRecords = (layout : Layout) (bytes : List ℕ) (records : Records) → IsLayout layout → records_of layout bytes ≡ Ok records
     → AreRowsOf layout records.trees (filter (is_answered layout.response) (lines bytes)) records.rows × (records.skipped ≡ length (filter (is_unanswered layout.response) (lines bytes)))
+
+-- this is the number of a record: so many lines with a byte stand up to its own
+abbrev pub IsNumberOfRecord : List (List ℕ) → ℕ → Type 0
+IsNumberOfRecord lines number = (before : List (List ℕ)) × (line : List ℕ) × (behind : List (List ℕ)) × (lines ≡ before ++ line ∷ behind) × (is_record line ≡ true) × (number ≡ length (filter is_record before) + 1)
+
+-- a fault is given with the number of a record, in which every line with a byte is counted
+abbrev pub FaultsAreNumbered : Type 0
+FaultsAreNumbered = (layout : Layout) (bytes : List ℕ) (number : ℕ) (why : RowWhy) → records_of layout bytes ≡ Err (number, why) → IsNumberOfRecord (lines bytes) number

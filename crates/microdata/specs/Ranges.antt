@@ -1,5 +1,5 @@
 -- What the records that were read are within: places in their trees, and the limits of their numbers (limits own).
-use Rattle.std.specs.Prelude.{◌≡◌, ℕ, ◌^◌, ◌<◌, ◌≤◌, All, List, [], ◌∷◌, length, Ok, pos, ◌≤ℤ◌, ◌<ℤ◌}
+use Rattle.std.specs.Prelude.{◌≡◌, ℕ, ◌^◌, ◌<◌, ◌≤◌, List, [], ◌∷◌, length, Ok, pos, ◌≤ℤ◌, ◌<ℤ◌}
 use Rattle.std.specs.List.{AllByRecursion}
 use Rattle.sdc_base.specs.Trees.{Tree}
 use Rattle.sdc_base.specs.declared.rows.Row.{Row}

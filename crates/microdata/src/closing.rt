@@ -206,7 +206,12 @@ fn place_of(closed: &Closed, number: u32) -> u32
 }
 
 // The tree of codes by levels.
-fn level_tree(alloc: Global, codes: &[Text], widths: &[u8], total: &Text) -> Result<CodeTree, Memory>
+fn level_tree(
+    alloc: Global,
+    codes: &[Text],
+    widths: &[u8],
+    total: &Text,
+) -> Result<CodeTree, Memory>
     requires some { 0 < length widths.now }
     requires levels { length widths.now ≤ 9 }
     requires positive { All (λ width. 0 < width) widths.now }
@@ -224,13 +229,17 @@ fn level_tree(alloc: Global, codes: &[Text], widths: &[u8], total: &Text) -> Res
 fn want_of(fault: TreeFault) -> Memory
     requires { fault ≡ TreeFault.Memory }
 {
-    match fault {
-        _ => Memory,
-    }
+    let _ = fault;
+    Memory
 }
 
 // The flat tree of the listed codes and the further ones.
-fn flat_tree(alloc: Global, listed: Items<Text>, further: Ascending, total: &Text) -> Result<CodeTree, Memory>
+fn flat_tree(
+    alloc: Global,
+    listed: Items<Text>,
+    further: Ascending,
+    total: &Text,
+) -> Result<CodeTree, Memory>
     requires distinct { IsDistinct bytes_eq (total.now ∷ (listed ++ further)) }
     requires few { length listed + length further ≤ 5000 }
     ensures { IfOk result (λ tree. tree ≡ flat_of total.now (listed ++ further)) }

@@ -1,7 +1,7 @@
 //! Laws of microdata, as contracts of functions that do nothing.
 
 ghost use Rattle.microdata.specs.Laws.{FaultsStand};
-ghost use Rattle.microdata.specs.Meaning.{RowsAreTheirRecords};
+ghost use Rattle.microdata.specs.Meaning.{RowsAreTheirRecords, FaultsAreNumbered};
 ghost use Rattle.microdata.specs.Ranges.{ReadIsWithinLimits};
 
 /// Whatever is read is within its limits: at most a million records, each with one place in each tree, with a
@@ -21,4 +21,10 @@ pub fn faults_stand()
 /// that stand there. The records without a response are counted.
 pub fn rows_are_their_records()
     ensures { RowsAreTheirRecords }
+{}
+
+/// A fault is given with the number of a record, in which every line of at least one byte is counted, skipped records
+/// too.
+pub fn faults_are_numbered()
+    ensures { FaultsAreNumbered }
 {}

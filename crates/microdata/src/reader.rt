@@ -27,7 +27,9 @@ use sdc_base::{Items, Memory, Text};
 use std::alloc::Global;
 use std::marker::Model;
 
-/// A reader of microdata that come in pieces.
+/// A reader of microdata that come in pieces, each of any length: how the bytes are cut changes nothing. It keeps the
+/// rows and codes of the records so far and the line that has begun, at most 1,001 bytes of it, and not the bytes.
+/// That it was fed these bytes, in whatever pieces, is what `HasRead` says in its contracts.
 #[derive(Drop)]
 pub struct Reader {
     alloc: Global,
@@ -49,7 +51,13 @@ impl Model for Reader {
 }
 
 impl Reader {
-    /// A reader of records with this layout, before the first byte.
+    /// A reader of records with this layout, before the first byte. It keeps the allocator for what it reads.
+    ///
+    /// The caller sees to it that the layout is one that records can be read by: at most eight spanning fields; first
+    /// positions and widths from 1, and no last position beyond `needed`, which is at most 1,000; at most 9 decimals of
+    /// the response and 4 of the weight; 1 to 9 widths above 0 where there are levels; and listed codes that are
+    /// distinct, at most 5,000, and none of them the total. The only refusal is want of memory. It copies the listed
+    /// codes.
     pub fn new(alloc: Global, layout: Layout) -> Result<Reader, Memory>
         requires { IsLayout layout }
         ensures fed { IfOk result (λ reader. HasRead reader layout []) }
@@ -75,6 +83,14 @@ impl Reader {
     }
 
     /// Takes in the next piece of the bytes.
+    ///
+    /// It answers `At` exactly where, of all bytes so far, a line that has ended has a fault, or the line that has begun
+    /// has more than 1,000 bytes, one CR at its end not counted; the first fault is given, with the number of its
+    /// record, from 1. That a code has others below it is looked for in `finish` alone. `Memory` is want of memory. After
+    /// an error the same error is answered from then on, here and by `finish`.
+    ///
+    /// It looks at each byte a few times, and for each record takes one look-up for each spanning variable, and a few
+    /// more where a code is new. The form of the records is tau-ARGUS's, limits and the order of faults argus's own.
     pub fn feed(&mut self, piece: &[u8]) -> Result<(), RowError>
         ensures fed { (layout : AnyLayout) (bytes : List ℕ) → HasRead self.old layout bytes → HasRead self.new layout (bytes ++ piece.now) }
         ensures exact { (layout : AnyLayout) (bytes : List ℕ) → HasRead self.old layout bytes → Gives fault_of (λ fine. fine) result (fed_of layout (bytes ++ piece.now)) }
@@ -100,7 +116,11 @@ impl Reader {
         }
     }
 
-    /// The records of all bytes.
+    /// The records of all bytes, with the trees of the spanning variables, or their first fault: behind what `feed`
+    /// looks for, the fault of the last line, which may have no end, and then the first record with a code that has
+    /// others below it. An error that was answered before is answered again.
+    ///
+    /// It takes a pass over the records, and a few look-ups for each distinct code.
     pub fn finish(self) -> Result<Records, RowError>
         ensures exact { (layout : AnyLayout) (bytes : List ℕ) → HasRead self layout bytes → Gives fault_of (λ records. records) result (records_of layout bytes) }
         ensures again { ForSome (answered self) (λ error. result ≡ Err error) }
@@ -156,7 +176,11 @@ fn variable_of(alloc: Global, field: Field) -> Result<Variable, Memory>
     ensures { IfOk result (λ variable. variable ≡ record { field = field; seen = seen_first field.source }) }
 {
     let mut codes = Codes::new(alloc);
-    if let Source::Flat { codes: listed, total: _ } = &field.source {
+    if let Source::Flat {
+        codes: listed,
+        total: _,
+    } = &field.source
+    {
         add_all(alloc, &mut codes, listed.as_slice())?;
     }
     Ok(Variable {

@@ -49,9 +49,7 @@ pub(crate) fn take_code(
         Source::Levels { widths, total } => {
             take_level_code(alloc, widths.as_slice(), total.as_slice(), seen, code)
         }
-        Source::Flat { codes: _, total } => {
-            take_flat_code(alloc, total.as_slice(), seen, code)
-        }
+        Source::Flat { codes: _, total } => { take_flat_code(alloc, total.as_slice(), seen, code) }
     }
 }
 

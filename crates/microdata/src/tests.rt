@@ -109,12 +109,7 @@ fn layout_of(alloc: Global, shape: Shape) -> Result<Layout, Memory>
     }
 }
 
-fn plain(
-    alloc: Global,
-    width: u32,
-    source: Source,
-    missing: Items<Text>,
-) -> Result<Layout, Memory>
+fn plain(alloc: Global, width: u32, source: Source, missing: Items<Text>) -> Result<Layout, Memory>
     requires some { 1 ≤ width }
     requires few { width ≤ 2 }
     requires source { IsSource source }
@@ -222,11 +217,19 @@ fn records_however_cut(rt: HostRuntime) -> Result<(), Fail> {
     for (shape, bytes, expected) in [
         (Shape::Flat, b"".as_slice(), Ok(b"Total b /0".as_slice())),
         // listed codes first, then further ones in ascending order; the last line has no end
-        (Shape::Flat, b"c  1\na  2\nb  3", Ok(b"Total b a c |3 1 1|2 2 1|1 3 1/0")),
+        (
+            Shape::Flat,
+            b"c  1\na  2\nb  3",
+            Ok(b"Total b a c |3 1 1|2 2 1|1 3 1/0"),
+        ),
         // records without a response are skipped, and their codes bring nothing
         (Shape::Flat, b"a999\nz   \nb  1\n", Ok(b"Total b |1 1 1/2")),
         // lines without a byte are no records
-        (Shape::Flat, b"a  1\r\n\r\n\nb 02\r\n", Ok(b"Total b a |2 1 1|1 2 1/0")),
+        (
+            Shape::Flat,
+            b"a  1\r\n\r\n\nb 02\r\n",
+            Ok(b"Total b a |2 1 1|1 2 1/0"),
+        ),
         (Shape::Flat, b"\n\na  1\n\nb 2", at(2, RowWhy::Short)),
         // a CR that no LF follows is a byte of its record
         (Shape::Flat, b"a  1\r", Ok(b"Total b a |2 1 1/0")),
@@ -235,17 +238,29 @@ fn records_however_cut(rt: HostRuntime) -> Result<(), Fail> {
         (Shape::Flat, b"a 1x\n", at(1, RowWhy::BadNumber)),
         (Shape::Flat, b"a1.5\n", at(1, RowWhy::BadNumber)),
         (Shape::Flat, b"a99\n", at(1, RowWhy::Short)),
-        (Shape::Levels, b"A1  1\nB1  3\nA2  2\n", Ok(b"T A A1 A2 B B1 |2 1 1|5 3 1|3 2 1/0")),
+        (
+            Shape::Levels,
+            b"A1  1\nB1  3\nA2  2\n",
+            Ok(b"T A A1 A2 B B1 |2 1 1|5 3 1|3 2 1/0"),
+        ),
         // an empty code stands below the total, and a code may end between two boundaries
         (Shape::Levels, b"    1\nB   2\n", Ok(b"T  B |1 1 1|2 2 1/0")),
         (Shape::Levels, b"T   1\n", at(1, RowWhy::NotLeaf)),
         (Shape::Levels, b"A1  1\nT1  1\n", at(2, RowWhy::UnknownCode)),
         // a code with others below it is looked for behind the last record
-        (Shape::Levels, b"B1  1\nA   1\nA1  2\nA   1\n", at(2, RowWhy::NotLeaf)),
+        (
+            Shape::Levels,
+            b"B1  1\nA   1\nA1  2\nA   1\n",
+            at(2, RowWhy::NotLeaf),
+        ),
         (Shape::Levels, b"A   1\nA1  2\nA1\n", at(3, RowWhy::Short)),
         // the response before the codes
         (Shape::Levels, b"T1 -1\n", at(1, RowWhy::Negative)),
-        (Shape::Listed, b"A1  1\nP2  2\n", Ok(b"Total P1 A1 A2 P2 |2 1 1|4 2 1/0")),
+        (
+            Shape::Listed,
+            b"A1  1\nP2  2\n",
+            Ok(b"Total P1 A1 A2 P2 |2 1 1|4 2 1/0"),
+        ),
         (Shape::Listed, b"P1  1\n", at(1, RowWhy::NotLeaf)),
         (Shape::Listed, b"A3  1\n", at(1, RowWhy::UnknownCode)),
         (
@@ -253,15 +268,35 @@ fn records_however_cut(rt: HostRuntime) -> Result<(), Fail> {
             b"a              1    1.00\nb999999999999999999999.9\n",
             Ok(b"Total b a |2 1 100|1 999999999999999 99999990/0"),
         ),
-        (Shape::Weighted, b"a              1    0.99\n", at(1, RowWhy::LightWeight)),
-        (Shape::Weighted, b"a              11000000.\n", at(1, RowWhy::BadNumber)),
-        (Shape::Weighted, b"a              1        \n", at(1, RowWhy::BadNumber)),
+        (
+            Shape::Weighted,
+            b"a              1    0.99\n",
+            at(1, RowWhy::LightWeight),
+        ),
+        (
+            Shape::Weighted,
+            b"a              11000000.\n",
+            at(1, RowWhy::BadNumber),
+        ),
+        (
+            Shape::Weighted,
+            b"a              1        \n",
+            at(1, RowWhy::BadNumber),
+        ),
     ] {
         for cut in 0..bytes.len() {
-            assert_eq!(rt; agrees(&read(alloc, shape, bytes, cut, 1000), &expected), true, "{bytes:?} cut at {cut}");
+            assert_eq!(rt;
+                agrees(&read(alloc, shape, bytes, cut, 1000), &expected),
+                true,
+                "{bytes:?} cut at {cut}"
+            );
         }
         for size in [1, 2, 3, 7, 1000] {
-            assert_eq!(rt; agrees(&read(alloc, shape, bytes, 0, size), &expected), true, "{bytes:?} by {size}");
+            assert_eq!(rt;
+                agrees(&read(alloc, shape, bytes, 0, size), &expected),
+                true,
+                "{bytes:?} by {size}"
+            );
         }
     }
     Ok(())
@@ -291,7 +326,11 @@ fn long_records(rt: HostRuntime) -> Result<(), Fail> {
     ] {
         let bytes = long_record(alloc, length, end)?;
         for (cut, size) in [(0, 2000), (0, 1), (1000, 2000), (1001, 2000), (500, 7)] {
-            assert_eq!(rt; agrees(&read(alloc, Shape::Flat, &bytes, cut, size), &expected), true, "{length} cut at {cut}");
+            assert_eq!(rt;
+                agrees(&read(alloc, Shape::Flat, &bytes, cut, size), &expected),
+                true,
+                "{length} cut at {cut}"
+            );
         }
     }
     Ok(())
@@ -321,7 +360,10 @@ fn many_codes_by_levels(rt: HostRuntime) -> Result<(), Fail> {
     assert!(rt; read(alloc, Shape::Levels, &most, 0, 4096).is_ok());
     let more = many_codes(alloc, 4931)?;
     assert_eq!(rt;
-        agrees(&read(alloc, Shape::Levels, &more, 0, 4096), &at(4931, RowWhy::TooManyCodes)),
+        agrees(
+            &read(alloc, Shape::Levels, &more, 0, 4096),
+            &at(4931, RowWhy::TooManyCodes)
+        ),
         true
     );
     Ok(())

@@ -1,6 +1,5 @@
 use Rattle.std.proofs.Common.{List, ℕ, sym, subst, ◌∙◌}
 use Rattle.microdata.specs.Keeping.{AreSeen}
-use Rattle.microdata.specs.declared.taking.Seen.{Seen}
 use Rattle.microdata.proofs.closing.closed_variable.Goals as goal
 
 pub tree_of_source-requires-clause-seen : goal.tree_of_source-requires-clause-seen

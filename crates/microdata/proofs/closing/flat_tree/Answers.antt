@@ -1,5 +1,5 @@
-use Rattle.std.proofs.Common.{◌≡◌, ◌+◌, ◌++◌, [], ap, refl, ◌∙◌, Ok, List, ℕ, Result, arith, length, length-append, ◌≤◌}
-use Rattle.sdc_base.specs.Trees.{Tree, flat_tree}
+use Rattle.std.proofs.Common.{◌≡◌, ◌+◌, ◌++◌, [], ap, refl, ◌∙◌, Ok, List, ℕ, arith, length, length-append, ◌≤◌}
+use Rattle.sdc_base.specs.Trees.{flat_tree}
 use Rattle.hierarchy.specs.Flat.{flat_of}
 use Rattle.microdata.proofs.FlatCodes.{no-first-fault}
 use Rattle.microdata.proofs.TreesMade.{memory-alone}

@@ -1,5 +1,4 @@
-use Rattle.std.proofs.Common.{◌≡◌, ◌+◌, ◌++◌, ◌∷◌, [], ap, sym, ◌∙◌, List, ℕ, subst, take, drop, get_or, Some, append_assoc}
-use Rattle.std.proofs.lemmas.List.{take_more, take-append-drop}
+use Rattle.std.proofs.Common.{◌+◌, ◌++◌, ◌∷◌, [], List, ℕ, subst, take, drop, get_or, Some}
 use Rattle.std.proofs.lemmas.Result.{err_from_is_err_and}
 use Rattle.microdata.specs.Feeding.{SaysAsFrom, IsKeptOf}
 use Rattle.microdata.proofs.Cuts.{says-on, kept-on, kept-more, kept-any, one-more, and-rest}
@@ -28,5 +27,5 @@ bytes-preserved c =
       plain = c.in_ok-take_byte.ensures.plain;
       short = c.in_ok-take_byte.ensures.short;
       says = subst (λ (bytes : List ℕ). SaysAsFrom c.args.measures.now c.args.so_far.now bytes c.take_byte.new.so_far c.take_byte.new.begun.items) (one-more c.args.begun.now.items c.args.piece.now c.bytes.b-index c.bytes-test.true)
-      (says-on c.args.measures.now c.args.so_far.now c.bytes.so_far c.take_byte.new.so_far before c.bytes.begun.items (b ∷ []) c.take_byte.new.begun.items c.bytes.invariant.says c.in_ok-take_byte.ensures.says);
+          (says-on c.args.measures.now c.args.so_far.now c.bytes.so_far c.take_byte.new.so_far before c.bytes.begun.items (b ∷ []) c.take_byte.new.begun.items c.bytes.invariant.says c.in_ok-take_byte.ensures.says);
     }

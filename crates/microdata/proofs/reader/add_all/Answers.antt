@@ -1,6 +1,3 @@
-use Rattle.std.proofs.Common.{ap, sym, subst, false, ◌≡◌, List, ℕ, ◌∙◌, take}
-use Rattle.std.specs.List.{list_any}
-use Rattle.std.specs.Str.{bytes_eq}
 use Rattle.microdata.proofs.SeenFirst.{next-new}
 use Rattle.microdata.proofs.reader.add_all.Goals as goal
 

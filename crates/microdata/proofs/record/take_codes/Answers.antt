@@ -1,4 +1,4 @@
-use Rattle.std.proofs.Common.{◌≡◌, ◌+◌, ◌++◌, [], ◌∷◌, ap, sym, refl, ◌∙◌, Ok, List, ℕ, Result, arith, length, take, drop, slice_set, drop-cons, add-one, All}
+use Rattle.std.proofs.Common.{◌+◌, ap, refl, ◌∙◌, List, arith, take, drop}
 use Rattle.std.proofs.lemmas.List.{length-set, take_more_set, drop-set-lt, take_all}
 use Rattle.std.proofs.lemmas.List.Elements.{All-set}
 use Rattle.std.proofs.lemmas.Result.{err_from_is_err_and}

@@ -1,4 +1,4 @@
-use Rattle.std.proofs.Common.{◌∙◌, ap, sym, position, is_some}
+use Rattle.std.proofs.Common.{◌∙◌, ap, sym, position}
 use Rattle.std.specs.List.{list_any}
 use Rattle.std.specs.Str.{bytes_eq}
 use Rattle.microdata.proofs.CodeSets.{position-in, any-in-codes, none-found}

@@ -1,4 +1,4 @@
-use Rattle.std.proofs.Common.{◌≡◌, ◌++◌, sym, List, ℕ, subst, Some}
+use Rattle.std.proofs.Common.{◌++◌, sym, subst}
 use Rattle.microdata.specs.Feeding.{Reading, HasRead}
 use Rattle.microdata.proofs.Cuts.{feed-fine, feed-stops, kept-fails, kept-any}
 use Rattle.microdata.specs.OneRecord.{nothing}

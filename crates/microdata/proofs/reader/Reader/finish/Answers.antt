@@ -1,4 +1,4 @@
-use Rattle.std.proofs.Common.{◌≡◌, ◌++◌, sym, List, ℕ, subst, Some, Result, Option}
+use Rattle.std.proofs.Common.{sym, List, ℕ, subst, Result, Option}
 use Rattle.sdc_base.specs.Answers.{Gives}
 use Rattle.microdata.specs.Faults.{fault_of}
 use Rattle.microdata.specs.Feeding.{Reading, HasRead, IsKeptOf}

@@ -1,12 +1,16 @@
-use Rattle.std.proofs.Common.{◌≡◌, ◌≤◌, sym, subst, List, ℕ, refl, arith, length, All, map}
+use Rattle.std.proofs.Common.{refl, arith}
 use Rattle.microdata.proofs.SeenFirst.{variables-sound, as-many}
 use Rattle.microdata.proofs.reader.Reader.new.Goals as goal
 
 pub invariant_of-result : goal.invariant_of-result
-invariant_of-result c = rw (c.in_ok-variables.ensures, c.new.ensures.items) (record {
-  numbers = c.requires.measures;
-  variables = variables-sound c.args.layout.needed c.args.layout.spanning c.requires.fields;
-  few = omega (arith, c.requires.few, as-many c.args.layout.spanning);
-  records = omega arith;
-  skipped = omega arith;
-}, refl, refl)
+invariant_of-result c = rw (c.in_ok-variables.ensures, c.new.ensures.items) (
+  record {
+    numbers = c.requires.measures;
+    variables = variables-sound c.args.layout.needed c.args.layout.spanning c.requires.fields;
+    few = omega (arith, c.requires.few, as-many c.args.layout.spanning);
+    records = omega arith;
+    skipped = omega arith;
+  },
+  refl,
+  refl,
+)
