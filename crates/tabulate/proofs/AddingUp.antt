@@ -73,9 +73,11 @@ count-point keep start (suc n) place low high =
     never : (b : Bool) → (b && false) ≡ false
     never true = refl
     never false = refl
+
     always : (b : Bool) → (b && true) ≡ b
     always true = refl
     always false = refl
+
     differ : {b : Bool} → b ≡ false → b ≡ true → ⊥
     differ one other = absurd cc
 
@@ -101,14 +103,17 @@ through-child tree is above (suc steps) place enough within other =
   where
     earlier : (place parent : ℕ) → parent_at tree place ≡ Some parent → parent < place
     earlier = parent_is_earlier tree is
+
     rest : List ℕ
     rest = met_in steps tree (parent_at tree place)
+
     once : (child : ℕ) → ((place == child) && list_any (λ met. met == child) rest) ≡ false
     once child =
         elim (place == child) as (λ b. (place == child) ≡ b → (b && list_any (λ met. met == child) rest) ≡ false) [
           | true ↦ λ same. not-met tree earlier steps (parent_at tree place) child (λ parent up. let less = earlier place parent up in let eq = (Decides-eqb place child).0 same in omega (arith, less, eq))
           | false ↦ λ same. refl
         ] refl
+
     below-all : (child : ℕ) → (is_child tree above child && list_any (λ met. met == child) (met_in steps tree (Some above))) ≡ false
     below-all child = split (parent_at tree child) refl
       where
@@ -119,9 +124,11 @@ through-child tree is above (suc steps) place enough within other =
               | true ↦ λ same. not-met tree earlier steps (Some above) child (λ one eq. let less = earlier child parent up in let here = (Decides-eqb parent above).0 same in let at : above ≡ one = cc in omega (arith, less, here, at))
               | false ↦ λ same. refl
             ] refl
+
     head-met : (steps : ℕ) → 0 < steps → list_any (λ met. met == above) (met_in steps tree (Some above)) ≡ true
     head-met zero h = absurd (omega (arith, h))
     head-met (suc steps) h = let test : (above == above) ≡ true = (Decides-eqb above above).1 refl in rw test refl
+
     by : (found : Option ℕ) → parent_at tree place ≡ found
         → ((q : ℕ) → q < steps → q < length tree → (q == above) ≡ false → count (λ child. is_child tree above child && list_any (λ met. met == child) (met_in steps tree (Some q))) (range_with_len 0 (length tree)) ≡ (if list_any (λ met. met == above) (met_in steps tree (Some q)) then 1 else 0))
         → (if option_map_or (λ parent. parent == above) (parent_at tree place) false then 1 else 0) + count (λ child. is_child tree above child && list_any (λ met. met == child) rest) (range_with_len 0 (length tree)) ≡ (if false || list_any (λ met. met == above) rest then 1 else 0)
@@ -138,16 +145,16 @@ through-child tree is above (suc steps) place enough within other =
         let less : q < place = earlier place q up in
         ap (λ o. (if option_map_or (λ parent. parent == above) o false then 1 else 0) + count (λ child. is_child tree above child && list_any (λ met. met == child) (met_in steps tree o)) (range_with_len 0 (length tree))) up
         ∙ elim (q == above) as (λ b. (q == above) ≡ b → (if b then 1 else 0) + count (λ child. is_child tree above child && list_any (λ met. met == child) (met_in steps tree (Some q))) (range_with_len 0 (length tree)) ≡ (if false || list_any (λ met. met == above) (met_in steps tree (Some q)) then 1 else 0)) [
-            | true ↦ λ same.
-                let eq : q ≡ above = (Decides-eqb q above).0 same in
-                let none : count (λ child. is_child tree above child && list_any (λ met. met == child) (met_in steps tree (Some q))) (range_with_len 0 (length tree)) ≡ 0 =
-                    ap (λ p. count (λ child. is_child tree above child && list_any (λ met. met == child) (met_in steps tree (Some p))) (range_with_len 0 (length tree))) eq
-                    ∙ count-none (λ child. is_child tree above child && list_any (λ met. met == child) (met_in steps tree (Some above))) (range_with_len 0 (length tree)) below-all
-                in
-                let met : list_any (λ met. met == above) (met_in steps tree (Some q)) ≡ true = ap (λ p. list_any (λ met. met == above) (met_in steps tree (Some p))) eq ∙ head-met steps (omega (arith, less, enough)) in
-                ap (λ n. 1 + n) none ∙ sym (ap (λ b. if false || b then 1 else 0) met)
-            | false ↦ λ apart. ap (λ n. 0 + n) (more q (omega (arith, less, enough)) (omega (arith, less, within)) apart) ∙ plain (list_any (λ met. met == above) (met_in steps tree (Some q)))
-          ] refl
+          | true ↦ λ same.
+              let eq : q ≡ above = (Decides-eqb q above).0 same in
+              let none : count (λ child. is_child tree above child && list_any (λ met. met == child) (met_in steps tree (Some q))) (range_with_len 0 (length tree)) ≡ 0 =
+              ap (λ p. count (λ child. is_child tree above child && list_any (λ met. met == child) (met_in steps tree (Some p))) (range_with_len 0 (length tree))) eq
+              ∙ count-none (λ child. is_child tree above child && list_any (λ met. met == child) (met_in steps tree (Some above))) (range_with_len 0 (length tree)) below-all
+              in
+              let met : list_any (λ met. met == above) (met_in steps tree (Some q)) ≡ true = ap (λ p. list_any (λ met. met == above) (met_in steps tree (Some p))) eq ∙ head-met steps (omega (arith, less, enough)) in
+              ap (λ n. 1 + n) none ∙ sym (ap (λ b. if false || b then 1 else 0) met)
+          | false ↦ λ apart. ap (λ n. 0 + n) (more q (omega (arith, less, enough)) (omega (arith, less, within)) apart) ∙ plain (list_any (λ met. met == above) (met_in steps tree (Some q)))
+        ] refl
         ∙ sym (ap (λ o. if false || list_any (λ met. met == above) (met_in steps tree o) then 1 else 0) up)
       where
         plain : (b : Bool) → 0 + (if b then 1 else 0) ≡ (if false || b then 1 else 0)
@@ -220,14 +227,19 @@ picks fits under value (place ∷ places) all h =
     none : (b : Bool) → (if b && false then value else pos 0) ≡ pos 0
     none true = refl
     none false = refl
+
     plain : (v : ℤ) → (pos 0 +ℤ v) ≡ v
     plain v = omega (arith, ints)
+
     back : (v : ℤ) → (v +ℤ pos 0) ≡ v
     back v = omega (arith, ints)
+
     same : (all : Bool) → 0 + count under places ≡ (if all then 1 else 0) → count under places ≡ (if all then 1 else 0)
     same all h = omega (arith, h)
+
     one-or-more : 1 + count under places ≡ 0 → ⊥
     one-or-more h = omega (arith, h)
+
     one : (count under places ≡ 0 → sum_over (λ place. if fits && under place then value else pos 0) places ≡ (if fits && false then value else pos 0)) → (all : Bool) → 1 + count under places ≡ (if all then 1 else 0) → (if fits && true then value else pos 0) +ℤ sum_over (λ place. if fits && under place then value else pos 0) places ≡ (if fits && all then value else pos 0)
     one more true h =
         let rest : sum_over (λ place. if fits && under place then value else pos 0) places ≡ (if fits && false then value else pos 0) = more (omega (arith, h)) in
@@ -256,13 +268,13 @@ add-up trees (row ∷ rows) name variable each coded long within bare some =
     let apart : (code == above) ≡ false = other (code == above) refl (λ same. some (subst (λ p. children tree p ≡ []) same leaf)) in
     let here = good.inside variable within in
     let once : count (λ child. is_under tree code child) kids ≡ (if is_under tree code above then 1 else 0) =
-        count-filter (λ child. is_under tree code child) (is_child tree above) (range_with_len 0 (length tree)) ∙ through-child tree (each variable [] within) above (length tree) code here here apart
+    count-filter (λ child. is_under tree code child) (is_child tree above) (range_with_len 0 (length tree)) ∙ through-child tree (each variable [] within) above (length tree) code here here apart
     in
     let part : (child : ℕ) → share trees (slice_set name variable child) row ≡ (if fits && is_under tree code child then weighted row else pos 0) =
-        λ child. ap (λ b. if b then weighted row else pos 0) (falls-set trees name row.codes variable child within long good.coded)
+    λ child. ap (λ b. if b then weighted row else pos 0) (falls-set trees name row.codes variable child within long good.coded)
     in
     let whole : share trees name row ≡ (if fits && is_under tree code above then weighted row else pos 0) =
-        ap (λ n. share trees n row) (sym (set-get_or name variable 0)) ∙ part above
+    ap (λ n. share trees n row) (sym (set-get_or name variable 0)) ∙ part above
     in
     truth-cons trees name row rows
     ∙ ap (λ v. v +ℤ truth trees name rows) (whole ∙ sym (picks fits (λ child. is_under tree code child) (weighted row) kids (is_under tree code above) once) ∙ sym (sum-same (λ child. share trees (slice_set name variable child) row) (λ child. if fits && is_under tree code child then weighted row else pos 0) kids part))

@@ -109,9 +109,9 @@ table-given book now next keep scale rows t first table is good at frame kept st
     let name = cell-name book next keep scale cell mark is (kept cell) here in
     let own : first ≡ first_own book t = start ∙ ap (λ (b : Held). first_own b t) frame in
     let same : given_to book rows t cell ++ rows_for now t first rows cell ≡ given_to book rows (t + 1) cell =
-        ap (λ (b : Held). given_to book rows t cell ++ rows_for b t first rows cell) frame
-        ∙ ap (λ n. given_to book rows t cell ++ rows_for book t n rows cell) own
-        ∙ given-next book rows t table cell name.0 is good at name.1 (cell-long book cell name.0 name.1)
+    ap (λ (b : Held). given_to book rows t cell ++ rows_for b t first rows cell) frame
+    ∙ ap (λ n. given_to book rows t cell ++ rows_for book t n rows cell) own
+    ∙ given-next book rows t table cell name.0 is good at name.1 (cell-long book cell name.0 name.1)
     in
     subst (Holds mark) same (all.given (given_to book rows t) given cell mark here)
 
@@ -121,6 +121,7 @@ fine-started book now keep scale weight kept heavy = λ cell mark at. by cell ma
   where
     scaled : (mark one : Mark) → Some (kept_of mark) ≡ Some (one.hidden, (keep, scale)) → scale ≡ mark.facts.tops.scale
     scaled mark one h = sym (ap (λ (k : Option (Bool × (ℕ × ℕ))). option_map_or (λ one. one.1.1) k 0) h)
+
     by : (cell : ℕ) (mark : Mark) (found : Option Mark) → Some (kept_of mark) ≡ option_map (λ one. (one.hidden, (keep, scale))) found → mark.facts.tops.scale ≤ weight
     by cell mark None eq = cc
     by cell mark (Some one) eq = subst (λ n. n ≤ weight) (scaled mark one eq) heavy
@@ -162,15 +163,16 @@ pub all-given : (book now : Held) (keep scale : ℕ) (rows : List Row) (t : ℕ)
     → ((cell : ℕ) → kept_at now.marks cell ≡ started_at book.marks keep scale cell) → AreGiven now.marks (given_to book rows t) → AreTabulated now rows keep scale
 all-given book now keep scale rows t past is good few frame kept given = λ cell name mark named at.
     subst (λ (b : Held). TellsOf b.trees rows keep scale name mark) (sym frame)
-      (tells cell name mark (ap (λ (b : Held). slice_get (cells b) cell) (sym frame) ∙ named) at)
+    (tells cell name mark (ap (λ (b : Held). slice_get (cells b) cell) (sym frame) ∙ named) at)
   where
     whole : first_own book t ≡ length (cells book)
     whole = ap (λ tables. length (cells_of book.trees tables)) (take_all t book.tables past)
+
     tells : (cell : ℕ) (name : Name) (mark : Mark) → slice_get (cells book) cell ≡ Some name → slice_get now.marks cell ≡ Some mark → TellsOf book.trees rows keep scale name mark
     tells cell name mark named at =
         let below : nat_lt cell (first_own book t) ≡ true = let inside = slice_get_within (cells book) cell name named in grind (arith, nat_tests, inside, whole) in
         let these : given_to book rows t cell ≡ rows_in book.trees name rows =
-            ap (λ b. if b then rows_in book.trees (slice_index_or (cells book) cell []) rows else []) below ∙ ap (λ n. rows_in book.trees n rows) (get_or_from_slice_get (cells book) cell name [] named)
+        ap (λ b. if b then rows_in book.trees (slice_index_or (cells book) cell []) rows else []) below ∙ ap (λ n. rows_in book.trees n rows) (get_or_from_slice_get (cells book) cell name [] named)
         in
         let holds : Holds mark (rows_in book.trees name rows) = subst (Holds mark) these (given cell mark at) in
         let room = sum-room book.trees scale (row_falls book.trees name) rows 0 holds.sum good holds.sum_is in
