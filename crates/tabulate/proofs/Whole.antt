@@ -1,9 +1,7 @@
 -- What the cells of a book are given, table after table.
-use Rattle.std.proofs.Common.{◌≡◌, ℕ, zero, suc, ◌+◌, ◌-◌, ◌*◌, ◌^◌, ◌<◌, ◌≤◌, ◌==◌, ◌&&◌, ◌||◌, nat_le, nat_lt, min, Bool, true, false, cond, List, [], ◌∷◌, ◌++◌, length, map, fold, filter, take, replicate, slice_get, slice_index, slice_index_or, bytes_eq, if◌then◌else◌, Option, None, Some, option_map, All, refl, ap, sym, ◌∙◌, subst, arith, ℤ, pos, negsuc, ◌+ℤ◌, ◌*ℤ◌, ◌≤ℤ◌, ◌<ℤ◌, ◌⊎◌, inl, inr}
-use Rattle.std.specs.List.{list_any, flat_map}
+use Rattle.std.proofs.Common.{◌≡◌, ℕ, ◌+◌, ◌<◌, ◌≤◌, ◌==◌, ◌&&◌, ◌||◌, nat_le, nat_lt, Bool, true, false, cond, List, [], ◌∷◌, ◌++◌, length, map, filter, replicate, slice_get, slice_index, slice_index_or, bytes_eq, if◌then◌else◌, Option, None, Some, All, refl, ap, sym, ◌∙◌, subst, arith, ◌⊎◌, inl, inr}
 use Rattle.std.specs.Option.{option_map_or}
 use Rattle.std.proofs.lemmas.Bool.Decides.{nat_tests, Decides-eqb}
-use Rattle.std.proofs.lemmas.Int.{ints}
 use Rattle.std.proofs.lemmas.List.{append-nil}
 use Rattle.std.proofs.lemmas.List.Elements.{All-head, All-tail}
 use Rattle.std.proofs.lemmas.Option.{slice_get_within, get_or_from_slice_get}
@@ -14,17 +12,14 @@ use Rattle.sdc_base.specs.Cells.{is_named, named_by}
 use Rattle.sdc_base.specs.declared.rows.Row.{Row}
 use Rattle.sdc_base.proofs.Walks.{under_is_tested}
 use Rattle.sdc_base.proofs.InEach.{falls_where_under_in_each}
-use Rattle.linked_tables.specs.declared.mark.Mark.{Mark}
 use Rattle.linked_tables.specs.Held.{Held}
 use Rattle.linked_tables.specs.Tables.{has_unknown}
 use Rattle.linked_tables.specs.Shared.{IsBook, IsTable, cells, cell_at, first_own}
-use Rattle.linked_tables.specs.Laws.{is_code, spans}
+use Rattle.linked_tables.specs.Laws.{spans}
 use Rattle.linked_tables.proofs.CellLists.{starts-rise}
-use Rattle.linked_tables.proofs.Sharing.{codes_at, known-below, named-codes}
-use Rattle.tabulate.specs.Holding.{AreGiven, Holds}
+use Rattle.linked_tables.proofs.Sharing.{codes_at, named-codes}
 use Rattle.tabulate.specs.Tuples.{lines_above, places_over}
 use Rattle.tabulate.specs.Giving.{count, hits, is_at, rows_for, spanned, tuples}
-use Rattle.tabulate.specs.Tabulated.{IsRow}
 use Rattle.tabulate.proofs.Counting.{count-map, count-none, count-same, tuple-count, under_all, upward-count}
 use Rattle.tabulate.proofs.ListReads.{read-none}
 use Rattle.tabulate.proofs.Standing.{cell-early, own-named, stands-once}

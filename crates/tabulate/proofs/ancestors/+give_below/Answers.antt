@@ -1,8 +1,7 @@
-use Rattle.std.proofs.Common.{◌≡◌, ◌≤◌, ◌<◌, ◌-◌, ◌+◌, ◌++◌, ◌∷◌, [], ℕ, List, Option, length, drop, map, slice_get, slice_index, slice_index_or, Some, refl, ap, sym, ◌∙◌, subst, arith, length-append, append_assoc}
+use Rattle.std.proofs.Common.{◌≡◌, ◌<◌, ◌-◌, ◌+◌, ◌++◌, ◌∷◌, [], ℕ, List, Option, length, drop, map, slice_index, slice_index_or, Some, ap, sym, ◌∙◌, subst, arith, length-append, append_assoc}
 use Rattle.std.proofs.lemmas.Option.{slice_get_within}
-use Rattle.sdc_base.specs.Trees.{Tree, met_in, parent_at}
+use Rattle.sdc_base.specs.Trees.{met_in, parent_at}
 use Rattle.linked_tables.specs.Held.{Held}
-use Rattle.tabulate.specs.Holding.{AreFine}
 use Rattle.tabulate.specs.Tuples.{lines_above, places_over, tuples_from}
 use Rattle.tabulate.specs.Giving.{Gave, spanned}
 use Rattle.tabulate.proofs.PlaceSteps.{gave-nothing, gave-then, fine-kept}

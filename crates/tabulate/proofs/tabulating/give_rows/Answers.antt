@@ -1,4 +1,4 @@
-use Rattle.std.proofs.Common.{◌≡◌, ◌++◌, ◌∷◌, [], List, length, take, slice_get, Some, refl, sym, subst}
+use Rattle.std.proofs.Common.{◌≡◌, List, length, take, slice_get, Some, refl, sym, subst}
 use Rattle.std.proofs.lemmas.Option.{slice_get_read}
 use Rattle.sdc_base.specs.declared.rows.Row.{Row}
 use Rattle.hierarchy.proofs.FlatSteps.{take-at}
