@@ -1,6 +1,5 @@
 -- The names of the places that begin alike.
-use Rattle.std.proofs.Common.{◌≡◌, ℕ, zero, suc, ◌+◌, ◌-◌, ◌<◌, ◌≤◌, List, [], ◌∷◌, ◌++◌, length, map, fold, take, drop, get_or, slice_index_or, arith, refl, ap, sym, ◌∙◌, subst, length-append, append_assoc}
-use Rattle.std.specs.List.{flat_map, range_with_len}
+use Rattle.std.proofs.Common.{◌≡◌, ℕ, zero, suc, ◌+◌, ◌<◌, ◌≤◌, List, [], ◌∷◌, ◌++◌, length, map, fold, drop, get_or, slice_index_or, arith, refl, ap, sym, ◌∙◌, subst, length-append, append_assoc}
 use Rattle.std.proofs.lemmas.List.{append-nil, map-append, drop_more, drop_all}
 use Rattle.std.proofs.lemmas.List.Sums.{fold-append}
 use Rattle.sdc_base.specs.Trees.{Tree}
@@ -58,7 +57,7 @@ begun-rises trees table place names code (suc more) =
     let before = begun-rises trees table place names code more in
     let added = stay (fold with_name names (names_begun trees table place (code + more))) (names_below trees table (place ++ (code + more) ∷ [])) in
     let parts : length (fold with_name names (names_begun trees table place ((code + more) + 1))) ≡ length (fold with_name names (names_begun trees table place (code + more))) + length added.0 =
-        ap length (begun-next trees table place names (code + more) ∙ added.1) ∙ length-append (fold with_name names (names_begun trees table place (code + more))) added.0
+    ap length (begun-next trees table place names (code + more) ∙ added.1) ∙ length-append (fold with_name names (names_begun trees table place (code + more))) added.0
     in
     let at : (code + more) + 1 ≡ code + suc more = omega arith in
     subst (λ n. length (fold with_name names (names_begun trees table place code)) ≤ length (fold with_name names (names_begun trees table place n))) at (omega (arith, before, parts))

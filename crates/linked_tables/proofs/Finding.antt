@@ -1,6 +1,6 @@
 -- Each place of a table has its cell, and a cell's number leads to its name.
-use Rattle.std.proofs.Common.{◌≡◌, ℕ, zero, suc, ◌+◌, ◌<◌, ◌||◌, Bool, true, false, cond, List, [], ◌∷◌, ◌++◌, length, map, slice_get, bytes_eq, Option, None, Some, option_map, is_some, if◌then◌else◌, arith, refl, ap, sym, ◌∙◌, subst, add-one}
-use Rattle.std.specs.List.{list_any, flat_map}
+use Rattle.std.proofs.Common.{◌≡◌, ℕ, zero, suc, ◌+◌, ◌||◌, Bool, true, false, cond, List, [], ◌∷◌, length, map, slice_get, bytes_eq, Option, None, Some, option_map, is_some, if◌then◌else◌, refl, ap, sym, ◌∙◌, subst, add-one}
+use Rattle.std.specs.List.{flat_map}
 use Rattle.std.specs.Option.{option_and_then, option_map_or}
 use Rattle.std.proofs.lemmas.List.Folds.{list_any-append}
 use Rattle.std.proofs.lemmas.Slice.Eq.{bytes_eq-Decides}
@@ -40,6 +40,7 @@ found-name (other ∷ names) name k h =
   where
     here : name ≡ other → (k : ℕ) → Some 0 ≡ Some k → slice_get (other ∷ names) k ≡ Some name
     here same k h = let at : 0 ≡ k = cc in subst (λ n. slice_get (other ∷ names) n ≡ Some name) at (ap Some (sym same))
+
     later : ((n : ℕ) → first_place (bytes_eq name) names ≡ Some n → slice_get names n ≡ Some name) → (found : Option ℕ) → first_place (bytes_eq name) names ≡ found → (k : ℕ) → option_map (λ n. n + 1) found ≡ Some k → slice_get (other ∷ names) k ≡ Some name
     later rest None is k h = cc
     later rest (Some n) is k h =
@@ -90,6 +91,7 @@ cell-found book t place = by_table (slice_get book.tables t) refl
     inside : (table : List ℕ) → slice_get book.tables t ≡ Some table → (b : Bool) → is_in book table place ≡ b → is_some (if b then number_of book (named book table place) else None) ≡ b
     inside table at true is = named-found (cells book) (named book table place) ∙ place-named book.trees book.tables t table place at is
     inside table at false is = refl
+
     by_table : (found : Option (List ℕ)) → slice_get book.tables t ≡ found
         → is_some (option_and_then (λ table. if is_in book table place then number_of book (named book table place) else None) found) ≡ option_map_or (λ table. is_in book table place) found false
     by_table None at = refl
@@ -102,6 +104,7 @@ cell-named book t place cell = by_table (slice_get book.tables t)
     inside : (table : List ℕ) (b : Bool) → (if b then number_of book (named book table place) else None) ≡ Some cell → slice_get (cells book) cell ≡ Some (named book table place)
     inside table true is = found-name (cells book) (named book table place) cell is
     inside table false is = cc
+
     by_table : (found : Option (List ℕ)) → option_and_then (λ table. if is_in book table place then number_of book (named book table place) else None) found ≡ Some cell
         → slice_get (cells book) cell ≡ Some (option_map_or (λ table. named book table place) found [])
     by_table None is = cc

@@ -1,10 +1,10 @@
 -- Numbers of cells and their names, and marks that are written side by side.
-use Rattle.std.proofs.Common.{◌≡◌, ℕ, ◌+◌, ◌-◌, ◌≤◌, Bool, true, false, List, [], ◌++◌, length, take, drop, slice_get, Option, None, Some, is_some, if◌then◌else◌, bytes_eq, arith, refl, ap, sym, ◌∙◌, subst, length-append, drop-drop}
+use Rattle.std.proofs.Common.{◌≡◌, ℕ, ◌+◌, ◌-◌, ◌≤◌, Bool, true, false, List, [], ◌++◌, length, take, drop, slice_get, Option, None, Some, is_some, if◌then◌else◌, arith, refl, ap, sym, ◌∙◌, length-append, drop-drop}
 use Rattle.std.specs.Option.{option_and_then, option_map_or}
 use Rattle.std.proofs.lemmas.List.{append-nil, drop_all, take_all, length-take-le, length-drop}
 use Rattle.linked_tables.specs.declared.mark.Mark.{Mark}
 use Rattle.linked_tables.specs.Held.{Held}
-use Rattle.linked_tables.specs.Shared.{cells, cell_at, is_in, is_place_of, name_at, named, number_of}
+use Rattle.linked_tables.specs.Shared.{cell_at, is_in, is_place_of, name_at, named, number_of}
 use Rattle.linked_tables.specs.Lending.{replaced_from, written_from}
 use Rattle.linked_tables.specs.Laws.{NumbersAreNames, WrittenStand}
 use Rattle.linked_tables.proofs.Finding.{cell-found, cell-named}
@@ -16,6 +16,7 @@ number-of-name book t place = by_table (slice_get book.tables t)
     inside : (table : List ℕ) (b : Bool) → b ≡ true → (if b then number_of book (named book table place) else None) ≡ number_of book (named book table place)
     inside table true h = refl
     inside table false h = cc
+
     by_table : (found : Option (List ℕ)) → option_map_or (λ table. is_in book table place) found false ≡ true
         → option_and_then (λ table. if is_in book table place then number_of book (named book table place) else None) found ≡ number_of book (option_map_or (λ table. named book table place) found [])
     by_table None h = cc
@@ -29,11 +30,10 @@ one-name book t u place other (Some cell) first second h = same (sym (cell-named
     same h = cc
 
 pub numbers_are_names : NumbersAreNames
-numbers_are_names = λ book t u place other inside inside_other.
-    (
-      (λ same. one-name book t u place other (cell_at book t place) refl (sym same) (cell-found book t place ∙ inside)),
-      (λ same. number-of-name book t place inside ∙ ap (number_of book) same ∙ sym (number-of-name book u other inside_other))
-    )
+numbers_are_names = λ book t u place other inside inside_other. (
+  (λ same. one-name book t u place other (cell_at book t place) refl (sym same) (cell-found book t place ∙ inside)),
+  (λ same. number-of-name book t place inside ∙ ap (number_of book) same ∙ sym (number-of-name book u other inside_other)),
+)
 
 stand : (marks : List Mark) (from : ℕ) (own : List Mark) → from + length own ≤ length marks → written_from marks from own ≡ take from marks ++ (own ++ drop (from + length own) marks)
 stand marks from own fits =
@@ -42,9 +42,9 @@ stand marks from own fits =
     let front : length (take from marks) ≡ from = length-take-le from marks (omega (arith, fits)) in
     let back : length (drop (from + length own) marks) ≡ length marks - (from + length own) = length-drop (from + length own) marks in
     let long : length (replaced_from marks from own) ≡ length marks =
-        ap length whole ∙ length-append (take from marks) (own ++ drop (from + length own) marks)
-        ∙ ap (λ n. length (take from marks) + n) (length-append own (drop (from + length own) marks))
-        ∙ omega (arith, fits, front, back)
+    ap length whole ∙ length-append (take from marks) (own ++ drop (from + length own) marks)
+    ∙ ap (λ n. length (take from marks) + n) (length-append own (drop (from + length own) marks))
+    ∙ omega (arith, fits, front, back)
     in
     let none : drop (length (replaced_from marks from own)) marks ≡ [] = drop_all (length (replaced_from marks from own)) marks (omega (arith, long)) in
     ap (λ rest. take (length marks) (replaced_from marks from own ++ rest)) none

@@ -1,7 +1,5 @@
 -- Which cells a table names, by their codes, and which two tables share.
-use Rattle.std.proofs.Common.{◌≡◌, ◌↔◌, ℕ, zero, suc, ◌+◌, ◌<◌, ◌≤◌, ◌==◌, ◌&&◌, ◌||◌, nat_le, nat_lt, Bool, true, false, List, [], ◌∷◌, length, map, replicate, get_or, slice_index, slice_index_or, if◌then◌else◌, bytes_eq, All, arith, refl, ap, sym, ◌∙◌, subst}
-use Rattle.std.specs.List.{list_any, range_with_len}
-use Rattle.std.specs.List.Sorted.{IsPermutation}
+use Rattle.std.proofs.Common.{◌≡◌, ℕ, suc, ◌<◌, ◌==◌, ◌&&◌, ◌||◌, nat_le, nat_lt, Bool, true, false, List, [], ◌∷◌, length, map, get_or, slice_index_or, if◌then◌else◌, bytes_eq, All, arith, refl, ap, sym, ◌∙◌, subst}
 use Rattle.std.proofs.lemmas.Bool.Decides.{nat_tests, Decides-eqb}
 use Rattle.std.proofs.lemmas.List.{get_or-replicate, length-replicate}
 use Rattle.std.proofs.lemmas.List.FromFn.{get_or-map-range_with_len}
@@ -40,7 +38,7 @@ code-good trees (spanned ∷ table) [] variable h = cc
 code-good trees (spanned ∷ table) (code ∷ place) variable h =
     let both = parts (nat_lt code (length (slice_index_or trees spanned []))) (is_place_in (trees_of trees table) place) h in
     elim (spanned == variable) as (λ b. (spanned == variable) ≡ b
-        → (if b || spans table variable then nat_lt (if b then code else code_for table place variable) (length (slice_index_or trees variable [])) else (if b then code else code_for table place variable) == 0) ≡ true) [
+    → (if b || spans table variable then nat_lt (if b then code else code_for table place variable) (length (slice_index_or trees variable [])) else (if b then code else code_for table place variable) == 0) ≡ true) [
       | true ↦ λ is. subst (λ v. nat_lt code (length (slice_index_or trees v [])) ≡ true) ((Decides-eqb spanned variable).0 is) both.0
       | false ↦ λ is. code-good trees table place variable both.1
     ] refl
@@ -103,9 +101,11 @@ known-below variables (spanned ∷ table) variable known h =
     first : (a b : Bool) → (a || b) ≡ false → a ≡ false
     first true b h = cc
     first false b h = refl
+
     second : (a b : Bool) → (a || b) ≡ false → b ≡ false
     second true b h = cc
     second false b h = h
+
     below : nat_le variables spanned ≡ false → spanned < variables
     below h = grind (arith, nat_tests)
 
@@ -125,14 +125,15 @@ codes-named trees table name sound long each =
     let inside : is_place_in (trees_of trees table) place ≡ true = place-good trees name table (λ variable h. spanned variable h (each variable (known-below (length trees) table variable sound.known h))) in
     let listed : is_named (places (trees_of trees table)) place ≡ true = places_are_lexicographic.all (trees_of trees table) place ∙ inside in
     let same : name_of (length trees) table place ≡ name =
-        same-items (name_of (length trees) table place) name (name_length table place (length trees) ∙ sym long)
-          (λ variable below. let under : variable < length trees = subst (λ n. variable < n) (name_length table place (length trees)) below in
-              name-codes (length trees) table place variable under ∙ code-back name table variable ∙ back variable (spans table variable) refl (each variable under))
+    same-items (name_of (length trees) table place) name (name_length table place (length trees) ∙ sym long)
+    (λ variable below. let under : variable < length trees = subst (λ n. variable < n) (name_length table place (length trees)) below in
+    name-codes (length trees) table place variable under ∙ code-back name table variable ∙ back variable (spans table variable) refl (each variable under))
     in
     subst (λ one. is_named (named_by trees table) one ≡ true) same (named-map (length trees) table (places (trees_of trees table)) place listed)
   where
     spanned : (variable : ℕ) → spans table variable ≡ true → is_code trees table variable (get_or name variable 0) ≡ true → nat_lt (get_or name variable 0) (length (slice_index_or trees variable [])) ≡ true
     spanned variable h good = ap (λ b. if b then nat_lt (get_or name variable 0) (length (slice_index_or trees variable [])) else get_or name variable 0 == 0) (sym h) ∙ good
+
     back : (variable : ℕ) (b : Bool) → spans table variable ≡ b → (if b then nat_lt (get_or name variable 0) (length (slice_index_or trees variable [])) else get_or name variable 0 == 0) ≡ true → (if b then get_or name variable 0 else 0) ≡ get_or name variable 0
     back variable true is good = refl
     back variable false is good = sym ((Decides-eqb (get_or name variable 0) 0).0 good)
@@ -150,7 +151,7 @@ name-long trees table name h =
 turned : (trees : List Tree) (table other : List ℕ) (name : Name) → IsTable (length trees) other → ((variable : ℕ) → spans table variable ≡ spans other variable) → is_named (named_by trees table) name ≡ true → is_named (named_by trees other) name ≡ true
 turned trees table other name sound same h =
     codes-named trees other name sound (name-long trees table name h)
-      (λ variable below. ap (λ b. if b then nat_lt (get_or name variable 0) (length (slice_index_or trees variable [])) else get_or name variable 0 == 0) (sym (same variable)) ∙ named-codes trees table name h variable below)
+    (λ variable below. ap (λ b. if b then nat_lt (get_or name variable 0) (length (slice_index_or trees variable [])) else get_or name variable 0 == 0) (sym (same variable)) ∙ named-codes trees table name h variable below)
 
 pub turned_share_all : TurnedShareAll
 turned_share_all = λ trees table other name sound sound_other permuted.
@@ -166,21 +167,25 @@ apart_share_total = λ trees one other name full sound sound_other apart. (only 
     lone trees one other variable code true true h first second = cc
     lone trees one other variable code true false h first second = (Decides-eqb code 0).0 second
     lone trees one other variable code false b h first second = (Decides-eqb code 0).0 first
+
     only : (trees : List Tree) (one other : List ℕ) (name : Name) → ((variable : ℕ) → (spans one variable && spans other variable) ≡ false)
         → (is_named (named_by trees one) name ≡ true) × (is_named (named_by trees other) name ≡ true) → name ≡ grand_total (length trees)
     only trees one other name apart both =
         let long = name-long trees one name both.0 in
         same-items name (grand_total (length trees)) (long ∙ sym (length-replicate (length trees) 0))
-          (λ variable below. let under : variable < length trees = subst (λ n. variable < n) long below in
-              lone trees one other variable (get_or name variable 0) (spans one variable) (spans other variable) (apart variable) (named-codes trees one name both.0 variable under) (named-codes trees other name both.1 variable under)
-              ∙ sym (get_or-replicate (length trees) variable 0 0 under))
+        (λ variable below. let under : variable < length trees = subst (λ n. variable < n) long below in
+        lone trees one other variable (get_or name variable 0) (spans one variable) (spans other variable) (apart variable) (named-codes trees one name both.0 variable under) (named-codes trees other name both.1 variable under)
+        ∙ sym (get_or-replicate (length trees) variable 0 0 under))
+
     zero-good : (trees : List Tree) (variable : ℕ) (b : Bool) → 0 < length (slice_index_or trees variable []) → (if b then nat_lt 0 (length (slice_index_or trees variable [])) else 0 == 0) ≡ true
     zero-good trees variable true some = grind (arith, nat_tests)
     zero-good trees variable false some = refl
+
     named : (trees : List Tree) (table : List ℕ) → All (λ tree. 0 < length tree) trees → IsTable (length trees) table → is_named (named_by trees table) (grand_total (length trees)) ≡ true
     named trees table full sound =
         codes-named trees table (grand_total (length trees)) sound (length-replicate (length trees) 0)
-          (λ variable below. subst (λ code. is_code trees table variable code ≡ true) (sym (get_or-replicate (length trees) variable 0 0 below)) (zero-good trees variable (spans table variable) (full variable [] below)))
+        (λ variable below. subst (λ code. is_code trees table variable code ≡ true) (sym (get_or-replicate (length trees) variable 0 0 below)) (zero-good trees variable (spans table variable) (full variable [] below)))
+
     total : (trees : List Tree) (one other : List ℕ) (name : Name) → All (λ tree. 0 < length tree) trees → IsTable (length trees) one → IsTable (length trees) other
         → name ≡ grand_total (length trees) → (is_named (named_by trees one) name ≡ true) × (is_named (named_by trees other) name ≡ true)
     total trees one other name full sound sound_other same =

@@ -1,5 +1,5 @@
 -- One table more.
-use Rattle.std.proofs.Common.{◌≡◌, ℕ, ◌+◌, ◌<◌, ◌≤◌, nat_lt, false, List, [], ◌∷◌, ◌++◌, length, fold, take, drop, slice_get, slice_index_or, All, ◌⊎◌, inl, inr, Option, None, Some, arith, refl, ap, sym, ◌∙◌, subst, length-append}
+use Rattle.std.proofs.Common.{◌≡◌, ℕ, ◌+◌, ◌<◌, ◌≤◌, nat_lt, false, List, [], ◌∷◌, ◌++◌, length, fold, take, drop, slice_get, slice_index_or, All, ◌⊎◌, inl, inr, Option, None, Some, arith, refl, ap, sym, ◌∙◌, subst}
 use Rattle.std.proofs.lemmas.List.{length-take-le}
 use Rattle.std.proofs.lemmas.List.Elements.{All-append, All-cons}
 use Rattle.std.proofs.lemmas.Option.{slice_get_within, get_or_from_slice_get}
@@ -10,7 +10,7 @@ use Rattle.sdc_base.specs.Answers.{Fails}
 use Rattle.sdc_base.specs.Cells.{cells_of, named_by, with_name}
 use Rattle.hierarchy.proofs.FlatSteps.{drop-at, take-at}
 use Rattle.linked_tables.specs.declared.book_fault.BookFault.{BookFault}
-use Rattle.linked_tables.specs.Tables.{most_cells, variables_fault, cells_fault, table_fault, first_fault, or_later, unless_fault, book_of}
+use Rattle.linked_tables.specs.Tables.{most_cells, variables_fault, cells_fault, first_fault, or_later, unless_fault, book_of}
 use Rattle.linked_tables.specs.Shared.{IsTable}
 use Rattle.linked_tables.specs.Kept.{capped}
 use Rattle.linked_tables.proofs.CellLists.{cells-more}
@@ -74,6 +74,7 @@ each-next P xs i x at here each k d below = by (less_or_same k i below)
   where
     less_or_same : (k i : ℕ) → k < i + 1 → (k < i) ⊎ (k ≡ i)
     less_or_same k i h = grind arith
+
     by : (k < i) ⊎ (k ≡ i) → P (slice_index_or xs k d)
     by (inl h) = each k d h
     by (inr h) = subst P (sym (ap (λ n. slice_index_or xs n d) h ∙ get_or_from_slice_get xs i x d at)) here

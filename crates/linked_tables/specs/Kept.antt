@@ -1,5 +1,5 @@
 -- What a book keeps beside what contracts see of it (own).
-use Rattle.std.specs.Prelude.{◌≡◌, ℕ, ◌+◌, ◌<◌, ◌≤◌, ◌^◌, List, ◌++◌, length, map, take, drop, fold, All, Result}
+use Rattle.std.specs.Prelude.{◌≡◌, ℕ, ◌+◌, ◌<◌, ◌≤◌, ◌^◌, List, ◌++◌, length, map, take, drop, All, Result}
 use Rattle.std.specs.List.{range_with_len}
 use Rattle.sdc_base.specs.Trees.{Tree, IsCodeTree}
 use Rattle.sdc_base.specs.Records.{Name}

@@ -1,5 +1,5 @@
 -- What a book becomes by what is written through a borrow of its marks (own).
-use Rattle.std.specs.Prelude.{◌≡◌, ◌+◌, ℕ, List, [], ◌++◌, length, take, drop, slice_set, Option}
+use Rattle.std.specs.Prelude.{◌≡◌, ℕ, List, [], ◌++◌, length, take, drop, slice_set, Option}
 use Rattle.std.specs.Option.{option_map_or}
 use Rattle.std.specs.Borrow.{Lends, LendsIf, RestsIfNone, MutBor, Fml, Array}
 use Rattle.linked_tables.specs.declared.mark.Mark.{Mark}
@@ -53,10 +53,10 @@ RestsWithLent book r = RestsIfNone book_row.the_row book (λ lent. lent.book.gho
 abbrev pub LendsCell : MutBor TableMut → List ℕ → Option (MutBor Mark) → Fml
 LendsCell table place r =
     LendsIf (table_row.the_row (record { mir = named 1; lft = [] })) mark_row.the_row table r
-      (λ mark. record table.now { book = record table.now.book { now = with_mark_at table.now.book.now table.now.number place mark } }) table.now
+    (λ mark. record table.now { book = record table.now.book { now = with_mark_at table.now.book.now table.now.number place mark } }) table.now
 
 -- r lends the marks of the cells that the table names first
 abbrev pub LendsOwn : MutBor Lent → MutBor (List Mark) → Fml
 LendsOwn lent r =
     Lends (lent_row.the_row (record { mir = named 1; lft = [] })) (Array mark_row.the_row 0) lent r
-      (λ own. record lent.now { book = record lent.now.book { now = with_own lent.now.book.now lent.now.number own } })
+    (λ own. record lent.now { book = record lent.now.book { now = with_own lent.now.book.now lent.now.number own } })

@@ -50,11 +50,7 @@ impl Book {
     /// memory is `Memory`. Each drops what was handed over. It takes one look-up for each place of each table, and
     /// stops at the first cell too many. Numbering is the manual's order of tables, the limit and the order of
     /// refusals are argus's own.
-    pub fn new(
-        alloc: Global,
-        trees: Vec<CodeTree>,
-        tables: Vec<Place>,
-    ) -> Result<Book, BookFault>
+    pub fn new(alloc: Global, trees: Vec<CodeTree>, tables: Vec<Place>) -> Result<Book, BookFault>
         requires few { length trees.items ≤ 8 }
         requires fewer { length tables.items < 2 ^ 32 }
         ensures exact { Gives fault_of (λ book. (book.trees, book.tables)) result (book_of trees.items tables.items) }

@@ -26,7 +26,11 @@ fn place_of(codes: &[u32]) -> Place {
 }
 
 // The book of tables over variables with trees of these sizes.
-fn book_of(alloc: Global, sizes: &[u32], tables: &[&[u32]]) -> Result<Result<Book, BookFault>, Fail> {
+fn book_of(
+    alloc: Global,
+    sizes: &[u32],
+    tables: &[&[u32]],
+) -> Result<Result<Book, BookFault>, Fail> {
     let mut trees = Vec::new(alloc);
     for size in sizes {
         trees.push(tree_of(alloc, *size)?)?;
@@ -81,7 +85,11 @@ fn cells_and_refusals(rt: HostRuntime) -> Result<(), Fail> {
         ([200, 100, 2, 1], two_ways_full, Ok(20000)),
         ([200, 100, 2, 1], one_more, Err(BookFault::TooManyCells(2))),
         ([5001, 1, 1, 1], apart, Ok(5001)),
-        ([5001, 5001, 5001, 5001], wide, Err(BookFault::TooManyCells(0))),
+        (
+            [5001, 5001, 5001, 5001],
+            wide,
+            Err(BookFault::TooManyCells(0)),
+        ),
     ] {
         let made = book_of(alloc, sizes.as_slice(), tables)?;
         assert_eq!(rt; cells_of(made), expected);

@@ -1,14 +1,14 @@
 -- From the first list that is made ready to the last record that is given.
-use Rattle.std.proofs.Common.{◌≡◌, ℕ, zero, suc, ◌+◌, ◌-◌, ◌*◌, ◌^◌, ◌<◌, ◌≤◌, nat_lt, min, Bool, true, false, cond, List, [], ◌∷◌, ◌++◌, length, fold, filter, take, slice_get, slice_index_or, if◌then◌else◌, Option, None, Some, option_map, All, refl, ap, sym, ◌∙◌, subst, arith, ℤ, pos, negsuc, ◌+ℤ◌, ◌*ℤ◌, ◌≤ℤ◌, ◌<ℤ◌, ◌||◌}
+use Rattle.std.proofs.Common.{◌≡◌, ℕ, zero, suc, ◌+◌, ◌-◌, ◌*◌, ◌^◌, ◌<◌, ◌≤◌, nat_lt, min, Bool, true, false, cond, List, [], ◌∷◌, ◌++◌, length, fold, filter, slice_get, slice_index_or, if◌then◌else◌, Option, None, Some, option_map, All, refl, ap, sym, ◌∙◌, subst, arith, ℤ, pos, negsuc, ◌+ℤ◌, ◌*ℤ◌, ◌≤ℤ◌, ◌<ℤ◌, ◌||◌}
 use Rattle.std.specs.List.{flat_map}
 use Rattle.std.specs.Option.{option_map_or}
-use Rattle.std.proofs.Math.Nat.{mul-le-mul_left, mul-le-mul_right}
+use Rattle.std.proofs.Math.Nat.{mul-le-mul_left}
 use Rattle.std.proofs.lemmas.Bool.Decides.{nat_tests}
 use Rattle.std.proofs.lemmas.Int.{ints}
 use Rattle.std.proofs.lemmas.List.{take_all}
 use Rattle.std.proofs.lemmas.List.Elements.{All-head, All-tail}
 use Rattle.std.proofs.lemmas.List.Folds.{list_any-append}
-use Rattle.std.proofs.lemmas.Option.{slice_get_within, slice_get_read, get_or_from_slice_get}
+use Rattle.std.proofs.lemmas.Option.{slice_get_within, get_or_from_slice_get}
 use Rattle.std.specs.Str.{bytes_eq}
 use Rattle.sdc_base.specs.Trees.{Tree}
 use Rattle.sdc_base.specs.Records.{Name, row_falls}
@@ -20,7 +20,7 @@ use Rattle.linked_tables.specs.declared.mark.Mark.{Mark}
 use Rattle.linked_tables.specs.Held.{Held}
 use Rattle.linked_tables.specs.Shared.{IsBook, cells, first_own}
 use Rattle.linked_tables.proofs.Sharing.{name-long}
-use Rattle.tabulate.specs.Holding.{AreFine, AreGiven, Holds, hidden_at, kept_at, kept_of, sum_of}
+use Rattle.tabulate.specs.Holding.{AreFine, AreGiven, Holds, hidden_at, kept_at, kept_of}
 use Rattle.tabulate.specs.Giving.{GaveAll, rows_for}
 use Rattle.tabulate.specs.Starting.{Started}
 use Rattle.tabulate.specs.Tabulated.{AreTabulated, HasNone, IsRow, TellsOf}
@@ -109,9 +109,9 @@ table-given book now next keep scale rows t first table is good at frame kept st
     let name = cell-name book next keep scale cell mark is (kept cell) here in
     let own : first ≡ first_own book t = start ∙ ap (λ (b : Held). first_own b t) frame in
     let same : given_to book rows t cell ++ rows_for now t first rows cell ≡ given_to book rows (t + 1) cell =
-        ap (λ (b : Held). given_to book rows t cell ++ rows_for b t first rows cell) frame
-        ∙ ap (λ n. given_to book rows t cell ++ rows_for book t n rows cell) own
-        ∙ given-next book rows t table cell name.0 is good at name.1 (cell-long book cell name.0 name.1)
+    ap (λ (b : Held). given_to book rows t cell ++ rows_for b t first rows cell) frame
+    ∙ ap (λ n. given_to book rows t cell ++ rows_for book t n rows cell) own
+    ∙ given-next book rows t table cell name.0 is good at name.1 (cell-long book cell name.0 name.1)
     in
     subst (Holds mark) same (all.given (given_to book rows t) given cell mark here)
 
@@ -121,6 +121,7 @@ fine-started book now keep scale weight kept heavy = λ cell mark at. by cell ma
   where
     scaled : (mark one : Mark) → Some (kept_of mark) ≡ Some (one.hidden, (keep, scale)) → scale ≡ mark.facts.tops.scale
     scaled mark one h = sym (ap (λ (k : Option (Bool × (ℕ × ℕ))). option_map_or (λ one. one.1.1) k 0) h)
+
     by : (cell : ℕ) (mark : Mark) (found : Option Mark) → Some (kept_of mark) ≡ option_map (λ one. (one.hidden, (keep, scale))) found → mark.facts.tops.scale ≤ weight
     by cell mark None eq = cc
     by cell mark (Some one) eq = subst (λ n. n ≤ weight) (scaled mark one eq) heavy
@@ -162,15 +163,16 @@ pub all-given : (book now : Held) (keep scale : ℕ) (rows : List Row) (t : ℕ)
     → ((cell : ℕ) → kept_at now.marks cell ≡ started_at book.marks keep scale cell) → AreGiven now.marks (given_to book rows t) → AreTabulated now rows keep scale
 all-given book now keep scale rows t past is good few frame kept given = λ cell name mark named at.
     subst (λ (b : Held). TellsOf b.trees rows keep scale name mark) (sym frame)
-      (tells cell name mark (ap (λ (b : Held). slice_get (cells b) cell) (sym frame) ∙ named) at)
+    (tells cell name mark (ap (λ (b : Held). slice_get (cells b) cell) (sym frame) ∙ named) at)
   where
     whole : first_own book t ≡ length (cells book)
     whole = ap (λ tables. length (cells_of book.trees tables)) (take_all t book.tables past)
+
     tells : (cell : ℕ) (name : Name) (mark : Mark) → slice_get (cells book) cell ≡ Some name → slice_get now.marks cell ≡ Some mark → TellsOf book.trees rows keep scale name mark
     tells cell name mark named at =
         let below : nat_lt cell (first_own book t) ≡ true = let inside = slice_get_within (cells book) cell name named in grind (arith, nat_tests, inside, whole) in
         let these : given_to book rows t cell ≡ rows_in book.trees name rows =
-            ap (λ b. if b then rows_in book.trees (slice_index_or (cells book) cell []) rows else []) below ∙ ap (λ n. rows_in book.trees n rows) (get_or_from_slice_get (cells book) cell name [] named)
+        ap (λ b. if b then rows_in book.trees (slice_index_or (cells book) cell []) rows else []) below ∙ ap (λ n. rows_in book.trees n rows) (get_or_from_slice_get (cells book) cell name [] named)
         in
         let holds : Holds mark (rows_in book.trees name rows) = subst (Holds mark) these (given cell mark at) in
         let room = sum-room book.trees scale (row_falls book.trees name) rows 0 holds.sum good holds.sum_is in

@@ -7,3 +7,4 @@ pub mod Counting
 pub mod Standing
 pub mod Whole
 pub mod Finish
+pub mod AddingUp

@@ -1,5 +1,5 @@
 -- One record more for a mark.
-use Rattle.std.proofs.Common.{◌≡◌, ℕ, ◌+◌, ◌-◌, ◌*◌, ◌^◌, min, List, [], ◌∷◌, ◌++◌, length, map, fold, refl, ap, sym, ◌∙◌, arith, ℤ, pos, negsuc, ◌+ℤ◌, ◌*ℤ◌, ◌≤ℤ◌, length-append}
+use Rattle.std.proofs.Common.{◌≡◌, ℕ, ◌+◌, ◌-◌, ◌*◌, ◌^◌, min, List, [], ◌∷◌, ◌++◌, length, ap, sym, ◌∙◌, arith, ℤ, pos, negsuc, ◌+ℤ◌, ◌*ℤ◌, ◌≤ℤ◌, length-append}
 use Rattle.std.specs.Int.{saturate_signed, w128}
 use Rattle.std.proofs.lemmas.Int.{ints}
 use Rattle.std.proofs.lemmas.List.{map-append}
@@ -8,7 +8,6 @@ use Rattle.sdc_base.specs.Sums.{weighted}
 use Rattle.sdc_base.specs.Largest.{contribution}
 use Rattle.sdc_base.specs.Tells.{Tells}
 use Rattle.sdc_base.specs.declared.rows.Row.{Row}
-use Rattle.sdc_base.specs.declared.tops.Unit.{Unit as Contribution}
 use Rattle.linked_tables.specs.declared.mark.Mark.{Mark}
 use Rattle.tabulate.specs.Holding.{Holds, sum_of, units_of}
 

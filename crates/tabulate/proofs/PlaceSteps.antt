@@ -1,5 +1,5 @@
 -- Records given one after another, and to one place after another.
-use Rattle.std.proofs.Common.{◌≡◌, ◌≢◌, ℕ, zero, suc, ◌+◌, ◌<◌, ◌≤◌, ◌==◌, ◌&&◌, nat_le, Bool, true, false, List, [], ◌∷◌, ◌++◌, length, replicate, slice_get, slice_set, Option, None, Some, option_map, if◌then◌else◌, refl, ap, sym, ◌∙◌, subst, arith, append_assoc}
+use Rattle.std.proofs.Common.{◌≡◌, ◌≢◌, ℕ, ◌+◌, ◌<◌, ◌≤◌, ◌==◌, ◌&&◌, nat_le, Bool, true, false, List, [], ◌∷◌, ◌++◌, replicate, slice_get, slice_set, Option, None, Some, option_map, if◌then◌else◌, refl, ap, sym, ◌∙◌, subst, arith, append_assoc}
 use Rattle.std.specs.Option.{option_map_or}
 use Rattle.std.proofs.lemmas.Bool.Decides.{nat_tests, Decides-eqb}
 use Rattle.std.proofs.lemmas.List.{append-nil, replicate-append-replicate}
@@ -33,7 +33,7 @@ gave-then a b c t first row places more one two = record {
   frame = two.frame ∙ ap (λ (x : Held). record x { marks = c.marks }) one.frame;
   kept = λ cell. two.kept cell ∙ one.kept cell;
   given = λ given start. given-as c.marks (λ cell. (given cell ++ replicate (hits a t first places cell) row) ++ replicate (hits b t first more cell) row) (λ cell. given cell ++ replicate (hits a t first (places ++ more) cell) row)
-    (λ cell. all given cell) (two.given (λ cell. given cell ++ replicate (hits a t first places cell) row) (one.given given start));
+      (λ cell. all given cell) (two.given (λ cell. given cell ++ replicate (hits a t first places cell) row) (one.given given start));
 }
   where
     all : (given : ℕ → List Row) (cell : ℕ) → (given cell ++ replicate (hits a t first places cell) row) ++ replicate (hits b t first more cell) row ≡ given cell ++ replicate (hits a t first (places ++ more) cell) row
@@ -74,11 +74,13 @@ gave-one book t first row place found old new is late at kept more = record {
   where
     apart : (cell : ℕ) → (found == cell) ≡ false → found ≢ cell
     apart cell other same = let met : (found == cell) ≡ true = (Decides-eqb found cell).1 same in cc
+
     kept_by : (cell : ℕ) (b : Bool) → (found == cell) ≡ b → kept_at (slice_set book.marks found new) cell ≡ kept_at book.marks cell
     kept_by cell true met =
         subst (λ n. kept_at (slice_set book.marks found new) n ≡ kept_at book.marks n) ((Decides-eqb found cell).0 met)
         (ap (option_map kept_of) (set-here book.marks found old new at) ∙ ap Some kept ∙ sym (ap (option_map kept_of) at))
     kept_by cell false other = ap (option_map kept_of) (set-there book.marks found cell new (apart cell other))
+
     once : (cell : ℕ) (b : Bool) → (found == cell) ≡ b → hits book t first (place ∷ []) cell ≡ (if b then 1 else 0)
     once cell b eq =
         let test : nat_le first found ≡ true = grind (arith, nat_tests) in
@@ -88,8 +90,10 @@ gave-one book t first row place found old new is late at kept more = record {
         both : (b : Bool) → (b && true) ≡ b
         both true = refl
         both false = refl
+
     same : {x y : Mark} → Some x ≡ Some y → x ≡ y
     same h = cc
+
     by : (given : ℕ → List Row) → AreGiven book.marks given → (cell : ℕ) (mark : Mark) → slice_get (slice_set book.marks found new) cell ≡ Some mark → (b : Bool) → (found == cell) ≡ b
         → Holds mark (given cell ++ replicate (hits book t first (place ∷ []) cell) row)
     by given start cell mark here true met =

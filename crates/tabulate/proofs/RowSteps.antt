@@ -1,12 +1,10 @@
 -- Records given to a table one after another, and lists made ready one after another.
-use Rattle.std.proofs.Common.{◌≡◌, ◌≢◌, ℕ, ◌+◌, ◌<◌, ◌≤◌, List, [], ◌∷◌, ◌++◌, length, replicate, slice_get, Option, None, Some, refl, ap, sym, ◌∙◌, subst, arith, append_assoc, ◌⊎◌, inl, inr}
-use Rattle.std.specs.List.{flat_map}
+use Rattle.std.proofs.Common.{◌≡◌, ◌≢◌, ℕ, ◌+◌, ◌<◌, List, [], ◌∷◌, ◌++◌, length, replicate, slice_get, Some, refl, ap, sym, ◌∙◌, subst, arith, append_assoc, ◌⊎◌, inl, inr}
 use Rattle.std.proofs.lemmas.Grind.{flat_map-append}
 use Rattle.std.proofs.lemmas.List.{append-nil}
 use Rattle.sdc_base.specs.declared.rows.Row.{Row}
 use Rattle.linked_tables.specs.declared.mark.Mark.{Mark}
 use Rattle.linked_tables.specs.Held.{Held}
-use Rattle.tabulate.specs.Holding.{AreGiven}
 use Rattle.tabulate.specs.Giving.{Gave, GaveAll, hits, rows_for, tuples}
 use Rattle.tabulate.specs.Starting.{IsStarted, Started}
 use Rattle.tabulate.proofs.PlaceSteps.{given-as}
@@ -25,7 +23,7 @@ gave-row a b c t first rows row all one = record {
   frame = one.frame ∙ ap (λ (x : Held). record x { marks = c.marks }) all.frame;
   kept = λ cell. one.kept cell ∙ all.kept cell;
   given = λ given start. given-as c.marks (λ cell. (given cell ++ rows_for a t first rows cell) ++ replicate (hits b t first (tuples b t row) cell) row) (λ cell. given cell ++ rows_for a t first (rows ++ row ∷ []) cell)
-    (λ cell. more given cell) (one.given (λ cell. given cell ++ rows_for a t first rows cell) (all.given given start));
+      (λ cell. more given cell) (one.given (λ cell. given cell ++ rows_for a t first rows cell) (all.given given start));
 }
   where
     more : (given : ℕ → List Row) (cell : ℕ) → (given cell ++ rows_for a t first rows cell) ++ replicate (hits b t first (tuples b t row) cell) row ≡ given cell ++ rows_for a t first (rows ++ row ∷ []) cell
@@ -57,6 +55,7 @@ started-next a b c keep scale cell so_far frame long here there = record {
   where
     less_or_same : (k i : ℕ) → k < i + 1 → (k < i) ⊎ (k ≡ i)
     less_or_same k i h = grind arith
+
     by : (one : ℕ) (before after : Mark) → (one < cell) ⊎ (one ≡ cell) → slice_get a.marks one ≡ Some before → slice_get c.marks one ≡ Some after → IsStarted keep scale before after
     by one before after (inl h) at new = so_far.ready one before after h at (sym (there one (λ same. absurd (omega (arith, h, same)))) ∙ new)
     by one before after (inr same) at new =

@@ -1,23 +1,22 @@
 -- At which places of a table a cell stands.
-use Rattle.std.proofs.Common.{◌≡◌, ◌≢◌, ℕ, zero, suc, ◌+◌, ◌<◌, ◌≤◌, ◌==◌, ◌&&◌, ◌||◌, nat_le, nat_lt, Bool, true, false, cond, List, [], ◌∷◌, ◌++◌, length, map, fold, take, drop, get_or, slice_get, slice_index, slice_index_or, bytes_eq, if◌then◌else◌, Option, None, Some, option_map, is_some, refl, ap, sym, ◌∙◌, subst, arith, add-one, ◌⊎◌, inl, inr}
+use Rattle.std.proofs.Common.{◌≡◌, ℕ, zero, suc, ◌+◌, ◌<◌, ◌≤◌, ◌==◌, ◌&&◌, ◌||◌, nat_le, nat_lt, Bool, true, false, cond, List, [], ◌∷◌, ◌++◌, length, map, take, drop, get_or, slice_get, slice_index_or, bytes_eq, if◌then◌else◌, Option, None, Some, option_map, is_some, refl, ap, sym, ◌∙◌, subst, arith, add-one}
 use Rattle.std.specs.List.{IsDistinct, AllByRecursion, list_any, flat_map}
 use Rattle.std.specs.Option.{option_map_or, option_and_then}
 use Rattle.std.proofs.lemmas.Bool.Decides.{nat_tests, Decides-eqb}
 use Rattle.std.proofs.lemmas.List.{take-append-drop}
 use Rattle.std.proofs.lemmas.Map.Keys.{IsDistinct-head, IsDistinct-tail}
-use Rattle.std.proofs.lemmas.Option.{slice_get_within}
 use Rattle.std.proofs.lemmas.Slice.Eq.{bytes_eq-Decides}
 use Rattle.sdc_base.specs.Trees.{Tree}
 use Rattle.sdc_base.specs.Records.{Name}
 use Rattle.sdc_base.specs.Places.{first_place}
-use Rattle.sdc_base.specs.Cells.{cells_of, code_for, is_named, named_by, name_of, trees_of, with_name}
+use Rattle.sdc_base.specs.Cells.{cells_of, code_for, is_named, named_by, name_of, trees_of}
 use Rattle.sdc_base.specs.CellOrder.{is_place_in}
 use Rattle.sdc_base.proofs.FirstNames.{all_named, names_are_first}
 use Rattle.sdc_base.proofs.PlaceLists.{name_length}
 use Rattle.linked_tables.specs.Held.{Held}
 use Rattle.linked_tables.specs.Tables.{has_twice, has_unknown}
-use Rattle.linked_tables.specs.Shared.{IsBook, IsTable, cells, cell_at, first_own, is_in, is_place_of, name_at, named, number_of}
-use Rattle.linked_tables.specs.Laws.{is_code, spans}
+use Rattle.linked_tables.specs.Shared.{IsTable, cells, cell_at, first_own, is_in, name_at, named, number_of}
+use Rattle.linked_tables.specs.Laws.{spans}
 use Rattle.linked_tables.proofs.CellLists.{cells-stay}
 use Rattle.linked_tables.proofs.TableSteps.{cells-next}
 use Rattle.linked_tables.proofs.Finding.{cell-found, cell-named, place-named}
@@ -92,16 +91,17 @@ pub own-named : (book : Held) (t cell : ℕ) (table : List ℕ) (name : Name) �
 own-named book t cell table name at is late early =
     let front = front-cells book (t + 1) in
     let here : slice_get (cells_of book.trees (take (t + 1) book.tables)) cell ≡ Some name =
-        sym (at-front (cells_of book.trees (take (t + 1) book.tables)) front.0 cell early) ∙ ap (λ names. slice_get names cell) (sym front.1) ∙ is
+    sym (at-front (cells_of book.trees (take (t + 1) book.tables)) front.0 cell early) ∙ ap (λ names. slice_get names cell) (sym front.1) ∙ is
     in
     let among : is_named (cells_of book.trees (take (t + 1) book.tables)) name ≡ true = named-where (cells_of book.trees (take (t + 1) book.tables)) cell name here in
     let either : (is_named (cells_of book.trees (take t book.tables)) name || is_named (named_by book.trees table) name) ≡ true =
-        sym (all_named (cells_of book.trees (take t book.tables)) (named_by book.trees table) name) ∙ ap (λ names. is_named names name) (sym (cells-next book.trees book.tables t table at)) ∙ among
+    sym (all_named (cells_of book.trees (take t book.tables)) (named_by book.trees table) name) ∙ ap (λ names. is_named names name) (sym (cells-next book.trees book.tables t table at)) ∙ among
     in
     by (is_named (cells_of book.trees (take t book.tables)) name) refl either
   where
     number : first_place (bytes_eq name) (cells book) ≡ Some cell
     number = found-where (cells book) cell name (once-cells book) is
+
     by : (b : Bool) → is_named (cells_of book.trees (take t book.tables)) name ≡ b → (b || is_named (named_by book.trees table) name) ≡ true → is_named (named_by book.trees table) name ≡ true
     by true before h =
         let front = front-cells book t in
@@ -128,6 +128,7 @@ cell-early book t found place is = by_table (slice_get book.tables t) refl is
         let among : is_named (cells_of book.trees (take (t + 1) book.tables)) (named book table place) ≡ true = place-named book.trees (take (t + 1) book.tables) t table place taken good in
         found-early (cells_of book.trees (take (t + 1) book.tables)) front.0 (named book table place) found among (ap (first_place (bytes_eq (named book table place))) (sym front.1) ∙ is)
     inside table at false good is = cc
+
     by_table : (found_table : Option (List ℕ)) → slice_get book.tables t ≡ found_table → option_and_then (λ table. if is_in book table place then number_of book (named book table place) else None) found_table ≡ Some found → found < first_own book (t + 1)
     by_table None at is = cc
     by_table (Some table) at is = inside table at (is_in book table place) refl is
@@ -198,8 +199,8 @@ spanned-code trees table name sound h variable spanned =
 name-back : (trees : List Tree) (table : List ℕ) (name : Name) → is_named (named_by trees table) name ≡ true → name_of (length trees) table (codes_at name table) ≡ name
 name-back trees table name h =
     same-items (name_of (length trees) table (codes_at name table)) name (name_length table (codes_at name table) (length trees) ∙ sym (name-long trees table name h))
-      (λ variable below. let under : variable < length trees = subst (λ n. variable < n) (name_length table (codes_at name table) (length trees)) below in
-          name-codes (length trees) table (codes_at name table) variable under ∙ code-back name table variable ∙ back variable (spans table variable) (named-codes trees table name h variable under))
+    (λ variable below. let under : variable < length trees = subst (λ n. variable < n) (name_length table (codes_at name table) (length trees)) below in
+    name-codes (length trees) table (codes_at name table) variable under ∙ code-back name table variable ∙ back variable (spans table variable) (named-codes trees table name h variable under))
   where
     back : (variable : ℕ) (b : Bool) → (if b then nat_lt (get_or name variable 0) (length (slice_index_or trees variable [])) else get_or name variable 0 == 0) ≡ true → (if b then get_or name variable 0 else 0) ≡ get_or name variable 0
     back variable true good = refl
@@ -212,17 +213,20 @@ stands-once book t first cell table name place at sound is late given = by (byte
   where
     good : is_place_in (trees_of book.trees table) (codes_at name table) ≡ true
     good = place-good book.trees name table (λ variable h. spanned-code book.trees table name sound given variable h)
+
     here : cell_at book t (codes_at name table) ≡ Some cell
     here =
         ap (λ found. option_and_then (λ one. if is_in book one (codes_at name table) then number_of book (named book one (codes_at name table)) else None) found) at
         ∙ ap (λ b. if b then number_of book (named book table (codes_at name table)) else None) good
         ∙ ap (number_of book) (name-back book.trees table name given)
         ∙ found-where (cells book) cell name (once-cells book) is
+
     stands : is_at book t first (codes_at name table) cell ≡ true
     stands =
         let same : (cell == cell) ≡ true = (Decides-eqb cell cell).1 refl in
         let test : nat_le first cell ≡ true = grind (arith, nat_tests) in
         ap (λ found. option_map_or (λ one. one == cell && nat_le first one) found false) here ∙ rw (same, test) refl
+
     found : (o : Option ℕ) → option_map_or (λ one. one == cell && nat_le first one) o false ≡ true → o ≡ Some cell
     found None h = cc
     found (Some one) h = ap Some ((Decides-eqb one cell).0 (front (one == cell) (nat_le first one) h))
@@ -230,8 +234,10 @@ stands-once book t first cell table name place at sound is late given = by (byte
         front : (a b : Bool) → (a && b) ≡ true → a ≡ true
         front true b h = refl
         front false b h = cc
+
     some-same : {a b : Name} → Some a ≡ Some b → a ≡ b
     some-same h = cc
+
     back : is_at book t first place cell ≡ true → place ≡ codes_at name table
     back h =
         let there : cell_at book t place ≡ Some cell = found (cell_at book t place) h in
@@ -239,9 +245,11 @@ stands-once book t first cell table name place at sound is late given = by (byte
         let whole : named book table place ≡ name = ap (λ o. option_map_or (λ one. named book one place) o []) (sym at) ∙ same in
         let inside : is_in book table place ≡ true = ap (λ o. option_map_or (λ one. is_in book one place) o false) (sym at) ∙ sym (cell-found book t place) ∙ ap is_some there in
         sym (place-of-name book.trees table place sound inside) ∙ ap (λ one. codes_at one table) whole
+
     never : (b : Bool) → is_at book t first place cell ≡ b → bytes_eq place (codes_at name table) ≡ false → is_at book t first place cell ≡ false
     never true h apart = let same : bytes_eq place (codes_at name table) ≡ true = (bytes_eq-Decides place (codes_at name table)).1 (back h) in cc
     never false h apart = h
+
     by : (b : Bool) → bytes_eq place (codes_at name table) ≡ b → is_at book t first place cell ≡ bytes_eq place (codes_at name table)
     by true same = subst (λ one. is_at book t first one cell ≡ true) (sym ((bytes_eq-Decides place (codes_at name table)).0 same)) stands ∙ sym same
     by false apart = never (is_at book t first place cell) refl apart ∙ sym apart

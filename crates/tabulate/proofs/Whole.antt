@@ -1,9 +1,7 @@
 -- What the cells of a book are given, table after table.
-use Rattle.std.proofs.Common.{◌≡◌, ℕ, zero, suc, ◌+◌, ◌-◌, ◌*◌, ◌^◌, ◌<◌, ◌≤◌, ◌==◌, ◌&&◌, ◌||◌, nat_le, nat_lt, min, Bool, true, false, cond, List, [], ◌∷◌, ◌++◌, length, map, fold, filter, take, replicate, slice_get, slice_index, slice_index_or, bytes_eq, if◌then◌else◌, Option, None, Some, option_map, All, refl, ap, sym, ◌∙◌, subst, arith, ℤ, pos, negsuc, ◌+ℤ◌, ◌*ℤ◌, ◌≤ℤ◌, ◌<ℤ◌, ◌⊎◌, inl, inr}
-use Rattle.std.specs.List.{list_any, flat_map}
+use Rattle.std.proofs.Common.{◌≡◌, ℕ, ◌+◌, ◌<◌, ◌≤◌, ◌==◌, ◌&&◌, ◌||◌, nat_le, nat_lt, Bool, true, false, cond, List, [], ◌∷◌, ◌++◌, length, map, filter, replicate, slice_get, slice_index, slice_index_or, bytes_eq, if◌then◌else◌, Option, None, Some, All, refl, ap, sym, ◌∙◌, subst, arith, ◌⊎◌, inl, inr}
 use Rattle.std.specs.Option.{option_map_or}
 use Rattle.std.proofs.lemmas.Bool.Decides.{nat_tests, Decides-eqb}
-use Rattle.std.proofs.lemmas.Int.{ints}
 use Rattle.std.proofs.lemmas.List.{append-nil}
 use Rattle.std.proofs.lemmas.List.Elements.{All-head, All-tail}
 use Rattle.std.proofs.lemmas.Option.{slice_get_within, get_or_from_slice_get}
@@ -14,17 +12,14 @@ use Rattle.sdc_base.specs.Cells.{is_named, named_by}
 use Rattle.sdc_base.specs.declared.rows.Row.{Row}
 use Rattle.sdc_base.proofs.Walks.{under_is_tested}
 use Rattle.sdc_base.proofs.InEach.{falls_where_under_in_each}
-use Rattle.linked_tables.specs.declared.mark.Mark.{Mark}
 use Rattle.linked_tables.specs.Held.{Held}
 use Rattle.linked_tables.specs.Tables.{has_unknown}
 use Rattle.linked_tables.specs.Shared.{IsBook, IsTable, cells, cell_at, first_own}
-use Rattle.linked_tables.specs.Laws.{is_code, spans}
+use Rattle.linked_tables.specs.Laws.{spans}
 use Rattle.linked_tables.proofs.CellLists.{starts-rise}
-use Rattle.linked_tables.proofs.Sharing.{codes_at, known-below, named-codes}
-use Rattle.tabulate.specs.Holding.{AreGiven, Holds}
+use Rattle.linked_tables.proofs.Sharing.{codes_at, named-codes}
 use Rattle.tabulate.specs.Tuples.{lines_above, places_over}
 use Rattle.tabulate.specs.Giving.{count, hits, is_at, rows_for, spanned, tuples}
-use Rattle.tabulate.specs.Tabulated.{IsRow}
 use Rattle.tabulate.proofs.Counting.{count-map, count-none, count-same, tuple-count, under_all, upward-count}
 use Rattle.tabulate.proofs.ListReads.{read-none}
 use Rattle.tabulate.proofs.Standing.{cell-early, own-named, stands-once}
@@ -72,11 +67,14 @@ falls-under trees codes name table each sound given long coded inside = by (unde
         split false h good =
             let none : slice_index name variable ≡ 0 = (Decides-eqb (slice_index name variable) 0).0 good in
             ap (is_under (slice_index_or trees variable []) (slice_index codes variable)) none ∙ under-total (slice_index_or trees variable []) (each variable [] below) (slice_index codes variable) (inside variable below)
+
     back : falls_in trees name codes ≡ true → under_all trees codes name table ≡ true
     back falls = each-under trees codes name (length trees) table sound.known ((falls_where_under_in_each trees name codes long coded).0 falls)
+
     never : (b : Bool) → falls_in trees name codes ≡ b → under_all trees codes name table ≡ false → falls_in trees name codes ≡ false
     never true h apart = let all = back h in cc
     never false h apart = h
+
     by : (b : Bool) → under_all trees codes name table ≡ b → falls_in trees name codes ≡ under_all trees codes name table
     by true h = (falls_where_under_in_each trees name codes long coded).1 (whole h) ∙ sym h
     by false h = never (falls_in trees name codes) refl h ∙ sym h
@@ -107,7 +105,7 @@ hit-once book t first cell table name row each sound at is late given long good 
         split : (found : Option Tree) → slice_get book.trees variable ≡ found → count (λ met. met == slice_index name variable) (upward (slice_index_or book.trees variable []) (slice_index row.codes variable)) ≡ (if is_under (slice_index_or book.trees variable []) (slice_index row.codes variable) (slice_index name variable) then 1 else 0)
         split None none =
             subst (λ tree. count (λ met. met == slice_index name variable) (upward tree (slice_index row.codes variable)) ≡ (if is_under tree (slice_index row.codes variable) (slice_index name variable) then 1 else 0))
-              (sym (read-none book.trees variable [] (sym none))) refl
+            (sym (read-none book.trees variable [] (sym none))) refl
         split (Some tree) some = upward-count (slice_index_or book.trees variable []) (each variable [] (slice_get_within book.trees variable tree some)) (slice_index row.codes variable) (slice_index name variable)
 
 -- the rows that a cell is given are those that fall in it
@@ -155,12 +153,16 @@ given-next book rows t table cell name is good at named long = by (below cell (f
   where
     below : (a b : ℕ) → (a < b) ⊎ (b ≤ a)
     below a b = grind arith
+
     rise : first_own book t ≤ first_own book (t + 1)
     rise = starts-rise book.trees book.tables t
+
     name-at : slice_index_or (cells book) cell [] ≡ name
     name-at = get_or_from_slice_get (cells book) cell name [] named
+
     sound : IsTable (length book.trees) table
     sound = subst (IsTable (length book.trees)) (get_or_from_slice_get book.tables t table [] at) (is.tables t [] (slice_get_within book.tables t table at))
+
     by : (cell < first_own book t) ⊎ (first_own book t ≤ cell) → (cell < first_own book (t + 1)) ⊎ (first_own book (t + 1) ≤ cell) → given_to book rows t cell ++ rows_for book t (first_own book t) rows cell ≡ given_to book rows (t + 1) cell
     by (inl early) other =
         let here : nat_lt cell (first_own book t) ≡ true = grind (arith, nat_tests) in

@@ -1,5 +1,5 @@
 -- What a mark tells of the records that it was given (own).
-use Rattle.std.specs.Prelude.{◌≡◌, ℕ, ◌≤◌, ◌-◌, ◌^◌, min, Bool, List, [], length, map, fold, slice_get, Option, None, Some, option_map, ℤ, pos, ◌+ℤ◌}
+use Rattle.std.specs.Prelude.{◌≡◌, ℕ, ◌≤◌, ◌-◌, ◌^◌, min, Bool, List, length, map, fold, slice_get, Option, Some, option_map, ℤ, pos, ◌+ℤ◌}
 use Rattle.sdc_base.specs.Sums.{weighted}
 use Rattle.sdc_base.specs.Largest.{contribution}
 use Rattle.sdc_base.specs.Tells.{Tells}

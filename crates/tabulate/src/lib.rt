@@ -3,6 +3,8 @@
 
 mod adding;
 mod ancestors;
+mod laws;
 mod tabulating;
 
+pub use laws::tables_add_up;
 pub use tabulating::tabulate;

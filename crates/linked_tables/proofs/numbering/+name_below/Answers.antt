@@ -1,7 +1,6 @@
-use Rattle.std.proofs.Common.{◌≡◌, ◌≤◌, ◌<◌, ◌+◌, ◌-◌, ◌++◌, ◌∷◌, [], ℕ, List, length, fold, get_or, slice_index_or, ap, sym, ◌∙◌, subst, arith}
+use Rattle.std.proofs.Common.{◌≡◌, ◌≤◌, ◌+◌, ◌-◌, ◌++◌, ◌∷◌, [], ℕ, List, length, fold, get_or, slice_index_or, ap, sym, ◌∙◌, subst, arith}
 use Rattle.std.proofs.lemmas.Result.{err_from_is_err_and}
 use Rattle.sdc_base.specs.Records.{Name}
-use Rattle.sdc_base.specs.Answers.{Fails}
 use Rattle.sdc_base.specs.Cells.{with_name}
 use Rattle.linked_tables.specs.Tables.{most_cells, fault_of}
 use Rattle.linked_tables.specs.Kept.{capped, names_below}
@@ -20,21 +19,21 @@ returns-in_err-name_below-clause-fault t c =
     let size = length (slice_index_or trees (get_or table (length place) 0) []) in
     let same : longer ≡ place ++ code ∷ [] = c.as_slice-in-codes.ensures.value ∙ c.with_code-longer.ensures in
     let some : fold with_name c.codes.names (names_below trees table longer) ≡ fold with_name names (names_begun trees table place (code + 1)) =
-        ap (λ (p : List ℕ). fold with_name c.codes.names (names_below trees table p)) same
-        ∙ ap (λ (before : List Name). fold with_name before (names_below trees table (place ++ code ∷ []))) c.codes.invariant.added
-        ∙ sym (begun-next trees table place names code)
+    ap (λ (p : List ℕ). fold with_name c.codes.names (names_below trees table p)) same
+    ∙ ap (λ (before : List Name). fold with_name before (names_below trees table (place ++ code ∷ []))) c.codes.invariant.added
+    ∙ sym (begun-next trees table place names code)
     in
     let all : fold with_name names (names_below trees table place) ≡ fold with_name names (names_begun trees table place size) = ap (fold with_name names) (below-begun trees table place 0 (omega (arith, c.if-place-len.false, c.len.ensures.len))) in
     let sizes : c.size_at-size.result ≡ size = c.size_at-size.ensures.size ∙ ap (λ (spanned : List ℕ). length (slice_index_or trees (get_or spanned (length place) 0) [])) c.as_slice-2.ensures in
     let p = err_from_is_err_and c.from_residual.result c.from_residual.ensures.1 in
     let more : (code + 1) + (size - (code + 1)) ≡ size = omega (arith, c.codes-test.true, sizes) in
     let rise : length (fold with_name names (names_begun trees table place (code + 1))) ≤ length (fold with_name names (names_begun trees table place size)) =
-        subst (λ (n : ℕ). length (fold with_name names (names_begun trees table place (code + 1))) ≤ length (fold with_name names (names_begun trees table place n))) more
-        (begun-rises trees table place names (code + 1) (size - (code + 1)))
+    subst (λ (n : ℕ). length (fold with_name names (names_begun trees table place (code + 1))) ≤ length (fold with_name names (names_begun trees table place n))) more
+    (begun-rises trees table place names (code + 1) (size - (code + 1)))
     in
     let fits : length (fold with_name c.codes.names (names_below trees table longer)) ≤ length (fold with_name names (names_below trees table place)) =
-        subst (λ (one : List Name). length one ≤ length (fold with_name names (names_below trees table place))) (sym some)
-        (subst (λ (one : List Name). length (fold with_name names (names_begun trees table place (code + 1))) ≤ length one) (sym all) rise)
+    subst (λ (one : List Name). length one ≤ length (fold with_name names (names_below trees table place))) (sym some)
+    (subst (λ (one : List Name). length (fold with_name names (names_begun trees table place (code + 1))) ≤ length one) (sym all) rise)
     in
     rw (p.1, p.2) (fails-more (fault_of c.in_err-name_below.field-0.0) c.args.t (fold with_name c.codes.names (names_below trees table longer)) (fold with_name names (names_below trees table place)) fits c.in_err-name_below.ensures.fault)
 
@@ -48,9 +47,9 @@ codes-preserved t c =
     let longer = c.as_slice-in-codes.result.now in
     let same : longer ≡ place ++ code ∷ [] = c.as_slice-in-codes.ensures.value ∙ c.with_code-longer.ensures in
     let some : fold with_name c.codes.names (names_below trees table longer) ≡ fold with_name names (names_begun trees table place (code + 1)) =
-        ap (λ (p : List ℕ). fold with_name c.codes.names (names_below trees table p)) same
-        ∙ ap (λ (before : List Name). fold with_name before (names_below trees table (place ++ code ∷ []))) c.codes.invariant.added
-        ∙ sym (begun-next trees table place names code)
+    ap (λ (p : List ℕ). fold with_name c.codes.names (names_below trees table p)) same
+    ∙ ap (λ (before : List Name). fold with_name before (names_below trees table (place ++ code ∷ []))) c.codes.invariant.added
+    ∙ sym (begun-next trees table place names code)
     in
     let made = capped-Ok c.args.t (fold with_name c.codes.names (names_below trees table longer)) c.name_below.new.names c.in_ok-name_below.ensures.names in
     record { added = sym made.0 ∙ some; room = subst (λ (all : List Name). length all ≤ most_cells) made.0 made.1 }
@@ -65,8 +64,8 @@ returns-clause-names t c =
     let sizes : c.size_at-size.result ≡ size = c.size_at-size.ensures.size ∙ ap (λ (spanned : List ℕ). length (slice_index_or trees (get_or spanned (length place) 0) [])) c.as_slice-2.ensures in
     let end : size ≡ c.codes.code = omega (arith, sizes, c.codes-test.false, c.codes.auto.code-end) in
     let all : fold with_name names (names_below trees table place) ≡ c.codes.names =
-        ap (fold with_name names) (below-begun trees table place 0 (omega (arith, c.if-place-len.false, c.len.ensures.len)))
-        ∙ ap (λ (n : ℕ). fold with_name names (names_begun trees table place n)) end
-        ∙ sym c.codes.invariant.added
+    ap (fold with_name names) (below-begun trees table place 0 (omega (arith, c.if-place-len.false, c.len.ensures.len)))
+    ∙ ap (λ (n : ℕ). fold with_name names (names_begun trees table place n)) end
+    ∙ sym c.codes.invariant.added
     in
     ap (capped c.args.t) all ∙ capped-few c.args.t c.codes.names c.codes.invariant.room

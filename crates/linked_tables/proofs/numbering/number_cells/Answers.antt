@@ -23,8 +23,8 @@ returns-in_err-name_below-clause-fault c =
     let none : variables_fault (length trees) t table ≡ None = ap (variables_fault (length trees) t) (sym c.as_slice.ensures) ∙ c.in_ok-check_variables.ensures.none in
     let p = err_from_is_err_and c.from_residual-in_err-name_below.result c.from_residual-in_err-name_below.ensures.1 in
     rw (p.1, p.2)
-      (cells-stop trees tables t table (fault_of c.in_err-name_below.field-0.0) at c.tables.invariant.rest none
-        (subst (λ (names : List Name). Fails (fault_of c.in_err-name_below.field-0.0) (capped t (fold with_name names (named_by trees table)))) c.tables.invariant.named c.in_err-name_below.ensures.fault))
+    (cells-stop trees tables t table (fault_of c.in_err-name_below.field-0.0) at c.tables.invariant.rest none
+    (subst (λ (names : List Name). Fails (fault_of c.in_err-name_below.field-0.0) (capped t (fold with_name names (named_by trees table)))) c.tables.invariant.named c.in_err-name_below.ensures.fault))
 
 pub tables-preserved : goal.tables-preserved
 tables-preserved c =
@@ -43,9 +43,9 @@ tables-preserved c =
       named = named;
       room = subst (λ (names : List Name). length names ≤ most_cells) made.0 made.1;
       begun = c.in_ok-push-2.ensures.items
-        ∙ ap (λ (starts : List ℕ). starts ++ c.len.result ∷ []) c.tables.invariant.begun
-        ∙ ap (λ (n : ℕ). starts_of trees tables (t + 1) ++ n ∷ []) (c.len.ensures ∙ ap (λ (names : List Name). length names) named)
-        ∙ sym (starts-more trees tables (t + 1));
+          ∙ ap (λ (starts : List ℕ). starts ++ c.len.result ∷ []) c.tables.invariant.begun
+          ∙ ap (λ (n : ℕ). starts_of trees tables (t + 1) ++ n ∷ []) (c.len.ensures ∙ ap (λ (names : List Name). length names) named)
+          ∙ sym (starts-more trees tables (t + 1));
     }
 
 pub returns-clause-numbered : goal.returns-clause-numbered

@@ -1,4 +1,4 @@
-use Rattle.std.proofs.Common.{sym, ◌∙◌, arith}
+use Rattle.std.proofs.Common.{sym, ◌∙◌}
 use Rattle.linked_tables.proofs.PlaceSteps.{place-short, place-end}
 use Rattle.linked_tables.proofs.places.is_place.Goals as goal
 

@@ -15,5 +15,5 @@ invariant-upward l =
     let codes = l.row.codes in
     (done : List (List ℕ))
     × (Gave l.fn.book l.book l.t l.first l.row done
-      × (tuples_from trees codes l.place (drop (length l.place) table)
-        ≡ done ++ going_on l.place (places_over (lines_above trees codes (drop (length l.place + 1) table))) (met_in (l.end - l.counter) (slice_index_or trees l.variable []) l.met)))
+    × (tuples_from trees codes l.place (drop (length l.place) table)
+    ≡ done ++ going_on l.place (places_over (lines_above trees codes (drop (length l.place + 1) table))) (met_in (l.end - l.counter) (slice_index_or trees l.variable []) l.met)))

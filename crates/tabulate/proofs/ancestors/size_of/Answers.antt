@@ -1,8 +1,6 @@
-use Rattle.std.proofs.Common.{ap, sym, [], length, List, ℕ}
+use Rattle.std.proofs.Common.{ap, sym, [], length}
 use Rattle.sdc_base.specs.Trees.{Tree}
 use Rattle.tabulate.proofs.ListReads.{read-none}
-use Rattle.tabulate.proofs.PlaceSteps.{gave-one}
-use Rattle.tabulate.proofs.MarkSteps.{holds-more}
 use Rattle.tabulate.proofs.ancestors.size_of.Goals as goal
 
 pub returns-in-None : goal.returns-in-None

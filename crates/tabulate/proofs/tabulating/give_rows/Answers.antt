@@ -1,4 +1,4 @@
-use Rattle.std.proofs.Common.{◌≡◌, ◌++◌, ◌∷◌, [], List, length, take, slice_get, Some, refl, sym, subst}
+use Rattle.std.proofs.Common.{◌≡◌, List, length, take, slice_get, Some, refl, sym, subst}
 use Rattle.std.proofs.lemmas.Option.{slice_get_read}
 use Rattle.sdc_base.specs.declared.rows.Row.{Row}
 use Rattle.hierarchy.proofs.FlatSteps.{take-at}
@@ -13,4 +13,4 @@ rows-preserved c =
     let row = c.row-item.result in
     let at : slice_get rows i ≡ Some row = slice_get_read rows (length rows) i row refl c.rows-test.true c.row-item.is in
     subst (λ (some : List Row). GaveAll c.args.book.now c.give_below.new.book c.args.t c.args.first some) (sym (take-at rows i row at))
-      (gave-row c.args.book.now c.rows.book c.give_below.new.book c.args.t c.args.first (take i rows) row c.rows.invariant c.give_below.ensures)
+    (gave-row c.args.book.now c.rows.book c.give_below.new.book c.args.t c.args.first (take i rows) row c.rows.invariant c.give_below.ensures)

@@ -1,5 +1,4 @@
 use Rattle.tabulate.proofs.RowSteps.{started-next}
-use Rattle.tabulate.proofs.Whole.{given-next}
 use Rattle.tabulate.proofs.tabulating.start.Goals as goal
 
 pub cells-preserved : goal.cells-preserved

@@ -1,6 +1,5 @@
-use Rattle.std.proofs.Common.{◌≡◌, ◌<◌, ◌∙◌, ap, sym, length, List, ℕ, All, arith}
+use Rattle.std.proofs.Common.{◌≡◌, ◌<◌, ◌∙◌, ap, length, ℕ, All, arith}
 use Rattle.linked_tables.specs.Held.{Held}
-use Rattle.sdc_base.specs.declared.rows.Row.{Row}
 use Rattle.tabulate.proofs.Finish.{all-given, read-within, started-given, started-kept, table-given}
 use Rattle.tabulate.proofs.Whole.{IsOf}
 use Rattle.tabulate.proofs.tabulating.tabulate.Goals as goal

@@ -1,6 +1,6 @@
-use Rattle.std.proofs.Common.{◌≡◌, Some, None, Option, ℕ, List, sym, ap, ◌∙◌, is_some, if◌then◌else◌, length}
+use Rattle.std.proofs.Common.{Some, None, Option, ℕ, List, sym, ap, ◌∙◌, is_some, if◌then◌else◌}
 use Rattle.std.specs.Option.{option_and_then}
-use Rattle.linked_tables.specs.Shared.{cell_at, is_in, number_of, named}
+use Rattle.linked_tables.specs.Shared.{is_in, number_of, named}
 use Rattle.linked_tables.proofs.Finding.{cell-found, cell-named}
 use Rattle.linked_tables.proofs.book.Book.id.Goals as goal
 

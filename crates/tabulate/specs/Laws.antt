@@ -1,0 +1,34 @@
+-- Tables add up: a total is the sum of its parts (handbook, magnitude tables).
+use Rattle.std.specs.Prelude.{◌≡◌, ◌≢◌, ℕ, ◌<◌, ◌==◌, Bool, false, List, [], ◌∷◌, length, filter, slice_index, slice_index_or, slice_set, All, ℤ, pos, ◌+ℤ◌}
+use Rattle.std.specs.List.{range_with_len}
+use Rattle.std.specs.Option.{option_map_or}
+use Rattle.sdc_base.specs.Trees.{Tree, IsCodeTree, parent_at}
+use Rattle.sdc_base.specs.Records.{Name}
+use Rattle.sdc_base.specs.Sums.{truth}
+use Rattle.sdc_base.specs.declared.rows.Row.{Row}
+
+-- the place's parent is this one
+abbrev pub is_child : Tree → ℕ → ℕ → Bool
+is_child tree above place = option_map_or (λ parent. parent == above) (parent_at tree place) false
+
+-- the children of a place
+abbrev pub children : Tree → ℕ → List ℕ
+children tree above = filter (is_child tree above) (range_with_len 0 (length tree))
+
+-- numbers for places, added up
+abbrev pub sum_over : (ℕ → ℤ) → List ℕ → ℤ
+sum_over numbers [] = pos 0
+sum_over numbers (place ∷ places) = numbers place +ℤ sum_over numbers places
+
+-- a record of these trees: a code for each
+pub record IsCoded (trees : List Tree) (row : Row) : Type 0 where
+  pub coded : length row.codes ≡ length trees
+  pub inside : (variable : ℕ) → variable < length trees → slice_index row.codes variable < length (slice_index_or trees variable [])
+
+-- Where no record's code for a variable has children, the truth of a cell whose code for it has some is the sum of
+-- the truths of the cells that have one of these children in its place.
+abbrev pub TablesAddUp : Type 0
+TablesAddUp =
+    (trees : List Tree) (rows : List Row) (name : Name) (variable : ℕ) → All IsCodeTree trees → All (IsCoded trees) rows → length name ≡ length trees → variable < length trees
+    → All (λ row. children (slice_index_or trees variable []) (slice_index row.codes variable) ≡ []) rows → children (slice_index_or trees variable []) (slice_index name variable) ≢ []
+    → truth trees name rows ≡ sum_over (λ child. truth trees (slice_set name variable child) rows) (children (slice_index_or trees variable []) (slice_index name variable))
