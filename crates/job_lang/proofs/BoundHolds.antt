@@ -1,25 +1,21 @@
 -- What holds of a job that is bound.
-use Rattle.std.proofs.Common.{◌≡◌, ℕ, zero, suc, ◌+◌, ◌-◌, ◌^◌, ◌<◌, ◌≤◌, Bool, true, false, cond, List, [], ◌∷◌, ◌++◌, length, map, Option, None, Some, Result, Ok, Err, refl, ap, sym, ◌∙◌, subst, arith}
-use Rattle.std.proofs.lemmas.List.Folds.{list_any-append}
+use Rattle.std.proofs.Common.{◌≡◌, ℕ, zero, suc, ◌+◌, ◌<◌, Bool, true, false, cond, List, [], ◌∷◌, length, map, Option, None, Some, refl, ap, sym, ◌∙◌, subst, arith}
 use Rattle.std.proofs.lemmas.Bool.Decides.{Decides-eqb}
 use Rattle.std.proofs.lemmas.Slice.Eq.{bytes_eq-Decides}
 use Rattle.std.specs.Cmp.Lexicographic.{nat_list_eq_equiv}
-use Rattle.std.specs.Prelude.{◌==◌, ◌||◌, ◌&&◌, not, nat_lt, slice_get, option_map, unwrap_or, slice_index_or, fold}
-use Rattle.std.specs.List.{All, AllByRecursion, IsDistinct, list_any}
+use Rattle.std.specs.Prelude.{◌==◌, ◌||◌, ◌&&◌, not, nat_lt, slice_get, unwrap_or, fold}
+use Rattle.std.specs.List.{AllByRecursion, IsDistinct, list_any}
 use Rattle.std.specs.Str.{bytes_eq}
 use Rattle.sdc_base.specs.Places.{first_place}
-use Rattle.sdc_base.specs.declared.rule.Rules.{Rules}
 use Rattle.rda_meta.specs.declared.meta.Variable.{Variable}
 use Rattle.job_lang.specs.declared.faults.JobWhy.{JobWhy}
 use Rattle.job_lang.specs.declared.job.Job.{Job}
 use Rattle.job_lang.specs.declared.job.OutputLine.{OutputLine}
 use Rattle.job_lang.specs.declared.job.TableLine.{TableLine}
-use Rattle.job_lang.specs.declared.bound.Bound.{Bound}
-use Rattle.job_lang.specs.Statements.{names_in}
-use Rattle.job_lang.specs.Binding.{is_named, is_absent, is_numeric_named, is_numeric, table_fault, weight_fault, is_spanning, is_file_of, file_fault, earlier, tables_fault, outputs_fault, earliest_fault, places_from, spanning_of, variable_place, spanning_place, table_places, response_of, places_of, weight_decimals, response_decimals}
+use Rattle.job_lang.specs.Binding.{is_named, is_absent, is_numeric_named, is_numeric, table_fault, weight_fault, is_spanning, file_fault, earlier, tables_fault, outputs_fault, earliest_fault, places_from, spanning_of, variable_place, spanning_place, table_places, response_of, places_of}
 use Rattle.job_lang.specs.JobLimits.{HasNoTwice, AreTables}
 use Rattle.job_lang.specs.BoundLimits.{AreVariables, AreAscending, IsNumericAt, IsBound}
-use Rattle.job_lang.proofs.PlacesFit.{or_left, or_right, turned, spanning_named, spanning_few, response_few, weight_few}
+use Rattle.job_lang.proofs.PlacesFit.{or_left, or_right, turned, spanning_few, response_few, weight_few}
 
 -- ---- no fault at all
 
@@ -214,7 +210,7 @@ spot tables variables q all spans =
     let spanned : is_spanning tables found.1.name ≡ true = subst (λ (n : List ℕ). is_spanning tables n ≡ true) (sym name) spans in
     let same : 0 + found.0 ≡ variable_place variables q = omega (arith, place) in
     let there : list_any (λ j. j == variable_place variables q) (spanning_of tables variables) ≡ true =
-        subst (λ (n : ℕ). list_any (λ j. j == n) (spanning_of tables variables) ≡ true) same (placed_in (λ v. is_spanning tables v.name) 0 variables found.0 found.1 found.2.at spanned) in
+    subst (λ (n : ℕ). list_any (λ j. j == n) (spanning_of tables variables) ≡ true) same (placed_in (λ v. is_spanning tables v.name) 0 variables found.0 found.1 found.2.at spanned) in
     let among = first_found (λ j. j == variable_place variables q) (spanning_of tables variables) there in
     let value : among.1 ≡ variable_place variables q = (Decides-eqb among.1 (variable_place variables q)).0 among.2.passes in
     let stands : spanning_place (spanning_of tables variables) variables q ≡ among.0 = ap (λ (o : Option ℕ). unwrap_or o 0) among.2.first in
@@ -304,7 +300,7 @@ unfolding IsDistinct
 numeric_first [] r distinct h = absurd cc
 numeric_first (w ∷ variables) r distinct h =
     let later = λ (g : is_numeric variables r ≡ true).
-        let rest = numeric_first variables r distinct.1 g in rest in
+    let rest = numeric_first variables r distinct.1 g in rest in
     elim (bytes_eq w.name r) as (λ b. bytes_eq w.name r ≡ b → ((b && w.numeric) || is_numeric variables r) ≡ true → IsResponse (w ∷ variables) r) [
       | true ↦ λ named g.
           let none = no_more w.name r variables distinct.0 named in

@@ -1,5 +1,5 @@
 -- The numbers of rules, methods and work are in their ranges.
-use Rattle.std.proofs.Common.{◌≡◌, ℕ, ◌<◌, ◌≤◌, Bool, true, false, List, [], ◌∷◌, length, Result, Ok, Err, pos, ◌≤ℤ◌, arith}
+use Rattle.std.proofs.Common.{◌≡◌, ℕ, ◌<◌, ◌≤◌, Bool, false, List, [], ◌∷◌, length, pos, ◌≤ℤ◌, arith}
 use Rattle.std.proofs.lemmas.Int.{ints}
 use Rattle.sdc_base.specs.Steps.{or_fault, refuse}
 use Rattle.std.specs.Prelude.{nat_lt, not, ◌&&◌, codes}
@@ -7,16 +7,12 @@ use Rattle.std.specs.Result.{IfOk}
 use Rattle.std.specs.List.{AllByRecursion, count_by}
 use Rattle.std.specs.Str.{str_eq_ignore_ascii_case}
 use Rattle.sdc_base.specs.Tokens.{number_in}
-use Rattle.sdc_base.specs.declared.rule.Rule.TheVariants.{Freq, Nk, Percent}
-use Rattle.sdc_base.specs.declared.method.Method.{Method}
-use Rattle.sdc_base.specs.declared.method.Method.TheVariants.{Gh, Modular, Rnd}
-use Rattle.job_lang.specs.declared.faults.JobWhy.{JobWhy}
 use Rattle.job_lang.specs.declared.faults.JobWhy.TheVariants.{BadValue}
 use Rattle.job_lang.specs.declared.rule_clauses.RuleClause.{RuleClause}
 use Rattle.job_lang.specs.declared.rule_clauses.RuleClause.TheVariants.{Named, Man, Weights}
 use Rattle.job_lang.specs.LineTokens.{behind_mark, run_of, behind_run, number_at, closed, ended}
 use Rattle.job_lang.specs.Pieces.{pieces}
-use Rattle.job_lang.specs.RuleTexts.{one_number, frequency_clause, dominance_clause, percent_behind, percent_clause, man_clause, weights_clause, clause_in, clauses_in, named_in, is_frequency, is_man, is_weights, are_rules, man_of, weighted_of, rules_in}
+use Rattle.job_lang.specs.RuleTexts.{one_number, frequency_clause, dominance_clause, percent_behind, percent_clause, man_clause, weights_clause, clause_in, clauses_in, named_in, is_frequency, is_man, is_weights, are_rules, man_of, rules_in}
 use Rattle.job_lang.specs.Arguments.{work_argument, most_work, passes_method, modular_method, rounding_method, method_argument}
 use Rattle.job_lang.specs.JobLimits.{IsInRange, AreInRange, IsMethod, IsWork}
 use Rattle.job_lang.proofs.Known.{then_known, known, either_known, not_refused, was_some, number_range}
@@ -33,8 +29,8 @@ pub one_known : (low high : ℕ) (text : List ℕ) → IfOk (one_number low high
 unfolding one_number
 one_known low high text =
     then_known (λ n. (low ≤ n) × (n ≤ high)) (behind_mark 40 text) _ (λ open_ h.
-        then_known (λ n. (low ≤ n) × (n ≤ high)) (number_at low high open_) _ (λ number h1.
-            then_known (λ n. (low ≤ n) × (n ≤ high)) (closed number.1) _ (λ end h2. known (IsFrom low high) (number_at low high open_) number (number_known low high open_) h1)))
+    then_known (λ n. (low ≤ n) × (n ≤ high)) (number_at low high open_) _ (λ number h1.
+    then_known (λ n. (low ≤ n) × (n ≤ high)) (closed number.1) _ (λ end h2. known (IsFrom low high) (number_at low high open_) number (number_known low high open_) h1)))
 
 -- the numbers of a rule are in their ranges
 abbrev pub IsClause : RuleClause → Type 0
@@ -46,32 +42,32 @@ frequency_known : (text : List ℕ) → IfOk (frequency_clause text) IsClause
 unfolding frequency_clause
 frequency_known text =
     then_known IsClause (behind_mark 40 text) _ (λ open_ h.
-        then_known IsClause (number_at 1 1000000 open_) _ (λ n h1.
-            then_known IsClause (behind_mark 44 n.1) _ (λ comma h2.
-                then_known IsClause (number_at 0 1000 comma) _ (λ r h3.
-                    then_known IsClause (closed r.1) _ (λ end h4.
-                        let first = known (IsFrom 1 1000000) (number_at 1 1000000 open_) n (number_known 1 1000000 open_) h1 in
-                        let second = known (IsFrom 0 1000) (number_at 0 1000 comma) r (number_known 0 1000 comma) h3 in
-                        (first.0, first.1, second.1))))))
+    then_known IsClause (number_at 1 1000000 open_) _ (λ n h1.
+    then_known IsClause (behind_mark 44 n.1) _ (λ comma h2.
+    then_known IsClause (number_at 0 1000 comma) _ (λ r h3.
+    then_known IsClause (closed r.1) _ (λ end h4.
+    let first = known (IsFrom 1 1000000) (number_at 1 1000000 open_) n (number_known 1 1000000 open_) h1 in
+    let second = known (IsFrom 0 1000) (number_at 0 1000 comma) r (number_known 0 1000 comma) h3 in
+    (first.0, first.1, second.1))))))
 
 dominance_known : (text : List ℕ) → IfOk (dominance_clause text) IsClause
 unfolding dominance_clause
 dominance_known text =
     then_known IsClause (behind_mark 40 text) _ (λ open_ h.
-        then_known IsClause (number_at 1 10 open_) _ (λ n h1.
-            then_known IsClause (behind_mark 44 n.1) _ (λ comma h2.
-                then_known IsClause (number_at 1 100 comma) _ (λ k h3.
-                    then_known IsClause (closed k.1) _ (λ end h4.
-                        let first = known (IsFrom 1 10) (number_at 1 10 open_) n (number_known 1 10 open_) h1 in
-                        let second = known (IsFrom 1 100) (number_at 1 100 comma) k (number_known 1 100 comma) h3 in
-                        (first.0, first.1, second.0, second.1))))))
+    then_known IsClause (number_at 1 10 open_) _ (λ n h1.
+    then_known IsClause (behind_mark 44 n.1) _ (λ comma h2.
+    then_known IsClause (number_at 1 100 comma) _ (λ k h3.
+    then_known IsClause (closed k.1) _ (λ end h4.
+    let first = known (IsFrom 1 10) (number_at 1 10 open_) n (number_known 1 10 open_) h1 in
+    let second = known (IsFrom 1 100) (number_at 1 100 comma) k (number_known 1 100 comma) h3 in
+    (first.0, first.1, second.0, second.1))))))
 
 percent_known : (text : List ℕ) → IfOk (percent_clause text) IsClause
 unfolding percent_clause
 percent_known text =
     then_known IsClause (behind_mark 40 text) _ (λ open_ h.
-        then_known IsClause (number_at 1 1000 open_) _ (λ p h1.
-            then_known IsClause (percent_behind p.1) _ (λ end h2. known (IsFrom 1 1000) (number_at 1 1000 open_) p (number_known 1 1000 open_) h1)))
+    then_known IsClause (number_at 1 1000 open_) _ (λ p h1.
+    then_known IsClause (percent_behind p.1) _ (λ end h2. known (IsFrom 1 1000) (number_at 1 1000 open_) p (number_known 1 1000 open_) h1)))
 
 man_known : (text : List ℕ) → IfOk (man_clause text) IsClause
 unfolding man_clause
@@ -95,7 +91,7 @@ unfolding clauses_in
 clauses_known [] = tt
 clauses_known (text ∷ texts) =
     then_known (AllByRecursion IsClause) (clause_in text) _ (λ clause h.
-        then_known (AllByRecursion IsClause) (clauses_in texts) _ (λ clauses h1. (known IsClause (clause_in text) clause (clause_known text) h, known (AllByRecursion IsClause) (clauses_in texts) clauses (clauses_known texts) h1)))
+    then_known (AllByRecursion IsClause) (clauses_in texts) _ (λ clauses h1. (known IsClause (clause_in text) clause (clause_known text) h, known (AllByRecursion IsClause) (clauses_in texts) clauses (clauses_known texts) h1)))
 
 named_known : (clauses : List RuleClause) → AllByRecursion IsClause clauses → AllByRecursion IsInRange (named_in clauses)
 named_known [] all = tt
@@ -116,16 +112,16 @@ pub rules_known : (text : List ℕ) → IfOk (rules_in text) AreInRange
 unfolding rules_in
 rules_known text =
     then_known AreInRange (clauses_in (pieces text)) _ (λ clauses h.
-        then_known AreInRange (refuse BadValue (not (are_rules clauses))) _ (λ fine h1.
-            let all = known (AllByRecursion IsClause) (clauses_in (pieces text)) clauses (clauses_known (pieces text)) h in
-            let few = few_named (length (named_in clauses)) (nat_lt (count_by is_frequency clauses) 2) (nat_lt (count_by is_man clauses) 2) (nat_lt (count_by is_weights clauses) 2) (not_refused BadValue (not (are_rules clauses)) fine h1) in
-            record { some = few.0; few = few.1; ranges = named_known clauses all; man = man_within clauses all }))
+    then_known AreInRange (refuse BadValue (not (are_rules clauses))) _ (λ fine h1.
+    let all = known (AllByRecursion IsClause) (clauses_in (pieces text)) clauses (clauses_known (pieces text)) h in
+    let few = few_named (length (named_in clauses)) (nat_lt (count_by is_frequency clauses) 2) (nat_lt (count_by is_man clauses) 2) (nat_lt (count_by is_weights clauses) 2) (not_refused BadValue (not (are_rules clauses)) fine h1) in
+    record { some = few.0; few = few.1; ranges = named_known clauses all; man = man_within clauses all }))
 
 pub work_known : (text : List ℕ) → IfOk (work_argument text) IsWork
 unfolding work_argument
 work_known text =
     then_known IsWork (number_at 1 most_work text) _ (λ number h.
-        then_known IsWork (ended number.1) _ (λ end h1. known (IsFrom 1 most_work) (number_at 1 most_work text) number (number_known 1 most_work text) h))
+    then_known IsWork (ended number.1) _ (λ end h1. known (IsFrom 1 most_work) (number_at 1 most_work text) number (number_known 1 most_work text) h))
 
 passes_known : (text : List ℕ) → IfOk (passes_method text) IsMethod
 unfolding passes_method

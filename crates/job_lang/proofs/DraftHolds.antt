@@ -1,5 +1,5 @@
 -- What holds of all that lines say: the limits, kept line by line.
-use Rattle.std.proofs.Common.{◌≡◌, ℕ, zero, suc, ◌+◌, ◌<◌, ◌≤◌, Bool, true, false, cond, List, [], ◌∷◌, ◌++◌, length, Option, None, Some, Result, Ok, Err, refl, ap, sym, ◌∙◌, subst, arith, length-append, append_assoc}
+use Rattle.std.proofs.Common.{◌≡◌, ℕ, zero, suc, ◌+◌, ◌<◌, ◌≤◌, Bool, true, false, List, [], ◌∷◌, ◌++◌, length, Result, Ok, Err, refl, ap, sym, ◌∙◌, subst, arith, length-append}
 use Rattle.std.proofs.lemmas.List.{append-nil}
 use Rattle.std.proofs.lemmas.Grind.{flat_map-append}
 use Rattle.std.proofs.lemmas.Map.Made.{IsDistinct-from_count, distinct_count-le}
@@ -19,7 +19,6 @@ use Rattle.job_lang.specs.declared.statement.Keyword.{Keyword}
 use Rattle.job_lang.specs.declared.statement.Keyword.TheVariants.{OpenMicrodata, OpenMetadata, SpecifyTable, SafetyRule, ReadMicrodata, Apriori, Cost, Steps, Nodes, Suppress, WriteTable, Certificate}
 use Rattle.job_lang.specs.declared.statement.Said.{Said}
 use Rattle.job_lang.specs.declared.statement.Said.TheVariants as said
-use Rattle.job_lang.specs.declared.statement.Statement.{Statement}
 use Rattle.job_lang.specs.declared.statement.Draft.{Draft}
 use Rattle.job_lang.specs.Faults.{at_line}
 use Rattle.job_lang.specs.LineTokens.{is_next, behind_mark, quoted_at, digits_at, ended, closed}
@@ -54,8 +53,8 @@ names_known zero text = omega arith
 names_known (suc most) text =
     either_known (AreFew (suc most)) (is_next 34 text) (quoted_at text >>= λ name. names_up_to most name.1 >>= λ more. Ok (name.0 ∷ more.0, more.1)) (Ok ([], text))
     (then_known (AreFew (suc most)) (quoted_at text) _ (λ name h.
-        then_known (AreFew (suc most)) (names_up_to most name.1) _ (λ more h1.
-            let few = known (AreFew most) (names_up_to most name.1) more (names_known most name.1) h1 in omega (arith, few))))
+    then_known (AreFew (suc most)) (names_up_to most name.1) _ (λ more h1.
+    let few = known (AreFew most) (names_up_to most name.1) more (names_known most name.1) h1 in omega (arith, few))))
     (omega arith)
 
 some_there : (n : ℕ) → (n == 0) ≡ false → 0 < n
@@ -68,35 +67,35 @@ table_known : (text : List ℕ) → IfOk (table_argument text) IsSaid
 unfolding table_argument
 table_known text =
     then_known IsSaid (names_up_to 4 text) _ (λ variables h.
-        then_known IsSaid (refuse BadValue (length variables.0 == 0)) _ (λ some h1.
-            then_known IsSaid (refuse BadValue (is_twice variables.0)) _ (λ once h2.
-                then_known IsSaid (behind_mark 124 variables.1) _ (λ bar h3.
-                    then_known IsSaid (quoted_at bar) _ (λ response h4.
-                        then_known IsSaid (refuse BadValue (not (are_free_parts (behind_again response.0 response.1 (quoted_part response.1))))) _ (λ free h5. (
-                          some_there (length variables.0) (not_refused BadValue (length variables.0 == 0) some h1),
-                          known (AreFew 4) (names_up_to 4 text) variables (names_known 4 text) h,
-                          IsDistinct-from_count nat_list_eq_equiv variables.0 (no_twice (distinct_count bytes_eq variables.0) (length variables.0) (not_refused BadValue (is_twice variables.0) once h2) (distinct_count-le bytes_eq variables.0)),
-                        )))))))
+    then_known IsSaid (refuse BadValue (length variables.0 == 0)) _ (λ some h1.
+    then_known IsSaid (refuse BadValue (is_twice variables.0)) _ (λ once h2.
+    then_known IsSaid (behind_mark 124 variables.1) _ (λ bar h3.
+    then_known IsSaid (quoted_at bar) _ (λ response h4.
+    then_known IsSaid (refuse BadValue (not (are_free_parts (behind_again response.0 response.1 (quoted_part response.1))))) _ (λ free h5. (
+      some_there (length variables.0) (not_refused BadValue (length variables.0 == 0) some h1),
+      known (AreFew 4) (names_up_to 4 text) variables (names_known 4 text) h,
+      IsDistinct-from_count nat_list_eq_equiv variables.0 (no_twice (distinct_count bytes_eq variables.0) (length variables.0) (not_refused BadValue (is_twice variables.0) once h2) (distinct_count-le bytes_eq variables.0)),
+    )))))))
 
 prior_known : (text : List ℕ) → IfOk (prior_argument text) IsSaid
 unfolding prior_argument
 prior_known text =
     then_known IsSaid (file_at text) _ (λ file h.
-        then_known IsSaid (behind_mark 44 file.1) _ (λ comma h1.
-            then_known IsSaid (digits_at comma) _ (λ number h2.
-                then_known IsSaid (behind_mark 44 number.1) _ (λ again h3.
-                    then_known IsSaid (quoted_at again) _ (λ word h4.
-                        then_known IsSaid (or_fault BadValue (separator_of word.0)) _ (λ separator h5.
-                            then_known IsSaid (ended word.1) _ (λ end h6. tt)))))))
+    then_known IsSaid (behind_mark 44 file.1) _ (λ comma h1.
+    then_known IsSaid (digits_at comma) _ (λ number h2.
+    then_known IsSaid (behind_mark 44 number.1) _ (λ again h3.
+    then_known IsSaid (quoted_at again) _ (λ word h4.
+    then_known IsSaid (or_fault BadValue (separator_of word.0)) _ (λ separator h5.
+    then_known IsSaid (ended word.1) _ (λ end h6. tt)))))))
 
 output_known : (text : List ℕ) → IfOk (output_argument text) IsSaid
 unfolding output_argument
 output_known text =
     then_known IsSaid (behind_mark 40 text) _ (λ open_ h.
-        then_known IsSaid (digits_at open_) _ (λ number h1.
-            then_known IsSaid (behind_mark 44 number.1) _ (λ comma h2.
-                then_known IsSaid (file_at comma) _ (λ file h3.
-                    then_known IsSaid (closed file.1) _ (λ end h4. tt)))))
+    then_known IsSaid (digits_at open_) _ (λ number h1.
+    then_known IsSaid (behind_mark 44 number.1) _ (λ comma h2.
+    then_known IsSaid (file_at comma) _ (λ file h3.
+    then_known IsSaid (closed file.1) _ (λ end h4. tt)))))
 
 pub argument_known : (keyword : Keyword) (text : List ℕ) → IfOk (argument_of keyword text) IsSaid
 unfolding argument_of
@@ -146,30 +145,30 @@ table_kept : (line : ℕ) (draft : Draft) (variables : List (List ℕ)) (respons
 unfolding with_table
 table_kept line draft variables response is fits =
     then_known IsDraft (refuse TooMany (is_past_room variables draft.tables)) _ (λ space h.
-        then_known IsDraft (refuse OtherResponse (is_other_response response draft.tables)) _ (λ same h1.
-            let table : TableLine = record { line = line; variables = variables; response = response } in
-            let left = room (length draft.tables) (distinct_count bytes_eq (names_in draft.tables ++ variables)) (not_refused TooMany (is_past_room variables draft.tables) space h) in
-            record {
-              few = omega (arith, left.0, length-append draft.tables (table ∷ []));
-              variables = all_and_last HasVariables draft.tables table is.variables (fits.0, fits.1);
-              once = all_and_last HasNoTwice draft.tables table is.once fits.2;
-              response = one_response draft.tables table (not_refused OtherResponse (is_other_response response draft.tables) same h1) is.response;
-              names = subst (λ (names : List (List ℕ)). distinct_count bytes_eq names ≤ 8) (sym (names_more draft.tables table)) left.1;
-              said = is.said;
-            }))
+    then_known IsDraft (refuse OtherResponse (is_other_response response draft.tables)) _ (λ same h1.
+    let table : TableLine = record { line = line; variables = variables; response = response } in
+    let left = room (length draft.tables) (distinct_count bytes_eq (names_in draft.tables ++ variables)) (not_refused TooMany (is_past_room variables draft.tables) space h) in
+    record {
+      few = omega (arith, left.0, length-append draft.tables (table ∷ []));
+      variables = all_and_last HasVariables draft.tables table is.variables (fits.0, fits.1);
+      once = all_and_last HasNoTwice draft.tables table is.once fits.2;
+      response = one_response draft.tables table (not_refused OtherResponse (is_other_response response draft.tables) same h1) is.response;
+      names = subst (λ (names : List (List ℕ)). distinct_count bytes_eq names ≤ 8) (sym (names_more draft.tables table)) left.1;
+      said = is.said;
+    }))
 
 statement_kept : (line : ℕ) (draft : Draft) (one : Said) → IsDraft draft → IsSaid one → IfOk (with_statement line draft one) IsDraft
 unfolding with_statement
 statement_kept line draft one is fits =
     then_known IsDraft (refuse Twice (is_again one draft.said)) _ (λ once h.
-        record {
-          few = is.few;
-          variables = is.variables;
-          once = is.once;
-          response = is.response;
-          names = is.names;
-          said = all_and_last (λ s. IsSaid s.said) draft.said (record { line = line; said = one }) is.said fits;
-        })
+    record {
+      few = is.few;
+      variables = is.variables;
+      once = is.once;
+      response = is.response;
+      names = is.names;
+      said = all_and_last (λ s. IsSaid s.said) draft.said (record { line = line; said = one }) is.said fits;
+    })
 
 said_kept : (line : ℕ) (draft : Draft) (one : Said) → IsDraft draft → IsSaid one → IfOk (with_said line draft one) IsDraft
 unfolding with_said
@@ -180,8 +179,8 @@ line_kept : (line : ℕ) (draft : Draft) (text : List ℕ) → IsDraft draft →
 unfolding command_line
 line_kept line draft text is =
     then_known IsDraft (word_in text) _ (λ word h.
-        then_known IsDraft (or_fault UnknownCommand (keyword_of word.0)) _ (λ keyword h1.
-            then_known IsDraft (argument_of keyword word.1) _ (λ one h2. said_kept line draft one is (known IsSaid (argument_of keyword word.1) one (argument_known keyword word.1) h2))))
+    then_known IsDraft (or_fault UnknownCommand (keyword_of word.0)) _ (λ keyword h1.
+    then_known IsDraft (argument_of keyword word.1) _ (λ one h2. said_kept line draft one is (known IsSaid (argument_of keyword word.1) one (argument_known keyword word.1) h2))))
 
 text_kept : (line : ℕ) (draft : Draft) (text : List ℕ) → IsDraft draft → IfOk (text_says line draft text) IsDraft
 unfolding text_says
@@ -196,8 +195,8 @@ unfolding lines_say
 lines_kept before draft [] is = is
 lines_kept before draft (text ∷ texts) is =
     then_known IsDraft (at_line (before + 1) (text_says (before + 1) draft (trim text))) _ (λ next h.
-        lines_kept (before + 1) next texts
-        (known IsDraft (at_line (before + 1) (text_says (before + 1) draft (trim text))) next (at_known IsDraft (before + 1) (text_says (before + 1) draft (trim text)) (text_kept (before + 1) draft (trim text) is)) h))
+    lines_kept (before + 1) next texts
+    (known IsDraft (at_line (before + 1) (text_says (before + 1) draft (trim text))) next (at_known IsDraft (before + 1) (text_says (before + 1) draft (trim text)) (text_kept (before + 1) draft (trim text) is)) h))
 
 -- all that lines say is within the limits
 pub lines_known : (texts : List (List ℕ)) → IfOk (lines_say 0 nothing texts) IsDraft

@@ -1,10 +1,10 @@
 -- The first fault.
-use Rattle.std.proofs.Common.{◌≡◌, ℕ, zero, suc, ◌+◌, ◌⊎◌, inl, inr, Bool, true, false, cond, List, [], ◌∷◌, length, take, Option, None, Some, Result, Ok, Err, refl, ap, sym, ◌∙◌, subst, arith}
+use Rattle.std.proofs.Common.{◌≡◌, ℕ, zero, suc, ◌+◌, ◌⊎◌, inl, inr, Bool, true, false, cond, List, [], ◌∷◌, length, take, Option, None, Some, Result, Ok, Err, refl, ap, sym, ◌∙◌, arith}
 use Rattle.std.specs.Prelude.{slice_get, find, is_none, ◌==◌, ◌||◌}
 use Rattle.std.specs.List.{list_any}
 use Rattle.sdc_base.specs.Blanks.{trim}
 use Rattle.sdc_base.specs.Lines.{lines}
-use Rattle.sdc_base.specs.Steps.{◌>>=◌, or_fault, refuse}
+use Rattle.sdc_base.specs.Steps.{◌>>=◌, refuse}
 use Rattle.sdc_base.proofs.StepLemmas.{bind_err, bind_ok}
 use Rattle.job_lang.specs.declared.faults.JobWhy.{JobWhy}
 use Rattle.job_lang.specs.declared.faults.JobWhy.TheVariants.{NoSuchTable, SameName, Missing}
@@ -19,7 +19,7 @@ use Rattle.job_lang.specs.Statements.{text_says, lines_say, nothing}
 use Rattle.job_lang.specs.ClosingLooks.{is_astray, no_stray, is_meeting, no_same_name, said_by, file_line, rules_line, method_of, output_said, needed, output_of_table, outputs_from}
 use Rattle.job_lang.specs.Jobs.{job_made, closed_job, job_of}
 use Rattle.job_lang.specs.Laws.{IsLineFault, lacks_output, lacks, must_have, IsFirstStray, IsFirstMeeting, IsFirstLack}
-use Rattle.job_lang.proofs.Known.{was_some, not_refused}
+use Rattle.job_lang.proofs.Known.{not_refused}
 
 -- ---- lines
 
@@ -176,16 +176,20 @@ in_order bytes line why h =
     elim (bind_err (lines_say 0 nothing (lines bytes)) _ (line, why) h) [
       | inl failed ↦ inl (let f = line_fault 0 nothing (lines bytes) line why failed in (f.0, f.1, f.2, omega (arith, f.3), f.4, f.5, f.6))
       | inr (draft, said, h) ↦
-          inr (draft, said, elim (bind_err (no_stray (length draft.tables) draft.said) _ (line, why) h) as (λ _. IsFirstStray draft line why ⊎ IsFirstMeeting draft line why ⊎ IsFirstLack draft line why) [
-            | inl failed ↦ inl (stray_fault (length draft.tables) draft.said line why failed)
-            | inr (placed, is_placed, h) ↦
-                let a = no_strays (length draft.tables) draft.said placed is_placed in
-                elim (bind_err (no_same_name draft.said draft.said) _ (line, why) h) as (λ _. IsFirstStray draft line why ⊎ IsFirstMeeting draft line why ⊎ IsFirstLack draft line why) [
-                  | inl failed ↦ let m = meeting_fault draft.said draft.said line why failed in inr (inl (m.0, a, m.1, m.2, m.3))
-                  | inr (apart, is_apart, h) ↦
-                      let b = no_meetings draft.said draft.said apart is_apart in
-                      let l = first_lack draft line why h in
-                      inr (inr (l.0, a, b, l.1, l.2, l.3))
-                ]
-          ])
+          inr (
+            draft,
+            said,
+            elim (bind_err (no_stray (length draft.tables) draft.said) _ (line, why) h) as (λ _. IsFirstStray draft line why ⊎ IsFirstMeeting draft line why ⊎ IsFirstLack draft line why) [
+              | inl failed ↦ inl (stray_fault (length draft.tables) draft.said line why failed)
+              | inr (placed, is_placed, h) ↦
+                  let a = no_strays (length draft.tables) draft.said placed is_placed in
+                  elim (bind_err (no_same_name draft.said draft.said) _ (line, why) h) as (λ _. IsFirstStray draft line why ⊎ IsFirstMeeting draft line why ⊎ IsFirstLack draft line why) [
+                    | inl failed ↦ let m = meeting_fault draft.said draft.said line why failed in inr (inl (m.0, a, m.1, m.2, m.3))
+                    | inr (apart, is_apart, h) ↦
+                        let b = no_meetings draft.said draft.said apart is_apart in
+                        let l = first_lack draft line why h in
+                        inr (inr (l.0, a, b, l.1, l.2, l.3))
+                  ]
+            ],
+          )
     ]

@@ -1,18 +1,15 @@
 -- What holds of a job that is read.
-use Rattle.std.proofs.Common.{◌≡◌, ℕ, zero, suc, ◌+◌, ◌-◌, ◌<◌, ◌≤◌, Bool, true, false, cond, List, [], ◌∷◌, ◌++◌, length, Option, None, Some, Result, Ok, Err, refl, ap, sym, ◌∙◌, subst, arith}
-use Rattle.std.specs.Prelude.{◌==◌, nat_le, ◌&&◌, find, is_none, unwrap_or}
+use Rattle.std.proofs.Common.{◌≡◌, ℕ, zero, suc, ◌+◌, ◌<◌, ◌≤◌, Bool, true, false, cond, List, [], ◌∷◌, ◌++◌, length, Option, None, Some, Ok, Err, refl, ap, subst, arith}
+use Rattle.std.specs.Prelude.{◌==◌, nat_le, ◌&&◌, find, is_none}
 use Rattle.std.specs.Result.{IfOk}
 use Rattle.std.specs.List.{AllByRecursion}
 use Rattle.sdc_base.specs.Lines.{lines}
-use Rattle.sdc_base.specs.Steps.{◌>>=◌, or_fault, refuse}
-use Rattle.sdc_base.specs.Tokens.{is_number, number_in}
+use Rattle.sdc_base.specs.Steps.{refuse}
+use Rattle.sdc_base.specs.Tokens.{is_number}
 use Rattle.std.specs.Str.Parse.{digits_value}
 use Rattle.sdc_base.specs.declared.method.Method.{Method}
-use Rattle.job_lang.specs.declared.faults.JobWhy.{JobWhy}
 use Rattle.job_lang.specs.declared.faults.JobWhy.TheVariants.{Missing, NoSuchTable}
 use Rattle.job_lang.specs.declared.faults.Command.TheVariants as command
-use Rattle.job_lang.specs.declared.job.Job.{Job}
-use Rattle.job_lang.specs.declared.job.OutputLine.{OutputLine}
 use Rattle.job_lang.specs.declared.job.PriorLine.{PriorLine}
 use Rattle.job_lang.specs.declared.looked_up.RulesLine.{RulesLine}
 use Rattle.job_lang.specs.declared.statement.Keyword.{Keyword}
@@ -24,16 +21,16 @@ use Rattle.job_lang.specs.declared.statement.Draft.{Draft}
 use Rattle.job_lang.specs.Statements.{is_by, lines_say, nothing}
 use Rattle.job_lang.specs.ClosingLooks.{is_no_table, is_astray, no_stray, no_same_name, said_by, file_line, rules_from, rules_line, method_from, method_of, work_from, work_of, usual_steps, usual_nodes, table_place, prior_in, priors_in, needed, output_of_table, outputs_from}
 use Rattle.job_lang.specs.Jobs.{job_made, closed_job, job_of}
-use Rattle.job_lang.specs.JobLimits.{AreTables, AreInRange, IsMethod, IsWork, IsJob}
+use Rattle.job_lang.specs.JobLimits.{AreInRange, IsMethod, IsWork, IsJob}
 use Rattle.job_lang.proofs.Known.{then_known, known, not_refused, was_some}
 use Rattle.job_lang.proofs.DraftHolds.{IsSaid, IsDraft, lines_known}
 
 find_known : {A : Type 0} (P : A → Type 0) (test : A → Bool) (xs : List A) → AllByRecursion P xs → (x : A) → find test xs ≡ Some x → P x
 find_known P test [] all x h = absurd cc
 find_known {A} P test (y ∷ xs) all x h = elim (test y) as (λ t. cond t (Some y) (find test xs) ≡ Some x → P x) [
-    | true ↦ λ g. let same : y ≡ x = cc in subst P same all.0
-    | false ↦ λ g. find_known P test xs all.1 x g
-  ] h
+  | true ↦ λ g. let same : y ≡ x = cc in subst P same all.0
+  | false ↦ λ g. find_known P test xs all.1 x g
+] h
 
 -- what holds of a statement, where there is one
 abbrev IfSaid : Option Statement → Type 0
@@ -74,9 +71,9 @@ unfolding outputs_from
 outputs_known zero place all = refl
 outputs_known (suc more) place all =
     then_known (λ outputs. length outputs ≡ suc more) (output_of_table place all) _ (λ output h.
-        then_known (λ outputs. length outputs ≡ suc more) (outputs_from more (place + 1) all) _ (λ outputs h1.
-            let rest = known (λ outputs. length outputs ≡ more) (outputs_from more (place + 1) all) outputs (outputs_known more (place + 1) all) h1 in
-            ap suc rest))
+    then_known (λ outputs. length outputs ≡ suc more) (outputs_from more (place + 1) all) _ (λ outputs h1.
+    let rest = known (λ outputs. length outputs ≡ more) (outputs_from more (place + 1) all) outputs (outputs_known more (place + 1) all) h1 in
+    ap suc rest))
 
 -- ---- a priori files
 
@@ -120,34 +117,34 @@ made_known : (draft : Draft) → IsDraft draft → AllByRecursion (λ (p : Prior
 unfolding job_made
 made_known draft is placed =
     then_known IsJob (needed command.OpenMicrodata (file_line (said_by keyword.OpenMicrodata draft.said))) _ (λ micro h.
-        then_known IsJob (needed command.OpenMetadata (file_line (said_by keyword.OpenMetadata draft.said))) _ (λ meta h1.
-            then_known IsJob (refuse (0, Missing command.SpecifyTable) (length draft.tables == 0)) _ (λ some h2.
-                then_known IsJob (needed command.SafetyRule (rules_line (said_by keyword.SafetyRule draft.said))) _ (λ rules h3.
-                    then_known IsJob (needed command.Suppress (method_of (said_by keyword.Suppress draft.said))) _ (λ method h4.
-                        then_known IsJob (outputs_from (length draft.tables) 0 draft.said) _ (λ outputs h5.
-                            then_known IsJob (needed command.Certificate (file_line (said_by keyword.Certificate draft.said))) _ (λ certificate h6.
-                                record {
-                                  tables = record {
-                                    some = some_tables (length draft.tables) (not_refused (0, Missing command.SpecifyTable) (length draft.tables == 0) some h2);
-                                    response = is.response;
-                                    once = is.once;
-                                    variables = is.names;
-                                  };
-                                  few = is.few;
-                                  variables = is.variables;
-                                  outputs = known (λ outputs. length outputs ≡ length draft.tables) (outputs_from (length draft.tables) 0 draft.said) outputs (outputs_known (length draft.tables) 0 draft.said) h5;
-                                  priors = placed;
-                                  rules = rules_line_known (said_by keyword.SafetyRule draft.said) rules (by_known keyword.SafetyRule draft.said is.said) (was_some (0, Missing command.SafetyRule) (rules_line (said_by keyword.SafetyRule draft.said)) rules h3);
-                                  method = method_of_known (said_by keyword.Suppress draft.said) method (by_known keyword.Suppress draft.said is.said) (was_some (0, Missing command.Suppress) (method_of (said_by keyword.Suppress draft.said)) method h4);
-                                  steps = work_of_known usual_steps (said_by keyword.Steps draft.said) (by_known keyword.Steps draft.said is.said) (omega arith, omega arith);
-                                  nodes = work_of_known usual_nodes (said_by keyword.Nodes draft.said) (by_known keyword.Nodes draft.said is.said) (omega arith, omega arith);
-                                })))))))
+    then_known IsJob (needed command.OpenMetadata (file_line (said_by keyword.OpenMetadata draft.said))) _ (λ meta h1.
+    then_known IsJob (refuse (0, Missing command.SpecifyTable) (length draft.tables == 0)) _ (λ some h2.
+    then_known IsJob (needed command.SafetyRule (rules_line (said_by keyword.SafetyRule draft.said))) _ (λ rules h3.
+    then_known IsJob (needed command.Suppress (method_of (said_by keyword.Suppress draft.said))) _ (λ method h4.
+    then_known IsJob (outputs_from (length draft.tables) 0 draft.said) _ (λ outputs h5.
+    then_known IsJob (needed command.Certificate (file_line (said_by keyword.Certificate draft.said))) _ (λ certificate h6.
+    record {
+      tables = record {
+        some = some_tables (length draft.tables) (not_refused (0, Missing command.SpecifyTable) (length draft.tables == 0) some h2);
+        response = is.response;
+        once = is.once;
+        variables = is.names;
+      };
+      few = is.few;
+      variables = is.variables;
+      outputs = known (λ outputs. length outputs ≡ length draft.tables) (outputs_from (length draft.tables) 0 draft.said) outputs (outputs_known (length draft.tables) 0 draft.said) h5;
+      priors = placed;
+      rules = rules_line_known (said_by keyword.SafetyRule draft.said) rules (by_known keyword.SafetyRule draft.said is.said) (was_some (0, Missing command.SafetyRule) (rules_line (said_by keyword.SafetyRule draft.said)) rules h3);
+      method = method_of_known (said_by keyword.Suppress draft.said) method (by_known keyword.Suppress draft.said is.said) (was_some (0, Missing command.Suppress) (method_of (said_by keyword.Suppress draft.said)) method h4);
+      steps = work_of_known usual_steps (said_by keyword.Steps draft.said) (by_known keyword.Steps draft.said is.said) (omega arith, omega arith);
+      nodes = work_of_known usual_nodes (said_by keyword.Nodes draft.said) (by_known keyword.Nodes draft.said is.said) (omega arith, omega arith);
+    })))))))
 
 pub closed_known : (draft : Draft) → IsDraft draft → IfOk (closed_job draft) IsJob
 unfolding closed_job
 closed_known draft is =
     then_known IsJob (no_stray (length draft.tables) draft.said) _ (λ placed h.
-        then_known IsJob (no_same_name draft.said draft.said) _ (λ apart h1. made_known draft is (priors_known (length draft.tables) draft.said placed is.few h)))
+    then_known IsJob (no_same_name draft.said draft.said) _ (λ apart h1. made_known draft is (priors_known (length draft.tables) draft.said placed is.few h)))
 
 pub job_known : (bytes : List ℕ) → IfOk (job_of bytes) IsJob
 unfolding job_of

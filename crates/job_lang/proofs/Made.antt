@@ -1,11 +1,10 @@
 -- How a job is made of what the lines say.
-use Rattle.std.proofs.Common.{◌≡◌, ℕ, Bool, true, false, List, [], ◌∷◌, length, Option, None, Some, Result, Ok, Err, refl, ap, sym, ◌∙◌}
+use Rattle.std.proofs.Common.{◌≡◌, ℕ, List, length, Some, Ok}
 use Rattle.std.specs.Prelude.{◌==◌}
 use Rattle.sdc_base.specs.Lines.{lines}
-use Rattle.sdc_base.specs.Steps.{◌>>=◌, or_fault, refuse}
+use Rattle.sdc_base.specs.Steps.{refuse}
 use Rattle.sdc_base.specs.declared.method.Method.{Method}
 use Rattle.sdc_base.proofs.StepLemmas.{bind_ok}
-use Rattle.job_lang.specs.declared.faults.JobWhy.{JobWhy}
 use Rattle.job_lang.specs.declared.faults.JobWhy.TheVariants.{Missing}
 use Rattle.job_lang.specs.declared.faults.Command.TheVariants as command
 use Rattle.job_lang.specs.declared.job.Job.{Job}

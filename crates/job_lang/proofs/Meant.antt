@@ -1,5 +1,5 @@
 -- A job is what its lines state.
-use Rattle.std.proofs.Common.{◌≡◌, ◌⊎◌, inl, inr, ℕ, zero, suc, ◌+◌, ◌<◌, ◌≤◌, Bool, true, false, cond, List, [], ◌∷◌, ◌++◌, length, Option, None, Some, Result, Ok, Err, refl, ap, sym, ◌∙◌, subst, arith, append_assoc, length-append}
+use Rattle.std.proofs.Common.{◌≡◌, inl, inr, ℕ, zero, suc, ◌+◌, ◌<◌, ◌≤◌, Bool, true, false, cond, List, [], ◌∷◌, ◌++◌, length, Option, None, Some, Result, Ok, Err, refl, ap, sym, ◌∙◌, subst, arith, append_assoc}
 use Rattle.std.proofs.lemmas.List.{append-nil}
 use Rattle.std.proofs.lemmas.Bool.Decides.{Decides-eqb}
 use Rattle.std.specs.Prelude.{◌==◌, ◌||◌, not, find, filter, slice_get, option_map}
@@ -7,7 +7,7 @@ use Rattle.std.specs.List.{list_any}
 use Rattle.cost_rule.specs.declared.kind.CostKind.TheVariants.{Value}
 use Rattle.sdc_base.specs.Blanks.{trim}
 use Rattle.sdc_base.specs.Lines.{lines}
-use Rattle.sdc_base.specs.Steps.{◌>>=◌, or_fault, refuse}
+use Rattle.sdc_base.specs.Steps.{or_fault, refuse}
 use Rattle.sdc_base.proofs.StepLemmas.{bind_ok}
 use Rattle.sdc_base.specs.declared.method.Method.{Method}
 use Rattle.job_lang.specs.declared.faults.JobWhy.{JobWhy}
@@ -24,14 +24,13 @@ use Rattle.job_lang.specs.declared.statement.Said.TheVariants as said
 use Rattle.job_lang.specs.declared.statement.Statement.{Statement}
 use Rattle.job_lang.specs.declared.statement.Draft.{Draft}
 use Rattle.job_lang.specs.Faults.{at_line}
-use Rattle.job_lang.specs.Keywords.{keyword_of, word_in, place_of, same_keyword}
+use Rattle.job_lang.specs.Keywords.{keyword_of, word_in, place_of}
 use Rattle.job_lang.specs.Arguments.{argument_of}
 use Rattle.job_lang.specs.Statements.{command_of, is_by, is_again, is_past_room, is_other_response, with_table, with_statement, with_said, is_passed_over, command_line, text_says, lines_say, nothing}
-use Rattle.job_lang.specs.ClosingLooks.{said_by, output_said, file_said, file_line, rules_from, rules_line, method_from, method_of, cost_of, work_of, work_from, usual_steps, usual_nodes, priors_in, output_of_table, outputs_from}
-use Rattle.job_lang.specs.Jobs.{job_of}
+use Rattle.job_lang.specs.ClosingLooks.{said_by, output_said, file_said, file_line, rules_from, rules_line, method_from, method_of, cost_of, work_of, work_from, usual_steps, usual_nodes, output_of_table, outputs_from}
 use Rattle.job_lang.specs.Meaning.{line_says, said_at, stated, stated_in, table_in, tables_among, other_in, others_among, others_in, by_command, IsStatedOnce, IsStatedOrElse, IsMeant, JobsAreMeant}
 use Rattle.job_lang.proofs.Known.{not_refused, was_some, same_value}
-use Rattle.job_lang.proofs.Made.{IsMade, IsRead, read, job_with}
+use Rattle.job_lang.proofs.Made.{IsMade, read, job_with}
 
 -- ---- lists of statements
 
@@ -118,16 +117,16 @@ again_by one before single h = h
 none_by : (word : Keyword) (all : List Statement) → list_any (λ s. is_by word s.said) all ≡ false → by_command word all ≡ []
 none_by word [] h = refl
 none_by word (s ∷ rest) h = elim (is_by word s.said) as (λ t. (t || list_any (λ s. is_by word s.said) rest) ≡ false → cond t (s ∷ by_command word rest) (by_command word rest) ≡ []) [
-    | true ↦ λ g. absurd cc
-    | false ↦ λ g. none_by word rest g
-  ] h
+  | true ↦ λ g. absurd cc
+  | false ↦ λ g. none_by word rest g
+] h
 
 by_both : (word : Keyword) (xs ys : List Statement) → by_command word (xs ++ ys) ≡ by_command word xs ++ by_command word ys
 by_both word [] ys = refl
 by_both word (s ∷ xs) ys = elim (is_by word s.said) as (λ t. cond t (s ∷ by_command word (xs ++ ys)) (by_command word (xs ++ ys)) ≡ cond t (s ∷ by_command word xs) (by_command word xs) ++ by_command word ys) [
-    | true ↦ ap (λ (rest : List Statement). s ∷ rest) (by_both word xs ys)
-    | false ↦ by_both word xs ys
-  ]
+  | true ↦ ap (λ (rest : List Statement). s ∷ rest) (by_both word xs ys)
+  | false ↦ by_both word xs ys
+]
 
 -- each command that stands once at most does
 abbrev AreSingle : List Statement → Type 0
@@ -203,9 +202,9 @@ only test (y ∷ all) s h few =
 absent : (test : Statement → Bool) (all : List Statement) → find test all ≡ None → filter test all ≡ []
 absent test [] h = refl
 absent test (y ∷ all) h = elim (test y) as (λ t. cond t (Some y) (find test all) ≡ None → cond t (y ∷ filter test all) (filter test all) ≡ []) [
-    | true ↦ λ g. absurd cc
-    | false ↦ λ g. absent test all g
-  ] h
+  | true ↦ λ g. absurd cc
+  | false ↦ λ g. absent test all g
+] h
 
 -- a command that is said once is that of exactly one line
 once : (word : Keyword) (all : List Statement) (s : Statement) → said_by word all ≡ Some s → AreSingle all → is_single word ≡ true → (by_command word all ≡ s ∷ []) × (is_by word s.said ≡ true)

@@ -1,10 +1,8 @@
 -- Metadata within their limits can have a job bound to them.
-use Rattle.std.proofs.Common.{◌≡◌, ℕ, zero, suc, ◌≤◌, List, [], ◌∷◌, length, refl, arith, ◌∙◌}
+use Rattle.std.proofs.Common.{◌≡◌, ℕ, suc, ◌≤◌, List, [], ◌∷◌, refl, arith}
 use Rattle.std.proofs.lemmas.List.Sums.{length-filter}
-use Rattle.std.specs.Prelude.{slice_get, Some, IsTrue, true}
+use Rattle.std.specs.Prelude.{slice_get, Some, IsTrue}
 use Rattle.std.specs.List.{AllByRecursion}
-use Rattle.rda_meta.specs.Limits.{IsVariable, IsMeta}
-use Rattle.rda_meta.specs.declared.meta.Meta.{Meta}
 use Rattle.rda_meta.specs.declared.meta.Variable.{Variable}
 use Rattle.job_lang.specs.Laws.{MetadataFit}
 

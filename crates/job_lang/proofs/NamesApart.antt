@@ -1,40 +1,33 @@
 -- Names of files that are put, and of those that are read.
-use Rattle.std.proofs.Common.{◌≡◌, ◌≢◌, ℕ, zero, suc, ◌+◌, ◌<◌, Bool, true, false, cond, List, [], ◌∷◌, ◌++◌, length, map, Option, None, Some, Result, Ok, Err, refl, ap, sym, ◌∙◌, subst, arith}
-use Rattle.std.specs.Prelude.{find, nat_lt, ◌||◌, ◌&&◌, ◌==◌, option_map}
+use Rattle.std.proofs.Common.{◌≡◌, ◌≢◌, ℕ, zero, suc, ◌+◌, Bool, true, false, cond, List, [], ◌∷◌, ◌++◌, length, map, Option, None, Some, Ok, refl, ap, subst}
+use Rattle.std.specs.Prelude.{find, nat_lt, ◌||◌, ◌&&◌, option_map}
 use Rattle.std.specs.List.{list_any, count_by, AllByRecursion}
 use Rattle.std.specs.Str.{bytes_eq}
 use Rattle.std.specs.Cmp.Lexicographic.{nat_list_eq_equiv}
-use Rattle.sdc_base.specs.Lines.{lines}
-use Rattle.sdc_base.specs.Steps.{◌>>=◌, or_fault, refuse}
 use Rattle.sdc_base.proofs.StepLemmas.{bind_ok}
-use Rattle.rda_meta.specs.declared.meta.Meta.{Meta}
 use Rattle.rda_meta.specs.declared.meta.Shape.{Shape}
 use Rattle.rda_meta.specs.declared.meta.Shape.TheVariants as shape
 use Rattle.rda_meta.specs.declared.meta.Variable.{Variable}
 use Rattle.job_lang.specs.declared.faults.JobWhy.{JobWhy}
 use Rattle.job_lang.specs.declared.faults.JobWhy.TheVariants.{Missing, SameName}
-use Rattle.job_lang.specs.declared.faults.Command.{Command}
 use Rattle.job_lang.specs.declared.faults.Command.TheVariants as command
 use Rattle.job_lang.specs.declared.job.Job.{Job}
 use Rattle.job_lang.specs.declared.job.OutputLine.{OutputLine}
 use Rattle.job_lang.specs.declared.job.PriorLine.{PriorLine}
 use Rattle.job_lang.specs.declared.job.TableLine.{TableLine}
-use Rattle.job_lang.specs.declared.bound.Bound.{Bound}
-use Rattle.job_lang.specs.declared.statement.Keyword.{Keyword}
 use Rattle.job_lang.specs.declared.statement.Keyword.TheVariants as keyword
 use Rattle.job_lang.specs.declared.statement.Said.{Said}
 use Rattle.job_lang.specs.declared.statement.Said.TheVariants as said
 use Rattle.job_lang.specs.declared.statement.Statement.{Statement}
 use Rattle.job_lang.specs.declared.statement.Draft.{Draft}
-use Rattle.job_lang.specs.Statements.{is_by, lines_say, nothing}
-use Rattle.job_lang.specs.ClosingLooks.{no_stray, puts, reads, is_shared, is_meeting, no_same_name, said_by, is_output_at, output_said, file_said, file_line, rules_line, method_of, prior_in, priors_in, needed, output_of_table, outputs_from}
-use Rattle.job_lang.specs.Jobs.{job_made, closed_job, job_of}
-use Rattle.job_lang.specs.Binding.{is_spanning, is_code_list, is_hierarchy_file, is_file_of, file_fault, earliest_fault, unless_fault, places_of, bound_of}
+use Rattle.job_lang.specs.Statements.{is_by}
+use Rattle.job_lang.specs.ClosingLooks.{puts, reads, is_shared, is_meeting, is_output_at, output_said, file_said, file_line, prior_in, priors_in, output_of_table, outputs_from}
+use Rattle.job_lang.specs.Binding.{is_spanning, is_code_list, is_hierarchy_file, is_file_of, file_fault, earliest_fault, unless_fault, bound_of}
 use Rattle.job_lang.specs.Laws.{codes_named, tree_named, files_of, puts_of, reads_of, PutsAreNotRead, PutsAreNotNamed}
 use Rattle.job_lang.proofs.Known.{was_some}
 use Rattle.job_lang.proofs.FirstFault.{no_meetings}
-use Rattle.job_lang.proofs.BoundHolds.{IsClean, clean}
-use Rattle.job_lang.proofs.Made.{IsMade, made, IsRead, read}
+use Rattle.job_lang.proofs.BoundHolds.{clean}
+use Rattle.job_lang.proofs.Made.{IsMade, read}
 
 same : (name : List ℕ) → bytes_eq name name ≡ true
 same name = nat_list_eq_equiv.refl name
@@ -62,9 +55,9 @@ all_apart all (s ∷ rest) h = let both = false_left (is_meeting all s.said) _ h
 found : {A : Type 0} (P : A → Type 0) (test : A → Bool) (xs : List A) → AllByRecursion P xs → (x : A) → find test xs ≡ Some x → P x × (test x ≡ true)
 found P test [] all x h = absurd cc
 found {A} P test (y ∷ xs) all x h = elim (test y) as (λ t. test y ≡ t → cond t (Some y) (find test xs) ≡ Some x → P x × (test x ≡ true)) [
-    | true ↦ λ passes g. let is : y ≡ x = cc in subst (λ (x : A). P x × (test x ≡ true)) is (all.0, passes)
-    | false ↦ λ fails g. found P test xs all.1 x g
-  ] refl h
+  | true ↦ λ passes g. let is : y ≡ x = cc in subst (λ (x : A). P x × (test x ≡ true)) is (all.0, passes)
+  | false ↦ λ fails g. found P test xs all.1 x g
+] refl h
 
 -- ---- what puts a file
 
@@ -160,7 +153,7 @@ not_read bytes job h =
     let outputs = outputs_unread is.draft.said (length is.draft.tables) 0 is.is_made.outputs apart is.is_made.are_outputs in
     let certificate = line_of (λ s. is_meeting is.draft.said s.said ≡ false) is.draft.said (λ s. is_by keyword.Certificate s.said) (λ o. IsUnread is.draft.said o.file) apart (λ s o by free g. certificate_unread is.draft.said s.said s.line o by free g) is.is_made.certificate is.is_made.is_certificate in
     let puts : AllByRecursion (λ put. AllByRecursion (λ read. put ≢ read) (reads_of job)) (is.is_made.certificate.file ∷ map (λ o. o.file) is.is_made.outputs) =
-        (none_read is.draft job is.is_made.certificate.file is.is_made certificate, outputs_not_read is.draft job is.is_made.outputs is.is_made outputs) in
+    (none_read is.draft job is.is_made.certificate.file is.is_made certificate, outputs_not_read is.draft job is.is_made.outputs is.is_made outputs) in
     let same : ◌≡◌ {A = List (List ℕ)} (is.is_made.certificate.file ∷ map (λ o. o.file) is.is_made.outputs) (puts_of job) = ap puts_of is.is_made.whole in
     subst (λ (puts : List (List ℕ)). AllByRecursion (λ put. AllByRecursion (λ read. put ≢ read) (reads_of job)) puts) same puts
 

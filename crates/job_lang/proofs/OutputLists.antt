@@ -1,5 +1,5 @@
 -- Outputs that are looked up one after the other.
-use Rattle.std.proofs.Common.{◌≡◌, ℕ, suc, ◌+◌, List, [], ◌∷◌, ◌++◌, Result, Ok, Err, refl, sym}
+use Rattle.std.proofs.Common.{◌≡◌, ℕ, suc, ◌+◌, List, [], ◌∷◌, ◌++◌, Ok, refl, sym}
 use Rattle.sdc_base.specs.Answers.{Fails}
 use Rattle.job_lang.specs.Faults.{fault_of}
 use Rattle.job_lang.specs.declared.faults.JobError.{JobError}

@@ -1,10 +1,10 @@
 -- The places of a job's variables fit: they are few, as its names are.
-use Rattle.std.proofs.Common.{◌≡◌, ℕ, zero, suc, ◌+◌, ◌<◌, ◌≤◌, Bool, true, false, cond, List, [], ◌∷◌, ◌++◌, length, map, Option, None, Some, refl, ap, sym, ◌∙◌, subst, arith}
+use Rattle.std.proofs.Common.{◌≡◌, ℕ, zero, suc, ◌+◌, ◌≤◌, Bool, true, false, cond, List, [], ◌∷◌, length, map, Option, None, Some, refl, ap, sym, ◌∙◌, subst, arith}
 use Rattle.std.proofs.lemmas.List.Folds.{list_any-append}
 use Rattle.std.proofs.lemmas.Map.Made.{length-le_from_is_member}
 use Rattle.std.proofs.lemmas.Slice.Eq.{bytes_eq-Decides}
 use Rattle.std.specs.Cmp.Lexicographic.{nat_list_eq_equiv}
-use Rattle.std.specs.Prelude.{◌||◌, find, filter, slice_index_or, IsTrue}
+use Rattle.std.specs.Prelude.{◌||◌, find, filter, IsTrue}
 use Rattle.std.specs.List.{All, AllByRecursion, IsDistinct, list_any}
 use Rattle.std.specs.Set.{distinct_count, unique_keys, is_member}
 use Rattle.std.specs.Str.{bytes_eq}
@@ -81,24 +81,24 @@ names_of test variables = map (λ v. v.name) (filter test variables)
 count_places : (test : Variable → Bool) (variables : List Variable) (place : ℕ) → length (places_from place test variables) ≡ length (names_of test variables)
 count_places test [] place = refl
 count_places test (v ∷ variables) place = elim (test v) as (λ t. length (cond t (place ∷ places_from (place + 1) test variables) (places_from (place + 1) test variables)) ≡ length (map (λ v. v.name) (cond t (v ∷ filter test variables) (filter test variables)))) [
-    | true ↦ ap suc (count_places test variables (place + 1))
-    | false ↦ count_places test variables (place + 1)
-  ]
+  | true ↦ ap suc (count_places test variables (place + 1))
+  | false ↦ count_places test variables (place + 1)
+]
 
 apart_filtered : (test : Variable → Bool) (name : List ℕ) (variables : List Variable) → AllByRecursion (λ n. bytes_eq name n ≡ false) (map (λ v. v.name) variables) → AllByRecursion (λ n. bytes_eq name n ≡ false) (names_of test variables)
 apart_filtered test name [] apart = tt
 apart_filtered test name (v ∷ variables) apart = elim (test v) as (λ t. AllByRecursion (λ n. bytes_eq name n ≡ false) (map (λ v. v.name) (cond t (v ∷ filter test variables) (filter test variables)))) [
-    | true ↦ (apart.0, apart_filtered test name variables apart.1)
-    | false ↦ apart_filtered test name variables apart.1
-  ]
+  | true ↦ (apart.0, apart_filtered test name variables apart.1)
+  | false ↦ apart_filtered test name variables apart.1
+]
 
 distinct_filtered : (test : Variable → Bool) (variables : List Variable) → IsDistinct bytes_eq (map (λ v. v.name) variables) → IsDistinct bytes_eq (names_of test variables)
 unfolding IsDistinct
 distinct_filtered test [] distinct = tt
 distinct_filtered test (v ∷ variables) distinct = elim (test v) as (λ t. IsDistinct bytes_eq (map (λ v. v.name) (cond t (v ∷ filter test variables) (filter test variables)))) [
-    | true ↦ (apart_filtered test v.name variables distinct.0, distinct_filtered test variables distinct.1)
-    | false ↦ distinct_filtered test variables distinct.1
-  ]
+  | true ↦ (apart_filtered test v.name variables distinct.0, distinct_filtered test variables distinct.1)
+  | false ↦ distinct_filtered test variables distinct.1
+]
 
 spanned_among : (tables : List TableLine) (variables : List Variable) (q : List ℕ) → list_any (bytes_eq q) (names_of (λ v. is_spanning tables v.name) variables) ≡ true → list_any (bytes_eq q) (names_in tables) ≡ true
 spanned_among tables [] q h = absurd cc
@@ -122,9 +122,9 @@ spanning_few tables variables is fit =
 found_holds : (P : Variable → Type 0) (test : Variable → Bool) (variables : List Variable) → AllByRecursion P variables → (v : Variable) → find test variables ≡ Some v → P v × (test v ≡ true)
 found_holds P test [] all v h = absurd cc
 found_holds P test (w ∷ variables) all v h = elim (test w) as (λ t. test w ≡ t → cond t (Some w) (find test variables) ≡ Some v → P v × (test v ≡ true)) [
-    | true ↦ λ passes g. let same : w ≡ v = cc in subst (λ (v : Variable). P v × (test v ≡ true)) same (all.0, passes)
-    | false ↦ λ fails g. found_holds P test variables all.1 v g
-  ] refl h
+  | true ↦ λ passes g. let same : w ≡ v = cc in subst (λ (v : Variable). P v × (test v ≡ true)) same (all.0, passes)
+  | false ↦ λ fails g. found_holds P test variables all.1 v g
+] refl h
 
 decimals_within : (most : ℕ) (o : Option Variable) → ((v : Variable) → o ≡ Some v → v.decimals ≤ most) → decimals_of o ≤ most
 decimals_within most None h = omega arith

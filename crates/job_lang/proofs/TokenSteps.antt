@@ -1,5 +1,5 @@
 -- Steps of tokens.
-use Rattle.std.proofs.Common.{◌≡◌, ℕ, ◌<◌, true, false, List, [], ◌∷◌, length, arith}
+use Rattle.std.proofs.Common.{◌≡◌, ℕ, ◌<◌, true, List, [], ◌∷◌, length, arith}
 use Rattle.job_lang.specs.LineTokens.{begins_with}
 
 -- bytes that begin with a mark are some

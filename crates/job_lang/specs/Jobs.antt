@@ -1,5 +1,5 @@
 -- The job that a text states, or its first fault with its line (tau-ARGUS user manual; first fault own).
-use Rattle.std.specs.Prelude.{ℕ, Bool, ◌==◌, List, [], ◌∷◌, length, Result, Ok}
+use Rattle.std.specs.Prelude.{ℕ, ◌==◌, List, length, Result, Ok}
 use Rattle.sdc_base.specs.Lines.{lines}
 use Rattle.sdc_base.specs.Steps.{◌>>=◌, refuse}
 use Rattle.job_lang.specs.declared.faults.JobWhy.{JobWhy}

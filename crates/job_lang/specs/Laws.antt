@@ -1,7 +1,6 @@
 -- Laws of jobs, above the reading line by line: the order of faults, and names of files that stay apart (own).
-use Rattle.std.specs.Prelude.{◌≡◌, ◌≢◌, ◌⊎◌, ℕ, ◌+◌, ◌≤◌, Bool, true, false, ◌||◌, ◌==◌, if◌then◌else◌, zero, suc, List, [], ◌∷◌, ◌++◌, map, flat_map, length, take, slice_get, find, is_none, Option, None, Some, Ok, Err}
-use Rattle.std.specs.List.{AllByRecursion, IsDistinct, list_any}
-use Rattle.std.specs.Str.{bytes_eq}
+use Rattle.std.specs.Prelude.{◌≡◌, ◌≢◌, ◌⊎◌, ℕ, ◌+◌, Bool, false, ◌||◌, ◌==◌, if◌then◌else◌, zero, suc, List, [], ◌∷◌, ◌++◌, map, length, take, slice_get, find, is_none, Option, None, Some, Ok, Err}
+use Rattle.std.specs.List.{AllByRecursion, list_any}
 use Rattle.sdc_base.specs.Blanks.{trim}
 use Rattle.sdc_base.specs.Lines.{lines}
 use Rattle.rda_meta.specs.Limits.{IsMeta}
@@ -23,7 +22,7 @@ use Rattle.job_lang.specs.Statements.{text_says, lines_say, nothing}
 use Rattle.job_lang.specs.ClosingLooks.{is_astray, is_meeting, said_by, file_line, rules_line, method_of, output_said}
 use Rattle.job_lang.specs.Jobs.{job_of}
 use Rattle.job_lang.specs.BoundLimits.{AreVariables}
-use Rattle.job_lang.specs.Binding.{table_fault, weight_fault, file_fault, is_spanning, bound_of}
+use Rattle.job_lang.specs.Binding.{is_spanning, bound_of}
 
 -- ---- the order of faults
 

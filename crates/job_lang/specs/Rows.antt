@@ -4,13 +4,10 @@ use Rattle.cost_rule.specs.declared.kind.CostKind.TheVariants as kind
 use Rattle.sdc_base.specs.Lines.{joined}
 use Rattle.sdc_base.specs.declared.method.Method.TheVariants as method
 use Rattle.sdc_base.specs.declared.rule.Rule.TheVariants as rule
-use Rattle.rda_meta.specs.declared.meta.Meta.{Meta}
 use Rattle.rda_meta.specs.declared.meta.Shape.TheVariants as shape
 use Rattle.rda_meta.specs.declared.meta.Variable.{Variable}
 use Rattle.job_lang.specs.declared.faults.JobWhy.TheVariants as why
-use Rattle.job_lang.specs.declared.faults.Command.TheVariants as command
 use Rattle.job_lang.specs.declared.job.Job.{Job}
-use Rattle.job_lang.specs.declared.bound.Bound.{Bound}
 use Rattle.job_lang.specs.Jobs.{job_of}
 use Rattle.job_lang.specs.Binding.{bound_of}
 

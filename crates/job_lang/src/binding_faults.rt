@@ -101,7 +101,9 @@ fn is_spanned_by(name: &Text, names: &[Text]) -> bool
 pub(crate) fn is_spanning(tables: &[TableLine], name: &Text) -> bool
     ensures { result ≡ spanning tables.now name.now }
 {
-    tables.iter().any(|t| is_spanned_by(name, t.variables.as_slice()))
+    tables
+        .iter()
+        .any(|t| is_spanned_by(name, t.variables.as_slice()))
 }
 
 // Whether the list of codes has this name.
@@ -187,7 +189,11 @@ fn outputs_fault(
 {
     let mut first = before;
     for output in outputs {
-        first = earlier(first, output.line, file_fault(tables, variables, &output.file));
+        first = earlier(
+            first,
+            output.line,
+            file_fault(tables, variables, &output.file),
+        );
     }
     first
 }

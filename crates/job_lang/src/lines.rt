@@ -18,6 +18,7 @@ use std::alloc::Global;
 
 // The most tables of a job, and the most different variables that span them.
 const MOST_TABLES: usize = 8;
+
 const MOST_VARIABLES: usize = 8;
 
 /// What all lines say.

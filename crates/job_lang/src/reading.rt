@@ -66,11 +66,7 @@ fn missing(which: Command) -> JobError
 }
 
 // The output of the table at this place, which must have one.
-fn output_of_table(
-    alloc: Global,
-    place: usize,
-    said: &[Statement],
-) -> Result<OutputLine, JobError>
+fn output_of_table(alloc: Global, place: usize, said: &[Statement]) -> Result<OutputLine, JobError>
     requires { place < 8 }
     ensures { Gives fault_of (λ output. output) result (output_of place said.now) }
 {

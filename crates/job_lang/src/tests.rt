@@ -24,26 +24,71 @@ fn whole_jobs(rt: HostRuntime) {
     use JobWhy::{BadLine, Missing, OtherResponse, SameName, TooMany};
     let rows = [
         // in any order of the lines, with CR and LF, without the last end
-        ("<CERTIFICATE> \"c\"\r\n<WRITETABLE>(1,\"t\")\r\n<SUPPRESS>mod( )\r\n<SAFETYRULE>p(10)\r\n<SPECIFYTABLE>\"A\"|\"V\"\r\n<OPENMETADATA>\"m\"\r\n<OPENMICRODATA>\"d\"", Ok((1, 1))),
+        (
+            "<CERTIFICATE> \"c\"\r\n<WRITETABLE>(1,\"t\")\r\n<SUPPRESS>mod( )\r\n<SAFETYRULE>p(10)\r\n<SPECIFYTABLE>\"A\"|\"V\"\r\n<OPENMETADATA>\"m\"\r\n<OPENMICRODATA>\"d\"",
+            Ok((1, 1)),
+        ),
         // two outputs of one name: the earlier line
-        ("<OPENMICRODATA> \"d\"\n<OPENMETADATA> \"m\"\n<SPECIFYTABLE> \"A\"|\"V\"\n<SPECIFYTABLE> \"B\"|\"V\"\n<WRITETABLE> (2,\"t\")\n<WRITETABLE> (1,\"t\")\n", Err((5, SameName))),
-        ("<CERTIFICATE> \"t\"\n<SPECIFYTABLE> \"A\"|\"V\"\n<WRITETABLE> (1,\"t\")\n", Err((1, SameName))),
-        ("<WRITETABLE> (1,\"d\")\n<SPECIFYTABLE> \"A\"|\"V\"\n<OPENMICRODATA> \"d\"\n", Err((1, SameName))),
+        (
+            "<OPENMICRODATA> \"d\"\n<OPENMETADATA> \"m\"\n<SPECIFYTABLE> \"A\"|\"V\"\n<SPECIFYTABLE> \"B\"|\"V\"\n<WRITETABLE> (2,\"t\")\n<WRITETABLE> (1,\"t\")\n",
+            Err((5, SameName)),
+        ),
+        (
+            "<CERTIFICATE> \"t\"\n<SPECIFYTABLE> \"A\"|\"V\"\n<WRITETABLE> (1,\"t\")\n",
+            Err((1, SameName)),
+        ),
+        (
+            "<WRITETABLE> (1,\"d\")\n<SPECIFYTABLE> \"A\"|\"V\"\n<OPENMICRODATA> \"d\"\n",
+            Err((1, SameName)),
+        ),
         // what is missing
         ("", Err((0, Missing(Command::OpenMicrodata)))),
-        ("<OPENMICRODATA> \"d\"", Err((0, Missing(Command::OpenMetadata)))),
-        ("<OPENMICRODATA> \"d\"\n<OPENMETADATA> \"d\"\n", Err((0, Missing(Command::SpecifyTable)))),
-        ("<OPENMICRODATA> \"d\"\n<OPENMETADATA> \"m\"\n<SPECIFYTABLE> \"A\"|\"V\"", Err((0, Missing(Command::SafetyRule)))),
-        ("<OPENMICRODATA> \"d\"\n<OPENMETADATA> \"m\"\n<SPECIFYTABLE> \"A\"|\"V\"\n<SAFETYRULE> P(1)", Err((0, Missing(Command::Suppress)))),
-        ("<OPENMICRODATA> \"d\"\n<OPENMETADATA> \"m\"\n<SPECIFYTABLE> \"A\"|\"V\"\n<SAFETYRULE> P(1)\n<SUPPRESS> GH(8)", Err((0, Missing(Command::WriteTable)))),
-        ("<OPENMICRODATA> \"d\"\n<OPENMETADATA> \"m\"\n<SPECIFYTABLE> \"A\"|\"V\"\n<SAFETYRULE> P(1)\n<SUPPRESS> RND(1000000000)\n<WRITETABLE> (1,\"t\")", Err((0, Missing(Command::Certificate)))),
+        (
+            "<OPENMICRODATA> \"d\"",
+            Err((0, Missing(Command::OpenMetadata))),
+        ),
+        (
+            "<OPENMICRODATA> \"d\"\n<OPENMETADATA> \"d\"\n",
+            Err((0, Missing(Command::SpecifyTable))),
+        ),
+        (
+            "<OPENMICRODATA> \"d\"\n<OPENMETADATA> \"m\"\n<SPECIFYTABLE> \"A\"|\"V\"",
+            Err((0, Missing(Command::SafetyRule))),
+        ),
+        (
+            "<OPENMICRODATA> \"d\"\n<OPENMETADATA> \"m\"\n<SPECIFYTABLE> \"A\"|\"V\"\n<SAFETYRULE> P(1)",
+            Err((0, Missing(Command::Suppress))),
+        ),
+        (
+            "<OPENMICRODATA> \"d\"\n<OPENMETADATA> \"m\"\n<SPECIFYTABLE> \"A\"|\"V\"\n<SAFETYRULE> P(1)\n<SUPPRESS> GH(8)",
+            Err((0, Missing(Command::WriteTable))),
+        ),
+        (
+            "<OPENMICRODATA> \"d\"\n<OPENMETADATA> \"m\"\n<SPECIFYTABLE> \"A\"|\"V\"\n<SAFETYRULE> P(1)\n<SUPPRESS> RND(1000000000)\n<WRITETABLE> (1,\"t\")",
+            Err((0, Missing(Command::Certificate))),
+        ),
         // eight different variables, and one more
-        ("<SPECIFYTABLE> \"A\"\"B\"\"C\"\"D\"|\"V\"\n<SPECIFYTABLE> \"E\"\"F\"\"G\"\"H\"|\"V\"\n<SPECIFYTABLE> \"A\"\"H\"|\"V\"", Err((0, Missing(Command::OpenMicrodata)))),
-        ("<SPECIFYTABLE> \"A\"\"B\"\"C\"\"D\"|\"V\"\n<SPECIFYTABLE> \"E\"\"F\"\"G\"\"H\"|\"V\"\n<SPECIFYTABLE> \"I\"|\"W\"\nx", Err((3, TooMany))),
-        ("<SPECIFYTABLE> \"A\"|\"V\"\n<SPECIFYTABLE> \"B\"|\"v\"\nx", Err((2, OtherResponse))),
+        (
+            "<SPECIFYTABLE> \"A\"\"B\"\"C\"\"D\"|\"V\"\n<SPECIFYTABLE> \"E\"\"F\"\"G\"\"H\"|\"V\"\n<SPECIFYTABLE> \"A\"\"H\"|\"V\"",
+            Err((0, Missing(Command::OpenMicrodata))),
+        ),
+        (
+            "<SPECIFYTABLE> \"A\"\"B\"\"C\"\"D\"|\"V\"\n<SPECIFYTABLE> \"E\"\"F\"\"G\"\"H\"|\"V\"\n<SPECIFYTABLE> \"I\"|\"W\"\nx",
+            Err((3, TooMany)),
+        ),
+        (
+            "<SPECIFYTABLE> \"A\"|\"V\"\n<SPECIFYTABLE> \"B\"|\"v\"\nx",
+            Err((2, OtherResponse)),
+        ),
         // eight tables, and one more
-        ("<SPECIFYTABLE>\"A\"|\"V\"\n<SPECIFYTABLE>\"A\"|\"V\"\n<SPECIFYTABLE>\"A\"|\"V\"\n<SPECIFYTABLE>\"A\"|\"V\"\n<SPECIFYTABLE>\"A\"|\"V\"\n<SPECIFYTABLE>\"A\"|\"V\"\n<SPECIFYTABLE>\"A\"|\"V\"\n<SPECIFYTABLE>\"A\"|\"V\"\nx", Err((9, BadLine))),
-        ("<SPECIFYTABLE>\"A\"|\"V\"\n<SPECIFYTABLE>\"A\"|\"V\"\n<SPECIFYTABLE>\"A\"|\"V\"\n<SPECIFYTABLE>\"A\"|\"V\"\n<SPECIFYTABLE>\"A\"|\"V\"\n<SPECIFYTABLE>\"A\"|\"V\"\n<SPECIFYTABLE>\"A\"|\"V\"\n<SPECIFYTABLE>\"A\"|\"V\"\n<SPECIFYTABLE>\"A\"|\"V\"\n", Err((9, TooMany))),
+        (
+            "<SPECIFYTABLE>\"A\"|\"V\"\n<SPECIFYTABLE>\"A\"|\"V\"\n<SPECIFYTABLE>\"A\"|\"V\"\n<SPECIFYTABLE>\"A\"|\"V\"\n<SPECIFYTABLE>\"A\"|\"V\"\n<SPECIFYTABLE>\"A\"|\"V\"\n<SPECIFYTABLE>\"A\"|\"V\"\n<SPECIFYTABLE>\"A\"|\"V\"\nx",
+            Err((9, BadLine)),
+        ),
+        (
+            "<SPECIFYTABLE>\"A\"|\"V\"\n<SPECIFYTABLE>\"A\"|\"V\"\n<SPECIFYTABLE>\"A\"|\"V\"\n<SPECIFYTABLE>\"A\"|\"V\"\n<SPECIFYTABLE>\"A\"|\"V\"\n<SPECIFYTABLE>\"A\"|\"V\"\n<SPECIFYTABLE>\"A\"|\"V\"\n<SPECIFYTABLE>\"A\"|\"V\"\n<SPECIFYTABLE>\"A\"|\"V\"\n",
+            Err((9, TooMany)),
+        ),
     ];
     for (text, expected) in &rows {
         let found = answer(rt.alloc(), text.as_bytes());
@@ -138,7 +183,10 @@ fn a_ninth_line(rt: HostRuntime) -> Result<(), Fail> {
         ("<WRITETABLE> (01,\"u\")", Err((9, Twice))),
         ("<WRITETABLE> (2,\"u\")", Err((9, NoSuchTable))),
         ("<WRITETABLE> (0,\"u\")", Err((9, NoSuchTable))),
-        ("<WRITETABLE> (99999999999999999999,\"u\")", Err((9, NoSuchTable))),
+        (
+            "<WRITETABLE> (99999999999999999999,\"u\")",
+            Err((9, NoSuchTable)),
+        ),
         ("<APRIORI> \"p\",1,\",\"", Ok((1, 1))),
         ("<APRIORI> \"p\" , 1 , \";\"", Ok((1, 1))),
         ("<APRIORI> \"p\",1,\"\t\"", Err((9, BadValue))),
@@ -151,17 +199,28 @@ fn a_ninth_line(rt: HostRuntime) -> Result<(), Fail> {
         ("<APRIORI> \"t.csv\",1,\",\"", Err((7, SameName))),
         ("<APRIORI> \"t.cert\",1,\",\"", Err((8, SameName))),
         ("<SPECIFYTABLE> \"B\"|\"W\"", Err((9, OtherResponse))),
-        ("<SPECIFYTABLE> \"B\"|\"V\"", Err((0, Missing(Command::WriteTable)))),
-        ("<SPECIFYTABLE> \"B\"\"C\"\"D\"\"E\"|\"V\"|\"V\"|\"\"||", Err((0, Missing(Command::WriteTable)))),
+        (
+            "<SPECIFYTABLE> \"B\"|\"V\"",
+            Err((0, Missing(Command::WriteTable))),
+        ),
+        (
+            "<SPECIFYTABLE> \"B\"\"C\"\"D\"\"E\"|\"V\"|\"V\"|\"\"||",
+            Err((0, Missing(Command::WriteTable))),
+        ),
         ("<SPECIFYTABLE> \"B\"|\"V\"|\"B\"", Err((9, BadValue))),
         ("<SPECIFYTABLE> \"B\"|\"V\"||\"V\"", Err((9, BadValue))),
         ("<SPECIFYTABLE> \"B\"|\"V\" \"\"", Err((9, BadValue))),
         ("<SPECIFYTABLE> \"B\"\"C\"\"B\"|\"V\"", Err((9, BadValue))),
-        ("<SPECIFYTABLE> \"B\"\"C\"\"D\"\"E\"\"F\"|\"V\"", Err((9, BadValue))),
+        (
+            "<SPECIFYTABLE> \"B\"\"C\"\"D\"\"E\"\"F\"|\"V\"",
+            Err((9, BadValue)),
+        ),
         ("<SPECIFYTABLE> |\"V\"", Err((9, BadValue))),
     ];
     for (line, expected) in &rows {
-        let text = format!(in rt.alloc(); "<OPENMICRODATA> \"m.asc\"\n<OPENMETADATA> \"m.rda\"\n<SPECIFYTABLE> \"A\"|\"V\"\n<SAFETYRULE> FREQ(3,30)\n<READMICRODATA>\n<SUPPRESS> MOD()\n<WRITETABLE> (1,\"t.csv\")\n<CERTIFICATE> \"t.cert\"\n{line}\n")?;
+        let text = format!(in rt.alloc();
+            "<OPENMICRODATA> \"m.asc\"\n<OPENMETADATA> \"m.rda\"\n<SPECIFYTABLE> \"A\"|\"V\"\n<SAFETYRULE> FREQ(3,30)\n<READMICRODATA>\n<SUPPRESS> MOD()\n<WRITETABLE> (1,\"t.csv\")\n<CERTIFICATE> \"t.cert\"\n{line}\n"
+        )?;
         let found = answer(rt.alloc(), text.as_bytes());
         assert_eq!(rt; found, Some(*expected));
     }
@@ -185,7 +244,12 @@ fn places(alloc: Global, job: &[u8], meta: &[u8]) -> Option<Places> {
         return None;
     };
     match bind(alloc, &job, &meta) {
-        Ok(bound) => Some(Ok((bound.spanning.as_slice().len(), bound.response, bound.decimals, bound.scale))),
+        Ok(bound) => Some(Ok((
+            bound.spanning.as_slice().len(),
+            bound.response,
+            bound.decimals,
+            bound.scale,
+        ))),
         Err(JobError::At { line, why }) => Some(Err((line, why))),
         Err(JobError::Memory) => None,
     }
@@ -194,22 +258,60 @@ fn places(alloc: Global, job: &[u8], meta: &[u8]) -> Option<Places> {
 #[test]
 fn jobs_bound_to_metadata(rt: HostRuntime) {
     use JobWhy::{NoSuchVariable, NoWeight, NotNumeric, NotSpanning, SameName};
-    let flat = "<OPENMICRODATA> \"m.asc\"\n<OPENMETADATA> \"m.rda\"\n<SPECIFYTABLE> \"A\"|\"V\"\n<SAFETYRULE> FREQ(3,30)\n<SUPPRESS> MOD()\n<WRITETABLE> (1,\"t.csv\")\n<CERTIFICATE> \"t.cert\"\n";
-    let weighted = "<WRITETABLE> (1,\"t.csv\")\n<SAFETYRULE> P(10)|WGT(1)\n<OPENMICRODATA> \"m.asc\"\n<OPENMETADATA> \"m.rda\"\n<SPECIFYTABLE> \"B\"\"A\"|\"V\"\n<SUPPRESS> MOD()\n<CERTIFICATE> \"t.cert\"\n";
+    let flat =
+        "<OPENMICRODATA> \"m.asc\"\n<OPENMETADATA> \"m.rda\"\n<SPECIFYTABLE> \"A\"|\"V\"\n<SAFETYRULE> FREQ(3,30)\n<SUPPRESS> MOD()\n<WRITETABLE> (1,\"t.csv\")\n<CERTIFICATE> \"t.cert\"\n";
+    let weighted =
+        "<WRITETABLE> (1,\"t.csv\")\n<SAFETYRULE> P(10)|WGT(1)\n<OPENMICRODATA> \"m.asc\"\n<OPENMETADATA> \"m.rda\"\n<SPECIFYTABLE> \"B\"\"A\"|\"V\"\n<SUPPRESS> MOD()\n<CERTIFICATE> \"t.cert\"\n";
     let rows = [
         (flat, "A 1 1\nV 2 3\n<NUMERIC>\n", Ok((1, 1, 0, 1))),
-        (flat, "V 2 3\n<NUMERIC>\n<DECIMALS> 2\nW 5 1\n<WEIGHT>\n<DECIMALS> 3\nA 1 1\n", Ok((1, 0, 2, 1))),
+        (
+            flat,
+            "V 2 3\n<NUMERIC>\n<DECIMALS> 2\nW 5 1\n<WEIGHT>\n<DECIMALS> 3\nA 1 1\n",
+            Ok((1, 0, 2, 1)),
+        ),
         (flat, "a 1 1\nV 2 3\n<NUMERIC>\n", Err((3, NoSuchVariable))),
-        (flat, "A 1 1\n<NUMERIC>\nW 2 3\n<NUMERIC>\n", Err((3, NoSuchVariable))),
+        (
+            flat,
+            "A 1 1\n<NUMERIC>\nW 2 3\n<NUMERIC>\n",
+            Err((3, NoSuchVariable)),
+        ),
         (flat, "A 1 1\n<NUMERIC>\nV 2 3\n", Err((3, NotSpanning))),
         (flat, "A 1 1\nV 2 3\n", Err((3, NotNumeric))),
-        (flat, "A 1 1\n<CODELIST> t.csv\nV 2 3\n<NUMERIC>\n", Err((6, SameName))),
-        (flat, "A 1 1\n<HIERCODELIST> t.cert\nV 2 3\n<NUMERIC>\n", Err((7, SameName))),
-        (flat, "A 1 1\nB 1 1\n<CODELIST> t.csv\nV 2 3\n<NUMERIC>\n<CODELIST> t.csv\n", Ok((1, 2, 0, 1))),
-        (weighted, "A 1 1\nB 1 1\nV 2 3\n<NUMERIC>\n", Err((2, NoWeight))),
-        (weighted, "A 1 1\n<CODELIST> t.csv\nB 1 1\nV 2 3\n<NUMERIC>\n", Err((1, SameName))),
-        (weighted, "A 1 1\nC 1 1\nV 2 3\n<NUMERIC>\nW 5 3\n<WEIGHT>\n", Err((5, NoSuchVariable))),
-        (weighted, "A 1 1\nB 1 1\nV 2 3\n<NUMERIC>\n<DECIMALS> 1\nW 5 3\n<WEIGHT>\n<DECIMALS> 2\n", Ok((2, 2, 3, 100))),
+        (
+            flat,
+            "A 1 1\n<CODELIST> t.csv\nV 2 3\n<NUMERIC>\n",
+            Err((6, SameName)),
+        ),
+        (
+            flat,
+            "A 1 1\n<HIERCODELIST> t.cert\nV 2 3\n<NUMERIC>\n",
+            Err((7, SameName)),
+        ),
+        (
+            flat,
+            "A 1 1\nB 1 1\n<CODELIST> t.csv\nV 2 3\n<NUMERIC>\n<CODELIST> t.csv\n",
+            Ok((1, 2, 0, 1)),
+        ),
+        (
+            weighted,
+            "A 1 1\nB 1 1\nV 2 3\n<NUMERIC>\n",
+            Err((2, NoWeight)),
+        ),
+        (
+            weighted,
+            "A 1 1\n<CODELIST> t.csv\nB 1 1\nV 2 3\n<NUMERIC>\n",
+            Err((1, SameName)),
+        ),
+        (
+            weighted,
+            "A 1 1\nC 1 1\nV 2 3\n<NUMERIC>\nW 5 3\n<WEIGHT>\n",
+            Err((5, NoSuchVariable)),
+        ),
+        (
+            weighted,
+            "A 1 1\nB 1 1\nV 2 3\n<NUMERIC>\n<DECIMALS> 1\nW 5 3\n<WEIGHT>\n<DECIMALS> 2\n",
+            Ok((2, 2, 3, 100)),
+        ),
     ];
     for (job, meta, expected) in &rows {
         let found = places(rt.alloc(), job.as_bytes(), meta.as_bytes());

@@ -1,4 +1,4 @@
-use Rattle.std.proofs.Common.{◌≡◌, ℕ, List, Result, Ok, Err}
+use Rattle.std.proofs.Common.{ℕ, List, Result, Ok, Err}
 use Rattle.std.specs.Result.{IfOk}
 use Rattle.sdc_base.specs.Answers.{Gives}
 use Rattle.job_lang.specs.declared.job.Job.{Job}

@@ -1,5 +1,5 @@
-use Rattle.std.proofs.Common.{◌≡◌, ◌+◌, ◌++◌, length, drop}
-use Rattle.job_lang.specs.RuleTexts.{named_in, man_of, weighted_of}
+use Rattle.std.proofs.Common.{◌≡◌, drop}
+use Rattle.job_lang.specs.RuleTexts.{man_of}
 use Rattle.job_lang.proofs.rules.man_of.Given as goal
 
 abbrev pub invariant-loop-clause : goal.invariant-loop-clause
