@@ -182,6 +182,7 @@ all-given book now keep scale rows t past is good few frame kept given = λ cell
         let same = keeps cell mark at in
         record {
           truth_is = holds.truth ∙ ap pos fits ∙ sym holds.sum_is;
+          within = subst (λ z. (pos 0 ≤ℤ z) × (z ≤ℤ pos (10 ^ 29))) (sym (holds.truth ∙ ap pos fits)) (omega (arith, ints), omega (arith, ints, room, few));
           freq_is = holds.freq ∙ counted;
           keeps = same.0;
           scaled = same.1;

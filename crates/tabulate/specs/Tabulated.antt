@@ -1,5 +1,5 @@
 -- Marks that tell the sum, the number and the largest of the records in their cells (handbook, magnitude tables).
-use Rattle.std.specs.Prelude.{◌≡◌, ℕ, ◌≤◌, ◌<◌, ◌^◌, List, [], length, slice_get, slice_index, slice_index_or, Some, pos, ◌≤ℤ◌, ◌<ℤ◌}
+use Rattle.std.specs.Prelude.{◌≡◌, ℕ, ◌≤◌, ◌<◌, ◌^◌, List, [], length, slice_get, slice_index, slice_index_or, Some, ℤ, pos, ◌≤ℤ◌, ◌<ℤ◌}
 use Rattle.sdc_base.specs.Trees.{Tree}
 use Rattle.sdc_base.specs.Records.{Name}
 use Rattle.sdc_base.specs.Sums.{truth, freq}
@@ -27,6 +27,8 @@ pub record HasNone (mark : Mark) : Type 0 where
 -- the mark tells of the records that fall in the cell with this name
 pub record TellsOf (trees : List Tree) (rows : List Row) (keep scale : ℕ) (name : Name) (mark : Mark) : Type 0 where
   pub truth_is : mark.facts.truth ≡ truth trees name rows
+  -- no number of records within the limits has a sum beyond this
+  pub within : (pos 0 ≤ℤ mark.facts.truth) × (mark.facts.truth ≤ℤ pos (10 ^ 29))
   pub freq_is : mark.facts.freq ≡ freq trees name rows
   pub keeps : mark.facts.tops.keep ≡ keep
   pub scaled : mark.facts.tops.scale ≡ scale
