@@ -1,21 +1,39 @@
 -- To which file a run came.
-use Rattle.std.proofs.Common.{◌≡◌, List, ℕ, Result, Ok, Err, IsOk, refl}
-use Rattle.job_run.specs.FlatJobs.{flat_job_of}
-use Rattle.job_run.specs.FlatMetadata.{flat_layout_of}
-use Rattle.job_run.specs.declared.flat_forms.FlatJob.{FlatJob}
-use Rattle.job_run.specs.declared.flat_forms.FlatLayout.{FlatLayout}
+use Rattle.std.proofs.Common.{◌≡◌, ℕ, List, Some, Ok, refl}
 use Rattle.office_io.specs.Files.{Files}
-use Rattle.job_run.specs.Outcome.{look, built, job_read, HasLayout}
+use Rattle.rda_meta.specs.declared.meta.Variable.{Variable}
+use Rattle.microdata.specs.declared.layout.Field.{Field}
+use Rattle.job_run.specs.Inputs.{codes_in, described_of, fields_of, spanning}
+use Rattle.job_run.specs.Looks.{IsListedIn, FieldComesTo, FieldsComeTo, ComesFirstTo, ComesTo}
+use Rattle.job_run.specs.declared.described.Described.{Described}
 use Rattle.job_run.specs.declared.report.FileRef.{FileRef}
 use Rattle.job_run.specs.declared.report.FileRef.TheVariants as file
 
-pub job-was-read : (files : Files) (name bytes : List ℕ) (job : FlatJob) → look files name file.Job ≡ Ok bytes → built file.Job (flat_job_of bytes) ≡ Ok job → job_read files name ≡ Ok job
-unfolding job_read
-job-was-read files name bytes job found read = rw (found, read) refl
+pub comes-to-list : (files : Files) (place : ℕ) (variable : Variable) (f : FileRef) (held : List ℕ) → f ≡ file.CodeList place → variable.codes ≡ Some held → FieldComesTo files place variable f held
+comes-to-list files place variable f held is named = rw is (refl, named)
 
-built-ok : {A : Type 0} (f : FileRef) (held : Result A (Unit {0})) (x : A) → built f held ≡ Ok x → IsOk held
-built-ok f (Ok y) x h = refl
-built-ok f (Err e) x h = absurd cc
+pub comes-to-hierarchy : (files : Files) (place : ℕ) (variable : Variable) (f : FileRef) (held : List ℕ) (codes : List (List ℕ)) → codes_in files place variable.total variable.codes ≡ Ok codes
+    → f ≡ file.Hierarchy place → IsListedIn held variable.shape → FieldComesTo files place variable f held
+comes-to-hierarchy files place variable f held codes read is listed = rw is (refl, rw read refl, listed)
 
-pub layout-was-read : (files : Files) (job : FlatJob) (bytes : List ℕ) (layout : FlatLayout) → look files job.metadata file.Metadata ≡ Ok bytes → built file.Metadata (flat_layout_of job.variable job.response bytes) ≡ Ok layout → HasLayout files job
-layout-was-read files job bytes layout found read = (bytes, found, built-ok file.Metadata (flat_layout_of job.variable job.response bytes) layout read)
+pub first-comes : (files : Files) (name : List ℕ) (f : FileRef) (held : List ℕ) → ComesFirstTo files name f held → ComesTo files name f held
+first-comes files name file.Job held h = h
+first-comes files name file.Metadata held h = h
+first-comes files name (file.CodeList at) held h = absurd h
+first-comes files name (file.Hierarchy at) held h = absurd h
+first-comes files name file.Microdata held h = absurd h
+first-comes files name file.Certificate held h = absurd h
+first-comes files name (file.Table t) held h = absurd h
+
+pub fields-come-to : (files : Files) (name : List ℕ) (described : Described) (f : FileRef) (held : List ℕ) → described_of files name ≡ Ok described → FieldsComeTo files (spanning described) f held → ComesTo files name f held
+fields-come-to files name described file.Job held read h = absurd h.comes
+fields-come-to files name described file.Metadata held read h = absurd h.comes
+fields-come-to files name described (file.CodeList at) held read h = (described, read, h)
+fields-come-to files name described (file.Hierarchy at) held read h = (described, read, h)
+fields-come-to files name described file.Microdata held read h = absurd h.comes
+fields-come-to files name described file.Certificate held read h = absurd h.comes
+fields-come-to files name described (file.Table t) held read h = absurd h.comes
+
+pub microdata-comes : (files : Files) (name : List ℕ) (described : Described) (fields : List Field) (f : FileRef) → f ≡ file.Microdata → described_of files name ≡ Ok described → fields_of files (spanning described) ≡ Ok fields
+    → ComesTo files name f described.job.micro
+microdata-comes files name described fields f is read laid = rw is (described, read, rw laid refl, refl)

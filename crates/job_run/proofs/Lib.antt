@@ -1,13 +1,15 @@
-mod Coming
-mod PutSteps
-mod Outcomes
-mod Releasing
-pub mod Cuts
-pub mod RecordLines
-pub mod RecordFacts
-mod CsvLines
-mod FlatLines
-mod FlatReleases
-pub mod FieldLemmas
-pub mod FlatJobLaws
-pub mod FlatLayoutLaws
+pub mod Stopping
+pub mod Sounding
+pub mod Describing
+pub mod Listing
+pub mod Placing
+pub mod Coming
+pub mod FieldSteps
+pub mod Feeding
+pub mod Filling
+pub mod Showing
+pub mod TableSteps
+pub mod Releasing
+pub mod Outcomes
+pub mod Settling
+pub mod PutSteps

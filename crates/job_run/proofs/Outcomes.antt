@@ -1,11 +1,17 @@
 -- What a run comes to, from what its inputs came to.
-use Rattle.std.proofs.Common.{◌≡◌, ◌≢◌, inl, inr, List, ℕ, Option, None, Some, Result, Ok, Err, IsErrOf, refl, ◌∙◌}
+use Rattle.std.proofs.Common.{◌≡◌, ◌≢◌, inl, inr, List, ℕ, Bool, true, false, not, subst, Option, None, Some, Result, Ok, Err, IsErrOf, OnOk, refl, ◌∙◌}
 use Rattle.sdc_base.specs.Answers.{Fails}
-use Rattle.job_run.specs.declared.flat_forms.FlatJob.{FlatJob}
-use Rattle.job_run.specs.declared.flat_forms.FlatRecord.{FlatRecord}
+use Rattle.job_run.specs.declared.inputs.Inputs.{Inputs}
 use Rattle.office_io.specs.Files.{Files}
-use Rattle.job_run.specs.FlatRelease.{release_of, unless_named}
-use Rattle.job_run.specs.Outcome.{inputs_of, outcome_of}
+use Rattle.job_run.specs.Inputs.{inputs_of}
+use Rattle.job_run.specs.Outcome.{outcome_of}
+use Rattle.job_run.specs.Releases.{release_of, unless_named, cells_fault, is_built, first_primary, puts_of, summary_of}
+use Rattle.sdc_base.specs.Steps.{◌>>=◌, map_fault, refuse}
+use Rattle.sdc_base.specs.Trees.{Tree}
+use Rattle.linked_tables.specs.Tables.{book_of}
+use Rattle.linked_tables.specs.declared.book_fault.BookFault.{BookFault}
+use Rattle.linked_tables.specs.declared.book_fault.BookFault.TheVariants as book
+use Rattle.job_run.specs.declared.report.FileRef.TheVariants as file
 use Rattle.job_run.specs.Refusals.{refused_for}
 use Rattle.job_run.specs.Reports.{report_of, Meets, Leaves, LeavesAll, SomeWhole, OneInPart}
 use Rattle.job_run.specs.Stops.{stop_of, stopped_for, IsHalt}
@@ -20,7 +26,7 @@ use Rattle.job_run.specs.declared.report.Summary.{Summary}
 use Rattle.job_run.specs.declared.stop.Stop.{Stop}
 use Rattle.job_run.specs.declared.stop.Stop.TheVariants as stop
 
-pub outcome-read : (files : Files) (name : List ℕ) (read : FlatJob × List FlatRecord) → inputs_of files name ≡ Ok read → outcome_of files name ≡ release_of read.0 read.1
+pub outcome-read : (files : Files) (name : List ℕ) (read : Inputs) → inputs_of files name ≡ Ok read → outcome_of files name ≡ release_of read
 unfolding outcome_of
 outcome-read files name read e = rw e refl
 
@@ -42,30 +48,46 @@ stop-leaves (stop.WriteFault f) outcome old new same no_write = absurd (no_write
 stop-leaves stop.Memory outcome old new same no_write = inl same
 
 -- what the records were refused for is what the run is refused for
-pub refusal-meets : (r : Refusal) (files : Files) (name : List ℕ) (read : FlatJob × List FlatRecord) → inputs_of files name ≡ Ok read → Fails (refused_for r) (release_of read.0 read.1) → Meets (report_of (Err (stop_of r))) (outcome_of files name)
+pub refusal-meets : (r : Refusal) (files : Files) (name : List ℕ) (read : Inputs) → inputs_of files name ≡ Ok read → Fails (refused_for r) (release_of read) → Meets (report_of (Err (stop_of r))) (outcome_of files name)
 refusal-meets (refusal.Refused f) files name read e fails = outcome-read files name read e ∙ fails
 refusal-meets refusal.Memory files name read e fails = tt
 
--- the records are refused for a named cell alone
+-- the inputs are refused for too many cells, what isn't built, or a named cell
 abbrev pub IsOfCells : Fault → Type 0
+IsOfCells (fault.Cells t) = Unit {0}
+IsOfCells (fault.NotBuilt f) = Unit {0}
 IsOfCells (fault.NeedsPlan cell) = Unit {0}
 IsOfCells other = ⊥
 
+cells-of-cells : (e : BookFault) → IsOfCells (cells_fault e)
+cells-of-cells (book.NoSuchVariable t) = tt
+cells-of-cells (book.TwiceInTable t) = tt
+cells-of-cells (book.TooManyCells t) = tt
+cells-of-cells book.Memory = tt
+
 unless-of-cells : (named : Option ℕ) (release : Release) (f : Fault) → unless_named named release ≡ Err f → IsOfCells f
 unless-of-cells None release f h = absurd cc
-unless-of-cells (Some cell) release (fault.NeedsPlan c) h = tt
-unless-of-cells (Some cell) release (fault.Absent g) h = cc
-unless-of-cells (Some cell) release (fault.TooLong g) h = cc
-unless-of-cells (Some cell) release (fault.NotBuilt g) h = cc
+unless-of-cells (Some cell) release f h = let same : fault.NeedsPlan cell ≡ f = cc in subst IsOfCells same tt
 
-pub refused-of-cells : (job : FlatJob) (records : List FlatRecord) (f : Fault) → release_of job records ≡ Err f → IsOfCells f
+built-of-cells : (wrong : Bool) (next : Result Release Fault) (f : Fault) → ((g : Fault) → next ≡ Err g → IsOfCells g) → (refuse (fault.NotBuilt file.Job) wrong >>= (λ built. next)) ≡ Err f → IsOfCells f
+built-of-cells true next f later h = let same : fault.NotBuilt file.Job ≡ f = cc in subst IsOfCells same tt
+built-of-cells false next f later h = later f h
+
+linked-of-cells : (linked : Result (List Tree × List (List ℕ)) BookFault) (next : Result Release Fault) (f : Fault) → ((g : Fault) → next ≡ Err g → IsOfCells g) → (map_fault cells_fault linked >>= (λ book. next)) ≡ Err f → IsOfCells f
+linked-of-cells (Ok given) next f later h = later f h
+linked-of-cells (Err e) next f later h = let same : cells_fault e ≡ f = cc in subst IsOfCells same (cells-of-cells e)
+
+pub refused-of-cells : (inputs : Inputs) (f : Fault) → release_of inputs ≡ Err f → IsOfCells f
 unfolding release_of
-refused-of-cells job records f h = unless-of-cells _ _ f h
+refused-of-cells inputs f h =
+    let release : Release = record { puts = puts_of inputs; summary = summary_of inputs } in
+    linked-of-cells (book_of inputs.records.trees inputs.described.bound.tables) (refuse (fault.NotBuilt file.Job) (not (is_built inputs.described)) >>= (λ built. unless_named (first_primary inputs) release)) f
+    (λ g later. built-of-cells (not (is_built inputs.described)) (unless_named (first_primary inputs) release) g (λ e last. unless-of-cells (first_primary inputs) release e last) later) h
 
--- no refusal of the records is that a file isn't there, or is too long
-pub refusal-of-cells : (r : Refusal) (job : FlatJob) (records : List FlatRecord) (f : Fault) → Fails (refused_for r) (release_of job records) → stop_of r ≡ stop.Refused f → IsOfCells f
-refusal-of-cells (refusal.Refused g) job records f fails is = let same : g ≡ f = cc in rw (← same) (refused-of-cells job records g fails)
-refusal-of-cells refusal.Memory job records f fails is = absurd cc
+-- no refusal of the inputs is that a file isn't there, or is too long
+pub refusal-of-cells : (r : Refusal) (inputs : Inputs) (f : Fault) → Fails (refused_for r) (release_of inputs) → stop_of r ≡ stop.Refused f → IsOfCells f
+refusal-of-cells (refusal.Refused g) inputs f fails is = let same : g ≡ f = cc in rw (← same) (refused-of-cells inputs g fails)
+refusal-of-cells refusal.Memory inputs f fails is = absurd cc
 
 -- what stopped the puts came after whole inputs
 pub halt-meets : (e : Stop) (outcome : Result Release Fault) (release : Release) → IsHalt e → outcome ≡ Ok release → Meets (report_of (Err e)) outcome
@@ -103,3 +125,11 @@ report-write (Err (stop.Refused g)) f e = cc
 report-write (Err (stop.ReadFault g)) f e = cc
 report-write (Err (stop.WriteFault g)) f e = cc
 report-write (Err stop.Memory) f e = cc
+
+-- what holds of a run that released holds where the report says so
+pub report-released : (r : Result Summary Stop) (s : Summary) (P : Type 0) → report_of r ≡ report.Released s → OnOk r P → P
+report-released (Ok t) s P e h = h
+report-released (Err (stop.Refused g)) s P e h = absurd cc
+report-released (Err (stop.ReadFault g)) s P e h = absurd cc
+report-released (Err (stop.WriteFault g)) s P e h = absurd cc
+report-released (Err stop.Memory) s P e h = absurd cc

@@ -1,76 +1,44 @@
--- What a report says in the subject's words.
-use Rattle.std.proofs.Common.{◌≡◌, ◌≢◌, inl, inr, ℕ, ◌+◌, Bool, true, false, cond, List, [], ◌∷◌, Option, None, Some, Result, Ok, Err, IsOkAnd, option_map, refl, ap, sym, subst, ◌∙◌}
-use Rattle.std.specs.List.{AllByRecursion}
+-- The release of a job's inputs, from the parts that the code makes.
+use Rattle.std.proofs.Common.{◌≡◌, ℕ, true, List, length, Option, None, Some, Ok, Err, refl, sym, ◌∙◌}
+use Rattle.std.specs.Prelude.{is_some}
 use Rattle.sdc_base.specs.Places.{first_place}
-use Rattle.sdc_base.specs.Rules.{frequency_names}
-use Rattle.sdc_base.specs.Sums.{freq}
-use Rattle.sdc_base.proofs.StepLemmas.{bind_ok}
-use Rattle.job_run.proofs.FieldLemmas.{ok_value}
-use Rattle.job_run.specs.declared.flat_forms.FlatJob.{FlatJob}
-use Rattle.job_run.specs.declared.flat_forms.FlatRecord.{FlatRecord}
-use Rattle.office_io.specs.Files.{Files}
-use Rattle.job_run.specs.FlatRelease.{release_of, unless_named, puts_of, summary_of, flat_cells, trees_of_records, rows_of}
-use Rattle.job_run.specs.Outcome.{inputs_of, outcome_of}
-use Rattle.job_run.specs.Released.{Releases, IsReleaseOf}
-use Rattle.job_run.specs.Reports.{Meets, Leaves, Settles, put_all}
-use Rattle.job_run.specs.declared.put.Release.{Release}
-use Rattle.job_run.specs.declared.report.Fault.{Fault}
-use Rattle.job_run.specs.declared.report.FileRef.{FileRef}
-use Rattle.job_run.specs.declared.report.Report.{Report}
-use Rattle.job_run.specs.declared.report.Report.TheVariants as report
+use Rattle.sdc_base.specs.RuleLevels.{told, level_of}
+use Rattle.sdc_base.specs.Steps.{map_fault}
+use Rattle.sdc_base.specs.Trees.{Tree}
+use Rattle.linked_tables.specs.Held.{Held}
+use Rattle.linked_tables.specs.Tables.{book_of}
+use Rattle.linked_tables.specs.declared.mark.Mark.{Mark}
+use Rattle.job_run.specs.Releases.{cells, cells_fault, is_built, first_primary, puts_of, summary_of, release_of}
+use Rattle.job_run.specs.Tabulated.{IsBookOf}
+use Rattle.job_run.specs.declared.inputs.Inputs.{Inputs}
+use Rattle.job_run.specs.declared.put.Put.{Put}
+use Rattle.job_run.specs.declared.report.Fault.TheVariants as fault
 use Rattle.job_run.specs.declared.report.Summary.{Summary}
+use Rattle.job_run.proofs.Showing.{first-named}
 
-map-none : (f : ℕ → ℕ) (o : Option ℕ) → option_map f o ≡ None → o ≡ None
-map-none f None h = refl
-map-none f (Some n) h = absurd cc
+-- the first mark that a rule names
+abbrev pub first_mark : Inputs → Held → Option ℕ
+first_mark inputs book = first_place (λ (mark : Mark). is_some (level_of inputs.described.job.rules.list (told mark.facts))) book.marks
 
--- where no place passes a test, no element does
-none-passes : {X : Type 0} (test : X → Bool) (xs : List X) → first_place test xs ≡ None → AllByRecursion (λ x. test x ≡ false) xs
-none-passes test [] h = tt
-none-passes test (x ∷ xs) h = elim (test x) as (λ t. test x ≡ t → cond t (Some 0) (option_map (λ k. k + 1) (first_place test xs)) ≡ None → (test x ≡ false) × AllByRecursion (λ y. test y ≡ false) xs) [
-  | true ↦ λ is none. absurd cc
-  | false ↦ λ is none. (is, none-passes test xs (map-none (λ k. k + 1) (first_place test xs) none))
-] refl h
-
-unless-none : (named : Option ℕ) (made release : Release) → unless_named named made ≡ Ok release → (named ≡ None) × (made ≡ release)
-unless-none None made release h = (refl, ok_value made release h)
-unless-none (Some cell) made release h = absurd cc
-
--- a release is what its record says
-release-is : (files : Files) (name : List ℕ) (job : FlatJob) (records : List FlatRecord) (release : Release) (summary : Summary) (old new : Option Files) →
-    inputs_of files name ≡ Ok (job, records) → release_of job records ≡ Ok release → summary ≡ release.summary → new ≡ option_map (λ out. put_all out release.puts) old →
-    IsReleaseOf files name job records summary old new
+pub release-named : (inputs : Inputs) (book : Held) (given : List Tree × List (List ℕ)) (cell : ℕ) → map_fault cells_fault (book_of inputs.records.trees inputs.described.bound.tables) ≡ Ok given → is_built inputs.described ≡ true
+    → IsBookOf inputs book → Some cell ≡ first_mark inputs book → release_of inputs ≡ Err (fault.NeedsPlan cell)
 unfolding release_of
-release-is files name job records release summary old new read planned numbers folder =
-    let made : Release = record { puts = puts_of job records; summary = summary_of records } in
-    let parts = unless-none _ made release planned in
-    record {
-      read = read;
-      unnamed = none-passes (λ cell. frequency_names job.minimum (freq (trees_of_records records) cell (rows_of records))) (flat_cells records) parts.0;
-      numbers = numbers ∙ sym (ap (λ (r : Release). r.summary) parts.1);
-      folder = folder ∙ sym (ap (λ (r : Release). option_map (λ out. put_all out r.puts) old) parts.1);
-    }
+release-named inputs book given cell linked built is named =
+    let first : first_primary inputs ≡ Some cell = sym (named ∙ first-named inputs book is) in
+    rw (linked, built, first) refl
 
-ok-and : {A F : Type 0} (P : A → Type 0) (o : Result A F) → IsOkAnd o P → (x : A) × (o ≡ Ok x) × P x
-ok-and P (Ok x) h = (x, refl, h)
-ok-and P (Err f) h = absurd h
+pub release-made : (inputs : Inputs) (book : Held) (given : List Tree × List (List ℕ)) (puts : List Put) (summary : Summary) → map_fault cells_fault (book_of inputs.records.trees inputs.described.bound.tables) ≡ Ok given → is_built inputs.described ≡ true
+    → IsBookOf inputs book → None ≡ first_mark inputs book → puts ≡ puts_of inputs → summary ≡ summary_of inputs → release_of inputs ≡ Ok (record { puts = puts; summary = summary })
+unfolding release_of
+release-made inputs book given puts summary linked built is none put numbers =
+    let first : first_primary inputs ≡ None = sym (none ∙ first-named inputs book is) in
+    rw (linked, built, first, put, numbers) refl
 
-pub releases : (files : Files) (name : List ℕ) (summary : Summary) (old new : Option Files) → Meets (report.Released summary) (outcome_of files name) → Leaves (report.Released summary) (outcome_of files name) old new → Releases files name summary old new
-unfolding outcome_of
-releases files name summary old new meets leaves =
-    let told = ok-and (λ (release : Release). summary ≡ release.summary) (outcome_of files name) meets in
-    let left : new ≡ option_map (λ out. put_all out told.0.puts) old = subst (λ (o : Result Release Fault). IsOkAnd o (λ release. new ≡ option_map (λ out. put_all out release.puts) old)) told.1 leaves in
-    let read = bind_ok (inputs_of files name) _ told.0 told.1 in
-    (read.0.0, read.0.1, release-is files name read.0.0 read.0.1 told.0 summary old new read.1 read.2 told.2 left)
+summary-same : (a b c d e f a' b' c' d' e' f' : ℕ) → a ≡ a' → b ≡ b' → c ≡ c' → d ≡ d' → e ≡ e' → f ≡ f'
+    → ◌≡◌ {A = Summary} (record { records = a; skipped = b; passed_over = c; cells = d; primary = e; hidden = f }) (record { records = a'; skipped = b'; passed_over = c'; cells = d'; primary = e'; hidden = f' })
+summary-same a b c d e f a' b' c' d' e' f' ha hb hc hd he hf = rw (ha, hb, hc, hd, he, hf) refl
 
--- without a fault of shelf or tray the outcome is the answer, or there is no memory
-pub settles : (answer : Report) (outcome : Result Release Fault) → Meets answer outcome → ((f : FileRef) → answer ≢ report.ReadFault f) → ((f : FileRef) → answer ≢ report.WriteFault f) → Settles answer outcome
-settles (report.Released s) (Ok release) meets no_read no_write = inl (ap report.Released meets)
-settles (report.Released s) (Err f) meets no_read no_write = absurd meets
-settles report.Usage outcome meets no_read no_write = absurd meets
-settles (report.Refused f) (Ok release) meets no_read no_write = absurd cc
-settles (report.Refused f) (Err g) meets no_read no_write = inl (let same : g ≡ f = cc in ap report.Refused (sym same))
-settles (report.ReadFault f) outcome meets no_read no_write = absurd (no_read f refl)
-settles (report.WriteFault f) outcome meets no_read no_write = absurd (no_write f refl)
-settles report.Memory (Ok release) meets no_read no_write = inr refl
-settles report.Memory (Err f) meets no_read no_write = inr refl
+-- numbers that are those of the inputs are theirs
+pub summary-is : (inputs : Inputs) (s : Summary) → s.records ≡ length inputs.records.rows → s.skipped ≡ inputs.records.skipped → s.passed_over ≡ inputs.described.meta.passed_over → s.cells ≡ length (cells inputs) → s.primary ≡ 0 → s.hidden ≡ 0
+    → s ≡ summary_of inputs
+summary-is inputs s a b c d e f = summary-same s.records s.skipped s.passed_over s.cells s.primary s.hidden _ _ _ _ _ _ a b c d e f

@@ -1,6 +1,16 @@
 -- Why a run of a job stopped (own).
 use Rattle.std.specs.Prelude.{Option, None, Some}
+use Rattle.hierarchy.specs.declared.tree_fault.TreeFault.{TreeFault}
+use Rattle.hierarchy.specs.declared.tree_fault.TreeFault.TheVariants as tree
+use Rattle.job_lang.specs.declared.faults.JobError.{JobError}
+use Rattle.job_lang.specs.declared.faults.JobError.TheVariants as job_error
+use Rattle.microdata.specs.declared.faults.RowError.{RowError}
+use Rattle.microdata.specs.declared.faults.RowError.TheVariants as row_error
+use Rattle.rda_meta.specs.declared.faults.MetaError.{MetaError}
+use Rattle.rda_meta.specs.declared.faults.MetaError.TheVariants as meta_error
+use Rattle.job_run.specs.declared.report.FileRef.{FileRef}
 use Rattle.job_run.specs.declared.report.Fault.{Fault}
+use Rattle.job_run.specs.declared.report.Fault.TheVariants as fault
 use Rattle.job_run.specs.declared.refusal.Refusal.{Refusal}
 use Rattle.job_run.specs.declared.refusal.Refusal.TheVariants as refusal
 use Rattle.job_run.specs.declared.stop.Stop.{Stop}
@@ -10,6 +20,26 @@ use Rattle.job_run.specs.declared.stop.Stop.TheVariants as stop
 abbrev pub stop_of : Refusal → Stop
 stop_of (refusal.Refused fault) = stop.Refused fault
 stop_of refusal.Memory = stop.Memory
+
+-- an error of the job as a stop
+abbrev pub job_stop : JobError → Stop
+job_stop (job_error.At line why) = stop.Refused (fault.Job line why)
+job_stop job_error.Memory = stop.Memory
+
+-- an error of the metadata as a stop
+abbrev pub meta_stop : MetaError → Stop
+meta_stop (meta_error.At line why) = stop.Refused (fault.Meta line why)
+meta_stop meta_error.Memory = stop.Memory
+
+-- an error of the microdata as a stop
+abbrev pub row_stop : RowError → Stop
+row_stop (row_error.At number why) = stop.Refused (fault.Row number why)
+row_stop row_error.Memory = stop.Memory
+
+-- what is wrong with a file of codes as a stop
+abbrev pub tree_stop : FileRef → TreeFault → Stop
+tree_stop f tree.Memory = stop.Memory
+tree_stop f one = stop.Refused (fault.Tree f one)
 
 -- the fault for which a run was refused; faults of shelf and tray and want of memory name none
 abbrev pub stopped_for : Stop → Option Fault

@@ -1,32 +1,28 @@
 //! The top call of argus.
 #![tactic(auto)]
 
+mod certificate;
+mod codes;
+mod described;
 mod fields;
-mod flat_cells;
-mod flat_forms;
-mod flat_job;
-mod flat_layout;
-mod flat_records;
-mod flat_release;
-mod flat_table;
-mod form_fault;
+mod filled;
 mod inputs;
-mod laws;
+mod kinds;
+mod layouts;
 mod loading;
+mod microdata_file;
 mod printing;
 mod put;
 mod puts;
-#[cfg(test)]
-mod reader_tests;
 mod refusal;
+mod release;
+mod release_texts;
 mod report;
 mod running;
 mod stop;
 #[cfg(test)]
 mod tests;
 
-pub use flat_forms::{FieldPlace, FlatJob, FlatLayout, FlatRecord};
-pub use laws::{flat_jobs_are_their_texts, flat_layouts_are_their_texts};
 pub use printing::report_text;
 pub use report::{Fault, FileRef, Report, Summary};
 pub use running::run;

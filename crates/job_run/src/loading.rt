@@ -1,9 +1,9 @@
-ghost use Rattle.std.specs.Prelude.{◌≡◌, ◌≢◌, ◌≤◌, ◌+◌, IsErrOf, Err};
+ghost use Rattle.std.specs.Prelude.{◌≡◌, ◌≢◌, ◌≤◌, ◌+◌, IfOk, IsErrOf, Err, length};
 ghost use Rattle.sdc_base.specs.Answers.{Gives};
 ghost use Rattle.sdc_base.specs.Counts.{Rose};
 ghost use Rattle.sdc_base.specs.Told.{WhereTold};
 ghost use Rattle.office_io.specs.Files.{held_name};
-ghost use Rattle.job_run.specs.Outcome.{look, limit};
+ghost use Rattle.job_run.specs.Inputs.{look, limit};
 ghost use Rattle.job_run.specs.Stops.{stopped_for, IsBeforePuts};
 ghost use Rattle.job_run.specs.declared.report.FileRef.{FileRef as AnyFile};
 
@@ -13,8 +13,8 @@ use office_io::{FileFault, Shelf, read_all};
 use sdc_base::Text;
 use std::alloc::Global;
 
-// The greatest input file, in bytes.
-const LIMIT: u64 = 268_435_456;
+/// The greatest input file, in bytes.
+pub(crate) const LIMIT: u64 = 268_435_456;
 
 /// The bytes of an input file, or its own fault: Absent, then TooLong.
 pub(crate) fn load<S: Shelf>(
@@ -24,6 +24,7 @@ pub(crate) fn load<S: Shelf>(
     file: FileRef,
 ) -> Result<Vec<u8>, Stop>
     ensures told { WhereTold (S.files shelf.old) (λ fs. Gives stopped_for (λ bytes. bytes.items) result (look fs name.now file)) }
+    ensures short { IfOk result (λ bytes. length bytes.items ≤ limit) }
     ensures same { S.files shelf.new ≡ S.files shelf.old }
     ensures last { WhereTold (S.files shelf.old) (λ fs. S.last shelf.new ≡ held_name fs name.now) }
     ensures which { (f : AnyFile) → IsErrOf result (Stop.ReadFault f) → f ≡ file }

@@ -1,6 +1,7 @@
 ghost use Rattle.std.specs.Prelude.{◌≡◌, IfOk};
 ghost use Rattle.job_run.specs.ReportText.{status_of, report_text as text_of};
 
+use crate::kinds::{JobKind, TreeKind, meta_kind, row_kind};
 use crate::report::{Fault, FileRef, Report, Summary};
 use sdc_base::{Memory, Text};
 use std::alloc::Global;
@@ -42,6 +43,14 @@ impl Display for FileRef {
         match self {
             FileRef::Job => write!(f, "job"),
             FileRef::Metadata => write!(f, "metadata"),
+            FileRef::CodeList(place) => {
+                let number = u64::from(*place) + 1;
+                write!(f, "codelist {number}")
+            }
+            FileRef::Hierarchy(place) => {
+                let number = u64::from(*place) + 1;
+                write!(f, "hierarchy {number}")
+            }
             FileRef::Microdata => write!(f, "microdata"),
             FileRef::Certificate => write!(f, "certificate"),
             FileRef::Table(table) => {
@@ -62,6 +71,26 @@ impl Display for Fault {
         match self {
             Fault::Absent(file) => write!(f, "{file}: Absent"),
             Fault::TooLong(file) => write!(f, "{file}: TooLong"),
+            Fault::Job { line, why } => {
+                let kind = JobKind { why: *why };
+                write!(f, "job line {line}: {kind}")
+            }
+            Fault::Meta { line, why } => {
+                let kind = meta_kind(*why);
+                write!(f, "metadata line {line}: {kind}")
+            }
+            Fault::Tree(file, fault) => {
+                let at = TreeKind { fault: *fault };
+                write!(f, "{file} line {at}")
+            }
+            Fault::Row { number, why } => {
+                let kind = row_kind(*why);
+                write!(f, "record {number}: {kind}")
+            }
+            Fault::Cells(table) => {
+                let number = u64::from(*table) + 1;
+                write!(f, "table {number}: TooManyCells")
+            }
             Fault::NotBuilt(file) => write!(f, "{file}: NotBuilt"),
             Fault::NeedsPlan(cell) => write!(f, "cell {cell}: NeedsPlan"),
         }

@@ -1,24 +1,43 @@
-/// A file of a run. A table is numbered from 0.
+use hierarchy::TreeFault;
+use job_lang::JobWhy;
+use microdata::RowWhy;
+use rda_meta::MetaWhy;
+
+/// A file of a run. A variable is numbered by its place in the metadata, from 0, and a table from 0.
 #[derive(Clone, Copy, Debug, PartialEq, Eq)]
 pub enum FileRef {
     Job,
     Metadata,
+    CodeList(u32),
+    Hierarchy(u32),
     Microdata,
     Certificate,
     Table(u32),
 }
 
-/// What is wrong with the inputs: the first fault in the order job, metadata, microdata, cells.
+/// What is wrong with the inputs: the first fault in the order job, metadata, the job's variables in the metadata, for each
+/// spanning variable in the order of the metadata its code list and then its hierarchy, the microdata,
+/// the number of cells, and what is not built yet.
 #[derive(Clone, Copy, Debug, PartialEq, Eq)]
 pub enum Fault {
     /// The file isn't there.
     Absent(FileRef),
     /// The file has more than 268,435,456 bytes.
     TooLong(FileRef),
-    /// The file isn't of the one form that is built so far.
+    /// A line of the job, from 1, or the job as a whole, 0; also where the metadata lack what it names.
+    Job { line: u32, why: JobWhy },
+    /// A line of the metadata, from 1.
+    Meta { line: u32, why: MetaWhy },
+    /// A code list or a hierarchy file, with its line or, for a missing code, the code's number, from 1; never want of
+    /// memory.
+    Tree(FileRef, TreeFault),
+    /// A record of the microdata, from 1.
+    Row { number: u64, why: RowWhy },
+    /// With this table the distinct cells pass 20,000.
+    Cells(u32),
+    /// The job wants what isn't built so far.
     NotBuilt(FileRef),
-    /// The frequency rule names this cell, the first one, and no plan to protect it is built so
-    /// far. Cells are numbered from 0.
+    /// A rule names this cell, the first one, and no plan to protect it is built so far. Cells are numbered from 0.
     NeedsPlan(u32),
 }
 

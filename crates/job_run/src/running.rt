@@ -1,24 +1,29 @@
-ghost use Rattle.std.specs.Prelude.{◌≡◌, ◌↔◌, None, Some, List, ℕ, option_map, OnOk, IsErrOf, ◌+◌};
+ghost use Rattle.std.specs.Prelude.{◌≡◌, ◌↔◌, ◌≤◌, None, Some, List, ℕ, length, option_map, OnOk, IsOkAnd, IsErrOf, ◌+◌};
 ghost use Rattle.sdc_base.specs.Counts.{Rose, counted};
 ghost use Rattle.sdc_base.specs.Told.{WhereTold};
 ghost use Rattle.office_io.specs.Files.{held_name};
-ghost use Rattle.job_run.specs.Outcome.{job_name, outcome_of, limit, ComesTo};
+ghost use Rattle.job_run.specs.Inputs.{limit};
+ghost use Rattle.job_run.specs.Looks.{ComesTo};
+ghost use Rattle.job_run.specs.Outcome.{job_name, outcome_of};
 ghost use Rattle.job_run.specs.Released.{Releases};
 ghost use Rattle.job_run.specs.Reports.{Meets, Leaves, LeavesAll, Settles, report_of};
 ghost use Rattle.job_run.specs.declared.report.FileRef.{FileRef as AnyFile};
 ghost use Rattle.job_run.specs.declared.report.Summary.{Summary as Numbers};
 
-use crate::flat_release::flat_release;
 use crate::inputs::read_inputs;
 use crate::puts::put_files;
+use crate::release::release_for;
 use crate::report::{Fault, Report, Summary};
 use crate::stop::Stop;
 use office_io::{Shelf, Tray};
 use sdc_base::Text;
 use std::alloc::Global;
 
-/// Does what the words say: `run JOB` reads the files of a job from the shelf and puts its
-/// certificate and its table.
+/// Does what the words say: `run JOB` reads the files of a job from the shelf and puts its certificate and its tables.
+///
+/// The job, its metadata, the code lists and hierarchies of its spanning variables and its microdata are looked at in this
+/// order, then the number of cells, then whether the job wants what is built, and then the rules; the first fault is the answer.
+/// The microdata are read in pieces, every other file whole. All that is put is made before the first put.
 pub fn run<S: Shelf, T: Tray>(alloc: Global, words: &[Text], shelf: &mut S, tray: &mut T) -> Report
     // Usage comes exactly where the words are none of the forms that are built.
     ensures usage { (result ≡ Report.Usage) ↔ (job_name words.now ≡ None) }
@@ -28,11 +33,13 @@ pub fn run<S: Shelf, T: Tray>(alloc: Global, words: &[Text], shelf: &mut S, tray
     ensures left { WhereTold (job_name words.now) (λ name. WhereTold (S.files shelf.old) (λ fs. Leaves result (outcome_of fs name) (T.files tray.old) (T.files tray.new))) }
     ensures untouched { LeavesAll result (T.files tray.old) (T.files tray.new) }
 
-    // A release makes two puts, and an answer that leaves the tray makes none.
-    ensures once { (summary : Numbers) → result ≡ Report.Released summary → T.puts tray.new ≡ counted (T.puts tray.old) 2 }
+    // A release makes a put for the certificate and one for each table, and an answer that leaves the tray makes none.
+    ensures once { WhereTold (job_name words.now) (λ name. WhereTold (S.files shelf.old) (λ fs. (summary : Numbers) → result ≡ Report.Released summary
+        → IsOkAnd (outcome_of fs name) (λ release. T.puts tray.new ≡ counted (T.puts tray.old) (length release.puts)))) }
+    ensures some { (summary : Numbers) → result ≡ Report.Released summary → (count : ℕ) × (2 ≤ count) × (T.puts tray.new ≡ counted (T.puts tray.old) count) }
     ensures no_put { LeavesAll result (T.puts tray.old) (T.puts tray.new) }
 
-    // A release is that of the job and the records of the told files.
+    // A release is that of the inputs of the told files.
     ensures released { WhereTold (job_name words.now) (λ name. WhereTold (S.files shelf.old) (λ fs. (summary : Numbers) → result ≡ Report.Released summary
         → Releases fs name summary (T.files tray.old) (T.files tray.new))) }
 
@@ -78,7 +85,8 @@ fn release<S: Shelf, T: Tray>(
     ensures told { WhereTold (S.files shelf.old) (λ fs. Meets (report_of result) (outcome_of fs name.now)) }
     ensures left { WhereTold (S.files shelf.old) (λ fs. Leaves (report_of result) (outcome_of fs name.now) (T.files tray.old) (T.files tray.new)) }
     ensures untouched { LeavesAll (report_of result) (T.files tray.old) (T.files tray.new) }
-    ensures once { OnOk result (T.puts tray.new ≡ counted (T.puts tray.old) 2) }
+    ensures once { WhereTold (S.files shelf.old) (λ fs. OnOk result (IsOkAnd (outcome_of fs name.now) (λ release. T.puts tray.new ≡ counted (T.puts tray.old) (length release.puts)))) }
+    ensures some { OnOk result ((count : ℕ) × (2 ≤ count) × (T.puts tray.new ≡ counted (T.puts tray.old) count)) }
     ensures no_put { LeavesAll (report_of result) (T.puts tray.old) (T.puts tray.new) }
     ensures absent { (f : AnyFile) → IsErrOf result (Stop.Refused (Fault.Absent f)) → Rose (S.absences shelf.old) (S.absences shelf.new) }
     ensures too_long { (f : AnyFile) → IsErrOf result (Stop.Refused (Fault.TooLong f)) → S.taken shelf.new ≡ limit + 1 }
@@ -87,8 +95,8 @@ fn release<S: Shelf, T: Tray>(
         → (held : List ℕ) × ComesTo fs name.now f held × (S.last shelf.new ≡ held_name fs held)) }
     ensures write_fault { (f : AnyFile) → IsErrOf result (Stop.WriteFault f) → Rose (T.faults tray.old) (T.faults tray.new) }
 {
-    let (job, records) = read_inputs(alloc, shelf, name)?;
-    let planned = flat_release(alloc, job, records)?;
+    let inputs = read_inputs(alloc, shelf, name)?;
+    let planned = release_for(alloc, inputs)?;
     put_files(tray, planned.puts.as_slice())?;
     Ok(planned.summary)
 }

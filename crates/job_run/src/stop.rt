@@ -1,5 +1,6 @@
 use crate::refusal::Refusal;
 use crate::report::{Fault, FileRef};
+use sdc_base::Memory;
 
 /// Why a run of a job stopped before its end.
 #[derive(Clone, Copy, Debug, PartialEq, Eq)]
@@ -21,5 +22,16 @@ impl From<Refusal> for Stop {
             Refusal::Refused(fault) => Stop::Refused(fault),
             Refusal::Memory => Stop::Memory,
         }
+    }
+}
+
+impl From<Memory> for Stop {
+    ghost use Rattle.std.specs.Prelude.{◌≡◌};
+    ghost use Rattle.job_run.specs.declared.stop.Stop.TheVariants as stop;
+
+    ghost from_gives = { λ _ e. e ≡ stop.Memory };
+
+    fn from(_: Memory) -> Self {
+        Stop::Memory
     }
 }

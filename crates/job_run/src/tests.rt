@@ -1,10 +1,19 @@
-use crate::reader_tests::{JOB, METADATA, text};
 use crate::{Fault, FileRef, Report, Summary, report_text, run};
+use hierarchy::TreeFault;
+use job_lang::{Command, JobWhy};
+use microdata::RowWhy;
 use office_io::{MemoryShelf, MemoryTray};
+use rda_meta::MetaWhy;
 use sdc_base::{Memory, Text};
 use std::alloc::Global;
 use std::rt::HostRuntime;
 use std::test::Fail;
+
+// The job of one table, with the metadata and the microdata that it names.
+const JOB: &str =
+    "<OPENMICRODATA> \"m.asc\"\n<OPENMETADATA> \"m.rda\"\n<SPECIFYTABLE> \"A\"|\"V\"\n<SAFETYRULE> FREQ(3,30)\n<READMICRODATA>\n<SUPPRESS> MOD()\n<WRITETABLE> (1,\"t.csv\")\n<CERTIFICATE> \"t.cert\"\n";
+
+const METADATA: &str = "A 1 1\n<RECODEABLE>\nV 2 3\n<NUMERIC>\n";
 
 const SEVEN: &str = "a 10\na 20\na 30\nb 20\nb 20\nb 20\nb 30\n";
 
@@ -12,41 +21,51 @@ const SEVEN: &str = "a 10\na 20\na 30\nb 20\nb 20\nb 20\nb 30\n";
 const RELEASED: &str =
     "0 released: 7 records, 0 skipped, 0 passed over, 3 cells, 0 primary, 0 hidden\nargus certificate 1\nmethod MOD\ncells 3\nrelations 1\nend\nA,V\nTotal,150\na,60\nb,90\n";
 
-const USAGE: &str =
-    "1 usage: argus run JOB | check JOB | intervals JOB OUT | demo SEED RECORDS\n--";
+// A job of two linked tables, with its metadata and records.
+const LINKED: &str =
+    "<OPENMICRODATA> \"m.asc\"\n<OPENMETADATA> \"m.rda\"\n<SPECIFYTABLE> \"A\"\"B\"|\"V\"\n<SPECIFYTABLE> \"A\"\"C\"|\"V\"\n<SAFETYRULE> FREQ(1,30)\n<SUPPRESS> MOD()\n<WRITETABLE> (1,\"t.csv\")\n<WRITETABLE> (2,\"u.csv\")\n<CERTIFICATE> \"t.cert\"\n";
 
-const TEN: &str =
-    "a999999999999999\na999999999999999\na999999999999999\na999999999999999\na999999999999999\na999999999999999\na999999999999999\na999999999999999\na999999999999999\na999999999999999\n";
+const THREE: &str =
+    "A 1 2\n<RECODEABLE>\nB 3 2\n<RECODEABLE>\nC 5 2\n<RECODEABLE>\nV 7 3\n<NUMERIC>\n";
 
-// Adds a file to the files of a shelf, unless its bytes are a minus.
-fn add(
-    alloc: Global,
-    files: &mut Vec<(Text, Vec<u8>)>,
-    name: &str,
-    bytes: &str,
-) -> Result<(), Memory> {
-    if bytes != "-" {
+const THIRTEEN: &str =
+    "a1b1c1 10\na1b1c2 10\na1b2c1 10\na1b2c1 10\na1b2c2 10\na1b2c2 20\na2b1c1  5\na2b1c1  5\na2b1c2 10\na2b1c2 10\na2b2c1 15\na2b2c2 10\na2b2c2 15\n";
+
+// A variable of three bytes, whose codes are in a hierarchy file, and the response.
+const LISTED: &str =
+    "A 1 3\n<RECODEABLE>\n<CODELIST> \"a.cdl\"\n<HIERARCHICAL>\n<HIERCODELIST> \"a.hrc\"\nV 4 3\n<NUMERIC>\n";
+
+// A variable of two bytes, whose codes have two levels, and the response.
+const LEVELS: &str =
+    "A 1 2\n<RECODEABLE>\n<HIERARCHICAL>\n<HIERLEVELS> 1 1\n<TOTCODE> T\nV 3 3\n<NUMERIC>\n";
+
+const USAGE: &str = "1 usage: argus run JOB | check JOB | intervals JOB OUT | demo SEED RECORDS\n";
+
+// The files of a shelf that isn't sound: each of its calls from this one on counts.
+#[derive(Clone, Copy)]
+struct Pieces {
+    bytes: u32,
+    failing: u64,
+}
+
+const WHOLE: Pieces = Pieces {
+    bytes: 4096,
+    failing: 0,
+};
+
+fn text(alloc: Global, bytes: &str) -> Result<Text, Memory> {
+    Ok(Text::new(Vec::from_slice(alloc, bytes.as_bytes())?))
+}
+
+// A shelf of these files, that gives pieces of so many bytes and one of whose calls fails.
+fn shelf_of(alloc: Global, given: &[(&str, &str)], pieces: Pieces) -> Result<MemoryShelf, Memory> {
+    let mut files = Vec::new(alloc);
+    for (name, bytes) in given {
         let bytes = Vec::from_slice(alloc, bytes.as_bytes())?;
         files.push((text(alloc, name)?, bytes))?;
     }
-    Ok(())
-}
-
-// A shelf of a job, metadata and microdata, each where it isn't a minus. It gives pieces of so many
-// bytes, and one of its calls fails.
-fn shelf_of(
-    alloc: Global,
-    job: &str,
-    metadata: &str,
-    microdata: &str,
-    piece: u32,
-    failing: u64,
-) -> Result<MemoryShelf, Memory> {
-    let mut files = Vec::new(alloc);
-    add(alloc, &mut files, "m.asc", microdata)?;
-    add(alloc, &mut files, "m.rda", metadata)?;
-    add(alloc, &mut files, "r1.job", job)?;
-    Ok(MemoryShelf::new(files, vec![in alloc; failing]?, piece.max(1)))
+    let failing = vec![in alloc; pieces.failing]?;
+    Ok(MemoryShelf::new(files, failing, pieces.bytes.max(1)))
 }
 
 // The status and the text of a report.
@@ -57,203 +76,339 @@ fn said(alloc: Global, report: &Report) -> Result<String, Memory> {
     Ok(format!(in alloc; "{status} {line}")?)
 }
 
-// The bytes that the tray holds for a file, or a minus where it holds none.
-fn held(alloc: Global, tray: &MemoryTray, name: &str) -> Result<String, Memory> {
-    let name = text(alloc, name)?;
-    let bytes = tray.file(&name).unwrap_or(b"-");
-    let bytes = str::from_utf8(bytes).unwrap_or("no text");
-    Ok(bytes.to_string(alloc)?)
+// The bytes that the tray holds for the certificate and the two tables.
+fn held(alloc: Global, tray: &MemoryTray) -> Result<String, Memory> {
+    let mut held = String::new(alloc);
+    for name in ["t.cert", "t.csv", "u.csv"] {
+        let name = text(alloc, name)?;
+        let bytes = tray.file(&name).unwrap_or(b"");
+        held.push_str(str::from_utf8(bytes).unwrap_or("no text"))?;
+    }
+    Ok(held)
 }
 
-// What a run says, and then what the tray holds: the certificate, and the table.
+// What a run of these words says, and then what the tray holds.
 fn ran(
     alloc: Global,
     words: &[&str],
-    shelf: &mut MemoryShelf,
+    files: &[(&str, &str)],
+    pieces: Pieces,
     tray: &mut MemoryTray,
 ) -> Result<String, Memory> {
     let mut given: Vec<Text> = Vec::new(alloc);
     for word in words {
         given.push(text(alloc, word)?)?;
     }
-    let report = run(alloc, given.as_slice(), shelf, tray);
+    let mut shelf = shelf_of(alloc, files, pieces)?;
+    let report = run(alloc, given.as_slice(), &mut shelf, tray);
     let said = said(alloc, &report)?;
-    let certificate = held(alloc, tray, "t.cert")?;
-    let table = held(alloc, tray, "t.csv")?;
-    Ok(format!(in alloc; "{said}{certificate}{table}")?)
+    let held = held(alloc, tray)?;
+    Ok(format!(in alloc; "{said}{held}")?)
 }
 
-// What the job `r1.job` says and leaves on an empty tray, one of whose puts fails.
-fn ran_alone(alloc: Global, shelf: &mut MemoryShelf, failing: u64) -> Result<String, Memory> {
+// What the job `r.job` says and leaves on an empty tray, one of whose puts fails.
+fn ran_alone(
+    alloc: Global,
+    files: &[(&str, &str)],
+    pieces: Pieces,
+    failing: u64,
+) -> Result<String, Memory> {
     let mut tray = MemoryTray::new(alloc, vec![in alloc; failing]?);
-    ran(alloc, &["run", "r1.job"], shelf, &mut tray)
+    ran(alloc, &["run", "r.job"], files, pieces, &mut tray)
 }
 
-// By a change in the job, the metadata and the microdata, each by large pieces and by single bytes.
+// The job with a line changed.
+fn changed(alloc: Global, from: &str, to: &str) -> Result<String, Memory> {
+    Ok(JOB.replace(alloc, from, to)?)
+}
+
+// A table by one variable: the metadata and the records, and what is released by a minimum of one.
 #[test]
-fn jobs(rt: HostRuntime) -> Result<(), Fail> {
-    let wide = "A 1 1\n<RECODEABLE>\nV 2 15\n<NUMERIC>\n";
-    let longer = "A 1 1\n<RECODEABLE>\nV 2 3\n<NUMERIC>\n<DECIMALS> 0\n";
-    let one_b = "b 20\na 10\na 20\na 30\n";
+fn tables(rt: HostRuntime) -> Result<(), Fail> {
+    let list = "A 1 1\n<RECODEABLE>\n<CODELIST> \"a.cdl\"\nV 2 3\n<NUMERIC>\n";
+    let survey =
+        "A 1 2 99\n   <RECODEABLE>\nReg 3 2\n   <RECODEABLE>\n   <CODELIST> \"none.cdl\"\n   <TOTCODE> All\nReq 5 1\n   <REQUEST> \"1\" \"2\"\nHold 6 3\n   <HOLDING>\nV 9 6 999999 888888\n   <NUMERIC>\n   <DECIMALS> 0\n";
+    let firms =
+        "11Nr0001    10\n11Nr0002    20\n11Os0003    30\n12Nr0004     5\n12Os0005     5\n12Os0006     5\n21Nr0007    40\n21Nr0008     1\n21Os0009     1\n21Os0010999999\n";
     let rows = [
-        ("", METADATA, SEVEN, RELEASED),
         (
-            "",
-            METADATA,
-            "b 30\nb 20\nb 20\nb 20\na 30\na 20\na 10\n",
-            RELEASED,
-        ),
-        (
-            "",
-            METADATA,
-            "a 10\nb 20\na 20\nb 20\na 30\nb 20\nb 30\n",
-            RELEASED,
-        ),
-        (
-            "",
-            METADATA,
-            "b 20\r\nb 30\na 30\na 10\nb 20\na 20\nb 20",
-            RELEASED,
-        ),
-        (
-            "",
             METADATA,
             "",
-            "0 released: 0 records, 0 skipped, 0 passed over, 1 cells, 0 primary, 0 hidden\nargus certificate 1\nmethod MOD\ncells 1\nrelations 0\nend\nA,V\nTotal,0\n",
+            "0 records, 0 skipped, 0 passed over, 1 cells",
+            "cells 1\nrelations 0",
+            "Total,0\n",
         ),
         (
-            "",
-            wide,
-            TEN,
-            "0 released: 10 records, 0 skipped, 0 passed over, 2 cells, 0 primary, 0 hidden\nargus certificate 1\nmethod MOD\ncells 2\nrelations 1\nend\nA,V\nTotal,9999999999999990\na,9999999999999990\n",
-        ),
-        (
-            "",
             METADATA,
-            "b 90\nB  0\nb 90\nB  0\nB  0\nb  0\n",
-            "0 released: 6 records, 0 skipped, 0 passed over, 3 cells, 0 primary, 0 hidden\nargus certificate 1\nmethod MOD\ncells 3\nrelations 1\nend\nA,V\nTotal,180\nB,0\nb,180\n",
+            "b 30\r\na 20\r\n\r\nb 60\r\na 40",
+            "4 records, 0 skipped, 0 passed over, 3 cells",
+            "cells 3\nrelations 1",
+            "Total,150\na,60\nb,90\n",
         ),
         (
-            "",
-            METADATA,
-            "a 10\na 20\nb 20\nb 20\nb 20\nb 30\n",
-            "2 refused: cell 1: NeedsPlan\n--",
+            "A 1 1\n<RECODEABLE>\nV 2 5\n<NUMERIC>\n<DECIMALS> 2\n",
+            "a 0.50\na99.25\nb    1\n",
+            "3 records, 0 skipped, 0 passed over, 3 cells",
+            "cells 3\nrelations 1",
+            "Total,100.75\na,99.75\nb,1.00\n",
         ),
-        ("", METADATA, one_b, "2 refused: cell 2: NeedsPlan\n--"),
         (
-            "",
-            METADATA,
-            "a 10\na 20\n",
-            "2 refused: cell 0: NeedsPlan\n--",
+            list,
+            "c 10\na 20\n",
+            "2 records, 0 skipped, 0 passed over, 4 cells",
+            "cells 4\nrelations 1",
+            "Total,30\nb,0\na,20\nc,10\n",
         ),
-        ("GH(1)", METADATA, SEVEN, "2 refused: job: NotBuilt\n--"),
-        ("GH(1)", "-", "-", "2 refused: job: NotBuilt\n--"),
-        ("", "-", SEVEN, "2 refused: metadata: Absent\n--"),
-        ("", "-", "-", "2 refused: metadata: Absent\n--"),
-        ("", longer, SEVEN, "2 refused: metadata: NotBuilt\n--"),
-        ("", "", "-", "2 refused: metadata: NotBuilt\n--"),
-        ("", METADATA, "-", "2 refused: microdata: Absent\n--"),
         (
-            "",
-            METADATA,
-            "a 10\na 2\n",
-            "2 refused: microdata: NotBuilt\n--",
+            survey,
+            firms,
+            "9 records, 1 skipped, 2 passed over, 4 cells",
+            "cells 4\nrelations 1",
+            "Total,117\n11,60\n12,15\n21,42\n",
         ),
     ];
-    for (method, metadata, microdata, want) in rows {
-        let job = if method.is_empty() {
-            JOB.to_string(rt.alloc())?
-        } else {
-            JOB.replace(rt.alloc(), "MOD()", method)?
-        };
-        for piece in [4096, 1] {
-            let mut shelf = shelf_of(rt.alloc(), &job, metadata, microdata, piece, 0)?;
-            let got = ran_alone(rt.alloc(), &mut shelf, 0)?;
-            assert_eq!(rt; got.as_str(), want, "by {piece}");
+    let job = changed(rt.alloc(), "3,30", "1,30")?;
+    for (metadata, microdata, numbers, cells, table) in rows {
+        let files = [
+            ("r.job", job.as_str()),
+            ("m.rda", metadata),
+            ("m.asc", microdata),
+            ("a.cdl", "b,second\na,first\n"),
+        ];
+        let want = format!(in rt.alloc();
+            "0 released: {numbers}, 0 primary, 0 hidden\nargus certificate 1\nmethod MOD\n{cells}\nend\nA,V\n{table}"
+        )?;
+        for bytes in [4096, 1] {
+            let pieces = Pieces { bytes, failing: 0 };
+            let got = ran_alone(rt.alloc(), &files, pieces, 0)?;
+            assert_eq!(rt; got.as_str(), want.as_str());
         }
     }
     Ok(())
 }
 
+// By the job, the metadata and the records, what else is released.
 #[test]
-fn words(rt: HostRuntime) -> Result<(), Fail> {
-    let rows: [(&[&str], &str); 11] = [
-        (&[], USAGE),
-        (&["run"], USAGE),
-        (&["run", ""], USAGE),
-        (&["run", "r1.job", "r1.job"], USAGE),
-        (&["check", "r1.job"], USAGE),
-        (&["Run", "r1.job"], USAGE),
-        (&["run ", "r1.job"], USAGE),
-        (&["r1.job", "run"], USAGE),
-        (&["demo", "1", "10"], USAGE),
-        (&["run", "r1"], "2 refused: job: Absent\n--"),
-        (&["run", "r1.job"], RELEASED),
+fn jobs(rt: HostRuntime) -> Result<(), Fail> {
+    let alloc = rt.alloc();
+    let hypercube = changed(alloc, "MOD()", "GH(1)")?;
+    let weighed = changed(alloc, "FREQ(3,30)", "FREQ(1,30)|WGT(1)")?;
+    let weights = "A 1 1\nV 2 15\n<NUMERIC>\nW 17 8\n<NUMERIC>\n<WEIGHT>\n";
+    let rows = [
+        (JOB, METADATA, SEVEN, RELEASED),
+        (
+            &hypercube,
+            METADATA,
+            SEVEN,
+            "0 released: 7 records, 0 skipped, 0 passed over, 3 cells, 0 primary, 0 hidden\nargus certificate 1\nmethod GH 1\ncells 3\nrelations 1\nend\nA,V\nTotal,150\na,60\nb,90\n",
+        ),
+        (
+            &weighed,
+            weights,
+            "a             10       2\na              1       3\nb              5       1\n",
+            "0 released: 3 records, 0 skipped, 0 passed over, 3 cells, 0 primary, 0 hidden\nargus certificate 1\nmethod MOD\ncells 3\nrelations 1\nend\nA,V\nTotal,28\na,23\nb,5\n",
+        ),
     ];
-    for (words, want) in rows {
-        let mut shelf = shelf_of(rt.alloc(), JOB, METADATA, SEVEN, 4096, 0)?;
-        let mut tray = MemoryTray::new(rt.alloc(), Vec::new(rt.alloc()));
-        let got = ran(rt.alloc(), words, &mut shelf, &mut tray)?;
+    for (job, metadata, microdata, want) in rows {
+        let files = [("r.job", job), ("m.rda", metadata), ("m.asc", microdata)];
+        let got = ran_alone(alloc, &files, WHOLE, 0)?;
         assert_eq!(rt; got.as_str(), want);
     }
     Ok(())
 }
 
-// By the length of a piece, the call and the put that fail, and the microdata. A file makes one call
-// to begin, one for each piece, and one that finds the end: the job has 175 bytes, the metadata 35
-// and the microdata 35.
+// By what stands in the place of the job's `FREQ(3,30)` and of its method, by the metadata and the
+// microdata: the first fault. No file of the name `none` is there.
 #[test]
-fn each_call_fails_in_turn(rt: HostRuntime) -> Result<(), Fail> {
+fn refusals(rt: HostRuntime) -> Result<(), Fail> {
+    let no_list =
+        "A 1 1\n<CODELIST> \"none\"\n<HIERARCHICAL>\n<HIERCODELIST> \"none\"\nV 2 3\n<NUMERIC>\n";
+    let no_tree = "A 1 1\n<HIERARCHICAL>\n<HIERCODELIST> \"none\"\nV 2 3\n<NUMERIC>\n";
+    let no_response = "A 1 1\n<HIERARCHICAL>\n<HIERCODELIST> \"none\"\n";
+    let jump =
+        "A 1 1\n<CODELIST> \"a.cdl\"\n<HIERARCHICAL>\n<HIERCODELIST> \"j.hrc\"\nV 2 3\n<NUMERIC>\n";
+    let (plain, method) = ("FREQ(3,30)", "MOD()");
     let rows = [
-        (4096, 1, 0, SEVEN, "5 read fault: job\n--"),
-        (4096, 2, 0, SEVEN, "5 read fault: job\n--"),
-        (4096, 3, 0, SEVEN, "5 read fault: job\n--"),
-        (4096, 4, 0, SEVEN, "5 read fault: metadata\n--"),
-        (4096, 5, 0, SEVEN, "5 read fault: metadata\n--"),
-        (4096, 6, 0, SEVEN, "5 read fault: metadata\n--"),
-        (4096, 7, 0, SEVEN, "5 read fault: microdata\n--"),
-        (4096, 8, 0, SEVEN, "5 read fault: microdata\n--"),
-        (4096, 9, 0, SEVEN, "5 read fault: microdata\n--"),
-        (4096, 9, 1, "no record", "5 read fault: microdata\n--"),
+        ("FREQ(3,30", method, "", "", "job line 4: BadValue"),
+        (plain, "", METADATA, SEVEN, "job line 6: BadValue"),
         (
-            4096,
-            10,
-            0,
-            "no record",
-            "2 refused: microdata: NotBuilt\n--",
+            "P(1)\n<WRONG>",
+            method,
+            "<X>",
+            "",
+            "job line 5: UnknownCommand",
         ),
-        (4096, 10, 0, SEVEN, RELEASED),
+        (plain, method, "<X>", "a", "metadata line 1: UnknownKeyword"),
         (
-            4096,
-            10,
-            1,
-            SEVEN,
-            "6 write fault: certificate\nargus certificate 1\nmethod -",
+            plain,
+            method,
+            "A 1 1\nV 2 3\n",
+            "a",
+            "job line 3: NotNumeric",
         ),
+        ("P(1)|WGT(1)", method, METADATA, "a", "job line 4: NoWeight"),
         (
-            4096,
-            10,
-            2,
-            SEVEN,
-            "6 write fault: table 1\nargus certificate 1\nmethod MOD\ncells 3\nrelations 1\nend\nA,V\nTotal,15",
+            plain,
+            method,
+            no_response,
+            "a",
+            "job line 3: NoSuchVariable",
         ),
-        (4096, 10, 3, SEVEN, RELEASED),
-        (1, 177, 0, SEVEN, "5 read fault: job\n--"),
-        (1, 178, 0, SEVEN, "5 read fault: metadata\n--"),
-        (1, 214, 0, SEVEN, "5 read fault: metadata\n--"),
-        (1, 215, 0, SEVEN, "5 read fault: microdata\n--"),
-        (1, 251, 0, SEVEN, "5 read fault: microdata\n--"),
-        (1, 252, 0, SEVEN, RELEASED),
+        (plain, method, no_list, "a", "codelist 1: Absent"),
+        (plain, method, no_tree, "a", "hierarchy 1: Absent"),
+        (plain, method, jump, "a", "hierarchy 1 line 2: Jump"),
+        (plain, method, METADATA, "a 10\na 2\n", "record 2: Short"),
+        (
+            plain,
+            method,
+            METADATA,
+            "a 10\na -2\n",
+            "record 2: Negative",
+        ),
+        (plain, method, LEVELS, "A   1\nA1  1\n", "record 1: NotLeaf"),
+        (plain, method, LISTED, "Nr   1\n", "record 1: NotLeaf"),
+        (plain, method, LISTED, "4    1\n", "record 1: UnknownCode"),
+        (plain, "RND(5)", METADATA, "a\n", "record 1: Short"),
+        (plain, "RND(5)", METADATA, SEVEN, "job: NotBuilt"),
+        ("NK(1,50)", method, METADATA, SEVEN, "job: NotBuilt"),
+        ("FREQ(9,1)|P(10)", method, METADATA, "", "job: NotBuilt"),
+        (plain, method, LEVELS, "A1  1\n", "job: NotBuilt"),
+        (plain, method, LISTED, "1    1\n", "job: NotBuilt"),
+        (plain, method, METADATA, "a 10\na 20\n", "cell 0: NeedsPlan"),
+        (
+            plain,
+            method,
+            METADATA,
+            "a 10\nb 20\nb 20\n",
+            "cell 1: NeedsPlan",
+        ),
     ];
-    for (piece, call, put, microdata, want) in rows {
-        let mut shelf = shelf_of(rt.alloc(), JOB, METADATA, microdata, piece, call)?;
-        let got = ran_alone(rt.alloc(), &mut shelf, put)?;
-        assert_eq!(rt; got.as_str(), want, "call {call} by {piece}, put {put}");
+    for (rules, method, metadata, microdata, want) in rows {
+        let job = changed(rt.alloc(), plain, rules)?;
+        let job = job.replace(rt.alloc(), "MOD()", method)?;
+        let files = [
+            ("r.job", job.as_str()),
+            ("m.rda", metadata),
+            ("m.asc", microdata),
+            ("a.cdl", "b,second\na,first\n"),
+            ("a.hrc", "Nr\n@1\n@2\nOs\n@3\n"),
+            ("j.hrc", "Nr\n@@1"),
+        ];
+        let want = format!(in rt.alloc(); "2 refused: {want}\n")?;
+        for bytes in [4096, 1] {
+            let pieces = Pieces { bytes, failing: 0 };
+            let got = ran_alone(rt.alloc(), &files, pieces, 0)?;
+            assert_eq!(rt; got.as_str(), want.as_str());
+        }
     }
     Ok(())
 }
 
-// Runs one after the other over one tray, whose third put fails.
+// The job lacks a command, names an a priori file, or is of linked tables with a file that isn't there, a
+// record that is a byte short, or a cell that a rule names.
+#[test]
+fn refusals_of_other_jobs(rt: HostRuntime) -> Result<(), Fail> {
+    let alloc = rt.alloc();
+    let lacking = changed(alloc, "<CERTIFICATE> \"t.cert\"\n", "")?;
+    let prior = changed(
+        alloc,
+        "<SUPPRESS>",
+        "<APRIORI> \"p.hst\",1,\",\"\n<SUPPRESS>",
+    )?;
+    let strict = LINKED.replace(alloc, "1,30", "3,30")?;
+    let short = THIRTEEN.replace(alloc, "b2c2 15", "b2c2 1")?;
+    let first = THREE.replace(alloc, "B 3 2", "B 3 2\n<CODELIST> \"none\"")?;
+    let second = first.replace(
+        alloc,
+        "A 1 2",
+        "A 1 2\n<HIERARCHICAL>\n<HIERCODELIST> \"none\"",
+    )?;
+    let rows = [
+        (&lacking, METADATA, "", "job line 0: Missing CERTIFICATE"),
+        (&prior, METADATA, "a\n", "record 1: Short"),
+        (&prior, METADATA, SEVEN, "job: NotBuilt"),
+        (&strict, THREE, &short, "record 13: Short"),
+        (&strict, THREE, THIRTEEN, "job: NotBuilt"),
+        (&strict, &first, "a", "codelist 2: Absent"),
+        (&strict, &second, "a", "hierarchy 1: Absent"),
+    ];
+    for (job, metadata, microdata, want) in rows {
+        let files = [
+            ("r.job", job.as_str()),
+            ("m.rda", metadata),
+            ("m.asc", microdata),
+        ];
+        let want = format!(in alloc; "2 refused: {want}\n")?;
+        for bytes in [4096, 1] {
+            let pieces = Pieces { bytes, failing: 0 };
+            let got = ran_alone(alloc, &files, pieces, 0)?;
+            assert_eq!(rt; got.as_str(), want.as_str());
+        }
+    }
+    Ok(())
+}
+
+// Each file that isn't there, and the calls to each file that fail: one begins it, one comes for each
+// piece, and one finds the end.
+#[test]
+fn each_file_in_turn(rt: HostRuntime) -> Result<(), Fail> {
+    let alloc = rt.alloc();
+    let files = [
+        ("r.job", JOB),
+        ("m.rda", LISTED),
+        ("a.cdl", "b,second\na,first\n"),
+        ("a.hrc", "Nr\n@1\n@2\nOs\n@3\n"),
+        ("m.asc", "1   10\n2   20\n3   30\n"),
+    ];
+    let names = ["job", "metadata", "codelist 1", "hierarchy 1", "microdata"];
+    for (k, name) in names.iter().enumerate() {
+        let want = format!(in alloc; "2 refused: {name}: Absent\n")?;
+        let got = ran_alone(alloc, &files[..k.min(5)], WHOLE, 0)?;
+        assert_eq!(rt; got.as_str(), want.as_str());
+    }
+    for bytes in [1u32, 1000, 4096] {
+        let mut before = 0u64;
+        for (name, file) in names.iter().zip(files) {
+            let pieces = file.1.len().div_ceil(bytes.max(1) as usize) as u64;
+            let want = format!(in alloc; "5 read fault: {name}\n")?;
+            let first = before.saturating_add(1);
+            let last = first.saturating_add(pieces).saturating_add(1);
+            for failing in [first, first.saturating_add(1), last] {
+                let got = ran_alone(alloc, &files, Pieces { bytes, failing }, 0)?;
+                assert_eq!(rt; got.as_str(), want.as_str());
+            }
+            before = last;
+        }
+        let failing = before.saturating_add(1);
+        let got = ran_alone(alloc, &files, Pieces { bytes, failing }, 0)?;
+        assert_eq!(rt; got.as_str(), "2 refused: job: NotBuilt\n");
+    }
+    Ok(())
+}
+
+// By the put that fails: the files before it are whole, half of its own is there.
+#[test]
+fn each_put_fails_in_turn(rt: HostRuntime) -> Result<(), Fail> {
+    let files = [("r.job", JOB), ("m.rda", METADATA), ("m.asc", SEVEN)];
+    let rows = [
+        (
+            1,
+            "6 write fault: certificate\nargus certificate 1\nmethod ",
+        ),
+        (
+            2,
+            "6 write fault: table 1\nargus certificate 1\nmethod MOD\ncells 3\nrelations 1\nend\nA,V\nTotal,15",
+        ),
+        (3, RELEASED),
+    ];
+    for (failing, want) in rows {
+        let got = ran_alone(rt.alloc(), &files, WHOLE, failing)?;
+        assert_eq!(rt; got.as_str(), want);
+    }
+    Ok(())
+}
+
+// Runs one after the other over one tray, whose third put fails: a refusal leaves it as it was.
 #[test]
 fn a_tray_with_a_release(rt: HostRuntime) -> Result<(), Fail> {
     let mut tray = MemoryTray::new(rt.alloc(), vec![in rt.alloc(); 3u64]?);
@@ -272,41 +427,36 @@ fn a_tray_with_a_release(rt: HostRuntime) -> Result<(), Fail> {
         ),
         (
             "a",
-            "2 refused: microdata: NotBuilt\nargus certificate 1\nmethod A,V\nTotal,0\n",
+            "2 refused: record 1: Short\nargus certificate 1\nmethod A,V\nTotal,0\n",
         ),
         (SEVEN, RELEASED),
     ];
     for (microdata, want) in rows {
-        let mut shelf = shelf_of(rt.alloc(), JOB, METADATA, microdata, 4096, 0)?;
-        let got = ran(rt.alloc(), &["run", "r1.job"], &mut shelf, &mut tray)?;
+        let files = [("r.job", JOB), ("m.rda", METADATA), ("m.asc", microdata)];
+        let got = ran(rt.alloc(), &["run", "r.job"], &files, WHOLE, &mut tray)?;
         assert_eq!(rt; got.as_str(), want);
     }
     Ok(())
 }
 
-// One record for each of so many codes, the last code first, under a minimum that names no cell.
 #[test]
-fn many_codes(rt: HostRuntime) -> Result<(), Fail> {
-    let alloc = rt.alloc();
-    let job = JOB.replace(alloc, "3,30", "1,30")?;
-    let metadata = "A 1 4\n<RECODEABLE>\nV 5 1\n<NUMERIC>\n";
-    for count in [5000u32, 5001] {
-        let cells = count + 1;
-        let mut microdata = String::new(alloc);
-        let mut want = format!(in alloc;
-            "0 released: {count} records, 0 skipped, 0 passed over, {cells} cells, 0 primary, 0 hidden\nargus certificate 1\nmethod MOD\ncells {cells}\nrelations 1\nend\nA,V\nTotal,{count}\n"
-        )?;
-        for code in 0..count {
-            let (lowest, highest) = (1000 + code, 999 + count - code);
-            microdata.push_str(&format!(in alloc; "{highest}1\n")?)?;
-            want.push_str(&format!(in alloc; "{lowest},1\n")?)?;
-        }
-        let mut shelf = shelf_of(alloc, &job, metadata, &microdata, 4096, 0)?;
-        let got = ran_alone(alloc, &mut shelf, 0)?;
-        if count == 5001 {
-            want = "2 refused: microdata: NotBuilt\n--".to_string(alloc)?;
-        }
-        assert_eq!(rt; got.as_str(), want.as_str());
+fn words(rt: HostRuntime) -> Result<(), Fail> {
+    let files = [("r.job", JOB), ("m.rda", METADATA), ("m.asc", SEVEN)];
+    let rows: [(&[&str], &str); 9] = [
+        (&[], USAGE),
+        (&["run"], USAGE),
+        (&["run", ""], USAGE),
+        (&["run", "r.job", "r.job"], USAGE),
+        (&["Run", "r.job"], USAGE),
+        (&["run ", "r.job"], USAGE),
+        (&["r.job", "run"], USAGE),
+        (&["run", "r"], "2 refused: job: Absent\n"),
+        (&["run", "r.job"], RELEASED),
+    ];
+    for (words, want) in rows {
+        let mut tray = MemoryTray::new(rt.alloc(), Vec::new(rt.alloc()));
+        let got = ran(rt.alloc(), words, &files, WHOLE, &mut tray)?;
+        assert_eq!(rt; got.as_str(), want);
     }
     Ok(())
 }
@@ -321,38 +471,47 @@ fn reports(rt: HostRuntime) -> Result<(), Fail> {
         primary: 45,
         hidden: 67,
     };
+    let missing = Fault::Job {
+        line: 0,
+        why: JobWhy::Missing(Command::WriteTable),
+    };
+    let clash = Fault::Meta {
+        line: 7,
+        why: MetaWhy::Clash,
+    };
+    let row = Fault::Row {
+        number: 1_000_001,
+        why: RowWhy::TooMany,
+    };
     let rows = [
         (
             Report::Released(summary),
             "0 released: 1000000 records, 12 skipped, 3 passed over, 5001 cells, 45 primary, 67 hidden\n",
         ),
         (
-            Report::Refused(Fault::Absent(FileRef::Job)),
-            "2 refused: job: Absent\n",
+            Report::Refused(Fault::TooLong(FileRef::CodeList(63))),
+            "2 refused: codelist 64: TooLong\n",
         ),
         (
-            Report::Refused(Fault::TooLong(FileRef::Metadata)),
-            "2 refused: metadata: TooLong\n",
+            Report::Refused(missing),
+            "2 refused: job line 0: Missing WRITETABLE\n",
         ),
         (
-            Report::Refused(Fault::NotBuilt(FileRef::Microdata)),
-            "2 refused: microdata: NotBuilt\n",
+            Report::Refused(clash),
+            "2 refused: metadata line 7: Clash\n",
+        ),
+        (
+            Report::Refused(Fault::Tree(FileRef::Hierarchy(0), TreeFault::TooDeep(10))),
+            "2 refused: hierarchy 1 line 10: TooDeep\n",
+        ),
+        (Report::Refused(row), "2 refused: record 1000001: TooMany\n"),
+        (
+            Report::Refused(Fault::Cells(7)),
+            "2 refused: table 8: TooManyCells\n",
         ),
         (
             Report::Refused(Fault::NeedsPlan(5000)),
             "2 refused: cell 5000: NeedsPlan\n",
-        ),
-        (
-            Report::ReadFault(FileRef::Microdata),
-            "5 read fault: microdata\n",
-        ),
-        (
-            Report::WriteFault(FileRef::Certificate),
-            "6 write fault: certificate\n",
-        ),
-        (
-            Report::WriteFault(FileRef::Table(0)),
-            "6 write fault: table 1\n",
         ),
         (
             Report::WriteFault(FileRef::Table(4_294_967_295)),

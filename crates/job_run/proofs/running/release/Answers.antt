@@ -1,4 +1,7 @@
-use Rattle.std.proofs.Common.{IsErrOf, ◌≡◌, ap, refl, sym, subst, ◌∙◌, List, option_map, Err}
+use Prim.{omega}
+use native.Mathlib.Omega.{arith}
+use Rattle.std.proofs.Common.{IsErrOf, length, ◌<◌, ◌≡◌, ap, refl, sym, subst, ◌∙◌, List, option_map, Err}
+use Rattle.sdc_base.specs.Counts.{counted}
 use Rattle.std.proofs.lemmas.Result.{err_from_is_err_and}
 use Rattle.job_run.specs.Reports.{put_all, OneInPart, SomeWhole}
 use Rattle.job_run.specs.declared.put.Put.{Put}
@@ -8,17 +11,17 @@ use Rattle.job_run.specs.declared.report.Fault.TheVariants as fault
 use Rattle.job_run.proofs.Outcomes.{outcome-read, stop-meets, refusal-meets, refusal-of-cells, halt-meets, halt-leaves}
 use Rattle.job_run.proofs.running.release.Goals as goal
 
-pub returns-in_err-job-clause-told : goal.returns-in_err-job-clause-told
-returns-in_err-job-clause-told g c =
+pub returns-in_err-inputs-clause-told : goal.returns-in_err-inputs-clause-told
+returns-in_err-inputs-clause-told g c =
     λ fs told.
     let p = err_from_is_err_and c.from_residual.result c.from_residual.ensures.1 in
-    rw (p.1, p.2) (stop-meets c.in_err-job.field-0.0 fs c.args.name.now (c.in_err-job.ensures.told fs told) (λ f is. c.in_err-job.ensures.no_write f (ap Err is)))
+    rw (p.1, p.2) (stop-meets c.in_err-inputs.field-0.0 fs c.args.name.now (c.in_err-inputs.ensures.told fs told) (λ f is. c.in_err-inputs.ensures.no_write f (ap Err is)))
 
 pub returns-in_err-planned-clause-told : goal.returns-in_err-planned-clause-told
 returns-in_err-planned-clause-told g c =
     λ fs told.
     let p = err_from_is_err_and c.from_residual-in_err-planned.result c.from_residual-in_err-planned.ensures.1 in
-    rw (p.1, p.2) (refusal-meets c.in_err-planned.field-0.0 fs c.args.name.now _ (c.in_ok-job.ensures.told fs told) c.in_err-planned.ensures.gives)
+    rw (p.1, p.2) (refusal-meets c.in_err-planned.field-0.0 fs c.args.name.now _ (c.in_ok-inputs.ensures.told fs told) c.in_err-planned.ensures.gives)
 
 pub returns-in_err-planned-clause-absent : goal.returns-in_err-planned-clause-absent
 returns-in_err-planned-clause-absent g c =
@@ -26,7 +29,7 @@ returns-in_err-planned-clause-absent g c =
     let p = err_from_is_err_and c.from_residual-in_err-planned.result c.from_residual-in_err-planned.ensures.1 in
     let whole = ap Err (sym p.2) ∙ sym p.1 ∙ is in
     let stopped : _ ≡ stop.Refused (fault.Absent f) = cc in
-    absurd (refusal-of-cells c.in_err-planned.field-0.0 _ _ (fault.Absent f) c.in_err-planned.ensures.gives stopped)
+    absurd (refusal-of-cells c.in_err-planned.field-0.0 _ (fault.Absent f) c.in_err-planned.ensures.gives stopped)
 
 pub returns-in_err-planned-clause-too_long : goal.returns-in_err-planned-clause-too_long
 returns-in_err-planned-clause-too_long g c =
@@ -34,30 +37,37 @@ returns-in_err-planned-clause-too_long g c =
     let p = err_from_is_err_and c.from_residual-in_err-planned.result c.from_residual-in_err-planned.ensures.1 in
     let whole = ap Err (sym p.2) ∙ sym p.1 ∙ is in
     let stopped : _ ≡ stop.Refused (fault.TooLong f) = cc in
-    absurd (refusal-of-cells c.in_err-planned.field-0.0 _ _ (fault.TooLong f) c.in_err-planned.ensures.gives stopped)
+    absurd (refusal-of-cells c.in_err-planned.field-0.0 _ (fault.TooLong f) c.in_err-planned.ensures.gives stopped)
 
 pub returns-in_err-put_files-clause-told : goal.returns-in_err-put_files-clause-told
 returns-in_err-put_files-clause-told g c =
     λ fs told.
     let p = err_from_is_err_and c.from_residual-in_err-put_files.result c.from_residual-in_err-put_files.ensures.1 in
-    rw (p.1, p.2) (halt-meets c.in_err-put_files.field-0.0 _ c.in_ok-planned.planned c.in_err-put_files.ensures.only (outcome-read fs c.args.name.now _ (c.in_ok-job.ensures.told fs told) ∙ c.in_ok-planned.ensures.gives))
+    rw (p.1, p.2) (halt-meets c.in_err-put_files.field-0.0 _ c.in_ok-planned.planned c.in_err-put_files.ensures.only (outcome-read fs c.args.name.now _ (c.in_ok-inputs.ensures.told fs told) ∙ c.in_ok-planned.ensures.gives))
 
 pub returns-in_err-put_files-clause-left : goal.returns-in_err-put_files-clause-left
 returns-in_err-put_files-clause-left g c =
     λ fs told.
     let p = err_from_is_err_and c.from_residual-in_err-put_files.result c.from_residual-in_err-put_files.ensures.1 in
     rw (p.1, p.2)
-    (halt-leaves c.in_err-put_files.field-0.0 _ c.in_ok-planned.planned _ _ c.in_err-put_files.ensures.only (outcome-read fs c.args.name.now _ (c.in_ok-job.ensures.told fs told) ∙ c.in_ok-planned.ensures.gives)
+    (halt-leaves c.in_err-put_files.field-0.0 _ c.in_ok-planned.planned _ _ c.in_err-put_files.ensures.only (outcome-read fs c.args.name.now _ (c.in_ok-inputs.ensures.told fs told) ∙ c.in_ok-planned.ensures.gives)
     (subst (λ (puts : List Put). (f : FileRef) → IsErrOf {T = Unit {0}} (Err c.in_err-put_files.field-0.0) (stop.WriteFault f) → OneInPart puts f (g.T.Tray.files c.args.tray.now) (g.T.Tray.files c.put_files.new.tray)) c.as_slice.ensures c.in_err-put_files.ensures.part)
     (subst (λ (puts : List Put). IsErrOf {T = Unit {0}} (Err c.in_err-put_files.field-0.0) stop.Memory → SomeWhole puts (g.T.Tray.files c.args.tray.now) (g.T.Tray.files c.put_files.new.tray)) c.as_slice.ensures c.in_err-put_files.ensures.memory))
 
 pub returns-clause-told : goal.returns-clause-told
 returns-clause-told g c =
     λ fs told.
-    rw (outcome-read fs c.args.name.now _ (c.in_ok-job.ensures.told fs told) ∙ c.in_ok-planned.ensures.gives) refl
+    rw (outcome-read fs c.args.name.now _ (c.in_ok-inputs.ensures.told fs told) ∙ c.in_ok-planned.ensures.gives) refl
 
 pub returns-clause-left : goal.returns-clause-left
 returns-clause-left g c =
     λ fs told.
-    rw (outcome-read fs c.args.name.now _ (c.in_ok-job.ensures.told fs told) ∙ c.in_ok-planned.ensures.gives)
+    rw (outcome-read fs c.args.name.now _ (c.in_ok-inputs.ensures.told fs told) ∙ c.in_ok-planned.ensures.gives)
     (c.in_ok-put_files.ensures.ok ∙ ap (λ (puts : List Put). option_map (λ out. put_all out puts) (g.T.Tray.files c.args.tray.now)) c.as_slice.ensures)
+
+pub returns-clause-once : goal.returns-clause-once
+returns-clause-once g c =
+    λ fs told.
+    let some : 0 < length c.in_ok-planned.planned.puts = rw c.in_ok-planned.ensures.some (omega arith) in
+    rw (outcome-read fs c.args.name.now _ (c.in_ok-inputs.ensures.told fs told) ∙ c.in_ok-planned.ensures.gives)
+    (subst (λ (puts : List Put). g.T.Tray.puts c.put_files.new.tray ≡ counted (g.T.Tray.puts c.args.tray.now) (length puts)) c.as_slice.ensures (c.in_ok-put_files.ensures.once (subst (λ (puts : List Put). 0 < length puts) (sym c.as_slice.ensures) some)))

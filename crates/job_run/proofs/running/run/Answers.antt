@@ -1,6 +1,6 @@
 use Rattle.std.proofs.Common.{◌≡◌, Some, sym, subst, ◌∙◌}
-use Rattle.job_run.proofs.Outcomes.{report-read, report-write}
-use Rattle.job_run.proofs.Releasing.{releases, settles}
+use Rattle.job_run.proofs.Outcomes.{report-read, report-released, report-write}
+use Rattle.job_run.proofs.Settling.{releases, settles}
 use Rattle.job_run.specs.Reports.{Meets, Leaves}
 use Rattle.job_run.specs.Outcome.{outcome_of}
 use Rattle.job_run.specs.declared.report.Report.{Report}
@@ -35,3 +35,10 @@ returns-in-Some-clause-came_to g c =
     let held_by : Some c.in-Some.name.now ≡ Some name = c.in-Some.ensures ∙ named in
     let same : c.in-Some.name.now ≡ name = cc in
     (came.0, rw (← same) came.1, came.2)
+
+pub returns-in-Some-clause-once : goal.returns-in-Some-clause-once
+returns-in-Some-clause-once g c =
+    λ name named fs told summary is.
+    let held_by : Some c.in-Some.name.now ≡ Some name = c.in-Some.ensures ∙ named in
+    let same : c.in-Some.name.now ≡ name = cc in
+    rw (← same) (report-released c.release.result summary _ (sym c.report.ensures ∙ is) (c.release.ensures.once fs told))

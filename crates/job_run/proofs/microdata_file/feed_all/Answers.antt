@@ -1,0 +1,49 @@
+use Rattle.std.proofs.Common.{◌≡◌, ℕ, ◌+◌, ◌-◌, ◌≤◌, ◌++◌, take, Ok, subst, ◌∙◌, arith}
+use Rattle.std.proofs.lemmas.Result.{err_from_is_err_and}
+use Rattle.sdc_base.specs.Steps.{map_fault}
+use Rattle.microdata.specs.Feeding.{HasRead, fed_of}
+use Rattle.job_run.specs.Inputs.{limit, row_fault}
+use Rattle.job_run.specs.Stops.{stopped_for}
+use Rattle.job_run.proofs.Feeding.{fed-more, fed-end, fed-faulty, fed-long}
+use Rattle.job_run.proofs.microdata_file.feed_all.Goals as goal
+
+pub returns-then-ended-clause-whole : goal.returns-then-ended-clause-whole
+returns-then-ended-clause-whole g c = λ layout bytes left read.
+    let end = fed-end layout bytes c.pieces.reader _ c.pieces.taken c.in-Ok.n (c.pieces.invariant.fed layout bytes left read) c.if-ended.true c.in-Ok.ensures.end in
+    (end.0, omega (arith, end.1, c.pieces.invariant.short))
+
+pub returns-in_err-feed_piece-clause-told : goal.returns-in_err-feed_piece-clause-told
+returns-in_err-feed_piece-clause-told g c =
+    let p = err_from_is_err_and c.from_residual.result c.from_residual.ensures.1 in
+    let most = c.min-within.ensures in
+    rw (p.1, p.2) (λ layout bytes left read.
+    fed-faulty c.faults_stand.ensures layout bytes c.pieces.reader _ c.pieces.taken c.in-Ok.n c.min-within.result c.read.new.buffer (stopped_for c.in_err-feed_piece.field-0.0)
+    (c.pieces.invariant.fed layout bytes left read) c.in-Ok.ensures.within c.in-Ok.ensures.given (omega (arith, most)) (omega (arith, most, c.pieces.invariant.short))
+    (λ got has. c.in_err-feed_piece.ensures.exact layout got has))
+
+pub returns-then-beyond-clause-told : goal.returns-then-beyond-clause-told
+returns-then-beyond-clause-told g c = λ layout bytes left read.
+    let most = c.min-within.ensures in
+    let here : c.min-within.result ≡ limit - c.pieces.taken = omega (arith, most, c.if-beyond.true) in
+    fed-long layout bytes c.pieces.reader _ c.pieces.taken c.in-Ok.n c.read.new.buffer (c.pieces.invariant.fed layout bytes left read) c.in-Ok.ensures.within c.in-Ok.ensures.given
+    (omega (arith, here, c.if-beyond.true)) c.pieces.invariant.short
+    (λ got has. subst (λ (m : ℕ). map_fault row_fault (fed_of layout (got ++ take m c.read.new.buffer)) ≡ Ok tt) here (c.in_ok-feed_piece.ensures.exact layout got has))
+
+pub pieces-preserved : goal.pieces-preserved
+pieces-preserved g c =
+    let most = c.min-within.ensures in
+    let all : c.min-within.result ≡ c.in-Ok.n = omega (arith, most, c.if-beyond.false) in
+    let short : c.pieces.taken + c.in-Ok.n ≤ limit = omega (arith, most, all, c.pieces.invariant.short) in
+    record {
+      short = short;
+      count = omega (arith, c.in-Ok.ensures.taken, c.pieces.invariant.count, short);
+      fed = λ layout bytes left read.
+          rw c.in-Ok.ensures.rest
+          (fed-more layout bytes c.pieces.reader c.feed_piece.new.reader _ c.pieces.taken c.in-Ok.n c.read.new.buffer (c.pieces.invariant.fed layout bytes left read) c.in-Ok.ensures.within c.in-Ok.ensures.given
+          (λ got has. subst (λ (m : ℕ). HasRead c.feed_piece.new.reader layout (got ++ take m c.read.new.buffer)) all (c.in_ok-feed_piece.ensures.fed layout got has)));
+      some = λ layout read. let before = c.pieces.invariant.some layout read in (before.0 ++ take c.min-within.result c.read.new.buffer, c.in_ok-feed_piece.ensures.fed layout before.0 before.1);
+      same = c.in-Ok.ensures.same ∙ c.pieces.invariant.same;
+      last = c.in-Ok.ensures.last ∙ c.pieces.invariant.last;
+      faults = omega (arith, c.pieces.invariant.faults, c.in-Ok.ensures.faults_stay);
+      absences = omega (arith, c.pieces.invariant.absences, c.in-Ok.ensures.absences_stay);
+    }

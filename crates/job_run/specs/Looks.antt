@@ -1,0 +1,56 @@
+-- To which file a run comes, when nothing before it has a fault (own).
+use Rattle.std.specs.Prelude.{◌≡◌, ℕ, List, ◌∷◌, ◌++◌, Some, Result, Ok, IsOk}
+use Rattle.sdc_base.specs.Steps.{◌>>=◌, map_fault}
+use Rattle.office_io.specs.Files.{Files}
+use Rattle.rda_meta.specs.declared.meta.Shape.{Shape}
+use Rattle.rda_meta.specs.declared.meta.Shape.TheVariants as shape
+use Rattle.rda_meta.specs.declared.meta.Variable.{Variable}
+use Rattle.job_lang.specs.Jobs.{job_of}
+use Rattle.job_lang.specs.declared.job.Job.{Job}
+use Rattle.job_run.specs.Inputs.{look, job_fault, described_of, codes_in, fields_of, spanning}
+use Rattle.job_run.specs.declared.described.Described.{Described}
+use Rattle.job_run.specs.declared.report.FileRef.{FileRef}
+use Rattle.job_run.specs.declared.report.FileRef.TheVariants as file
+use Rattle.job_run.specs.declared.report.Fault.{Fault}
+
+-- the job of the named file, or the first fault on the way to it
+unfoldable pub job_read : Files → List ℕ → Result Job Fault
+job_read files name = do
+  bytes ← look files name file.Job
+  map_fault job_fault (job_of bytes)
+
+-- Reading job and metadata comes to this file, which has this name: to the job; or to the metadata of a job without fault.
+abbrev pub ComesFirstTo : Files → List ℕ → FileRef → List ℕ → Type 0
+ComesFirstTo files name file.Job held = held ≡ name
+ComesFirstTo files name file.Metadata held = (job : Job) × (job_read files name ≡ Ok job) × (held ≡ job.meta)
+ComesFirstTo files name other held = ⊥
+
+-- the variable has its codes from this hierarchy file
+abbrev pub IsListedIn : List ℕ → Shape → Type 0
+IsListedIn held (shape.Listed name lead) = held ≡ name
+IsListedIn held other = ⊥
+
+-- The files of a variable are read up to this one, which has this name: its code list; or its hierarchy, where its list has no fault.
+abbrev pub FieldComesTo : Files → ℕ → Variable → FileRef → List ℕ → Type 0
+FieldComesTo files place variable (file.CodeList at) held = (at ≡ place) × (variable.codes ≡ Some held)
+FieldComesTo files place variable (file.Hierarchy at) held = (at ≡ place) × IsOk (codes_in files place variable.total variable.codes) × IsListedIn held variable.shape
+FieldComesTo files place variable other held = ⊥
+
+-- the files of these variables are read up to this one, and those of the variables before it have no fault
+pub record FieldsComeTo (files : Files) (variables : List (ℕ × Variable)) (f : FileRef) (held : List ℕ) : Type 0 where
+  pub before : List (ℕ × Variable)
+  pub one : ℕ × Variable
+  pub behind : List (ℕ × Variable)
+  pub stands : variables ≡ before ++ one ∷ behind
+  pub fine : IsOk (fields_of files before)
+  pub comes : FieldComesTo files one.0 one.1 f held
+
+-- the run comes to this file, which has this name, and nothing before it has a fault
+abbrev pub ComesTo : Files → List ℕ → FileRef → List ℕ → Type 0
+ComesTo files name file.Job held = ComesFirstTo files name file.Job held
+ComesTo files name file.Metadata held = ComesFirstTo files name file.Metadata held
+ComesTo files name (file.CodeList at) held = (described : Described) × (described_of files name ≡ Ok described) × FieldsComeTo files (spanning described) (file.CodeList at) held
+ComesTo files name (file.Hierarchy at) held = (described : Described) × (described_of files name ≡ Ok described) × FieldsComeTo files (spanning described) (file.Hierarchy at) held
+ComesTo files name file.Microdata held =
+    (described : Described) × (described_of files name ≡ Ok described) × IsOk (fields_of files (spanning described)) × (held ≡ described.job.micro)
+ComesTo files name other held = ⊥

@@ -1,0 +1,21 @@
+-- What a field is that metadata place in a record (own).
+use Rattle.std.specs.Prelude.{ℕ, ◌+◌, ◌≤◌}
+use Rattle.microdata.specs.Layouts.{IsSource}
+use Rattle.microdata.specs.declared.layout.Field.{Field}
+use Rattle.microdata.specs.declared.layout.NumberField.{NumberField}
+
+-- it begins at a position from 1, has at least one byte, and ends at position 1,000 at the latest
+pub record IsPlaced (first width : ℕ) : Type 0 where
+  pub from_one : 1 ≤ first
+  pub some : 1 ≤ width
+  pub inside : first + width ≤ 1001
+
+-- a field of a spanning variable, with codes that can be read by
+pub record IsPlacedField (field : Field) : Type 0 where
+  pub placed : IsPlaced field.first field.width
+  pub codes : IsSource field.source
+
+-- a number that has at most so many decimals
+pub record IsPlacedNumber (most : ℕ) (number : NumberField) : Type 0 where
+  pub placed : IsPlaced number.first number.width
+  pub decimals : number.decimals ≤ most

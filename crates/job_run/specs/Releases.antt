@@ -1,0 +1,140 @@
+-- What the inputs of a job come to: its cells, its tables, its certificate and its numbers (own).
+use Rattle.std.specs.Prelude.{ℕ, ◌+◌, ◌==◌, ◌&&◌, nat_lt, not, Bool, true, false, if◌then◌else◌, List, [], ◌∷◌, ◌++◌, length, slice_index_or, Option, None, Some, Result, Ok, Err, ℤ}
+use Rattle.std.specs.List.{list_any, list_all}
+use Rattle.sdc_base.specs.CertificateText.{open_certificate}
+use Rattle.sdc_base.specs.Cells.{cells_of}
+use Rattle.sdc_base.specs.Places.{first_place}
+use Rattle.sdc_base.specs.Records.{Name}
+use Rattle.sdc_base.specs.RuleLevels.{names, figures_in}
+use Rattle.sdc_base.specs.Steps.{◌>>=◌, map_fault, refuse}
+use Rattle.sdc_base.specs.Sums.{truth}
+use Rattle.sdc_base.specs.TableText.{table_text}
+use Rattle.sdc_base.specs.declared.method.Method.{Method}
+use Rattle.sdc_base.specs.declared.method.Method.TheVariants as method
+use Rattle.sdc_base.specs.declared.rule.Rule.{Rule}
+use Rattle.sdc_base.specs.declared.rule.Rule.TheVariants as rule
+use Rattle.rda_meta.specs.declared.meta.Shape.{Shape}
+use Rattle.rda_meta.specs.declared.meta.Shape.TheVariants as shape
+use Rattle.job_lang.specs.declared.job.OutputLine.{OutputLine}
+use Rattle.job_lang.specs.declared.job.TableLine.{TableLine}
+use Rattle.linked_tables.specs.Tables.{book_of}
+use Rattle.linked_tables.specs.declared.book_fault.BookFault.{BookFault}
+use Rattle.linked_tables.specs.declared.book_fault.BookFault.TheVariants as book
+use Rattle.job_run.specs.Inputs.{spanning}
+use Rattle.job_run.specs.declared.described.Described.{Described}
+use Rattle.job_run.specs.declared.inputs.Inputs.{Inputs}
+use Rattle.job_run.specs.declared.put.Put.{Put}
+use Rattle.job_run.specs.declared.put.Release.{Release}
+use Rattle.job_run.specs.declared.report.Fault.{Fault}
+use Rattle.job_run.specs.declared.report.Fault.TheVariants as fault
+use Rattle.job_run.specs.declared.report.FileRef.TheVariants as file
+use Rattle.job_run.specs.declared.report.Summary.{Summary}
+
+-- ---- what is built
+
+-- a frequency rule
+abbrev pub is_frequency : Rule → Bool
+is_frequency (rule.Freq n r) = true
+is_frequency other = false
+
+-- a method that hides cells
+abbrev pub is_hiding : Method → Bool
+is_hiding (method.Rnd base) = false
+is_hiding other = true
+
+-- the variable is flat
+abbrev pub is_flat : Shape → Bool
+is_flat shape.Flat = true
+is_flat other = false
+
+-- one flat variable spans all tables
+abbrev pub is_one_flat : Described → Bool
+is_one_flat described = (length described.bound.spanning == 1) && list_all (λ one. is_flat one.1.shape) (spanning described)
+
+-- so far a job is built that has one flat variable, frequency rules alone, no a priori files, and a method that hides cells
+abbrev pub is_built : Described → Bool
+is_built described =
+    is_one_flat described && (list_all is_frequency described.job.rules.list && (length described.job.priors == 0 && is_hiding described.job.method))
+
+-- ---- cells
+
+-- the cells of all tables
+abbrev pub cells : Inputs → List Name
+cells inputs = cells_of inputs.records.trees inputs.described.bound.tables
+
+-- a rule of the job names the cell
+abbrev pub is_named : Inputs → Name → Bool
+is_named inputs name =
+    list_any (λ one. names one (figures_in inputs.records.trees name inputs.records.rows inputs.described.bound.scale)) inputs.described.job.rules.list
+
+-- the number of the first cell that a rule names
+abbrev pub first_primary : Inputs → Option ℕ
+first_primary inputs = first_place (is_named inputs) (cells inputs)
+
+-- the truth of a cell over the records
+abbrev pub truth_in : Inputs → Name → ℤ
+truth_in inputs name = truth inputs.records.trees name inputs.records.rows
+
+-- ---- what is put
+
+-- the names of a table's first line: those of its variables and of the response
+abbrev pub names_of : TableLine → List (List ℕ)
+names_of line = line.variables ++ line.response ∷ []
+
+-- the text of table t with no cell hidden, where it has these names
+abbrev pub open_table : Inputs → ℕ → List (List ℕ) → List ℕ
+open_table inputs t header =
+    table_text inputs.records.trees (slice_index_or inputs.described.bound.tables t []) header inputs.described.bound.decimals (λ name. Some (truth_in inputs name))
+
+-- the tables from number t on, each with its line of the job and its output
+abbrev pub tables_from : Inputs → ℕ → List TableLine → List OutputLine → List Put
+tables_from inputs t [] outputs = []
+tables_from inputs t (line ∷ lines) [] = []
+tables_from inputs t (line ∷ lines) (output ∷ outputs) =
+    record { file = file.Table t; name = output.file; bytes = open_table inputs t (names_of line) } ∷ tables_from inputs (t + 1) lines outputs
+
+-- the relations of one flat variable: that of its total, where it has a code below it
+abbrev pub relations_of_one : Inputs → ℕ
+relations_of_one inputs = if is_one_flat inputs.described && nat_lt 1 (length (slice_index_or inputs.records.trees 0 [])) then 1 else 0
+
+-- the certificate of a release without hidden cells
+abbrev pub certificate_of : Inputs → List ℕ
+certificate_of inputs = open_certificate inputs.described.job.method (length (cells inputs)) (relations_of_one inputs)
+
+-- what is put: first the certificate, then the tables in the order of the job
+abbrev pub puts_of : Inputs → List Put
+puts_of inputs =
+    record { file = file.Certificate; name = inputs.described.job.certificate; bytes = certificate_of inputs }
+    ∷ tables_from inputs 0 inputs.described.job.tables inputs.described.job.outputs
+
+-- the numbers of the release
+abbrev pub summary_of : Inputs → Summary
+summary_of inputs = record {
+  records = length inputs.records.rows;
+  skipped = inputs.records.skipped;
+  passed_over = inputs.described.meta.passed_over;
+  cells = length (cells inputs);
+  primary = 0;
+  hidden = 0;
+}
+
+-- ---- the release
+
+-- too many cells, as a fault of the run; tables of a bound job have no other fault
+abbrev pub cells_fault : BookFault → Fault
+cells_fault (book.NoSuchVariable t) = fault.Cells t
+cells_fault (book.TwiceInTable t) = fault.Cells t
+cells_fault (book.TooManyCells t) = fault.Cells t
+cells_fault book.Memory = fault.Cells 0
+
+-- the release, unless a cell is named
+abbrev pub unless_named : Option ℕ → Release → Result Release Fault
+unless_named None release = Ok release
+unless_named (Some cell) release = Err (fault.NeedsPlan cell)
+
+-- The release of a job's inputs, or the first fault: too many cells, what isn't built yet, or the first cell that a rule names.
+unfoldable pub release_of : Inputs → Result Release Fault
+release_of inputs = do
+  linked ← map_fault cells_fault (book_of inputs.records.trees inputs.described.bound.tables)
+  built ← refuse (fault.NotBuilt file.Job) (not (is_built inputs.described))
+  unless_named (first_primary inputs) (record { puts = puts_of inputs; summary = summary_of inputs })

@@ -1,0 +1,151 @@
+ghost use Rattle.std.specs.Prelude.{◌≡◌, ◌<◌, ◌≤◌, ◌+◌, ◌++◌, ◌∷◌, [], IfOk, OnOk, length, slice_index_or};
+ghost use Rattle.sdc_base.specs.CertificateText.{open_certificate};
+ghost use Rattle.job_run.specs.Releases.{names_of as header_of, open_table, tables_from, puts_of, relations_of_one, certificate_of};
+ghost use Rattle.job_run.specs.Sound.{IsSound};
+ghost use Rattle.job_run.specs.Tabulated.{IsBookOf, IsReadyFor, IsOpen};
+ghost use Rattle.job_run.specs.declared.inputs.Inputs.{Inputs as AnyInputs};
+
+use crate::certificate::certificate_bytes;
+use crate::described::{Described, is_one_flat};
+use crate::put::Put;
+use crate::report::FileRef;
+use job_lang::{OutputLine, TableLine};
+use linked_tables::Book;
+use release_writer::{Shown, table_bytes};
+use sdc_base::{Hidden, Items, Memory, Text};
+use std::alloc::Global;
+
+/// What a release without hidden cells puts: first the certificate, and then the tables in the order of the job.
+pub(crate) fn puts_for(
+    alloc: Global,
+    described: &Described,
+    book: &Book,
+) -> Result<Items<Put>, Memory>
+    requires sound { IsSound described.now }
+    requires ready { IsReadyFor described.now book.now }
+    ensures puts { IfOk result (λ puts. (inputs : AnyInputs) → inputs.described ≡ described.now → IsBookOf inputs book.now → puts ≡ puts_of inputs) }
+    ensures each { IfOk result (λ puts. length puts ≡ 1 + length described.now.job.tables) }
+{
+    let open = nothing_hidden(alloc, book)?;
+    let mut puts = Items::empty(alloc);
+    puts.push(certificate_put(alloc, described, book)?)?;
+    add_tables(alloc, described, book, &open, &mut puts)?;
+    Ok(puts)
+}
+
+// The hidden set of a release that hides no cell.
+fn nothing_hidden(alloc: Global, book: &Book) -> Result<Hidden, Memory>
+    ensures { IfOk result (IsOpen book.now) }
+{
+    let flags = Vec::from_elem(alloc, false, book.marks().len())?;
+    Ok(Hidden {
+        flags: Items::new(flags),
+    })
+}
+
+// The certificate.
+fn certificate_put(alloc: Global, described: &Described, book: &Book) -> Result<Put, Memory>
+    requires { IsSound described.now }
+    ensures { IfOk result (λ put. (inputs : AnyInputs) → inputs.described ≡ described.now → IsBookOf inputs book.now
+        → put ≡ record { file = FileRef.Certificate; name = described.now.job.certificate; bytes = certificate_of inputs }) }
+{
+    let relations = relations_in(described, book);
+    let bytes = certificate_bytes(alloc, described.job.method, book.cells(), relations)?;
+    Ok(Put {
+        file: FileRef::Certificate,
+        name: described.job.certificate.copy(alloc)?,
+        bytes,
+    })
+}
+
+// How many relations the certificate counts.
+fn relations_in(described: &Described, book: &Book) -> u32
+    requires { IsSound described.now }
+    ensures { (inputs : AnyInputs) → inputs.described ≡ described.now → IsBookOf inputs book.now → result ≡ relations_of_one inputs }
+{
+    if is_one_flat(described) && first_size(book) > 1 {
+        1
+    } else {
+        0
+    }
+}
+
+// How many codes the first variable has, the total included.
+fn first_size(book: &Book) -> usize
+    ensures { result ≡ length (slice_index_or book.now.trees 0 []) }
+{
+    match book.tree(0) {
+        Some(tree) => tree.len(),
+        None => 0,
+    }
+}
+
+// Adds the tables in the order of the job.
+fn add_tables(
+    alloc: Global,
+    described: &Described,
+    book: &Book,
+    open: &Hidden,
+    puts: &mut Items<Put>,
+) -> Result<(), Memory>
+    requires sound { IsSound described.now }
+    requires ready { IsReadyFor described.now book.now }
+    requires open { IsOpen book.now open.now }
+    ensures puts { OnOk result ((inputs : AnyInputs) → inputs.described ≡ described.now → IsBookOf inputs book.now
+        → puts.new ≡ puts.old ++ tables_from inputs 0 described.now.job.tables described.now.job.outputs) }
+    ensures each { OnOk result (length puts.new ≡ length puts.old + length described.now.job.tables) }
+{
+    let outputs = described.job.outputs.as_slice();
+    'tables: for (t, line) in described.job.tables.as_slice().iter().enumerate() {
+        let put = table_put(alloc, described, book, open, t as u32, line, &outputs[t])?;
+        puts.push(put)?;
+    }
+    Ok(())
+}
+
+// A table, with its line of the job and its output.
+fn table_put(
+    alloc: Global,
+    described: &Described,
+    book: &Book,
+    open: &Hidden,
+    t: u32,
+    line: &TableLine,
+    output: &OutputLine,
+) -> Result<Put, Memory>
+    requires sound { IsSound described.now }
+    requires ready { IsReadyFor described.now book.now }
+    requires open { IsOpen book.now open.now }
+    requires table { t < length book.now.tables }
+    requires header { length line.now.variables ≡ length (slice_index_or book.now.tables t []) }
+    ensures { IfOk result (λ put. (inputs : AnyInputs) → inputs.described ≡ described.now → IsBookOf inputs book.now
+        → put ≡ record { file = FileRef.Table t; name = output.now.file; bytes = open_table inputs t (header_of line.now) }) }
+{
+    let header = header_for(alloc, line)?;
+    let decimals = described.bound.decimals;
+    let bytes = table_bytes(
+        alloc,
+        book,
+        t,
+        header.as_slice(),
+        decimals,
+        Shown::Hidden(open),
+    )?;
+    Ok(Put {
+        file: FileRef::Table(t),
+        name: output.file.copy(alloc)?,
+        bytes: Items::new(bytes),
+    })
+}
+
+// The names of a table's first line: those of its variables and of the response.
+fn header_for(alloc: Global, line: &TableLine) -> Result<Items<Text>, Memory>
+    ensures { IfOk result (λ header. header ≡ header_of line.now) }
+{
+    let mut header = Items::empty(alloc);
+    'names: for name in line.variables.as_slice() {
+        header.push(name.copy(alloc)?)?;
+    }
+    header.push(line.response.copy(alloc)?)?;
+    Ok(header)
+}
