@@ -1,4 +1,3 @@
-use Prim.{omega}
 use native.Mathlib.Omega.{arith}
 use Rattle.std.proofs.Common.{IsErrOf, length, ◌<◌, ◌≡◌, ap, refl, sym, subst, ◌∙◌, List, option_map, Err}
 use Rattle.sdc_base.specs.Counts.{counted}
