@@ -51,10 +51,9 @@ is_flat other = false
 abbrev pub is_one_flat : Described → Bool
 is_one_flat described = (length described.bound.spanning == 1) && list_all (λ one. is_flat one.1.shape) (spanning described)
 
--- so far a job is built that has one flat variable, frequency rules alone, no a priori files, and a method that hides cells
+-- so far a job is built that has frequency rules alone, no a priori files, and a method that hides cells
 abbrev pub is_built : Described → Bool
-is_built described =
-    is_one_flat described && (list_all is_frequency described.job.rules.list && (length described.job.priors == 0 && is_hiding described.job.method))
+is_built described = list_all is_frequency described.job.rules.list && (length described.job.priors == 0 && is_hiding described.job.method)
 
 -- ---- cells
 
@@ -93,7 +92,8 @@ tables_from inputs t (line ∷ lines) [] = []
 tables_from inputs t (line ∷ lines) (output ∷ outputs) =
     record { file = file.Table t; name = output.file; bytes = open_table inputs t (names_of line) } ∷ tables_from inputs (t + 1) lines outputs
 
--- the relations of one flat variable: that of its total, where it has a code below it
+-- how many relations the certificate counts so far: of one flat variable that of its total, where it has a code below it;
+-- else none
 abbrev pub relations_of_one : Inputs → ℕ
 relations_of_one inputs = if is_one_flat inputs.described && nat_lt 1 (length (slice_index_or inputs.records.trees 0 [])) then 1 else 0
 

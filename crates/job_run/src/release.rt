@@ -9,7 +9,7 @@ ghost use Rattle.job_run.specs.Refusals.{refused_for};
 ghost use Rattle.job_run.specs.Releases.{is_built as built, is_frequency as by_frequency, is_hiding as hiding, release_of};
 ghost use Rattle.job_run.specs.Sound.{IsSound, AreSound};
 
-use crate::described::{Described, is_one_flat};
+use crate::described::Described;
 use crate::filled::{filled, linked};
 use crate::inputs::Inputs;
 use crate::put::Release;
@@ -53,11 +53,9 @@ pub(crate) fn release_for(alloc: Global, inputs: Inputs) -> Result<Release, Refu
 
 // Whether the job wants nothing but what is built.
 fn is_built(described: &Described) -> bool
-    requires { IsSound described.now }
     ensures { result ≡ built described.now }
 {
-    is_one_flat(described)
-        && are_frequencies(described.job.rules.list.as_slice())
+    are_frequencies(described.job.rules.list.as_slice())
         && (described.job.priors.as_slice().is_empty() && is_hiding(described.job.method))
 }
 

@@ -187,6 +187,100 @@ fn tables(rt: HostRuntime) -> Result<(), Fail> {
     Ok(())
 }
 
+// Jobs of several variables, of trees and of linked tables, by the metadata and the records: what is
+// released by a minimum of one.
+#[test]
+fn linked_tables(rt: HostRuntime) -> Result<(), Fail> {
+    let alloc = rt.alloc();
+    let one = changed(alloc, "3,30", "1,30")?;
+    let weighed = changed(alloc, "FREQ(3,30)", "FREQ(1,30)|WGT(1)")?;
+    let survey =
+        "A 1 2 99\n   <RECODEABLE>\n   <HIERARCHICAL>\n   <HIERLEVELS> 1 1 0 0 0\nReg 3 2\n   <RECODEABLE>\n   <TOTCODE> All\nReq 5 1\n   <REQUEST> \"1\" \"2\"\nHold 6 3\n   <HOLDING>\nV 9 6 999999 888888\n   <NUMERIC>\n   <DECIMALS> 0\n";
+    let firms =
+        "11Nr0001    10\n11Nr0002    20\n11Os0003    30\n12Nr0004     5\n12Os0005     5\n12Os0006     5\n21Nr0007    40\n21Nr0008     1\n21Os0009     1\n21Os0010999999\n";
+    let turned =
+        "a2b2c2 15\na2b2c2 10\na2b2c1 15\na2b1c2 10\na2b1c2 10\na2b1c1  5\na2b1c1  5\na1b2c2 20\na1b2c2 10\na1b2c1 10\na1b2c1 10\na1b1c2 10\na1b1c1 10\n";
+    let by_b_and_by_c =
+        "A,B,V\nTotal,Total,140\nTotal,b1,50\nTotal,b2,90\na1,Total,70\na1,b1,20\na1,b2,50\na2,Total,70\na2,b1,30\na2,b2,40\nA,C,V\nTotal,Total,140\nTotal,c1,55\nTotal,c2,85\na1,Total,70\na1,c1,30\na1,c2,40\na2,Total,70\na2,c1,25\na2,c2,45\n";
+    let rows = [
+        (
+            LINKED,
+            THREE,
+            THIRTEEN,
+            "13 records, 0 skipped, 0 passed over, 15",
+            0,
+            by_b_and_by_c,
+        ),
+        (
+            LINKED,
+            THREE,
+            turned,
+            "13 records, 0 skipped, 0 passed over, 15",
+            0,
+            by_b_and_by_c,
+        ),
+        (
+            LINKED,
+            THREE,
+            "",
+            "0 records, 0 skipped, 0 passed over, 1",
+            0,
+            "A,B,V\nTotal,Total,0\nA,C,V\nTotal,Total,0\n",
+        ),
+        (
+            &one,
+            survey,
+            firms,
+            "9 records, 1 skipped, 2 passed over, 6",
+            0,
+            "A,V\nTotal,117\n1,75\n11,60\n12,15\n2,42\n21,42\n",
+        ),
+        (
+            &one,
+            LISTED,
+            "1   10\n2   20\n3   30\n",
+            "3 records, 0 skipped, 0 passed over, 6",
+            0,
+            "A,V\nTotal,60\nNr,30\n1,10\n2,20\nOs,30\n3,30\n",
+        ),
+        (
+            &weighed,
+            "A 1 1\nV 2 2\n<NUMERIC>\nW 4 3\n<NUMERIC>\n<DECIMALS> 1\n<WEIGHT>\n",
+            "a102.5\n",
+            "1 records, 0 skipped, 0 passed over, 2",
+            1,
+            "A,V\nTotal,25.0\na,25.0\n",
+        ),
+        (
+            &one,
+            "A 1 3\nV 4 3\n<NUMERIC>\n",
+            "a,b 10\n\"q\" 20\n",
+            "2 records, 0 skipped, 0 passed over, 3",
+            1,
+            "A,V\nTotal,30\n\"\"\"q\"\"\",20\n\"a,b\",10\n",
+        ),
+    ];
+    for (job, metadata, microdata, numbers, relations, tables) in rows {
+        let files = [
+            ("r.job", job),
+            ("m.rda", metadata),
+            ("m.asc", microdata),
+            ("a.cdl", ""),
+            ("a.hrc", "Nr\n@1\n@2\nOs\n@3\n"),
+        ];
+        let cells = numbers.rsplit(' ').next().unwrap_or("");
+        let want = format!(in alloc;
+            "0 released: {numbers} cells, 0 primary, 0 hidden\nargus certificate 1\nmethod MOD\ncells {cells}\nrelations {relations}\nend\n{tables}"
+        )?;
+        for bytes in [4096, 1] {
+            let pieces = Pieces { bytes, failing: 0 };
+            let got = ran_alone(alloc, &files, pieces, 0)?;
+            assert_eq!(rt; got.as_str(), want.as_str());
+        }
+    }
+    Ok(())
+}
+
 // By the job, the metadata and the records, what else is released.
 #[test]
 fn jobs(rt: HostRuntime) -> Result<(), Fail> {
@@ -272,8 +366,14 @@ fn refusals(rt: HostRuntime) -> Result<(), Fail> {
         (plain, "RND(5)", METADATA, SEVEN, "job: NotBuilt"),
         ("NK(1,50)", method, METADATA, SEVEN, "job: NotBuilt"),
         ("FREQ(9,1)|P(10)", method, METADATA, "", "job: NotBuilt"),
-        (plain, method, LEVELS, "A1  1\n", "job: NotBuilt"),
-        (plain, method, LISTED, "1    1\n", "job: NotBuilt"),
+        (plain, method, LEVELS, "A1  1\n", "cell 0: NeedsPlan"),
+        (
+            plain,
+            method,
+            LISTED,
+            "1    1\n2    1\n1    1\n",
+            "cell 2: NeedsPlan",
+        ),
         (plain, method, METADATA, "a 10\na 20\n", "cell 0: NeedsPlan"),
         (
             plain,
@@ -328,7 +428,7 @@ fn refusals_of_other_jobs(rt: HostRuntime) -> Result<(), Fail> {
         (&prior, METADATA, "a\n", "record 1: Short"),
         (&prior, METADATA, SEVEN, "job: NotBuilt"),
         (&strict, THREE, &short, "record 13: Short"),
-        (&strict, THREE, THIRTEEN, "job: NotBuilt"),
+        (&strict, THREE, THIRTEEN, "cell 4: NeedsPlan"),
         (&strict, &first, "a", "codelist 2: Absent"),
         (&strict, &second, "a", "hierarchy 1: Absent"),
     ];
@@ -381,7 +481,7 @@ fn each_file_in_turn(rt: HostRuntime) -> Result<(), Fail> {
         }
         let failing = before.saturating_add(1);
         let got = ran_alone(alloc, &files, Pieces { bytes, failing }, 0)?;
-        assert_eq!(rt; got.as_str(), "2 refused: job: NotBuilt\n");
+        assert_eq!(rt; got.as_str(), "2 refused: cell 1: NeedsPlan\n");
     }
     Ok(())
 }
