@@ -18,3 +18,11 @@ pub mod Made
 pub mod NamesApart
 pub mod MetadataLimits
 pub mod Meant
+pub mod Spelled
+pub mod SpelledRules
+pub mod SpelledArguments
+pub mod SpelledLines
+pub mod TableRoom
+pub mod SpelledDraft
+pub mod SpelledJob
+pub mod SpelledText

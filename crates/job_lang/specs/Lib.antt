@@ -14,3 +14,5 @@ pub mod BoundLimits
 pub mod Rows
 pub mod Laws
 pub mod Meaning
+pub mod Spelling
+pub mod Writable

@@ -2,7 +2,10 @@
 
 ghost use Rattle.job_lang.specs.Laws.{IsInOrder, PutsAreNotRead, PutsAreNotNamed, MetadataFit};
 ghost use Rattle.job_lang.specs.Meaning.{JobsAreMeant};
+ghost use Rattle.job_lang.specs.Writable.{LinesAreRead, TextIsRead, IsRoundTrip};
 ghost use Rattle.job_lang.specs.Rows.{EightLines, NameBeforeMissing, Bindable, CodeListMet};
+
+use plain_text::joined_lines;
 
 /// The definitions give what worked jobs say by hand.
 #[tactic(auto, using(crate::proofs::RowsHold::eight_lines, crate::proofs::RowsHold::name_before_missing, crate::proofs::RowsHold::bindable, crate::proofs::RowsHold::code_list_met))]
@@ -37,3 +40,14 @@ pub fn metadata_fit()
 pub fn meaning()
     ensures { JobsAreMeant }
 {}
+
+/// The canonical text of a job is read as that job, with the lines of the text; so a job that has these lines is read
+/// again as it is. And each line of such a text is read as what it says.
+#[tactic(auto, using(crate::proofs::SpelledLines::lines_read))]
+pub fn spelling()
+    ensures lines { LinesAreRead }
+    ensures text { TextIsRead }
+    ensures round_trip { IsRoundTrip }
+{
+    joined_lines();
+}
