@@ -16,6 +16,8 @@ pub mod RowsHold
 pub mod FirstFault
 pub mod Made
 pub mod NamesApart
+pub mod PutsApart
+pub mod Earliest
 pub mod MetadataLimits
 pub mod Meant
 pub mod Spelled

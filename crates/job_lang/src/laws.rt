@@ -1,6 +1,7 @@
 //! Laws of jobs, each the contract of a function with an empty body.
 
-ghost use Rattle.job_lang.specs.Laws.{IsInOrder, PutsAreNotRead, PutsAreNotNamed, MetadataFit};
+ghost use Rattle.job_lang.specs.Laws.{IsInOrder, PutsAreNotRead, PutsAreNotNamed, PutsDiffer, MetadataFit};
+ghost use Rattle.job_lang.specs.BindingOrder.{GivesEarliest, GivesFirstKind};
 ghost use Rattle.job_lang.specs.Meaning.{JobsAreMeant};
 ghost use Rattle.job_lang.specs.Writable.{LinesAreRead, TextIsRead, IsRoundTrip};
 ghost use Rattle.job_lang.specs.Rows.{EightLines, NameBeforeMissing, Bindable, CodeListMet};
@@ -22,10 +23,18 @@ pub fn order()
     ensures { IsInOrder }
 {}
 
-/// No file that is put is one that is read.
-#[tactic(auto, using(crate::proofs::NamesApart::not_named))]
+/// The fault that binding gives is that of the earliest line that has one, and of a table's line the first of its kinds.
+#[tactic(auto, using(crate::proofs::Earliest::gives_earliest, crate::proofs::Earliest::gives_first_kind))]
+pub fn binding_order()
+    ensures line { GivesEarliest }
+    ensures kind { GivesFirstKind }
+{}
+
+/// No file that is put is one that is read, or another one that is put.
+#[tactic(auto, using(crate::proofs::NamesApart::not_named, crate::proofs::PutsApart::differ))]
 pub fn names_apart()
     ensures read { PutsAreNotRead }
+    ensures put { PutsDiffer }
     ensures named { PutsAreNotNamed }
 {}
 
