@@ -138,7 +138,7 @@ one_response : (tables : List TableLine) (table : TableLine) → is_other_respon
 one_response [] table h all = (refl, tt)
 one_response (first ∷ tables) table h all = all_and_last (λ t. t.response ≡ first.response) (first ∷ tables) table all (sym (same_response first.response table.response h))
 
-names_more : (tables : List TableLine) (table : TableLine) → names_in (tables ++ table ∷ []) ≡ names_in tables ++ table.variables
+pub names_more : (tables : List TableLine) (table : TableLine) → names_in (tables ++ table ∷ []) ≡ names_in tables ++ table.variables
 names_more tables table = flat_map-append (λ (t : TableLine). t.variables) tables (table ∷ []) ∙ ap (λ (names : List (List ℕ)). names_in tables ++ names) (append-nil table.variables)
 
 table_kept : (line : ℕ) (draft : Draft) (variables : List (List ℕ)) (response : List ℕ) → IsDraft draft → IsSaid (said.Table variables response) → IfOk (with_table line draft variables response) IsDraft

@@ -16,5 +16,15 @@ pub mod RowsHold
 pub mod FirstFault
 pub mod Made
 pub mod NamesApart
+pub mod PutsApart
+pub mod Earliest
 pub mod MetadataLimits
 pub mod Meant
+pub mod Spelled
+pub mod SpelledRules
+pub mod SpelledArguments
+pub mod SpelledLines
+pub mod TableRoom
+pub mod SpelledDraft
+pub mod SpelledJob
+pub mod SpelledText

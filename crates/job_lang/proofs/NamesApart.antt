@@ -45,14 +45,14 @@ false_left true b h = absurd cc
 false_left false b h = (refl, h)
 
 -- none of the statements puts a file whose name another has
-abbrev AreApart : List Statement → List Statement → Type 0
+abbrev pub AreApart : List Statement → List Statement → Type 0
 AreApart all said = AllByRecursion (λ s. is_meeting all s.said ≡ false) said
 
-all_apart : (all said : List Statement) → list_any (λ s. is_meeting all s.said) said ≡ false → AreApart all said
+pub all_apart : (all said : List Statement) → list_any (λ s. is_meeting all s.said) said ≡ false → AreApart all said
 all_apart all [] h = tt
 all_apart all (s ∷ rest) h = let both = false_left (is_meeting all s.said) _ h in (both.0, all_apart all rest both.1)
 
-found : {A : Type 0} (P : A → Type 0) (test : A → Bool) (xs : List A) → AllByRecursion P xs → (x : A) → find test xs ≡ Some x → P x × (test x ≡ true)
+pub found : {A : Type 0} (P : A → Type 0) (test : A → Bool) (xs : List A) → AllByRecursion P xs → (x : A) → find test xs ≡ Some x → P x × (test x ≡ true)
 found P test [] all x h = absurd cc
 found {A} P test (y ∷ xs) all x h = elim (test y) as (λ t. test y ≡ t → cond t (Some y) (find test xs) ≡ Some x → P x × (test x ≡ true)) [
   | true ↦ λ passes g. let is : y ≡ x = cc in subst (λ (x : A). P x × (test x ≡ true)) is (all.0, passes)

@@ -1,6 +1,7 @@
 -- Laws of jobs, above the reading line by line: the order of faults, and names of files that stay apart (own).
 use Rattle.std.specs.Prelude.{◌≡◌, ◌≢◌, ◌⊎◌, ℕ, ◌+◌, Bool, false, ◌||◌, ◌==◌, if◌then◌else◌, zero, suc, List, [], ◌∷◌, ◌++◌, map, length, take, slice_get, find, is_none, Option, None, Some, Ok, Err}
-use Rattle.std.specs.List.{AllByRecursion, list_any}
+use Rattle.std.specs.List.{AllByRecursion, IsDistinct, list_any}
+use Rattle.std.specs.Str.{bytes_eq}
 use Rattle.sdc_base.specs.Blanks.{trim}
 use Rattle.sdc_base.specs.Lines.{lines}
 use Rattle.rda_meta.specs.Limits.{IsMeta}
@@ -105,6 +106,10 @@ PutsAreNotRead = (bytes : List ℕ) (job : Job) → job_of bytes ≡ Ok job → 
 -- No file that a bound job puts is a code list or a hierarchy file that is read for it.
 abbrev pub PutsAreNotNamed : Type 0
 PutsAreNotNamed = (job : Job) (meta : Meta) (bound : Bound) → bound_of job meta ≡ Ok bound → AllByRecursion (λ put. AllByRecursion (λ read. put ≢ read) (files_of job.tables meta.variables)) (puts_of job)
+
+-- No file that a job puts has the name of another one that it puts.
+abbrev pub PutsDiffer : Type 0
+PutsDiffer = (bytes : List ℕ) (job : Job) → job_of bytes ≡ Ok job → IsDistinct bytes_eq (puts_of job)
 
 -- ---- metadata that were read
 

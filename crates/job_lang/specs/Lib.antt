@@ -13,4 +13,7 @@ pub mod JobLimits
 pub mod BoundLimits
 pub mod Rows
 pub mod Laws
+pub mod BindingOrder
 pub mod Meaning
+pub mod Spelling
+pub mod Writable

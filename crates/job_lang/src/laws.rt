@@ -1,8 +1,12 @@
 //! Laws of jobs, each the contract of a function with an empty body.
 
-ghost use Rattle.job_lang.specs.Laws.{IsInOrder, PutsAreNotRead, PutsAreNotNamed, MetadataFit};
+ghost use Rattle.job_lang.specs.Laws.{IsInOrder, PutsAreNotRead, PutsAreNotNamed, PutsDiffer, MetadataFit};
+ghost use Rattle.job_lang.specs.BindingOrder.{GivesEarliest, GivesFirstKind};
 ghost use Rattle.job_lang.specs.Meaning.{JobsAreMeant};
+ghost use Rattle.job_lang.specs.Writable.{LinesAreRead, TextIsRead, IsRoundTrip};
 ghost use Rattle.job_lang.specs.Rows.{EightLines, NameBeforeMissing, Bindable, CodeListMet};
+
+use plain_text::joined_lines;
 
 /// The definitions give what worked jobs say by hand.
 #[tactic(auto, using(crate::proofs::RowsHold::eight_lines, crate::proofs::RowsHold::name_before_missing, crate::proofs::RowsHold::bindable, crate::proofs::RowsHold::code_list_met))]
@@ -19,10 +23,18 @@ pub fn order()
     ensures { IsInOrder }
 {}
 
-/// No file that is put is one that is read.
-#[tactic(auto, using(crate::proofs::NamesApart::not_named))]
+/// The fault that binding gives is that of the earliest line that has one, and of a table's line the first of its kinds.
+#[tactic(auto, using(crate::proofs::Earliest::gives_earliest, crate::proofs::Earliest::gives_first_kind))]
+pub fn binding_order()
+    ensures line { GivesEarliest }
+    ensures kind { GivesFirstKind }
+{}
+
+/// No file that is put is one that is read, or another one that is put.
+#[tactic(auto, using(crate::proofs::NamesApart::not_named, crate::proofs::PutsApart::differ))]
 pub fn names_apart()
     ensures read { PutsAreNotRead }
+    ensures put { PutsDiffer }
     ensures named { PutsAreNotNamed }
 {}
 
@@ -37,3 +49,14 @@ pub fn metadata_fit()
 pub fn meaning()
     ensures { JobsAreMeant }
 {}
+
+/// The canonical text of a job is read as that job, with the lines of the text; so a job that has these lines is read
+/// again as it is. And each line of such a text is read as what it says.
+#[tactic(auto, using(crate::proofs::SpelledLines::lines_read))]
+pub fn spelling()
+    ensures lines { LinesAreRead }
+    ensures text { TextIsRead }
+    ensures round_trip { IsRoundTrip }
+{
+    joined_lines();
+}

@@ -1,0 +1,333 @@
+-- A job of its canonical text.
+use Rattle.std.proofs.Common.{◌≡◌, ◌≢◌, ℕ, suc, ◌+◌, ◌<◌, ◌≤◌, ◌==◌, ◌||◌, Bool, true, false, cond, List, [], ◌∷◌, ◌++◌, length, map, None, Some, Ok, Err, refl, ap, sym, ◌∙◌, subst, arith, append_assoc, nat_lt, nat_le}
+use Rattle.std.specs.Prelude.{◌&&◌, find}
+use Rattle.std.specs.Option.{is_some}
+use Rattle.std.specs.List.{AllByRecursion, IsDistinct, list_any, count_by}
+use Rattle.std.specs.Str.{bytes_eq}
+use Rattle.std.specs.Cmp.Lexicographic.{nat_list_eq_equiv}
+use Rattle.std.proofs.lemmas.Fmt.{decimal_is_IsNumeral_wide}
+use Rattle.std.proofs.lemmas.List.{append-nil}
+use Rattle.std.proofs.lemmas.List.Folds.{list_any-append}
+use Rattle.std.proofs.lemmas.List.Sums.{sum_by-cons, sum_by-append}
+use Rattle.std.proofs.lemmas.Map.Keys.{IsDistinct-head, IsDistinct-tail}
+use Rattle.std.proofs.lemmas.Slice.Eq.{bytes_eq-Decides}
+use Rattle.cost_rule.specs.declared.kind.CostKind.{CostKind}
+use Rattle.sdc_base.specs.Tokens.{number_in}
+use Rattle.sdc_base.specs.declared.method.Method.{Method}
+use Rattle.job_lang.specs.declared.faults.JobWhy.TheVariants.{NoSuchTable, SameName}
+use Rattle.job_lang.specs.declared.job.Job.{Job}
+use Rattle.job_lang.specs.declared.job.OutputLine.{OutputLine}
+use Rattle.job_lang.specs.declared.job.PriorLine.{PriorLine}
+use Rattle.job_lang.specs.declared.job.TableLine.{TableLine}
+use Rattle.job_lang.specs.declared.looked_up.RulesLine.{RulesLine}
+use Rattle.job_lang.specs.declared.statement.Draft.{Draft}
+use Rattle.job_lang.specs.declared.statement.Keyword.{Keyword}
+use Rattle.job_lang.specs.declared.statement.Keyword.TheVariants as keyword
+use Rattle.job_lang.specs.declared.statement.Said.TheVariants as said
+use Rattle.job_lang.specs.declared.statement.Statement.{Statement}
+use Rattle.job_lang.specs.Keywords.{place_of}
+use Rattle.job_lang.specs.Statements.{is_by}
+use Rattle.job_lang.specs.ClosingLooks.{is_no_table, is_astray, no_stray, puts, reads, is_shared, is_meeting, no_same_name, said_by, is_output_at, output_said, file_line, rules_line, method_of, cost_of, work_of, usual_steps, usual_nodes, table_place, priors_in, outputs_from}
+use Rattle.job_lang.specs.Jobs.{job_made, closed_job}
+use Rattle.job_lang.specs.Laws.{puts_of, reads_of}
+use Rattle.job_lang.specs.Spelling.{table_number, prior_said, tables_from, priors_from, outputs_at, in_text}
+use Rattle.job_lang.proofs.Made.{job_with}
+use Rattle.job_lang.proofs.Spelled.{number_spelled}
+use Rattle.job_lang.proofs.SpelledDraft.{any_last, priors_stated, outputs_stated, front_of, middle_of, cost_line, outputs_line, statements_of, drafted}
+
+-- ---- look-ups
+
+find_past : (test : Statement → Bool) (xs ys : List Statement) → list_any test xs ≡ false → find test (xs ++ ys) ≡ find test ys
+find_past test [] ys h = refl
+find_past test (x ∷ xs) ys h = elim (test x) as (λ t. (t || list_any test xs) ≡ false → cond t (Some x) (find test (xs ++ ys)) ≡ find test ys) [
+  | true ↦ λ g. absurd cc
+  | false ↦ λ g. find_past test xs ys g
+] h
+
+any_past : (test : Statement → Bool) (xs ys : List Statement) → list_any test xs ≡ false → list_any test (xs ++ ys) ≡ list_any test ys
+any_past test xs ys h = rw (list_any-append test xs ys, h) refl
+
+priors_by : (word : Keyword) (line : ℕ) (priors : List PriorLine) → (5 == place_of word) ≡ false → list_any (λ s. is_by word s.said) (priors_stated line priors) ≡ false
+priors_by word line [] other = refl
+priors_by word line (prior ∷ priors) other = rw (other, priors_by word (line + 1) priors other) refl
+
+outputs_by : (word : Keyword) (line place : ℕ) (outputs : List OutputLine) → (10 == place_of word) ≡ false → list_any (λ s. is_by word s.said) (outputs_stated line place outputs) ≡ false
+outputs_by word line place [] other = refl
+outputs_by word line place (output ∷ outputs) other = rw (other, outputs_by word (line + 1) (place + 1) outputs other) refl
+
+priors_at : (place line : ℕ) (priors : List PriorLine) → list_any (λ s. is_output_at place s.said) (priors_stated line priors) ≡ false
+priors_at place line [] = refl
+priors_at place line (prior ∷ priors) = priors_at place (line + 1) priors
+
+-- what stands behind the a priori files
+abbrev behind_priors : Job → List Statement
+behind_priors job = middle_of (cost_line job) job ++ (outputs_stated (outputs_line job) 0 job.outputs ++ record { line = outputs_line job + length job.outputs; said = said.Certificate job.certificate } ∷ [])
+
+cost_found : (job : Job) → cost_of (said_by keyword.Cost (statements_of job)) ≡ job.cost
+cost_found job = ap cost_of (find_past (λ s. is_by keyword.Cost s.said) (priors_stated (5 + length job.tables) job.priors) (behind_priors job) (priors_by keyword.Cost (5 + length job.tables) job.priors refl))
+
+steps_found : (job : Job) → work_of usual_steps (said_by keyword.Steps (statements_of job)) ≡ job.steps
+steps_found job = ap (work_of usual_steps) (find_past (λ s. is_by keyword.Steps s.said) (priors_stated (5 + length job.tables) job.priors) (behind_priors job) (priors_by keyword.Steps (5 + length job.tables) job.priors refl))
+
+nodes_found : (job : Job) → work_of usual_nodes (said_by keyword.Nodes (statements_of job)) ≡ job.nodes
+nodes_found job = ap (work_of usual_nodes) (find_past (λ s. is_by keyword.Nodes s.said) (priors_stated (5 + length job.tables) job.priors) (behind_priors job) (priors_by keyword.Nodes (5 + length job.tables) job.priors refl))
+
+method_found : (job : Job) → method_of (said_by keyword.Suppress (statements_of job)) ≡ Some job.method
+method_found job = ap method_of (find_past (λ s. is_by keyword.Suppress s.said) (priors_stated (5 + length job.tables) job.priors) (behind_priors job) (priors_by keyword.Suppress (5 + length job.tables) job.priors refl))
+
+certificate_found : (job : Job) → file_line (said_by keyword.Certificate (statements_of job)) ≡ Some (record { line = outputs_line job + length job.outputs; file = job.certificate })
+certificate_found job =
+    let z : Statement = record { line = outputs_line job + length job.outputs; said = said.Certificate job.certificate } in
+    ap file_line (find_past (λ s. is_by keyword.Certificate s.said) (priors_stated (5 + length job.tables) job.priors) (behind_priors job) (priors_by keyword.Certificate (5 + length job.tables) job.priors refl))
+    ∙ ap file_line (find_past (λ s. is_by keyword.Certificate s.said) (outputs_stated (outputs_line job) 0 job.outputs) (z ∷ []) (outputs_by keyword.Certificate (outputs_line job) 0 job.outputs refl))
+
+-- ---- a priori files
+
+place_again : (place : ℕ) → place < 8 → table_place (table_number place) ≡ place
+place_again place h = rw (number_spelled 1 8 (place + 1) (omega arith) (omega (arith, h)) (omega arith)) (omega arith)
+
+priors_both : (line : ℕ) (priors : List PriorLine) (rest : List Statement) → AllByRecursion (λ p. p.table < 8) priors → priors_in (priors_stated line priors ++ rest) ≡ priors_from line priors ++ priors_in rest
+priors_both line [] rest few = refl
+priors_both line (prior ∷ priors) rest few =
+    ap (λ (place : ℕ). record { line = line; file = prior.file; table = place; separator = prior.separator } ∷ priors_in (priors_stated (line + 1) priors ++ rest)) (place_again prior.table few.0)
+    ∙ ap (λ (ps : List PriorLine). record { line = line; file = prior.file; table = prior.table; separator = prior.separator } ∷ ps) (priors_both (line + 1) priors rest few.1)
+
+no_priors : (line place : ℕ) (outputs : List OutputLine) (rest : List Statement) → priors_in (outputs_stated line place outputs ++ rest) ≡ priors_in rest
+no_priors line place [] rest = refl
+no_priors line place (output ∷ outputs) rest = no_priors (line + 1) (place + 1) outputs rest
+
+priors_found : (job : Job) → AllByRecursion (λ p. p.table < 8) job.priors → priors_in (statements_of job) ≡ priors_from (5 + length job.tables) job.priors
+priors_found job few =
+    let z : Statement = record { line = outputs_line job + length job.outputs; said = said.Certificate job.certificate } in
+    priors_both (5 + length job.tables) job.priors (behind_priors job) few
+    ∙ ap (λ (ps : List PriorLine). priors_from (5 + length job.tables) job.priors ++ ps) (no_priors (outputs_line job) 0 job.outputs (z ∷ []))
+    ∙ append-nil (priors_from (5 + length job.tables) job.priors)
+
+-- ---- outputs
+
+at_own_place : (place : ℕ) → place < 8 → is_some (number_in (place + 1) (place + 1) (table_number place)) ≡ true
+at_own_place place h = rw (number_spelled (place + 1) (place + 1) (place + 1) (omega arith) (omega arith) (omega (arith, h))) refl
+
+-- each output is found at its place
+abbrev AreFound : List Statement → ℕ → ℕ → List OutputLine → Type 0
+AreFound all line place [] = Unit {0}
+AreFound all line place (output ∷ outputs) = (file_line (output_said place all) ≡ Some (record { line = line; file = output.file })) × AreFound all (line + 1) (place + 1) outputs
+
+outputs_again : (all : List Statement) (line place : ℕ) (outputs : List OutputLine) → AreFound all line place outputs → outputs_from (length outputs) place all ≡ Ok (outputs_at line outputs)
+unfolding outputs_from
+outputs_again all line place [] found = refl
+outputs_again all line place (output ∷ outputs) found = rw (found.0, outputs_again all (line + 1) (place + 1) outputs found.1) refl
+
+not_within : (x : Bool) (p q d : ℕ) → p < q → is_some {T = ℕ} (cond (x && (nat_le (q + 1) (p + 1) && nat_le (p + 1) (q + 1))) (Some d) None) ≡ false
+not_within x p q d h = grind arith
+
+at_other_place : (p q : ℕ) → p < q → q < 8 → is_some (number_in (q + 1) (q + 1) (table_number p)) ≡ false
+at_other_place p q h few = rw (decimal_is_IsNumeral_wide (p + 1) (omega (arith, h, few))).1 (not_within _ p q (p + 1) h)
+
+are_found : (all front : List Statement) (line place : ℕ) (outputs : List OutputLine) (rest : List Statement) → all ≡ front ++ (outputs_stated line place outputs ++ rest) → place + length outputs ≤ 8
+    → ((q : ℕ) → place ≤ q → q < 8 → list_any (λ s. is_output_at q s.said) front ≡ false) → AreFound all line place outputs
+are_found all front line place [] rest is few none = tt
+are_found all front line place (output ∷ outputs) rest is few none =
+    let s : Statement = record { line = line; said = said.Output (table_number place) output.file } in
+    let behind : List Statement = outputs_stated (line + 1) (place + 1) outputs ++ rest in
+    let here : find (λ t. is_output_at place t.said) (s ∷ behind) ≡ Some s = rw (at_own_place place (omega (arith, few))) refl in
+    let found : output_said place all ≡ Some s = ap (output_said place) is ∙ find_past (λ t. is_output_at place t.said) front (s ∷ behind) (none place (omega arith) (omega (arith, few))) ∙ here in
+    let later : (q : ℕ) → place + 1 ≤ q → q < 8 → list_any (λ t. is_output_at q t.said) (front ++ s ∷ []) ≡ false =
+    λ q above small. any_last (λ t. is_output_at q t.said) front s (none q (omega (arith, above)) small) (at_other_place place q (omega (arith, above)) small) in
+    (ap file_line found, are_found all (front ++ s ∷ []) (line + 1) (place + 1) outputs rest (is ∙ sym (append_assoc front (s ∷ []) behind)) (omega (arith, few)) later)
+
+outputs_found : (job : Job) → length job.outputs ≤ 8 → outputs_from (length job.outputs) 0 (statements_of job) ≡ Ok (outputs_at (outputs_line job) job.outputs)
+outputs_found job few =
+    let z : Statement = record { line = outputs_line job + length job.outputs; said = said.Certificate job.certificate } in
+    let priors = priors_stated (5 + length job.tables) job.priors in
+    let middle = middle_of (cost_line job) job in
+    let tail = outputs_stated (outputs_line job) 0 job.outputs ++ z ∷ [] in
+    let none : (q : ℕ) → 0 ≤ q → q < 8 → list_any (λ s. is_output_at q s.said) ((front_of job ++ priors) ++ middle) ≡ false =
+    λ q above small. rw (list_any-append (λ s. is_output_at q s.said) (front_of job ++ priors) middle, list_any-append (λ s. is_output_at q s.said) (front_of job) priors, priors_at q (5 + length job.tables) job.priors) refl in
+    outputs_again (statements_of job) (outputs_line job) 0 job.outputs
+    (are_found (statements_of job) ((front_of job ++ priors) ++ middle) (outputs_line job) 0 job.outputs (z ∷ []) (sym (append_assoc (front_of job ++ priors) middle tail ∙ append_assoc (front_of job) priors (middle ++ tail))) (omega (arith, few)) none)
+
+-- ---- numbers of tables
+
+placed : (count : ℕ) (all : List Statement) → list_any (λ s. is_astray count s.said) all ≡ false → no_stray count all ≡ Ok tt
+unfolding no_stray
+placed count [] h = refl
+placed count (s ∷ rest) h = elim (is_astray count s.said) as (λ t. (t || list_any (λ s. is_astray count s.said) rest) ≡ false → cond t (Err (s.line, NoSuchTable)) (no_stray count rest) ≡ Ok tt) [
+  | true ↦ λ g. absurd cc
+  | false ↦ λ g. placed count rest g
+] h
+
+is_table : (count place : ℕ) → place < count → count ≤ 8 → is_no_table count (table_number place) ≡ false
+is_table count place h few = rw (number_spelled 1 count (place + 1) (omega arith) (omega (arith, h)) (omega (arith, few))) refl
+
+priors_placed : (count line : ℕ) (priors : List PriorLine) → count ≤ 8 → AllByRecursion (λ p. p.table < count) priors → list_any (λ s. is_astray count s.said) (priors_stated line priors) ≡ false
+priors_placed count line [] few all = refl
+priors_placed count line (prior ∷ priors) few all = rw (is_table count prior.table all.0 few, priors_placed count (line + 1) priors few all.1) refl
+
+outputs_placed : (count line place : ℕ) (outputs : List OutputLine) → count ≤ 8 → place + length outputs ≤ count → list_any (λ s. is_astray count s.said) (outputs_stated line place outputs) ≡ false
+outputs_placed count line place [] few all = refl
+outputs_placed count line place (output ∷ outputs) few all = rw (is_table count place (omega (arith, all)) few, outputs_placed count (line + 1) (place + 1) outputs few (omega (arith, all))) refl
+
+all_placed : (count : ℕ) (job : Job) → count ≤ 8 → AllByRecursion (λ p. p.table < count) job.priors → length job.outputs ≤ count → no_stray count (statements_of job) ≡ Ok tt
+all_placed count job few priors outputs =
+    let z : Statement = record { line = outputs_line job + length job.outputs; said = said.Certificate job.certificate } in
+    placed count (statements_of job)
+    (any_past (λ s. is_astray count s.said) (priors_stated (5 + length job.tables) job.priors) (behind_priors job) (priors_placed count (5 + length job.tables) job.priors few priors)
+    ∙ any_past (λ s. is_astray count s.said) (outputs_stated (outputs_line job) 0 job.outputs) (z ∷ []) (outputs_placed count (outputs_line job) 0 job.outputs few (omega (arith, outputs))))
+
+-- ---- names of files
+
+apart : (all said : List Statement) → list_any (λ s. is_meeting all s.said) said ≡ false → no_same_name all said ≡ Ok tt
+unfolding no_same_name
+apart all [] h = refl
+apart all (s ∷ rest) h = elim (is_meeting all s.said) as (λ t. (t || list_any (λ s. is_meeting all s.said) rest) ≡ false → cond t (Err (s.line, SameName)) (no_same_name all rest) ≡ Ok tt) [
+  | true ↦ λ g. absurd cc
+  | false ↦ λ g. apart all rest g
+] h
+
+differs : (name file : List ℕ) → name ≢ file → bytes_eq file name ≡ false
+differs name file h = elim (bytes_eq file name) as (λ t. bytes_eq file name ≡ t → t ≡ false) [
+  | true ↦ λ is. absurd (h (sym ((bytes_eq-Decides file name).0 is)))
+  | false ↦ λ is. refl
+] refl
+
+-- how often a name stands in a list
+abbrev named : List ℕ → List (List ℕ) → ℕ
+named name names = count_by (λ other. bytes_eq other name) names
+
+more_named : (name first : List ℕ) (names : List (List ℕ)) → named name (first ∷ names) ≡ cond (bytes_eq first name) 1 0 + named name names
+more_named name first names = sum_by-cons (λ other. cond (bytes_eq other name) 1 0) first names
+
+never : (name : List ℕ) (names : List (List ℕ)) → AllByRecursion (λ other. bytes_eq name other ≡ false) names → named name names ≡ 0
+never name [] all = refl
+never name (first ∷ names) all = more_named name first names ∙ rw (nat_list_eq_equiv.symm first name ∙ all.0, never name names all.1) refl
+
+once : (name : List ℕ) (names : List (List ℕ)) → IsDistinct bytes_eq names → named name names ≤ 1
+once name [] distinct = omega arith
+once name (first ∷ names) distinct =
+    let more = more_named name first names in
+    elim (bytes_eq first name) as (λ t. bytes_eq first name ≡ t → named name (first ∷ names) ≤ 1) [
+      | true ↦ λ same.
+          let is : first ≡ name = (bytes_eq-Decides first name).0 same in
+          let none = never name names (subst (λ (n : List ℕ). AllByRecursion (λ other. bytes_eq n other ≡ false) names) is (IsDistinct-head bytes_eq first names distinct)) in
+          let one : ◌≡◌ {A = ℕ} (cond (bytes_eq first name) 1 0) 1 = rw same refl in
+          omega (arith, more, none, one)
+      | false ↦ λ other.
+          let rest = once name names (IsDistinct-tail bytes_eq first names distinct) in
+          let none : ◌≡◌ {A = ℕ} (cond (bytes_eq first name) 1 0) 0 = rw other refl in
+          omega (arith, more, rest, none)
+    ] refl
+
+-- whether a file of this name is put, as a number
+abbrev weight : List ℕ → Statement → ℕ
+weight name s = cond (puts name s.said) 1 0
+
+priors_put_none : (name : List ℕ) (line : ℕ) (priors : List PriorLine) → count_by (λ s. puts name s.said) (priors_stated line priors) ≡ 0
+priors_put_none name line [] = refl
+priors_put_none name line (prior ∷ priors) = sum_by-cons (weight name) (record { line = line; said = prior_said prior }) (priors_stated (line + 1) priors) ∙ ap (λ (n : ℕ). 0 + n) (priors_put_none name (line + 1) priors)
+
+outputs_put : (name : List ℕ) (line place : ℕ) (outputs : List OutputLine) → count_by (λ s. puts name s.said) (outputs_stated line place outputs) ≡ named name (map (λ o. o.file) outputs)
+outputs_put name line place [] = refl
+outputs_put name line place (output ∷ outputs) =
+    sum_by-cons (weight name) (record { line = line; said = said.Output (table_number place) output.file }) (outputs_stated (line + 1) (place + 1) outputs)
+    ∙ ap (λ (n : ℕ). cond (bytes_eq output.file name) 1 0 + n) (outputs_put name (line + 1) (place + 1) outputs)
+    ∙ sym (more_named name output.file (map (λ o. o.file) outputs))
+
+puts_counted : (name : List ℕ) (job : Job) → count_by (λ s. puts name s.said) (statements_of job) ≡ named name (puts_of job)
+puts_counted name job =
+    let z : Statement = record { line = outputs_line job + length job.outputs; said = said.Certificate job.certificate } in
+    let priors = priors_stated (5 + length job.tables) job.priors in
+    let outputs = outputs_stated (outputs_line job) 0 job.outputs in
+    let a = sum_by-append (weight name) priors (behind_priors job) in
+    let b = priors_put_none name (5 + length job.tables) job.priors in
+    let d = sum_by-append (weight name) outputs (z ∷ []) in
+    let e = outputs_put name (outputs_line job) 0 job.outputs in
+    let f = more_named name job.certificate (map (λ o. o.file) job.outputs) in
+    let middle : count_by (λ s. puts name s.said) (behind_priors job) ≡ count_by (λ s. puts name s.said) (outputs ++ z ∷ []) = refl in
+    let last : count_by (λ s. puts name s.said) (z ∷ []) ≡ cond (bytes_eq job.certificate name) 1 0 = omega arith in
+    omega (arith, a, b, d, e, f, middle, last)
+
+priors_unread : (name : List ℕ) (line : ℕ) (priors : List PriorLine) → AllByRecursion (λ read. name ≢ read) (map (λ p. p.file) priors) → list_any (λ s. reads name s.said) (priors_stated line priors) ≡ false
+priors_unread name line [] all = refl
+priors_unread name line (prior ∷ priors) all = rw (differs name prior.file all.0, priors_unread name (line + 1) priors all.1) refl
+
+outputs_unread : (name : List ℕ) (line place : ℕ) (outputs : List OutputLine) → list_any (λ s. reads name s.said) (outputs_stated line place outputs) ≡ false
+outputs_unread name line place [] = refl
+outputs_unread name line place (output ∷ outputs) = outputs_unread name (line + 1) (place + 1) outputs
+
+all_unread : (name : List ℕ) (job : Job) → AllByRecursion (λ read. name ≢ read) (reads_of job) → list_any (λ s. reads name s.said) (statements_of job) ≡ false
+all_unread name job all =
+    let z : Statement = record { line = outputs_line job + length job.outputs; said = said.Certificate job.certificate } in
+    let rest : list_any (λ s. reads name s.said) (priors_stated (5 + length job.tables) job.priors ++ behind_priors job) ≡ false =
+    any_past (λ s. reads name s.said) (priors_stated (5 + length job.tables) job.priors) (behind_priors job) (priors_unread name (5 + length job.tables) job.priors all.1.1)
+    ∙ any_past (λ s. reads name s.said) (outputs_stated (outputs_line job) 0 job.outputs) (z ∷ []) (outputs_unread name (outputs_line job) 0 job.outputs) in
+    rw (differs name job.micro all.0, differs name job.meta all.1.0) rest
+
+alone : (n : ℕ) (b : Bool) → n ≤ 1 → b ≡ false → (nat_lt 1 n || b) ≡ false
+alone n b h g = grind arith
+
+unshared : (name : List ℕ) (job : Job) → IsDistinct bytes_eq (puts_of job) → AllByRecursion (λ read. name ≢ read) (reads_of job) → is_shared name (statements_of job) ≡ false
+unshared name job distinct all =
+    let few = once name (puts_of job) distinct in
+    let count = puts_counted name job in
+    alone (count_by (λ s. puts name s.said) (statements_of job)) (list_any (λ s. reads name s.said) (statements_of job)) (omega (arith, few, count)) (all_unread name job all)
+
+priors_meet_none : (all : List Statement) (line : ℕ) (priors : List PriorLine) → list_any (λ s. is_meeting all s.said) (priors_stated line priors) ≡ false
+priors_meet_none all line [] = refl
+priors_meet_none all line (prior ∷ priors) = priors_meet_none all (line + 1) priors
+
+outputs_apart : (job : Job) (line place : ℕ) (outputs : List OutputLine) → IsDistinct bytes_eq (puts_of job) → AllByRecursion (λ put. AllByRecursion (λ read. put ≢ read) (reads_of job)) (map (λ o. o.file) outputs)
+    → list_any (λ s. is_meeting (statements_of job) s.said) (outputs_stated line place outputs) ≡ false
+outputs_apart job line place [] distinct all = refl
+outputs_apart job line place (output ∷ outputs) distinct all = rw (unshared output.file job distinct all.0, outputs_apart job (line + 1) (place + 1) outputs distinct all.1) refl
+
+all_apart : (job : Job) → IsDistinct bytes_eq (puts_of job) → AllByRecursion (λ put. AllByRecursion (λ read. put ≢ read) (reads_of job)) (puts_of job) → no_same_name (statements_of job) (statements_of job) ≡ Ok tt
+all_apart job distinct all =
+    let z : Statement = record { line = outputs_line job + length job.outputs; said = said.Certificate job.certificate } in
+    let test : Statement → Bool = λ s. is_meeting (statements_of job) s.said in
+    let last : list_any test (z ∷ []) ≡ false = rw (unshared job.certificate job distinct all.0) refl in
+    apart (statements_of job) (statements_of job)
+    (any_past test (priors_stated (5 + length job.tables) job.priors) (behind_priors job) (priors_meet_none (statements_of job) (5 + length job.tables) job.priors)
+    ∙ any_past test (outputs_stated (outputs_line job) 0 job.outputs) (z ∷ []) (outputs_apart job (outputs_line job) 0 job.outputs distinct all.1)
+    ∙ last)
+
+-- ---- the job
+
+made_from : (draft : Draft) (micro meta certificate : OutputLine) (rules : RulesLine) (method : Method) (outputs : List OutputLine)
+    → file_line (said_by keyword.OpenMicrodata draft.said) ≡ Some micro → file_line (said_by keyword.OpenMetadata draft.said) ≡ Some meta → (length draft.tables == 0) ≡ false
+    → rules_line (said_by keyword.SafetyRule draft.said) ≡ Some rules → method_of (said_by keyword.Suppress draft.said) ≡ Some method → outputs_from (length draft.tables) 0 draft.said ≡ Ok outputs
+    → file_line (said_by keyword.Certificate draft.said) ≡ Some certificate → job_made draft ≡ Ok (job_with draft micro meta rules method outputs certificate)
+unfolding job_made
+made_from draft micro meta certificate rules method outputs a b d e f g h = rw (a, b, d, e, f, g, h) refl
+
+tables_counted : (line : ℕ) (tables : List TableLine) → length (tables_from line tables) ≡ length tables
+tables_counted line [] = refl
+tables_counted line (table ∷ tables) = ap suc (tables_counted (line + 1) tables)
+
+some_tables : (n : ℕ) → 0 < n → (n == 0) ≡ false
+some_tables n h = grind arith
+
+made_again : (job : Job) → 0 < length job.tables → length job.tables ≤ 8 → length job.outputs ≡ length job.tables → AllByRecursion (λ p. p.table < 8) job.priors
+    → job_made (drafted (tables_from 3 job.tables) (statements_of job)) ≡ Ok (in_text job)
+made_again job some few outputs priors =
+    let draft = drafted (tables_from 3 job.tables) (statements_of job) in
+    let counted = tables_counted 3 job.tables in
+    let found : outputs_from (length (tables_from 3 job.tables)) 0 (statements_of job) ≡ Ok (outputs_at (outputs_line job) job.outputs) =
+    ap (λ (n : ℕ). outputs_from n 0 (statements_of job)) (counted ∙ sym outputs) ∙ outputs_found job (omega (arith, outputs, few)) in
+    let whole : Job = in_text job in
+    made_from draft (record { line = 1; file = job.micro }) (record { line = 2; file = job.meta }) (record { line = outputs_line job + length job.outputs; file = job.certificate })
+    (record { line = 3 + length job.tables; rules = job.rules }) job.method (outputs_at (outputs_line job) job.outputs)
+    refl refl (some_tables (length (tables_from 3 job.tables)) (omega (arith, some, counted))) refl (method_found job) found (certificate_found job)
+    ∙ ap (λ (ps : List PriorLine). Ok (record whole { priors = ps; cost = cost_of (said_by keyword.Cost (statements_of job)); steps = work_of usual_steps (said_by keyword.Steps (statements_of job)); nodes = work_of usual_nodes (said_by keyword.Nodes (statements_of job)) })) (priors_found job priors)
+    ∙ ap (λ (cost : CostKind). Ok (record whole { cost = cost; steps = work_of usual_steps (said_by keyword.Steps (statements_of job)); nodes = work_of usual_nodes (said_by keyword.Nodes (statements_of job)) })) (cost_found job)
+    ∙ ap (λ (steps : ℕ). Ok (record whole { steps = steps; nodes = work_of usual_nodes (said_by keyword.Nodes (statements_of job)) })) (steps_found job)
+    ∙ ap (λ (nodes : ℕ). Ok (record whole { nodes = nodes })) (nodes_found job)
+
+pub closed_again : (job : Job) → 0 < length job.tables → length job.tables ≤ 8 → length job.outputs ≡ length job.tables → AllByRecursion (λ p. p.table < length job.tables) job.priors → AllByRecursion (λ p. p.table < 8) job.priors
+    → IsDistinct bytes_eq (puts_of job) → AllByRecursion (λ put. AllByRecursion (λ read. put ≢ read) (reads_of job)) (puts_of job)
+    → closed_job (drafted (tables_from 3 job.tables) (statements_of job)) ≡ Ok (in_text job)
+unfolding closed_job
+closed_again job some few outputs within priors distinct all =
+    let counted = tables_counted 3 job.tables in
+    let fine : no_stray (length (tables_from 3 job.tables)) (statements_of job) ≡ Ok tt = ap (λ (n : ℕ). no_stray n (statements_of job)) counted ∙ all_placed (length job.tables) job few within (omega (arith, outputs)) in
+    rw (fine, all_apart job distinct all) (made_again job some few outputs priors)

@@ -1,0 +1,97 @@
+-- The canonical text of a job is read as that job.
+use Rattle.std.proofs.Common.{◌≡◌, ℕ, ◌+◌, ◌<◌, ◌≤◌, List, [], ◌∷◌, ◌++◌, length, map, Ok, refl, ap, ◌∙◌, arith, true}
+use Rattle.std.specs.List.{AllByRecursion}
+use Rattle.plain_text.specs.Laws.{AreReadAgain}
+use Rattle.sdc_base.specs.Lines.{IsLine}
+use Rattle.sdc_base.specs.Steps.{◌>>=◌}
+use Rattle.sdc_base.specs.Tokens.{is_file_name}
+use Rattle.job_lang.specs.declared.job.Job.{Job}
+use Rattle.job_lang.specs.declared.job.OutputLine.{OutputLine}
+use Rattle.job_lang.specs.declared.job.PriorLine.{PriorLine}
+use Rattle.job_lang.specs.declared.job.TableLine.{TableLine}
+use Rattle.job_lang.specs.declared.statement.Said.{Said}
+use Rattle.job_lang.specs.declared.statement.Said.TheVariants as said
+use Rattle.job_lang.specs.Statements.{lines_say, nothing}
+use Rattle.job_lang.specs.JobLimits.{HasNoTwice, HasVariables}
+use Rattle.job_lang.specs.Jobs.{closed_job, job_of}
+use Rattle.job_lang.specs.Laws.{puts_of, reads_of}
+use Rattle.job_lang.specs.Binding.{response_of}
+use Rattle.job_lang.specs.Spelling.{table_said, prior_said, outputs_said, job_says, job_text, in_text, said_line}
+use Rattle.job_lang.specs.Writable.{HasQuotable, HasSeparator, IsSpellable, IsWritable}
+use Rattle.job_lang.proofs.SpelledLines.{line_line}
+use Rattle.job_lang.proofs.SpelledDraft.{lines_are, text_says_all}
+use Rattle.job_lang.proofs.SpelledJob.{closed_again}
+use Rattle.job_lang.proofs.TableRoom.{fit}
+
+all_both : {A : Type 0} (P : A → Type 0) (xs ys : List A) → AllByRecursion P xs → AllByRecursion P ys → AllByRecursion P (xs ++ ys)
+all_both P [] ys a b = b
+all_both P (x ∷ xs) ys a b = (a.0, all_both P xs ys a.1 b)
+
+front_of_all : {A : Type 0} (P : A → Type 0) (xs ys : List A) → AllByRecursion P (xs ++ ys) → AllByRecursion P xs
+front_of_all P [] ys all = tt
+front_of_all P (x ∷ xs) ys all = (all.0, front_of_all P xs ys all.1)
+
+back_of_all : {A : Type 0} (P : A → Type 0) (xs ys : List A) → AllByRecursion P (xs ++ ys) → AllByRecursion P ys
+back_of_all P [] ys all = all
+back_of_all P (x ∷ xs) ys all = back_of_all P xs ys all.1
+
+all_below : (count : ℕ) (priors : List PriorLine) → count ≤ 8 → AllByRecursion (λ p. p.table < count) priors → AllByRecursion (λ p. p.table < 8) priors
+all_below count [] few all = tt
+all_below count (p ∷ priors) few all = (omega (arith, few, all.0), all_below count priors few all.1)
+
+tables_spellable : (tables : List TableLine) → AllByRecursion HasVariables tables → AllByRecursion HasNoTwice tables → AllByRecursion HasQuotable tables → AllByRecursion IsSpellable (map table_said tables)
+tables_spellable [] few once names = tt
+tables_spellable (t ∷ tables) few once names = ((few.0.0, few.0.1, once.0, names.0.0, names.0.1), tables_spellable tables few.1 once.1 names.1)
+
+-- a file has a name
+abbrev IsNamed : List ℕ → Type 0
+IsNamed name = is_file_name name ≡ true
+
+priors_spellable : (priors : List PriorLine) → AllByRecursion (λ p. p.table < 8) priors → AllByRecursion HasSeparator priors → AllByRecursion IsNamed (map (λ p. p.file) priors) → AllByRecursion IsSpellable (map prior_said priors)
+priors_spellable [] few separators files = tt
+priors_spellable (p ∷ priors) few separators files = ((p.table, few.0, refl, files.0, separators.0.0, separators.0.1), priors_spellable priors few.1 separators.1 files.1)
+
+outputs_spellable : (place : ℕ) (outputs : List OutputLine) → place + length outputs ≤ 8 → AllByRecursion IsNamed (map (λ o. o.file) outputs) → AllByRecursion IsSpellable (outputs_said place outputs)
+outputs_spellable place [] few files = tt
+outputs_spellable place (o ∷ outputs) few files = ((place, omega (arith, few), refl, files.0), outputs_spellable (place + 1) outputs (omega (arith, few)) files.1)
+
+all_spellable : (job : Job) → IsWritable job → AllByRecursion IsSpellable (job_says job)
+all_spellable job h =
+    let read = front_of_all IsNamed (reads_of job) (puts_of job) h.files in
+    let put = back_of_all IsNamed (reads_of job) (puts_of job) h.files in
+    let tables = tables_spellable job.tables h.limits.variables h.limits.tables.once h.names in
+    let priors = priors_spellable job.priors (all_below (length job.tables) job.priors h.limits.few h.limits.priors) h.separators read.1.1 in
+    let outputs = outputs_spellable 0 job.outputs (omega (arith, h.limits.outputs, h.limits.few)) put.1 in
+    let last : AllByRecursion IsSpellable (said.Certificate job.certificate ∷ []) = (put.0, tt) in (
+      read.0,
+      (
+        read.1.0,
+        all_both IsSpellable (map table_said job.tables) _ tables (
+          (h.limits.rules, h.frequencies),
+          (
+            tt,
+            all_both IsSpellable (map prior_said job.priors) _ priors (
+              tt,
+              (h.limits.steps, (h.limits.nodes, (h.limits.method, all_both IsSpellable (outputs_said 0 job.outputs) _ outputs last))),
+            ),
+          ),
+        ),
+      ),
+    )
+
+lines_fine : (all : List Said) → AllByRecursion IsSpellable all → AllByRecursion IsLine (map said_line all)
+lines_fine [] can = tt
+lines_fine (one ∷ all) can = (line_line one can.0, lines_fine all can.1)
+
+pub text_read : AreReadAgain → (job : Job) → IsWritable job → job_of (job_text job) ≡ Ok (in_text job)
+unfolding job_of
+text_read law job h =
+    let can = all_spellable job h in
+    let few = all_below (length job.tables) job.priors h.limits.few h.limits.priors in
+    let fits = fit (response_of job.tables) [] job.tables (omega (arith, h.limits.few)) h.limits.tables.variables tt h.limits.tables.response in
+    ap (λ (ts : List (List ℕ)). lines_say 0 nothing ts >>= closed_job) (law (map said_line (job_says job)) (lines_fine (job_says job) can))
+    ∙ ap (λ r. r >>= closed_job) (lines_are 0 nothing (job_says job) can ∙ text_says_all job fits few h.priors (omega (arith, h.limits.outputs, h.limits.few)))
+    ∙ closed_again job h.limits.tables.some h.limits.few h.limits.outputs h.limits.priors few h.puts h.apart
+
+pub round_trip : AreReadAgain → (job : Job) → IsWritable job → in_text job ≡ job → job_of (job_text job) ≡ Ok job
+round_trip law job h same = text_read law job h ∙ ap (λ (j : Job). Ok j) same

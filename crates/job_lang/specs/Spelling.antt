@@ -1,0 +1,169 @@
+-- The canonical text of a job: a line for each command, in the order of the table of commands (words of the tau-ARGUS user manual; the order of the lines own).
+use Rattle.std.specs.Prelude.{ℕ, ◌+◌, true, false, decimal, codes, List, [], ◌∷◌, ◌++◌, length, map}
+use Rattle.std.specs.Fmt.{signed_decimal}
+use Rattle.cost_rule.specs.declared.kind.CostKind.{CostKind}
+use Rattle.cost_rule.specs.declared.kind.CostKind.TheVariants as kind
+use Rattle.sdc_base.specs.Lines.{joined}
+use Rattle.sdc_base.specs.declared.method.Method.{Method}
+use Rattle.sdc_base.specs.declared.method.Method.TheVariants.{Gh, Modular, Rnd}
+use Rattle.sdc_base.specs.declared.rule.Rule.TheVariants.{Freq, Nk, Percent}
+use Rattle.sdc_base.specs.declared.rule.Rules.{Rules}
+use Rattle.job_lang.specs.declared.job.Job.{Job}
+use Rattle.job_lang.specs.declared.job.OutputLine.{OutputLine}
+use Rattle.job_lang.specs.declared.job.PriorLine.{PriorLine}
+use Rattle.job_lang.specs.declared.job.TableLine.{TableLine}
+use Rattle.job_lang.specs.declared.rule_clauses.RuleClause.{RuleClause}
+use Rattle.job_lang.specs.declared.rule_clauses.RuleClause.TheVariants.{Named, Man, Weights}
+use Rattle.job_lang.specs.declared.statement.Keyword.{Keyword}
+use Rattle.job_lang.specs.declared.statement.Keyword.TheVariants.{OpenMicrodata, OpenMetadata, SpecifyTable, SafetyRule, ReadMicrodata, Apriori, Cost, Steps, Nodes, Suppress, WriteTable, Certificate}
+use Rattle.job_lang.specs.declared.statement.Said.{Said}
+use Rattle.job_lang.specs.declared.statement.Said.TheVariants as said
+use Rattle.job_lang.specs.Statements.{command_of}
+
+-- ---- tokens
+
+-- the word of a command
+abbrev pub word_of : Keyword → List ℕ
+word_of OpenMicrodata = codes "OPENMICRODATA"
+word_of OpenMetadata = codes "OPENMETADATA"
+word_of SpecifyTable = codes "SPECIFYTABLE"
+word_of SafetyRule = codes "SAFETYRULE"
+word_of ReadMicrodata = codes "READMICRODATA"
+word_of Apriori = codes "APRIORI"
+word_of Cost = codes "COST"
+word_of Steps = codes "STEPS"
+word_of Nodes = codes "NODES"
+word_of Suppress = codes "SUPPRESS"
+word_of WriteTable = codes "WRITETABLE"
+word_of Certificate = codes "CERTIFICATE"
+
+-- a name between double quotes
+abbrev pub quoted : List ℕ → List ℕ
+quoted name = 34 ∷ name ++ 34 ∷ []
+
+-- names between double quotes, one right behind the other
+abbrev pub quoted_each : List (List ℕ) → List ℕ
+quoted_each [] = []
+quoted_each (name ∷ names) = quoted name ++ quoted_each names
+
+-- texts with a bar between each two
+abbrev pub barred : List (List ℕ) → List ℕ
+barred [] = []
+barred (text ∷ []) = text
+barred (text ∷ next ∷ texts) = text ++ 124 ∷ barred (next ∷ texts)
+
+-- a number between parentheses
+abbrev pub enclosed : List ℕ → List ℕ
+enclosed number = 40 ∷ number ++ 41 ∷ []
+
+-- two numbers between parentheses
+abbrev pub enclosed_both : List ℕ → List ℕ → List ℕ
+enclosed_both first second = 40 ∷ first ++ (44 ∷ second ++ 41 ∷ [])
+
+-- the number of the table at this place, from 1
+abbrev pub table_number : ℕ → List ℕ
+table_number place = decimal (place + 1)
+
+-- ---- arguments
+
+-- a rule, MAN or WGT
+abbrev pub clause_text : RuleClause → List ℕ
+clause_text (Named (Freq n r)) = codes "FREQ" ++ enclosed_both (decimal n) (decimal r)
+clause_text (Named (Nk n k)) = codes "NK" ++ enclosed_both (decimal n) (decimal k)
+clause_text (Named (Percent p)) = codes "P" ++ enclosed (decimal p)
+clause_text (Man r) = codes "MAN" ++ enclosed (decimal r)
+clause_text (Weights false) = codes "WGT" ++ enclosed (decimal 0)
+clause_text (Weights true) = codes "WGT" ++ enclosed (decimal 1)
+
+-- the rules of a job, and behind them MAN and WGT
+abbrev pub clauses_of : Rules → List RuleClause
+clauses_of rules = map Named rules.list ++ Man rules.man ∷ Weights rules.weighted ∷ []
+
+-- rules joined by bars
+abbrev pub rules_text : Rules → List ℕ
+rules_text rules = barred (map clause_text (clauses_of rules))
+
+-- a kind of cost
+abbrev pub cost_text : CostKind → List ℕ
+cost_text kind.Value = codes "VALUE"
+cost_text kind.Freq = codes "FREQ"
+cost_text kind.One = codes "UNIT"
+
+-- how tables are protected
+abbrev pub method_text : Method → List ℕ
+method_text (Gh n) = codes "GH" ++ enclosed (decimal n)
+method_text Modular = codes "MOD()"
+method_text (Rnd base) = codes "RND" ++ enclosed (signed_decimal base)
+
+-- the argument by which it is said, behind a space where there is one
+abbrev pub argument_text : Said → List ℕ
+argument_text (said.Microdata name) = 32 ∷ quoted name
+argument_text (said.Metadata name) = 32 ∷ quoted name
+argument_text (said.Table variables response) = 32 ∷ quoted_each variables ++ 124 ∷ quoted response
+argument_text (said.Safety rules) = 32 ∷ rules_text rules
+argument_text said.Read = []
+argument_text (said.Prior file number separator) = 32 ∷ quoted file ++ (44 ∷ number ++ 44 ∷ quoted (separator ∷ []))
+argument_text (said.Cost cost) = 32 ∷ cost_text cost
+argument_text (said.Steps steps) = 32 ∷ decimal steps
+argument_text (said.Nodes nodes) = 32 ∷ decimal nodes
+argument_text (said.Suppress method) = 32 ∷ method_text method
+argument_text (said.Output number file) = 32 ∷ 40 ∷ number ++ (44 ∷ quoted file ++ 41 ∷ [])
+argument_text (said.Certificate name) = 32 ∷ quoted name
+
+-- the line by which it is said
+abbrev pub said_line : Said → List ℕ
+said_line one = 60 ∷ word_of (command_of one) ++ 62 ∷ argument_text one
+
+-- ---- jobs
+
+-- a table
+abbrev pub table_said : TableLine → Said
+table_said table = said.Table table.variables table.response
+
+-- an a priori file
+abbrev pub prior_said : PriorLine → Said
+prior_said prior = said.Prior prior.file (table_number prior.table) prior.separator
+
+-- the outputs of the tables from this place on
+abbrev pub outputs_said : ℕ → List OutputLine → List Said
+outputs_said place [] = []
+outputs_said place (output ∷ outputs) = said.Output (table_number place) output.file ∷ outputs_said (place + 1) outputs
+
+-- all that a job says
+abbrev pub job_says : Job → List Said
+job_says job =
+    said.Microdata job.micro ∷ said.Metadata job.meta ∷ map table_said job.tables
+    ++ (said.Safety job.rules ∷ said.Read ∷ map prior_said job.priors
+    ++ (said.Cost job.cost ∷ said.Steps job.steps ∷ said.Nodes job.nodes ∷ said.Suppress job.method ∷ outputs_said 0 job.outputs
+    ++ said.Certificate job.certificate ∷ []))
+
+-- the canonical text of a job: its lines, each ended by LF
+abbrev pub job_text : Job → List ℕ
+job_text job = joined (map said_line (job_says job))
+
+-- ---- the lines of that text
+
+-- tables in one line after the other from this one on
+abbrev pub tables_from : ℕ → List TableLine → List TableLine
+tables_from line [] = []
+tables_from line (table ∷ tables) = record table { line = line } ∷ tables_from (line + 1) tables
+
+-- a priori files in one line after the other from this one on
+abbrev pub priors_from : ℕ → List PriorLine → List PriorLine
+priors_from line [] = []
+priors_from line (prior ∷ priors) = record prior { line = line } ∷ priors_from (line + 1) priors
+
+-- outputs in one line after the other from this one on
+abbrev pub outputs_at : ℕ → List OutputLine → List OutputLine
+outputs_at line [] = []
+outputs_at line (output ∷ outputs) = record output { line = line } ∷ outputs_at (line + 1) outputs
+
+-- the same job with the lines of its canonical text
+abbrev pub in_text : Job → Job
+in_text job = record job {
+  tables = tables_from 3 job.tables;
+  rules_line = 3 + length job.tables;
+  priors = priors_from (5 + length job.tables) job.priors;
+  outputs = outputs_at (9 + length job.tables + length job.priors) job.outputs;
+  certificate_line = 9 + length job.tables + length job.priors + length job.outputs;
+}
