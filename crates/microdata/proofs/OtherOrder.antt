@@ -1,5 +1,5 @@
 -- Records in another order give the same trees.
-use Rattle.std.proofs.Common.{◌≡◌, ℕ, true, false, List, [], ◌∷◌, ◌++◌, length, map, filter, Option, None, Some, Result, Ok, Err, ℤ, pos, refl, ap, sym, ◌∙◌, subst, ◌⊎◌, inl, inr, IsPermutation}
+use Rattle.std.proofs.Common.{◌≡◌, ℕ, true, false, List, [], ◌∷◌, ◌++◌, map, filter, Option, None, Some, Result, Ok, Err, ℤ, pos, refl, ap, sym, ◌∙◌, subst, ◌⊎◌, inl, inr, IsPermutation}
 use Rattle.std.specs.List.{AllByRecursion, IsDistinct}
 use Rattle.std.specs.Option.{unwrap_or}
 use Rattle.std.specs.Str.{bytes_eq}
@@ -25,7 +25,7 @@ use Rattle.microdata.specs.declared.layout.Source.TheVariants as source
 use Rattle.microdata.specs.declared.record.Variable.{Variable}
 use Rattle.microdata.specs.declared.taking.Seen.{Seen}
 use Rattle.microdata.proofs.FlatCodes.{in-either, in-second}
-use Rattle.microdata.proofs.InOrder.{AreInOrder, same-members, gathered-new, gathered-back}
+use Rattle.microdata.proofs.InOrder.{same-members, gathered-new, gathered-back}
 use Rattle.microdata.proofs.RowsClosed.{trees_in, read-from}
 use Rattle.microdata.proofs.RowsMeant.{AreBrought, IsBrought, code_in}
 use Rattle.microdata.proofs.Shuffled.{filter-shuffled, in-shuffled}

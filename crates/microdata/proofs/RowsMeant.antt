@@ -1,9 +1,6 @@
 -- The rows are those of their records.
 use Rattle.std.proofs.Common.{◌≡◌, ℕ, zero, suc, ◌+◌, nat_lt, nat_le, not, Bool, true, false, cond, List, [], ◌∷◌, ◌++◌, length, map, filter, position, slice_get, sum, Option, None, Some, option_map, Result, Ok, pos, refl, ap, sym, ◌∙◌, subst, arith, append_assoc, append-nil, add-one, ◌⊎◌, inl, inr}
-use Rattle.std.specs.BTreeSet.{insert_key}
-use Rattle.std.specs.Cmp.Lexicographic.{slice_cmp}
 use Rattle.std.specs.List.{AllByRecursion, list_any}
-use Rattle.std.specs.Ordering.{nat_cmp}
 use Rattle.std.specs.Str.{bytes_eq}
 use Rattle.std.proofs.lemmas.Slice.Eq.{bytes_eq-Decides}
 use Rattle.sdc_base.specs.Blanks.{is_blank}
