@@ -11,6 +11,9 @@ pub mod SeenFirst
 pub mod Kept
 pub mod Within
 pub mod Standing
+pub mod InOrder
 pub mod RowsMeant
 pub mod RowsClosed
 pub mod Numbered
+pub mod Shuffled
+pub mod OtherOrder

@@ -17,7 +17,7 @@ use Rattle.hierarchy.proofs.FlatSteps.{codes-flat}
 use Rattle.microdata.specs.Closing.{tree_of, places_in, closed_of, place_of, leaf_of, leaves_of, row_of, rows_of}
 use Rattle.microdata.specs.Fields.{field}
 use Rattle.microdata.specs.Keeping.{AreSeen}
-use Rattle.microdata.specs.Layouts.{measures_of, IsField}
+use Rattle.microdata.specs.Layouts.{measures_of, IsField, IsLayout}
 use Rattle.microdata.specs.Meaning.{is_answered, is_unanswered, ArePlacesOf, IsRowOf, AreRowsOf, RowsAreTheirRecords}
 use Rattle.microdata.specs.Microdata.{records_of, closed_records}
 use Rattle.microdata.specs.OneRecord.{lines_say, nothing}
@@ -32,8 +32,11 @@ use Rattle.microdata.specs.declared.record.Kept.{Kept as KeptRow}
 use Rattle.microdata.specs.declared.record.Variable.{Variable}
 use Rattle.microdata.specs.declared.records.Records.{Records}
 use Rattle.microdata.specs.declared.taking.Seen.{Seen}
+use Rattle.microdata.specs.SeenCodes.{seen_first}
+use Rattle.microdata.specs.declared.record.SoFar.{SoFar}
+use Rattle.microdata.proofs.InOrder.{AreInOrder}
 use Rattle.microdata.proofs.Kept.{value_of_ok, same-value}
-use Rattle.microdata.proofs.RowsMeant.{Stands, code_in, AreNumbersOf, IsKeptOf, AreKeptOf, lines-meant, get-in}
+use Rattle.microdata.proofs.RowsMeant.{Stands, code_in, AreNumbersOf, IsKeptOf, AreKeptOf, IsBrought, IsMeantSoFar, lines-meant, get-in}
 use Rattle.microdata.proofs.SeenFirst.{first_of, first-sound}
 
 -- ---- a code in its tree
@@ -81,7 +84,7 @@ placed (source.Flat listed total) seen number code sound h = found-there (tree_o
 
 -- ---- the rows
 
-abbrev trees_in : List Variable → List Tree
+abbrev pub trees_in : List Variable → List Tree
 trees_in variables = map (λ (one : Closed). one.tree) (map closed_of variables)
 
 abbrev fields_in : List Variable → List Field
@@ -140,11 +143,48 @@ sound-first needed fields h = each fields (recursion_from_All (IsField needed) f
     each [] h = tt
     each (field ∷ fields) h = (first-sound field.source h.0.codes, each fields h.1)
 
-pub rows_are_their_records : RowsAreTheirRecords
+brought-first : (one : Field) → IsBrought [] (first_of one)
+brought-first one = record {
+  ordered = no-nodes one.source;
+  only = λ x h. inl h;
+  first = λ x h. h;
+  all = λ line h. absurd h;
+}
+  where
+    no-nodes : (s : Source) → AreInOrder (seen_first s).nodes
+    no-nodes (source.Listed tree) = tt
+    no-nodes (source.Levels widths total) = tt
+    no-nodes (source.Flat codes total) = tt
+
+all-brought-first : (fields : List Field) → AllByRecursion (IsBrought []) (map first_of fields)
+all-brought-first [] = tt
+all-brought-first (field ∷ fields) = (brought-first field, all-brought-first fields)
+
+meant-first : (layout : Layout) → IsLayout layout → IsMeantSoFar layout [] 0 (nothing layout)
+meant-first layout fine = record { fields = fields-first layout.spanning; sound = sound-first layout.needed layout.spanning fine.fields; rows = tt; skipped = refl; brought = all-brought-first layout.spanning }
+
+-- what was kept of the records that are read
+pub record IsReadFrom (layout : Layout) (bytes : List ℕ) (records : Records) (last : SoFar) : Type 0 where
+  pub meant : IsMeantSoFar layout (filter (is_answered layout.response) (lines bytes)) (length (filter (is_unanswered layout.response) (lines bytes))) last
+  pub trees : records.trees ≡ trees_in last.variables
+  pub rows : AreRowsOf layout records.trees (filter (is_answered layout.response) (lines bytes)) records.rows
+  pub skipped : records.skipped ≡ length (filter (is_unanswered layout.response) (lines bytes))
+
+pub read-from : (layout : Layout) (bytes : List ℕ) (records : Records) → IsLayout layout → records_of layout bytes ≡ Ok records → (last : SoFar) × IsReadFrom layout bytes records last
 unfolding records_of closed_records
-rows_are_their_records layout bytes records fine h =
+read-from layout bytes records fine h =
     let a = bind_ok (lines_say (measures_of layout) (nothing layout) (lines bytes)) _ records h in
     let b = bind_ok (rows_of (map closed_of a.0.variables) a.0.rows) _ records a.2 in
-    let meant = lines-meant layout [] 0 (nothing layout) a.0 (lines bytes) (record { fields = fields-first layout.spanning; sound = sound-first layout.needed layout.spanning fine.fields; rows = tt; skipped = refl }) a.1 in
-    subst (λ (records : Records). AreRowsOf layout records.trees (filter (is_answered layout.response) (lines bytes)) records.rows × (records.skipped ≡ length (filter (is_unanswered layout.response) (lines bytes)))) (value_of_ok _ records b.2)
-    (rows-placed layout a.0.variables (filter (is_answered layout.response) (lines bytes)) a.0.rows b.0 meant.fields meant.sound meant.rows b.1, meant.skipped ∙ omega arith)
+    let zero_more : 0 + length (filter (is_unanswered layout.response) (lines bytes)) ≡ length (filter (is_unanswered layout.response) (lines bytes)) = omega arith in
+    let meant = subst (λ n. IsMeantSoFar layout (filter (is_answered layout.response) (lines bytes)) n a.0) zero_more (lines-meant layout [] 0 (nothing layout) a.0 (lines bytes) (meant-first layout fine) a.1) in (
+      a.0,
+      subst (λ (records : Records). IsReadFrom layout bytes records a.0) (value_of_ok _ records b.2) (record {
+        meant = meant;
+        trees = refl;
+        rows = rows-placed layout a.0.variables (filter (is_answered layout.response) (lines bytes)) a.0.rows b.0 meant.fields meant.sound meant.rows b.1;
+        skipped = meant.skipped;
+      }),
+    )
+
+pub rows_are_their_records : RowsAreTheirRecords
+rows_are_their_records layout bytes records fine h = let read = read-from layout bytes records fine h in (read.1.rows, read.1.skipped)

@@ -1,5 +1,5 @@
 -- The rows are those of their records.
-use Rattle.std.proofs.Common.{◌≡◌, ℕ, zero, suc, ◌+◌, nat_lt, nat_le, not, Bool, true, false, cond, List, [], ◌∷◌, ◌++◌, length, map, filter, position, slice_get, sum, Option, None, Some, option_map, Result, Ok, pos, refl, ap, sym, ◌∙◌, subst, arith, append_assoc, append-nil, add-one, inl, inr}
+use Rattle.std.proofs.Common.{◌≡◌, ℕ, zero, suc, ◌+◌, nat_lt, nat_le, not, Bool, true, false, cond, List, [], ◌∷◌, ◌++◌, length, map, filter, position, slice_get, sum, Option, None, Some, option_map, Result, Ok, pos, refl, ap, sym, ◌∙◌, subst, arith, append_assoc, append-nil, add-one, ◌⊎◌, inl, inr}
 use Rattle.std.specs.List.{AllByRecursion, list_any}
 use Rattle.std.specs.Str.{bytes_eq}
 use Rattle.std.proofs.lemmas.Slice.Eq.{bytes_eq-Decides}
@@ -9,7 +9,7 @@ use Rattle.sdc_base.specs.Places.{first_place}
 use Rattle.sdc_base.specs.Steps.{◌>>=◌, or_fault, refuse}
 use Rattle.sdc_base.proofs.StepLemmas.{bind_ok}
 use Rattle.sdc_base.specs.Trees.{Tree, codes, find}
-use Rattle.hierarchy.specs.Among.{IsIn}
+use Rattle.hierarchy.specs.Among.{IsIn, AreAmong}
 use Rattle.hierarchy.specs.Levels.{boundaries, prefixes, with_prefixes}
 use Rattle.hierarchy.proofs.MapEntries.{position-first_place}
 use Rattle.microdata.specs.Fields.{field, has_no_response, value_of, weight_of}
@@ -17,7 +17,7 @@ use Rattle.microdata.specs.Keeping.{AreSeen}
 use Rattle.microdata.specs.Layouts.{measures_of}
 use Rattle.microdata.specs.Meaning.{is_answered, is_unanswered}
 use Rattle.microdata.specs.OneRecord.{variable_says, variables_say, response_says, record_says, line_says, lines_say, with_row, with_skipped}
-use Rattle.microdata.specs.SeenCodes.{is_above, listed_place, with_level_code, with_flat_code, known_or_new, with_code}
+use Rattle.microdata.specs.SeenCodes.{is_above, listed_place, with_level_code, with_flat_code, known_or_new, with_code, seen_first}
 use Rattle.microdata.specs.declared.faults.RowWhy.{RowWhy}
 use Rattle.microdata.specs.declared.faults.RowWhy.TheVariants.{TooLong, TooMany, Short, UnknownCode, NotLeaf, TooManyCodes}
 use Rattle.microdata.specs.declared.layout.Field.{Field}
@@ -28,7 +28,8 @@ use Rattle.microdata.specs.declared.record.Kept.{Kept as KeptRow}
 use Rattle.microdata.specs.declared.record.SoFar.{SoFar}
 use Rattle.microdata.specs.declared.record.Variable.{Variable}
 use Rattle.microdata.specs.declared.taking.Seen.{Seen}
-use Rattle.microdata.proofs.FlatCodes.{flat-sound}
+use Rattle.microdata.proofs.FlatCodes.{flat-sound, in-either, in-first, in-second}
+use Rattle.microdata.proofs.InOrder.{AreInOrder, one-more-in-order, prefixes-in-order}
 use Rattle.microdata.proofs.Kept.{value_of_ok, same-value}
 use Rattle.microdata.proofs.LevelCodes.{passed, level-sound}
 
@@ -82,6 +83,8 @@ record IsMeantBy (s : Source) (old : Seen) (code : List ℕ) (taken : Seen × �
   pub stands : Stands s taken.0 taken.1 code
   pub longer : Longer old taken.0
   pub sound : AreSeen s taken.0
+  pub only : (x : List ℕ) → IsIn x taken.0.codes → IsIn x old.codes ⊎ (x ≡ code)
+  pub ordered : AreInOrder old.nodes → AreInOrder taken.0.nodes
 
 none-any : (codes : List (List ℕ)) (code : List ℕ) → first_place (bytes_eq code) codes ≡ None → list_any (bytes_eq code) codes ≡ false
 none-any [] code h = refl
@@ -96,7 +99,7 @@ none-any (first ∷ codes) code h =
     none-of None h = refl
     none-of (Some k) h = cc
 
-level-more : (widths total : List ℕ) (old next : Seen) (code : List ℕ) → with_level_code widths total old code ≡ Ok next → next.codes ≡ old.codes ++ code ∷ []
+level-more : (widths total : List ℕ) (old next : Seen) (code : List ℕ) → with_level_code widths total old code ≡ Ok next → (next.codes ≡ old.codes ++ code ∷ []) × (AreInOrder old.nodes → AreInOrder next.nodes)
 unfolding with_level_code
 level-more widths total old next code said =
     let a = passed UnknownCode (list_any is_blank code) _ next said in
@@ -104,32 +107,40 @@ level-more widths total old next code said =
     let c = passed NotLeaf (bytes_eq code total) _ next b.1 in
     let d = passed UnknownCode (list_any (bytes_eq total) (prefixes (boundaries 0 widths) code)) _ next c.1 in
     let e = passed TooManyCodes (nat_lt 5000 (length (with_prefixes (boundaries 0 widths) old.nodes code))) _ next d.1 in
-    subst (λ (seen : Seen). seen.codes ≡ old.codes ++ code ∷ []) (value_of_ok _ next e.1) refl
+    subst (λ (seen : Seen). (seen.codes ≡ old.codes ++ code ∷ []) × (AreInOrder old.nodes → AreInOrder seen.nodes)) (value_of_ok _ next e.1) (refl, prefixes-in-order (boundaries 0 widths) old.nodes code)
 
-flat-more : (total : List ℕ) (old next : Seen) (code : List ℕ) → with_flat_code total old code ≡ Ok next → next.codes ≡ old.codes ++ code ∷ []
+flat-more : (total : List ℕ) (old next : Seen) (code : List ℕ) → with_flat_code total old code ≡ Ok next → (next.codes ≡ old.codes ++ code ∷ []) × (AreInOrder old.nodes → AreInOrder next.nodes)
 unfolding with_flat_code
 flat-more total old next code said =
     let a = passed NotLeaf (bytes_eq code total) _ next said in
     let b = passed TooManyCodes (nat_le 5000 (length old.codes)) _ next a.1 in
-    subst (λ (seen : Seen). seen.codes ≡ old.codes ++ code ∷ []) (value_of_ok _ next b.1) refl
+    subst (λ (seen : Seen). (seen.codes ≡ old.codes ++ code ∷ []) × (AreInOrder old.nodes → AreInOrder seen.nodes)) (value_of_ok _ next b.1) (refl, one-more-in-order code old.nodes)
+
+old-or-new : (codes : List (List ℕ)) (code x : List ℕ) → IsIn x (codes ++ code ∷ []) → IsIn x codes ⊎ (x ≡ code)
+old-or-new codes code x h = elim (in-either x codes (code ∷ []) h) [
+  | inl old ↦ inl old
+  | inr new ↦ elim new [ inl here ↦ inr here | inr none ↦ absurd none ]
+]
 
 same-code : (s : Source) (old : Seen) (code : List ℕ) (taken : Seen × ℕ) (grown : Result Seen RowWhy) → ((seen : Seen) (n : ℕ) → slice_get seen.codes n ≡ Some code → Stands s seen n code) → AreSeen s old
-    → ((next : Seen) → list_any (bytes_eq code) old.codes ≡ false → grown ≡ Ok next → (next.codes ≡ old.codes ++ code ∷ []) × AreSeen s next)
+    → ((next : Seen) → list_any (bytes_eq code) old.codes ≡ false → grown ≡ Ok next → ((next.codes ≡ old.codes ++ code ∷ []) × (AreInOrder old.nodes → AreInOrder next.nodes)) × AreSeen s next)
     → known_or_new old (position (bytes_eq code) old.codes) grown ≡ Ok taken → IsMeantBy s old code taken
 same-code s old code taken grown stands sound more said = by (position (bytes_eq code) old.codes) refl said
   where
     by : (o : Option ℕ) → position (bytes_eq code) old.codes ≡ o → known_or_new old o grown ≡ Ok taken → IsMeantBy s old code taken
     by (Some place) is h =
         let same : ◌≡◌ {A = Seen × ℕ} (old, place) taken = value_of_ok _ _ h in
-        subst (IsMeantBy s old code) same (record { stands = stands old place (position-at old.codes code place is); longer = ([], sym (append-nil old.codes)); sound = sound })
+        subst (IsMeantBy s old code) same (record { stands = stands old place (position-at old.codes code place is); longer = ([], sym (append-nil old.codes)); sound = sound; only = λ x inside. inl inside; ordered = λ order. order })
     by None is h =
         let b = bind_ok grown (λ next. Ok (next, length old.codes)) taken h in
         let same : ◌≡◌ {A = Seen × ℕ} (b.0, length old.codes) taken = value_of_ok _ _ b.2 in
         let grew = more b.0 (none-any old.codes code (sym (position-first_place (bytes_eq code) old.codes) ∙ is)) b.1 in
         subst (IsMeantBy s old code) same (record {
-          stands = stands b.0 (length old.codes) (subst (λ (codes : List (List ℕ)). slice_get codes (length old.codes) ≡ Some code) (sym grew.0) (get-last old.codes code));
-          longer = (code ∷ [], grew.0);
+          stands = stands b.0 (length old.codes) (subst (λ (codes : List (List ℕ)). slice_get codes (length old.codes) ≡ Some code) (sym grew.0.0) (get-last old.codes code));
+          longer = (code ∷ [], grew.0.0);
           sound = grew.1;
+          only = λ x inside. old-or-new old.codes code x (subst (IsIn x) grew.0.0 inside);
+          ordered = grew.0.1;
         })
 
 listed-meant : (tree : Tree) (old : Seen) (code : List ℕ) (taken : Seen × ℕ) → AreSeen (source.Listed tree) old → with_code (source.Listed tree) old code ≡ Ok taken → IsMeantBy (source.Listed tree) old code taken
@@ -142,7 +153,7 @@ listed-meant tree old code taken sound said = by (find tree code) refl said
       where
         leaf : (b : Bool) → ((refuse NotLeaf b >>= λ leaf. Ok place) >>= λ place. Ok (old, place)) ≡ Ok taken → IsMeantBy (source.Listed tree) old code taken
         leaf true h = cc
-        leaf false h = let same : ◌≡◌ {A = Seen × ℕ} (old, place) taken = value_of_ok _ _ h in subst (IsMeantBy (source.Listed tree) old code) same (record { stands = is; longer = ([], sym (append-nil old.codes)); sound = sound })
+        leaf false h = let same : ◌≡◌ {A = Seen × ℕ} (old, place) taken = value_of_ok _ _ h in subst (IsMeantBy (source.Listed tree) old code) same (record { stands = is; longer = ([], sym (append-nil old.codes)); sound = sound; only = λ x inside. inl inside; ordered = λ order. order })
 
 code-meant : (s : Source) (old : Seen) (code : List ℕ) (taken : Seen × ℕ) → AreSeen s old → with_code s old code ≡ Ok taken → IsMeantBy s old code taken
 unfolding with_code
@@ -173,9 +184,6 @@ Grown [] (new ∷ news) = ⊥
 Grown (old ∷ olds) [] = ⊥
 Grown (old ∷ olds) (new ∷ news) = (old.field ≡ new.field) × Longer old.seen new.seen × Grown olds news
 
-AreSound : List Variable → Type 0
-AreSound variables = AllByRecursion (λ variable. AreSeen variable.field.source variable.seen) variables
-
 one-grown : (old new : Variable) (number : ℕ) (line : List ℕ) → old.field ≡ new.field → Longer old.seen new.seen → Stands old.field.source old.seen number (code_in old line) → Stands new.field.source new.seen number (code_in new line)
 one-grown old new number line same longer h =
     subst (λ (f : Field). Stands f.source new.seen number (field f.first f.width line)) same (stands-longer old.field.source old.seen new.seen number (code_in old line) longer h)
@@ -188,33 +196,87 @@ numbers-grown (old ∷ olds) [] line numbers grown h = absurd grown
 numbers-grown (old ∷ olds) (new ∷ news) line [] grown h = absurd h
 numbers-grown (old ∷ olds) (new ∷ news) line (number ∷ numbers) grown h = (one-grown old new number line grown.0 grown.1 h.0, numbers-grown olds news line numbers grown.2 h.1)
 
+-- a code that is kept, where codes are kept
+abbrev pub Has : Source → Seen → List ℕ → Type 0
+Has (source.Listed tree) seen code = Unit {0}
+Has (source.Levels widths total) seen code = IsIn code seen.codes
+Has (source.Flat listed total) seen code = IsIn code seen.codes
+
+-- the codes that are kept are those from before the first record and those of these records
+pub record AreBrought (s : Source) (seen : Seen) (code : List ℕ → List ℕ) (answered : List (List ℕ)) : Type 0 where
+  pub ordered : AreInOrder seen.nodes
+  pub only : (x : List ℕ) → IsIn x seen.codes → IsIn x (seen_first s).codes ⊎ ((line : List ℕ) × IsIn line answered × (x ≡ code line))
+  pub first : AreAmong (seen_first s).codes seen.codes
+  pub all : (line : List ℕ) → IsIn line answered → Has s seen (code line)
+
+abbrev pub IsBrought : List (List ℕ) → Variable → Type 0
+IsBrought answered variable = AreBrought variable.field.source variable.seen (λ line. code_in variable line) answered
+
+in-longer : (old new : Seen) (x : List ℕ) → Longer old new → IsIn x old.codes → IsIn x new.codes
+in-longer old new x longer h = subst (IsIn x) (sym longer.1) (in-first x old.codes longer.0 h)
+
+has-longer : (s : Source) (old new : Seen) (code : List ℕ) → Longer old new → Has s old code → Has s new code
+has-longer (source.Listed tree) old new code longer h = tt
+has-longer (source.Levels widths total) old new code longer h = in-longer old new code longer h
+has-longer (source.Flat listed total) old new code longer h = in-longer old new code longer h
+
+has-standing : (s : Source) (seen : Seen) (number : ℕ) (code : List ℕ) → Stands s seen number code → Has s seen code
+has-standing (source.Listed tree) seen number code h = tt
+has-standing (source.Levels widths total) seen number code h = get-in seen.codes number code h
+has-standing (source.Flat listed total) seen number code h = get-in seen.codes number code h
+
+one-brought : (variable : Variable) (line : List ℕ) (taken : Seen × ℕ) (answered : List (List ℕ)) → IsMeantBy variable.field.source variable.seen (code_in variable line) taken → IsBrought answered variable
+    → IsBrought (answered ++ line ∷ []) (record { field = variable.field; seen = taken.0 })
+one-brought variable line taken answered meant brought = record {
+  ordered = meant.ordered brought.ordered;
+  only = λ x h. elim (meant.only x h) [
+    | inl old ↦ elim (brought.only x old) [ inl before ↦ inl before | inr by ↦ inr (by.0, in-first by.0 answered (line ∷ []) by.1, by.2) ]
+    | inr this ↦ inr (line, in-second line answered (line ∷ []) (inl refl), this)
+  ];
+  first = λ x h. in-longer variable.seen taken.0 x meant.longer (brought.first x h);
+  all = λ other h. elim (in-either other answered (line ∷ []) h) [
+    | inl old ↦ has-longer variable.field.source variable.seen taken.0 (code_in variable other) meant.longer (brought.all other old)
+    | inr it ↦ elim it [
+      | inl same ↦ subst (λ (text : List ℕ). Has variable.field.source taken.0 (code_in variable text)) (sym same) (has-standing variable.field.source taken.0 taken.1 (code_in variable line) meant.stands)
+      | inr none ↦ absurd none
+    ]
+  ];
+}
+
 record IsSaid (old : Variable) (line : List ℕ) (said : Variable × ℕ) : Type 0 where
   pub stands : Stands said.0.field.source said.0.seen said.1 (code_in said.0 line)
   pub same : old.field ≡ said.0.field
   pub longer : Longer old.seen said.0.seen
   pub sound : AreSeen said.0.field.source said.0.seen
+  pub brought : (answered : List (List ℕ)) → IsBrought answered old → IsBrought (answered ++ line ∷ []) said.0
 
 one-said : (variable : Variable) (line : List ℕ) (said : Variable × ℕ) → AreSeen variable.field.source variable.seen → variable_says variable line ≡ Ok said → IsSaid variable line said
 unfolding variable_says
 one-said variable line said sound h =
     let b = bind_ok (with_code variable.field.source variable.seen (field variable.field.first variable.field.width line)) _ said h in
     let meant = code-meant variable.field.source variable.seen (code_in variable line) b.0 sound b.1 in
-    subst (IsSaid variable line) (value_of_ok _ said b.2) (record { stands = meant.stands; same = refl; longer = meant.longer; sound = meant.sound })
+    subst (IsSaid variable line) (value_of_ok _ said b.2) (record { stands = meant.stands; same = refl; longer = meant.longer; sound = meant.sound; brought = λ answered brought. one-brought variable line b.0 answered meant brought })
 
 record AreSaid (olds : List Variable) (line : List ℕ) (taken : List Variable × List ℕ) : Type 0 where
   pub numbers : AreNumbersOf taken.0 line taken.1
   pub grown : Grown olds taken.0
   pub sound : AllByRecursion (λ variable. AreSeen variable.field.source variable.seen) taken.0
+  pub brought : (answered : List (List ℕ)) → AllByRecursion (IsBrought answered) olds → AllByRecursion (IsBrought (answered ++ line ∷ [])) taken.0
 
 all-said : (variables : List Variable) (line : List ℕ) (taken : List Variable × List ℕ) → AllByRecursion (λ variable. AreSeen variable.field.source variable.seen) variables → variables_say variables line ≡ Ok taken → AreSaid variables line taken
 unfolding variables_say
-all-said [] line taken sound h = subst (AreSaid [] line) (value_of_ok _ taken h) (record { numbers = tt; grown = tt; sound = tt })
+all-said [] line taken sound h = subst (AreSaid [] line) (value_of_ok _ taken h) (record { numbers = tt; grown = tt; sound = tt; brought = λ answered brought. tt })
 all-said (variable ∷ variables) line taken sound h =
     let a = bind_ok (variable_says variable line) _ taken h in
     let b = bind_ok (variables_say variables line) _ taken a.2 in
     let one = one-said variable line a.0 sound.0 a.1 in
     let rest = all-said variables line b.0 sound.1 b.1 in
-    subst (AreSaid (variable ∷ variables) line) (value_of_ok _ taken b.2) (record { numbers = (one.stands, rest.numbers); grown = (one.same, one.longer, rest.grown); sound = (one.sound, rest.sound) })
+    subst (AreSaid (variable ∷ variables) line) (value_of_ok _ taken b.2) (record {
+      numbers = (one.stands, rest.numbers);
+      grown = (one.same, one.longer, rest.grown);
+      sound = (one.sound, rest.sound);
+      brought = λ answered brought. (one.brought answered brought.0, rest.brought answered brought.1);
+    })
 
 grown-fields : (olds news : List Variable) → Grown olds news → map (λ variable. variable.field) news ≡ map (λ variable. variable.field) olds
 grown-fields [] [] grown = refl
@@ -255,6 +317,7 @@ pub record IsMeantSoFar (layout : Layout) (answered : List (List ℕ)) (unanswer
   pub sound : AllByRecursion (λ variable. AreSeen variable.field.source variable.seen) so_far.variables
   pub rows : AreKeptOf layout so_far.variables answered so_far.rows
   pub skipped : so_far.skipped ≡ unanswered
+  pub brought : AllByRecursion (IsBrought answered) so_far.variables
 
 response-meant : (layout : Layout) (answered : List (List ℕ)) (unanswered : ℕ) (so_far next : SoFar) (line : List ℕ) → IsMeantSoFar layout answered unanswered so_far → response_says (measures_of layout) so_far line ≡ Ok next
     → IsMeantSoFar layout (answered ++ line ∷ []) unanswered next
@@ -271,6 +334,7 @@ response-meant layout answered unanswered so_far next line meant h =
       rows = kept-more layout c.0.0 answered so_far.rows line row (kept-grown layout so_far.variables c.0.0 answered so_far.rows said.grown meant.rows)
           (record { numbers = said.numbers; value = (a.0, a.1, refl); weight = b.1 });
       skipped = meant.skipped;
+      brought = said.brought answered meant.brought;
     })
 
 record-step : (layout : Layout) (so_far next : SoFar) (line : List ℕ) → record_says (measures_of layout) so_far line ≡ Ok next
@@ -323,6 +387,6 @@ lines-meant layout answered unanswered so_far last ((b ∷ line) ∷ rest) meant
     elim (has_no_response layout.response (b ∷ line)) as (λ t. has_no_response layout.response (b ∷ line) ≡ t → cond {A = Result SoFar RowWhy} t (Ok (with_skipped so_far)) (response_says (measures_of layout) so_far (b ∷ line)) ≡ Ok a.0
     → IsMeantWith layout answered unanswered ((b ∷ line) ∷ rest) last) [
       | true ↦ λ is e. skip-step layout answered unanswered b line rest last is
-          (later answered (unanswered + 1) (subst (IsMeantSoFar layout answered (unanswered + 1)) (value_of_ok (with_skipped so_far) a.0 e) (record { fields = meant.fields; sound = meant.sound; rows = meant.rows; skipped = ap (λ n. n + 1) meant.skipped })))
+          (later answered (unanswered + 1) (subst (IsMeantSoFar layout answered (unanswered + 1)) (value_of_ok (with_skipped so_far) a.0 e) (record { fields = meant.fields; sound = meant.sound; rows = meant.rows; skipped = ap (λ n. n + 1) meant.skipped; brought = meant.brought })))
       | false ↦ λ is e. take-step layout answered unanswered b line rest last is (later (answered ++ (b ∷ line) ∷ []) unanswered (response-meant layout answered unanswered so_far a.0 (b ∷ line) meant e))
     ] refl step

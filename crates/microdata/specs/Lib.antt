@@ -10,3 +10,4 @@ pub mod Keeping
 pub mod Ranges
 pub mod Laws
 pub mod Meaning
+pub mod OtherOrder

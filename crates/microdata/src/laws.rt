@@ -2,6 +2,7 @@
 
 ghost use Rattle.microdata.specs.Laws.{FaultsStand};
 ghost use Rattle.microdata.specs.Meaning.{RowsAreTheirRecords, FaultsAreNumbered};
+ghost use Rattle.microdata.specs.OtherOrder.{OrderChangesNoTree};
 ghost use Rattle.microdata.specs.Ranges.{ReadIsWithinLimits};
 
 /// Whatever is read is within its limits: at most a million records, each with one place in each tree, with a
@@ -27,4 +28,11 @@ pub fn rows_are_their_records()
 /// too.
 pub fn faults_are_numbered()
     ensures { FaultsAreNumbered }
+{}
+
+/// The order of the records changes nothing but the order of the rows: where the lines of one text are those of
+/// another in some order, and both are read, their trees are the same, each row of one is a row of the other with
+/// the same places, value and weight, and as many records were skipped.
+pub fn order_changes_no_tree()
+    ensures { OrderChangesNoTree }
 {}
