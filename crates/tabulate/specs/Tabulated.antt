@@ -1,5 +1,5 @@
 -- Marks that tell the sum, the number and the largest of the records in their cells (handbook, magnitude tables).
-use Rattle.std.specs.Prelude.{◌≡◌, ℕ, ◌≤◌, ◌<◌, ◌^◌, List, [], length, slice_get, slice_index, slice_index_or, Some, ℤ, pos, ◌≤ℤ◌, ◌<ℤ◌}
+use Rattle.std.specs.Prelude.{◌≡◌, ℕ, ◌≤◌, ◌<◌, ◌^◌, List, [], length, slice_get, slice_index, slice_index_or, Some, pos, ◌≤ℤ◌, ◌<ℤ◌}
 use Rattle.sdc_base.specs.Trees.{Tree}
 use Rattle.sdc_base.specs.Records.{Name}
 use Rattle.sdc_base.specs.Sums.{truth, freq}
