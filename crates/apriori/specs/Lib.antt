@@ -1,0 +1,3 @@
+pub mod Priors
+pub mod Faults
+pub mod Settling
