@@ -12,3 +12,7 @@ LineOf = ℕ × ℕ
 abbrev pub fault_of : PriorError → Option (LineOf × PriorWhy)
 fault_of prior_error.Memory = None
 fault_of (prior_error.At table line why) = Some ((table, line), why)
+
+-- what is wrong with a line, whatever its number
+abbrev pub fault_itself : PriorWhy → Option PriorWhy
+fault_itself why = Some why

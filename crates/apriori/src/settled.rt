@@ -2,7 +2,7 @@ ghost use Rattle.std.specs.Prelude.{◌≡◌, ◌≢◌, ◌≤◌, pos, ◌≤
 ghost use Rattle.std.specs.Option.{ForSome};
 ghost use Rattle.sdc_base.specs.RuleLevels.{keep_of};
 ghost use Rattle.sdc_base.specs.declared.cell.Kind.TheVariants.{Primary};
-ghost use Rattle.primary_rules.specs.Ranges.{AreInRange, IsTruth, AreLevels};
+ghost use Rattle.primary_rules.specs.Ranges.{AreInRange, IsTruth};
 ghost use Rattle.apriori.specs.Priors.{CanBeLevels, AreBounds, IsPriorOf};
 ghost use Rattle.apriori.specs.Settling.{seen, wider as wider_of, rule_levels as levels_by_rules, cut_at as cut_levels, stated_or as stated_levels, primary_levels as levels_meant, other_kind as kind_meant, low_of as low_meant, high_of as high_meant, settled as settled_as, clash_of as clash_meant, AreOpen};
 
