@@ -23,14 +23,22 @@ use Rattle.job_lang.specs.Binding.{weight_decimals}
 use Rattle.std.specs.Prelude.{◌^◌}
 use Rattle.job_run.specs.Sound.{IsSound}
 use Rattle.job_run.specs.declared.described.Described.{Described}
-use Rattle.job_run.specs.Refusals.{refused_for, cells_refusal}
-use Rattle.job_run.specs.Releases.{cells_fault}
+use Rattle.apriori.specs.Faults.{LineOf, fault_of as prior_fault_of}
+use Rattle.apriori.specs.declared.faults.PriorError.{PriorError}
+use Rattle.apriori.specs.declared.faults.PriorError.TheVariants as prior_error
+use Rattle.apriori.specs.declared.faults.PriorWhy.{PriorWhy}
+use Rattle.job_run.specs.Refusals.{refused_for, cells_refusal, prior_refusal}
+use Rattle.job_run.specs.Releases.{cells_fault, prior_fault}
 
 pub cells_stop : {A : Type 0} (e : BookFault) (read : Result A BookFault) → Fails (book_fault_of e) read → Fails (refused_for (cells_refusal e)) (map_fault cells_fault read)
 cells_stop (book.NoSuchVariable t) read h = rw h refl
 cells_stop (book.TwiceInTable t) read h = rw h refl
 cells_stop (book.TooManyCells t) read h = rw h refl
 cells_stop book.Memory read h = tt
+
+pub prior_refuses : {A : Type 0} (e : PriorError) (read : Result A (LineOf × PriorWhy)) → Fails (prior_fault_of e) read → Fails (refused_for (prior_refusal e)) (map_fault prior_fault read)
+prior_refuses (prior_error.At table line why) read h = rw h refl
+prior_refuses prior_error.Memory read h = tt
 
 -- ---- rules
 

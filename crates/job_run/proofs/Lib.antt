@@ -8,6 +8,7 @@ pub mod FieldSteps
 pub mod Feeding
 pub mod Filling
 pub mod Showing
+pub mod Stating
 pub mod TableSteps
 pub mod Releasing
 pub mod Outcomes

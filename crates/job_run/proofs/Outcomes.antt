@@ -5,7 +5,13 @@ use Rattle.job_run.specs.declared.inputs.Inputs.{Inputs}
 use Rattle.office_io.specs.Files.{Files}
 use Rattle.job_run.specs.Inputs.{inputs_of}
 use Rattle.job_run.specs.Outcome.{outcome_of}
-use Rattle.job_run.specs.Releases.{release_of, unless_named, cells_fault, is_built, first_primary, puts_of, summary_of}
+use Rattle.apriori.specs.Faults.{LineOf}
+use Rattle.apriori.specs.Settling.{Settled, settle_of}
+use Rattle.apriori.specs.declared.faults.PriorWhy.{PriorWhy}
+use Rattle.apriori.specs.declared.prior.Prior.{Prior}
+use Rattle.job_run.proofs.Stopping.{fails-on}
+use Rattle.job_run.specs.Releases.{release_of, unless_named, cells_fault, prior_fault, figures, is_hiding, first_primary, puts_of, summary_of}
+use Rattle.job_run.specs.Stated.{priors_of}
 use Rattle.sdc_base.specs.Steps.{◌>>=◌, map_fault, refuse}
 use Rattle.sdc_base.specs.Trees.{Tree}
 use Rattle.linked_tables.specs.Tables.{book_of}
@@ -26,20 +32,34 @@ use Rattle.job_run.specs.declared.report.Summary.{Summary}
 use Rattle.job_run.specs.declared.stop.Stop.{Stop}
 use Rattle.job_run.specs.declared.stop.Stop.TheVariants as stop
 
-pub outcome-read : (files : Files) (name : List ℕ) (read : Inputs) → inputs_of files name ≡ Ok read → outcome_of files name ≡ release_of read
+-- the outcome, once inputs, book and statements are there
+pub outcome-stated : (files : Files) (name : List ℕ) (inputs : Inputs) (given : List Tree × List (List ℕ)) (priors : List Prior) → inputs_of files name ≡ Ok inputs
+    → map_fault cells_fault (book_of inputs.records.trees inputs.described.bound.tables) ≡ Ok given → priors_of files inputs ≡ Ok priors → outcome_of files name ≡ release_of inputs priors
 unfolding outcome_of
-outcome-read files name read e = rw e refl
+outcome-stated files name inputs given priors read linked stated = rw (read, linked, stated) refl
 
-pub outcome-err : (files : Files) (name : List ℕ) (f : Fault) → inputs_of files name ≡ Err f → outcome_of files name ≡ Err f
+-- what stops the inputs stops the run
+pub inputs-fail : (files : Files) (name : List ℕ) (o : Option Fault) → Fails o (inputs_of files name) → Fails o (outcome_of files name)
 unfolding outcome_of
-outcome-err files name f e = rw e refl
+inputs-fail files name o h = fails-on o (inputs_of files name) _ h
 
--- what stopped the inputs stops the run
-pub stop-meets : (e : Stop) (files : Files) (name : List ℕ) → Fails (stopped_for e) (inputs_of files name) → ((f : FileRef) → e ≢ stop.WriteFault f) → Meets (report_of (Err e)) (outcome_of files name)
-stop-meets (stop.Refused f) files name e no_write = outcome-err files name f e
-stop-meets (stop.ReadFault f) files name e no_write = tt
-stop-meets (stop.WriteFault f) files name e no_write = absurd (no_write f refl)
-stop-meets stop.Memory files name e no_write = tt
+-- and so does a book that can't be made
+pub book-fails : (files : Files) (name : List ℕ) (inputs : Inputs) (o : Option Fault) → inputs_of files name ≡ Ok inputs → Fails o (map_fault cells_fault (book_of inputs.records.trees inputs.described.bound.tables)) → Fails o (outcome_of files name)
+unfolding outcome_of
+book-fails files name inputs o read h = rw read (fails-on o (map_fault cells_fault (book_of inputs.records.trees inputs.described.bound.tables)) _ h)
+
+-- and a fault of the a priori files
+pub priors-fail : (files : Files) (name : List ℕ) (inputs : Inputs) (given : List Tree × List (List ℕ)) (o : Option Fault) → inputs_of files name ≡ Ok inputs
+    → map_fault cells_fault (book_of inputs.records.trees inputs.described.bound.tables) ≡ Ok given → Fails o (priors_of files inputs) → Fails o (outcome_of files name)
+unfolding outcome_of
+priors-fail files name inputs given o read linked h = rw (read, linked) (fails-on o (priors_of files inputs) _ h)
+
+-- what stopped the run is what its files come to
+pub stop-meets : (e : Stop) (outcome : Result Release Fault) → Fails (stopped_for e) outcome → ((f : FileRef) → e ≢ stop.WriteFault f) → Meets (report_of (Err e)) outcome
+stop-meets (stop.Refused f) outcome h no_write = h
+stop-meets (stop.ReadFault f) outcome h no_write = tt
+stop-meets (stop.WriteFault f) outcome h no_write = absurd (no_write f refl)
+stop-meets stop.Memory outcome h no_write = tt
 
 pub stop-leaves : (e : Stop) (outcome : Result Release Fault) (old new : Option Files) → new ≡ old → ((f : FileRef) → e ≢ stop.WriteFault f) → Leaves (report_of (Err e)) outcome old new
 stop-leaves (stop.Refused f) outcome old new same no_write = same
@@ -47,14 +67,28 @@ stop-leaves (stop.ReadFault f) outcome old new same no_write = same
 stop-leaves (stop.WriteFault f) outcome old new same no_write = absurd (no_write f refl)
 stop-leaves stop.Memory outcome old new same no_write = inl same
 
--- what the records were refused for is what the run is refused for
-pub refusal-meets : (r : Refusal) (files : Files) (name : List ℕ) (read : Inputs) → inputs_of files name ≡ Ok read → Fails (refused_for r) (release_of read) → Meets (report_of (Err (stop_of r))) (outcome_of files name)
-refusal-meets (refusal.Refused f) files name read e fails = outcome-read files name read e ∙ fails
-refusal-meets refusal.Memory files name read e fails = tt
+-- what the run was refused for is what its files come to
+pub refusal-meets : (r : Refusal) (outcome : Result Release Fault) → Fails (refused_for r) outcome → Meets (report_of (Err (stop_of r))) outcome
+refusal-meets (refusal.Refused f) outcome h = h
+refusal-meets refusal.Memory outcome h = tt
 
--- the inputs are refused for too many cells, what isn't built, or a named cell
+pub refusal-leaves : (r : Refusal) (outcome : Result Release Fault) (old : Option Files) → Leaves (report_of (Err (stop_of r))) outcome old old
+refusal-leaves (refusal.Refused f) outcome old = refl
+refusal-leaves refusal.Memory outcome old = inl refl
+
+-- no refusal is a fault of the shelf or the tray
+pub refusal-no-read : (r : Refusal) (f : FileRef) → stop_of r ≡ stop.ReadFault f → ⊥
+refusal-no-read (refusal.Refused g) f is = absurd cc
+refusal-no-read refusal.Memory f is = absurd cc
+
+pub refusal-no-write : (r : Refusal) (f : FileRef) → stop_of r ≡ stop.WriteFault f → ⊥
+refusal-no-write (refusal.Refused g) f is = absurd cc
+refusal-no-write refusal.Memory f is = absurd cc
+
+-- faults that no look at a file finds: too many cells, what a priori files state, what isn't built, or a primary cell
 abbrev pub IsOfCells : Fault → Type 0
 IsOfCells (fault.Cells t) = Unit {0}
+IsOfCells (fault.Prior t line why) = Unit {0}
 IsOfCells (fault.NotBuilt f) = Unit {0}
 IsOfCells (fault.NeedsPlan cell) = Unit {0}
 IsOfCells other = ⊥
@@ -65,7 +99,11 @@ cells-of-cells (book.TwiceInTable t) = tt
 cells-of-cells (book.TooManyCells t) = tt
 cells-of-cells book.Memory = tt
 
-unless-of-cells : (named : Option ℕ) (release : Release) (f : Fault) → unless_named named release ≡ Err f → IsOfCells f
+book-of-cells : {A : Type 0} (linked : Result A BookFault) (f : Fault) → map_fault cells_fault linked ≡ Err f → IsOfCells f
+book-of-cells (Ok given) f h = absurd cc
+book-of-cells (Err e) f h = let same : cells_fault e ≡ f = cc in subst IsOfCells same (cells-of-cells e)
+
+unless-of-cells : (primary : Option ℕ) (release : Release) (f : Fault) → unless_named primary release ≡ Err f → IsOfCells f
 unless-of-cells None release f h = absurd cc
 unless-of-cells (Some cell) release f h = let same : fault.NeedsPlan cell ≡ f = cc in subst IsOfCells same tt
 
@@ -73,21 +111,27 @@ built-of-cells : (wrong : Bool) (next : Result Release Fault) (f : Fault) → ((
 built-of-cells true next f later h = let same : fault.NotBuilt file.Job ≡ f = cc in subst IsOfCells same tt
 built-of-cells false next f later h = later f h
 
-linked-of-cells : (linked : Result (List Tree × List (List ℕ)) BookFault) (next : Result Release Fault) (f : Fault) → ((g : Fault) → next ≡ Err g → IsOfCells g) → (map_fault cells_fault linked >>= (λ book. next)) ≡ Err f → IsOfCells f
-linked-of-cells (Ok given) next f later h = later f h
-linked-of-cells (Err e) next f later h = let same : cells_fault e ≡ f = cc in subst IsOfCells same (cells-of-cells e)
+settled-of-cells : (settled : Result (List Settled) (LineOf × PriorWhy)) (next : List Settled → Result Release Fault) (f : Fault) → ((cells : List Settled) (g : Fault) → next cells ≡ Err g → IsOfCells g) → (map_fault prior_fault settled >>= next) ≡ Err f
+    → IsOfCells f
+settled-of-cells (Ok cells) next f later h = later cells f h
+settled-of-cells (Err ((t, line), why)) next f later h = let same : fault.Prior t line why ≡ f = cc in subst IsOfCells same tt
 
-pub refused-of-cells : (inputs : Inputs) (f : Fault) → release_of inputs ≡ Err f → IsOfCells f
+release-of-cells : (inputs : Inputs) (priors : List Prior) (f : Fault) → release_of inputs priors ≡ Err f → IsOfCells f
 unfolding release_of
-refused-of-cells inputs f h =
+release-of-cells inputs priors f h =
     let release : Release = record { puts = puts_of inputs; summary = summary_of inputs } in
-    linked-of-cells (book_of inputs.records.trees inputs.described.bound.tables) (refuse (fault.NotBuilt file.Job) (not (is_built inputs.described)) >>= (λ built. unless_named (first_primary inputs) release)) f
-    (λ g later. built-of-cells (not (is_built inputs.described)) (unless_named (first_primary inputs) release) g (λ e last. unless-of-cells (first_primary inputs) release e last) later) h
+    settled-of-cells (settle_of inputs.described.job.rules (figures inputs) priors) _ f
+    (λ cells g later. built-of-cells (not (is_hiding inputs.described.job.method)) (unless_named (first_primary cells) release) g (λ e last. unless-of-cells (first_primary cells) release e last) later) h
 
--- no refusal of the inputs is that a file isn't there, or is too long
-pub refusal-of-cells : (r : Refusal) (inputs : Inputs) (f : Fault) → Fails (refused_for r) (release_of inputs) → stop_of r ≡ stop.Refused f → IsOfCells f
-refusal-of-cells (refusal.Refused g) inputs f fails is = let same : g ≡ f = cc in rw (← same) (refused-of-cells inputs g fails)
-refusal-of-cells refusal.Memory inputs f fails is = absurd cc
+-- no refusal of the book is that a file isn't there, or is too long
+pub refusal-of-book : {A : Type 0} (r : Refusal) (linked : Result A BookFault) (f : Fault) → Fails (refused_for r) (map_fault cells_fault linked) → stop_of r ≡ stop.Refused f → IsOfCells f
+refusal-of-book (refusal.Refused g) linked f fails is = let same : g ≡ f = cc in rw (← same) (book-of-cells linked g fails)
+refusal-of-book refusal.Memory linked f fails is = absurd cc
+
+-- nor is one of the release
+pub refusal-of-cells : (r : Refusal) (inputs : Inputs) (priors : List Prior) (f : Fault) → Fails (refused_for r) (release_of inputs priors) → stop_of r ≡ stop.Refused f → IsOfCells f
+refusal-of-cells (refusal.Refused g) inputs priors f fails is = let same : g ≡ f = cc in rw (← same) (release-of-cells inputs priors g fails)
+refusal-of-cells refusal.Memory inputs priors f fails is = absurd cc
 
 -- what stopped the puts came after whole inputs
 pub halt-meets : (e : Stop) (outcome : Result Release Fault) (release : Release) → IsHalt e → outcome ≡ Ok release → Meets (report_of (Err e)) outcome

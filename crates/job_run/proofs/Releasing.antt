@@ -1,38 +1,36 @@
 -- The release of a job's inputs, from the parts that the code makes.
-use Rattle.std.proofs.Common.{◌≡◌, ℕ, true, List, length, Option, None, Some, Ok, Err, refl, sym, ◌∙◌}
-use Rattle.std.specs.Prelude.{is_some}
-use Rattle.sdc_base.specs.Places.{first_place}
-use Rattle.sdc_base.specs.RuleLevels.{told, level_of}
+use Rattle.std.proofs.Common.{◌≡◌, ℕ, true, false, List, length, Option, None, Some, Result, Ok, Err, refl}
+use Rattle.sdc_base.specs.Answers.{Fails}
 use Rattle.sdc_base.specs.Steps.{map_fault}
-use Rattle.sdc_base.specs.Trees.{Tree}
-use Rattle.linked_tables.specs.Held.{Held}
-use Rattle.linked_tables.specs.Tables.{book_of}
-use Rattle.linked_tables.specs.declared.mark.Mark.{Mark}
-use Rattle.job_run.specs.Releases.{cells, cells_fault, is_built, first_primary, puts_of, summary_of, release_of}
-use Rattle.job_run.specs.Tabulated.{IsBookOf}
+use Rattle.apriori.specs.Settling.{Settled, settle_of}
+use Rattle.apriori.specs.declared.prior.Prior.{Prior}
+use Rattle.job_run.proofs.Stopping.{fails-on}
+use Rattle.job_run.specs.Releases.{cells, figures, first_primary, is_hiding, prior_fault, puts_of, summary_of, release_of}
 use Rattle.job_run.specs.declared.inputs.Inputs.{Inputs}
 use Rattle.job_run.specs.declared.put.Put.{Put}
+use Rattle.job_run.specs.declared.report.Fault.{Fault}
 use Rattle.job_run.specs.declared.report.Fault.TheVariants as fault
+use Rattle.job_run.specs.declared.report.FileRef.TheVariants as file
 use Rattle.job_run.specs.declared.report.Summary.{Summary}
-use Rattle.job_run.proofs.Showing.{first-named}
 
--- the first mark that a rule names
-abbrev pub first_mark : Inputs → Held → Option ℕ
-first_mark inputs book = first_place (λ (mark : Mark). is_some (level_of inputs.described.job.rules.list (told mark.facts))) book.marks
-
-pub release-named : (inputs : Inputs) (book : Held) (given : List Tree × List (List ℕ)) (cell : ℕ) → map_fault cells_fault (book_of inputs.records.trees inputs.described.bound.tables) ≡ Ok given → is_built inputs.described ≡ true
-    → IsBookOf inputs book → Some cell ≡ first_mark inputs book → release_of inputs ≡ Err (fault.NeedsPlan cell)
+pub settled-fails : (inputs : Inputs) (priors : List Prior) (o : Option Fault) → Fails o (map_fault prior_fault (settle_of inputs.described.job.rules (figures inputs) priors)) → Fails o (release_of inputs priors)
 unfolding release_of
-release-named inputs book given cell linked built is named =
-    let first : first_primary inputs ≡ Some cell = sym (named ∙ first-named inputs book is) in
-    rw (linked, built, first) refl
+settled-fails inputs priors o h = fails-on o (map_fault prior_fault (settle_of inputs.described.job.rules (figures inputs) priors)) _ h
 
-pub release-made : (inputs : Inputs) (book : Held) (given : List Tree × List (List ℕ)) (puts : List Put) (summary : Summary) → map_fault cells_fault (book_of inputs.records.trees inputs.described.bound.tables) ≡ Ok given → is_built inputs.described ≡ true
-    → IsBookOf inputs book → None ≡ first_mark inputs book → puts ≡ puts_of inputs → summary ≡ summary_of inputs → release_of inputs ≡ Ok (record { puts = puts; summary = summary })
+pub release-unbuilt : (inputs : Inputs) (priors : List Prior) (settled : List Settled) → map_fault prior_fault (settle_of inputs.described.job.rules (figures inputs) priors) ≡ Ok settled → is_hiding inputs.described.job.method ≡ false
+    → release_of inputs priors ≡ Err (fault.NotBuilt file.Job)
 unfolding release_of
-release-made inputs book given puts summary linked built is none put numbers =
-    let first : first_primary inputs ≡ None = sym (none ∙ first-named inputs book is) in
-    rw (linked, built, first, put, numbers) refl
+release-unbuilt inputs priors settled by hiding = rw (by, hiding) refl
+
+pub release-primary : (inputs : Inputs) (priors : List Prior) (settled : List Settled) (cell : ℕ) → map_fault prior_fault (settle_of inputs.described.job.rules (figures inputs) priors) ≡ Ok settled → is_hiding inputs.described.job.method ≡ true
+    → Some cell ≡ first_primary settled → release_of inputs priors ≡ Err (fault.NeedsPlan cell)
+unfolding release_of
+release-primary inputs priors settled cell by hiding primary = rw (by, hiding, ← primary) refl
+
+pub release-made : (inputs : Inputs) (priors : List Prior) (settled : List Settled) (puts : List Put) (summary : Summary) → map_fault prior_fault (settle_of inputs.described.job.rules (figures inputs) priors) ≡ Ok settled
+    → is_hiding inputs.described.job.method ≡ true → None ≡ first_primary settled → puts ≡ puts_of inputs → summary ≡ summary_of inputs → release_of inputs priors ≡ Ok (record { puts = puts; summary = summary })
+unfolding release_of
+release-made inputs priors settled puts summary by hiding none put numbers = rw (by, hiding, ← none, put, numbers) refl
 
 summary-same : (a b c d e f a' b' c' d' e' f' : ℕ) → a ≡ a' → b ≡ b' → c ≡ c' → d ≡ d' → e ≡ e' → f ≡ f'
     → ◌≡◌ {A = Summary} (record { records = a; skipped = b; passed_over = c; cells = d; primary = e; hidden = f }) (record { records = a'; skipped = b'; passed_over = c'; cells = d'; primary = e'; hidden = f' })

@@ -18,7 +18,12 @@ use Rattle.rda_meta.specs.declared.faults.MetaError.{MetaError}
 use Rattle.rda_meta.specs.declared.faults.MetaError.TheVariants as meta_error
 use Rattle.rda_meta.specs.declared.faults.MetaWhy.{MetaWhy}
 use Rattle.job_run.specs.Inputs.{job_fault, meta_fault, row_fault}
-use Rattle.job_run.specs.Stops.{stopped_for, job_stop, meta_stop, row_stop, tree_stop}
+use Rattle.apriori.specs.Faults.{LineOf, fault_of as prior_fault_of}
+use Rattle.apriori.specs.declared.faults.PriorError.{PriorError}
+use Rattle.apriori.specs.declared.faults.PriorError.TheVariants as prior_error
+use Rattle.apriori.specs.declared.faults.PriorWhy.{PriorWhy}
+use Rattle.job_run.specs.Releases.{prior_fault}
+use Rattle.job_run.specs.Stops.{stopped_for, job_stop, meta_stop, row_stop, tree_stop, prior_stop}
 use Rattle.job_run.specs.declared.report.FileRef.{FileRef}
 use Rattle.job_run.specs.declared.report.Fault.TheVariants as fault
 
@@ -43,6 +48,10 @@ tree_stops f (tree.IsTotal n) read h = rw h refl
 tree_stops f (tree.Twice n) read h = rw h refl
 tree_stops f (tree.TooMany n) read h = rw h refl
 tree_stops f tree.Memory read h = tt
+
+pub prior_stops : {A : Type 0} (e : PriorError) (read : Result A (LineOf × PriorWhy)) → Fails (prior_fault_of e) read → Fails (stopped_for (prior_stop e)) (map_fault prior_fault read)
+prior_stops (prior_error.At table line why) read h = rw h refl
+prior_stops prior_error.Memory read h = tt
 
 -- what a step fails with, both fail with
 pub fails-on : {A B F : Type 0} (o : Option F) (r : Result A F) (next : A → Result B F) → Fails o r → Fails o (r >>= next)

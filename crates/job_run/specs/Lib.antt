@@ -1,11 +1,13 @@
 pub mod Layouts
 pub mod Inputs
 pub mod Stops
-pub mod Looks
 pub mod Sound
 pub mod Listed
 pub mod Placed
 pub mod Releases
+pub mod Stated
+pub mod Looks
+pub mod Counted
 pub mod Refusals
 pub mod Tabulated
 pub mod Outcome

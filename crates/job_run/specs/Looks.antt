@@ -7,8 +7,12 @@ use Rattle.rda_meta.specs.declared.meta.Shape.TheVariants as shape
 use Rattle.rda_meta.specs.declared.meta.Variable.{Variable}
 use Rattle.job_lang.specs.Jobs.{job_of}
 use Rattle.job_lang.specs.declared.job.Job.{Job}
-use Rattle.job_run.specs.Inputs.{look, job_fault, described_of, codes_in, fields_of, spanning}
+use Rattle.job_lang.specs.declared.job.PriorLine.{PriorLine}
+use Rattle.linked_tables.specs.Tables.{book_of}
+use Rattle.job_run.specs.Inputs.{look, job_fault, described_of, codes_in, fields_of, spanning, inputs_of}
+use Rattle.job_run.specs.Stated.{prior_line, with_files}
 use Rattle.job_run.specs.declared.described.Described.{Described}
+use Rattle.job_run.specs.declared.inputs.Inputs.{Inputs}
 use Rattle.job_run.specs.declared.report.FileRef.{FileRef}
 use Rattle.job_run.specs.declared.report.FileRef.TheVariants as file
 use Rattle.job_run.specs.declared.report.Fault.{Fault}
@@ -45,6 +49,13 @@ pub record FieldsComeTo (files : Files) (variables : List (ℕ × Variable)) (f 
   pub fine : IsOk (fields_of files before)
   pub comes : FieldComesTo files one.0 one.1 f held
 
+-- the a priori files of the tables before this one have no fault, and its own has this name
+pub record StatementsComeTo (files : Files) (inputs : Inputs) (t : ℕ) (held : List ℕ) : Type 0 where
+  pub line : PriorLine
+  pub stands : prior_line t inputs.described.job.priors ≡ Some line
+  pub before : IsOk (with_files files inputs t)
+  pub names : held ≡ line.file
+
 -- the run comes to this file, which has this name, and nothing before it has a fault
 abbrev pub ComesTo : Files → List ℕ → FileRef → List ℕ → Type 0
 ComesTo files name file.Job held = ComesFirstTo files name file.Job held
@@ -53,4 +64,5 @@ ComesTo files name (file.CodeList at) held = (described : Described) × (describ
 ComesTo files name (file.Hierarchy at) held = (described : Described) × (described_of files name ≡ Ok described) × FieldsComeTo files (spanning described) (file.Hierarchy at) held
 ComesTo files name file.Microdata held =
     (described : Described) × (described_of files name ≡ Ok described) × IsOk (fields_of files (spanning described)) × (held ≡ described.job.micro)
+ComesTo files name (file.Apriori t) held = (inputs : Inputs) × (inputs_of files name ≡ Ok inputs) × IsOk (book_of inputs.records.trees inputs.described.bound.tables) × StatementsComeTo files inputs t held
 ComesTo files name other held = ⊥

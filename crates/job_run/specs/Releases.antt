@@ -1,18 +1,22 @@
 -- What the inputs of a job come to: its cells, its tables, its certificate and its numbers (own).
 use Rattle.std.specs.Prelude.{ℕ, ◌+◌, ◌==◌, ◌&&◌, nat_lt, not, Bool, true, false, if◌then◌else◌, List, [], ◌∷◌, ◌++◌, length, slice_index_or, Option, None, Some, Result, Ok, Err, ℤ}
-use Rattle.std.specs.List.{list_any, list_all}
+use Rattle.std.specs.List.{list_all}
 use Rattle.sdc_base.specs.CertificateText.{open_certificate}
 use Rattle.sdc_base.specs.Cells.{cells_of}
 use Rattle.sdc_base.specs.Places.{first_place}
 use Rattle.sdc_base.specs.Records.{Name}
-use Rattle.sdc_base.specs.RuleLevels.{names, figures_in}
+use Rattle.sdc_base.specs.RuleLevels.{Figures}
 use Rattle.sdc_base.specs.Steps.{◌>>=◌, map_fault, refuse}
 use Rattle.sdc_base.specs.Sums.{truth}
 use Rattle.sdc_base.specs.TableText.{table_text}
+use Rattle.sdc_base.specs.declared.cell.Kind.{Kind}
+use Rattle.sdc_base.specs.declared.cell.Kind.TheVariants.{Primary}
 use Rattle.sdc_base.specs.declared.method.Method.{Method}
 use Rattle.sdc_base.specs.declared.method.Method.TheVariants as method
-use Rattle.sdc_base.specs.declared.rule.Rule.{Rule}
-use Rattle.sdc_base.specs.declared.rule.Rule.TheVariants as rule
+use Rattle.apriori.specs.Faults.{LineOf}
+use Rattle.apriori.specs.Settling.{Settled, figures_of, settle_of}
+use Rattle.apriori.specs.declared.faults.PriorWhy.{PriorWhy}
+use Rattle.apriori.specs.declared.prior.Prior.{Prior}
 use Rattle.rda_meta.specs.declared.meta.Shape.{Shape}
 use Rattle.rda_meta.specs.declared.meta.Shape.TheVariants as shape
 use Rattle.job_lang.specs.declared.job.OutputLine.{OutputLine}
@@ -32,12 +36,7 @@ use Rattle.job_run.specs.declared.report.Summary.{Summary}
 
 -- ---- what is built
 
--- a frequency rule
-abbrev pub is_frequency : Rule → Bool
-is_frequency (rule.Freq n r) = true
-is_frequency other = false
-
--- a method that hides cells
+-- a method that hides cells; rounding isn't built so far
 abbrev pub is_hiding : Method → Bool
 is_hiding (method.Rnd base) = false
 is_hiding other = true
@@ -47,13 +46,14 @@ abbrev pub is_flat : Shape → Bool
 is_flat shape.Flat = true
 is_flat other = false
 
+-- a primary kind
+abbrev pub is_of_primary : Kind → Bool
+is_of_primary Primary = true
+is_of_primary other = false
+
 -- one flat variable spans all tables
 abbrev pub is_one_flat : Described → Bool
 is_one_flat described = (length described.bound.spanning == 1) && list_all (λ one. is_flat one.1.shape) (spanning described)
-
--- so far a job is built that has frequency rules alone, no a priori files, and a method that hides cells
-abbrev pub is_built : Described → Bool
-is_built described = list_all is_frequency described.job.rules.list && (length described.job.priors == 0 && is_hiding described.job.method)
 
 -- ---- cells
 
@@ -61,14 +61,17 @@ is_built described = list_all is_frequency described.job.rules.list && (length d
 abbrev pub cells : Inputs → List Name
 cells inputs = cells_of inputs.records.trees inputs.described.bound.tables
 
--- a rule of the job names the cell
-abbrev pub is_named : Inputs → Name → Bool
-is_named inputs name =
-    list_any (λ one. names one (figures_in inputs.records.trees name inputs.records.rows inputs.described.bound.scale)) inputs.described.job.rules.list
+-- what the rules look at in each cell, over the records
+abbrev pub figures : Inputs → List Figures
+figures inputs = figures_of inputs.records.trees (cells inputs) inputs.records.rows inputs.described.bound.scale
 
--- the number of the first cell that a rule names
-abbrev pub first_primary : Inputs → Option ℕ
-first_primary inputs = first_place (is_named inputs) (cells inputs)
+-- a primary cell
+abbrev pub is_primary : Settled → Bool
+is_primary cell = is_of_primary cell.kind
+
+-- the number of the first primary cell
+abbrev pub first_primary : List Settled → Option ℕ
+first_primary settled = first_place is_primary settled
 
 -- the truth of a cell over the records
 abbrev pub truth_in : Inputs → Name → ℤ
@@ -127,14 +130,19 @@ cells_fault (book.TwiceInTable t) = fault.Cells t
 cells_fault (book.TooManyCells t) = fault.Cells t
 cells_fault book.Memory = fault.Cells 0
 
--- the release, unless a cell is named
+-- the release, unless a cell is primary
 abbrev pub unless_named : Option ℕ → Release → Result Release Fault
 unless_named None release = Ok release
 unless_named (Some cell) release = Err (fault.NeedsPlan cell)
 
--- The release of a job's inputs, or the first fault: too many cells, what isn't built yet, or the first cell that a rule names.
-unfoldable pub release_of : Inputs → Result Release Fault
-release_of inputs = do
-  linked ← map_fault cells_fault (book_of inputs.records.trees inputs.described.bound.tables)
-  built ← refuse (fault.NotBuilt file.Job) (not (is_built inputs.described))
-  unless_named (first_primary inputs) (record { puts = puts_of inputs; summary = summary_of inputs })
+-- a line by which a primary cell is to be always shown, as a fault of the run
+abbrev pub prior_fault : LineOf × PriorWhy → Fault
+prior_fault at = fault.Prior at.0.0 at.0.1 at.1
+
+-- The release of a job's inputs, with what its a priori files state of each cell, or the first fault: a primary cell that is to
+-- be always shown, what isn't built yet, or the first primary cell.
+unfoldable pub release_of : Inputs → List Prior → Result Release Fault
+release_of inputs priors = do
+  settled ← map_fault prior_fault (settle_of inputs.described.job.rules (figures inputs) priors)
+  built ← refuse (fault.NotBuilt file.Job) (not (is_hiding inputs.described.job.method))
+  unless_named (first_primary settled) (record { puts = puts_of inputs; summary = summary_of inputs })

@@ -1,5 +1,7 @@
 -- What a run prints of its report, and the status it ends with (own).
 use Rattle.std.specs.Prelude.{ℕ, ◌+◌, List, [], ◌∷◌, ◌++◌, codes, decimal}
+use Rattle.apriori.specs.declared.faults.PriorWhy.{PriorWhy}
+use Rattle.apriori.specs.declared.faults.PriorWhy.TheVariants as prior
 use Rattle.hierarchy.specs.declared.tree_fault.TreeFault.{TreeFault}
 use Rattle.hierarchy.specs.declared.tree_fault.TreeFault.TheVariants as tree
 use Rattle.job_lang.specs.declared.faults.Command.{Command}
@@ -34,6 +36,7 @@ file_text file.Metadata = codes "metadata"
 file_text (file.CodeList place) = codes "codelist " ++ decimal (place + 1)
 file_text (file.Hierarchy place) = codes "hierarchy " ++ decimal (place + 1)
 file_text file.Microdata = codes "microdata"
+file_text (file.Apriori t) = codes "apriori table " ++ decimal (t + 1)
 file_text file.Certificate = codes "certificate"
 file_text (file.Table t) = codes "table " ++ decimal (t + 1)
 
@@ -96,6 +99,16 @@ tree_text (tree.Twice n) = decimal n ++ codes ": Twice"
 tree_text (tree.TooMany n) = decimal n ++ codes ": TooMany"
 tree_text tree.Memory = codes "0: Memory"
 
+-- a kind of fault of an a priori file
+abbrev pub prior_text : PriorWhy → List ℕ
+prior_text prior.BadShape = codes "BadShape"
+prior_text prior.UnknownCode = codes "UnknownCode"
+prior_text prior.BadNumber = codes "BadNumber"
+prior_text prior.EmptyUnsafe = codes "EmptyUnsafe"
+prior_text prior.OutsideTruth = codes "OutsideTruth"
+prior_text prior.Twice = codes "Twice"
+prior_text prior.ProtectedPrimary = codes "ProtectedPrimary"
+
 -- where a fault is, and its kind
 abbrev pub fault_text : Fault → List ℕ
 fault_text (fault.Absent f) = file_text f ++ codes ": Absent"
@@ -105,6 +118,7 @@ fault_text (fault.Meta line why) = codes "metadata line " ++ (decimal line ++ (c
 fault_text (fault.Tree f one) = file_text f ++ (codes " line " ++ tree_text one)
 fault_text (fault.Row number why) = codes "record " ++ (decimal number ++ (codes ": " ++ row_text why))
 fault_text (fault.Cells t) = codes "table " ++ (decimal (t + 1) ++ codes ": TooManyCells")
+fault_text (fault.Prior t line why) = codes "apriori table " ++ (decimal (t + 1) ++ (codes " line " ++ (decimal line ++ (codes ": " ++ prior_text why))))
 fault_text (fault.NotBuilt f) = file_text f ++ codes ": NotBuilt"
 fault_text (fault.NeedsPlan cell) = codes "cell " ++ (decimal cell ++ codes ": NeedsPlan")
 

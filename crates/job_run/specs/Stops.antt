@@ -6,6 +6,8 @@ use Rattle.job_lang.specs.declared.faults.JobError.{JobError}
 use Rattle.job_lang.specs.declared.faults.JobError.TheVariants as job_error
 use Rattle.microdata.specs.declared.faults.RowError.{RowError}
 use Rattle.microdata.specs.declared.faults.RowError.TheVariants as row_error
+use Rattle.apriori.specs.declared.faults.PriorError.{PriorError}
+use Rattle.apriori.specs.declared.faults.PriorError.TheVariants as prior_error
 use Rattle.rda_meta.specs.declared.faults.MetaError.{MetaError}
 use Rattle.rda_meta.specs.declared.faults.MetaError.TheVariants as meta_error
 use Rattle.job_run.specs.declared.report.FileRef.{FileRef}
@@ -35,6 +37,11 @@ meta_stop meta_error.Memory = stop.Memory
 abbrev pub row_stop : RowError → Stop
 row_stop (row_error.At number why) = stop.Refused (fault.Row number why)
 row_stop row_error.Memory = stop.Memory
+
+-- an error of an a priori file as a stop
+abbrev pub prior_stop : PriorError → Stop
+prior_stop (prior_error.At table line why) = stop.Refused (fault.Prior table line why)
+prior_stop prior_error.Memory = stop.Memory
 
 -- what is wrong with a file of codes as a stop
 abbrev pub tree_stop : FileRef → TreeFault → Stop

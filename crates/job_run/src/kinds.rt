@@ -1,6 +1,7 @@
 ghost use Rattle.std.specs.Prelude.{◌≡◌};
-ghost use Rattle.job_run.specs.ReportText.{command_text, meta_text, row_text};
+ghost use Rattle.job_run.specs.ReportText.{command_text, meta_text, prior_text, row_text};
 
+use apriori::PriorWhy;
 use hierarchy::TreeFault;
 use job_lang::{Command, JobWhy};
 use microdata::RowWhy;
@@ -86,6 +87,21 @@ pub(crate) fn row_kind(why: RowWhy) -> &'static str
         RowWhy::UnknownCode => "UnknownCode",
         RowWhy::NotLeaf => "NotLeaf",
         RowWhy::TooManyCodes => "TooManyCodes",
+    }
+}
+
+/// A kind of fault of an a priori file, as it is printed.
+pub(crate) fn prior_kind(why: PriorWhy) -> &'static str
+    ensures { result.now ≡ prior_text why }
+{
+    match why {
+        PriorWhy::BadShape => "BadShape",
+        PriorWhy::UnknownCode => "UnknownCode",
+        PriorWhy::BadNumber => "BadNumber",
+        PriorWhy::EmptyUnsafe => "EmptyUnsafe",
+        PriorWhy::OutsideTruth => "OutsideTruth",
+        PriorWhy::Twice => "Twice",
+        PriorWhy::ProtectedPrimary => "ProtectedPrimary",
     }
 }
 

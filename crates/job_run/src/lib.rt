@@ -3,6 +3,7 @@
 
 mod certificate;
 mod codes;
+mod counted;
 mod described;
 mod fields;
 mod filled;
@@ -19,6 +20,7 @@ mod release;
 mod release_texts;
 mod report;
 mod running;
+mod stated;
 mod stop;
 #[cfg(test)]
 mod tests;

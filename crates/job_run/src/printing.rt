@@ -1,7 +1,7 @@
 ghost use Rattle.std.specs.Prelude.{◌≡◌, IfOk};
 ghost use Rattle.job_run.specs.ReportText.{status_of, report_text as text_of};
 
-use crate::kinds::{JobKind, TreeKind, meta_kind, row_kind};
+use crate::kinds::{JobKind, TreeKind, meta_kind, prior_kind, row_kind};
 use crate::report::{Fault, FileRef, Report, Summary};
 use sdc_base::{Memory, Text};
 use std::alloc::Global;
@@ -52,6 +52,10 @@ impl Display for FileRef {
                 write!(f, "hierarchy {number}")
             }
             FileRef::Microdata => write!(f, "microdata"),
+            FileRef::Apriori(table) => {
+                let number = u64::from(*table) + 1;
+                write!(f, "apriori table {number}")
+            }
             FileRef::Certificate => write!(f, "certificate"),
             FileRef::Table(table) => {
                 let number = u64::from(*table) + 1;
@@ -90,6 +94,11 @@ impl Display for Fault {
             Fault::Cells(table) => {
                 let number = u64::from(*table) + 1;
                 write!(f, "table {number}: TooManyCells")
+            }
+            Fault::Prior { table, line, why } => {
+                let number = u64::from(*table) + 1;
+                let kind = prior_kind(*why);
+                write!(f, "apriori table {number} line {line}: {kind}")
             }
             Fault::NotBuilt(file) => write!(f, "{file}: NotBuilt"),
             Fault::NeedsPlan(cell) => write!(f, "cell {cell}: NeedsPlan"),

@@ -1,78 +1,73 @@
-ghost use Rattle.std.specs.Prelude.{◌≡◌, ◌<◌, ◌≤◌, ◌+◌, All, IfOk, is_some, length};
-ghost use Rattle.std.specs.List.{list_all};
+ghost use Rattle.std.specs.Prelude.{◌≡◌, ◌<◌, ◌+◌, ◌^◌, IfOk, length, map};
 ghost use Rattle.sdc_base.specs.Answers.{Gives};
-ghost use Rattle.sdc_base.specs.Places.{first_place};
-ghost use Rattle.sdc_base.specs.RuleLevels.{told, level_of, keep_of};
-ghost use Rattle.linked_tables.specs.Shared.{cells as cells_in};
-ghost use Rattle.primary_rules.specs.Ranges.{AreInRange, IsTruth};
-ghost use Rattle.job_run.specs.Refusals.{refused_for};
-ghost use Rattle.job_run.specs.Releases.{is_built as built, is_frequency as by_frequency, is_hiding as hiding, release_of};
-ghost use Rattle.job_run.specs.Sound.{IsSound, AreSound};
+ghost use Rattle.sdc_base.specs.Steps.{map_fault};
+ghost use Rattle.apriori.specs.Priors.{ArePriors};
+ghost use Rattle.apriori.specs.Settling.{seen, settle_of};
+ghost use Rattle.job_run.specs.Counted.{IsCountedOf, IsReady};
+ghost use Rattle.job_run.specs.Refusals.{refused_for, prior_refusal};
+ghost use Rattle.job_run.specs.Releases.{figures, first_primary as first_meant, is_hiding as hiding, prior_fault, release_of, summary_of};
+ghost use Rattle.job_run.specs.declared.inputs.Inputs.{Inputs as AnyInputs};
 
-use crate::described::Described;
-use crate::filled::{filled, linked};
-use crate::inputs::Inputs;
+use crate::counted::Counted;
 use crate::put::Release;
 use crate::refusal::Refusal;
 use crate::release_texts::puts_for;
 use crate::report::{Fault, FileRef, Summary};
-use linked_tables::Book;
-use microdata::Records;
-use primary_rules::level;
-use sdc_base::{Method, Row, Rule, Rules};
+use apriori::{Prior, PriorError, settle};
+use sdc_base::{Cell, Kind, Method};
 use std::alloc::Global;
 
-/// What a job's inputs come to: the certificate, the tables with no cell hidden, and the numbers of the release.
+/// What a job's inputs come to, with what its a priori files state of each cell: the certificate, the tables with no cell
+/// hidden, and the numbers of the release.
 ///
-/// It is refused where the cells are too many, then where the job wants what isn't built yet, and then where a rule names a
-/// cell, with the first such cell.
+/// It is refused where a primary cell is to be always shown, then where the job wants what isn't built yet, and then where a
+/// cell is primary, with the first such cell.
 #[tactic(auto, unfolding(crate::specs::Releases::release_of))]
-pub(crate) fn release_for(alloc: Global, inputs: Inputs) -> Result<Release, Refusal>
-    requires { AreSound inputs }
-    ensures gives { Gives refused_for (λ release. release) result (release_of inputs) }
-    ensures some { IfOk result (λ release. length release.puts ≡ 1 + length inputs.described.job.tables) }
+pub(crate) fn release_for(
+    alloc: Global,
+    counted: &Counted,
+    priors: &[Prior],
+) -> Result<Release, Refusal>
+    requires ready { IsReady counted.now }
+    requires priors { ArePriors counted.now.book.marks priors.now }
+    ensures gives { (inputs : AnyInputs) → IsCountedOf inputs counted.now → Gives refused_for (λ release. release) result (release_of inputs priors.now) }
+    ensures some { IfOk result (λ release. length release.puts ≡ 1 + length counted.now.described.job.tables) }
 {
-    let Inputs { described, records } = inputs;
-    let Records {
-        trees,
-        rows,
-        skipped,
-    } = records;
-    let book = linked(alloc, &described, trees)?;
-    if !is_built(&described) {
+    let cells = settled(alloc, counted, priors)?;
+    if !is_hiding(counted.described.job.method) {
         return Err(Refusal::Refused(Fault::NotBuilt(FileRef::Job)));
     }
-    let book = filled(book, &described, rows.as_slice());
-    if let Some(cell) = first_primary(&book, &described.job.rules) {
+    if let Some(cell) = first_primary(cells.as_slice()) {
         return Err(Refusal::Refused(Fault::NeedsPlan(cell)));
     }
-    let summary = summary_for(&described, rows.as_slice(), skipped, &book);
-    let puts = puts_for(alloc, &described, &book)?;
+    let summary = summary_for(counted);
+    let puts = puts_for(alloc, &counted.described, &counted.book)?;
     Ok(Release { puts, summary })
 }
 
-// Whether the job wants nothing but what is built.
-fn is_built(described: &Described) -> bool
-    ensures { result ≡ built described.now }
+// What each cell is to its protection.
+fn settled(alloc: Global, counted: &Counted, priors: &[Prior]) -> Result<Vec<Cell>, Refusal>
+    requires ready { IsReady counted.now }
+    requires priors { ArePriors counted.now.book.marks priors.now }
+    ensures gives { (inputs : AnyInputs) → IsCountedOf inputs counted.now
+        → Gives refused_for (λ cells. map seen cells.items) result (map_fault prior_fault (settle_of inputs.described.job.rules (figures inputs) priors.now)) }
+    ensures few { IfOk result (λ cells. length cells.items < 2 ^ 32) }
 {
-    are_frequencies(described.job.rules.list.as_slice())
-        && (described.job.priors.as_slice().is_empty() && is_hiding(described.job.method))
+    match settle(alloc, &counted.book, &counted.described.job.rules, priors) {
+        Ok(cells) => Ok(cells),
+        Err(error) => Err(prior_refusal_for(error)),
+    }
 }
 
-// Whether all rules are frequency rules.
-fn are_frequencies(rules: &[Rule]) -> bool
-    ensures { result ≡ list_all by_frequency rules.now }
+// Why a run is refused for what is stated of its cells.
+fn prior_refusal_for(error: PriorError) -> Refusal
+    ensures { result ≡ prior_refusal error }
 {
-    rules.iter().all(|rule| is_frequency(*rule))
-}
-
-// A frequency rule.
-fn is_frequency(rule: Rule) -> bool
-    ensures { result ≡ by_frequency rule }
-{
-    match rule {
-        Rule::Freq { n: _, r: _ } => true,
-        _ => false,
+    match error {
+        PriorError::At { table, line, why } => {
+            Refusal::Refused(Fault::Prior { table, line, why })
+        }
+        PriorError::Memory => Refusal::Memory,
     }
 }
 
@@ -86,16 +81,13 @@ fn is_hiding(method: Method) -> bool
     }
 }
 
-// The number of the first cell that a rule names.
-fn first_primary(book: &Book, rules: &Rules) -> Option<u32>
-    requires rules { AreInRange rules.now }
-    requires truths { All (λ mark. IsTruth mark.facts.truth) book.now.marks }
-    requires keeps { All (λ mark. keep_of rules.now.list ≤ mark.facts.tops.keep) book.now.marks }
-    ensures { result ≡ first_place (λ mark. is_some (level_of rules.now.list (told mark.facts))) book.now.marks }
+// The number of the first primary cell.
+fn first_primary(cells: &[Cell]) -> Option<u32>
+    requires { length cells.now < 2 ^ 32 }
+    ensures { result ≡ first_meant (map seen cells.now) }
 {
-    let few = book.cells() as usize;
-    'marks: for (k, mark) in book.marks().iter().enumerate() {
-        if k < few && level(rules, &mark.facts).is_some() {
+    'cells: for (k, cell) in cells.iter().enumerate() {
+        if cell.kind == Kind::Primary {
             return Some(k as u32);
         }
     }
@@ -103,18 +95,14 @@ fn first_primary(book: &Book, rules: &Rules) -> Option<u32>
 }
 
 // The numbers of the release.
-fn summary_for(described: &Described, rows: &[Row], skipped: u64, book: &Book) -> Summary
-    ensures records { result.records ≡ length rows.now }
-    ensures skipped { result.skipped ≡ skipped }
-    ensures passed_over { result.passed_over ≡ described.now.meta.passed_over }
-    ensures cells { result.cells ≡ length (cells_in book.now) }
-    ensures none { (result.primary ≡ 0) × (result.hidden ≡ 0) }
+fn summary_for(counted: &Counted) -> Summary
+    ensures { (inputs : AnyInputs) → IsCountedOf inputs counted.now → result ≡ summary_of inputs }
 {
     Summary {
-        records: rows.len() as u64,
-        skipped,
-        passed_over: described.meta.passed_over,
-        cells: book.cells(),
+        records: counted.records,
+        skipped: counted.skipped,
+        passed_over: counted.described.meta.passed_over,
+        cells: counted.book.cells(),
         primary: 0,
         hidden: 0,
     }

@@ -1,3 +1,4 @@
+use apriori::PriorWhy;
 use hierarchy::TreeFault;
 use job_lang::JobWhy;
 use microdata::RowWhy;
@@ -11,13 +12,14 @@ pub enum FileRef {
     CodeList(u32),
     Hierarchy(u32),
     Microdata,
+    Apriori(u32),
     Certificate,
     Table(u32),
 }
 
 /// What is wrong with the inputs: the first fault in the order job, metadata, the job's variables in the metadata, for each
 /// spanning variable in the order of the metadata its code list and then its hierarchy, the microdata,
-/// the number of cells, and what is not built yet.
+/// the number of cells, the a priori files by table, primary cells that are to be always shown, and what is not built yet.
 #[derive(Clone, Copy, Debug, PartialEq, Eq)]
 pub enum Fault {
     /// The file isn't there.
@@ -35,9 +37,15 @@ pub enum Fault {
     Row { number: u64, why: RowWhy },
     /// With this table the distinct cells pass 20,000.
     Cells(u32),
+    /// A line of a table's a priori file, the table from 0 and the line from 1.
+    Prior {
+        table: u32,
+        line: u32,
+        why: PriorWhy,
+    },
     /// The job wants what isn't built so far.
     NotBuilt(FileRef),
-    /// A rule names this cell, the first one, and no plan to protect it is built so far. Cells are numbered from 0.
+    /// This cell is primary, the first one, and no plan to protect it is built so far. Cells are numbered from 0.
     NeedsPlan(u32),
 }
 

@@ -10,10 +10,12 @@ ghost use Rattle.job_run.specs.Reports.{Meets, Leaves, LeavesAll, Settles, repor
 ghost use Rattle.job_run.specs.declared.report.FileRef.{FileRef as AnyFile};
 ghost use Rattle.job_run.specs.declared.report.Summary.{Summary as Numbers};
 
+use crate::counted::count_records;
 use crate::inputs::read_inputs;
 use crate::puts::put_files;
 use crate::release::release_for;
 use crate::report::{Fault, Report, Summary};
+use crate::stated::read_priors;
 use crate::stop::Stop;
 use office_io::{Shelf, Tray};
 use sdc_base::Text;
@@ -22,8 +24,9 @@ use std::alloc::Global;
 /// Does what the words say: `run JOB` reads the files of a job from the shelf and puts its certificate and its tables.
 ///
 /// The job, its metadata, the code lists and hierarchies of its spanning variables and its microdata are looked at in this
-/// order, then the number of cells, then whether the job wants what is built, and then the rules; the first fault is the answer.
-/// The microdata are read in pieces, every other file whole. All that is put is made before the first put.
+/// order, then the number of cells, the a priori files by table, the cells with what is stated of them, whether the job wants
+/// what is built, and whether a cell is primary; the first fault is the answer. The microdata are read in pieces, every other
+/// file whole. All that is put is made before the first put.
 pub fn run<S: Shelf, T: Tray>(alloc: Global, words: &[Text], shelf: &mut S, tray: &mut T) -> Report
     // Usage comes exactly where the words are none of the forms that are built.
     ensures usage { (result ≡ Report.Usage) ↔ (job_name words.now ≡ None) }
@@ -96,7 +99,9 @@ fn release<S: Shelf, T: Tray>(
     ensures write_fault { (f : AnyFile) → IsErrOf result (Stop.WriteFault f) → Rose (T.faults tray.old) (T.faults tray.new) }
 {
     let inputs = read_inputs(alloc, shelf, name)?;
-    let planned = release_for(alloc, inputs)?;
+    let counted = count_records(alloc, inputs)?;
+    let priors = read_priors(alloc, shelf, &counted)?;
+    let planned = release_for(alloc, &counted, priors.as_slice())?;
     put_files(tray, planned.puts.as_slice())?;
     Ok(planned.summary)
 }

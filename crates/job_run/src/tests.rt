@@ -1,4 +1,5 @@
 use crate::{Fault, FileRef, Report, Summary, report_text, run};
+use apriori::PriorWhy;
 use hierarchy::TreeFault;
 use job_lang::{Command, JobWhy};
 use microdata::RowWhy;
@@ -364,8 +365,9 @@ fn refusals(rt: HostRuntime) -> Result<(), Fail> {
         (plain, method, LISTED, "4    1\n", "record 1: UnknownCode"),
         (plain, "RND(5)", METADATA, "a\n", "record 1: Short"),
         (plain, "RND(5)", METADATA, SEVEN, "job: NotBuilt"),
-        ("NK(1,50)", method, METADATA, SEVEN, "job: NotBuilt"),
-        ("FREQ(9,1)|P(10)", method, METADATA, "", "job: NotBuilt"),
+        ("NK(1,40)", method, METADATA, SEVEN, "cell 1: NeedsPlan"),
+        ("P(40)", method, METADATA, SEVEN, "cell 1: NeedsPlan"),
+        ("P(40)", "RND(5)", METADATA, SEVEN, "job: NotBuilt"),
         (plain, method, LEVELS, "A1  1\n", "cell 0: NeedsPlan"),
         (
             plain,
@@ -404,8 +406,8 @@ fn refusals(rt: HostRuntime) -> Result<(), Fail> {
     Ok(())
 }
 
-// The job lacks a command, names an a priori file, or is of linked tables with a file that isn't there, a
-// record that is a byte short, or a cell that a rule names.
+// The job lacks a command, names an a priori file that isn't there, or is of linked tables with a file that
+// isn't there, a record that is a byte short, or a cell that a rule names.
 #[test]
 fn refusals_of_other_jobs(rt: HostRuntime) -> Result<(), Fail> {
     let alloc = rt.alloc();
@@ -426,7 +428,7 @@ fn refusals_of_other_jobs(rt: HostRuntime) -> Result<(), Fail> {
     let rows = [
         (&lacking, METADATA, "", "job line 0: Missing CERTIFICATE"),
         (&prior, METADATA, "a\n", "record 1: Short"),
-        (&prior, METADATA, SEVEN, "job: NotBuilt"),
+        (&prior, METADATA, SEVEN, "apriori table 1: Absent"),
         (&strict, THREE, &short, "record 13: Short"),
         (&strict, THREE, THIRTEEN, "cell 4: NeedsPlan"),
         (&strict, &first, "a", "codelist 2: Absent"),
@@ -448,22 +450,140 @@ fn refusals_of_other_jobs(rt: HostRuntime) -> Result<(), Fail> {
     Ok(())
 }
 
+// By the job's method and rules, what the office states of the cells of thirteen records: the first fault,
+// or that no cell is primary any more.
+#[test]
+fn statements(rt: HostRuntime) -> Result<(), Fail> {
+    let alloc = rt.alloc();
+    let margins = "Total,Total,p\nTotal,b1,p\nTotal,b2,p\na1,Total,p\na2,Total,p\n";
+    let shown = format!(in alloc; "{margins}a1,b1,p\n")?;
+    let released =
+        "0 released: 13 records, 0 skipped, 0 passed over, 15 cells, 0 primary, 0 hidden\n";
+    let (plain, rounded) = ("MOD()", "RND(5)");
+    let rows = [
+        (plain, margins, "2 refused: cell 4: NeedsPlan\n"),
+        (rounded, margins, "2 refused: job: NotBuilt\n"),
+        (plain, "a1,b1,s\n", released),
+        (plain, "\n a1 , b1 , S \r\na1,b1,s", released),
+        (
+            plain,
+            "a1,b1,s\na2,b2,u\n",
+            "2 refused: cell 8: NeedsPlan\n",
+        ),
+        (
+            plain,
+            &shown,
+            "2 refused: apriori table 1 line 6: ProtectedPrimary\n",
+        ),
+        (
+            rounded,
+            &shown,
+            "2 refused: apriori table 1 line 6: ProtectedPrimary\n",
+        ),
+        (
+            plain,
+            "a1,b2,c,5\na1,b2,c,6\n",
+            "2 refused: apriori table 1 line 2: Twice\n",
+        ),
+        (
+            plain,
+            "a1,b2,b,51,60\n",
+            "2 refused: apriori table 1 line 1: OutsideTruth\n",
+        ),
+        (
+            rounded,
+            "a9,b1,s\n",
+            "2 refused: apriori table 1 line 1: UnknownCode\n",
+        ),
+    ];
+    for (method, statements, want) in rows {
+        let job = LINKED.replace(alloc, "1,30", "3,30")?;
+        let job = job.replace(alloc, "MOD()", method)?;
+        let job = format!(in alloc; "{job}<APRIORI> \"p.hst\",1,\",\"\n")?;
+        let files = [
+            ("r.job", job.as_str()),
+            ("m.rda", THREE),
+            ("m.asc", THIRTEEN),
+            ("p.hst", statements),
+        ];
+        for bytes in [4096, 1] {
+            let pieces = Pieces { bytes, failing: 0 };
+            let got = ran_alone(alloc, &files, pieces, 0)?;
+            let got = got.split_inclusive('\n').next().unwrap_or("");
+            assert_eq!(rt; got, want);
+        }
+    }
+    Ok(())
+}
+
+// Two tables have a cell in common, and each has a file that states something of it: the second one must not
+// contradict the first.
+#[test]
+fn statements_of_two_tables(rt: HostRuntime) -> Result<(), Fail> {
+    let alloc = rt.alloc();
+    let job = format!(in alloc;
+        "{LINKED}<APRIORI> \"q.hst\",2,\";\"\n<APRIORI> \"p.hst\",1,\",\"\n"
+    )?;
+    let rows = [
+        (
+            "a1,Total,s\n",
+            "a1;Total;u\n",
+            "2 refused: apriori table 2 line 1: Twice\n",
+        ),
+        (
+            "a1,Total,x\n",
+            "a1;x\n",
+            "2 refused: apriori table 1 line 1: BadShape\n",
+        ),
+        (
+            "a1,Total,c,7\n",
+            "a2;c1;u\n\na1;Total;c;007\n",
+            "2 refused: cell 13: NeedsPlan\n",
+        ),
+    ];
+    for (first, second, want) in rows {
+        let files = [
+            ("r.job", job.as_str()),
+            ("m.rda", THREE),
+            ("m.asc", THIRTEEN),
+            ("p.hst", first),
+            ("q.hst", second),
+        ];
+        let got = ran_alone(alloc, &files, WHOLE, 0)?;
+        assert_eq!(rt; got.as_str(), want);
+    }
+    Ok(())
+}
+
 // Each file that isn't there, and the calls to each file that fail: one begins it, one comes for each
 // piece, and one finds the end.
 #[test]
 fn each_file_in_turn(rt: HostRuntime) -> Result<(), Fail> {
     let alloc = rt.alloc();
+    let job = changed(
+        alloc,
+        "<SUPPRESS>",
+        "<APRIORI> \"p.hst\",1,\",\"\n<SUPPRESS>",
+    )?;
     let files = [
-        ("r.job", JOB),
+        ("r.job", job.as_str()),
         ("m.rda", LISTED),
         ("a.cdl", "b,second\na,first\n"),
         ("a.hrc", "Nr\n@1\n@2\nOs\n@3\n"),
         ("m.asc", "1   10\n2   20\n3   30\n"),
+        ("p.hst", "Total,p\n"),
     ];
-    let names = ["job", "metadata", "codelist 1", "hierarchy 1", "microdata"];
+    let names = [
+        "job",
+        "metadata",
+        "codelist 1",
+        "hierarchy 1",
+        "microdata",
+        "apriori table 1",
+    ];
     for (k, name) in names.iter().enumerate() {
         let want = format!(in alloc; "2 refused: {name}: Absent\n")?;
-        let got = ran_alone(alloc, &files[..k.min(5)], WHOLE, 0)?;
+        let got = ran_alone(alloc, &files[..k.min(6)], WHOLE, 0)?;
         assert_eq!(rt; got.as_str(), want.as_str());
     }
     for bytes in [1u32, 1000, 4096] {
@@ -579,6 +699,11 @@ fn reports(rt: HostRuntime) -> Result<(), Fail> {
         line: 7,
         why: MetaWhy::Clash,
     };
+    let stated = Fault::Prior {
+        table: 1,
+        line: 12,
+        why: PriorWhy::EmptyUnsafe,
+    };
     let row = Fault::Row {
         number: 1_000_001,
         why: RowWhy::TooMany,
@@ -605,6 +730,14 @@ fn reports(rt: HostRuntime) -> Result<(), Fail> {
             "2 refused: hierarchy 1 line 10: TooDeep\n",
         ),
         (Report::Refused(row), "2 refused: record 1000001: TooMany\n"),
+        (
+            Report::Refused(stated),
+            "2 refused: apriori table 2 line 12: EmptyUnsafe\n",
+        ),
+        (
+            Report::ReadFault(FileRef::Apriori(0)),
+            "5 read fault: apriori table 1\n",
+        ),
         (
             Report::Refused(Fault::Cells(7)),
             "2 refused: table 8: TooManyCells\n",

@@ -1,0 +1,10 @@
+pub mod Pairs
+pub mod Open
+pub mod Agreeing
+pub mod FieldList
+pub mod Places
+pub mod Priors
+pub mod Together
+pub mod Notes
+pub mod Exchange
+pub mod Order

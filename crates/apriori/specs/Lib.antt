@@ -1,0 +1,11 @@
+pub mod Priors
+pub mod Faults
+pub mod Settling
+pub mod Fields
+pub mod Keywords
+pub mod Statements
+pub mod Said
+pub mod Holding
+pub mod Applying
+pub mod Noting
+pub mod Laws

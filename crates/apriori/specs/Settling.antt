@@ -1,0 +1,150 @@
+-- What each cell is to its protection: primary, fixed or free, with its levels, bounds and price (handbook, sensitive cells and
+-- protection levels; a priori statements: own).
+use Rattle.std.specs.Prelude.{◌≡◌, ◌≤◌, ◌==◌, ◌||◌, ◌&&◌, nat_lt, ℕ, Bool, is_some, if◌then◌else◌, List, length, map, fold, slice_get, Option, None, Some, unwrap_or, option_map, Result, Ok, Err, ℤ, pos, ◌≤ℤ◌, int_lt}
+use Rattle.std.specs.List.{zip}
+use Rattle.sdc_base.specs.Steps.{◌>>=◌}
+use Rattle.sdc_base.specs.Trees.{Tree}
+use Rattle.sdc_base.specs.Records.{Name}
+use Rattle.sdc_base.specs.declared.rows.Row.{Row}
+use Rattle.primary_rules.specs.Kept.{AreFactsOf}
+use Rattle.sdc_base.specs.RuleLevels.{Figures, told, figures_in, level_of, manual_of, keep_of}
+use Rattle.sdc_base.specs.declared.facts.Levels.{Levels}
+use Rattle.sdc_base.specs.declared.cell.Kind.{Kind}
+use Rattle.sdc_base.specs.declared.cell.Kind.TheVariants.{Primary, Free, Fixed}
+use Rattle.sdc_base.specs.declared.cell.Cell.{Cell}
+use Rattle.sdc_base.specs.declared.rule.Rules.{Rules}
+use Rattle.primary_rules.specs.Ranges.{IsTruth}
+use Rattle.linked_tables.specs.declared.mark.Mark.{Mark}
+use Rattle.apriori.specs.declared.prior.Status.{Status}
+use Rattle.apriori.specs.declared.prior.Status.TheVariants.{Unsafe, Safe}
+use Rattle.apriori.specs.declared.prior.Prior.{Prior}
+use Rattle.apriori.specs.declared.faults.PriorWhy.{PriorWhy}
+use Rattle.apriori.specs.declared.faults.PriorWhy.TheVariants.{ProtectedPrimary}
+use Rattle.apriori.specs.Faults.{LineOf}
+
+-- what a cell is to its protection, all amounts in units
+pub record Settled : Type 0 where
+  pub truth : ℤ
+  pub low : ℤ
+  pub high : Option ℤ
+  pub up : ℤ
+  pub down : ℤ
+  pub kind : Kind
+  pub price : Option ℕ
+
+-- a cell's amounts, kind and price
+abbrev pub seen : Cell → Settled
+seen cell = record { truth = cell.truth; low = cell.low; high = cell.high; up = cell.up; down = cell.down; kind = cell.kind; price = cell.price }
+
+-- a mark has what the rules look at: a truth in range, and as many of the largest contributions
+pub record IsReadyFor (rules : Rules) (mark : Mark) : Type 0 where
+  pub truth : IsTruth mark.facts.truth
+  pub kept : keep_of rules.list ≤ mark.facts.tops.keep
+
+-- what is told of the cells of marks
+abbrev pub told_of : List Mark → List Figures
+told_of marks = map (λ mark. told mark.facts) marks
+
+-- the figures of named cells over the records
+abbrev pub figures_of : List Tree → List Name → List Row → ℕ → List Figures
+figures_of trees names rows scale = map (λ name. figures_in trees name rows scale) names
+
+-- each mark has the facts of the records in the cell with its name, at one scale
+pub record AreFactsIn (marks : List Mark) (trees : List Tree) (names : List Name) (rows : List Row) (scale : ℕ) : Type 0 where
+  pub one_each : length names ≡ length marks
+  pub each : (cell : ℕ) (name : Name) (mark : Mark) → slice_get names cell ≡ Some name → slice_get marks cell ≡ Some mark → AreFactsOf mark.facts trees name rows × (mark.facts.tops.scale ≡ scale)
+
+-- levels of a primary cell of this truth: upwards from a unit, downwards from 0 to the truth
+pub record AreOpen (truth : ℤ) (levels : Levels) : Type 0 where
+  pub unit : pos 1 ≤ℤ levels.up
+  pub from_zero : pos 0 ≤ℤ levels.down
+  pub within : levels.down ≤ℤ truth
+
+-- the levels with the greater upper one
+abbrev pub wider : Levels → Option Levels → Levels
+wider levels None = levels
+wider levels (Some others) = if int_lt levels.up others.up then others else levels
+
+-- The levels that a cell has by the rules where it is primary: a cell that is declared unsafe has at least those of MAN; one that
+-- is declared safe isn't primary; any other is where a rule names it.
+abbrev pub rule_levels : Rules → Figures → Option Status → Option Levels
+rule_levels rules cell (Some Unsafe) = Some (wider (manual_of rules.man cell.truth) (level_of rules.list cell))
+rule_levels rules cell (Some Safe) = None
+rule_levels rules cell None = level_of rules.list cell
+
+-- levels with the lower one at most the truth
+abbrev pub cut_at : ℤ → Levels → Levels
+cut_at truth levels = record { up = levels.up; down = if int_lt truth levels.down then truth else levels.down }
+
+-- the levels that are stated of a primary cell, else those that it has by the rules
+abbrev pub stated_or : ℤ → Option Levels → Levels → Levels
+stated_or truth stated levels = unwrap_or (option_map (cut_at truth) stated) levels
+
+-- the levels of a cell where it is primary
+abbrev pub primary_levels : Rules → Figures → Prior → Option Levels
+primary_levels rules cell prior = option_map (stated_or cell.truth prior.levels) (rule_levels rules cell prior.status)
+
+-- a cell is primary where it has such levels
+abbrev pub is_primary : Rules → Figures → Prior → Bool
+is_primary rules cell prior = is_some (primary_levels rules cell prior)
+
+-- a cell that isn't primary has the levels 0
+abbrev pub levels_of : Rules → Figures → Prior → Levels
+levels_of rules cell prior = unwrap_or (primary_levels rules cell prior) (record { up = pos 0; down = pos 0 })
+
+-- what isn't primary is fixed where it has no records or is stated to be always shown, and else free
+abbrev pub other_kind : Figures → Prior → Kind
+other_kind cell prior = if (cell.freq == 0) || is_some prior.keep then Fixed else Free
+
+-- what kind a cell is of
+abbrev pub kind_of : Rules → Figures → Prior → Kind
+kind_of rules cell prior = if is_primary rules cell prior then Primary else other_kind cell prior
+
+-- what an attacker knows that a cell is at least: 0 where nothing is stated
+abbrev pub low_of : Option (ℤ × ℤ) → ℤ
+low_of bounds = unwrap_or (option_map (λ b. b.0) bounds) (pos 0)
+
+-- what an attacker knows that a cell is at most: nothing where nothing is stated
+abbrev pub high_of : Option (ℤ × ℤ) → Option ℤ
+high_of bounds = option_map (λ b. b.1) bounds
+
+-- what the cell with these figures and this prior is to its protection
+abbrev pub settled : Rules → Figures → Prior → Settled
+settled rules cell prior = record {
+  truth = cell.truth;
+  low = low_of prior.bounds;
+  high = high_of prior.bounds;
+  up = (levels_of rules cell prior).up;
+  down = (levels_of rules cell prior).down;
+  kind = kind_of rules cell prior;
+  price = prior.price;
+}
+
+-- a line comes before another: by table, and then by line
+abbrev pub is_before : LineOf → LineOf → Bool
+is_before one other = nat_lt one.0 other.0 || ((one.0 == other.0) && nat_lt one.1 other.1)
+
+-- the first of two lines that may be there
+abbrev pub first_of : Option LineOf → Option LineOf → Option LineOf
+first_of None other = other
+first_of (Some one) None = Some one
+first_of (Some one) (Some other) = Some (if is_before other one then other else one)
+
+-- the line by which a primary cell is to be always shown
+abbrev pub clash_of : Rules → Figures → Prior → Option LineOf
+clash_of rules cell prior = if is_primary rules cell prior then prior.keep else None
+
+-- the first of these lines, over all cells
+abbrev pub first_clash : Rules → List (Figures × Prior) → Option LineOf
+first_clash rules cells = fold (λ first cell. first_of first (clash_of rules cell.0 cell.1)) None cells
+
+-- that line is a fault
+abbrev pub refuse_line : Option LineOf → Result (Unit {0}) (LineOf × PriorWhy)
+refuse_line None = Ok tt
+refuse_line (Some line) = Err (line, ProtectedPrimary)
+
+-- the cells with these figures and priors, or the first line by which a primary cell is to be always shown
+unfoldable pub settle_of : Rules → List Figures → List Prior → Result (List Settled) (LineOf × PriorWhy)
+settle_of rules figures priors = do
+  fine ← refuse_line (first_clash rules (zip figures priors))
+  Ok (map (λ cell. settled rules cell.0 cell.1) (zip figures priors))

@@ -1,0 +1,154 @@
+-- What a line of an a priori file states, or its first fault by itself (own).
+use Rattle.std.specs.Prelude.{ℕ, ◌==◌, ◌||◌, not, Bool, false, if◌then◌else◌, List, [], ◌∷◌, length, map, drop, slice_get, unwrap_or, Option, None, Some, Result, Ok, Err, ℤ, pos, int_lt}
+use Rattle.std.specs.Option.{option_and_then}
+use Rattle.sdc_base.specs.Steps.{◌>>=◌, or_fault, refuse}
+use Rattle.sdc_base.specs.Tokens.{number_in}
+use Rattle.sdc_base.specs.Numbers.{read_units}
+use Rattle.sdc_base.specs.Trees.{Tree, find}
+use Rattle.sdc_base.specs.Cells.{trees_of}
+use Rattle.sdc_base.specs.declared.facts.Levels.{Levels}
+use Rattle.sdc_base.specs.declared.facts.CellFacts.{CellFacts}
+use Rattle.sdc_base.specs.declared.number_fault.NumberFault.{NumberFault}
+use Rattle.linked_tables.specs.Held.{Held}
+use Rattle.linked_tables.specs.declared.mark.Mark.{Mark}
+use Rattle.linked_tables.specs.Shared.{cell_at}
+use Rattle.apriori.specs.declared.prior.Status.TheVariants.{Unsafe, Safe}
+use Rattle.apriori.specs.declared.keyword.Keyword.{Keyword}
+use Rattle.apriori.specs.declared.keyword.Keyword.TheVariants as keyword
+use Rattle.apriori.specs.declared.statement.Bounds.{Bounds}
+use Rattle.apriori.specs.declared.statement.Claim.{Claim}
+use Rattle.apriori.specs.declared.statement.Claim.TheVariants as claim
+use Rattle.apriori.specs.declared.statement.Statement.{Statement}
+use Rattle.apriori.specs.declared.statement.Form.{Form}
+use Rattle.apriori.specs.declared.faults.PriorWhy.{PriorWhy}
+use Rattle.apriori.specs.declared.faults.PriorWhy.TheVariants.{BadShape, UnknownCode, BadNumber, EmptyUnsafe, OutsideTruth}
+use Rattle.apriori.specs.Priors.{most_price, most_units}
+use Rattle.apriori.specs.Fields.{fields}
+use Rattle.apriori.specs.Keywords.{keyword_of, numbers_of}
+
+-- the keyword in front, and the fields behind it, which are as many as it has
+unfoldable pub keyword_at : List (List ℕ) → Result (Keyword × List (List ℕ)) PriorWhy
+keyword_at [] = Err BadShape
+keyword_at (word ∷ further) = do
+  keyword ← or_fault BadShape (keyword_of word)
+  fits ← refuse BadShape (not (length further == numbers_of keyword))
+  Ok (keyword, further)
+
+-- a place in front of the place of the other codes, where both are there
+abbrev pub with_place : Option ℕ → Option (List ℕ) → Option (List ℕ)
+with_place None places = None
+with_place (Some place) None = None
+with_place (Some place) (Some places) = Some (place ∷ places)
+
+-- the place that codes write, one for each tree
+abbrev pub place_in : List Tree → List (List ℕ) → Option (List ℕ)
+place_in [] codes = Some []
+place_in (tree ∷ trees) [] = None
+place_in (tree ∷ trees) (code ∷ codes) = with_place (find tree code) (place_in trees codes)
+
+-- what is known of a cell: its truth and its number of records
+pub record Known : Type 0 where
+  pub truth : ℤ
+  pub freq : ℕ
+
+-- what the facts of a cell tell of it
+abbrev pub known_of : CellFacts → Known
+known_of facts = record { truth = facts.truth; freq = facts.freq }
+
+-- what statements are held against: the trees, the tables, and what is known of each cell by its number
+pub record Ground : Type 0 where
+  pub trees : List Tree
+  pub tables : List (List ℕ)
+  pub known : List Known
+
+-- the ground that a book is
+abbrev pub ground_of : Held → Ground
+ground_of book = record { trees = book.trees; tables = book.tables; known = map (λ (mark : Mark). known_of mark.facts) book.marks }
+
+-- a book with these trees and tables, whatever its marks
+abbrev pub bare : Ground → Held
+bare ground = record { trees = ground.trees; tables = ground.tables; marks = [] }
+
+-- the variables that table t spans
+abbrev pub spanned : Ground → ℕ → List ℕ
+spanned ground t = unwrap_or (slice_get ground.tables t) []
+
+-- the cell that the codes of a line of table t name, in the table's order
+abbrev pub cell_of : Ground → ℕ → List (List ℕ) → Option ℕ
+cell_of ground t codes = option_and_then (cell_at (bare ground) t) (place_in (trees_of ground.trees (spanned ground t)) codes)
+
+-- a price is a whole number from 1 to the greatest
+unfoldable pub price_at : List (List ℕ) → Result ℕ PriorWhy
+price_at [] = Err BadNumber
+price_at (field ∷ further) = or_fault BadNumber (number_in 1 most_price field)
+
+-- a number of units from so many on that is read, or none
+abbrev pub units_from : ℤ → Result ℤ NumberFault → Option ℤ
+units_from least (Err fault) = None
+units_from least (Ok units) = if int_lt units least || int_lt (pos most_units) units then None else Some units
+
+-- a number of units from so many to the greatest, and the fields behind it
+unfoldable pub units_at : ℤ → ℕ → List (List ℕ) → Result (ℤ × List (List ℕ)) PriorWhy
+units_at least decimals [] = Err BadNumber
+units_at least decimals (field ∷ further) = do
+  units ← or_fault BadNumber (units_from least (read_units field decimals))
+  Ok (units, further)
+
+-- the levels that two fields state: the lower one, and the upper one from a unit on
+unfoldable pub levels_at : ℕ → List (List ℕ) → Result Levels PriorWhy
+levels_at decimals further = do
+  down ← units_at (pos 0) decimals further
+  up ← units_at (pos 1) decimals down.1
+  Ok (record { up = up.0; down = down.0 })
+
+-- the bounds that two fields state: the lower one, and the upper one
+unfoldable pub bounds_at : ℕ → List (List ℕ) → Result Bounds PriorWhy
+bounds_at decimals further = do
+  low ← units_at (pos 0) decimals further
+  high ← units_at (pos 0) decimals low.1
+  Ok (record { low = low.0; high = high.0 })
+
+-- what a keyword with the fields behind it claims
+unfoldable pub claim_of : ℕ → Keyword → List (List ℕ) → Result Claim PriorWhy
+claim_of decimals keyword.Unsafe further = Ok (claim.Declared Unsafe)
+claim_of decimals keyword.Safe further = Ok (claim.Declared Safe)
+claim_of decimals keyword.Shown further = Ok claim.Shown
+claim_of decimals keyword.Price further = do
+  price ← price_at further
+  Ok (claim.Price price)
+claim_of decimals keyword.Levels further = do
+  levels ← levels_at decimals further
+  Ok (claim.Open levels)
+claim_of decimals keyword.Bounds further = do
+  bounds ← bounds_at decimals further
+  Ok (claim.Between bounds)
+
+-- a cell without records is declared unsafe
+abbrev pub is_empty_unsafe : Known → Claim → Bool
+is_empty_unsafe known (claim.Declared Unsafe) = known.freq == 0
+is_empty_unsafe known other = false
+
+-- the truth isn't between the bounds
+abbrev pub is_outside : Known → Claim → Bool
+is_outside known (claim.Between bounds) = int_lt known.truth bounds.low || int_lt bounds.high known.truth
+is_outside known other = false
+
+-- nothing, unless the claim doesn't go with what is known of the cell
+unfoldable pub fitting : Known → Claim → Result (Unit {0}) PriorWhy
+fitting known claim = do
+  some ← refuse EmptyUnsafe (is_empty_unsafe known claim)
+  refuse OutsideTruth (is_outside known claim)
+
+-- the fields behind the codes of a line of table t
+abbrev pub behind_codes : Ground → ℕ → List (List ℕ) → List (List ℕ)
+behind_codes ground t all = drop (length (spanned ground t)) all
+
+-- What a line of this number states, or its first fault by itself: its shape, its codes, its numbers, and what is known of the cell.
+unfoldable pub statement_of : Ground → Form → ℕ → List ℕ → Result Statement PriorWhy
+statement_of ground form line text = do
+  spoken ← keyword_at (behind_codes ground form.table (fields form.separator text))
+  cell ← or_fault UnknownCode (cell_of ground form.table (fields form.separator text))
+  known ← or_fault UnknownCode (slice_get ground.known cell)
+  claim ← claim_of form.decimals spoken.0 spoken.1
+  fine ← fitting known claim
+  Ok (record { line = line; cell = cell; claim = claim })

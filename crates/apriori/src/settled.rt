@@ -1,0 +1,165 @@
+ghost use Rattle.std.specs.Prelude.{◌≡◌, ◌≢◌, ◌≤◌, pos, ◌≤ℤ◌};
+ghost use Rattle.std.specs.Option.{ForSome};
+ghost use Rattle.sdc_base.specs.RuleLevels.{told, keep_of};
+ghost use Rattle.sdc_base.specs.declared.cell.Kind.TheVariants.{Primary};
+ghost use Rattle.primary_rules.specs.Ranges.{AreInRange, IsTruth};
+ghost use Rattle.apriori.specs.Priors.{CanBeLevels, AreBounds, IsPriorOf};
+ghost use Rattle.apriori.specs.Settling.{seen, wider as wider_of, rule_levels as levels_by_rules, cut_at as cut_levels, stated_or as stated_levels, primary_levels as levels_meant, other_kind as kind_meant, low_of as low_meant, high_of as high_meant, settled as settled_as, clash_of as clash_meant, AreOpen};
+
+use crate::prior::{Prior, Status};
+use primary_rules::{level, manual};
+use sdc_base::{Cell, CellFacts, Kind, Levels, Rules};
+
+/// What a cell is to its protection.
+pub(crate) fn settled(rules: &Rules, facts: &CellFacts, prior: &Prior) -> Cell
+    requires in_range { AreInRange rules.now }
+    requires truth { IsTruth facts.now.truth }
+    requires kept { keep_of rules.now.list ≤ facts.now.tops.keep }
+    requires prior { IsPriorOf facts.now prior.now }
+    ensures { seen result ≡ settled_as rules.now (told facts.now) prior.now }
+{
+    let low = low_of(facts.truth, prior.bounds);
+    let high = high_of(facts.truth, prior.bounds);
+    match primary_levels(rules, facts, prior) {
+        Some(levels) => Cell {
+            truth: facts.truth,
+            low,
+            high,
+            up: levels.up,
+            down: levels.down,
+            kind: Kind::Primary,
+            price: prior.price,
+        },
+        None => Cell {
+            truth: facts.truth,
+            low,
+            high,
+            up: 0,
+            down: 0,
+            kind: other_kind(facts, prior),
+            price: prior.price,
+        },
+    }
+}
+
+/// The line by which a primary cell is to be always shown.
+pub(crate) fn clash_of(rules: &Rules, facts: &CellFacts, prior: &Prior) -> Option<(u32, u32)>
+    requires in_range { AreInRange rules.now }
+    requires truth { IsTruth facts.now.truth }
+    requires kept { keep_of rules.now.list ≤ facts.now.tops.keep }
+    requires prior { IsPriorOf facts.now prior.now }
+    ensures { result ≡ clash_meant rules.now (told facts.now) prior.now }
+{
+    if primary_levels(rules, facts, prior).is_some() {
+        prior.keep
+    } else {
+        None
+    }
+}
+
+// What isn't primary is fixed where it has no records or is stated to be always shown, and else free.
+fn other_kind(facts: &CellFacts, prior: &Prior) -> Kind
+    ensures kind { result ≡ kind_meant (told facts.now) prior.now }
+    ensures other { result ≢ Primary }
+{
+    if facts.freq == 0 || prior.keep.is_some() {
+        Kind::Fixed
+    } else {
+        Kind::Free
+    }
+}
+
+// The levels of a cell where it is primary.
+fn primary_levels(rules: &Rules, facts: &CellFacts, prior: &Prior) -> Option<Levels>
+    requires in_range { AreInRange rules.now }
+    requires truth { IsTruth facts.now.truth }
+    requires kept { keep_of rules.now.list ≤ facts.now.tops.keep }
+    requires prior { IsPriorOf facts.now prior.now }
+    ensures value { result ≡ levels_meant rules.now (told facts.now) prior.now }
+    ensures open { ForSome result (AreOpen facts.now.truth) }
+{
+    let levels = rule_levels(rules, facts, prior.status)?;
+    Some(stated_or(facts.truth, prior.levels, levels))
+}
+
+// The levels that a cell has by the rules where it is primary.
+fn rule_levels(rules: &Rules, facts: &CellFacts, status: Option<Status>) -> Option<Levels>
+    requires in_range { AreInRange rules.now }
+    requires truth { IsTruth facts.now.truth }
+    requires kept { keep_of rules.now.list ≤ facts.now.tops.keep }
+    ensures value { result ≡ levels_by_rules rules.now (told facts.now) status }
+    ensures open { ForSome result (AreOpen facts.now.truth) }
+{
+    match status {
+        Some(Status::Unsafe) => Some(wider(manual(rules, facts.truth), level(rules, facts))),
+        Some(Status::Safe) => None,
+        None => level(rules, facts),
+    }
+}
+
+// The levels with the greater upper one.
+fn wider(levels: Levels, others: Option<Levels>) -> Levels
+    ensures { result ≡ wider_of levels others }
+{
+    match others {
+        Some(others) if levels.up < others.up => others,
+        _ => levels,
+    }
+}
+
+// The levels that are stated of a primary cell, else those that it has by the rules.
+fn stated_or(truth: i128, stated: Option<Levels>, levels: Levels) -> Levels
+    requires truth { IsTruth truth }
+    requires stated { ForSome stated CanBeLevels }
+    requires levels { AreOpen truth levels }
+    ensures value { result ≡ stated_levels truth stated levels }
+    ensures open { AreOpen truth result }
+{
+    match stated {
+        Some(stated) => cut_at(truth, stated),
+        None => levels,
+    }
+}
+
+// Levels with the lower one at most the truth.
+fn cut_at(truth: i128, levels: Levels) -> Levels
+    requires truth { IsTruth truth }
+    requires levels { CanBeLevels levels }
+    ensures value { result ≡ cut_levels truth levels }
+    ensures open { AreOpen truth result }
+{
+    Levels {
+        up: levels.up,
+        down: if truth < levels.down {
+            truth
+        } else {
+            levels.down
+        },
+    }
+}
+
+// What an attacker knows that a cell is at least.
+fn low_of(truth: i128, bounds: Option<(i128, i128)>) -> i128
+    requires truth { IsTruth truth }
+    requires bounds { ForSome bounds (AreBounds truth) }
+    ensures value { result ≡ low_meant bounds }
+    ensures from_zero { pos 0 ≤ℤ result }
+    ensures within { result ≤ℤ truth }
+{
+    match bounds {
+        Some(bounds) => bounds.0,
+        None => 0,
+    }
+}
+
+// What an attacker knows that a cell is at most, where anything is known.
+fn high_of(truth: i128, bounds: Option<(i128, i128)>) -> Option<i128>
+    requires bounds { ForSome bounds (AreBounds truth) }
+    ensures value { result ≡ high_meant bounds }
+    ensures beyond { ForSome result (λ high. truth ≤ℤ high) }
+{
+    match bounds {
+        Some(bounds) => Some(bounds.1),
+        None => None,
+    }
+}

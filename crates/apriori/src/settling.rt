@@ -1,0 +1,121 @@
+ghost use Rattle.std.specs.Prelude.{◌≡◌, map, All, length, IfOk, Ok, List, ℕ};
+ghost use Rattle.std.specs.List.{zip};
+ghost use Rattle.sdc_base.specs.Answers.{Gives};
+ghost use Rattle.sdc_base.specs.Trees.{Tree};
+ghost use Rattle.sdc_base.specs.Records.{Name};
+ghost use Rattle.sdc_base.specs.declared.rows.Row.{Row};
+ghost use Rattle.primary_rules.specs.Ranges.{AreInRange};
+ghost use Rattle.apriori.specs.Faults.{fault_of};
+ghost use Rattle.apriori.specs.Priors.{ArePriors};
+ghost use Rattle.apriori.specs.Settling.{seen, told_of, figures_of, IsReadyFor, AreFactsIn, settled as settled_as, is_before as before, first_of, first_clash as first_meant, settle_of};
+
+use crate::faults::{PriorError, PriorWhy};
+use crate::prior::Prior;
+use crate::settled::{clash_of, settled};
+use linked_tables::{Book, Mark};
+use sdc_base::{Cell, Rules};
+use std::alloc::Global;
+
+/// What each cell of a book is to its protection, in the order of the cells' numbers, with all amounts in units.
+///
+/// A cell is primary where it is declared unsafe, or where a rule names it and it isn't declared safe. Its levels are those
+/// that are stated of it, the lower one cut at the truth, else the greatest of the rules that name it and, where it is declared
+/// unsafe, of `MAN`. Any other cell is fixed where it has no records or is stated to be always shown, and else free. The bounds
+/// are those that are stated, else 0 and none; the price is the one that is stated, if any.
+///
+/// It takes one prior for each cell, as [`blank_priors`](crate::blank_priors) makes them; rules in their ranges; and marks with a
+/// truth from 0 to `10^29` that keep as many contributions as the rules look at. `ProtectedPrimary` is given where a primary cell is stated to be always shown, for the
+/// first such line by table and line; want of memory is `Memory`. It looks at each cell twice, and at each rule each time.
+///
+/// Rules and levels are the handbook's (sensitivity rules and protection levels); what is stated beforehand is argus's own.
+pub fn settle(
+    alloc: Global,
+    book: &Book,
+    rules: &Rules,
+    priors: &[Prior],
+) -> Result<Vec<Cell>, PriorError>
+    requires in_range { AreInRange rules.now }
+    requires ready { All (IsReadyFor rules.now) book.now.marks }
+    requires priors { ArePriors book.now.marks priors.now }
+    ensures exact { Gives fault_of (λ cells. map seen cells.items) result (settle_of rules.now (told_of book.now.marks) priors.now) }
+    ensures over_records { (trees : List Tree) (names : List Name) (rows : List Row) (scale : ℕ) → AreFactsIn book.now.marks trees names rows scale
+        → Gives fault_of (λ cells. map seen cells.items) result (settle_of rules.now (figures_of trees names rows scale) priors.now) }
+    ensures one_each { IfOk result (λ cells. length cells.items ≡ length book.now.marks) }
+{
+    settle_cells(alloc, book.marks(), rules, priors)
+}
+
+// The cells with these marks and priors.
+#[tactic(auto, unfolding(crate::specs::Settling::settle_of))]
+fn settle_cells(
+    alloc: Global,
+    marks: &[Mark],
+    rules: &Rules,
+    priors: &[Prior],
+) -> Result<Vec<Cell>, PriorError>
+    requires in_range { AreInRange rules.now }
+    requires ready { All (IsReadyFor rules.now) marks.now }
+    requires priors { ArePriors marks.now priors.now }
+    ensures exact { Gives fault_of (λ cells. map seen cells.items) result (settle_of rules.now (told_of marks.now) priors.now) }
+    ensures one_each { IfOk result (λ cells. length cells.items ≡ length marks.now) }
+{
+    if let Some((table, line)) = first_clash(marks, rules, priors) {
+        return Err(PriorError::At {
+            table,
+            line,
+            why: PriorWhy::ProtectedPrimary,
+        });
+    }
+    cells_of(alloc, marks, rules, priors)
+}
+
+// The first line by which a primary cell is to be always shown.
+fn first_clash(marks: &[Mark], rules: &Rules, priors: &[Prior]) -> Option<(u32, u32)>
+    requires in_range { AreInRange rules.now }
+    requires ready { All (IsReadyFor rules.now) marks.now }
+    requires priors { ArePriors marks.now priors.now }
+    ensures { result ≡ first_meant rules.now (zip (told_of marks.now) priors.now) }
+{
+    let mut first = None;
+    'cells: for (cell, prior) in priors.iter().enumerate() {
+        let clash = clash_of(rules, &marks[cell].facts, prior);
+        first = first_line(first, clash);
+    }
+    first
+}
+
+// What each cell is.
+fn cells_of(
+    alloc: Global,
+    marks: &[Mark],
+    rules: &Rules,
+    priors: &[Prior],
+) -> Result<Vec<Cell>, PriorError>
+    requires in_range { AreInRange rules.now }
+    requires ready { All (IsReadyFor rules.now) marks.now }
+    requires priors { ArePriors marks.now priors.now }
+    ensures exact { Gives fault_of (λ cells. map seen cells.items) result (Ok (map (λ cell. settled_as rules.now cell.0 cell.1) (zip (told_of marks.now) priors.now))) }
+    ensures one_each { IfOk result (λ cells. length cells.items ≡ length marks.now) }
+{
+    let mut cells = Vec::new(alloc);
+    'cells: for (cell, prior) in priors.iter().enumerate() {
+        cells.push(settled(rules, &marks[cell].facts, prior))?;
+    }
+    Ok(cells)
+}
+
+// The first of two lines that may be there.
+fn first_line(one: Option<(u32, u32)>, other: Option<(u32, u32)>) -> Option<(u32, u32)>
+    ensures { result ≡ first_of one other }
+{
+    let Some(here) = one else { return other };
+    let Some(there) = other else { return one };
+    Some(if is_before(there, here) { there } else { here })
+}
+
+// Whether a line comes before another: by table, and then by line.
+fn is_before(one: (u32, u32), other: (u32, u32)) -> bool
+    ensures { result ≡ before one other }
+{
+    one.0 < other.0 || (one.0 == other.0 && one.1 < other.1)
+}
