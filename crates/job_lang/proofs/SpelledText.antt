@@ -23,7 +23,7 @@ use Rattle.job_lang.proofs.SpelledDraft.{lines_are, text_says_all}
 use Rattle.job_lang.proofs.SpelledJob.{closed_again}
 use Rattle.job_lang.proofs.TableRoom.{fit}
 
-all_both : {A : Type 0} (P : A → Type 0) (xs ys : List A) → AllByRecursion P xs → AllByRecursion P ys → AllByRecursion P (xs ++ ys)
+pub all_both : {A : Type 0} (P : A → Type 0) (xs ys : List A) → AllByRecursion P xs → AllByRecursion P ys → AllByRecursion P (xs ++ ys)
 all_both P [] ys a b = b
 all_both P (x ∷ xs) ys a b = (a.0, all_both P xs ys a.1 b)
 

@@ -76,3 +76,7 @@ TextIsRead = (job : Job) → IsWritable job → job_of (job_text job) ≡ Ok (in
 -- The canonical text of a job that has the lines of that text is read as that job.
 abbrev pub IsRoundTrip : Type 0
 IsRoundTrip = (job : Job) → IsWritable job → in_text job ≡ job → job_of (job_text job) ≡ Ok job
+
+-- Each job that is read has a canonical text.
+abbrev pub JobsAreWritable : Type 0
+JobsAreWritable = (bytes : List ℕ) (job : Job) → job_of bytes ≡ Ok job → IsWritable job
