@@ -80,3 +80,7 @@ IsRoundTrip = (job : Job) → IsWritable job → in_text job ≡ job → job_of 
 -- Each job that is read has a canonical text.
 abbrev pub JobsAreWritable : Type 0
 JobsAreWritable = (bytes : List ℕ) (job : Job) → job_of bytes ≡ Ok job → IsWritable job
+
+-- So each job that is read is read again from its canonical text, but for the numbers of its lines.
+abbrev pub JobsAreReadAgain : Type 0
+JobsAreReadAgain = (bytes : List ℕ) (job : Job) → job_of bytes ≡ Ok job → job_of (job_text job) ≡ Ok (in_text job)

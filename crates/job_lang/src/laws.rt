@@ -3,7 +3,7 @@
 ghost use Rattle.job_lang.specs.Laws.{IsInOrder, PutsAreNotRead, PutsAreNotNamed, PutsDiffer, MetadataFit};
 ghost use Rattle.job_lang.specs.BindingOrder.{GivesEarliest, GivesFirstKind};
 ghost use Rattle.job_lang.specs.Meaning.{JobsAreMeant};
-ghost use Rattle.job_lang.specs.Writable.{LinesAreRead, TextIsRead, IsRoundTrip, JobsAreWritable};
+ghost use Rattle.job_lang.specs.Writable.{LinesAreRead, TextIsRead, IsRoundTrip, JobsAreWritable, JobsAreReadAgain};
 ghost use Rattle.job_lang.specs.Rows.{EightLines, FullText, FullLines, NameBeforeMissing, Bindable, CodeListMet};
 
 use plain_text::joined_lines;
@@ -53,13 +53,15 @@ pub fn meaning()
 {}
 
 /// The canonical text of a job is read as that job, with the lines of the text; so a job that has these lines is read
-/// again as it is. Each job that was read has such a text. And each line of it is read as what it says.
+/// again as it is. Each job that was read has such a text, and is read again from it. And each line of such a text is
+/// read as what it says.
 #[tactic(auto, using(crate::proofs::SpelledLines::lines_read))]
 pub fn spelling()
     ensures lines { LinesAreRead }
     ensures text { TextIsRead }
     ensures round_trip { IsRoundTrip }
     ensures writable { JobsAreWritable }
+    ensures again { JobsAreReadAgain }
 {
     joined_lines();
 }

@@ -10,3 +10,6 @@ returns-clause-round_trip c = round_trip c.joined_lines.ensures
 
 pub returns-clause-writable : goal.returns-clause-writable
 returns-clause-writable c = writable
+
+pub returns-clause-again : goal.returns-clause-again
+returns-clause-again c = λ bytes job h. text_read c.joined_lines.ensures job (writable bytes job h)
