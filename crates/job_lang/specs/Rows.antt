@@ -10,7 +10,7 @@ use Rattle.job_lang.specs.declared.faults.JobWhy.TheVariants as why
 use Rattle.job_lang.specs.declared.job.Job.{Job}
 use Rattle.job_lang.specs.Jobs.{job_of}
 use Rattle.job_lang.specs.Binding.{bound_of}
-use Rattle.job_lang.specs.Spelling.{job_text, in_text}
+use Rattle.job_lang.specs.JobText.{job_text, in_text}
 
 -- the job of one table by one variable
 abbrev pub flat_job : Job

@@ -10,14 +10,15 @@ use Rattle.sdc_base.specs.declared.rule.Rule.TheVariants.{Freq}
 use Rattle.job_lang.specs.declared.job.Job.{Job}
 use Rattle.job_lang.specs.declared.job.PriorLine.{PriorLine}
 use Rattle.job_lang.specs.declared.job.TableLine.{TableLine}
+use Rattle.job_lang.specs.declared.statement.Said.{Said}
+use Rattle.job_lang.specs.declared.statement.Said.TheVariants as said
 use Rattle.job_lang.specs.Arguments.{may_separate}
 use Rattle.job_lang.specs.JobLimits.{IsJob, IsWork, IsMethod, AreInRange}
 use Rattle.job_lang.specs.Jobs.{job_of}
 use Rattle.job_lang.specs.Meaning.{line_says}
-use Rattle.job_lang.specs.declared.statement.Said.{Said}
-use Rattle.job_lang.specs.declared.statement.Said.TheVariants as said
 use Rattle.job_lang.specs.Laws.{puts_of, reads_of}
-use Rattle.job_lang.specs.Spelling.{table_number, said_line, job_text, in_text}
+use Rattle.job_lang.specs.Spelling.{table_number, said_line}
+use Rattle.job_lang.specs.JobText.{job_text, in_text}
 
 -- a rule on frequencies
 abbrev pub is_on_frequencies : Rule → Bool
