@@ -59,7 +59,7 @@ stray_fault count (s ∷ rest) line why h =
       | false ↦ λ g. stray_fault count rest line why g
     ] h
 
-no_strays : (count : ℕ) (said : List Statement) (t : Unit {0}) → no_stray count said ≡ Ok t → list_any (λ s. is_astray count s.said) said ≡ false
+pub no_strays : (count : ℕ) (said : List Statement) (t : Unit {0}) → no_stray count said ≡ Ok t → list_any (λ s. is_astray count s.said) said ≡ false
 unfolding no_stray
 no_strays count [] t h = refl
 no_strays count (s ∷ rest) t h =

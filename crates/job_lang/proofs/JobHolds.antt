@@ -25,7 +25,7 @@ use Rattle.job_lang.specs.JobLimits.{AreInRange, IsMethod, IsWork, IsJob}
 use Rattle.job_lang.proofs.Known.{then_known, known, not_refused, was_some}
 use Rattle.job_lang.proofs.DraftHolds.{IsSaid, IsDraft, lines_known}
 
-find_known : {A : Type 0} (P : A → Type 0) (test : A → Bool) (xs : List A) → AllByRecursion P xs → (x : A) → find test xs ≡ Some x → P x
+pub find_known : {A : Type 0} (P : A → Type 0) (test : A → Bool) (xs : List A) → AllByRecursion P xs → (x : A) → find test xs ≡ Some x → P x
 find_known P test [] all x h = absurd cc
 find_known {A} P test (y ∷ xs) all x h = elim (test y) as (λ t. cond t (Some y) (find test xs) ≡ Some x → P x) [
   | true ↦ λ g. let same : y ≡ x = cc in subst P same all.0
@@ -77,11 +77,11 @@ outputs_known (suc more) place all =
 
 -- ---- a priori files
 
-was_there : (t : Bool) (d : ℕ) → is_none {T = ℕ} (cond t (Some d) None) ≡ false → t ≡ true
+pub was_there : (t : Bool) (d : ℕ) → is_none {T = ℕ} (cond t (Some d) None) ≡ false → t ≡ true
 was_there true d h = refl
 was_there false d h = absurd cc
 
-wider : (x : Bool) (d count : ℕ) → count ≤ 8 → (x && (nat_le 1 d && nat_le d count)) ≡ true → ((x && (nat_le 1 d && nat_le d 8)) ≡ true) × (1 ≤ d) × (d ≤ count)
+pub wider : (x : Bool) (d count : ℕ) → count ≤ 8 → (x && (nat_le 1 d && nat_le d count)) ≡ true → ((x && (nat_le 1 d && nat_le d 8)) ≡ true) × (1 ≤ d) × (d ≤ count)
 wider x d count few h = grind arith
 
 place_within : (count : ℕ) (number : List ℕ) → count ≤ 8 → is_no_table count number ≡ false → table_place number < count

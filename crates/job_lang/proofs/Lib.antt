@@ -28,3 +28,5 @@ pub mod TableRoom
 pub mod SpelledDraft
 pub mod SpelledJob
 pub mod SpelledText
+pub mod Written
+pub mod WritableRead

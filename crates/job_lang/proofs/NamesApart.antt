@@ -80,7 +80,7 @@ output_unread all place (said.Output number name) line o by apart h =
     subst (λ (o : OutputLine). IsUnread all o.file) is (unread all name apart)
 output_unread all place one line o by apart h = absurd cc
 
-line_of : (P : Statement → Type 0) (all : List Statement) (test : Statement → Bool) (Q : OutputLine → Type 0) → AllByRecursion P all
+pub line_of : (P : Statement → Type 0) (all : List Statement) (test : Statement → Bool) (Q : OutputLine → Type 0) → AllByRecursion P all
     → ((s : Statement) (o : OutputLine) → test s ≡ true → P s → option_map (λ (file : List ℕ). record { line = s.line; file = file }) (file_said s.said) ≡ Some o → Q o)
     → (o : OutputLine) → file_line (find test all) ≡ Some o → Q o
 line_of P all test Q holds step o h =

@@ -1,5 +1,10 @@
 -- The worked jobs hold.
-use Rattle.std.proofs.Common.{refl}
+use Rattle.std.proofs.Common.{◌≡◌, ℕ, ◌<◌, ◌^◌, true, List, length, codes, decimal, refl, arith}
+use Rattle.std.specs.Prelude.{slice_index_or}
+use Rattle.std.specs.Str.{all_ascii_digits}
+use Rattle.std.specs.Str.Parse.{digits_value}
+use Rattle.std.proofs.lemmas.Fmt.{decimal_digit, decimal-digits_value}
+use Rattle.std.proofs.lemmas.Str.Parse.{numerals_by_value, tells_all_ascii_digits}
 use Rattle.job_lang.specs.LineTokens.{behind_mark, quoted_at, number_at, digits_at, ended, closed}
 use Rattle.job_lang.specs.Keywords.{keyword_of, word_in}
 use Rattle.job_lang.specs.RuleTexts.{one_number, frequency_clause, clause_in, clauses_in, rules_in}
@@ -9,7 +14,7 @@ use Rattle.job_lang.specs.Statements.{with_table, with_statement, with_said, com
 use Rattle.job_lang.specs.ClosingLooks.{no_stray, no_same_name, outputs_from}
 use Rattle.job_lang.specs.Jobs.{job_made, closed_job, job_of}
 use Rattle.job_lang.specs.Binding.{bound_of}
-use Rattle.job_lang.specs.Rows.{EightLines, NameBeforeMissing, Bindable, CodeListMet}
+use Rattle.job_lang.specs.Rows.{EightLines, FullText, FullLines, NameBeforeMissing, Bindable, CodeListMet}
 
 pub eight_lines : EightLines
 unfolding behind_mark quoted_at number_at digits_at ended closed keyword_of word_in one_number frequency_clause clause_in clauses_in rules_in names_up_to quoted_part table_argument file_at only_file output_argument modular_method method_argument argument_of with_table with_statement with_said command_line text_says lines_say no_stray no_same_name outputs_from job_made closed_job job_of
@@ -26,3 +31,18 @@ bindable = refl
 pub code_list_met : CodeListMet
 unfolding bound_of
 code_list_met = refl
+
+-- the digits of a number
+spelled : (digits : List ℕ) → all_ascii_digits digits ≡ true → 0 < length digits → (slice_index_or digits 0 0 ≡ 48 → length digits ≡ 1) → digits_value 10 digits < 2 ^ 64 → decimal (digits_value 10 digits) ≡ digits
+spelled digits all some lead small = decimal-digits_value (numerals_by_value (λ ds. all_ascii_digits ds ≡ true) tells_all_ascii_digits) digits all some lead small
+
+pub full_text : FullText
+full_text =
+    let thirty : decimal 30 ≡ codes "30" = spelled (codes "30") refl (omega arith) (λ h. absurd (omega (arith, h))) (omega arith) in
+    let most : decimal 75 ≡ codes "75" = spelled (codes "75") refl (omega arith) (λ h. absurd (omega (arith, h))) (omega arith) in
+    let ten : decimal 10 ≡ codes "10" = spelled (codes "10") refl (omega arith) (λ h. absurd (omega (arith, h))) (omega arith) in
+    let fifty : decimal 50 ≡ codes "50" = spelled (codes "50") refl (omega arith) (λ h. absurd (omega (arith, h))) (omega arith) in
+    rw (thirty, most, ten, fifty, decimal_digit 0 (omega arith), decimal_digit 1 (omega arith), decimal_digit 2 (omega arith), decimal_digit 3 (omega arith), decimal_digit 7 (omega arith)) refl
+
+pub full_lines : FullLines
+full_lines = refl

@@ -21,7 +21,8 @@ use Rattle.job_lang.specs.declared.statement.Statement.{Statement}
 use Rattle.job_lang.specs.Faults.{at_line}
 use Rattle.job_lang.specs.Keywords.{place_of}
 use Rattle.job_lang.specs.Statements.{is_by, is_prior_of, is_output_of, is_again, is_past_room, is_other_response, with_table, with_statement, with_said, text_says, lines_say, nothing}
-use Rattle.job_lang.specs.Spelling.{table_number, said_line, table_said, prior_said, outputs_said, job_says, tables_from}
+use Rattle.job_lang.specs.Spelling.{table_number, said_line}
+use Rattle.job_lang.specs.JobText.{table_said, prior_said, outputs_said, job_says, tables_from}
 use Rattle.job_lang.specs.Writable.{IsSpellable}
 use Rattle.job_lang.proofs.SpelledArguments.{number_is}
 use Rattle.job_lang.proofs.SpelledLines.{line_read, line_trimmed}

@@ -189,7 +189,7 @@ weighted_again : (list : List Rule) (man : ℕ) (weighted : Bool) → weighted_o
 weighted_again [] man weighted = refl
 weighted_again (rule ∷ list) man weighted = weighted_again list man weighted
 
-frequency_same : (rule : Rule) → is_frequency (Named rule) ≡ is_on_frequencies rule
+pub frequency_same : (rule : Rule) → is_frequency (Named rule) ≡ is_on_frequencies rule
 frequency_same (Freq n r) = refl
 frequency_same (Nk n k) = refl
 frequency_same (Percent p) = refl

@@ -16,14 +16,15 @@ use Rattle.job_lang.specs.JobLimits.{HasNoTwice, HasVariables}
 use Rattle.job_lang.specs.Jobs.{closed_job, job_of}
 use Rattle.job_lang.specs.Laws.{puts_of, reads_of}
 use Rattle.job_lang.specs.Binding.{response_of}
-use Rattle.job_lang.specs.Spelling.{table_said, prior_said, outputs_said, job_says, job_text, in_text, said_line}
+use Rattle.job_lang.specs.Spelling.{said_line}
+use Rattle.job_lang.specs.JobText.{table_said, prior_said, outputs_said, job_says, job_text, in_text}
 use Rattle.job_lang.specs.Writable.{HasQuotable, HasSeparator, IsSpellable, IsWritable}
 use Rattle.job_lang.proofs.SpelledLines.{line_line}
 use Rattle.job_lang.proofs.SpelledDraft.{lines_are, text_says_all}
 use Rattle.job_lang.proofs.SpelledJob.{closed_again}
 use Rattle.job_lang.proofs.TableRoom.{fit}
 
-all_both : {A : Type 0} (P : A → Type 0) (xs ys : List A) → AllByRecursion P xs → AllByRecursion P ys → AllByRecursion P (xs ++ ys)
+pub all_both : {A : Type 0} (P : A → Type 0) (xs ys : List A) → AllByRecursion P xs → AllByRecursion P ys → AllByRecursion P (xs ++ ys)
 all_both P [] ys a b = b
 all_both P (x ∷ xs) ys a b = (a.0, all_both P xs ys a.1 b)
 

@@ -16,4 +16,5 @@ pub mod Laws
 pub mod BindingOrder
 pub mod Meaning
 pub mod Spelling
+pub mod JobText
 pub mod Writable

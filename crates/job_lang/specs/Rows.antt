@@ -10,6 +10,7 @@ use Rattle.job_lang.specs.declared.faults.JobWhy.TheVariants as why
 use Rattle.job_lang.specs.declared.job.Job.{Job}
 use Rattle.job_lang.specs.Jobs.{job_of}
 use Rattle.job_lang.specs.Binding.{bound_of}
+use Rattle.job_lang.specs.JobText.{job_text, in_text}
 
 -- the job of one table by one variable
 abbrev pub flat_job : Job
@@ -36,6 +37,37 @@ EightLines =
     codes "<OPENMICRODATA> \"m.asc\"" ∷ codes "<OPENMETADATA> \"m.rda\"" ∷ codes "<SPECIFYTABLE> \"A\"|\"V\"" ∷ codes "<SAFETYRULE> FREQ(3,30)" ∷ codes "<READMICRODATA>"
     ∷ codes "<SUPPRESS> MOD()" ∷ codes "<WRITETABLE> (1,\"t.csv\")" ∷ codes "<CERTIFICATE> \"t.cert\"" ∷ []))
     ≡ Ok flat_job
+
+-- a job of two tables with an a priori file for the second
+abbrev pub full_job : Job
+full_job = record {
+  micro = codes "m.asc";
+  meta = codes "m.rda";
+  tables = record { line = 3; variables = codes "A" ∷ codes "B" ∷ []; response = codes "V" } ∷ record { line = 4; variables = codes "B" ∷ []; response = codes "V" } ∷ [];
+  rules = record { list = rule.Freq 3 30 ∷ rule.Nk 1 75 ∷ rule.Percent 10 ∷ []; man = 0; weighted = true };
+  rules_line = 5;
+  priors = record { line = 7; file = codes "p.hst"; table = 1; separator = 59 } ∷ [];
+  cost = kind.Freq;
+  steps = 50;
+  nodes = 7;
+  method = method.Gh 2;
+  outputs = record { line = 12; file = codes "ab.csv" } ∷ record { line = 13; file = codes "b.csv" } ∷ [];
+  certificate = codes "t.cert";
+  certificate_line = 14;
+}
+
+-- the canonical text of that job
+abbrev pub FullText : Type 0
+FullText =
+    job_text full_job
+    ≡ joined (
+    codes "<OPENMICRODATA> \"m.asc\"" ∷ codes "<OPENMETADATA> \"m.rda\"" ∷ codes "<SPECIFYTABLE> \"A\"\"B\"|\"V\"" ∷ codes "<SPECIFYTABLE> \"B\"|\"V\""
+    ∷ codes "<SAFETYRULE> FREQ(3,30)|NK(1,75)|P(10)|MAN(0)|WGT(1)" ∷ codes "<READMICRODATA>" ∷ codes "<APRIORI> \"p.hst\",2,\";\"" ∷ codes "<COST> FREQ" ∷ codes "<STEPS> 50"
+    ∷ codes "<NODES> 7" ∷ codes "<SUPPRESS> GH(2)" ∷ codes "<WRITETABLE> (1,\"ab.csv\")" ∷ codes "<WRITETABLE> (2,\"b.csv\")" ∷ codes "<CERTIFICATE> \"t.cert\"" ∷ [])
+
+-- its lines are those of that text
+abbrev pub FullLines : Type 0
+FullLines = in_text full_job ≡ full_job
 
 -- An output that is named like the microdata is given before the certificate that is missing.
 abbrev pub NameBeforeMissing : Type 0

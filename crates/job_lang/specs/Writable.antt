@@ -10,14 +10,15 @@ use Rattle.sdc_base.specs.declared.rule.Rule.TheVariants.{Freq}
 use Rattle.job_lang.specs.declared.job.Job.{Job}
 use Rattle.job_lang.specs.declared.job.PriorLine.{PriorLine}
 use Rattle.job_lang.specs.declared.job.TableLine.{TableLine}
+use Rattle.job_lang.specs.declared.statement.Said.{Said}
+use Rattle.job_lang.specs.declared.statement.Said.TheVariants as said
 use Rattle.job_lang.specs.Arguments.{may_separate}
 use Rattle.job_lang.specs.JobLimits.{IsJob, IsWork, IsMethod, AreInRange}
 use Rattle.job_lang.specs.Jobs.{job_of}
 use Rattle.job_lang.specs.Meaning.{line_says}
-use Rattle.job_lang.specs.declared.statement.Said.{Said}
-use Rattle.job_lang.specs.declared.statement.Said.TheVariants as said
 use Rattle.job_lang.specs.Laws.{puts_of, reads_of}
-use Rattle.job_lang.specs.Spelling.{table_number, said_line, job_text, in_text}
+use Rattle.job_lang.specs.Spelling.{table_number, said_line}
+use Rattle.job_lang.specs.JobText.{job_text, in_text}
 
 -- a rule on frequencies
 abbrev pub is_on_frequencies : Rule → Bool
@@ -76,3 +77,11 @@ TextIsRead = (job : Job) → IsWritable job → job_of (job_text job) ≡ Ok (in
 -- The canonical text of a job that has the lines of that text is read as that job.
 abbrev pub IsRoundTrip : Type 0
 IsRoundTrip = (job : Job) → IsWritable job → in_text job ≡ job → job_of (job_text job) ≡ Ok job
+
+-- Each job that is read has a canonical text.
+abbrev pub JobsAreWritable : Type 0
+JobsAreWritable = (bytes : List ℕ) (job : Job) → job_of bytes ≡ Ok job → IsWritable job
+
+-- So each job that is read is read again from its canonical text, but for the numbers of its lines.
+abbrev pub JobsAreReadAgain : Type 0
+JobsAreReadAgain = (bytes : List ℕ) (job : Job) → job_of bytes ≡ Ok job → job_of (job_text job) ≡ Ok (in_text job)

@@ -3,15 +3,17 @@
 ghost use Rattle.job_lang.specs.Laws.{IsInOrder, PutsAreNotRead, PutsAreNotNamed, PutsDiffer, MetadataFit};
 ghost use Rattle.job_lang.specs.BindingOrder.{GivesEarliest, GivesFirstKind};
 ghost use Rattle.job_lang.specs.Meaning.{JobsAreMeant};
-ghost use Rattle.job_lang.specs.Writable.{LinesAreRead, TextIsRead, IsRoundTrip};
-ghost use Rattle.job_lang.specs.Rows.{EightLines, NameBeforeMissing, Bindable, CodeListMet};
+ghost use Rattle.job_lang.specs.Writable.{LinesAreRead, TextIsRead, IsRoundTrip, JobsAreWritable, JobsAreReadAgain};
+ghost use Rattle.job_lang.specs.Rows.{EightLines, FullText, FullLines, NameBeforeMissing, Bindable, CodeListMet};
 
 use plain_text::joined_lines;
 
 /// The definitions give what worked jobs say by hand.
-#[tactic(auto, using(crate::proofs::RowsHold::eight_lines, crate::proofs::RowsHold::name_before_missing, crate::proofs::RowsHold::bindable, crate::proofs::RowsHold::code_list_met))]
+#[tactic(auto, using(crate::proofs::RowsHold::eight_lines, crate::proofs::RowsHold::full_text, crate::proofs::RowsHold::full_lines, crate::proofs::RowsHold::name_before_missing, crate::proofs::RowsHold::bindable, crate::proofs::RowsHold::code_list_met))]
 pub fn rows()
     ensures eight_lines { EightLines }
+    ensures full_text { FullText }
+    ensures full_lines { FullLines }
     ensures name_before_missing { NameBeforeMissing }
     ensures bindable { Bindable }
     ensures code_list_met { CodeListMet }
@@ -51,12 +53,15 @@ pub fn meaning()
 {}
 
 /// The canonical text of a job is read as that job, with the lines of the text; so a job that has these lines is read
-/// again as it is. And each line of such a text is read as what it says.
+/// again as it is. Each job that was read has such a text, and is read again from it. And each line of such a text is
+/// read as what it says.
 #[tactic(auto, using(crate::proofs::SpelledLines::lines_read))]
 pub fn spelling()
     ensures lines { LinesAreRead }
     ensures text { TextIsRead }
     ensures round_trip { IsRoundTrip }
+    ensures writable { JobsAreWritable }
+    ensures again { JobsAreReadAgain }
 {
     joined_lines();
 }
