@@ -5,10 +5,11 @@ usage: run.py [RECORDS]
 
 It makes the inputs in out/, builds the C program there and, by the script `argus`, the program. Each is run once to
 warm up and then five times, in turn; the ratio is that of the medians of the wall times, from start to end of each
-process. Its status is 1 where argus doesn't release, or where a table isn't that of the C program.
+process. Beside it stands that of the processor times, which other work on the machine changes less. Its status is 1 where argus doesn't release, or where a table isn't that of the C program.
 """
 
 import os
+import resource
 import statistics
 import subprocess
 import sys
@@ -20,13 +21,20 @@ FOLDER = os.path.join(HERE, "out")
 ROUNDS = 5
 
 
+def processor():
+    used = resource.getrusage(resource.RUSAGE_CHILDREN)
+    return used.ru_utime + used.ru_stime
+
+
 def timed(words):
+    """The wall time and the processor time of a process, and what it printed."""
+    before = processor()
     start = time.perf_counter()
     done = subprocess.run(words, cwd=FOLDER, capture_output=True, text=True, check=False)
-    seconds = time.perf_counter() - start
+    wall = time.perf_counter() - start
     if done.returncode != 0:
         sys.exit(f"{words[0]}: status {done.returncode}: {(done.stdout + done.stderr).strip()}")
-    return seconds, done.stdout.strip()
+    return wall, processor() - before, done.stdout.strip()
 
 
 def read(name):
@@ -47,7 +55,7 @@ def main():
         if os.path.exists(os.path.join(FOLDER, name)):
             os.remove(os.path.join(FOLDER, name))
     timed([peer])
-    print(timed(argus)[1])
+    print(timed(argus)[2])
     for ours, theirs in (("t.csv", "peer-t.csv"), ("u.csv", "peer-u.csv")):
         if read(ours) != read(theirs):
             sys.exit(f"{ours} is not {theirs}")
@@ -55,11 +63,13 @@ def main():
 
     peer_times, argus_times = [], []
     for _ in range(ROUNDS):
-        peer_times.append(timed([peer])[0])
-        argus_times.append(timed(argus)[0])
-    for name, times in (("C", peer_times), ("argus", argus_times)):
-        print(f"{name}: median {statistics.median(times):.3f} s, from {min(times):.3f} to {max(times):.3f} s")
-    print(f"ratio {statistics.median(argus_times) / statistics.median(peer_times):.2f}")
+        peer_times.append(timed([peer]))
+        argus_times.append(timed(argus))
+    for at, kind in ((0, "wall"), (1, "processor")):
+        ours, theirs = [one[at] for one in argus_times], [one[at] for one in peer_times]
+        for name, times in (("C", theirs), ("argus", ours)):
+            print(f"{kind}: {name} median {statistics.median(times):.3f} s, from {min(times):.3f} to {max(times):.3f} s")
+        print(f"{kind}: ratio {statistics.median(ours) / statistics.median(theirs):.1f}")
 
 
 if __name__ == "__main__":
