@@ -1,8 +1,9 @@
 ghost use Rattle.std.specs.Prelude.{◌≡◌, true, All};
 ghost use Rattle.primary_rules.specs.Ranges.{AreInRange};
+ghost use Rattle.apriori.specs.Priors.{ArePriors};
 ghost use Rattle.apriori.specs.Settling.{IsReadyFor};
 
-use crate::{PriorError, blank_priors, settle};
+use crate::{Prior, PriorError, PriorWhy, apply, blank_priors, settle};
 use hierarchy::{CodeTree, flat};
 use linked_tables::{Book, BookFault, Mark};
 use primary_rules::keep;
@@ -46,27 +47,32 @@ fn empty_book(alloc: Global) -> Result<Result<Book, BookFault>, Fail> {
     Ok(Book::new(alloc, trees, tables))
 }
 
-// The thirteen records, but that the cell of a2 and b2 has none, as truths and numbers of records.
-fn fill(book: &mut Book) {
+// The thirteen records as truths and numbers of records; where it is wanted, the cell of a2 and b2 has none.
+fn fill(book: &mut Book, emptied: bool) {
     let known = [
-        (100, 10),
+        (140, 13),
         (50, 6),
-        (50, 4),
+        (90, 7),
         (70, 6),
         (20, 2),
         (50, 4),
+        (70, 7),
         (30, 4),
-        (30, 4),
-        (0, 0),
-        (45, 6),
-        (55, 4),
+        (40, 3),
+        (55, 6),
+        (85, 7),
         (30, 3),
         (40, 3),
-        (15, 3),
-        (15, 1),
+        (25, 3),
+        (45, 4),
     ];
     let mut cell = 0u32;
     for (truth, freq) in known {
+        let (truth, freq) = if emptied && cell == 8 {
+            (0, 0)
+        } else {
+            (truth, freq)
+        };
         if let Some(mark) = book.mark_mut(cell) {
             mark.facts = CellFacts {
                 truth,
@@ -76,6 +82,15 @@ fn fill(book: &mut Book) {
         }
         cell = cell.saturating_add(1);
     }
+}
+
+// A book of the thirteen records.
+fn book_of(alloc: Global, emptied: bool) -> Result<Option<Book>, Fail> {
+    let Ok(mut book) = empty_book(alloc)? else {
+        return Ok(None);
+    };
+    fill(&mut book, emptied);
+    Ok(Some(book))
 }
 
 // `FREQ(3,30)` and `MAN(20)`.
@@ -116,40 +131,312 @@ fn is_ready(mark: &Mark, rules: &Rules) -> bool
     truth >= 0 && truth <= 100000000000000000000000000000
 }
 
-// The cells where nothing is stated.
-fn settled_blank(alloc: Global, book: &Book) -> Result<Vec<Cell>, PriorError> {
-    let rules = frequency_rule();
-    let priors = blank_priors(alloc, book.cells())?;
-    if !are_ready(book.marks(), &rules) {
-        return Err(PriorError::Memory);
+// Adds a file to the priors, where it may be added: the table, the line and the kind of its first fault.
+fn added(
+    alloc: Global,
+    book: &Book,
+    priors: &mut Vec<Prior>,
+    file: (u32, &str),
+    separator: u8,
+    decimals: u8,
+) -> Option<Result<(), (u32, u32, PriorWhy)>>
+    requires { ArePriors book.now.marks priors.old.items }
+    ensures { ArePriors book.now.marks priors.new.items }
+{
+    let (table, text) = file;
+    if table >= book.tables() || decimals > 13 || text.len() > 10000 {
+        return None;
     }
-    settle(alloc, book, &rules, &priors)
+    match apply(
+        alloc,
+        book,
+        table,
+        priors,
+        text.as_bytes(),
+        separator,
+        decimals,
+    ) {
+        Ok(()) => Some(Ok(())),
+        Err(PriorError::At { table, line, why }) => Some(Err((table, line, why))),
+        Err(PriorError::Memory) => None,
+    }
+}
+
+// The line and the kind of the first fault of a file of the first table over no statements. None where it changes the priors
+// for all that.
+fn answer(
+    alloc: Global,
+    book: &Book,
+    text: &str,
+    separator: u8,
+    decimals: u8,
+) -> Result<Option<Result<(), (u32, PriorWhy)>>, Fail> {
+    let mut priors = blank_priors(alloc, book.cells())?;
+    let before = blank_priors(alloc, book.cells())?;
+    match added(alloc, book, &mut priors, (0, text), separator, decimals) {
+        Some(Ok(())) => Ok(Some(Ok(()))),
+        Some(Err((0, line, why))) if priors.as_slice() == before.as_slice() => {
+            Ok(Some(Err((line, why))))
+        }
+        _ => Ok(None),
+    }
 }
 
 #[test]
-fn cells_without_statements(rt: HostRuntime) -> Result<(), Fail> {
+fn prices_and_bounds(rt: HostRuntime) -> Result<(), Fail> {
+    use PriorWhy::{BadNumber, OutsideTruth, Twice};
     let alloc = rt.alloc();
-    let Ok(mut book) = empty_book(alloc)? else {
+    let Some(book) = book_of(alloc, true)? else {
         return Ok(assert_eq!(rt; true, false));
     };
-    fill(&mut book);
-    let Ok(cells) = settled_blank(alloc, &book) else {
-        return Ok(assert_eq!(rt; true, false));
-    };
-    assert_eq!(rt; cells.len(), 15);
-    for (number, cell) in cells.iter().enumerate() {
-        let (kind, up, down) = match number {
-            4 => (Kind::Primary, 6, 6),
-            14 => (Kind::Primary, 5, 5),
-            8 => (Kind::Fixed, 0, 0),
-            _ => (Kind::Free, 0, 0),
-        };
+    for (text, wanted) in [
+        ("\n \t\n", Ok(())),
+        ("a1,b2,c,5\na1,b2,c,5\n", Ok(())),
+        ("a1,b2,c,5\na1,b2,c,005", Ok(())),
+        ("a1,b2,c,5\r\na1,b2,c,6\r\n", Err((2, Twice))),
+        ("a1,b2,c,0\n", Err((1, BadNumber))),
+        ("a1,b2,c,1099511627776\n", Ok(())),
+        ("a1,b2,c,1099511627777\n", Err((1, BadNumber))),
+        ("a1,b2,b,51,60\n", Err((1, OutsideTruth))),
+        ("a1,b2,b,40,49\n", Err((1, OutsideTruth))),
+        ("a1,b2,b,50,50\n", Ok(())),
+    ] {
         assert_eq!(rt;
-            (cell.kind, cell.up, cell.down),
-            (kind, up, down),
-            "cell {number}"
+            answer(alloc, &book, text, b',', 0)?,
+            Some(wanted),
+            "{text}"
         );
-        assert_eq!(rt; (cell.low, cell.high, cell.price), (0, None, None));
+    }
+    Ok(())
+}
+
+#[test]
+fn codes_and_shapes(rt: HostRuntime) -> Result<(), Fail> {
+    use PriorWhy::{BadShape, UnknownCode};
+    let alloc = rt.alloc();
+    let Some(book) = book_of(alloc, true)? else {
+        return Ok(assert_eq!(rt; true, false));
+    };
+    for (text, wanted) in [
+        ("a9,b1,s\n", Err((1, UnknownCode))),
+        ("b1,a1,s\n", Err((1, UnknownCode))),
+        ("a9,b1,c,x\n", Err((1, UnknownCode))),
+        ("a1,b2\n", Err((1, BadShape))),
+        ("a9,b9,x\n", Err((1, BadShape))),
+        ("a1,b2,u,1\n", Err((1, BadShape))),
+        ("a1,b2,pl,5\n", Err((1, BadShape))),
+        (" a1 ,\tb2 , U \n", Ok(())),
+        ("Total,Total,p\na1,b2,p\na1,b2,p\n", Ok(())),
+        ("\n\na9,b1,s\na1,b2\n", Err((3, UnknownCode))),
+    ] {
+        assert_eq!(rt;
+            answer(alloc, &book, text, b',', 0)?,
+            Some(wanted),
+            "{text}"
+        );
+    }
+    Ok(())
+}
+
+#[test]
+fn levels_and_statuses(rt: HostRuntime) -> Result<(), Fail> {
+    use PriorWhy::{BadNumber, EmptyUnsafe, Twice};
+    let alloc = rt.alloc();
+    let Some(book) = book_of(alloc, true)? else {
+        return Ok(assert_eq!(rt; true, false));
+    };
+    for (text, wanted) in [
+        ("a1,b2,pl,1,0\n", Err((1, BadNumber))),
+        ("a1,b2,Pl,0,1\n", Ok(())),
+        ("a1,b2,pl,1,2.5\n", Err((1, BadNumber))),
+        ("a1,b2,pl,1,2\na1,b2,pl,1,3\n", Err((2, Twice))),
+        ("a1,b2,b,0,100000000000000000000000000000\n", Ok(())),
+        (
+            "a1,b2,b,0,100000000000000000000000000001\n",
+            Err((1, BadNumber)),
+        ),
+        ("a1,b2,u\na1,b2,s\n", Err((2, Twice))),
+        ("a1,b2,s\na1,b2,u\n", Err((2, Twice))),
+        ("a1,b2,s\na1,b2,S\n", Ok(())),
+        ("a2,b2,u\n", Err((1, EmptyUnsafe))),
+    ] {
+        assert_eq!(rt;
+            answer(alloc, &book, text, b',', 0)?,
+            Some(wanted),
+            "{text}"
+        );
+    }
+    Ok(())
+}
+
+#[test]
+fn separators_and_decimals(rt: HostRuntime) -> Result<(), Fail> {
+    use PriorWhy::{BadNumber, BadShape, OutsideTruth};
+    let alloc = rt.alloc();
+    let Some(book) = book_of(alloc, false)? else {
+        return Ok(assert_eq!(rt; true, false));
+    };
+    for (separator, decimals, text, wanted) in [
+        (b';', 0, "a1;b2;c;5", Ok(())),
+        (b'\t', 0, "a1\tb2\tc\t5", Ok(())),
+        (b';', 0, "a1,b2,c,5", Err((1, BadShape))),
+        (b',', 1, "a1,b2,pl,1,2.5", Ok(())),
+        (b',', 1, "a1,b2,pl,1,2.25", Err((1, BadNumber))),
+        (b',', 1, "a1,b2,c,5.0", Err((1, BadNumber))),
+        (b',', 1, "a1,b2,b,4,6", Ok(())),
+        (b',', 1, "a1,b2,b,5.1,6", Err((1, OutsideTruth))),
+    ] {
+        assert_eq!(rt;
+            answer(alloc, &book, text, separator, decimals)?,
+            Some(wanted),
+            "{text}"
+        );
+    }
+    Ok(())
+}
+
+// The first fault of a file of the second table behind one of the first, which must be accepted. None where it changes the
+// priors for all that.
+fn answer_behind(
+    alloc: Global,
+    book: &Book,
+    first: &str,
+    second: &str,
+) -> Result<Option<Result<(), (u32, u32, PriorWhy)>>, Fail> {
+    let mut priors = blank_priors(alloc, book.cells())?;
+    let mut before = blank_priors(alloc, book.cells())?;
+    let one = added(alloc, book, &mut priors, (0, first), b',', 0);
+    let same = added(alloc, book, &mut before, (0, first), b',', 0);
+    if one != Some(Ok(())) || same != Some(Ok(())) {
+        return Ok(None);
+    }
+    match added(alloc, book, &mut priors, (1, second), b',', 0) {
+        Some(Err(fault)) if priors.as_slice() == before.as_slice() => Ok(Some(Err(fault))),
+        Some(Ok(())) => Ok(Some(Ok(()))),
+        _ => Ok(None),
+    }
+}
+
+#[test]
+fn statements_over_all_files(rt: HostRuntime) -> Result<(), Fail> {
+    let alloc = rt.alloc();
+    let Some(book) = book_of(alloc, false)? else {
+        return Ok(assert_eq!(rt; true, false));
+    };
+    let twice = Err((1, 2, PriorWhy::Twice));
+    for (first, second, wanted) in [
+        ("a1,Total,c,5", "a1,c1,s\na1,Total,c,6", twice),
+        ("a1,Total,c,5", "a1,c1,s\na1,Total,c,5", Ok(())),
+        ("Total,Total,s", "a1,c1,s\nTotal,Total,u", twice),
+        ("a1,Total,b,0,80", "a1,c1,c,5\na1,Total,b,0,81", twice),
+        ("a1,b1,c,5", "a1,c1,c,6\na2,c1,c,7", Ok(())),
+    ] {
+        assert_eq!(rt;
+            answer_behind(alloc, &book, first, second)?,
+            Some(wanted),
+            "{second}"
+        );
+    }
+    Ok(())
+}
+
+// What is asked of a cell: its kind, how far it must be open, its bounds and its price.
+type Shape = (Kind, i128, i128, i128, Option<i128>, Option<u64>);
+
+// A cell after two files, or the first line by which a primary cell is to be always shown.
+fn cell_after(
+    alloc: Global,
+    emptied: bool,
+    files: (&str, &str),
+    cell: usize,
+) -> Result<Option<Result<Shape, (u32, u32, PriorWhy)>>, Fail> {
+    let Some(book) = book_of(alloc, emptied)? else {
+        return Ok(None);
+    };
+    let rules = frequency_rule();
+    let mut priors = blank_priors(alloc, book.cells())?;
+    let (first, second) = files;
+    let one = added(alloc, &book, &mut priors, (0, first), b',', 0);
+    let other = added(alloc, &book, &mut priors, (1, second), b',', 0);
+    if one != Some(Ok(())) || other != Some(Ok(())) || !are_ready(book.marks(), &rules) {
+        return Ok(None);
+    }
+    match settle(alloc, &book, &rules, &priors) {
+        Ok(cells) => Ok(shape_at(&cells, cell)),
+        Err(PriorError::At { table, line, why }) => Ok(Some(Err((table, line, why)))),
+        Err(PriorError::Memory) => Ok(None),
+    }
+}
+
+fn shape_at(cells: &[Cell], cell: usize) -> Option<Result<Shape, (u32, u32, PriorWhy)>> {
+    let cell = cells.get(cell)?;
+    Some(Ok((
+        cell.kind, cell.up, cell.down, cell.low, cell.high, cell.price,
+    )))
+}
+
+#[test]
+fn kinds_of_cells(rt: HostRuntime) -> Result<(), Fail> {
+    use Kind::{Fixed, Free, Primary};
+    let alloc = rt.alloc();
+    let free = Ok((Free, 0, 0, 0, None, None));
+    let fixed = Ok((Fixed, 0, 0, 0, None, None));
+    let named = Ok((Primary, 6, 6, 0, None, None));
+    let margins = "Total,Total,p\nTotal,b1,p\nTotal,b2,p\na1,Total,p\na2,Total,p\n";
+    for (emptied, first, second, cell, wanted) in [
+        (false, margins, "", 4, named),
+        (false, margins, "", 0, fixed),
+        (false, margins, "", 5, free),
+        (true, "", "", 8, fixed),
+        (false, "a1,b1,s", "", 4, free),
+        (false, "a1,b2,pl,5,5", "", 5, free),
+        // through the second table, on a cell of both
+        (false, "", "a1,Total,p", 3, fixed),
+    ] {
+        assert_eq!(rt;
+            cell_after(alloc, emptied, (first, second), cell)?,
+            Some(wanted),
+            "cell {cell}"
+        );
+    }
+    Ok(())
+}
+
+#[test]
+fn levels_bounds_and_prices(rt: HostRuntime) -> Result<(), Fail> {
+    use Kind::{Free, Primary};
+    let alloc = rt.alloc();
+    for (text, cell, wanted) in [
+        ("a1,b2,u", 5, (Primary, 10, 10, 0, None, None)),
+        ("a1,b1,u", 4, (Primary, 6, 6, 0, None, None)),
+        ("a1,b1,pl,100,3", 4, (Primary, 3, 20, 0, None, None)),
+        ("a1,b2,b,48,52", 5, (Free, 0, 0, 48, Some(52), None)),
+        ("a1,b2,c,7", 5, (Free, 0, 0, 0, None, Some(7))),
+    ] {
+        assert_eq!(rt;
+            cell_after(alloc, false, (text, ""), cell)?,
+            Some(Ok(wanted)),
+            "{text}"
+        );
+    }
+    Ok(())
+}
+
+#[test]
+fn primary_cells_that_are_shown(rt: HostRuntime) -> Result<(), Fail> {
+    let alloc = rt.alloc();
+    let margins = "Total,Total,p\nTotal,b1,p\nTotal,b2,p\na1,Total,p\na2,Total,p\na1,b1,p\n";
+    for (first, second, table, line) in [
+        (margins, "", 0, 6),
+        ("a1,b2,u\na1,b2,p\na1,b1,p", "", 0, 2),
+        ("a1,b2,p", "a1,Total,u\na1,Total,p", 1, 2),
+    ] {
+        let fault = (table, line, PriorWhy::ProtectedPrimary);
+        assert_eq!(rt;
+            cell_after(alloc, false, (first, second), 4)?,
+            Some(Err(fault)),
+            "{first}"
+        );
     }
     Ok(())
 }
