@@ -1,7 +1,7 @@
 -- Lines noted one after another.
 use Rattle.std.proofs.Common.{◌≡◌, ℕ, ◌+◌, List, [], ◌∷◌, Ok, refl}
 use Rattle.sdc_base.specs.Answers.{Fails}
-use Rattle.apriori.specs.Statements.{Ground}
+use Rattle.apriori.specs.Statements.{Basis}
 use Rattle.apriori.specs.declared.prior.Prior.{Prior}
 use Rattle.apriori.specs.declared.statement.Form.{Form}
 use Rattle.apriori.specs.declared.faults.PriorError.{PriorError}
@@ -10,17 +10,17 @@ use Rattle.apriori.specs.Faults.{fault_of}
 use Rattle.apriori.specs.Applying.{at_line}
 use Rattle.apriori.specs.Noting.{line_noted, lines_noted}
 
-pub lines_next : (ground : Ground) (form : Form) (before line given : ℕ) (priors next : List Prior) (texts after : List (List ℕ)) (text : List ℕ) → texts ≡ text ∷ after → line ≡ before + 1 → given ≡ line
-    → at_line form.table line (line_noted ground form line text priors) ≡ Ok next → lines_noted ground form given after next ≡ lines_noted ground form before texts priors
+pub lines_next : (basis : Basis) (form : Form) (before line given : ℕ) (priors next : List Prior) (texts after : List (List ℕ)) (text : List ℕ) → texts ≡ text ∷ after → line ≡ before + 1 → given ≡ line
+    → at_line form.table line (line_noted basis form line text priors) ≡ Ok next → lines_noted basis form given after next ≡ lines_noted basis form before texts priors
 unfolding lines_noted
-lines_next ground form before line given priors next texts after text is number same noted = rw (same, is, ← number, noted) refl
+lines_next basis form before line given priors next texts after text is number same noted = rw (same, is, ← number, noted) refl
 
-pub lines_stop : (e : PriorError) (ground : Ground) (form : Form) (before line : ℕ) (priors : List Prior) (texts after : List (List ℕ)) (text : List ℕ) → texts ≡ text ∷ after → line ≡ before + 1
-    → Fails (fault_of e) (at_line form.table line (line_noted ground form line text priors)) → Fails (fault_of e) (lines_noted ground form before texts priors)
+pub lines_stop : (e : PriorError) (basis : Basis) (form : Form) (before line : ℕ) (priors : List Prior) (texts after : List (List ℕ)) (text : List ℕ) → texts ≡ text ∷ after → line ≡ before + 1
+    → Fails (fault_of e) (at_line form.table line (line_noted basis form line text priors)) → Fails (fault_of e) (lines_noted basis form before texts priors)
 unfolding lines_noted
-lines_stop prior_error.Memory ground form before line priors texts after text is number noted = tt
-lines_stop (prior_error.At table at why) ground form before line priors texts after text is number noted = rw (is, ← number, noted) refl
+lines_stop prior_error.Memory basis form before line priors texts after text is number noted = tt
+lines_stop (prior_error.At table at why) basis form before line priors texts after text is number noted = rw (is, ← number, noted) refl
 
-pub lines_end : (ground : Ground) (form : Form) (before : ℕ) (priors : List Prior) (texts : List (List ℕ)) → texts ≡ [] → lines_noted ground form before texts priors ≡ Ok priors
+pub lines_end : (basis : Basis) (form : Form) (before : ℕ) (priors : List Prior) (texts : List (List ℕ)) → texts ≡ [] → lines_noted basis form before texts priors ≡ Ok priors
 unfolding lines_noted
-lines_end ground form before priors texts is = rw is refl
+lines_end basis form before priors texts is = rw is refl

@@ -17,7 +17,7 @@ use Rattle.apriori.specs.declared.faults.PriorWhy.TheVariants.{Twice}
 use Rattle.apriori.specs.Faults.{LineOf}
 use Rattle.apriori.specs.Priors.{blank}
 use Rattle.apriori.specs.Fields.{fields}
-use Rattle.apriori.specs.Statements.{Ground, keyword_at, cell_of, claim_of, fitting, behind_codes, statement_of}
+use Rattle.apriori.specs.Statements.{Basis, keyword_at, cell_of, claim_of, fitting, behind_codes, statement_of}
 use Rattle.apriori.specs.Said.{line_in, contradicts}
 use Rattle.apriori.specs.Applying.{at_line}
 use Rattle.apriori.specs.Noting.{with_statement, noted, line_noted, lines_noted}
@@ -30,15 +30,15 @@ abbrev relined : ℕ → Statement → Statement
 relined line said = record { line = line; cell = said.cell; claim = said.claim }
 
 -- the number of a line enters what it states as its line alone
-lineless : (ground : Ground) (form : Form) (line : ℕ) (text : List ℕ) → statement_of ground form line text ≡ map_ok (relined line) (statement_of ground form 0 text)
+lineless : (basis : Basis) (form : Form) (line : ℕ) (text : List ℕ) → statement_of basis form line text ≡ map_ok (relined line) (statement_of basis form 0 text)
 unfolding statement_of
-lineless ground form line text =
-    sym (map_bind (relined line) (keyword_at (behind_codes ground form.table (fields form.separator text))) _
-    ∙ bind_same (keyword_at (behind_codes ground form.table (fields form.separator text))) _ _ (λ spoken.
-    map_bind (relined line) (or_fault _ (cell_of ground form.table (fields form.separator text))) _
-    ∙ bind_same (or_fault _ (cell_of ground form.table (fields form.separator text))) _ _ (λ cell.
-    map_bind (relined line) (or_fault _ (slice_get ground.known cell)) _
-    ∙ bind_same (or_fault _ (slice_get ground.known cell)) _ _ (λ known.
+lineless basis form line text =
+    sym (map_bind (relined line) (keyword_at (behind_codes basis form.table (fields form.separator text))) _
+    ∙ bind_same (keyword_at (behind_codes basis form.table (fields form.separator text))) _ _ (λ spoken.
+    map_bind (relined line) (or_fault _ (cell_of basis form.table (fields form.separator text))) _
+    ∙ bind_same (or_fault _ (cell_of basis form.table (fields form.separator text))) _ _ (λ cell.
+    map_bind (relined line) (or_fault _ (slice_get basis.known cell)) _
+    ∙ bind_same (or_fault _ (slice_get basis.known cell)) _ _ (λ known.
     map_bind (relined line) (claim_of form.decimals spoken.0 spoken.1) _
     ∙ bind_same (claim_of form.decimals spoken.0 spoken.1) _ _ (λ what. map_bind (relined line) (fitting known what) _)))))
 
@@ -92,39 +92,39 @@ taken table false (Err why) priors = None
 taken table false (Ok said) priors = noted_plainly table said.cell said.claim priors
 
 -- what a line states, noted without its number
-abbrev took : Ground → Form → List ℕ → List Prior → Option (List Prior)
-took ground form text priors = taken form.table (length (trim text) == 0) (statement_of ground form 0 text) priors
+abbrev took : Basis → Form → List ℕ → List Prior → Option (List Prior)
+took basis form text priors = taken form.table (length (trim text) == 0) (statement_of basis form 0 text) priors
 
 read-plain : (table line : ℕ) (priors : List Prior) (read : Result Statement PriorWhy) → plain (map_ok (relined line) read >>= noted table priors) ≡ taken table false read (map but_for_line priors)
 read-plain table line priors (Err why) = refl
 read-plain table line priors (Ok said) = noted-plain table line priors said
 
-line-plain : (ground : Ground) (form : Form) (line : ℕ) (text : List ℕ) (priors : List Prior) → plain (line_noted ground form line text priors) ≡ took ground form text (map but_for_line priors)
+line-plain : (basis : Basis) (form : Form) (line : ℕ) (text : List ℕ) (priors : List Prior) → plain (line_noted basis form line text priors) ≡ took basis form text (map but_for_line priors)
 unfolding line_noted
-line-plain ground form line text priors =
+line-plain basis form line text priors =
     elim (length (trim text) == 0)
-    as (λ t. plain (cond t (Ok priors) (statement_of ground form line text >>= noted form.table priors)) ≡ taken form.table t (statement_of ground form 0 text) (map but_for_line priors)) [
+    as (λ t. plain (cond t (Ok priors) (statement_of basis form line text >>= noted form.table priors)) ≡ taken form.table t (statement_of basis form 0 text) (map but_for_line priors)) [
       | true ↦ refl
       | false ↦
-          ap (λ (read : Result Statement PriorWhy). plain (read >>= noted form.table priors)) (lineless ground form line text)
-          ∙ read-plain form.table line priors (statement_of ground form 0 text)
+          ap (λ (read : Result Statement PriorWhy). plain (read >>= noted form.table priors)) (lineless basis form line text)
+          ∙ read-plain form.table line priors (statement_of basis form 0 text)
     ]
 
 -- lines one after another, without their numbers
-takes : Ground → Form → List (List ℕ) → List Prior → Option (List Prior)
-takes ground form [] priors = Some priors
-takes ground form (text ∷ texts) priors = option_and_then (takes ground form texts) (took ground form text priors)
+takes : Basis → Form → List (List ℕ) → List Prior → Option (List Prior)
+takes basis form [] priors = Some priors
+takes basis form (text ∷ texts) priors = option_and_then (takes basis form texts) (took basis form text priors)
 
-lines-plain : (ground : Ground) (form : Form) (before : ℕ) (texts : List (List ℕ)) (priors : List Prior) → accepted (lines_noted ground form before texts priors) ≡ takes ground form texts (map but_for_line priors)
+lines-plain : (basis : Basis) (form : Form) (before : ℕ) (texts : List (List ℕ)) (priors : List Prior) → accepted (lines_noted basis form before texts priors) ≡ takes basis form texts (map but_for_line priors)
 unfolding lines_noted takes
-lines-plain ground form before [] priors = refl
-lines-plain ground form before (text ∷ texts) priors =
-    (elim (line_noted ground form (before + 1) text priors)
-    as (λ read. accepted (at_line form.table (before + 1) read >>= λ next. lines_noted ground form (before + 1) texts next) ≡ option_and_then (takes ground form texts) (plain read)) [
-      | Ok next ↦ lines-plain ground form (before + 1) texts next
+lines-plain basis form before [] priors = refl
+lines-plain basis form before (text ∷ texts) priors =
+    (elim (line_noted basis form (before + 1) text priors)
+    as (λ read. accepted (at_line form.table (before + 1) read >>= λ next. lines_noted basis form (before + 1) texts next) ≡ option_and_then (takes basis form texts) (plain read)) [
+      | Ok next ↦ lines-plain basis form (before + 1) texts next
       | Err why ↦ refl
     ])
-    ∙ ap (option_and_then (takes ground form texts)) (line-plain ground form (before + 1) text priors)
+    ∙ ap (option_and_then (takes basis form texts)) (line-plain basis form (before + 1) text priors)
 
 then-some : (priors : Option (List Prior)) → option_and_then (λ (ps : List Prior). Some ps) priors ≡ priors
 then-some None = refl
@@ -151,29 +151,29 @@ either-way table false false (Err why) (Ok other) priors = sym (then-none (taken
 either-way table false false (Ok one) (Err because) priors = then-none (taken table false (Ok one) priors)
 either-way table false false (Ok one) (Ok other) priors = commute table one.cell other.cell one.claim other.claim priors
 
-neighbours : (ground : Ground) (form : Form) (one other : List ℕ) (rest : List (List ℕ)) (front : List (List ℕ)) (priors : List Prior)
-    → takes ground form (front ++ one ∷ other ∷ rest) priors ≡ takes ground form (front ++ other ∷ one ∷ rest) priors
+neighbours : (basis : Basis) (form : Form) (one other : List ℕ) (rest : List (List ℕ)) (front : List (List ℕ)) (priors : List Prior)
+    → takes basis form (front ++ one ∷ other ∷ rest) priors ≡ takes basis form (front ++ other ∷ one ∷ rest) priors
 unfolding takes
-neighbours ground form one other rest [] priors =
-    then-then (takes ground form rest) (took ground form other) (took ground form one priors)
-    ∙ ap (option_and_then (takes ground form rest)) (either-way form.table (length (trim one) == 0) (length (trim other) == 0) (statement_of ground form 0 one) (statement_of ground form 0 other) priors)
-    ∙ sym (then-then (takes ground form rest) (took ground form one) (took ground form other priors))
-neighbours ground form one other rest (text ∷ front) priors =
-    elim (took ground form text priors)
-    as (λ next. option_and_then (takes ground form (front ++ one ∷ other ∷ rest)) next ≡ option_and_then (takes ground form (front ++ other ∷ one ∷ rest)) next) [
+neighbours basis form one other rest [] priors =
+    then-then (takes basis form rest) (took basis form other) (took basis form one priors)
+    ∙ ap (option_and_then (takes basis form rest)) (either-way form.table (length (trim one) == 0) (length (trim other) == 0) (statement_of basis form 0 one) (statement_of basis form 0 other) priors)
+    ∙ sym (then-then (takes basis form rest) (took basis form one) (took basis form other priors))
+neighbours basis form one other rest (text ∷ front) priors =
+    elim (took basis form text priors)
+    as (λ next. option_and_then (takes basis form (front ++ one ∷ other ∷ rest)) next ≡ option_and_then (takes basis form (front ++ other ∷ one ∷ rest)) next) [
       | None ↦ refl
-      | Some next ↦ neighbours ground form one other rest front next
+      | Some next ↦ neighbours basis form one other rest front next
     ]
 
-reordered-takes : (ground : Ground) (form : Form) (priors : List Prior) (texts others : List (List ℕ)) → AreReordered texts others → takes ground form texts priors ≡ takes ground form others priors
-reordered-takes ground form priors _ _ (same texts) = refl
-reordered-takes ground form priors _ _ (exchanged front one other rest texts more) =
-    neighbours ground form one other rest front priors ∙ reordered-takes ground form priors (front ++ other ∷ one ∷ rest) texts more
+reordered-takes : (basis : Basis) (form : Form) (priors : List Prior) (texts others : List (List ℕ)) → AreReordered texts others → takes basis form texts priors ≡ takes basis form others priors
+reordered-takes basis form priors _ _ (same texts) = refl
+reordered-takes basis form priors _ _ (exchanged front one other rest texts more) =
+    neighbours basis form one other rest front priors ∙ reordered-takes basis form priors (front ++ other ∷ one ∷ rest) texts more
 
 pub order_changes_nothing : OrderChangesNothing
-order_changes_nothing ground form priors one other more =
-    ap accepted (noted_together ground form priors one)
-    ∙ lines-plain ground form 0 (lines one) priors
-    ∙ reordered-takes ground form (map but_for_line priors) (lines one) (lines other) more
-    ∙ sym (lines-plain ground form 0 (lines other) priors)
-    ∙ sym (ap accepted (noted_together ground form priors other))
+order_changes_nothing basis form priors one other more =
+    ap accepted (noted_together basis form priors one)
+    ∙ lines-plain basis form 0 (lines one) priors
+    ∙ reordered-takes basis form (map but_for_line priors) (lines one) (lines other) more
+    ∙ sym (lines-plain basis form 0 (lines other) priors)
+    ∙ sym (ap accepted (noted_together basis form priors other))

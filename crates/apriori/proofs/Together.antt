@@ -16,7 +16,7 @@ use Rattle.apriori.specs.declared.faults.PriorWhy.{PriorWhy}
 use Rattle.apriori.specs.declared.faults.PriorWhy.TheVariants.{Twice}
 use Rattle.apriori.specs.Faults.{LineOf}
 use Rattle.apriori.specs.Priors.{blank}
-use Rattle.apriori.specs.Statements.{Ground, statement_of}
+use Rattle.apriori.specs.Statements.{Basis, statement_of}
 use Rattle.apriori.specs.Said.{status_in, line_in, price_in, levels_in, bounds_in, first_said, about, prior_with, priors_from, contradicts}
 use Rattle.apriori.specs.Applying.{said_of, statement_behind, line_says, lines_say, at_line, apply_of}
 use Rattle.apriori.specs.Noting.{with_statement, noted, line_noted, lines_noted}
@@ -96,12 +96,12 @@ noted-at table cell (suc at) (prior ∷ priors) statements said is =
     ∙ ap (λ (ps : List Prior). prior_with table prior (about cell (statements ++ said ∷ [])) ∷ ps) (noted-at table (cell + 1) at priors statements said (omega (arith, is)))
 
 -- what a line says is noted
-said-noted : (ground : Ground) (form : Form) (priors : List Prior) (so_far : List Statement) (line : ℕ) (text : List ℕ) (read : Result Statement PriorWhy)
+said-noted : (basis : Basis) (form : Form) (priors : List Prior) (so_far : List Statement) (line : ℕ) (text : List ℕ) (read : Result Statement PriorWhy)
     → (read >>= noted form.table (priors_from form.table 0 priors so_far))
     ≡ map_ok (priors_from form.table 0 priors) ((read >>= λ said. refuse Twice (contradicts (said_of form.table priors so_far said.cell) said.claim) >>= λ fresh. Ok said) >>= λ said. Ok (so_far ++ said ∷ []))
 unfolding noted
-said-noted ground form priors so_far line text (Err why) = refl
-said-noted ground form priors so_far line text (Ok said) =
+said-noted basis form priors so_far line text (Err why) = refl
+said-noted basis form priors so_far line text (Ok said) =
     elim (contradicts (said_of form.table priors so_far said.cell) said.claim)
     as (λ t. (cond t (Err Twice) (Ok (tt {0})) >>= λ fresh. Ok (slice_set (priors_from form.table 0 priors so_far) said.cell (with_statement form.table (said_of form.table priors so_far said.cell) said)))
     ≡ map_ok (priors_from form.table 0 priors) ((cond t (Err Twice) (Ok (tt {0})) >>= λ fresh. Ok said) >>= λ said. Ok (so_far ++ said ∷ []))) [
@@ -109,31 +109,31 @@ said-noted ground form priors so_far line text (Ok said) =
       | false ↦ ap Ok (noted-at form.table 0 said.cell priors so_far said (omega arith))
     ]
 
-line-noted : (ground : Ground) (form : Form) (priors : List Prior) (so_far : List Statement) (line : ℕ) (text : List ℕ)
-    → line_noted ground form line text (priors_from form.table 0 priors so_far) ≡ map_ok (priors_from form.table 0 priors) (line_says ground form priors so_far line text)
+line-noted : (basis : Basis) (form : Form) (priors : List Prior) (so_far : List Statement) (line : ℕ) (text : List ℕ)
+    → line_noted basis form line text (priors_from form.table 0 priors so_far) ≡ map_ok (priors_from form.table 0 priors) (line_says basis form priors so_far line text)
 unfolding line_noted line_says statement_behind
-line-noted ground form priors so_far line text =
+line-noted basis form priors so_far line text =
     elim (length (trim text) == 0)
-    as (λ t. cond t (Ok (priors_from form.table 0 priors so_far)) (statement_of ground form line text >>= noted form.table (priors_from form.table 0 priors so_far))
-    ≡ map_ok (priors_from form.table 0 priors) (cond t (Ok so_far) ((statement_of ground form line text >>= λ said. refuse Twice (contradicts (said_of form.table priors so_far said.cell) said.claim) >>= λ fresh. Ok said) >>= λ said. Ok (so_far ++ said ∷ [])))) [
+    as (λ t. cond t (Ok (priors_from form.table 0 priors so_far)) (statement_of basis form line text >>= noted form.table (priors_from form.table 0 priors so_far))
+    ≡ map_ok (priors_from form.table 0 priors) (cond t (Ok so_far) ((statement_of basis form line text >>= λ said. refuse Twice (contradicts (said_of form.table priors so_far said.cell) said.claim) >>= λ fresh. Ok said) >>= λ said. Ok (so_far ++ said ∷ [])))) [
       | true ↦ refl
-      | false ↦ said-noted ground form priors so_far line text (statement_of ground form line text)
+      | false ↦ said-noted basis form priors so_far line text (statement_of basis form line text)
     ]
 
-lines-noted : (ground : Ground) (form : Form) (priors : List Prior) (so_far : List Statement) (before : ℕ) (texts : List (List ℕ))
-    → (lines_say ground form priors so_far before texts >>= λ statements. Ok (priors_from form.table 0 priors statements)) ≡ lines_noted ground form before texts (priors_from form.table 0 priors so_far)
+lines-noted : (basis : Basis) (form : Form) (priors : List Prior) (so_far : List Statement) (before : ℕ) (texts : List (List ℕ))
+    → (lines_say basis form priors so_far before texts >>= λ statements. Ok (priors_from form.table 0 priors statements)) ≡ lines_noted basis form before texts (priors_from form.table 0 priors so_far)
 unfolding lines_say lines_noted
-lines-noted ground form priors so_far before [] = refl
-lines-noted ground form priors so_far before (text ∷ texts) =
-    (elim (line_says ground form priors so_far (before + 1) text)
-    as (λ read. ((at_line form.table (before + 1) read >>= λ next. lines_say ground form priors next (before + 1) texts) >>= λ statements. Ok (priors_from form.table 0 priors statements))
-    ≡ (at_line form.table (before + 1) (map_ok (priors_from form.table 0 priors) read) >>= lines_noted ground form (before + 1) texts)) [
-      | Ok next ↦ lines-noted ground form priors next (before + 1) texts
+lines-noted basis form priors so_far before [] = refl
+lines-noted basis form priors so_far before (text ∷ texts) =
+    (elim (line_says basis form priors so_far (before + 1) text)
+    as (λ read. ((at_line form.table (before + 1) read >>= λ next. lines_say basis form priors next (before + 1) texts) >>= λ statements. Ok (priors_from form.table 0 priors statements))
+    ≡ (at_line form.table (before + 1) (map_ok (priors_from form.table 0 priors) read) >>= lines_noted basis form (before + 1) texts)) [
+      | Ok next ↦ lines-noted basis form priors next (before + 1) texts
       | Err why ↦ refl
     ])
-    ∙ ap (λ (read : Result (List Prior) PriorWhy). at_line form.table (before + 1) read >>= lines_noted ground form (before + 1) texts) (sym (line-noted ground form priors so_far (before + 1) text))
+    ∙ ap (λ (read : Result (List Prior) PriorWhy). at_line form.table (before + 1) read >>= lines_noted basis form (before + 1) texts) (sym (line-noted basis form priors so_far (before + 1) text))
 
 -- what a file says is what its lines say one after another
-pub noted_together : (ground : Ground) (form : Form) (priors : List Prior) (bytes : List ℕ) → apply_of ground form priors bytes ≡ lines_noted ground form 0 (lines bytes) priors
+pub noted_together : (basis : Basis) (form : Form) (priors : List Prior) (bytes : List ℕ) → apply_of basis form priors bytes ≡ lines_noted basis form 0 (lines bytes) priors
 unfolding apply_of
-noted_together ground form priors bytes = lines-noted ground form priors [] 0 (lines bytes) ∙ ap (lines_noted ground form 0 (lines bytes)) (priors-blank form.table 0 priors)
+noted_together basis form priors bytes = lines-noted basis form priors [] 0 (lines bytes) ∙ ap (lines_noted basis form 0 (lines bytes)) (priors-blank form.table 0 priors)

@@ -1,7 +1,7 @@
 -- A law of a priori files: the order of their lines changes nothing but which line a fault names (own).
 use Rattle.std.specs.Prelude.{◌≡◌, ℕ, List, ◌∷◌, ◌++◌, map, Option, None, Some, option_map, Result, Ok, Err}
 use Rattle.sdc_base.specs.Lines.{lines}
-use Rattle.apriori.specs.Statements.{Ground}
+use Rattle.apriori.specs.Statements.{Basis}
 use Rattle.apriori.specs.declared.prior.Prior.{Prior}
 use Rattle.apriori.specs.declared.statement.Form.{Form}
 use Rattle.apriori.specs.declared.faults.PriorWhy.{PriorWhy}
@@ -25,5 +25,5 @@ accepted (Err fault) = None
 -- Files with the same lines in another order are both accepted, with the same priors but for lines, or both refused.
 abbrev pub OrderChangesNothing : Type 0
 OrderChangesNothing =
-    (ground : Ground) (form : Form) (priors : List Prior) (one other : List ℕ) → AreReordered (lines one) (lines other)
-    → accepted (apply_of ground form priors one) ≡ accepted (apply_of ground form priors other)
+    (basis : Basis) (form : Form) (priors : List Prior) (one other : List ℕ) → AreReordered (lines one) (lines other)
+    → accepted (apply_of basis form priors one) ≡ accepted (apply_of basis form priors other)

@@ -10,7 +10,7 @@ use Rattle.apriori.specs.declared.faults.PriorWhy.{PriorWhy}
 use Rattle.apriori.specs.declared.faults.PriorWhy.TheVariants.{Twice}
 use Rattle.apriori.specs.Faults.{LineOf}
 use Rattle.apriori.specs.Priors.{blank}
-use Rattle.apriori.specs.Statements.{Ground, statement_of}
+use Rattle.apriori.specs.Statements.{Basis, statement_of}
 use Rattle.apriori.specs.Said.{status_in, line_in, price_in, levels_in, bounds_in, contradicts}
 use Rattle.apriori.specs.Applying.{at_line}
 
@@ -31,14 +31,14 @@ noted table priors said = do
   Ok (slice_set priors said.cell (with_statement table (slice_index_or priors said.cell blank) said))
 
 -- what a line states is noted, unless the line is blank
-unfoldable pub line_noted : Ground → Form → ℕ → List ℕ → List Prior → Result (List Prior) PriorWhy
-line_noted ground form line text priors = if length (trim text) == 0 then Ok priors else do
-  said ← statement_of ground form line text
+unfoldable pub line_noted : Basis → Form → ℕ → List ℕ → List Prior → Result (List Prior) PriorWhy
+line_noted basis form line text priors = if length (trim text) == 0 then Ok priors else do
+  said ← statement_of basis form line text
   noted form.table priors said
 
 -- the lines behind so many others, one after another
-unfoldable pub lines_noted : Ground → Form → ℕ → List (List ℕ) → List Prior → Result (List Prior) (LineOf × PriorWhy)
-lines_noted ground form before [] priors = Ok priors
-lines_noted ground form before (text ∷ texts) priors = do
-  next ← at_line form.table (before + 1) (line_noted ground form (before + 1) text priors)
-  lines_noted ground form (before + 1) texts next
+unfoldable pub lines_noted : Basis → Form → ℕ → List (List ℕ) → List Prior → Result (List Prior) (LineOf × PriorWhy)
+lines_noted basis form before [] priors = Ok priors
+lines_noted basis form before (text ∷ texts) priors = do
+  next ← at_line form.table (before + 1) (line_noted basis form (before + 1) text priors)
+  lines_noted basis form (before + 1) texts next

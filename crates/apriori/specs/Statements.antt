@@ -56,26 +56,26 @@ abbrev pub known_of : CellFacts → Known
 known_of facts = record { truth = facts.truth; freq = facts.freq }
 
 -- what statements are held against: the trees, the tables, and what is known of each cell by its number
-pub record Ground : Type 0 where
+pub record Basis : Type 0 where
   pub trees : List Tree
   pub tables : List (List ℕ)
   pub known : List Known
 
--- the ground that a book is
-abbrev pub ground_of : Held → Ground
-ground_of book = record { trees = book.trees; tables = book.tables; known = map (λ (mark : Mark). known_of mark.facts) book.marks }
+-- the basis that a book is
+abbrev pub basis_of : Held → Basis
+basis_of book = record { trees = book.trees; tables = book.tables; known = map (λ (mark : Mark). known_of mark.facts) book.marks }
 
 -- a book with these trees and tables, whatever its marks
-abbrev pub bare : Ground → Held
-bare ground = record { trees = ground.trees; tables = ground.tables; marks = [] }
+abbrev pub bare : Basis → Held
+bare basis = record { trees = basis.trees; tables = basis.tables; marks = [] }
 
 -- the variables that table t spans
-abbrev pub spanned : Ground → ℕ → List ℕ
-spanned ground t = unwrap_or (slice_get ground.tables t) []
+abbrev pub spanned : Basis → ℕ → List ℕ
+spanned basis t = unwrap_or (slice_get basis.tables t) []
 
 -- the cell that the codes of a line of table t name, in the table's order
-abbrev pub cell_of : Ground → ℕ → List (List ℕ) → Option ℕ
-cell_of ground t codes = option_and_then (cell_at (bare ground) t) (place_in (trees_of ground.trees (spanned ground t)) codes)
+abbrev pub cell_of : Basis → ℕ → List (List ℕ) → Option ℕ
+cell_of basis t codes = option_and_then (cell_at (bare basis) t) (place_in (trees_of basis.trees (spanned basis t)) codes)
 
 -- a price is a whole number from 1 to the greatest
 unfoldable pub price_at : List (List ℕ) → Result ℕ PriorWhy
@@ -140,15 +140,15 @@ fitting known claim = do
   refuse OutsideTruth (is_outside known claim)
 
 -- the fields behind the codes of a line of table t
-abbrev pub behind_codes : Ground → ℕ → List (List ℕ) → List (List ℕ)
-behind_codes ground t all = drop (length (spanned ground t)) all
+abbrev pub behind_codes : Basis → ℕ → List (List ℕ) → List (List ℕ)
+behind_codes basis t all = drop (length (spanned basis t)) all
 
 -- What a line of this number states, or its first fault by itself: its shape, its codes, its numbers, and what is known of the cell.
-unfoldable pub statement_of : Ground → Form → ℕ → List ℕ → Result Statement PriorWhy
-statement_of ground form line text = do
-  spoken ← keyword_at (behind_codes ground form.table (fields form.separator text))
-  cell ← or_fault UnknownCode (cell_of ground form.table (fields form.separator text))
-  known ← or_fault UnknownCode (slice_get ground.known cell)
+unfoldable pub statement_of : Basis → Form → ℕ → List ℕ → Result Statement PriorWhy
+statement_of basis form line text = do
+  spoken ← keyword_at (behind_codes basis form.table (fields form.separator text))
+  cell ← or_fault UnknownCode (cell_of basis form.table (fields form.separator text))
+  known ← or_fault UnknownCode (slice_get basis.known cell)
   claim ← claim_of form.decimals spoken.0 spoken.1
   fine ← fitting known claim
   Ok (record { line = line; cell = cell; claim = claim })

@@ -5,7 +5,7 @@ ghost use Rattle.apriori.specs.Faults.{fault_of};
 ghost use Rattle.apriori.specs.Priors.{ArePriors};
 ghost use Rattle.apriori.specs.Applying.{apply_of, file_says};
 ghost use Rattle.apriori.specs.Noting.{lines_noted};
-ghost use Rattle.apriori.specs.Statements.{ground_of};
+ghost use Rattle.apriori.specs.Statements.{basis_of};
 
 use crate::faults::PriorError;
 use crate::noting::note_line;
@@ -45,7 +45,7 @@ pub fn apply(
     requires decimals { decimals ≤ 13 }
     requires few { length bytes.now < 2 ^ 32 }
     requires priors { ArePriors book.now.marks priors.old.items }
-    ensures exact { Gives fault_of (λ _. priors.new.items) result (file_says (ground_of book.now) table separator decimals priors.old.items bytes.now) }
+    ensures exact { Gives fault_of (λ _. priors.new.items) result (file_says (basis_of book.now) table separator decimals priors.old.items bytes.now) }
     ensures unchanged { OnErr result (priors.new.items ≡ priors.old.items) }
     ensures priors { ArePriors book.now.marks priors.new.items }
 {
@@ -71,7 +71,7 @@ fn applied(
     requires decimals { form.decimals ≤ 13 }
     requires few { length bytes.now < 2 ^ 32 }
     requires priors { ArePriors book.now.marks priors.now }
-    ensures exact { Gives fault_of (λ changed. changed.items) result (apply_of (ground_of book.now) form priors.now bytes.now) }
+    ensures exact { Gives fault_of (λ changed. changed.items) result (apply_of (basis_of book.now) form priors.now bytes.now) }
     ensures priors { IfOk result (λ changed. ArePriors book.now.marks changed.items) }
 {
     let mut changed = priors.to_vec(alloc)?;
@@ -90,7 +90,7 @@ fn note_lines(
     requires decimals { form.decimals ≤ 13 }
     requires few { length bytes.now < 2 ^ 32 }
     requires priors { ArePriors book.now.marks priors.old.items }
-    ensures exact { Gives fault_of (λ _. priors.new.items) result (lines_noted (ground_of book.now) form 0 (lines_of bytes.now) priors.old.items) }
+    ensures exact { Gives fault_of (λ _. priors.new.items) result (lines_noted (basis_of book.now) form 0 (lines_of bytes.now) priors.old.items) }
     ensures priors { ArePriors book.now.marks priors.new.items }
 {
     let mut reader = lines(bytes);

@@ -4,7 +4,7 @@ ghost use Rattle.apriori.specs.Faults.{fault_of, fault_itself};
 ghost use Rattle.apriori.specs.Priors.{ArePriors};
 ghost use Rattle.apriori.specs.Holding.{IsStatementOf};
 ghost use Rattle.apriori.specs.Applying.{at_line};
-ghost use Rattle.apriori.specs.Statements.{ground_of};
+ghost use Rattle.apriori.specs.Statements.{basis_of};
 ghost use Rattle.apriori.specs.Said.{status_in as status_meant, line_in as line_meant, price_in as price_meant, levels_in as levels_meant, bounds_in as bounds_meant, is_other_status as other_status, is_other_price as other_price, are_other_levels as other_levels, are_other_bounds as other_bounds, contradicts as contradicting};
 ghost use Rattle.apriori.specs.Noting.{with_statement as with_said, noted as noted_as, line_noted as line_taken};
 
@@ -28,7 +28,7 @@ pub(crate) fn note_line(
     requires decimals { form.decimals ≤ 13 }
     requires few { length text.now < 2 ^ 32 }
     requires priors { ArePriors book.now.marks priors.old.items }
-    ensures exact { Gives fault_of (λ _. priors.new.items) result (at_line form.table line (line_taken (ground_of book.now) form line text.now priors.old.items)) }
+    ensures exact { Gives fault_of (λ _. priors.new.items) result (at_line form.table line (line_taken (basis_of book.now) form line text.now priors.old.items)) }
     ensures priors { ArePriors book.now.marks priors.new.items }
 {
     match take_line(book, form, line, text, priors) {
@@ -54,7 +54,7 @@ fn take_line(
     requires decimals { form.decimals ≤ 13 }
     requires few { length text.now < 2 ^ 32 }
     requires priors { ArePriors book.now.marks priors.old.items }
-    ensures exact { Gives fault_itself (λ _. priors.new.items) result (line_taken (ground_of book.now) form line text.now priors.old.items) }
+    ensures exact { Gives fault_itself (λ _. priors.new.items) result (line_taken (basis_of book.now) form line text.now priors.old.items) }
     ensures priors { ArePriors book.now.marks priors.new.items }
 {
     if trim(text).is_empty() {

@@ -4,7 +4,7 @@ ghost use Rattle.sdc_base.specs.Trees.{find};
 ghost use Rattle.sdc_base.specs.Cells.{trees_of};
 ghost use Rattle.apriori.specs.Faults.{fault_itself};
 ghost use Rattle.apriori.specs.Holding.{IsClaimOf, IsClaim, IsStatementOf};
-ghost use Rattle.apriori.specs.Statements.{ground_of, known_of, keyword_at as keyword_meant, place_in as place_meant, cell_of as cell_meant, spanned as spanned_by, claim_of as claim_meant, fitting as fits, behind_codes as behind, statement_of as stated, is_empty_unsafe as empty_unsafe, is_outside as outside};
+ghost use Rattle.apriori.specs.Statements.{basis_of, known_of, keyword_at as keyword_meant, place_in as place_meant, cell_of as cell_meant, spanned as spanned_by, claim_of as claim_meant, fitting as fits, behind_codes as behind, statement_of as stated, is_empty_unsafe as empty_unsafe, is_outside as outside};
 
 use crate::faults::PriorWhy;
 use crate::fields::{Fields, fields_in};
@@ -27,7 +27,7 @@ pub(crate) fn statement_of(
     requires table { form.table < length book.now.tables }
     requires decimals { form.decimals ≤ 13 }
     requires few { length text.now < 2 ^ 32 }
-    ensures exact { Gives fault_itself (λ said. said) result (stated (ground_of book.now) form line text.now) }
+    ensures exact { Gives fault_itself (λ said. said) result (stated (basis_of book.now) form line text.now) }
     ensures within { IfOk result (λ said. said.cell < length book.now.marks) }
     ensures fits { IfOk result (IsStatementOf book.now.marks) }
 {
@@ -48,7 +48,7 @@ pub(crate) fn statement_of(
 
 // How many variables a table spans.
 fn width_of(book: &Book, table: u32) -> usize
-    ensures { result ≡ length (spanned_by (ground_of book.now) table) }
+    ensures { result ≡ length (spanned_by (basis_of book.now) table) }
 {
     match book.spans(table) {
         Some(spanned) => spanned.as_slice().len(),
@@ -75,7 +75,7 @@ fn keyword_at(fields: &mut Fields) -> Result<Keyword, PriorWhy>
 
 // The cell that the codes in front name, in the table's order.
 fn cell_of(book: &Book, table: u32, fields: &mut Fields) -> Option<u32>
-    ensures cell { result ≡ cell_meant (ground_of book.now) table fields.old }
+    ensures cell { result ≡ cell_meant (basis_of book.now) table fields.old }
     ensures within { IfSome result (λ cell. cell < length book.now.marks) }
 {
     let spanned = book.spans(table)?;

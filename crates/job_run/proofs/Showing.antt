@@ -22,11 +22,11 @@ use Rattle.primary_rules.specs.Kept.{AreFactsOf}
 use Rattle.release_writer.specs.Shown.{open_truth}
 use Rattle.tabulate.proofs.Finish.{read-within}
 use Rattle.sdc_base.specs.Cells.{cells_of}
-use Rattle.apriori.specs.Statements.{Known, known_of, Ground, ground_of}
+use Rattle.apriori.specs.Statements.{Known, known_of, Basis, basis_of}
 use Rattle.apriori.specs.Settling.{AreFactsIn, IsReadyFor as IsReadyMark}
 use Rattle.sdc_base.specs.Sums.{truth, freq}
 use Rattle.job_run.specs.Releases.{cells, truth_in, open_table}
-use Rattle.job_run.specs.Stated.{known_in, ground_in}
+use Rattle.job_run.specs.Stated.{known_in, basis_in}
 use Rattle.sdc_base.specs.declared.rule.Rules.{Rules}
 use Rattle.job_run.specs.Tabulated.{IsBookOf, IsReadyFor}
 use Rattle.job_run.specs.declared.inputs.Inputs.{Inputs}
@@ -143,12 +143,12 @@ known-is inputs book is =
     same-maps (λ (mark : Mark). known_of mark.facts) (λ name. record { truth = truth_in inputs name; freq = freq inputs.records.trees name inputs.records.rows }) (cells inputs) book.marks facts.one_each
     (λ k name mark at holds. known-same (known_of mark.facts) (truth_in inputs name) (freq inputs.records.trees name inputs.records.rows) (facts.each k name mark at holds).0.truth (facts.each k name mark at holds).0.freq)
 
-ground-same : (one : Ground) (trees : List Tree) (tables : List (List ℕ)) (known : List Known) → one.trees ≡ trees → one.tables ≡ tables → one.known ≡ known → one ≡ (record { trees = trees; tables = tables; known = known })
-ground-same one trees tables known a b c = rw (← a, ← b, ← c) refl
+basis-same : (one : Basis) (trees : List Tree) (tables : List (List ℕ)) (known : List Known) → one.trees ≡ trees → one.tables ≡ tables → one.known ≡ known → one ≡ (record { trees = trees; tables = tables; known = known })
+basis-same one trees tables known a b c = rw (← a, ← b, ← c) refl
 
 -- so is what statements are held against
-pub ground-is : (inputs : Inputs) (book : Held) → IsBookOf inputs book → ground_of book ≡ ground_in inputs
-ground-is inputs book is = ground-same (ground_of book) inputs.records.trees inputs.described.bound.tables (known_in inputs) is.trees is.tables (known-is inputs book is)
+pub basis-is : (inputs : Inputs) (book : Held) → IsBookOf inputs book → basis_of book ≡ basis_in inputs
+basis-is inputs book is = basis-same (basis_of book) inputs.records.trees inputs.described.bound.tables (known_in inputs) is.trees is.tables (known-is inputs book is)
 
 -- ---- what holds of each mark
 

@@ -4,15 +4,15 @@ use Rattle.sdc_base.specs.Answers.{Fails}
 use Rattle.office_io.specs.Files.{Files}
 use Rattle.apriori.specs.declared.prior.Prior.{Prior}
 use Rattle.apriori.specs.Applying.{file_says}
-use Rattle.apriori.specs.Statements.{Ground, ground_of}
+use Rattle.apriori.specs.Statements.{Basis, basis_of}
 use Rattle.std.specs.Prelude.{replicate}
 use Rattle.apriori.specs.Priors.{blank}
 use Rattle.job_run.specs.Releases.{cells}
-use Rattle.job_run.proofs.Showing.{ground-is}
+use Rattle.job_run.proofs.Showing.{basis-is}
 use Rattle.job_lang.specs.declared.job.PriorLine.{PriorLine}
 use Rattle.job_run.specs.Counted.{IsCountedOf}
 use Rattle.job_run.specs.Looks.{StatementsComeTo}
-use Rattle.job_run.specs.Stated.{ground_in, prior_line, with_file, with_files}
+use Rattle.job_run.specs.Stated.{basis_in, prior_line, with_file, with_files}
 use Rattle.job_run.specs.declared.counted.Counted.{Counted}
 use Rattle.job_run.specs.declared.described.Described.{Described}
 use Rattle.job_run.specs.declared.inputs.Inputs.{Inputs}
@@ -57,10 +57,10 @@ files-stop files inputs described t tables stated (Some f) is before stops withi
 
 -- what the code's book says of a file is what the inputs say of it
 pub apply-same : (inputs : Inputs) (counted : Counted) (t : ℕ) (line : PriorLine) (bytes : List ℕ) (priors : List Prior) → IsCountedOf inputs counted
-    → file_says (ground_of counted.book) t line.separator counted.described.bound.decimals priors bytes ≡ file_says (ground_in inputs) t line.separator inputs.described.bound.decimals priors bytes
+    → file_says (basis_of counted.book) t line.separator counted.described.bound.decimals priors bytes ≡ file_says (basis_in inputs) t line.separator inputs.described.bound.decimals priors bytes
 apply-same inputs counted t line bytes priors is =
-    ap (λ (d : Described). file_says (ground_of counted.book) t line.separator d.bound.decimals priors bytes) is.described
-    ∙ ap (λ (ground : Ground). file_says ground t line.separator inputs.described.bound.decimals priors bytes) (ground-is inputs counted.book is.book)
+    ap (λ (d : Described). file_says (basis_of counted.book) t line.separator d.bound.decimals priors bytes) is.described
+    ∙ ap (λ (basis : Basis). file_says basis t line.separator inputs.described.bound.decimals priors bytes) (basis-is inputs counted.book is.book)
 
 -- a table's own file is looked at where those of the tables before it have no fault
 pub comes-statement : (files : Files) (inputs : Inputs) (described : Described) (t : ℕ) (stated : List Prior) (line : PriorLine) → described ≡ inputs.described → with_files files inputs t ≡ Ok stated

@@ -5,7 +5,7 @@ use Rattle.sdc_base.specs.Sums.{freq}
 use Rattle.office_io.specs.Files.{Files}
 use Rattle.job_lang.specs.declared.job.PriorLine.{PriorLine}
 use Rattle.apriori.specs.Applying.{file_says}
-use Rattle.apriori.specs.Statements.{Known, Ground}
+use Rattle.apriori.specs.Statements.{Known, Basis}
 use Rattle.apriori.specs.Priors.{blank}
 use Rattle.apriori.specs.declared.prior.Prior.{Prior}
 use Rattle.job_run.specs.Inputs.{look}
@@ -19,8 +19,8 @@ abbrev pub known_in : Inputs → List Known
 known_in inputs = map (λ name. record { truth = truth_in inputs name; freq = freq inputs.records.trees name inputs.records.rows }) (cells inputs)
 
 -- what statements are held against
-abbrev pub ground_in : Inputs → Ground
-ground_in inputs = record { trees = inputs.records.trees; tables = inputs.described.bound.tables; known = known_in inputs }
+abbrev pub basis_in : Inputs → Basis
+basis_in inputs = record { trees = inputs.records.trees; tables = inputs.described.bound.tables; known = known_in inputs }
 
 -- the line of the job that names a table's a priori file, where there is one
 abbrev pub prior_line : ℕ → List PriorLine → Option PriorLine
@@ -32,7 +32,7 @@ unfoldable pub with_file : Files → Inputs → ℕ → Option PriorLine → Lis
 with_file files inputs t None priors = Ok priors
 with_file files inputs t (Some line) priors = do
   bytes ← look files line.file (file.Apriori t)
-  map_fault prior_fault (file_says (ground_in inputs) t line.separator inputs.described.bound.decimals priors bytes)
+  map_fault prior_fault (file_says (basis_in inputs) t line.separator inputs.described.bound.decimals priors bytes)
 
 -- what the a priori files of the first so many tables state of each cell, or the first fault of one of them
 unfoldable pub with_files : Files → Inputs → ℕ → Result (List Prior) Fault

@@ -11,7 +11,7 @@ ghost use Rattle.sdc_base.specs.Steps.{map_fault};
 ghost use Rattle.apriori.specs.Applying.{file_says};
 ghost use Rattle.job_lang.specs.declared.job.PriorLine.{PriorLine as AnyLine};
 ghost use Rattle.job_run.specs.Releases.{prior_fault};
-ghost use Rattle.job_run.specs.Stated.{ground_in, prior_line as line_of, with_file, priors_of};
+ghost use Rattle.job_run.specs.Stated.{basis_in, prior_line as line_of, with_file, priors_of};
 ghost use Rattle.job_run.specs.Stops.{stopped_for, prior_stop as stop_of_prior};
 ghost use Rattle.job_run.specs.declared.inputs.Inputs.{Inputs as AnyInputs};
 ghost use Rattle.job_run.specs.declared.report.FileRef.{FileRef as AnyFile};
@@ -112,7 +112,7 @@ fn state(
     requires table { t < length counted.now.described.job.tables }
     requires priors { ArePriors counted.now.book.marks priors.old.items }
     requires few { length bytes.now ≤ limit }
-    ensures told { (inputs : AnyInputs) → IsCountedOf inputs counted.now → Gives stopped_for (λ fine. priors.new.items) result (map_fault prior_fault (file_says (ground_in inputs) t line.now.separator inputs.described.bound.decimals priors.old.items bytes.now)) }
+    ensures told { (inputs : AnyInputs) → IsCountedOf inputs counted.now → Gives stopped_for (λ fine. priors.new.items) result (map_fault prior_fault (file_says (basis_in inputs) t line.now.separator inputs.described.bound.decimals priors.old.items bytes.now)) }
     ensures fit { OnOk result (ArePriors counted.now.book.marks priors.new.items) }
     ensures no_read { (f : AnyFile) → result ≢ Err (Stop.ReadFault f) }
     ensures no_write { (f : AnyFile) → result ≢ Err (Stop.WriteFault f) }
