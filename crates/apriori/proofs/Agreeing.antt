@@ -1,5 +1,5 @@
 -- What a cell is rests on no more of its largest contributions than the rules look at.
-use Rattle.std.proofs.Common.{◌≡◌, ◌≤◌, ◌==◌, ◌||◌, ℕ, suc, List, [], ◌∷◌, length, map, fold, cond, Option, None, Some, option_map, Result, Ok, Err, ℤ, Bool, refl, ap, sym, subst, ◌∙◌, arith}
+use Rattle.std.proofs.Common.{◌≡◌, ◌≤◌, ◌==◌, ◌||◌, ℕ, suc, List, [], ◌∷◌, length, map, fold, cond, Option, None, Some, option_map, ℤ, refl, ap, sym, subst, ◌∙◌, arith}
 use Rattle.std.specs.Prelude.{All, slice_get, is_some, unwrap_or, pos}
 use Rattle.std.specs.List.{zip}
 use Rattle.std.proofs.lemmas.List.Elements.{All-head, All-tail}
@@ -16,9 +16,8 @@ use Rattle.linked_tables.specs.declared.mark.Mark.{Mark}
 use Rattle.apriori.specs.declared.prior.Prior.{Prior}
 use Rattle.apriori.specs.declared.prior.Status.{Status}
 use Rattle.apriori.specs.declared.prior.Status.TheVariants.{Unsafe, Safe}
-use Rattle.apriori.specs.declared.faults.PriorWhy.{PriorWhy}
 use Rattle.apriori.specs.Faults.{LineOf}
-use Rattle.apriori.specs.Settling.{Settled, wider, rule_levels, stated_or, settled, clash_of, first_of, low_of, high_of, told_of, figures_of, AreFactsIn, IsReadyFor, refuse_line, first_clash, settle_of}
+use Rattle.apriori.specs.Settling.{Settled, wider, rule_levels, stated_or, settled, clash_of, first_of, low_of, high_of, told_of, figures_of, AreFactsIn, IsReadyFor, settle_of}
 
 -- the cells of two lists agree up to so many of their largest contributions
 abbrev pub AgreeAll : ℕ → List Figures → List Figures → Type 0

@@ -54,7 +54,7 @@ settled_more rules marks priors i d e cells cell same inside before here =
     let pairs : List (Figures × Prior) = zip (told_of marks) priors in
     let one : Figures = told d.facts in
     let there : get_or pairs i (one, e) ≡ (told (get_or marks i d).facts, get_or priors i e) =
-        get_or-zip (told_of marks) priors i (one, e) known_told inside ∙ ap (λ (x : Figures). (x, get_or priors i e)) (get_or-map (λ (mark : Mark). told mark.facts) marks i d one known) in
+    get_or-zip (told_of marks) priors i (one, e) known_told inside ∙ ap (λ (x : Figures). (x, get_or priors i e)) (get_or-map (λ (mark : Mark). told mark.facts) marks i d one known) in
     map-append seen cells (cell ∷ [])
     ∙ ap (λ (xs : List Settled). xs ++ seen cell ∷ []) before
     ∙ ap (λ (x : Settled). map f (take i pairs) ++ x ∷ []) (here ∙ sym (ap f there))

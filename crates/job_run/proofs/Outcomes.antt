@@ -1,5 +1,5 @@
 -- What a run comes to, from what its inputs came to.
-use Rattle.std.proofs.Common.{◌≡◌, ◌≢◌, inl, inr, List, ℕ, Bool, true, false, not, subst, Option, None, Some, Result, Ok, Err, IsErrOf, OnOk, refl, ◌∙◌}
+use Rattle.std.proofs.Common.{◌≡◌, ◌≢◌, inl, inr, List, ℕ, Bool, true, false, not, subst, Option, None, Some, Result, Ok, Err, IsErrOf, OnOk, refl}
 use Rattle.sdc_base.specs.Answers.{Fails}
 use Rattle.job_run.specs.declared.inputs.Inputs.{Inputs}
 use Rattle.office_io.specs.Files.{Files}

@@ -1,5 +1,5 @@
 -- The release of a job's inputs, from the parts that the code makes.
-use Rattle.std.proofs.Common.{◌≡◌, ℕ, true, false, List, length, Option, None, Some, Result, Ok, Err, refl}
+use Rattle.std.proofs.Common.{◌≡◌, ℕ, true, false, List, length, Option, None, Some, Ok, Err, refl}
 use Rattle.sdc_base.specs.Answers.{Fails}
 use Rattle.sdc_base.specs.Steps.{map_fault}
 use Rattle.apriori.specs.Settling.{Settled, settle_of}

@@ -1,5 +1,5 @@
 -- What a priori files state, table by table.
-use Rattle.std.proofs.Common.{◌≡◌, ℕ, zero, suc, ◌+◌, ◌-◌, ◌<◌, List, Option, None, Some, Result, Ok, Err, length, map, refl, ap, subst, ◌∙◌, arith, add-one}
+use Rattle.std.proofs.Common.{◌≡◌, ℕ, zero, suc, ◌+◌, ◌-◌, ◌<◌, List, Option, None, Some, Ok, Err, length, refl, ap, subst, ◌∙◌, arith, add-one}
 use Rattle.sdc_base.specs.Answers.{Fails}
 use Rattle.office_io.specs.Files.{Files}
 use Rattle.apriori.specs.declared.prior.Prior.{Prior}

@@ -1,5 +1,5 @@
 -- What holds of a job's book and numbers once its records are counted (own).
-use Rattle.std.specs.Prelude.{◌≡◌, ◌<◌, ◌^◌, ℕ, length}
+use Rattle.std.specs.Prelude.{◌≡◌, ◌<◌, ◌^◌, length}
 use Rattle.job_run.specs.Sound.{IsSound}
 use Rattle.job_run.specs.Tabulated.{IsBookOf, IsReadyFor}
 use Rattle.job_run.specs.declared.counted.Counted.{Counted}

@@ -21,7 +21,6 @@ use Rattle.rda_meta.specs.declared.meta.Shape.{Shape}
 use Rattle.rda_meta.specs.declared.meta.Shape.TheVariants as shape
 use Rattle.job_lang.specs.declared.job.OutputLine.{OutputLine}
 use Rattle.job_lang.specs.declared.job.TableLine.{TableLine}
-use Rattle.linked_tables.specs.Tables.{book_of}
 use Rattle.linked_tables.specs.declared.book_fault.BookFault.{BookFault}
 use Rattle.linked_tables.specs.declared.book_fault.BookFault.TheVariants as book
 use Rattle.job_run.specs.Inputs.{spanning}

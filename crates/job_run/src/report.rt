@@ -27,14 +27,23 @@ pub enum Fault {
     /// The file has more than 268,435,456 bytes.
     TooLong(FileRef),
     /// A line of the job, from 1, or the job as a whole, 0; also where the metadata lack what it names.
-    Job { line: u32, why: JobWhy },
+    Job {
+        line: u32,
+        why: JobWhy,
+    },
     /// A line of the metadata, from 1.
-    Meta { line: u32, why: MetaWhy },
+    Meta {
+        line: u32,
+        why: MetaWhy,
+    },
     /// A code list or a hierarchy file, with its line or, for a missing code, the code's number, from 1; never want of
     /// memory.
     Tree(FileRef, TreeFault),
     /// A record of the microdata, from 1.
-    Row { number: u64, why: RowWhy },
+    Row {
+        number: u64,
+        why: RowWhy,
+    },
     /// With this table the distinct cells pass 20,000.
     Cells(u32),
     /// A line of a table's a priori file, the table from 0 and the line from 1.

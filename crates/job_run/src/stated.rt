@@ -120,7 +120,15 @@ fn state(
     ensures no_length { (f : AnyFile) → result ≢ Err (Stop.Refused (Fault.TooLong f)) }
 {
     let decimals = counted.described.bound.decimals;
-    match apply(alloc, &counted.book, t, priors, bytes, line.separator, decimals) {
+    match apply(
+        alloc,
+        &counted.book,
+        t,
+        priors,
+        bytes,
+        line.separator,
+        decimals,
+    ) {
         Ok(()) => Ok(()),
         Err(error) => Err(prior_stop(error)),
     }

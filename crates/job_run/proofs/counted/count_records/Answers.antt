@@ -1,8 +1,7 @@
-use Rattle.std.proofs.Common.{List, length, ap, sym, subst, refl, ◌∙◌}
+use Rattle.std.proofs.Common.{List, length, ap, subst, refl, ◌∙◌}
 use Rattle.sdc_base.specs.RuleLevels.{keep_of}
 use Rattle.sdc_base.specs.declared.rows.Row.{Row}
 use Rattle.tabulate.specs.Tabulated.{AreTabulated}
-use Rattle.job_run.specs.Tabulated.{IsBookOf}
 use Rattle.job_run.proofs.Showing.{is-ready}
 use Rattle.job_run.proofs.counted.count_records.Goals as goal
 

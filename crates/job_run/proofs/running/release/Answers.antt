@@ -1,11 +1,8 @@
 use native.Mathlib.Omega.{arith}
 use Rattle.std.proofs.Common.{IsErrOf, length, ◌<◌, ◌≡◌, ap, refl, sym, subst, ◌∙◌, List, option_map, Ok, Err}
-use Rattle.sdc_base.specs.Answers.{Fails}
 use Rattle.sdc_base.specs.Counts.{counted}
 use Rattle.std.proofs.lemmas.Result.{err_from_is_err_and}
 use Rattle.job_run.specs.Reports.{put_all, OneInPart, SomeWhole}
-use Rattle.job_run.specs.Refusals.{refused_for}
-use Rattle.job_run.specs.Releases.{release_of}
 use Rattle.job_run.specs.declared.put.Put.{Put}
 use Rattle.job_run.specs.declared.report.FileRef.{FileRef}
 use Rattle.job_run.specs.declared.stop.Stop.TheVariants as stop
@@ -123,7 +120,6 @@ returns-in_err-planned-clause-too_long g c =
     let whole = ap Err (sym p.2) ∙ sym p.1 ∙ is in
     let stopped : _ ≡ stop.Refused (fault.TooLong f) = cc in
     absurd (refusal-of-cells c.in_err-planned.field-0.0 _ _ (fault.TooLong f) (c.in_err-planned.ensures.gives c.in_ok-inputs.inputs c.in_ok-counted.ensures.counted) stopped)
-
 
 pub returns-in_err-put_files-clause-told : goal.returns-in_err-put_files-clause-told
 returns-in_err-put_files-clause-told g c =

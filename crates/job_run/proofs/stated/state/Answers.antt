@@ -1,4 +1,4 @@
-use Rattle.std.proofs.Common.{◌≡◌, List, Result, Ok, refl, subst, sym, ◌∙◌}
+use Rattle.std.proofs.Common.{List, Result, refl, subst, sym, ◌∙◌}
 use Rattle.sdc_base.specs.Answers.{Fails}
 use Rattle.apriori.specs.Faults.{LineOf, fault_of}
 use Rattle.apriori.specs.declared.faults.PriorWhy.{PriorWhy}
