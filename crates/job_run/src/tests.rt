@@ -32,6 +32,10 @@ const THREE: &str =
 const THIRTEEN: &str =
     "a1b1c1 10\na1b1c2 10\na1b2c1 10\na1b2c1 10\na1b2c2 10\na1b2c2 20\na2b1c1  5\na2b1c1  5\na2b1c2 10\na2b1c2 10\na2b2c1 15\na2b2c2 10\na2b2c2 15\n";
 
+// The two tables of the thirteen records.
+const BY_B_AND_BY_C: &str =
+    "A,B,V\nTotal,Total,140\nTotal,b1,50\nTotal,b2,90\na1,Total,70\na1,b1,20\na1,b2,50\na2,Total,70\na2,b1,30\na2,b2,40\nA,C,V\nTotal,Total,140\nTotal,c1,55\nTotal,c2,85\na1,Total,70\na1,c1,30\na1,c2,40\na2,Total,70\na2,c1,25\na2,c2,45\n";
+
 // A variable of three bytes, whose codes are in a hierarchy file, and the response.
 const LISTED: &str =
     "A 1 3\n<RECODEABLE>\n<CODELIST> \"a.cdl\"\n<HIERARCHICAL>\n<HIERCODELIST> \"a.hrc\"\nV 4 3\n<NUMERIC>\n";
@@ -201,8 +205,6 @@ fn linked_tables(rt: HostRuntime) -> Result<(), Fail> {
         "11Nr0001    10\n11Nr0002    20\n11Os0003    30\n12Nr0004     5\n12Os0005     5\n12Os0006     5\n21Nr0007    40\n21Nr0008     1\n21Os0009     1\n21Os0010999999\n";
     let turned =
         "a2b2c2 15\na2b2c2 10\na2b2c1 15\na2b1c2 10\na2b1c2 10\na2b1c1  5\na2b1c1  5\na1b2c2 20\na1b2c2 10\na1b2c1 10\na1b2c1 10\na1b1c2 10\na1b1c1 10\n";
-    let by_b_and_by_c =
-        "A,B,V\nTotal,Total,140\nTotal,b1,50\nTotal,b2,90\na1,Total,70\na1,b1,20\na1,b2,50\na2,Total,70\na2,b1,30\na2,b2,40\nA,C,V\nTotal,Total,140\nTotal,c1,55\nTotal,c2,85\na1,Total,70\na1,c1,30\na1,c2,40\na2,Total,70\na2,c1,25\na2,c2,45\n";
     let rows = [
         (
             LINKED,
@@ -210,7 +212,7 @@ fn linked_tables(rt: HostRuntime) -> Result<(), Fail> {
             THIRTEEN,
             "13 records, 0 skipped, 0 passed over, 15",
             0,
-            by_b_and_by_c,
+            BY_B_AND_BY_C,
         ),
         (
             LINKED,
@@ -218,7 +220,7 @@ fn linked_tables(rt: HostRuntime) -> Result<(), Fail> {
             turned,
             "13 records, 0 skipped, 0 passed over, 15",
             0,
-            by_b_and_by_c,
+            BY_B_AND_BY_C,
         ),
         (
             LINKED,
@@ -457,14 +459,15 @@ fn statements(rt: HostRuntime) -> Result<(), Fail> {
     let alloc = rt.alloc();
     let margins = "Total,Total,p\nTotal,b1,p\nTotal,b2,p\na1,Total,p\na2,Total,p\n";
     let shown = format!(in alloc; "{margins}a1,b1,p\n")?;
-    let released =
-        "0 released: 13 records, 0 skipped, 0 passed over, 15 cells, 0 primary, 0 hidden\n";
+    let released = format!(in alloc;
+        "0 released: 13 records, 0 skipped, 0 passed over, 15 cells, 0 primary, 0 hidden\nargus certificate 1\nmethod MOD\ncells 15\nrelations 0\nend\n{BY_B_AND_BY_C}"
+    )?;
     let (plain, rounded) = ("MOD()", "RND(5)");
     let rows = [
         (plain, margins, "2 refused: cell 4: NeedsPlan\n"),
         (rounded, margins, "2 refused: job: NotBuilt\n"),
-        (plain, "a1,b1,s\n", released),
-        (plain, "\n a1 , b1 , S \r\na1,b1,s", released),
+        (plain, "a1,b1,s\n", &released),
+        (plain, "\n a1 , b1 , S \r\na1,b1,s", &released),
         (
             plain,
             "a1,b1,s\na2,b2,u\n",
@@ -500,17 +503,18 @@ fn statements(rt: HostRuntime) -> Result<(), Fail> {
         let job = LINKED.replace(alloc, "1,30", "3,30")?;
         let job = job.replace(alloc, "MOD()", method)?;
         let job = format!(in alloc; "{job}<APRIORI> \"p.hst\",1,\",\"\n")?;
+        let statements = format!(in alloc; "{statements}")?;
+        let want = format!(in alloc; "{want}")?;
         let files = [
             ("r.job", job.as_str()),
             ("m.rda", THREE),
             ("m.asc", THIRTEEN),
-            ("p.hst", statements),
+            ("p.hst", statements.as_str()),
         ];
         for bytes in [4096, 1] {
             let pieces = Pieces { bytes, failing: 0 };
             let got = ran_alone(alloc, &files, pieces, 0)?;
-            let got = got.split_inclusive('\n').next().unwrap_or("");
-            assert_eq!(rt; got, want);
+            assert_eq!(rt; got.as_str(), want.as_str());
         }
     }
     Ok(())
