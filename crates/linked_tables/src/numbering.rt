@@ -9,9 +9,8 @@ use crate::book_fault::BookFault;
 use crate::mark::Mark;
 use crate::names::{Name, Names};
 use crate::places::{size_at, spans_twice, spans_unknown};
-use arrayvec::ArrayVec;
 use hierarchy::CodeTree;
-use sdc_base::{Place, name_at};
+use sdc_base::{Place, name_at, with_code};
 use std::alloc::{AllocError, Global};
 
 // The most cells of a book.
@@ -97,19 +96,6 @@ fn add_name(t: u32, name: Name, names: &mut Names) -> Result<(), BookFault>
         return Err(BookFault::TooManyCells(t));
     }
     Ok(())
-}
-
-// The place with a code more.
-fn with_code(place: &[u32], code: u32) -> ArrayVec<u32, 8>
-    requires { length place.now < 8 }
-    ensures { result.items ≡ place.now ++ code ∷ [] }
-{
-    let mut longer: ArrayVec<u32, 8> = ArrayVec::new();
-    'codes: for next in place {
-        longer.push(*next);
-    }
-    longer.push(code);
-    longer
 }
 
 /// As many marks without records.

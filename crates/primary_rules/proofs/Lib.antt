@@ -1,5 +1,4 @@
 pub mod OneByOne
-pub mod Bounds
 pub mod Rounding
 pub mod NamedCells
 pub mod KeptFigures

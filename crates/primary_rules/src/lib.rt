@@ -1,7 +1,6 @@
 //! The primary rules: which cells disclose a contributor, and how far each must then be open.
 #![tactic(auto)]
 
-mod kept;
 mod laws;
 mod levels;
 mod naming;

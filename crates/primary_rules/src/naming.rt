@@ -5,7 +5,6 @@ ghost use Rattle.sdc_base.specs.declared.rule.Rule.TheVariants as rule;
 ghost use Rattle.primary_rules.specs.Ranges.{IsInRange, IsTruth, IsUpper};
 ghost use Rattle.primary_rules.specs.OneRule.{up_by};
 
-use crate::kept::sum_over;
 use crate::quotient::{excess, hundredths, up_from};
 use sdc_base::{CellFacts, Rule, is_too_few};
 
@@ -44,7 +43,7 @@ fn by_dominance(n: u8, k: u32, facts: &CellFacts) -> Option<i128>
     ensures level { ForSome result IsUpper }
     ensures value { result ≡ up_by (rule.Nk n k) (told facts.now) }
 {
-    let largest = hundredths(100, sum_over(&facts.tops, n));
+    let largest = hundredths(100, facts.tops.sum_of_largest(n));
     let bound = hundredths(k, facts.truth);
     excess(largest, bound, k)
 }
@@ -57,7 +56,7 @@ fn by_percent(p: u32, facts: &CellFacts) -> Option<i128>
     ensures value { result ≡ up_by (rule.Percent p) (told facts.now) }
 {
     let rest = hundredths(100, rest_of(facts));
-    let bound = hundredths(p, sum_over(&facts.tops, 1));
+    let bound = hundredths(p, facts.tops.sum_of_largest(1));
     excess(bound, rest, 100)
 }
 
@@ -68,5 +67,5 @@ fn rest_of(facts: &CellFacts) -> i128
     ensures low { neg_ℤ (pos (2 ^ 80)) ≤ℤ result }
     ensures high { result ≤ℤ pos (2 ^ 100) }
 {
-    facts.truth - sum_over(&facts.tops, 2)
+    facts.truth - facts.tops.sum_of_largest(2)
 }

@@ -9,10 +9,9 @@ ghost use Rattle.release_writer.specs.Pages.{IsPage};
 use crate::lines::{write_names, write_place};
 use crate::numbers::number_text;
 use crate::shown::Shown;
-use arrayvec::ArrayVec;
 use csv::{Writer, WriterBuilder};
 use linked_tables::Book;
-use sdc_base::{Memory, Place, Text};
+use sdc_base::{Memory, Place, Text, with_code};
 use std::alloc::Global;
 
 /// The bytes of table `t` of a release: a line of `names`, and then a line for each place of the table in lexicographic
@@ -160,17 +159,4 @@ fn size_at(book: &Book, variable: u32) -> usize
         Some(tree) => tree.len(),
         None => 0,
     }
-}
-
-// The place with a code more.
-fn with_code(place: &[u32], code: u32) -> ArrayVec<u32, 8>
-    requires { length place.now < 8 }
-    ensures { result.items ≡ place.now ++ code ∷ [] }
-{
-    let mut longer: ArrayVec<u32, 8> = ArrayVec::new();
-    'codes: for next in place {
-        longer.push(*next);
-    }
-    longer.push(code);
-    longer
 }

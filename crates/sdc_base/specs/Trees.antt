@@ -1,6 +1,6 @@
 -- Code trees: codes in preorder with their parents, and which code is under which (tau-ARGUS user manual, hierarchies).
-use Rattle.std.specs.Prelude.{◌≡◌, ◌↔◌, ℕ, zero, suc, ◌+◌, ◌<◌, ◌≤◌, ◌==◌, Bool, IsTrue, List, [], ◌∷◌, length, map, slice_get, Option, None, Some}
-use Rattle.std.specs.List.{IsDistinct, list_any}
+use Rattle.std.specs.Prelude.{◌≡◌, ◌↔◌, ℕ, zero, suc, ◌+◌, ◌<◌, ◌≤◌, ◌==◌, Bool, false, IsTrue, List, [], ◌∷◌, length, map, filter, slice_get, Option, None, Some}
+use Rattle.std.specs.List.{IsDistinct, list_any, range_with_len}
 use Rattle.std.specs.Option.{option_and_then, option_map_or}
 use Rattle.std.specs.Str.{bytes_eq}
 use Rattle.sdc_base.specs.Places.{first_place}
@@ -51,6 +51,14 @@ upward tree place = met_in (length tree) tree (Some place)
 -- the test whether walking parents from `place`, itself included, meets `above`
 abbrev pub is_under : Tree → ℕ → ℕ → Bool
 is_under tree place above = list_any (λ met. met == above) (upward tree place)
+
+-- the place's parent is this one
+abbrev pub is_child : Tree → ℕ → ℕ → Bool
+is_child tree above place = option_map_or (λ parent. parent == above) (parent_at tree place) false
+
+-- the children of a place, in the order of the tree
+abbrev pub children : Tree → ℕ → List ℕ
+children tree above = filter (is_child tree above) (range_with_len 0 (length tree))
 
 -- a place has a parent that stands before it
 abbrev pub HasEarlierParent : Tree → ℕ → Type 0

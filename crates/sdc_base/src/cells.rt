@@ -80,6 +80,21 @@ pub fn name_at(variables: usize, table: &[u32], place: &[u32]) -> Place
     Few::new(items)
 }
 
+/// A place with a code more, for the next variable of a table.
+///
+/// The place has fewer than 8 codes. It takes no memory, and copies each code once.
+pub fn with_code(place: &[u32], code: u32) -> Place
+    requires { length place.now < 8 }
+    ensures { result ≡ place.now ++ code ∷ [] }
+{
+    let mut longer: ArrayVec<u32, 8> = ArrayVec::new();
+    'codes: for next in place {
+        longer.push(*next);
+    }
+    longer.push(code);
+    Few::new(longer)
+}
+
 // The code that a table's place has for a variable.
 fn code_at(table: &[u32], place: &[u32], variable: u32) -> u32
     ensures { result ≡ code_for table.now place.now variable }

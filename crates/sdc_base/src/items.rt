@@ -1,4 +1,4 @@
-ghost use Rattle.std.specs.Prelude.{◌≡◌, ◌++◌, ◌∷◌, [], IfOk, OnOk, OnErr, IfNone, IfSome};
+ghost use Rattle.std.specs.Prelude.{◌≡◌, ◌++◌, ◌∷◌, [], OnOk, OnErr, IfNone, IfSome};
 
 use crate::memory::Memory;
 use std::alloc::Global;
@@ -75,11 +75,4 @@ impl<T: Drop> Items<T> {
             Err(_) => Err(Memory),
         }
     }
-}
-
-/// A copy of numbers.
-pub fn copy_numbers(alloc: Global, numbers: &Items<u32>) -> Result<Items<u32>, Memory>
-    ensures { IfOk result (λ copy. copy ≡ numbers.now) }
-{
-    Ok(Items::new(numbers.as_slice().to_vec(alloc)?))
 }

@@ -21,11 +21,11 @@ mod text;
 mod tops;
 
 pub use cell::{Cell, Kind};
-pub use cells::{cells_of, name_at};
+pub use cells::{cells_of, name_at, with_code};
 pub use facts::{CellFacts, Levels};
 pub use few::{Few, Place};
 pub use hidden::Hidden;
-pub use items::{Items, copy_numbers};
+pub use items::Items;
 pub use laws::{
     examples, falls_where_under_in_each, flat_is_code_tree, names_are_first,
     places_are_lexicographic, ranking_is_fair, under_is_tested,
@@ -34,7 +34,7 @@ pub use memory::Memory;
 pub use method::Method;
 pub use node_list::{Node, NodeList};
 pub use number_fault::NumberFault;
-pub use rows::{Row, falls, freq_of, largest_of, tops_of, truth_of};
+pub use rows::{Row, falls, freq_of, largest_of, tops_of, truth_of, weighed};
 pub use rule::{Rule, Rules};
 pub use rules::is_too_few;
 pub use text::Text;

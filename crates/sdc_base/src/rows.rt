@@ -1,12 +1,12 @@
 ghost use Rattle.std.specs.Prelude.{◌≡◌, ◌<◌, ◌≤◌, ◌^◌, ◌*◌, length, All, pos, neg_ℤ, ◌≤ℤ◌, ◌<ℤ◌};
 ghost use Rattle.sdc_base.specs.Records.{falls_in};
-ghost use Rattle.sdc_base.specs.Sums.{truth, freq, share};
+ghost use Rattle.sdc_base.specs.Sums.{truth, freq, share, weighted};
 ghost use Rattle.sdc_base.specs.Largest.{contributions, largest_in};
 ghost use Rattle.sdc_base.specs.Tells.{Tells};
 
 use crate::few::Place;
 use crate::node_list::NodeList;
-use crate::tops::{TopList, Tops, Unit, weighed};
+use crate::tops::{TopList, Tops};
 
 /// A record: its code's place in the tree of each variable, its value in units, and its weight in
 /// steps.
@@ -74,13 +74,19 @@ fn share_of(trees: &[NodeList], name: &[u32], row: &Row) -> i128
     ensures high { result ≤ℤ pos (2 ^ 95) }
 {
     if falls(trees, name, row.codes.as_slice()) {
-        weighed(Unit {
-            value: row.value,
-            weight: row.weight,
-        })
+        weighed(row)
     } else {
         0
     }
+}
+
+/// Weight times value of a record.
+pub fn weighed(row: &Row) -> i128
+    ensures value { result ≡ weighted row.now }
+    ensures low { neg_ℤ (pos (2 ^ 95)) ≤ℤ result }
+    ensures high { result ≤ℤ pos (2 ^ 95) }
+{
+    i128::from(row.weight) * i128::from(row.value)
 }
 
 /// The largest contributions of a cell, of which the first `keep` are kept.

@@ -1,6 +1,6 @@
 use crate::{
     Few, Items, Memory, Node, NodeList, Place, Row, Text, cells_of, falls, freq_of, is_too_few,
-    largest_of, truth_of,
+    largest_of, truth_of, with_code,
 };
 use std::alloc::Global;
 use std::rt::HostRuntime;
@@ -238,5 +238,16 @@ fn cells_in_the_order_of_their_names(rt: HostRuntime) -> Result<(), Fail> {
             assert_eq!(rt; cell.as_slice(), name.as_slice());
         }
     }
+    Ok(())
+}
+
+#[test]
+fn place_with_a_code_more(rt: HostRuntime) -> Result<(), Fail> {
+    let empty: [u32; 0] = [];
+    assert_eq!(rt; with_code(empty.as_slice(), 4).as_slice(), [4].as_slice());
+    assert_eq!(rt;
+        with_code([3, 0].as_slice(), 5).as_slice(),
+        [3, 0, 5].as_slice()
+    );
     Ok(())
 }

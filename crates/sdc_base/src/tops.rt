@@ -52,6 +52,7 @@ pub struct Tops {
 
 impl Tops {
     ghost use Rattle.sdc_base.specs.Tells.{Tells};
+    ghost use Rattle.sdc_base.specs.RuleLevels.{kept_largest};
 
     /// None is offered yet. It keeps from 2 to 10, and `scale` weight steps make a whole one.
     pub fn new(keep: u8, scale: u32) -> Tops
@@ -68,6 +69,19 @@ impl Tops {
             scale,
             list: Few::empty(),
         }
+    }
+
+    /// The sum of value times weight over the n largest contributions that it keeps, where `scale` weight steps make a
+    /// whole one. It is that over all that were offered for up to `keep` of them.
+    ///
+    /// At most 10 can be asked for. It takes no memory, and looks at each contribution once.
+    pub fn sum_of_largest(&self, n: u8) -> i128
+        requires { n ≤ 10 }
+        ensures value { result ≡ kept_largest self.now n }
+        ensures low { neg_ℤ (pos (2 ^ 80)) ≤ℤ result }
+        ensures high { result ≤ℤ pos (2 ^ 80) }
+    {
+        over_first_steps(self.list.as_slice(), steps_of(n, self.scale))
     }
 }
 
@@ -87,7 +101,7 @@ impl TopList for Tops {
     }
 
     fn top(&self, n: u8) -> i128 {
-        over_first_steps(self.list.as_slice(), u64::from(n) * u64::from(self.scale))
+        self.sum_of_largest(n)
     }
 }
 
@@ -118,10 +132,22 @@ fn place_of(units: &[Unit], new: Unit) -> usize
     units.len()
 }
 
+// The weight steps of so many whole contributions.
+fn steps_of(n: u8, scale: u32) -> u64
+    requires few { n ≤ 10 }
+    requires fine { scale ≤ 10000 }
+    ensures value { result ≡ n * scale }
+    ensures at_most { result ≤ 2 ^ 17 }
+{
+    u64::from(n) * u64::from(scale)
+}
+
 // Value times weight over the first steps.
 fn over_first_steps(units: &[Unit], steps: u64) -> i128
-    requires { length units.now ≤ 10 }
-    ensures { result ≡ first_steps steps units.now }
+    requires { steps ≤ 2 ^ 17 }
+    ensures value { result ≡ first_steps steps units.now }
+    ensures low { neg_ℤ (pos (2 ^ 80)) ≤ℤ result }
+    ensures high { result ≤ℤ pos (2 ^ 80) }
 {
     let mut left = steps;
     let mut sum = 0;
@@ -135,17 +161,8 @@ fn over_first_steps(units: &[Unit], steps: u64) -> i128
 // What one contribution adds while so many steps are left.
 fn part_of(unit: Unit, left: u64) -> i128
     ensures value { result ≡ pos (min unit.weight left) *ℤ unit.value }
-    ensures low { neg_ℤ (pos (2 ^ 95)) ≤ℤ result }
-    ensures high { result ≤ℤ pos (2 ^ 95) }
+    ensures low { neg_ℤ (pos (2 ^ 63 * min unit.weight left)) ≤ℤ result }
+    ensures high { result ≤ℤ pos (2 ^ 63 * min unit.weight left) }
 {
     i128::from(left.min(u64::from(unit.weight))) * i128::from(unit.value)
-}
-
-/// Weight times value.
-pub(crate) fn weighed(unit: Unit) -> i128
-    ensures value { result ≡ pos unit.weight *ℤ unit.value }
-    ensures low { neg_ℤ (pos (2 ^ 95)) ≤ℤ result }
-    ensures high { result ≤ℤ pos (2 ^ 95) }
-{
-    i128::from(unit.weight) * i128::from(unit.value)
 }

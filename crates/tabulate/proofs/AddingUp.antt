@@ -6,13 +6,13 @@ use Rattle.std.proofs.lemmas.Bool.Decides.{nat_tests, Decides-eqb}
 use Rattle.std.proofs.lemmas.Int.{ints}
 use Rattle.std.proofs.lemmas.List.{set-get_or}
 use Rattle.std.proofs.lemmas.List.Elements.{All-head, All-tail}
-use Rattle.sdc_base.specs.Trees.{Tree, IsCodeTree, is_under, met_in, parent_at}
+use Rattle.sdc_base.specs.Trees.{Tree, IsCodeTree, children, is_child, is_under, met_in, parent_at}
 use Rattle.sdc_base.specs.Records.{Name, falls_in, row_falls}
 use Rattle.sdc_base.specs.Sums.{share, truth, weighted}
 use Rattle.sdc_base.specs.declared.rows.Row.{Row}
 use Rattle.sdc_base.proofs.Walks.{parent_is_earlier}
 use Rattle.tabulate.specs.Giving.{count}
-use Rattle.tabulate.specs.Laws.{IsCoded, TablesAddUp, children, is_child, sum_over}
+use Rattle.tabulate.specs.Laws.{IsCoded, TablesAddUp, sum_over}
 use Rattle.tabulate.proofs.Counting.{count-none}
 use Rattle.tabulate.proofs.Walking.{met-none}
 

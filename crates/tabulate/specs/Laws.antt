@@ -1,19 +1,9 @@
 -- Tables add up: a total is the sum of its parts (handbook, magnitude tables).
-use Rattle.std.specs.Prelude.{◌≡◌, ◌≢◌, ℕ, ◌<◌, ◌==◌, Bool, false, List, [], ◌∷◌, length, filter, slice_index, slice_index_or, slice_set, All, ℤ, pos, ◌+ℤ◌}
-use Rattle.std.specs.List.{range_with_len}
-use Rattle.std.specs.Option.{option_map_or}
-use Rattle.sdc_base.specs.Trees.{Tree, IsCodeTree, parent_at}
+use Rattle.std.specs.Prelude.{◌≡◌, ◌≢◌, ℕ, ◌<◌, List, [], ◌∷◌, length, slice_index, slice_index_or, slice_set, All, ℤ, pos, ◌+ℤ◌}
+use Rattle.sdc_base.specs.Trees.{Tree, IsCodeTree, children}
 use Rattle.sdc_base.specs.Records.{Name}
 use Rattle.sdc_base.specs.Sums.{truth}
 use Rattle.sdc_base.specs.declared.rows.Row.{Row}
-
--- the place's parent is this one
-abbrev pub is_child : Tree → ℕ → ℕ → Bool
-is_child tree above place = option_map_or (λ parent. parent == above) (parent_at tree place) false
-
--- the children of a place
-abbrev pub children : Tree → ℕ → List ℕ
-children tree above = filter (is_child tree above) (range_with_len 0 (length tree))
 
 -- numbers for places, added up
 abbrev pub sum_over : (ℕ → ℤ) → List ℕ → ℤ

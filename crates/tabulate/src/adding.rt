@@ -9,7 +9,7 @@ ghost use Rattle.sdc_base.specs.declared.rows.Row.{Row as Record};
 ghost use Rattle.tabulate.specs.Holding.{Holds, kept_of};
 
 use linked_tables::Mark;
-use sdc_base::{Row, TopList, Tops};
+use sdc_base::{Row, TopList, Tops, weighed};
 
 /// Gives a record to the mark of a cell. The sum of a million records has room.
 pub(crate) fn add(mark: &mut Mark, row: &Row)
@@ -39,11 +39,4 @@ fn offer(tops: &mut Tops, row: &Row)
     ensures scale { tops.new.scale ≡ tops.old.scale }
 {
     tops.offer(row.value, row.weight);
-}
-
-// Weight times value.
-fn weighed(row: &Row) -> i128
-    ensures { result ≡ weighted row.now }
-{
-    i128::from(row.weight) * i128::from(row.value)
 }

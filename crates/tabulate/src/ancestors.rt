@@ -5,9 +5,8 @@ ghost use Rattle.tabulate.specs.Tuples.{tuples_from};
 ghost use Rattle.tabulate.specs.Giving.{Gave, spanned};
 
 use crate::adding::add;
-use arrayvec::ArrayVec;
 use linked_tables::Book;
-use sdc_base::{Place, Row};
+use sdc_base::{Place, Row, with_code};
 
 /// Gives a record to the cells at the places of table t that begin so and go on with codes above the record's. The
 /// cells before the first one are left out.
@@ -99,17 +98,4 @@ fn parent_of(book: &Book, variable: u32, code: u32) -> Option<u32>
         Some(tree) => tree.parent(code),
         None => None,
     }
-}
-
-// The place with a code more.
-fn with_code(place: &[u32], code: u32) -> ArrayVec<u32, 8>
-    requires { length place.now < 8 }
-    ensures { result.items ≡ place.now ++ code ∷ [] }
-{
-    let mut longer: ArrayVec<u32, 8> = ArrayVec::new();
-    'codes: for next in place {
-        longer.push(*next);
-    }
-    longer.push(code);
-    longer
 }

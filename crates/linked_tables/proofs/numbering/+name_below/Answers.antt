@@ -17,7 +17,7 @@ returns-in_err-name_below-clause-fault t c =
     let code = c.codes.code in
     let longer = c.as_slice-in-codes.result.now in
     let size = length (slice_index_or trees (get_or table (length place) 0) []) in
-    let same : longer ≡ place ++ code ∷ [] = c.as_slice-in-codes.ensures.value ∙ c.with_code-longer.ensures in
+    let same : longer ≡ place ++ code ∷ [] = c.as_slice-in-codes.ensures ∙ c.with_code-longer.ensures in
     let some : fold with_name c.codes.names (names_below trees table longer) ≡ fold with_name names (names_begun trees table place (code + 1)) =
     ap (λ (p : List ℕ). fold with_name c.codes.names (names_below trees table p)) same
     ∙ ap (λ (before : List Name). fold with_name before (names_below trees table (place ++ code ∷ []))) c.codes.invariant.added
@@ -45,7 +45,7 @@ codes-preserved t c =
     let names = c.args.names.now in
     let code = c.codes.code in
     let longer = c.as_slice-in-codes.result.now in
-    let same : longer ≡ place ++ code ∷ [] = c.as_slice-in-codes.ensures.value ∙ c.with_code-longer.ensures in
+    let same : longer ≡ place ++ code ∷ [] = c.as_slice-in-codes.ensures ∙ c.with_code-longer.ensures in
     let some : fold with_name c.codes.names (names_below trees table longer) ≡ fold with_name names (names_begun trees table place (code + 1)) =
     ap (λ (p : List ℕ). fold with_name c.codes.names (names_below trees table p)) same
     ∙ ap (λ (before : List Name). fold with_name before (names_below trees table (place ++ code ∷ []))) c.codes.invariant.added

@@ -1,13 +1,13 @@
 use Rattle.std.proofs.Common.{◌≡◌, pos, ◌*ℤ◌, ◌^◌, FitsSigned, to_z, of_z, arith}
 use Rattle.std.specs.Int.{w128}
 use Rattle.std.proofs.lemmas.Int.{ints, to_z-of_z}
-use Rattle.primary_rules.proofs.Bounds.{percent_low, percent_high}
+use Rattle.sdc_base.proofs.Products.{scaled_low, scaled_high}
 use Rattle.primary_rules.proofs.quotient.hundredths.Goals as goal
 
 pub returns : goal.returns
 returns c =
-    let low = percent_low c.args.percent c.args.amount 1000 (2 ^ 110) c.requires.percent c.requires.low in
-    let high = percent_high c.args.percent c.args.amount 1000 (2 ^ 110) c.requires.percent c.requires.high in
+    let low = scaled_low c.args.percent c.args.amount 1000 (2 ^ 110) c.requires.percent c.requires.low in
+    let high = scaled_high c.args.percent c.args.amount 1000 (2 ^ 110) c.requires.percent c.requires.high in
     let own : FitsSigned w128 c.args.amount = c.ranges.amount in
     let factor : FitsSigned w128 (pos c.args.percent) = omega (arith, ints) in
     let whole : FitsSigned w128 (pos c.args.percent *ℤ c.args.amount) = omega (arith, ints) in

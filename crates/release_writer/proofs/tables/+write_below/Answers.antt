@@ -24,7 +24,7 @@ write_below-requires t c =
     let code = c.codes.code in
     let longer = c.as_slice-in-codes.result.now in
     let short : length place < length table = omega (arith, c.if-place-len.false, c.len.ensures.len) in
-    let same : longer ≡ place ++ code ∷ [] = c.as_slice-in-codes.ensures.value ∙ c.with_code-longer.ensures in
+    let same : longer ≡ place ++ code ∷ [] = c.as_slice-in-codes.ensures ∙ c.with_code-longer.ensures in
     let size : length longer ≡ length place + 1 = ap (λ (p : List ℕ). length p) same ∙ length-append place (code ∷ []) in
     let sizes = c.size_at-size.ensures.size ∙ ap (λ (spanned : List ℕ). length (slice_index_or trees (get_or spanned (length place) 0) [])) c.as_slice.ensures in
     let small : code < length (slice_index_or trees (get_or table (length place) 0) []) = omega (arith, c.codes-test.true, sizes) in
@@ -37,7 +37,7 @@ codes-preserved t c =
     let code = c.codes.code in
     let start = written c.args.writer.now in
     let longer = c.as_slice-in-codes.result.now in
-    let same : longer ≡ place ++ code ∷ [] = c.as_slice-in-codes.ensures.value ∙ c.with_code-longer.ensures in
+    let same : longer ≡ place ++ code ∷ [] = c.as_slice-in-codes.ensures ∙ c.with_code-longer.ensures in
     let after : written c.write_below.new.writer ≡ option_map (λ text. text ++ lines_below page.book.now page.table.now page.decimals page.shown (place ++ code ∷ [])) (written c.codes.writer) =
     c.in_ok-write_below.ensures.text ∙ ap (λ p. option_map (λ text. text ++ lines_below page.book.now page.table.now page.decimals page.shown p) (written c.codes.writer)) same in
     record {

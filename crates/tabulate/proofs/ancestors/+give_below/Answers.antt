@@ -43,7 +43,7 @@ give_below-requires t c =
     let gave = c.upward.invariant.1.0 in
     let same : length (spanned c.upward.book c.args.t) ≡ length (spanned book c.args.t) = ap (λ (b : Held). length (spanned b c.args.t)) gave.frame in
     let inside : length place < length (spanned book c.args.t) = slice_get_within (spanned book c.args.t) (length place) c.in-Some.variable (sym c.in-Some.ensures.variable) in
-    let longer : length c.as_slice.result.now ≡ length place + 1 = ap (λ (one : List ℕ). length one) (c.as_slice.ensures.value ∙ c.with_code-longer.ensures) ∙ length-append place (c.in-Some-met.above ∷ []) in (
+    let longer : length c.as_slice.result.now ≡ length place + 1 = ap (λ (one : List ℕ). length one) (c.as_slice.ensures ∙ c.with_code-longer.ensures) ∙ length-append place (c.in-Some-met.above ∷ []) in (
       omega (arith, c.decreases, same, inside, longer),
       (
         omega (arith, same, inside, longer),
@@ -65,7 +65,7 @@ upward-preserved t c =
     let rests = places_over (lines_above trees codes (drop (length place + 1) table)) in
     let done = c.upward.invariant.0 in
     let gave = c.upward.invariant.1.0 in
-    let longer : c.as_slice.result.now ≡ place ++ above ∷ [] = c.as_slice.ensures.value ∙ c.with_code-longer.ensures in
+    let longer : c.as_slice.result.now ≡ place ++ above ∷ [] = c.as_slice.ensures ∙ c.with_code-longer.ensures in
     let long : length c.as_slice.result.now ≡ length place + 1 = ap (λ (one : List ℕ). length one) longer ∙ length-append place (above ∷ []) in
     let given = tuples_from c.upward.book.trees codes c.as_slice.result.now (drop (length c.as_slice.result.now) (spanned c.upward.book n)) in
     let these : given ≡ map (λ rest. (place ++ above ∷ []) ++ rest) rests =

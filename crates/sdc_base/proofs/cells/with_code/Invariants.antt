@@ -1,5 +1,5 @@
 use Rattle.std.proofs.Common.{◌≡◌, take}
-use Rattle.release_writer.proofs.tables.with_code.Given as goal
+use Rattle.sdc_base.proofs.cells.with_code.Given as goal
 
 abbrev pub invariant-codes : goal.invariant-codes
 invariant-codes l = l.longer.items ≡ take l.next-index l.place

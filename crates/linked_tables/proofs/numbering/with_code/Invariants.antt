@@ -1,5 +1,0 @@
-use Rattle.std.proofs.Common.{◌≡◌, take}
-use Rattle.linked_tables.proofs.numbering.with_code.Given as goal
-
-abbrev pub invariant-codes : goal.invariant-codes
-invariant-codes l = l.longer.items ≡ take l.next-index l.place
