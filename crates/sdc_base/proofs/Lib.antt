@@ -1,5 +1,7 @@
 pub mod StepLemmas
 pub mod WholeNumbers
+pub mod TotalLemmas
+pub mod WeakDual
 pub mod Walks
 pub mod FlatTrees
 pub mod InEach

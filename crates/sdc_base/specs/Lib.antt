@@ -18,6 +18,12 @@ pub mod Tells
 pub mod Shares
 pub mod Rules
 pub mod RuleLevels
+pub mod Totals
+pub mod Systems
+pub mod HiddenSets
+pub mod Worlds
+pub mod Forms
+pub mod Refutations
 pub mod Examples
 pub mod TableText
 pub mod CertificateText

@@ -3,6 +3,7 @@
 
 mod cell;
 mod cells;
+mod duality;
 mod facts;
 mod few;
 mod hidden;
@@ -12,9 +13,12 @@ mod memory;
 mod method;
 mod node_list;
 mod number_fault;
+mod relation;
 mod rows;
 mod rule;
 mod rules;
+mod side;
+mod system;
 #[cfg(test)]
 mod tests;
 mod text;
@@ -22,6 +26,7 @@ mod tops;
 
 pub use cell::{Cell, Kind};
 pub use cells::{cells_of, name_at, with_code};
+pub use duality::weak_duality;
 pub use facts::{CellFacts, Levels};
 pub use few::{Few, Place};
 pub use hidden::Hidden;
@@ -34,8 +39,11 @@ pub use memory::Memory;
 pub use method::Method;
 pub use node_list::{Node, NodeList};
 pub use number_fault::NumberFault;
+pub use relation::Relation;
 pub use rows::{Row, falls, freq_of, largest_of, tops_of, truth_of, weighed};
 pub use rule::{Rule, Rules};
 pub use rules::is_too_few;
+pub use side::Side;
+pub use system::System;
 pub use text::Text;
 pub use tops::{TopList, Tops, Unit};
