@@ -7,13 +7,13 @@ use Rattle.std.proofs.lemmas.List.Sorted.{list_any-IsPermutation}
 use Rattle.std.proofs.lemmas.Slice.Eq.{bytes_eq-Decides}
 use Rattle.sdc_base.specs.Trees.{Tree}
 use Rattle.sdc_base.specs.Records.{Name}
-use Rattle.sdc_base.specs.Cells.{code_for, is_named, named_by, name_of, places, trees_of}
+use Rattle.sdc_base.specs.Cells.{code_for, is_named, named_by, name_of, places, trees_of, spans}
 use Rattle.sdc_base.specs.CellOrder.{is_place_in}
 use Rattle.sdc_base.proofs.Places.{places_are_lexicographic}
 use Rattle.sdc_base.proofs.PlaceLists.{name_length}
 use Rattle.linked_tables.specs.Tables.{has_unknown}
 use Rattle.linked_tables.specs.Shared.{IsTable}
-use Rattle.linked_tables.specs.Laws.{spans, is_code, CellsByCode, TurnedShareAll, ApartShareTotal, grand_total}
+use Rattle.linked_tables.specs.Laws.{is_code, CellsByCode, TurnedShareAll, ApartShareTotal, grand_total}
 use Rattle.linked_tables.proofs.Finding.{named-map}
 
 -- ---- a table's name has its place

@@ -1,18 +1,13 @@
 -- Which cells tables share, in the subject's words (tau-ARGUS user manual, linked tables).
 use Rattle.std.specs.Prelude.{◌≡◌, ◌↔◌, ℕ, ◌+◌, ◌<◌, ◌≤◌, ◌==◌, ◌&&◌, nat_lt, Bool, true, false, IsTrue, List, [], ◌++◌, length, take, drop, replicate, slice_index, slice_index_or, if◌then◌else◌, All}
-use Rattle.std.specs.List.{list_any}
 use Rattle.std.specs.List.Sorted.{IsPermutation}
 use Rattle.sdc_base.specs.Trees.{Tree}
 use Rattle.sdc_base.specs.Records.{Name}
-use Rattle.sdc_base.specs.Cells.{is_named, named_by}
+use Rattle.sdc_base.specs.Cells.{is_named, named_by, spans}
 use Rattle.linked_tables.specs.declared.mark.Mark.{Mark}
 use Rattle.linked_tables.specs.Held.{Held}
 use Rattle.linked_tables.specs.Shared.{IsTable, cell_at, is_place_of, name_at}
 use Rattle.linked_tables.specs.Lending.{written_from}
-
--- the table spans the variable
-abbrev pub spans : List ℕ → ℕ → Bool
-spans table variable = list_any (λ spanned. spanned == variable) table
 
 -- a code that the table's cells can have for a variable: one of its tree where the table spans it, and else the total's
 abbrev pub is_code : List Tree → List ℕ → ℕ → ℕ → Bool

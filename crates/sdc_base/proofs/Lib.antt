@@ -3,6 +3,7 @@ pub mod WholeNumbers
 pub mod TotalLemmas
 pub mod WeakDual
 pub mod Walks
+pub mod AddingUp
 pub mod FlatTrees
 pub mod InEach
 pub mod Places

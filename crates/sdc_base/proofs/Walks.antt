@@ -1,10 +1,21 @@
 -- Walking parents.
-use Rattle.std.proofs.Common.{◌≡◌, ◌≢◌, ℕ, zero, suc, ◌<◌, ◌==◌, Bool, true, false, ◌||◌, length, slice_get, Option, None, Some, arith, refl, ap, subst, ◌∙◌}
+use Rattle.std.proofs.Common.{◌≡◌, ◌≢◌, ℕ, zero, suc, ◌<◌, ◌==◌, List, [], ◌∷◌, ◌+◌, if◌then◌else◌, Bool, true, false, ◌||◌, length, slice_get, Option, None, Some, arith, refl, ap, subst, ◌∙◌}
 use Rattle.std.specs.List.{list_any}
 use Rattle.std.specs.Option.{option_and_then}
 use Rattle.std.proofs.lemmas.Bool.Decides.{nat_tests}
 use Rattle.std.proofs.lemmas.Option.{option_and_then_some, slice_get_within}
+use Rattle.sdc_base.specs.Places.{count}
 use Rattle.sdc_base.specs.Trees.{Tree, met_in, parent_at, climb, IsCodeTree, UnderIsTested}
+
+-- a test that none passes
+pub count-none : {X : Type 0} (test : X → Bool) (xs : List X) → ((x : X) → test x ≡ false) → count test xs ≡ 0
+count-none test [] none = refl
+count-none test (x ∷ xs) none = ap (λ b. (if b then 1 else 0) + count test xs) (none x) ∙ ap (λ n. 0 + n) (count-none test xs none)
+
+-- a walk from nowhere
+pub met-none : (steps : ℕ) (tree : Tree) → met_in steps tree None ≡ []
+met-none zero tree = refl
+met-none (suc steps) tree = refl
 
 -- one step up from a place that isn't the one looked for
 pub one_up : (tree : Tree) (at above steps left : ℕ) (met : Option ℕ) (answer : Bool) → steps ≡ suc left → at ≢ above → met ≡ parent_at tree at → list_any (λ m. m == above) (met_in steps tree (Some at)) ≡ answer → list_any (λ m. m == above) (met_in left tree met) ≡ answer

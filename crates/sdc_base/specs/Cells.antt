@@ -19,6 +19,10 @@ code_for (spanned ∷ table) (code ∷ place) variable = if spanned == variable 
 abbrev pub name_of : ℕ → List ℕ → List ℕ → Name
 name_of variables table place = map (code_for table place) (range_with_len 0 variables)
 
+-- the table spans the variable
+abbrev pub spans : List ℕ → ℕ → Bool
+spans table variable = list_any (λ spanned. spanned == variable) table
+
 -- the trees of the variables that a table spans
 abbrev pub trees_of : List Tree → List ℕ → List Tree
 trees_of trees table = map (λ variable. slice_index_or trees variable []) table

@@ -19,6 +19,8 @@ pub mod Shares
 pub mod Rules
 pub mod RuleLevels
 pub mod Totals
+pub mod AddingUp
+pub mod Relations
 pub mod Systems
 pub mod HiddenSets
 pub mod Worlds

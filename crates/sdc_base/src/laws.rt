@@ -5,6 +5,7 @@ ghost use Rattle.sdc_base.specs.Records.{FallsWhereUnderInEach};
 ghost use Rattle.sdc_base.specs.CellOrder.{PlacesAreLexicographic, NamesAreFirst};
 ghost use Rattle.sdc_base.specs.Shares.{RankingIsFair};
 ghost use Rattle.sdc_base.specs.Examples.{FlatTable, WeightSteps, LastInPart, TwoLevels, SharedMargins, RuleRows};
+ghost use Rattle.sdc_base.specs.AddingUp.{TablesAddUp};
 
 /// The test of being under says of each place of a code tree what the walk of its parents says.
 #[tactic(auto, using(crate::proofs::Walks::under_is_tested))]
@@ -51,4 +52,11 @@ pub fn examples()
     ensures two_levels { TwoLevels }
     ensures shared_margins { SharedMargins }
     ensures rule_rows { RuleRows }
+{}
+
+/// In every table a total's truth is the sum of its children's, for each variable, where no record has a code with
+/// children.
+#[tactic(auto, using(crate::proofs::AddingUp::tables_add_up))]
+pub fn tables_add_up()
+    ensures { TablesAddUp }
 {}

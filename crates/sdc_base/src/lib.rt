@@ -33,7 +33,7 @@ pub use hidden::Hidden;
 pub use items::Items;
 pub use laws::{
     examples, falls_where_under_in_each, flat_is_code_tree, names_are_first,
-    places_are_lexicographic, ranking_is_fair, under_is_tested,
+    places_are_lexicographic, ranking_is_fair, tables_add_up, under_is_tested,
 };
 pub use memory::Memory;
 pub use method::Method;

@@ -5,10 +5,10 @@ use Rattle.std.specs.Option.{ForSome}
 use Rattle.std.proofs.lemmas.Bool.Decides.{nat_tests, Decides-eqb}
 use Rattle.sdc_base.specs.Trees.{Tree, IsCodeTree, is_under, met_in, parent_at, upward}
 use Rattle.sdc_base.specs.Records.{Name}
-use Rattle.sdc_base.proofs.Walks.{parent_is_earlier}
+use Rattle.sdc_base.specs.Places.{count}
+use Rattle.sdc_base.proofs.Walks.{count-none, parent_is_earlier}
 use Rattle.linked_tables.proofs.Sharing.{codes_at}
 use Rattle.tabulate.specs.Tuples.{lines_above, places_over}
-use Rattle.tabulate.specs.Giving.{count}
 use Rattle.tabulate.proofs.PlaceSteps.{count-append}
 
 pub count-map : {X Y : Type 0} (test : Y → Bool) (f : X → Y) (xs : List X) → count test (map f xs) ≡ count (λ x. test (f x)) xs
@@ -18,10 +18,6 @@ count-map test f (x ∷ xs) = ap (λ n. (if test (f x) then 1 else 0) + n) (coun
 pub count-same : {X : Type 0} (test other : X → Bool) (xs : List X) → ((x : X) → test x ≡ other x) → count test xs ≡ count other xs
 count-same test other [] same = refl
 count-same test other (x ∷ xs) same = ap (λ b. (if b then 1 else 0) + count test xs) (same x) ∙ ap (λ n. (if other x then 1 else 0) + n) (count-same test other xs same)
-
-pub count-none : {X : Type 0} (test : X → Bool) (xs : List X) → ((x : X) → test x ≡ false) → count test xs ≡ 0
-count-none test [] none = refl
-count-none test (x ∷ xs) none = ap (λ b. (if b then 1 else 0) + count test xs) (none x) ∙ ap (λ n. 0 + n) (count-none test xs none)
 
 -- ---- one code for each line
 

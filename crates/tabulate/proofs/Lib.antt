@@ -7,4 +7,3 @@ pub mod Counting
 pub mod Standing
 pub mod Whole
 pub mod Finish
-pub mod AddingUp

@@ -8,7 +8,8 @@ use Rattle.linked_tables.specs.declared.mark.Mark.{Mark}
 use Rattle.linked_tables.specs.Held.{Held}
 use Rattle.linked_tables.specs.Shared.{cell_at}
 use Rattle.tabulate.specs.Holding.{Holds, AreGiven, AreFine, kept_of, kept_at}
-use Rattle.tabulate.specs.Giving.{Gave, count, hits, is_at}
+use Rattle.sdc_base.specs.Places.{count}
+use Rattle.tabulate.specs.Giving.{Gave, hits, is_at}
 use Rattle.tabulate.proofs.ListReads.{set-here, set-there}
 
 -- the same records in other words

@@ -9,14 +9,13 @@ use Rattle.std.proofs.lemmas.Slice.Eq.{bytes_eq-Decides}
 use Rattle.sdc_base.specs.Trees.{Tree}
 use Rattle.sdc_base.specs.Records.{Name}
 use Rattle.sdc_base.specs.Places.{first_place}
-use Rattle.sdc_base.specs.Cells.{cells_of, code_for, is_named, named_by, name_of, trees_of}
+use Rattle.sdc_base.specs.Cells.{cells_of, code_for, is_named, named_by, name_of, trees_of, spans}
 use Rattle.sdc_base.specs.CellOrder.{is_place_in}
 use Rattle.sdc_base.proofs.FirstNames.{all_named, names_are_first}
 use Rattle.sdc_base.proofs.PlaceLists.{name_length}
 use Rattle.linked_tables.specs.Held.{Held}
 use Rattle.linked_tables.specs.Tables.{has_twice, has_unknown}
 use Rattle.linked_tables.specs.Shared.{IsTable, cells, cell_at, first_own, is_in, name_at, named, number_of}
-use Rattle.linked_tables.specs.Laws.{spans}
 use Rattle.linked_tables.proofs.CellLists.{cells-stay}
 use Rattle.linked_tables.proofs.TableSteps.{cells-next}
 use Rattle.linked_tables.proofs.Finding.{cell-found, cell-named, place-named}

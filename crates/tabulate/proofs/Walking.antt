@@ -30,10 +30,6 @@ tuples-begun trees codes place table k variable at = ap (tuples_from trees codes
 pub tuples-end : (trees : List Tree) (codes : Name) (place table : List ℕ) (k : ℕ) → length table ≤ k → tuples_from trees codes place (drop k table) ≡ place ∷ []
 tuples-end trees codes place table k past = ap (tuples_from trees codes place) (drop_all k table past) ∙ ap (λ one. one ∷ []) (append-nil place)
 
-pub met-none : (steps : ℕ) (tree : Tree) → met_in steps tree None ≡ []
-met-none zero tree = refl
-met-none (suc steps) tree = refl
-
 pub met-zero : (tree : Tree) (met : Option ℕ) → met_in 0 tree met ≡ []
 met-zero tree None = refl
 met-zero tree (Some place) = refl

@@ -8,19 +8,19 @@ use Rattle.std.proofs.lemmas.Option.{slice_get_within, get_or_from_slice_get}
 use Rattle.sdc_base.specs.Trees.{Tree, IsCodeTree, is_under, upward}
 use Rattle.sdc_base.specs.Records.{Name, falls_in, row_falls}
 use Rattle.sdc_base.specs.Sums.{rows_in}
-use Rattle.sdc_base.specs.Cells.{is_named, named_by}
+use Rattle.sdc_base.specs.Cells.{is_named, named_by, spans}
 use Rattle.sdc_base.specs.declared.rows.Row.{Row}
-use Rattle.sdc_base.proofs.Walks.{under_is_tested}
+use Rattle.sdc_base.proofs.Walks.{count-none, under_is_tested}
 use Rattle.sdc_base.proofs.InEach.{falls_where_under_in_each}
 use Rattle.linked_tables.specs.Held.{Held}
 use Rattle.linked_tables.specs.Tables.{has_unknown}
 use Rattle.linked_tables.specs.Shared.{IsBook, IsTable, cells, cell_at, first_own}
-use Rattle.linked_tables.specs.Laws.{spans}
 use Rattle.linked_tables.proofs.CellLists.{starts-rise}
 use Rattle.linked_tables.proofs.Sharing.{codes_at, named-codes}
 use Rattle.tabulate.specs.Tuples.{lines_above, places_over}
-use Rattle.tabulate.specs.Giving.{count, hits, is_at, rows_for, spanned, tuples}
-use Rattle.tabulate.proofs.Counting.{count-map, count-none, count-same, tuple-count, under_all, upward-count}
+use Rattle.sdc_base.specs.Places.{count}
+use Rattle.tabulate.specs.Giving.{hits, is_at, rows_for, spanned, tuples}
+use Rattle.tabulate.proofs.Counting.{count-map, count-same, tuple-count, under_all, upward-count}
 use Rattle.tabulate.proofs.ListReads.{read-none}
 use Rattle.tabulate.proofs.Standing.{cell-early, own-named, stands-once}
 

@@ -1,6 +1,7 @@
 -- What a book becomes where its cells are given records (own).
 use Rattle.std.specs.Prelude.{◌≡◌, ℕ, ◌+◌, ◌==◌, ◌&&◌, nat_le, Bool, false, List, [], ◌∷◌, ◌++◌, flat_map, replicate, slice_get, if◌then◌else◌}
 use Rattle.std.specs.Option.{option_map_or}
+use Rattle.sdc_base.specs.Places.{count}
 use Rattle.sdc_base.specs.declared.rows.Row.{Row}
 use Rattle.linked_tables.specs.Held.{Held}
 use Rattle.linked_tables.specs.Shared.{cell_at}
@@ -10,11 +11,6 @@ use Rattle.tabulate.specs.Tuples.{tuples_from}
 -- the cell stands at a place of table t, and is not one of the first ones
 abbrev pub is_at : Held → ℕ → ℕ → List ℕ → ℕ → Bool
 is_at book t first place cell = option_map_or (λ found. found == cell && nat_le first found) (cell_at book t place) false
-
--- how many of these pass the test
-abbrev pub count : {X : Type 0} → (X → Bool) → List X → ℕ
-count test [] = 0
-count test (x ∷ xs) = (if test x then 1 else 0) + count test xs
 
 -- at how many of these places it stands
 abbrev pub hits : Held → ℕ → ℕ → List (List ℕ) → ℕ → ℕ

@@ -3,4 +3,3 @@ pub mod Tuples
 pub mod Giving
 pub mod Starting
 pub mod Tabulated
-pub mod Laws

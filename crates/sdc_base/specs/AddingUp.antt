@@ -1,14 +1,10 @@
 -- Tables add up: a total is the sum of its parts (handbook, magnitude tables).
-use Rattle.std.specs.Prelude.{◌≡◌, ◌≢◌, ℕ, ◌<◌, List, [], ◌∷◌, length, slice_index, slice_index_or, slice_set, All, ℤ, pos, ◌+ℤ◌}
+use Rattle.std.specs.Prelude.{◌≡◌, ◌≢◌, ℕ, ◌<◌, List, [], length, slice_index, slice_index_or, slice_set, All}
 use Rattle.sdc_base.specs.Trees.{Tree, IsCodeTree, children}
 use Rattle.sdc_base.specs.Records.{Name}
 use Rattle.sdc_base.specs.Sums.{truth}
+use Rattle.sdc_base.specs.Totals.{sum_of}
 use Rattle.sdc_base.specs.declared.rows.Row.{Row}
-
--- numbers for places, added up
-abbrev pub sum_over : (ℕ → ℤ) → List ℕ → ℤ
-sum_over numbers [] = pos 0
-sum_over numbers (place ∷ places) = numbers place +ℤ sum_over numbers places
 
 -- a record of these trees: a code for each
 pub record IsCoded (trees : List Tree) (row : Row) : Type 0 where
@@ -21,4 +17,4 @@ abbrev pub TablesAddUp : Type 0
 TablesAddUp =
     (trees : List Tree) (rows : List Row) (name : Name) (variable : ℕ) → All IsCodeTree trees → All (IsCoded trees) rows → length name ≡ length trees → variable < length trees
     → All (λ row. children (slice_index_or trees variable []) (slice_index row.codes variable) ≡ []) rows → children (slice_index_or trees variable []) (slice_index name variable) ≢ []
-    → truth trees name rows ≡ sum_over (λ child. truth trees (slice_set name variable child) rows) (children (slice_index_or trees variable []) (slice_index name variable))
+    → truth trees name rows ≡ sum_of (λ child. truth trees (slice_set name variable child) rows) (children (slice_index_or trees variable []) (slice_index name variable))

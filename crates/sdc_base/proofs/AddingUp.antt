@@ -10,11 +10,20 @@ use Rattle.sdc_base.specs.Trees.{Tree, IsCodeTree, children, is_child, is_under,
 use Rattle.sdc_base.specs.Records.{Name, falls_in, row_falls}
 use Rattle.sdc_base.specs.Sums.{share, truth, weighted}
 use Rattle.sdc_base.specs.declared.rows.Row.{Row}
-use Rattle.sdc_base.proofs.Walks.{parent_is_earlier}
-use Rattle.tabulate.specs.Giving.{count}
-use Rattle.tabulate.specs.Laws.{IsCoded, TablesAddUp, sum_over}
-use Rattle.tabulate.proofs.Counting.{count-none}
-use Rattle.tabulate.proofs.Walking.{met-none}
+use Rattle.sdc_base.proofs.Walks.{count-none, met-none, parent_is_earlier}
+use Rattle.sdc_base.specs.Places.{count}
+use Rattle.sdc_base.specs.Totals.{sum_of}
+use Rattle.sdc_base.specs.AddingUp.{IsCoded, TablesAddUp}
+use Rattle.sdc_base.proofs.TotalLemmas.{sum_of-cons}
+
+-- numbers for places, added up from the last
+abbrev sum_over : (ℕ → ℤ) → List ℕ → ℤ
+sum_over numbers [] = pos 0
+sum_over numbers (place ∷ places) = numbers place +ℤ sum_over numbers places
+
+over-is-sum : (numbers : ℕ → ℤ) (places : List ℕ) → sum_over numbers places ≡ sum_of numbers places
+over-is-sum numbers [] = refl
+over-is-sum numbers (place ∷ places) = omega (arith, ints, over-is-sum numbers places, sum_of-cons numbers place places)
 
 -- ---- a walk that passes a place has come through one of its children
 
@@ -287,4 +296,6 @@ add-up trees (row ∷ rows) name variable each coded long within bare some =
     other false is differ = is
 
 pub tables_add_up : TablesAddUp
-tables_add_up = add-up
+tables_add_up trees rows name variable each coded long within bare some =
+    add-up trees rows name variable each coded long within bare some
+    ∙ over-is-sum (λ child. truth trees (slice_set name variable child) rows) (children (slice_index_or trees variable []) (slice_index name variable))
