@@ -90,7 +90,7 @@ as-many-trees : (variables : List Variable) → length (trees_in (map closed_of 
 as-many-trees [] = refl
 as-many-trees (variable ∷ variables) = ap suc (as-many-trees variables)
 
-fields-first : (fields : List Field) → map (λ (variable : Variable). variable.field) (map (λ field. record { field = field; seen = seen_first field.source }) fields) ≡ fields
+pub fields-first : (fields : List Field) → map (λ (variable : Variable). variable.field) (map (λ field. record { field = field; seen = seen_first field.source }) fields) ≡ fields
 fields-first [] = refl
 fields-first (field ∷ fields) = ap (λ rest. field ∷ rest) (fields-first fields)
 
