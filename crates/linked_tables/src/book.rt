@@ -128,6 +128,13 @@ impl Book {
         self.start_of(t as usize) as u32
     }
 
+    /// How many variables there are, each with its tree. They are numbered from 0.
+    pub fn variables(&self) -> u32
+        ensures { result ≡ length self.now.trees }
+    {
+        self.trees.len() as u32
+    }
+
     /// How many tables there are.
     pub fn tables(&self) -> u32
         ensures { result ≡ length self.now.tables }
