@@ -3,7 +3,7 @@ ghost use Rattle.std.specs.Option.{ForSome};
 ghost use Rattle.sdc_base.specs.Answers.{Gives};
 ghost use Rattle.linked_tables.specs.Blank.{IsBlank};
 ghost use Rattle.linked_tables.specs.Tables.{book_of, fault_of};
-ghost use Rattle.linked_tables.specs.Shared.{cells as cells_in, cell_at, is_place_of, name_at as name_in, first_own as first_in, IsBook};
+ghost use Rattle.linked_tables.specs.Shared.{cells as cells_in, cell_at, is_place_of, name_at as name_in, number_of, first_own as first_in, IsBook};
 
 use crate::book_fault::BookFault;
 use crate::mark::Mark;
@@ -97,6 +97,16 @@ impl Book {
         self.names.get(cell as usize)
     }
 
+    /// The number of the cell with this name, or none where no table has such a cell. It takes one look-up and no
+    /// memory.
+    pub fn number(&self, name: &Place) -> Option<u32>
+        ensures number { result ≡ number_of self.now name.now }
+        ensures within { IfSome result (λ cell. cell < length self.now.marks) }
+    {
+        let number = self.names.number_of(&Name::new(name.copy()))?;
+        Some(number as u32)
+    }
+
     /// The tree of a variable, or none behind the last one.
     pub fn tree(&self, variable: u32) -> Option<&CodeTree>
         ensures { option_map (λ tree. tree.now) result ≡ slice_get self.now.trees variable }
@@ -128,6 +138,13 @@ impl Book {
         self.start_of(t as usize) as u32
     }
 
+    /// How many variables there are, each with its tree. They are numbered from 0.
+    pub fn variables(&self) -> u32
+        ensures { result ≡ length self.now.trees }
+    {
+        self.trees.len() as u32
+    }
+
     /// How many tables there are.
     pub fn tables(&self) -> u32
         ensures { result ≡ length self.now.tables }
@@ -140,7 +157,7 @@ impl Book {
     ghost use Rattle.std.specs.Borrow.{sem};
     ghost use Rattle.std.specs.Prelude.{if◌then◌else◌, None};
     ghost use Rattle.linked_tables.specs.Tables.{most_cells};
-    ghost use Rattle.linked_tables.specs.Shared.{is_in, named, number_of};
+    ghost use Rattle.linked_tables.specs.Shared.{is_in, named};
     ghost use Rattle.linked_tables.specs.Lending.{LendsMark, LendsPart};
 
     // The number of the cell at a place of a table that spans these variables.
