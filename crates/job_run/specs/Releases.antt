@@ -1,10 +1,10 @@
 -- What the inputs of a job come to: its cells, its tables, its certificate and its numbers (own).
-use Rattle.std.specs.Prelude.{ℕ, ◌+◌, ◌==◌, ◌&&◌, nat_lt, not, Bool, true, false, if◌then◌else◌, List, [], ◌∷◌, ◌++◌, length, slice_index_or, Option, None, Some, Result, Ok, Err, ℤ}
-use Rattle.std.specs.List.{list_all}
+use Rattle.std.specs.Prelude.{ℕ, ◌+◌, not, Bool, true, false, List, [], ◌∷◌, ◌++◌, length, slice_index_or, Option, None, Some, Result, Ok, Err, ℤ}
 use Rattle.sdc_base.specs.CertificateText.{open_certificate}
 use Rattle.sdc_base.specs.Cells.{cells_of}
 use Rattle.sdc_base.specs.Places.{first_place}
 use Rattle.sdc_base.specs.Records.{Name}
+use Rattle.sdc_base.specs.Relations.{Sum, relations_among}
 use Rattle.sdc_base.specs.RuleLevels.{Figures}
 use Rattle.sdc_base.specs.Steps.{◌>>=◌, map_fault, refuse}
 use Rattle.sdc_base.specs.Sums.{truth}
@@ -17,14 +17,10 @@ use Rattle.apriori.specs.Faults.{LineOf}
 use Rattle.apriori.specs.Settling.{Settled, figures_of, settle_of}
 use Rattle.apriori.specs.declared.faults.PriorWhy.{PriorWhy}
 use Rattle.apriori.specs.declared.prior.Prior.{Prior}
-use Rattle.rda_meta.specs.declared.meta.Shape.{Shape}
-use Rattle.rda_meta.specs.declared.meta.Shape.TheVariants as shape
 use Rattle.job_lang.specs.declared.job.OutputLine.{OutputLine}
 use Rattle.job_lang.specs.declared.job.TableLine.{TableLine}
 use Rattle.linked_tables.specs.declared.book_fault.BookFault.{BookFault}
 use Rattle.linked_tables.specs.declared.book_fault.BookFault.TheVariants as book
-use Rattle.job_run.specs.Inputs.{spanning}
-use Rattle.job_run.specs.declared.described.Described.{Described}
 use Rattle.job_run.specs.declared.inputs.Inputs.{Inputs}
 use Rattle.job_run.specs.declared.put.Put.{Put}
 use Rattle.job_run.specs.declared.put.Release.{Release}
@@ -40,25 +36,20 @@ abbrev pub is_hiding : Method → Bool
 is_hiding (method.Rnd base) = false
 is_hiding other = true
 
--- the variable is flat
-abbrev pub is_flat : Shape → Bool
-is_flat shape.Flat = true
-is_flat other = false
-
 -- a primary kind
 abbrev pub is_of_primary : Kind → Bool
 is_of_primary Primary = true
 is_of_primary other = false
-
--- one flat variable spans all tables
-abbrev pub is_one_flat : Described → Bool
-is_one_flat described = (length described.bound.spanning == 1) && list_all (λ one. is_flat one.1.shape) (spanning described)
 
 -- ---- cells
 
 -- the cells of all tables
 abbrev pub cells : Inputs → List Name
 cells inputs = cells_of inputs.records.trees inputs.described.bound.tables
+
+-- the relations between these cells
+abbrev pub relations : Inputs → List Sum
+relations inputs = relations_among inputs.records.trees inputs.described.bound.tables
 
 -- what the rules look at in each cell, over the records
 abbrev pub figures : Inputs → List Figures
@@ -94,14 +85,9 @@ tables_from inputs t (line ∷ lines) [] = []
 tables_from inputs t (line ∷ lines) (output ∷ outputs) =
     record { file = file.Table t; name = output.file; bytes = open_table inputs t (names_of line) } ∷ tables_from inputs (t + 1) lines outputs
 
--- how many relations the certificate counts so far: of one flat variable that of its total, where it has a code below it;
--- else none
-abbrev pub relations_of_one : Inputs → ℕ
-relations_of_one inputs = if is_one_flat inputs.described && nat_lt 1 (length (slice_index_or inputs.records.trees 0 [])) then 1 else 0
-
 -- the certificate of a release without hidden cells
 abbrev pub certificate_of : Inputs → List ℕ
-certificate_of inputs = open_certificate inputs.described.job.method (length (cells inputs)) (relations_of_one inputs)
+certificate_of inputs = open_certificate inputs.described.job.method (length (cells inputs)) (length (relations inputs))
 
 -- what is put: first the certificate, then the tables in the order of the job
 abbrev pub puts_of : Inputs → List Put

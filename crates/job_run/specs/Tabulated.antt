@@ -1,9 +1,12 @@
 -- What holds of a job's book once its cells have their records (own).
-use Rattle.std.specs.Prelude.{◌≡◌, ◌≤◌, ℕ, false, length, slice_index_or, All}
+use Rattle.std.specs.Prelude.{◌≡◌, ◌≤◌, ℕ, false, length, map, slice_index_or, All}
+use Rattle.sdc_base.specs.Relations.{relations_among}
 use Rattle.sdc_base.specs.RuleLevels.{keep_of}
 use Rattle.sdc_base.specs.declared.hidden.Hidden.{Hidden}
+use Rattle.sdc_base.specs.declared.system.System.{System}
 use Rattle.linked_tables.specs.Held.{Held}
 use Rattle.linked_tables.specs.Shared.{cells}
+use Rattle.relations.specs.Holding.{sum_in}
 use Rattle.primary_rules.specs.Ranges.{IsTruth}
 use Rattle.tabulate.specs.Tabulated.{AreTabulated}
 use Rattle.job_run.specs.declared.described.Described.{Described}
@@ -26,3 +29,8 @@ pub record IsReadyFor (described : Described) (book : Held) : Type 0 where
 pub record IsOpen (book : Held) (hidden : Hidden) : Type 0 where
   pub each : length hidden.flags ≡ length book.marks
   pub none : (cell : ℕ) → slice_index_or hidden.flags cell false ≡ false
+
+-- the system has the relations between the cells of the book
+pub record IsSystemOf (book : Held) (system : System) : Type 0 where
+  pub cells : system.cells ≡ length (cells book)
+  pub relations : map sum_in system.relations ≡ relations_among book.trees book.tables

@@ -13,17 +13,15 @@ ghost use Rattle.job_lang.specs.Jobs.{job_of};
 ghost use Rattle.job_run.specs.Inputs.{described_of, limit, job_fault, meta_fault};
 ghost use Rattle.job_run.specs.Looks.{ComesFirstTo};
 ghost use Rattle.job_run.specs.Stops.{stopped_for, job_stop as stop_of_job, meta_stop as stop_of_meta};
-ghost use Rattle.job_run.specs.Releases.{is_flat as flat, is_one_flat as one_flat};
 ghost use Rattle.job_run.specs.Sound.{IsSound};
 ghost use Rattle.job_run.specs.declared.report.FileRef.{FileRef as AnyFile};
 
-use crate::fields::variable_at;
 use crate::loading::load;
 use crate::report::{Fault, FileRef};
 use crate::stop::Stop;
 use job_lang::{Bound, Job, JobError, bind, read_job};
 use office_io::Shelf;
-use rda_meta::{Meta, MetaError, Shape, read_meta};
+use rda_meta::{Meta, MetaError, read_meta};
 use sdc_base::Text;
 use std::alloc::Global;
 
@@ -135,28 +133,5 @@ fn meta_stop(error: MetaError) -> Stop
     match error {
         MetaError::At { line, why } => Stop::Refused(Fault::Meta { line, why }),
         MetaError::Memory => Stop::Memory,
-    }
-}
-
-/// Whether one flat variable spans all tables.
-pub(crate) fn is_one_flat(described: &Described) -> bool
-    requires { IsSound described.now }
-    ensures { result ≡ one_flat described.now }
-{
-    if described.bound.spanning.as_slice().len() != 1 {
-        return false;
-    }
-    let place = described.bound.spanning.as_slice()[0];
-    let variable = variable_at(described.meta.variables.as_slice(), place);
-    is_flat(&variable.shape)
-}
-
-// A flat variable.
-fn is_flat(shape: &Shape) -> bool
-    ensures { result ≡ flat shape.now }
-{
-    match shape {
-        Shape::Flat => true,
-        _ => false,
     }
 }

@@ -14,6 +14,7 @@ use crate::refusal::Refusal;
 use crate::release_texts::puts_for;
 use crate::report::{Fault, FileRef, Summary};
 use apriori::{Prior, PriorError, settle};
+use relations::relations_of;
 use sdc_base::{Cell, Kind, Method};
 use std::alloc::Global;
 
@@ -41,7 +42,8 @@ pub(crate) fn release_for(
         return Err(Refusal::Refused(Fault::NeedsPlan(cell)));
     }
     let summary = summary_for(counted);
-    let puts = puts_for(alloc, &counted.described, &counted.book)?;
+    let system = relations_of(alloc, &counted.book)?;
+    let puts = puts_for(alloc, &counted.described, &counted.book, &system)?;
     Ok(Release { puts, summary })
 }
 

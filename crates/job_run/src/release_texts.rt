@@ -1,18 +1,18 @@
 ghost use Rattle.std.specs.Prelude.{◌≡◌, ◌<◌, ◌≤◌, ◌+◌, ◌++◌, ◌∷◌, [], IfOk, OnOk, length, slice_index_or};
 ghost use Rattle.sdc_base.specs.CertificateText.{open_certificate};
-ghost use Rattle.job_run.specs.Releases.{names_of as header_of, open_table, tables_from, puts_of, relations_of_one, certificate_of};
+ghost use Rattle.job_run.specs.Releases.{names_of as header_of, open_table, tables_from, puts_of, certificate_of};
 ghost use Rattle.job_run.specs.Sound.{IsSound};
-ghost use Rattle.job_run.specs.Tabulated.{IsBookOf, IsReadyFor, IsOpen};
+ghost use Rattle.job_run.specs.Tabulated.{IsBookOf, IsReadyFor, IsOpen, IsSystemOf};
 ghost use Rattle.job_run.specs.declared.inputs.Inputs.{Inputs as AnyInputs};
 
 use crate::certificate::certificate_bytes;
-use crate::described::{Described, is_one_flat};
+use crate::described::Described;
 use crate::put::Put;
 use crate::report::FileRef;
 use job_lang::{OutputLine, TableLine};
 use linked_tables::Book;
 use release_writer::{Shown, table_bytes};
-use sdc_base::{Hidden, Items, Memory, Text};
+use sdc_base::{Hidden, Items, Memory, System, Text};
 use std::alloc::Global;
 
 /// What a release without hidden cells puts: first the certificate, and then the tables in the order of the job.
@@ -20,15 +20,17 @@ pub(crate) fn puts_for(
     alloc: Global,
     described: &Described,
     book: &Book,
+    system: &System,
 ) -> Result<Items<Put>, Memory>
     requires sound { IsSound described.now }
     requires ready { IsReadyFor described.now book.now }
+    requires related { IsSystemOf book.now system.now }
     ensures puts { IfOk result (λ puts. (inputs : AnyInputs) → inputs.described ≡ described.now → IsBookOf inputs book.now → puts ≡ puts_of inputs) }
     ensures each { IfOk result (λ puts. length puts ≡ 1 + length described.now.job.tables) }
 {
     let open = nothing_hidden(alloc, book)?;
     let mut puts = Items::empty(alloc);
-    puts.push(certificate_put(alloc, described, book)?)?;
+    puts.push(certificate_put(alloc, described, book, system)?)?;
     add_tables(alloc, described, book, &open, &mut puts)?;
     Ok(puts)
 }
@@ -44,40 +46,23 @@ fn nothing_hidden(alloc: Global, book: &Book) -> Result<Hidden, Memory>
 }
 
 // The certificate.
-fn certificate_put(alloc: Global, described: &Described, book: &Book) -> Result<Put, Memory>
-    requires { IsSound described.now }
+fn certificate_put(
+    alloc: Global,
+    described: &Described,
+    book: &Book,
+    system: &System,
+) -> Result<Put, Memory>
+    requires related { IsSystemOf book.now system.now }
     ensures { IfOk result (λ put. (inputs : AnyInputs) → inputs.described ≡ described.now → IsBookOf inputs book.now
         → put ≡ record { file = FileRef.Certificate; name = described.now.job.certificate; bytes = certificate_of inputs }) }
 {
-    let relations = relations_in(described, book);
+    let relations = system.relations.as_slice().len() as u32;
     let bytes = certificate_bytes(alloc, described.job.method, book.cells(), relations)?;
     Ok(Put {
         file: FileRef::Certificate,
         name: described.job.certificate.copy(alloc)?,
         bytes,
     })
-}
-
-// How many relations the certificate counts.
-fn relations_in(described: &Described, book: &Book) -> u32
-    requires { IsSound described.now }
-    ensures { (inputs : AnyInputs) → inputs.described ≡ described.now → IsBookOf inputs book.now → result ≡ relations_of_one inputs }
-{
-    if is_one_flat(described) && first_size(book) > 1 {
-        1
-    } else {
-        0
-    }
-}
-
-// How many codes the first variable has, the total included.
-fn first_size(book: &Book) -> usize
-    ensures { result ≡ length (slice_index_or book.now.trees 0 []) }
-{
-    match book.tree(0) {
-        Some(tree) => tree.len(),
-        None => 0,
-    }
 }
 
 // Adds the tables in the order of the job.
