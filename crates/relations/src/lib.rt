@@ -1,6 +1,0 @@
-//! The relations between the cells of linked tables.
-#![tactic(auto)]
-
-mod relating;
-
-pub use relating::relations_of;
