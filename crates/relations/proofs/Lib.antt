@@ -1,0 +1,4 @@
+pub mod Children
+pub mod Tables
+pub mod Lists
+pub mod Holding

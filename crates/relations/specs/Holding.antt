@@ -1,0 +1,29 @@
+-- Relations as totals with their parts, and marks whose truths are those of records (handbook, feasibility interval).
+use Rattle.std.specs.Prelude.{◌≡◌, ℕ, ◌<◌, List, [], length, slice_get, slice_index, slice_index_or, All, Some, pos}
+use Rattle.std.specs.Option.{option_map_or}
+use Rattle.sdc_base.specs.Trees.{Tree, children}
+use Rattle.sdc_base.specs.Records.{Name}
+use Rattle.sdc_base.specs.Relations.{Sum}
+use Rattle.sdc_base.specs.Sums.{truth}
+use Rattle.sdc_base.specs.Systems.{Numbers}
+use Rattle.sdc_base.specs.declared.relation.Relation.{Relation}
+use Rattle.sdc_base.specs.declared.rows.Row.{Row}
+use Rattle.linked_tables.specs.declared.mark.Mark.{Mark}
+use Rattle.linked_tables.specs.Held.{Held}
+use Rattle.linked_tables.specs.Shared.{cells}
+
+-- a relation as a total and its parts
+abbrev pub sum_in : Relation → Sum
+sum_in r = (r.total, r.parts)
+
+-- the truth that the mark of each cell has; 0 where there is no such cell
+abbrev pub truth_at : List Mark → Numbers
+truth_at marks cell = option_map_or (λ mark. mark.facts.truth) (slice_get marks cell) (pos 0)
+
+-- no record's code has children, for any variable
+abbrev pub HaveNoChildren : List Tree → List Row → Type 0
+HaveNoChildren trees rows = All (λ row. (variable : ℕ) → variable < length trees → children (slice_index_or trees variable []) (slice_index row.codes variable) ≡ []) rows
+
+-- each mark's truth is that of its cell over these records
+abbrev pub AreTruths : Held → List Row → Type 0
+AreTruths book rows = (cell : ℕ) (name : Name) (mark : Mark) → slice_get (cells book) cell ≡ Some name → slice_get book.marks cell ≡ Some mark → mark.facts.truth ≡ truth book.trees name rows

@@ -1,0 +1,93 @@
+ghost use Rattle.std.specs.Prelude.{◌≡◌, ◌<◌, ◌≤◌, ◌+◌, ◌++◌, ◌==◌, ◌&&◌, List, Some, [], true, not, length, map, slice_get, slice_index_or, option_to_list, All, IfOk, OnOk};
+ghost use Rattle.sdc_base.specs.AddingUp.{IsCoded};
+ghost use Rattle.sdc_base.specs.Cells.{is_named};
+ghost use Rattle.sdc_base.specs.Relations.{codes_below, is_spanned as spanned, relation_for, relations_among, relations_for};
+ghost use Rattle.sdc_base.specs.Systems.{HoldOn, NamesCells};
+ghost use Rattle.sdc_base.specs.declared.rows.Row.{Row as Record};
+ghost use Rattle.linked_tables.specs.Shared.{cells as cells_in, IsBook};
+ghost use Rattle.relations.specs.Holding.{AreTruths, HaveNoChildren, sum_in, truth_at};
+
+use crate::below::{has_below, parts_of};
+use crate::having::is_spanned;
+use linked_tables::Book;
+use sdc_base::{Items, Memory, Place, Relation, System};
+use std::alloc::Global;
+
+/// The relations between the cells of a book. For each pair of a cell and a variable there is one where some table
+/// has the cell and spans the variable, and there are codes right below the cell's: the cell is the sum of the cells
+/// that have one of these in its place. They stand by cell and then by variable.
+///
+/// They hold on the truths of the marks where these are of records whose codes have no children. It takes one look-up
+/// for each part of each relation, and for each pair of a cell and a variable a look at each code of the name for
+/// each table; its one refusal is want of memory.
+pub fn relations_of(alloc: Global, book: &Book) -> Result<System, Memory>
+    ensures cells { IfOk result (λ system. system.cells ≡ length (cells_in book.now)) }
+    ensures exact { IfOk result (λ system. map sum_in system.relations ≡ relations_among book.now.trees book.now.tables) }
+    ensures hold { (rows : List Record) → All (IsCoded book.now.trees) rows → HaveNoChildren book.now.trees rows → AreTruths book.now rows → IfOk result (λ system. HoldOn (truth_at book.now.marks) system.relations) }
+{
+    let cells = book.cells();
+    let mut relations = Vec::new(alloc);
+    'numbers: for cell in 0..cells {
+        add_cell(alloc, book, cell, &mut relations)?;
+    }
+    Ok(System {
+        cells,
+        relations: Items::new(relations),
+    })
+}
+
+// Adds the relations of a cell, by variable.
+fn add_cell(
+    alloc: Global,
+    book: &Book,
+    cell: u32,
+    relations: &mut Vec<Relation>,
+) -> Result<(), Memory>
+    requires book { IsBook book.now }
+    requires known { cell < length book.now.marks }
+    requires named { All (NamesCells (length book.now.marks)) relations.old.items }
+    ensures added { OnOk result (map sum_in relations.new.items ≡ map sum_in relations.old.items ++ relations_for book.now.trees book.now.tables cell (slice_index_or (cells_in book.now) cell [])) }
+    ensures within { OnOk result (All (NamesCells (length book.now.marks)) relations.new.items) }
+    ensures few { OnOk result (length relations.new.items ≤ length relations.old.items + 8) }
+{
+    let Some(name) = book.name(cell) else {
+        return Ok(());
+    };
+    'variables: for variable in 0..book.variables() {
+        add_relation(alloc, book, cell, name, variable, relations)?;
+    }
+    Ok(())
+}
+
+// Adds the relation of a cell for a variable, where there is one.
+fn add_relation(
+    alloc: Global,
+    book: &Book,
+    cell: u32,
+    name: &Place,
+    variable: u32,
+    relations: &mut Vec<Relation>,
+) -> Result<(), Memory>
+    requires book { IsBook book.now }
+    requires at { slice_get (cells_in book.now) cell ≡ Some name.now }
+    requires known { variable < length book.now.trees }
+    requires named { All (NamesCells (length book.now.marks)) relations.old.items }
+    ensures added { OnOk result (map sum_in relations.new.items ≡ map sum_in relations.old.items ++ option_to_list (relation_for book.now.trees book.now.tables cell name.now variable)) }
+    ensures within { OnOk result (All (NamesCells (length book.now.marks)) relations.new.items) }
+    ensures few { OnOk result (length relations.new.items ≤ length relations.old.items + 1) }
+{
+    if has_relation(book, name, variable) {
+        let parts = parts_of(alloc, book, name, variable)?;
+        relations.push(Relation { total: cell, parts })?;
+    }
+    Ok(())
+}
+
+// Whether some table has the cell with this name and spans the variable, and there are codes right below the cell's.
+fn has_relation(book: &Book, name: &Place, variable: u32) -> bool
+    requires book { IsBook book.now }
+    requires cell { is_named (cells_in book.now) name.now ≡ true }
+    ensures { result ≡ (spanned book.now.trees book.now.tables name.now variable && not (length (codes_below book.now.trees name.now variable) == 0)) }
+{
+    is_spanned(book, name, variable) && has_below(book, name, variable)
+}
