@@ -20,7 +20,7 @@ is_quoted bytes = nat_le 2 (length bytes) && (slice_index bytes 0 == 34) && (sli
 abbrev pub unquoted : List ℕ → List ℕ
 unquoted bytes = if is_quoted bytes then take (length bytes - 2) (drop 1 bytes) else bytes
 
--- the code of a line: what stands before the first comma, or the whole line, without blanks at both ends and then without a pair of quotes
+-- the code of a line: what stands before the first comma, or the whole line, without blanks at both ends and then without a pair of quotes; blanks inside the quotes stay
 abbrev pub listed : List ℕ → List ℕ
 listed line = unquoted (trim (before_first is_comma line))
 

@@ -17,7 +17,7 @@ abbrev pub boundaries : ℕ → List ℕ → List ℕ
 boundaries from [] = []
 boundaries from (width ∷ widths) = (from + width) ∷ boundaries (from + width) widths
 
--- how many boundaries are inside the code
+-- how many boundaries are inside the code; one at its end is not inside
 abbrev pub level : List ℕ → List ℕ → ℕ
 level bounds code = position_or_len (λ bound. nat_le (length code) bound) bounds
 

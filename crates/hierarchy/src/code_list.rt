@@ -18,10 +18,10 @@ const MOST: usize = 5000;
 /// a line, without blanks at both ends and then without one pair of double quotes. A line whose code is
 /// empty, is the total or stood before is passed over.
 ///
-/// Lines are numbered from 1. The one refusal is `TooMany`, with the line of the 5,001st code that would be
-/// kept; want of memory is `Memory`. Either leaves what was lent as it was. It takes two look-ups a line and
-/// reads each byte a few times. The form is the manual's; commas in quotes and what is passed over are
-/// argus's own.
+/// There are fewer than `2^32` bytes, so that a line's number fits. Lines are numbered from 1. The one refusal
+/// is `TooMany`, with the line of the 5,001st code that would be kept; want of memory is `Memory`. Either
+/// leaves what was lent as it was. It takes two look-ups a line and reads each byte a few times. The form is
+/// the manual's; commas in quotes and what is passed over are argus's own.
 pub fn read_codes(alloc: Global, bytes: &[u8], total: &Text) -> Result<Vec<Text>, TreeFault>
     requires { length bytes.now < 2 ^ 32 }
     ensures exact { Gives fault_of (λ codes. codes.items) result (codes_of total.now bytes.now) }

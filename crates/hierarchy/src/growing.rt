@@ -22,7 +22,7 @@ pub(crate) fn total_alone(alloc: Global, total: &[u8]) -> Result<Nodes, TreeFaul
 }
 
 /// Adds a code right below a place that is the last or above it, or says why it doesn't fit: it is the total,
-/// stands already, or is one too many. A refusal leaves the nodes as they were. It takes two look-ups.
+/// stands already, or is one too many. It takes two look-ups.
 pub(crate) fn add(
     alloc: Global,
     nodes: &mut Nodes,

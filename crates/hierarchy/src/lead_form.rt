@@ -21,7 +21,8 @@ const DEEPEST: usize = 9;
 /// The tree of a hierarchy file: a code a line, after as many leads as the code is levels below the first.
 /// The total isn't written. Blank lines are passed over, and blanks round a code are dropped after its leads.
 ///
-/// Lines are numbered from 1. The first line with a fault is refused, with what comes first of: `NoCode` (a lead
+/// There are fewer than `2^32` bytes, so that a line's number fits, and the lead has one or more. Lines are
+/// numbered from 1. The first line with a fault is refused, with what comes first of: `NoCode` (a lead
 /// without code), `Jump` (more than one level deeper than the line before, or a first line with a lead),
 /// `TooDeep` (the tenth level), `IsTotal`, `Twice` (an earlier line has the code) and `TooMany` (the 5,001st code);
 /// want of memory is `Memory`. Either leaves what was lent as it was. It takes two look-ups a code and reads

@@ -28,8 +28,8 @@ const MOST: usize = 5000;
 
 /// The tree of codes that have their levels in their digits: its places are the prefixes of each code at the
 /// boundaries of the widths and the code itself, in ascending order of bytes, each below its longest proper
-/// prefix at a boundary, or else below the total. The codes may come in any order, and may be shorter than the
-/// widths together.
+/// prefix at a boundary, or else below the total. There are 1 to 9 widths, each of 1 byte or more, and no code is
+/// longer than they are together; a code may be shorter, and the codes may come in any order.
 ///
 /// Codes are numbered from 1. The first code with a fault is refused, with what comes first of: `Blank` (a blank
 /// inside), `IsTotal` (it or a prefix of it is the total), `Twice` (an earlier entry is the same) and `TooMany` (more

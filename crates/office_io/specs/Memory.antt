@@ -14,7 +14,7 @@ is_due failing calls = list_any (λ number. number == counted calls 1) failing
 abbrev pub shelf_files : MemoryShelf → Option Files
 shelf_files s = Some (file_of s.files.items)
 
--- what is left of the chosen file, but after a read that failed
+-- what is left of the chosen file; after a read that failed it isn't known
 abbrev pub shelf_left : MemoryShelf → Option (List ℕ)
 shelf_left s = rest_at s.files.items s.known s.chosen s.at
 

@@ -1,4 +1,4 @@
-ghost use Rattle.std.specs.Prelude.{◌≡◌, ◌≢◌, ◌-◌, ◌^◌, ◌≤◌, ◌<◌, Some, None, [], IfSome, IfNone, IfOk, OnOk, OnErr, IsErr, IsErrOf, ◌↔◌, length, take, drop, option_map, true};
+ghost use Rattle.std.specs.Prelude.{◌≡◌, ◌≢◌, ◌-◌, ◌^◌, ◌≤◌, ◌<◌, Some, None, [], IfSome, IfNone, IfOk, OnOk, OnErr, IsErr, IsErrOf, Err, ◌↔◌, length, take, drop, option_map, true};
 ghost use Rattle.sdc_base.specs.Counts.{Rose, counted};
 ghost use Rattle.sdc_base.specs.Told.{WhereTold};
 ghost use Rattle.office_io.specs.Files.{file_of, name_at, bytes_at, rest_at, held_name};
@@ -10,7 +10,9 @@ use sdc_base::Text;
 /// A shelf in memory, which fails at the calls that it is told. It tells its files.
 ///
 /// Calls of `begin` and of `read` are counted together, from 1, and a call fails exactly where its
-/// number is among the failing ones. A call costs as much as there are files and failing calls.
+/// number is among the failing ones. A call that fails counts one fault, a name that isn't held counts
+/// one absence, and no other call counts either. A call costs as much as there are files and failing
+/// calls.
 #[derive(Drop)]
 pub struct MemoryShelf {
     files: Vec<(Text, Vec<u8>)>,
@@ -35,7 +37,7 @@ impl MemoryShelf {
     /// A shelf of these files, each a name and its bytes, from which no file is chosen yet.
     ///
     /// The names are to be distinct: of two files with one name the first is held. The calls whose
-    /// numbers stand in `failing` fail, in any order. A read gives at most `piece` bytes.
+    /// numbers stand in `failing` fail, in any order. A read gives at most `piece` bytes, 1 or more.
     pub fn new(files: Vec<(Text, Vec<u8>)>, failing: Vec<u64>, piece: u32) -> MemoryShelf
         requires { 1 ≤ piece }
         ensures files { ⟦<MemoryShelf as Shelf>⟧.files result ≡ Some (file_of files.items) }
@@ -152,6 +154,10 @@ impl Shelf for MemoryShelf {
         ensures calls { shelf_calls self.new ≡ counted (shelf_calls self.old) 1 }
         ensures failing { shelf_failing self.new ≡ shelf_failing self.old }
         ensures piece_stays { shelf_piece self.new ≡ shelf_piece self.old }
+        ensures one_fault { IsErrOf result BeginFault.Failed → shelf_faults self.new ≡ counted (shelf_faults self.old) 1 }
+        ensures no_fault { (result ≢ Err BeginFault.Failed) → shelf_faults self.new ≡ shelf_faults self.old }
+        ensures one_absence { IsErrOf result BeginFault.Absent → shelf_absences self.new ≡ counted (shelf_absences self.old) 1 }
+        ensures no_absence { (result ≢ Err BeginFault.Absent) → shelf_absences self.new ≡ shelf_absences self.old }
     {
         self.taken = 0;
         self.at = 0;
@@ -192,6 +198,9 @@ impl Shelf for MemoryShelf {
         ensures calls { shelf_calls self.new ≡ counted (shelf_calls self.old) 1 }
         ensures failing { shelf_failing self.new ≡ shelf_failing self.old }
         ensures piece_stays { shelf_piece self.new ≡ shelf_piece self.old }
+        ensures one_fault { OnErr result (shelf_faults self.new ≡ counted (shelf_faults self.old) 1) }
+        ensures no_fault { OnOk result (shelf_faults self.new ≡ shelf_faults self.old) }
+        ensures no_absence { shelf_absences self.new ≡ shelf_absences self.old }
     {
         if self.next_fails() {
             self.faults = self.faults.saturating_add(1);

@@ -13,8 +13,9 @@ use std::collections::VecDeque;
 /// A tray in memory, which fails at the puts that it is told. It tells its files.
 ///
 /// Puts are counted from 1, without those that found no memory, and a put fails exactly where its
-/// number is among the failing ones, want of memory aside. It then keeps the first half of the bytes, rounded down. The bytes of a
-/// file that is replaced stay in memory as long as the tray.
+/// number is among the failing ones, want of memory aside. It then keeps the first half of the bytes,
+/// rounded down, and counts one fault; no other put counts one. The bytes of a file that is replaced
+/// stay in memory as long as the tray.
 #[derive(Drop)]
 pub struct MemoryTray {
     alloc: Global,
@@ -44,7 +45,8 @@ impl MemoryTray {
         }
     }
 
-    /// The bytes of the file of this name, lent, or none where it is not held.
+    /// The bytes of the file of this name, lent, or none where it is not held. It goes through all puts
+    /// from the last one on, until it finds the name.
     pub fn file(&self, name: &Text) -> Option<&[u8]>
         ensures { WhereTold (⟦<MemoryTray as Tray>⟧.files self.now) (λ fs. option_map (λ bytes. bytes.now) result ≡ fs name.now) }
     {
@@ -102,6 +104,8 @@ impl Tray for MemoryTray {
         ensures counted { (result ≢ Err PutFault.Memory) → tray_puts self.new ≡ counted (tray_puts self.old) 1 }
         ensures not_counted { IsErrOf result PutFault.Memory → tray_puts self.new ≡ tray_puts self.old }
         ensures failing { tray_failing self.new ≡ tray_failing self.old }
+        ensures one_fault { IsErrOf result PutFault.Failed → tray_faults self.new ≡ counted (tray_faults self.old) 1 }
+        ensures fine { OnOk result (tray_faults self.new ≡ tray_faults self.old) }
     {
         let number = self.puts.saturating_add(1);
         if self.failing.contains(&number) {

@@ -1,4 +1,7 @@
-use crate::{NumberFault, lines, print_units, read_units, trim};
+use crate::{
+    NumberFault, cut_at, cut_at_blank, is_blank_byte, is_file_name, lines, number_in, print_units,
+    read_units, trim,
+};
 use sdc_base::{Memory, Text};
 use std::alloc::Global;
 use std::process::Abort;
@@ -142,4 +145,116 @@ fn blanks(rt: HostRuntime) {
     ] {
         assert_eq!(rt; trim(text.as_bytes()), want.as_bytes(), "{text:?}");
     }
+}
+
+// `number_in`, where it may be called.
+fn whole(low: u64, high: u64, digits: &[u8]) -> Option<Option<u64>> {
+    if high >= 1_000_000_000_000_000_000 {
+        return None;
+    }
+    Some(number_in(low, high, digits))
+}
+
+#[test]
+fn whole_numbers(rt: HostRuntime) {
+    let most = 999_999_999_999_999_999u64;
+    for (text, low, high, number) in [
+        ("003", 1, 10, Some(3)),
+        ("0", 1, 10, None),
+        ("1", 1, 10, Some(1)),
+        ("10", 1, 10, Some(10)),
+        ("11", 1, 10, None),
+        ("000", 0, 0, Some(0)),
+        ("5", 6, 4, None),
+        // neither a sign nor a point nor a blank, and one digit at least
+        ("", 0, 9, None),
+        ("+3", 0, 9, None),
+        ("-0", 0, 9, None),
+        ("3.", 0, 9, None),
+        (" 3", 0, 9, None),
+        ("3 ", 0, 9, None),
+        ("3x", 0, 9, None),
+        // the widest numbers
+        ("999999999999999999", 0, most, Some(most)),
+        ("1000000000000000000", 0, most, None),
+        ("99999999999999999999999999999999999999999", 0, most, None),
+        (
+            "00000000000000000000000000000000000000012",
+            0,
+            most,
+            Some(12),
+        ),
+    ] {
+        assert_eq!(rt;
+            whole(low, high, text.as_bytes()),
+            Some(number),
+            "{text:?} from {low} to {high}"
+        );
+    }
+}
+
+#[test]
+fn cuts(rt: HostRuntime) {
+    for (text, front, rest) in [
+        ("a,b,c", "a", "b,c"),
+        (",b", "", "b"),
+        ("a,", "a", ""),
+        (",,", "", ","),
+        ("a b;c", "a b;c", ""),
+        ("", "", ""),
+    ] {
+        let (before, behind) = cut_at(b',', text.as_bytes());
+        assert_eq!(rt; before, front.as_bytes(), "before the comma of {text:?}");
+        assert_eq!(rt; behind, rest.as_bytes(), "behind the comma of {text:?}");
+    }
+    for (text, front, rest) in [
+        ("a b c", "a", "b c"),
+        ("a\tb c", "a", "b c"),
+        ("a  b", "a", " b"),
+        (" a", "", "a"),
+        ("a ", "a", ""),
+        ("a\rb\x0c,c", "a\rb\x0c,c", ""),
+        ("", "", ""),
+    ] {
+        let (before, behind) = cut_at_blank(text.as_bytes());
+        assert_eq!(rt; before, front.as_bytes(), "before the blank of {text:?}");
+        assert_eq!(rt; behind, rest.as_bytes(), "behind the blank of {text:?}");
+    }
+    for (b, blank) in [
+        (b' ', true),
+        (b'\t', true),
+        (b'\n', false),
+        (b'\r', false),
+        (0x0b, false),
+        (0x0c, false),
+        (0xa0, false),
+        (0, false),
+        (b'a', false),
+    ] {
+        assert_eq!(rt; is_blank_byte(b), blank, "byte {b}");
+    }
+}
+
+#[test]
+fn file_names(rt: HostRuntime) {
+    for (name, fine) in [
+        ("t.csv", true),
+        ("../size class.cdl", true),
+        ("'a', b", true),
+        (" ", true),
+        ("!~", true),
+        ("", false),
+        ("\"", false),
+        ("a\"b", false),
+        ("a\tb", false),
+        ("a\n", false),
+        ("a\x1f", false),
+        ("a\x7f", false),
+        ("\u{e9}", false),
+    ] {
+        assert_eq!(rt; is_file_name(name.as_bytes()), fine, "{name:?}");
+    }
+    let long = [b'a'; 256];
+    assert!(rt; is_file_name(&long[..255]), "255 bytes");
+    assert!(rt; !is_file_name(&long), "256 bytes");
 }

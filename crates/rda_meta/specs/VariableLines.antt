@@ -27,7 +27,7 @@ number_at most (word ∷ words) = do
   number ← or_fault BadPlace (number_in 1 most word)
   Ok (number, words)
 
--- The last position is at most 1,000.
+-- The last position, which is first plus width less one, is above 1,000. Not: first plus width.
 abbrev pub is_past : ℕ → ℕ → Bool
 is_past first width = nat_lt 1000 (first + width - 1)
 

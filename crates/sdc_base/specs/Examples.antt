@@ -34,9 +34,11 @@ six_rows = row_of 1 10 1 ∷ row_of 1 20 1 ∷ rows_of_b
 abbrev pub three_cells : List Name
 three_cells = (0 ∷ []) ∷ (1 ∷ []) ∷ (2 ∷ []) ∷ []
 
+-- the truths of the three cells
 abbrev pub truths : List Row → List ℤ
 truths rows = map (λ name. truth (two_codes ∷ []) name rows) three_cells
 
+-- the frequencies of the three cells
 abbrev pub freqs : List Row → List ℕ
 freqs rows = map (λ name. freq (two_codes ∷ []) name rows) three_cells
 

@@ -10,7 +10,7 @@ use Rattle.sdc_base.specs.declared.number_fault.NumberFault.TheVariants.{NotADig
 abbrev pub is_point : ℕ → Bool
 is_point b = b == 46
 
--- the place of the first byte that is neither a digit nor the first point
+-- the place, from 0, of the first byte that is neither a digit nor the first point; a later point is no digit
 abbrev pub stray : Bool → List ℕ → Option ℕ
 stray seen [] = None
 stray seen (b ∷ bytes) =

@@ -16,6 +16,7 @@ abbrev pub shares_from : ℕ → List Contribution → List Contribution → ℤ
 shares_from steps earlier [] = pos 0
 shares_from steps earlier (unit ∷ later) = pos (min unit.weight (steps - (weight_from unit.value earlier + weight_above unit.value later))) *ℤ unit.value +ℤ shares_from steps (earlier ++ unit ∷ []) later
 
+-- what all contributions come to over so many steps, each taken for itself
 abbrev pub shares : ℕ → List Contribution → ℤ
 shares steps units = shares_from steps [] units
 

@@ -5,9 +5,11 @@ use Rattle.sdc_base.specs.Numbers.{units_text}
 use Rattle.sdc_base.specs.Trees.{Tree, code_in}
 use Rattle.sdc_base.specs.Cells.{places, trees_of, name_of}
 
+-- the comma, which separates fields
 abbrev pub comma : ℕ
 comma = 44
 
+-- the double quote
 abbrev pub quote : ℕ
 quote = 34
 

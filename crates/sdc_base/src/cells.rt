@@ -12,8 +12,9 @@ use std::alloc::Global;
 /// The cells of tables, each a list of variables: the distinct names in the order in which the
 /// tables first name them, a table's places in lexicographic order.
 ///
-/// A name has one place for each variable in its tree. It fails for want of memory alone. This is
-/// the plain form: it takes time in proportion to the places of all tables times the cells.
+/// There are at most 8 trees, each of at most 5,001 codes with its total, and a table spans at most 8
+/// variables. A name has one place for each variable in its tree. It fails for want of memory alone. This
+/// is the plain form: it takes time in proportion to the places of all tables times the cells.
 pub fn cells_of(alloc: Global, trees: &[NodeList], tables: &[Place]) -> Result<Items<Place>, Memory>
     requires few { length trees.now ≤ 8 }
     requires small { All (λ tree. length tree ≤ 5001) trees.now }

@@ -74,7 +74,8 @@ impl<T: Default + Drop, const N: usize> Few<T, N> {
         self.items.truncate(length);
     }
 
-    /// Puts an item before the one that stands at `at`.
+    /// Puts an item before the one that stands at `at`, or at the end where so many items stand there. There is
+    /// room for one more.
     pub fn insert(&mut self, at: usize, item: T)
         requires place { at ≤ length self.old }
         requires room { length self.old < N }

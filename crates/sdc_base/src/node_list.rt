@@ -71,7 +71,7 @@ impl NodeList {
 
     /// The place of a code, where the tree has it.
     ///
-    /// It goes through the codes.
+    /// There are fewer than `2^32` codes, so that a place fits. It goes through the codes and takes no memory.
     pub fn find(&self, code: &[u8]) -> Option<u32>
         requires few { length self.now < 2 ^ 32 }
         ensures { result ≡ find self.now code.now }

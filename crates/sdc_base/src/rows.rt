@@ -91,7 +91,8 @@ pub fn weighed(row: &Row) -> i128
 
 /// The largest contributions of a cell, of which the first `keep` are kept.
 ///
-/// It goes through all records. Each of them weighs at least `scale` steps.
+/// `keep` is from 2 to 10. A whole contribution is made of `scale` weight steps, 1 to 10,000, and each
+/// record weighs at least as many. It goes through all records and takes no memory.
 pub fn tops_of(trees: &[NodeList], name: &[u32], rows: &[Row], keep: u8, scale: u32) -> Tops
     requires at_least_two { 2 ≤ keep }
     requires at_most_ten { keep ≤ 10 }
@@ -113,7 +114,8 @@ pub fn tops_of(trees: &[NodeList], name: &[u32], rows: &[Row], keep: u8, scale: 
 
 /// The sum of value times weight over the n largest contributions of a cell, with n from 1 to 10.
 ///
-/// It goes through all records. Each of them weighs at least `scale` steps.
+/// A whole contribution is made of `scale` weight steps, 1 to 10,000, and each record weighs at least
+/// as many. It goes through all records and takes no memory.
 pub fn largest_of(trees: &[NodeList], name: &[u32], rows: &[Row], scale: u32, n: u8) -> i128
     requires some { 1 ≤ n }
     requires at_most_ten { n ≤ 10 }
