@@ -8,7 +8,8 @@ use Rattle.cost_rule.specs.declared.kind.CostKind.TheVariants as kind
 abbrev pub most_value : ℕ
 most_value = 1099511627775
 
--- the cost of a cell with these facts: a unit more than the truth, as far as it counts; one more than the frequency; or one
+-- The cost of a cell with these facts: one more than the truth in units, as far as it counts (for a truth below 0, which no
+-- cell has, than its amount); one more than the frequency; or one. Not: 0 for an empty cell.
 abbrev pub cost_of : CostKind → CellFacts → ℕ
 cost_of kind.Value facts = 1 + min (unsigned_abs facts.truth) most_value
 cost_of kind.Freq facts = 1 + facts.freq

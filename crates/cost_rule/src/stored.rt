@@ -30,7 +30,8 @@ impl<F: TellsCosts> Model for CostRule<F> {
 impl<F: TellsCosts> CostRule<F> {
     /// The rule of this kind, told by `f`.
     ///
-    /// `f` must tell the costs of the kind, of all facts with a truth from 0 and at most 1,000,000 records.
+    /// `f` must be one that may be asked about all facts with a truth from 0 and at most 1,000,000 records, and that tells
+    /// the costs of the kind for them. Nothing is refused. It doesn't ask `f`, and takes no memory.
     pub fn new(kind: CostKind, f: F) -> CostRule<F>
         requires told { IsTold F.may_ask F.may_say f kind }
         ensures kind { result ≡ kind }
@@ -38,7 +39,10 @@ impl<F: TellsCosts> CostRule<F> {
         CostRule { kind, f }
     }
 
-    /// What hiding a cell with these facts costs, from 1 to `2^40`: `f` is asked once. It takes no memory.
+    /// What hiding a cell with these facts costs, from 1 to `2^40`.
+    ///
+    /// The truth must be from 0, in units, and the records at most 1,000,000. Nothing is refused. `f` is asked once; beside
+    /// that it takes no memory.
     pub fn cost(&self, facts: &CellFacts) -> u64
         requires costed { AreCosted facts.now }
         ensures value { result ≡ cost_of self.now facts.now }
@@ -48,7 +52,12 @@ impl<F: TellsCosts> CostRule<F> {
         self.f.ask(facts)
     }
 
-    /// The price of a cell with these facts: its own where it has one, else what its facts cost. It takes no memory.
+    /// The price of a cell with these facts: its own where it has one, whatever that is, else what its facts cost.
+    ///
+    /// The truth must be from 0, in units, and the records at most 1,000,000, also where the cell has a price of its own.
+    /// Nothing is refused. `f` is asked once, or not at all where the cell has a price; beside that it takes no memory.
+    ///
+    /// That a price may be given for a cell is this project's own.
     pub fn price(&self, cell: &Cell, facts: &CellFacts) -> u64
         requires costed { AreCosted facts.now }
         ensures value { result ≡ price_of self.now cell.now.price facts.now }

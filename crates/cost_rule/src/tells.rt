@@ -11,7 +11,7 @@ pub trait TellsCosts {
     /// It may answer this about these facts.
     ghost may_say: { Self → Facts → ℕ → Type 0 };
 
-    /// What hiding a cell with these facts costs.
+    /// What hiding a cell with these facts costs. They must be facts that it may be asked about.
     fn ask(&self, facts: &CellFacts) -> u64
         requires { may_ask self.now facts.now }
         ensures { may_say self.now facts.now result };

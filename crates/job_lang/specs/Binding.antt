@@ -74,7 +74,7 @@ earlier first line None = first
 earlier None line (Some why) = Some (line, why)
 earlier (Some first) line (Some why) = if nat_lt line first.0 then Some (line, why) else Some first
 
--- the earliest fault of tables, and of what was looked at before
+-- the earliest fault of tables
 abbrev pub tables_fault : List Variable → List TableLine → Option (ℕ × JobWhy)
 tables_fault variables tables = fold (λ first t. earlier first t.line (table_fault variables t)) None tables
 
@@ -133,7 +133,7 @@ weight_decimals rules variables = if rules.weighted then decimals_of (find (λ v
 abbrev pub weight_place : Rules → List Variable → Option ℕ
 weight_place rules variables = if rules.weighted then first_place (λ v. v.weight) variables else None
 
--- the variables of a job as places
+-- The variables of a job as places. Not: the weight's digits in the unit where records have no weights.
 abbrev pub places_of : Job → List Variable → Bound
 places_of job variables = record {
   spanning = spanning_of job.tables variables;

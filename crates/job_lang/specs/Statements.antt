@@ -58,7 +58,8 @@ is_again one before = list_any (λ s. is_by (command_of one) s.said) before
 abbrev pub names_in : List TableLine → List (List ℕ)
 names_in tables = flat_map (λ t. t.variables) tables
 
--- With this table there are more than 8 tables, or more than 8 different variables in all.
+-- With this table there are more than 8 tables, or more than 8 different variables in all. Not: variables counted as often
+-- as they stand.
 abbrev pub is_past_room : List (List ℕ) → List TableLine → Bool
 is_past_room variables tables = nat_le 8 (length tables) || nat_lt 8 (distinct_count bytes_eq (names_in tables ++ variables))
 

@@ -25,8 +25,9 @@ use std::alloc::Global;
 /// own.
 ///
 /// The caller sees to it that the job has a table, all of one response, each of distinct variables and of at most 8 in
-/// all, as each job that was read has; and that the metadata are within their limits. Want of memory aside, the answer is
-/// the definition's.
+/// all, as each job that was read has; and that the metadata are within their limits, as those that were read are: at most
+/// 64 variables of distinct names, one of them the weight at most, with at most 9 digits behind the point, and a weight
+/// with at most 4. Nothing is changed. Want of memory aside, the answer is the definition's.
 ///
 /// The cost is a look at each variable of the metadata for each name of the job.
 #[tactic(auto, unfolding(crate::specs::Binding::bound_of))]

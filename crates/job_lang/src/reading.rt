@@ -33,7 +33,8 @@ const USUAL_NODES: u64 = 1_000_000;
 /// The caller sees to it that there are fewer than `2^32` bytes, so that a line's number fits. Want of memory aside, the
 /// answer is the definition's.
 ///
-/// The cost is a look at each byte a few times, and for each line one at what the lines before it say.
+/// The cost is a look at each byte a few times, for each line one at what the lines before it say, and for each table and
+/// each file that is put one at what all lines say.
 #[tactic(auto, unfolding(crate::specs::Jobs::job_of))]
 pub fn read_job(alloc: Global, bytes: &[u8]) -> Result<Job, JobError>
     requires { length bytes.now < 2 ^ 32 }

@@ -28,7 +28,7 @@ abbrev pub begun : List ℕ → List ℕ
 begun [] = []
 begun (b ∷ bytes) = if list_any is_line_feed (b ∷ bytes) then begun bytes else b ∷ bytes
 
--- it has more than 1,000 bytes, one CR at its end not counted
+-- It has more than 1,000 bytes, one CR at its end not counted. Not: 1,001 bytes of which the last is a CR, since LF may follow.
 abbrev pub is_too_long : List ℕ → Bool
 is_too_long line = nat_lt 1000 (length (strip_carriage_return line))
 

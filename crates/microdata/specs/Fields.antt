@@ -10,7 +10,7 @@ use Rattle.microdata.specs.declared.faults.RowWhy.{RowWhy}
 use Rattle.microdata.specs.declared.faults.RowWhy.TheVariants.{Negative, BadNumber, LightWeight}
 use Rattle.microdata.specs.declared.layout.NumberField.{NumberField}
 
--- the bytes of a field, which begins at this position and has so many, without blanks at both ends
+-- the bytes of a field, which begins at this position, counted from 1, and has so many, without blanks at both ends
 abbrev pub field : ℕ → ℕ → List ℕ → List ℕ
 field first width line = trim (take width (drop (first - 1) line))
 

@@ -50,7 +50,7 @@ record_says measures so_far line = do
   short ← refuse Short (nat_lt (length line) measures.needed)
   if has_no_response measures.response line then Ok (with_skipped so_far) else response_says measures so_far line
 
--- a line: a record where it has a byte, and else nothing
+-- A line: a record where it has a byte, and else nothing. Not: a line of blanks as nothing, which is a record.
 abbrev pub line_says : Measures → SoFar → List ℕ → Result SoFar (ℕ × RowWhy)
 line_says measures so_far [] = Ok so_far
 line_says measures so_far (b ∷ line) = at_record (so_far.number + 1) (record_says measures so_far (b ∷ line))

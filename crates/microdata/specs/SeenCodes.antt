@@ -28,7 +28,8 @@ listed_place tree code = do
   Ok place
 
 -- A new code by levels: it has no blank inside, isn't longer than the widths together, isn't the total and has no
--- prefix that is; and with its prefixes there are at most 5,000. (Where it is the total, no shorter prefix is.)
+-- prefix at the end of a level that is; and with its prefixes there are at most 5,000. (Where it is the total, no shorter
+-- prefix is.) Not: a prefix that ends inside a level.
 unfoldable pub with_level_code : List ℕ → List ℕ → Seen → List ℕ → Result Seen RowWhy
 with_level_code widths total seen code = do
   plain ← refuse UnknownCode (list_any is_blank code)

@@ -23,7 +23,7 @@ pub enum RowWhy {
     /// The weight is below one.
     LightWeight,
     /// The tree doesn't have the code; or a code by levels has a blank inside, is longer than the widths
-    /// together, or has the total as a proper prefix.
+    /// together, or has a proper prefix, at the end of a level, that is the total.
     UnknownCode,
     /// The code is the total, or has other codes below it.
     NotLeaf,

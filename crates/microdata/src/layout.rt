@@ -10,7 +10,7 @@ pub struct Layout {
     pub response: NumberField,
     /// The weight, where records have one.
     pub weight: Option<NumberField>,
-    /// The greatest last position of these fields, at most 1,000.
+    /// How many bytes a record must have, at most 1,000: as many as the greatest last position of these fields.
     pub needed: u32,
 }
 

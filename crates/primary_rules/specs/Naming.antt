@@ -5,7 +5,8 @@ use Rattle.sdc_base.specs.declared.facts.Levels.{Levels}
 use Rattle.sdc_base.specs.declared.rule.Rule.{Rule}
 use Rattle.sdc_base.specs.declared.rule.Rule.TheVariants as rule
 
--- the inequality under which a rule names a cell, each strict
+-- The inequality under which a rule names a cell. Each is strict. Not: a cell that meets its bound exactly, or under FREQ one
+-- without records.
 abbrev pub Discloses : Rule → Figures → Type 0
 Discloses (rule.Freq n r) cell = (1 ≤ cell.freq) × (cell.freq < n)
 Discloses (rule.Nk n k) cell = (pos k *ℤ cell.truth) <ℤ (pos 100 *ℤ cell.largest n)

@@ -9,8 +9,8 @@ use Rattle.sdc_base.specs.declared.rule.Rule.{Rule}
 use Rattle.sdc_base.specs.declared.rule.Rule.TheVariants as rule
 use Rattle.primary_rules.specs.Ranges.{IsInRange}
 
--- the second rule is of the first one's kind and at least as strict: more records and a greater percentage; more contributions
--- and a lower percentage; or a greater percentage
+-- The second rule is of the first one's kind and at least as strict: no fewer records and no lower percentage of the level; no
+-- fewer contributions and no greater share of the truth; or no lower percentage.
 abbrev pub IsStricter : Rule → Rule → Type 0
 IsStricter (rule.Freq n r) (rule.Freq m s) = (n ≤ m) × (r ≤ s)
 IsStricter (rule.Nk n k) (rule.Nk m l) = (n ≤ m) × (l ≤ k)

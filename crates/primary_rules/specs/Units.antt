@@ -14,7 +14,8 @@ pub record IsRescaled (times : ℕ) (cell other : Figures) : Type 0 where
   pub freq : other.freq ≡ cell.freq
   pub largest : (n : ℕ) → other.largest n ≡ pos times *ℤ cell.largest n
 
--- a level in the new unit: at most the old one, and above the old one less a unit
+-- A level in the new unit: at most the old one, and above what is one old unit less. Not: times as much exactly, since both
+-- are rounded up.
 pub record IsWithinRounding (times : ℕ) (level other : ℤ) : Type 0 where
   pub at_most : other ≤ℤ (pos times *ℤ level)
   pub above : (pos times *ℤ (level +ℤ negsuc 0)) <ℤ other

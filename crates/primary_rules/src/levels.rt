@@ -21,8 +21,9 @@ use sdc_base::{CellFacts, Levels, Rule, Rules};
 /// `p * x / 100 - R`. What a rule wants is rounded up to a unit and at least 1; the greatest of the rules that name the cell
 /// is the upper level, and the lesser of it and the truth the lower one.
 ///
-/// The rules must be in their ranges, the truth from 0 to `10^29` units, and the facts must keep at least
-/// [`keep`] contributions. Nothing is refused, and no memory is taken. It takes time in proportion to the rules.
+/// The rules must be in their ranges, the truth from 0 to `10^29` units, and the facts must keep at least [`keep`]
+/// contributions. Where the facts are those of a cell over records, so are the levels. Nothing is refused, and no memory
+/// is taken. It takes time in proportion to the rules times the contributions that are kept.
 ///
 /// The rules and what they want are the handbook's (sensitivity rules); rounding and the lower level are this project's own.
 pub fn level(rules: &Rules, facts: &CellFacts) -> Option<Levels>
@@ -76,7 +77,8 @@ fn greater(one: Option<i128>, other: Option<i128>) -> Option<i128>
 /// The levels of a cell of this truth that is declared unsafe, in units: `man` percent of the truth, rounded up to a unit
 /// and at least 1, and the lesser of that and the truth.
 ///
-/// The rules must be in their ranges, and the truth from 0 to `10^29` units. Nothing is refused, and no memory is taken.
+/// The rules must be in their ranges, and the truth from 0 to `10^29` units. Nothing is refused, and no memory is taken. It
+/// takes the same time for all truths.
 ///
 /// The percentage is that of `MAN` in a job, 20 where there is none (this project's own default).
 pub fn manual(rules: &Rules, truth: i128) -> Levels
@@ -104,7 +106,9 @@ fn up_to(up: i128, truth: i128) -> Levels
 /// How many of the largest contributions the rules look at: the greatest `n` of the dominance rules, and 2 at least, from 2
 /// to 10. Facts that keep so many are enough for [`level`].
 ///
-/// The rules must be in their ranges. Nothing is refused, and no memory is taken.
+/// The rules must be in their ranges. Nothing is refused, and no memory is taken. It takes time in proportion to the rules.
+///
+/// The two are those of the handbook's p-percent rule; to keep two for every other rule too is this project's own.
 pub fn keep(rules: &Rules) -> u8
     requires in_range { AreInRange rules.now }
     ensures value { result ≡ keep_of rules.now.list }
