@@ -23,7 +23,7 @@ blank = record { status = None; keep = None; price = None; levels = None; bounds
 abbrev pub IsPrice : ℕ → Type 0
 IsPrice price = (1 ≤ price) × (price ≤ most_price)
 
--- levels that can be stated: from a unit upwards, and from 0 downwards
+-- levels that can be stated: from a unit upwards, and from 0 downwards, each to the greatest. Not: the lower one up to the truth.
 pub record CanBeLevels (levels : Levels) : Type 0 where
   pub unit : pos 1 ≤ℤ levels.up
   pub up : levels.up ≤ℤ pos most_units

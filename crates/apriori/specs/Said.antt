@@ -36,7 +36,7 @@ abbrev pub bounds_in : Claim → Option (ℤ × ℤ)
 bounds_in (claim.Between bounds) = Some (bounds.low, bounds.high)
 bounds_in other = None
 
--- the first that some statement says
+-- what the first of the statements that say anything of this kind says
 abbrev pub first_said : {X : Type 0} → (Statement → Option X) → List Statement → Option X
 first_said what [] = None
 first_said what (said ∷ statements) = option_or (what said) (first_said what statements)
@@ -45,7 +45,8 @@ first_said what (said ∷ statements) = option_or (what said) (first_said what s
 abbrev pub about : ℕ → List Statement → List Statement
 about cell statements = filter (λ said. said.cell == cell) statements
 
--- What an earlier prior of a cell and the statements about it in a table's file say together: of each kind the first that is said.
+-- What an earlier prior of a cell and the statements about it in a table's file say together: of each kind the first that is
+-- said. Not: the last.
 abbrev pub prior_with : ℕ → Prior → List Statement → Prior
 prior_with table prior statements = record {
   status = option_or prior.status (first_said (λ said. status_in said.claim) statements);

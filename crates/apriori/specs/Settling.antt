@@ -60,7 +60,7 @@ pub record AreOpen (truth : ℤ) (levels : Levels) : Type 0 where
   pub from_zero : pos 0 ≤ℤ levels.down
   pub within : levels.down ≤ℤ truth
 
--- the levels with the greater upper one
+-- the levels with the greater upper one, the first where they are equal
 abbrev pub wider : Levels → Option Levels → Levels
 wider levels None = levels
 wider levels (Some others) = if int_lt levels.up others.up then others else levels

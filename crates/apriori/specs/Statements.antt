@@ -82,7 +82,7 @@ unfoldable pub price_at : List (List ℕ) → Result ℕ PriorWhy
 price_at [] = Err BadNumber
 price_at (field ∷ further) = or_fault BadNumber (number_in 1 most_price field)
 
--- a number of units from so many on that is read, or none
+-- the number of units that was read, where it is from the least one to the greatest, and else none
 abbrev pub units_from : ℤ → Result ℤ NumberFault → Option ℤ
 units_from least (Err fault) = None
 units_from least (Ok units) = if int_lt units least || int_lt (pos most_units) units then None else Some units

@@ -19,13 +19,13 @@ use std::alloc::Global;
 ///
 /// A line has one code for each variable of the table, in the table's order, a keyword in letters of any case, and the fields of
 /// the keyword: `u` declares the cell unsafe and `s` safe, `p` wants it always shown, `c` has its price, a whole number from 1
-/// to `2^40`, `pl` its levels, the lower one and the upper one, from one unit on, and `b` what an attacker knows that it is at least and at most, both from
-/// 0. Levels and bounds are at most `10^29` units and have at most `decimals` decimals. The byte `separator` stands between two
-/// fields; blanks round a field are dropped, and blank lines are passed over.
+/// to `2^40`, `pl` its levels, first the lower one, from 0, and then the upper one, from one unit on, and `b` what an attacker
+/// knows that it is at least and at most, both from 0. Levels and bounds are at most `10^29` units and have at most `decimals`
+/// decimals. The byte `separator` stands between two fields; blanks round a field are dropped, and blank lines are passed over.
 ///
 /// The first line with a fault is refused, the faults of a line in this order: `BadShape`, `UnknownCode`, `BadNumber`,
-/// `EmptyUnsafe`, `OutsideTruth`, and `Twice` where it contradicts what an earlier line or an earlier file says of the cell; want of memory is
-/// `Memory`. After a refusal nothing has changed. A line that says what is said already is accepted.
+/// `EmptyUnsafe`, `OutsideTruth`, and `Twice` where it contradicts what an earlier line or an earlier file says of the cell;
+/// want of memory is `Memory`. After a refusal nothing has changed. A line that says what is said already is accepted.
 ///
 /// It takes a table of the book, fewer than `2^32` bytes, at most 13 decimals, and one prior for each cell, as
 /// [`blank_priors`](crate::blank_priors) and this call make them. The cost is a copy of the priors, and for each line its bytes

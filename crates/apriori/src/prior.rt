@@ -17,7 +17,7 @@ pub enum Status {
 /// What the office states of one cell beforehand.
 #[derive(Clone, Copy, Debug, PartialEq, Eq)]
 pub struct Prior {
-    /// Whether the cell is declared unsafe or safe, where it is.
+    /// Whether the cell is declared unsafe or safe, where it is; only a cell with records is declared unsafe.
     pub status: Option<Status>,
     /// The table, from 0, and the line, from 1, of the first statement that the cell is always shown, where there is one.
     pub keep: Option<(u32, u32)>,

@@ -23,8 +23,8 @@ use std::alloc::Global;
 /// unsafe, of `MAN`. Any other cell is fixed where it has no records or is stated to be always shown, and else free. The bounds
 /// are those that are stated, else 0 and none; the price is the one that is stated, if any.
 ///
-/// It takes one prior for each cell, as [`blank_priors`](crate::blank_priors) makes them; rules in their ranges; and marks with a
-/// truth from 0 to `10^29` that keep as many contributions as the rules look at. `ProtectedPrimary` is given where a primary cell is stated to be always shown, for the
+/// It takes one prior for each cell, as [`blank_priors`](crate::blank_priors) and [`apply`](crate::apply) make them; rules in
+/// their ranges; and marks with a truth from 0 to `10^29` that keep as many contributions as the rules look at. `ProtectedPrimary` is given where a primary cell is stated to be always shown, for the
 /// first such line by table and line; want of memory is `Memory`. It looks at each cell twice, and at each rule each time.
 ///
 /// Rules and levels are the handbook's (sensitivity rules and protection levels); what is stated beforehand is argus's own.

@@ -2,7 +2,7 @@
 use Rattle.std.specs.Prelude.{◌≡◌, [], false, pos}
 use Rattle.linked_tables.specs.declared.mark.Mark.{Mark}
 
--- no records: the sum and the number are 0, and the list of the largest is empty; the cell isn't hidden
+-- no records: the sum and the number are 0, and the list, which keeps the two largest at scale 1, is empty; the cell isn't hidden
 pub record IsBlank (mark : Mark) : Type 0 where
   pub truth : mark.facts.truth ≡ pos 0
   pub freq : mark.facts.freq ≡ 0

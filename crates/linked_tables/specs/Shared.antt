@@ -38,7 +38,7 @@ name_at book t place = option_map_or (λ table. named book table place) (slice_g
 abbrev pub cell_at : Held → ℕ → List ℕ → Option ℕ
 cell_at book t place = option_and_then (λ table. if is_in book table place then number_of book (named book table place) else None) (slice_get book.tables t)
 
--- the number of the first cell that no table before t names
+-- The number of the first cell that no table before t names: how many cells these name. Not: how many places they have.
 abbrev pub first_own : Held → ℕ → ℕ
 first_own book t = length (cells_of book.trees (take t book.tables))
 

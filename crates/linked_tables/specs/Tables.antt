@@ -30,7 +30,8 @@ abbrev pub variables_fault : ℕ → ℕ → List ℕ → Option BookFault
 variables_fault variables t table =
     if has_unknown variables table then Some (fault.NoSuchVariable t) else if has_twice table then Some (fault.TwiceInTable t) else None
 
--- the fault of table t for the cells up to it: they are too many
+-- the fault of table t for the cells of it and all tables before it: they are too many. Not: the cells of table t alone, nor
+-- the places of all tables, in which a shared cell stands more than once.
 abbrev pub cells_fault : ℕ → List Name → Option BookFault
 cells_fault t names = if nat_lt most_cells (length names) then Some (fault.TooManyCells t) else None
 

@@ -42,8 +42,11 @@ impl Model for Book {
 }
 
 impl Book {
-    /// A book of these tables, each of which spans some of the variables that have these trees. Its marks have no
-    /// records, keep the two largest contributions at scale 1, and aren't hidden.
+    /// A book of these tables, each of which is the list of the variables that it spans, numbered from 0 in the order
+    /// of these trees. There is one mark for each cell; it has no records, keeps the two largest contributions at scale
+    /// 1, and isn't hidden.
+    ///
+    /// There are at most 8 trees, and fewer than `2^32` tables; a table may span no variable, and there may be none.
     ///
     /// The first table that has a fault is refused by its number, with what comes first of: a variable that there
     /// isn't, a variable that stands twice in it, and more than 20,000 distinct cells in the tables up to it; want of
@@ -70,7 +73,8 @@ impl Book {
     }
 
     /// The number of the cell at a place of table t, or none exactly where t is no table or the place isn't in it:
-    /// a place is one code for each variable of the table, in the table's order. It takes one look-up and no memory.
+    /// a place is one code for each variable of the table, in the table's order, each a place in its variable's tree.
+    /// It takes one look-up and no memory.
     pub fn id(&self, t: u32, place: &[u32]) -> Option<u32>
         ensures cell { result ≡ cell_at self.now t place.now }
         ensures found { is_some result ≡ is_place_of self.now t place.now }
@@ -82,7 +86,7 @@ impl Book {
         Some(number as u32)
     }
 
-    /// The marks, in the order of the cells' numbers.
+    /// The marks, in the order of the cells' numbers. It takes no memory.
     pub fn marks(&self) -> &[Mark]
         ensures { result.now ≡ self.now.marks }
     {

@@ -10,7 +10,7 @@ use Rattle.linked_tables.specs.Shared.{number_of}
 use Rattle.release_writer.specs.declared.shown.Shown.{Shown}
 use Rattle.release_writer.specs.declared.shown.Shown.TheVariants as shown
 
--- the truth of a cell, unless it is hidden
+-- The truth of a cell, unless its flag says that it is hidden. Not: unless its mark notes that.
 abbrev pub open_truth : List Mark → List Bool → ℕ → Option ℤ
 open_truth marks flags cell = if slice_index_or flags cell false then None else option_map (λ mark. mark.facts.truth) (slice_get marks cell)
 

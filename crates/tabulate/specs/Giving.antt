@@ -8,7 +8,7 @@ use Rattle.linked_tables.specs.Shared.{cell_at}
 use Rattle.tabulate.specs.Holding.{AreGiven, kept_at}
 use Rattle.tabulate.specs.Tuples.{tuples_from}
 
--- the cell stands at a place of table t, and is not one of the first ones
+-- the cell stands at a place of table t, and isn't one of so many first ones
 abbrev pub is_at : Held → ℕ → ℕ → List ℕ → ℕ → Bool
 is_at book t first place cell = option_map_or (λ found. found == cell && nat_le first found) (cell_at book t place) false
 

@@ -10,7 +10,8 @@ use Rattle.linked_tables.specs.declared.mark.Mark.{Mark}
 use Rattle.linked_tables.specs.Held.{Held}
 use Rattle.linked_tables.specs.Shared.{cells}
 
--- a record of these trees: a code for each, a value from 0, and at least a whole contribution
+-- A record of these trees: a place in each of them, a value from 0 and below 10^15, and a weight below 10^8 that is at least a
+-- whole contribution.
 pub record IsRow (trees : List Tree) (scale : ℕ) (row : Row) : Type 0 where
   pub each : length row.codes ≡ length trees
   pub inside : (variable : ℕ) → variable < length trees → slice_index row.codes variable < length (slice_index_or trees variable [])
@@ -24,7 +25,7 @@ pub record HasNone (mark : Mark) : Type 0 where
   pub truth : mark.facts.truth ≡ pos 0
   pub freq : mark.facts.freq ≡ 0
 
--- the mark tells of the records that fall in the cell with this name
+-- The mark tells of the records that fall in the cell with this name. Not: a record once for each table that has the cell.
 pub record TellsOf (trees : List Tree) (rows : List Row) (keep scale : ℕ) (name : Name) (mark : Mark) : Type 0 where
   pub truth_is : mark.facts.truth ≡ truth trees name rows
   -- no number of records within the limits has a sum beyond this

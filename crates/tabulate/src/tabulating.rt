@@ -15,10 +15,10 @@ use sdc_base::{Row, Tops};
 /// Whether a cell is hidden, the trees and the tables stay.
 ///
 /// It keeps from 2 to 10, and the scale, the weight steps of a whole contribution, is from 1 to 10,000. There are at
-/// most a million records, with a code for each tree of the book, a value from 0 and below 10^15 units, and a weight
-/// below 10^8 steps and not below the scale; the marks have no records yet. It takes no memory and has no refusal, and
-/// one look-up for each record, table and combination of codes above the record's. The sums are those of the
-/// handbook's magnitude tables, the weight steps argus's own.
+/// most a million records, each with as many codes as the book has trees, a place in each of them, a value from 0 and
+/// below 10^15 units, and a weight below 10^8 steps and not below the scale; the marks have no records yet. It takes no
+/// memory and has no refusal, and one look-up for each record, table and combination of codes above the record's. The
+/// sums are those of the handbook's magnitude tables, the weight steps argus's own.
 pub fn tabulate(book: &mut Book, rows: &[Row], keep: u8, scale: u32)
     requires at_least_two { 2 ≤ keep }
     requires at_most_ten { keep ≤ 10 }
