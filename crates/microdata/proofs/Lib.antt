@@ -9,6 +9,7 @@ pub mod FeedLines
 pub mod Cuts
 pub mod SeenFirst
 pub mod Kept
+pub mod AtLeaves
 pub mod Within
 pub mod Standing
 pub mod InOrder

@@ -11,3 +11,4 @@ pub mod Ranges
 pub mod Laws
 pub mod Meaning
 pub mod OtherOrder
+pub mod Leaves

@@ -1,6 +1,7 @@
 //! Laws of microdata, as contracts of functions that do nothing.
 
 ghost use Rattle.microdata.specs.Laws.{FaultsStand};
+ghost use Rattle.microdata.specs.Leaves.{RowsAreAtLeaves};
 ghost use Rattle.microdata.specs.Meaning.{RowsAreTheirRecords, FaultsAreNumbered};
 ghost use Rattle.microdata.specs.OtherOrder.{OrderChangesNoTree};
 ghost use Rattle.microdata.specs.Ranges.{ReadIsWithinLimits};
@@ -35,4 +36,10 @@ pub fn faults_are_numbered()
 /// the same places, value and weight, and as many records were skipped.
 pub fn order_changes_no_tree()
     ensures { OrderChangesNoTree }
+{}
+
+/// The records that were read are at the lowest level of each tree: below the place of a row's code there is no other
+/// code, whichever record or file brought it.
+pub fn rows_are_at_leaves()
+    ensures { RowsAreAtLeaves }
 {}
