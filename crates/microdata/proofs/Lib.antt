@@ -10,7 +10,7 @@ pub mod Cuts
 pub mod SeenFirst
 pub mod Kept
 pub mod Within
-pub mod BottomRows
+pub mod AtLeaves
 pub mod Standing
 pub mod InOrder
 pub mod RowsMeant

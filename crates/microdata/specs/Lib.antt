@@ -8,7 +8,7 @@ pub mod Microdata
 pub mod Feeding
 pub mod Keeping
 pub mod Ranges
-pub mod BottomCodes
 pub mod Laws
 pub mod Meaning
 pub mod OtherOrder
+pub mod Leaves

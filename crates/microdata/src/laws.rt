@@ -1,22 +1,16 @@
 //! Laws of microdata, as contracts of functions that do nothing.
 
 ghost use Rattle.microdata.specs.Laws.{FaultsStand};
+ghost use Rattle.microdata.specs.Leaves.{RowsAreAtLeaves};
 ghost use Rattle.microdata.specs.Meaning.{RowsAreTheirRecords, FaultsAreNumbered};
 ghost use Rattle.microdata.specs.OtherOrder.{OrderChangesNoTree};
 ghost use Rattle.microdata.specs.Ranges.{ReadIsWithinLimits};
-ghost use Rattle.microdata.specs.BottomCodes.{ReadIsBottom};
 
 /// Whatever is read is within its limits: at most a million records, each with one place in each tree, with a
 /// value from 0 and below `10^15` units and a weight of at least one and below `10^8` steps; and there are as many
 /// trees as spanning variables.
 pub fn read_is_within_limits()
     ensures { ReadIsWithinLimits }
-{}
-
-/// No record that was read has a code with others below it, so each record stands in bottom cells alone, and in all cells
-/// above them.
-pub fn read_is_bottom()
-    ensures { ReadIsBottom }
 {}
 
 /// A fault that a reader finds before all bytes are there is the fault of all of them, whatever follows.
@@ -42,4 +36,10 @@ pub fn faults_are_numbered()
 /// the same places, value and weight, and as many records were skipped.
 pub fn order_changes_no_tree()
     ensures { OrderChangesNoTree }
+{}
+
+/// The records that were read are at the lowest level of each tree: below the place of a row's code there is no other
+/// code, whichever record or file brought it.
+pub fn rows_are_at_leaves()
+    ensures { RowsAreAtLeaves }
 {}

@@ -20,8 +20,8 @@ mod tests;
 
 pub use faults::{RowError, RowWhy};
 pub use laws::{
-    faults_are_numbered, faults_stand, order_changes_no_tree, read_is_bottom,
-    read_is_within_limits, rows_are_their_records,
+    faults_are_numbered, faults_stand, order_changes_no_tree, read_is_within_limits,
+    rows_are_at_leaves, rows_are_their_records,
 };
 pub use layout::{Field, Layout, NumberField, Source};
 pub use pieces::read_pieces;

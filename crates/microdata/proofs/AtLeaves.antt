@@ -14,7 +14,7 @@ use Rattle.microdata.specs.Fields.{scale_of}
 use Rattle.microdata.specs.Layouts.{measures_of}
 use Rattle.microdata.specs.Microdata.{records_of, closed_records}
 use Rattle.microdata.specs.OneRecord.{lines_say, nothing}
-use Rattle.microdata.specs.BottomCodes.{AreBottom, ReadIsBottom}
+use Rattle.microdata.specs.Leaves.{AreLeaves, RowsAreAtLeaves}
 use Rattle.microdata.specs.declared.closing.Closed.{Closed}
 use Rattle.microdata.specs.declared.faults.RowWhy.{RowWhy}
 use Rattle.microdata.specs.declared.faults.RowWhy.TheVariants.{NotLeaf}
@@ -51,44 +51,44 @@ no-children tree above none = none-from tree above 0 (length tree) (omega arith)
 abbrev trees_in : List Closed → List Tree
 trees_in closed = map (λ one. one.tree) closed
 
-leaf-bottom : (closed : Closed) (number place : ℕ) → leaf_of closed number ≡ Ok place → children closed.tree place ≡ []
-leaf-bottom closed number place h = by (first_child closed.tree (place_of closed number)) refl h
+leaf-lowest : (closed : Closed) (number place : ℕ) → leaf_of closed number ≡ Ok place → children closed.tree place ≡ []
+leaf-lowest closed number place h = by (first_child closed.tree (place_of closed number)) refl h
   where
     by : (o : Option ℕ) → first_child closed.tree (place_of closed number) ≡ o → cond {A = Result ℕ RowWhy} (is_some o) (Err NotLeaf) (Ok (place_of closed number)) ≡ Ok place → children closed.tree place ≡ []
     by (Some child) is e = cc
     by None is e = subst (λ p. children closed.tree p ≡ []) (value_of_ok _ place e) (no-children closed.tree (place_of closed number) is)
 
-leaves-bottom : (variables : List Variable) (numbers places : List ℕ) → Fit variables numbers → leaves_of (map closed_of variables) numbers ≡ Ok places → AreBottom (trees_in (map closed_of variables)) places
+leaves-lowest : (variables : List Variable) (numbers places : List ℕ) → Fit variables numbers → leaves_of (map closed_of variables) numbers ≡ Ok places → AreLeaves (trees_in (map closed_of variables)) places
 unfolding leaves_of
-leaves-bottom [] [] places fit h = subst (AreBottom []) (value_of_ok _ places h) tt
-leaves-bottom [] (number ∷ numbers) places fit h = absurd fit
-leaves-bottom (variable ∷ variables) [] places fit h = absurd fit
-leaves-bottom (variable ∷ variables) (number ∷ numbers) places fit h =
+leaves-lowest [] [] places fit h = subst (AreLeaves []) (value_of_ok _ places h) tt
+leaves-lowest [] (number ∷ numbers) places fit h = absurd fit
+leaves-lowest (variable ∷ variables) [] places fit h = absurd fit
+leaves-lowest (variable ∷ variables) (number ∷ numbers) places fit h =
     let a = bind_ok (leaf_of (closed_of variable) number) _ places h in
     let b = bind_ok (leaves_of (map closed_of variables) numbers) _ places a.2 in
-    subst (AreBottom (trees_in (map closed_of (variable ∷ variables)))) (value_of_ok _ places b.2) (leaf-bottom (closed_of variable) number a.0 a.1, leaves-bottom variables numbers b.0 fit.1 b.1)
+    subst (AreLeaves (trees_in (map closed_of (variable ∷ variables)))) (value_of_ok _ places b.2) (leaf-lowest (closed_of variable) number a.0 a.1, leaves-lowest variables numbers b.0 fit.1 b.1)
 
-row-bottom : (variables : List Variable) (kept : KeptRow) (row : Row) → Fit variables kept.places → row_of (map closed_of variables) kept ≡ Ok row → AreBottom (trees_in (map closed_of variables)) row.codes
+row-lowest : (variables : List Variable) (kept : KeptRow) (row : Row) → Fit variables kept.places → row_of (map closed_of variables) kept ≡ Ok row → AreLeaves (trees_in (map closed_of variables)) row.codes
 unfolding row_of
-row-bottom variables kept row fit h =
+row-lowest variables kept row fit h =
     let a = bind_ok (leaves_of (map closed_of variables) kept.places) _ row h in
-    subst (λ (row : Row). AreBottom (trees_in (map closed_of variables)) row.codes) (value_of_ok _ row a.2) (leaves-bottom variables kept.places a.0 fit a.1)
+    subst (λ (row : Row). AreLeaves (trees_in (map closed_of variables)) row.codes) (value_of_ok _ row a.2) (leaves-lowest variables kept.places a.0 fit a.1)
 
-rows-bottom : (scale : ℕ) (variables : List Variable) (kept : List KeptRow) (rows : List Row) → AllByRecursion (IsKept scale variables) kept → rows_of (map closed_of variables) kept ≡ Ok rows
-    → AllByRecursion (λ row. AreBottom (trees_in (map closed_of variables)) row.codes) rows
+rows-lowest : (scale : ℕ) (variables : List Variable) (kept : List KeptRow) (rows : List Row) → AllByRecursion (IsKept scale variables) kept → rows_of (map closed_of variables) kept ≡ Ok rows
+    → AllByRecursion (λ row. AreLeaves (trees_in (map closed_of variables)) row.codes) rows
 unfolding rows_of
-rows-bottom scale variables [] rows good h = subst (λ (rows : List Row). AllByRecursion (λ row. AreBottom (trees_in (map closed_of variables)) row.codes) rows) (value_of_ok _ rows h) tt
-rows-bottom scale variables (one ∷ kept) rows good h =
+rows-lowest scale variables [] rows good h = subst (λ (rows : List Row). AllByRecursion (λ row. AreLeaves (trees_in (map closed_of variables)) row.codes) rows) (value_of_ok _ rows h) tt
+rows-lowest scale variables (one ∷ kept) rows good h =
     let a = bind_ok _ _ rows h in
     let b = bind_ok (rows_of (map closed_of variables) kept) _ rows a.2 in
-    let here = row-bottom variables one a.0 good.0.places (same-value one.number (row_of (map closed_of variables) one) a.0 a.1) in
-    let rest = rows-bottom scale variables kept b.0 good.1 b.1 in
-    subst (λ (rows : List Row). AllByRecursion (λ row. AreBottom (trees_in (map closed_of variables)) row.codes) rows) (value_of_ok _ rows b.2) (here, rest)
+    let here = row-lowest variables one a.0 good.0.places (same-value one.number (row_of (map closed_of variables) one) a.0 a.1) in
+    let rest = rows-lowest scale variables kept b.0 good.1 b.1 in
+    subst (λ (rows : List Row). AllByRecursion (λ row. AreLeaves (trees_in (map closed_of variables)) row.codes) rows) (value_of_ok _ rows b.2) (here, rest)
 
-pub read_is_bottom : ReadIsBottom
+pub rows_are_at_leaves : RowsAreAtLeaves
 unfolding records_of closed_records
-read_is_bottom layout bytes records h =
+rows_are_at_leaves layout bytes records h =
     let a = bind_ok (lines_say (measures_of layout) (nothing layout) (lines bytes)) _ records h in
     let b = bind_ok (rows_of (map closed_of a.0.variables) a.0.rows) _ records a.2 in
     let good = lines-good (measures_of layout) layout.spanning (nothing layout) a.0 (lines bytes) (record { fields = fields-first layout.spanning; rows = tt; few = omega arith; records = omega arith }) a.1 in
-    subst (λ (records : Records). AllByRecursion (λ row. AreBottom records.trees row.codes) records.rows) (value_of_ok _ records b.2) (rows-bottom (scale_of layout.weight) a.0.variables a.0.rows b.0 good.rows b.1)
+    subst (λ (records : Records). AllByRecursion (λ row. AreLeaves records.trees row.codes) records.rows) (value_of_ok _ records b.2) (rows-lowest (scale_of layout.weight) a.0.variables a.0.rows b.0 good.rows b.1)
