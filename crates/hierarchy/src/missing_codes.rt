@@ -14,9 +14,10 @@ use std::alloc::{AllocError, Global};
 /// The tree with each missing code that it lacks as a last child of the total, in the order of the codes. The
 /// places that it had stay as they are.
 ///
-/// There are fewer than `2^32` missing codes, numbered from 1. The first that is the total, or would be the 5,001st code, is refused, as
-/// `IsTotal` or `TooMany`; want of memory is `Memory`. With a refusal the tree is dropped, and the codes are left
-/// as they were. It takes three look-ups a code, and two passes over the tree. The rule is argus's own.
+/// There are fewer than `2^32` missing codes, numbered from 1. The first that is the total, or would be the
+/// 5,001st code, is refused, as `IsTotal` or `TooMany`; want of memory is `Memory`. With a refusal the tree is
+/// dropped, and the codes are left as they were. It takes three look-ups a code, and two passes over the tree.
+/// The rule is argus's own.
 pub fn with_missing(alloc: Global, tree: CodeTree, missing: &[Text]) -> Result<CodeTree, TreeFault>
     requires { length missing.now < 2 ^ 32 }
     ensures exact { Gives fault_of (λ tree. tree) result (with_codes 1 tree missing.now) }
