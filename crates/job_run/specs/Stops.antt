@@ -61,8 +61,3 @@ IsHalt (stop.WriteFault file) = Unit {0}
 IsHalt stop.Memory = Unit {0}
 IsHalt (stop.Refused fault) = ⊥
 IsHalt (stop.ReadFault file) = ⊥
-
--- no put stops a run so
-abbrev pub IsBeforePuts : Stop → Type 0
-IsBeforePuts (stop.WriteFault file) = ⊥
-IsBeforePuts other = Unit {0}

@@ -4,7 +4,7 @@ ghost use Rattle.sdc_base.specs.Counts.{Rose};
 ghost use Rattle.sdc_base.specs.Told.{WhereTold};
 ghost use Rattle.office_io.specs.Files.{held_name};
 ghost use Rattle.job_run.specs.Inputs.{look, limit};
-ghost use Rattle.job_run.specs.Stops.{stopped_for, IsBeforePuts};
+ghost use Rattle.job_run.specs.Stops.{stopped_for};
 ghost use Rattle.job_run.specs.declared.report.FileRef.{FileRef as AnyFile};
 
 use crate::report::{Fault, FileRef};

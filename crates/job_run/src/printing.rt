@@ -10,7 +10,7 @@ use std::fmt::Display;
 
 impl Report {
     /// The status with which the program ends: 0 for a release, 1 for the usage line, 2 for a
-    /// refusal, 5 and 6 for a fault in reading and in writing, 7 for want of memory.
+    /// refusal, 5 and 6 for a fault in reading and in writing, 7 for want of memory. The numbers are argus's own.
     pub fn status(&self) -> u8
         ensures { result ≡ status_of self.now }
     {
@@ -25,7 +25,10 @@ impl Report {
     }
 }
 
-/// The text of a report: one line, ended by LF.
+/// The text of a report: one line, ended by LF, in which variables are numbered by their place in the metadata and tables in the
+/// order of the job, both from 1, and cells from 0.
+///
+/// `Memory` is the only refusal. The cost is that of the line, and its wording is argus's own.
 pub fn report_text(alloc: Global, report: &Report) -> Result<Text, Memory>
     ensures { IfOk result (λ text. text ≡ text_of report.now) }
 {

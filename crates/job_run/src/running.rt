@@ -27,6 +27,14 @@ use std::alloc::Global;
 /// order, then the number of cells, the a priori files by table, the cells with what is stated of them, whether the job wants
 /// what is built, and whether a cell is primary; the first fault is the answer. The microdata are read in pieces, every other
 /// file whole. All that is put is made before the first put.
+///
+/// Other words are answered with the usage line. Usage, a refusal and a fault of the shelf leave the tray as it was. After a
+/// fault of the tray the files put before the one that failed stand whole, and of that one its first bytes may be there; after
+/// want of memory some of the files may have been put whole. It takes any words, any shelf and any tray.
+///
+/// The cost is that of reading each file once, with the records kept in memory; one look-up for each record, table and
+/// combination of codes above the record's; and the bytes of the tables. The commands are the manual's, the order in which the
+/// inputs are looked at is argus's own.
 pub fn run<S: Shelf, T: Tray>(alloc: Global, words: &[Text], shelf: &mut S, tray: &mut T) -> Report
     // Usage comes exactly where the words are none of the forms that are built.
     ensures usage { (result ≡ Report.Usage) ↔ (job_name words.now ≡ None) }
@@ -36,10 +44,11 @@ pub fn run<S: Shelf, T: Tray>(alloc: Global, words: &[Text], shelf: &mut S, tray
     ensures left { WhereTold (job_name words.now) (λ name. WhereTold (S.files shelf.old) (λ fs. Leaves result (outcome_of fs name) (T.files tray.old) (T.files tray.new))) }
     ensures untouched { LeavesAll result (T.files tray.old) (T.files tray.new) }
 
-    // A release makes a put for the certificate and one for each table, and an answer that leaves the tray makes none.
+    // A release makes a put for the certificate and one for each table, of which there are one to eight, and an answer that
+    // leaves the tray makes none.
     ensures once { WhereTold (job_name words.now) (λ name. WhereTold (S.files shelf.old) (λ fs. (summary : Numbers) → result ≡ Report.Released summary
         → IsOkAnd (outcome_of fs name) (λ release. T.puts tray.new ≡ counted (T.puts tray.old) (length release.puts)))) }
-    ensures some { (summary : Numbers) → result ≡ Report.Released summary → (count : ℕ) × (2 ≤ count) × (T.puts tray.new ≡ counted (T.puts tray.old) count) }
+    ensures some { (summary : Numbers) → result ≡ Report.Released summary → (count : ℕ) × (2 ≤ count) × (count ≤ 9) × (T.puts tray.new ≡ counted (T.puts tray.old) count) }
     ensures no_put { LeavesAll result (T.puts tray.old) (T.puts tray.new) }
 
     // A release is that of the inputs of the told files.
@@ -89,7 +98,7 @@ fn release<S: Shelf, T: Tray>(
     ensures left { WhereTold (S.files shelf.old) (λ fs. Leaves (report_of result) (outcome_of fs name.now) (T.files tray.old) (T.files tray.new)) }
     ensures untouched { LeavesAll (report_of result) (T.files tray.old) (T.files tray.new) }
     ensures once { WhereTold (S.files shelf.old) (λ fs. OnOk result (IsOkAnd (outcome_of fs name.now) (λ release. T.puts tray.new ≡ counted (T.puts tray.old) (length release.puts)))) }
-    ensures some { OnOk result ((count : ℕ) × (2 ≤ count) × (T.puts tray.new ≡ counted (T.puts tray.old) count)) }
+    ensures some { OnOk result ((count : ℕ) × (2 ≤ count) × (count ≤ 9) × (T.puts tray.new ≡ counted (T.puts tray.old) count)) }
     ensures no_put { LeavesAll (report_of result) (T.puts tray.old) (T.puts tray.new) }
     ensures absent { (f : AnyFile) → IsErrOf result (Stop.Refused (Fault.Absent f)) → Rose (S.absences shelf.old) (S.absences shelf.new) }
     ensures too_long { (f : AnyFile) → IsErrOf result (Stop.Refused (Fault.TooLong f)) → S.taken shelf.new ≡ limit + 1 }

@@ -1,6 +1,6 @@
 use Rattle.std.proofs.Common.{subst, sym, ◌∙◌}
 use Rattle.std.proofs.lemmas.Result.{err_from_is_err_and}
-use Rattle.job_run.proofs.Releasing.{settled-fails, release-unbuilt, release-primary, release-made}
+use Rattle.job_run.proofs.Releasing.{settled-fails}
 use Rattle.job_run.proofs.release.release_for.Goals as goal
 
 pub returns-in_err-cells-clause-gives : goal.returns-in_err-cells-clause-gives

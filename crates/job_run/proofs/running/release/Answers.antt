@@ -1,5 +1,5 @@
 use native.Mathlib.Omega.{arith}
-use Rattle.std.proofs.Common.{IsErrOf, length, ◌<◌, ◌≡◌, ap, refl, sym, subst, ◌∙◌, List, option_map, Ok, Err}
+use Rattle.std.proofs.Common.{IsErrOf, length, ◌<◌, ◌+◌, ◌≡◌, ap, refl, sym, subst, ◌∙◌, List, option_map, Ok, Err}
 use Rattle.sdc_base.specs.Counts.{counted}
 use Rattle.std.proofs.lemmas.Result.{err_from_is_err_and}
 use Rattle.job_run.specs.Reports.{put_all, OneInPart, SomeWhole}
@@ -163,3 +163,15 @@ returns-clause-once g c =
     (c.in_ok-priors.ensures.told c.in_ok-inputs.inputs c.in_ok-counted.ensures.counted fs (c.read_inputs.ensures.same ∙ told) ∙ ap Ok (sym c.as_slice.ensures))
     ∙ c.in_ok-planned.ensures.gives c.in_ok-inputs.inputs c.in_ok-counted.ensures.counted)
     (subst (λ (puts : List Put). g.T.Tray.puts c.put_files.new.tray ≡ counted (g.T.Tray.puts c.args.tray.now) (length puts)) c.as_slice-2.ensures (c.in_ok-put_files.ensures.once (subst (λ (puts : List Put). 0 < length puts) (sym c.as_slice-2.ensures) some)))
+
+pub returns-clause-some : goal.returns-clause-some
+returns-clause-some g c =
+    let puts = c.in_ok-planned.planned.puts in
+    let job = c.in_ok-counted.ensures.ready.sound.job in
+    let many : length puts ≡ 1 + length c.in_ok-counted.counted.described.job.tables = c.in_ok-planned.ensures.some in
+    let some : 0 < length puts = rw many (omega arith) in (
+      length puts,
+      omega (arith, many, job.tables.some),
+      omega (arith, many, job.few),
+      subst (λ (puts : List Put). g.T.Tray.puts c.put_files.new.tray ≡ counted (g.T.Tray.puts c.args.tray.now) (length puts)) c.as_slice-2.ensures (c.in_ok-put_files.ensures.once (subst (λ (puts : List Put). 0 < length puts) (sym c.as_slice-2.ensures) some)),
+    )
