@@ -14,3 +14,7 @@ pub mod Kept
 pub mod Fair
 pub mod SmallTables
 pub mod PlaceLists
+pub mod Chains
+pub mod Forest
+pub mod Numbering
+pub mod Connecting

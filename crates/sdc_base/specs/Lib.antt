@@ -23,6 +23,8 @@ pub mod AddingUp
 pub mod Relations
 pub mod Systems
 pub mod HiddenSets
+pub mod Components
+pub mod Forests
 pub mod Worlds
 pub mod Forms
 pub mod Refutations

@@ -3,6 +3,7 @@
 
 mod cell;
 mod cells;
+mod connected;
 mod duality;
 mod facts;
 mod few;
@@ -26,6 +27,7 @@ mod tops;
 
 pub use cell::{Cell, Kind};
 pub use cells::{cells_of, name_at, with_code};
+pub use connected::{Grouping, components};
 pub use duality::weak_duality;
 pub use facts::{CellFacts, Levels};
 pub use few::{Few, Place};

@@ -1,0 +1,255 @@
+ghost use Rattle.std.specs.Prelude.{◌≡◌, ◌<◌, ◌≤◌, ◌^◌, ◌+◌, ◌++◌, ◌∷◌, [], ℕ, true, false, length, slice_get, slice_index, slice_set, IfOk, IfSome, None, Some};
+ghost use Rattle.std.specs.List.{range_with_len};
+ghost use Rattle.sdc_base.specs.declared.relation.Relation.{Relation as AnyRelation};
+ghost use Rattle.sdc_base.specs.HiddenSets.{is_hidden as is_hidden_in};
+ghost use Rattle.sdc_base.specs.Components.{AreComponents, Linked, component, names};
+ghost use Rattle.sdc_base.specs.Forests.{AreNumbered, IsForest, Joins, LeadsTo, Meet};
+
+use crate::hidden::Hidden;
+use crate::items::Items;
+use crate::memory::Memory;
+use crate::relation::Relation;
+use crate::system::System;
+use std::alloc::Global;
+
+/// The connected parts of a hidden set, its components.
+#[derive(Drop)]
+pub struct Grouping {
+    /// The number of each cell's component, none for a shown cell.
+    pub of: Items<Option<u32>>,
+    /// How many cells each component has.
+    pub sizes: Items<u32>,
+}
+
+/// The connected parts of a hidden set, with one flag for each cell: two hidden cells are in one component exactly
+/// where a chain of relations links them through hidden cells. Components are numbered from 0 in the order of their
+/// lowest cells.
+///
+/// Each hidden cell points to itself or to a lower cell of its component. It takes a walk along these for each hidden
+/// cell of each relation, and one look at each cell; its one refusal is want of memory.
+pub fn components(alloc: Global, system: &System, hidden: &Hidden) -> Result<Grouping, Memory>
+    requires each { length hidden.now.flags ≡ system.now.cells }
+    ensures { IfOk result (λ grouping. AreComponents system.now.relations hidden.now.flags grouping.of grouping.sizes) }
+{
+    let flags = hidden.flags.as_slice();
+    let lower = forest_of(alloc, system, flags)?;
+    group(alloc, system.cells, flags, lower.as_slice())
+}
+
+// A lower cell of its component for each hidden cell, or the cell itself where it is the lowest.
+fn forest_of(alloc: Global, system: &System, flags: &[bool]) -> Result<Vec<u32>, Memory>
+    requires each { length flags.now ≡ system.now.cells }
+    ensures forest { IfOk result (λ lower. IsForest system.now.relations flags.now system.now.cells lower.items) }
+    ensures joined { IfOk result (λ lower. (number : ℕ) (one : AnyRelation) → slice_get system.now.relations number ≡ Some one → Joins flags.now lower.items one) }
+{
+    let mut lower = each_alone(alloc, system.cells)?;
+    'relations: for relation in system.relations.as_slice() {
+        join_relation(system, relation, flags, &mut lower);
+    }
+    Ok(lower)
+}
+
+// Each cell by itself.
+fn each_alone(alloc: Global, cells: u32) -> Result<Vec<u32>, Memory>
+    ensures { IfOk result (λ lower. lower.items ≡ range_with_len 0 cells) }
+{
+    let mut lower = Vec::new(alloc);
+    'cells: for cell in 0..cells {
+        lower.push(cell)?;
+    }
+    Ok(lower)
+}
+
+// Joins the hidden cells that a relation names.
+fn join_relation(system: &System, relation: &Relation, flags: &[bool], lower: &mut Vec<u32>)
+    requires among { (number : ℕ) × (slice_get system.now.relations number ≡ Some relation.now) }
+    requires each { length flags.now ≡ system.now.cells }
+    requires forest { IsForest system.now.relations flags.now system.now.cells lower.old.items }
+    ensures forest { IsForest system.now.relations flags.now system.now.cells lower.new.items }
+    ensures kept { (one other : ℕ) → Meet lower.old.items one other → Meet lower.new.items one other }
+    ensures joined { Joins flags.now lower.new.items relation.now }
+{
+    let Some(first) = first_hidden(relation, flags) else {
+        return;
+    };
+    join_hidden(system, relation, flags, first, relation.total, lower);
+    'parts: for part in relation.parts.as_slice() {
+        join_hidden(system, relation, flags, first, *part, lower);
+    }
+}
+
+// The first hidden cell that a relation names: its total, or else a part.
+fn first_hidden(relation: &Relation, flags: &[bool]) -> Option<u32>
+    ensures none { result ≡ None → (cell : ℕ) → names relation.now cell ≡ true → is_hidden_in flags.now cell ≡ false }
+    ensures hidden { IfSome result (λ cell. is_hidden_in flags.now cell ≡ true) }
+    ensures named { IfSome result (λ cell. names relation.now cell ≡ true) }
+{
+    if is_hidden(flags, relation.total) {
+        return Some(relation.total);
+    }
+    'parts: for part in relation.parts.as_slice() {
+        if is_hidden(flags, *part) {
+            return Some(*part);
+        }
+    }
+    None
+}
+
+// Whether a cell is hidden.
+fn is_hidden(flags: &[bool], cell: u32) -> bool
+    ensures { result ≡ is_hidden_in flags.now cell }
+{
+    match flags.get(cell as usize) {
+        Some(flag) => *flag,
+        None => false,
+    }
+}
+
+// Joins a cell with a hidden cell that the same relation names, where it is hidden too.
+fn join_hidden(
+    system: &System,
+    relation: &Relation,
+    flags: &[bool],
+    first: u32,
+    cell: u32,
+    lower: &mut Vec<u32>,
+)
+    requires among { (number : ℕ) × (slice_get system.now.relations number ≡ Some relation.now) }
+    requires each { length flags.now ≡ system.now.cells }
+    requires forest { IsForest system.now.relations flags.now system.now.cells lower.old.items }
+    requires hidden { is_hidden_in flags.now first ≡ true }
+    requires first_named { names relation.now first ≡ true }
+    requires cell_named { names relation.now cell ≡ true }
+    ensures forest { IsForest system.now.relations flags.now system.now.cells lower.new.items }
+    ensures kept { (one other : ℕ) → Meet lower.old.items one other → Meet lower.new.items one other }
+    ensures joined { is_hidden_in flags.now cell ≡ true → Meet lower.new.items first cell }
+{
+    if is_hidden(flags, cell) {
+        join(system, flags, first, cell, lower);
+    }
+}
+
+// Joins two cells that relations link: the higher of the lowest cells that they lead to points to the lower one.
+fn join(system: &System, flags: &[bool], one: u32, other: u32, lower: &mut Vec<u32>)
+    requires forest { IsForest system.now.relations flags.now system.now.cells lower.old.items }
+    requires one_known { one < system.now.cells }
+    requires other_known { other < system.now.cells }
+    requires linked { Linked system.now.relations flags.now one other }
+    ensures forest { IsForest system.now.relations flags.now system.now.cells lower.new.items }
+    ensures kept { (first second : ℕ) → Meet lower.old.items first second → Meet lower.new.items first second }
+    ensures joined { Meet lower.new.items one other }
+{
+    let first = lowest(lower.as_slice(), one);
+    let second = lowest(lower.as_slice(), other);
+    if first < second {
+        lower[second as usize] = first;
+    } else {
+        lower[first as usize] = second;
+    }
+}
+
+// The lowest cell that a cell leads to.
+fn lowest(lower: &[u32], cell: u32) -> u32
+    requires falls { (one : ℕ) → slice_index lower.now one ≤ one }
+    requires known { cell < length lower.now }
+    ensures leads { LeadsTo lower.now cell result }
+    ensures end { slice_index lower.now result ≡ result }
+    ensures within { result < length lower.now }
+{
+    let mut at = cell;
+    'steps: while lower[at as usize] != at {
+        at = lower[at as usize];
+    }
+    at
+}
+
+// Numbers the components: a hidden cell that points to itself begins one.
+fn group(alloc: Global, cells: u32, flags: &[bool], lower: &[u32]) -> Result<Grouping, Memory>
+    requires each { length flags.now ≡ cells }
+    requires lower_each { length lower.now ≡ cells }
+    requires falls { (cell : ℕ) → slice_index lower.now cell ≤ cell }
+    requires hidden { (cell : ℕ) → is_hidden_in flags.now cell ≡ true → is_hidden_in flags.now (slice_index lower.now cell) ≡ true }
+    ensures numbered { IfOk result (λ grouping. AreNumbered flags.now lower.now grouping.of grouping.sizes) }
+    ensures each { IfOk result (λ grouping. length grouping.of ≡ cells) }
+{
+    let mut of = Vec::new(alloc);
+    let mut sizes = Vec::new(alloc);
+    'cells: for cell in 0..cells {
+        let number = number_of(cell, flags, lower, of.as_slice(), &mut sizes)?;
+        of.push(number)?;
+    }
+    Ok(Grouping {
+        of: Items::new(of),
+        sizes: Items::new(sizes),
+    })
+}
+
+// The number of the next cell's component, which counts it; none where it is shown.
+fn number_of(
+    cell: u32,
+    flags: &[bool],
+    lower: &[u32],
+    of: &[Option<u32>],
+    sizes: &mut Vec<u32>,
+) -> Result<Option<u32>, Memory>
+    requires next { cell ≡ length of.now }
+    requires known { cell < length lower.now }
+    requires few { cell + 1 < 2 ^ 32 }
+    requires falls { (one : ℕ) → slice_index lower.now one ≤ one }
+    requires hidden { (one : ℕ) → is_hidden_in flags.now one ≡ true → is_hidden_in flags.now (slice_index lower.now one) ≡ true }
+    requires numbered { AreNumbered flags.now lower.now of.now sizes.old.items }
+    ensures { IfOk result (λ number. AreNumbered flags.now lower.now (of.now ++ number ∷ []) sizes.new.items) }
+{
+    if is_hidden(flags, cell) {
+        let number = number_hidden(cell, flags, lower, of, sizes)?;
+        return Ok(Some(number));
+    }
+    Ok(None)
+}
+
+// The number of the next cell's component, which counts it; the cell is hidden. It begins a component where the cell that
+// it points to has none so far, since that is the cell itself.
+fn number_hidden(
+    cell: u32,
+    flags: &[bool],
+    lower: &[u32],
+    of: &[Option<u32>],
+    sizes: &mut Vec<u32>,
+) -> Result<u32, Memory>
+    requires next { cell ≡ length of.now }
+    requires known { cell < length lower.now }
+    requires few { cell + 1 < 2 ^ 32 }
+    requires falls { (one : ℕ) → slice_index lower.now one ≤ one }
+    requires this_hidden { is_hidden_in flags.now cell ≡ true }
+    requires hidden { (one : ℕ) → is_hidden_in flags.now one ≡ true → is_hidden_in flags.now (slice_index lower.now one) ≡ true }
+    requires numbered { AreNumbered flags.now lower.now of.now sizes.old.items }
+    ensures { IfOk result (λ number. AreNumbered flags.now lower.now (of.now ++ Some number ∷ []) sizes.new.items) }
+{
+    let Some(number) = component_at(of, lower[cell as usize]) else {
+        let number = sizes.len() as u32;
+        sizes.push(1)?;
+        return Ok(number);
+    };
+    count_in(sizes, number);
+    Ok(number)
+}
+
+// Counts a cell more in a component.
+fn count_in(sizes: &mut Vec<u32>, number: u32)
+    requires known { number < length sizes.old.items }
+    requires room { slice_index sizes.old.items number + 1 < 2 ^ 32 }
+    ensures { sizes.new.items ≡ slice_set sizes.old.items number (slice_index sizes.old.items number + 1) }
+{
+    let size = sizes[number as usize];
+    sizes[number as usize] = size + 1;
+}
+
+// The number of a cell's component, none where it has none so far.
+fn component_at(of: &[Option<u32>], cell: u32) -> Option<u32>
+    ensures { result ≡ component of.now cell }
+{
+    match of.get(cell as usize) {
+        Some(number) => *number,
+        None => None,
+    }
+}
