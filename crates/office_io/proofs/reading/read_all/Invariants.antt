@@ -15,8 +15,6 @@ invariant-pieces g l = record {
   faults_end : g.S.Shelf.faults l.fn.shelf ≤ 2 ^ 64 - 1 → g.S.Shelf.faults l.shelf ≤ 2 ^ 64 - 1;
   absences : g.S.Shelf.absences l.fn.shelf ≤ g.S.Shelf.absences l.shelf;
   absences_end : g.S.Shelf.absences l.fn.shelf ≤ 2 ^ 64 - 1 → g.S.Shelf.absences l.shelf ≤ 2 ^ 64 - 1;
-  no_fault : g.S.Shelf.faults l.shelf ≡ g.S.Shelf.faults l.fn.shelf;
-  no_absence : g.S.Shelf.absences l.shelf ≡ g.S.Shelf.absences l.fn.shelf;
 }
 
 abbrev pub decreases-pieces : goal.decreases-pieces
