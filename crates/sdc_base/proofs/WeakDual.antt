@@ -103,7 +103,7 @@ bounded_share true cell k den move shown within bounded =
     let most : (k *ℤ move) ≤ℤ (k *ℤ (den *ℤ (cell.low -ℤ cell.truth))) = times_down k (den *ℤ (cell.low -ℤ cell.truth)) move down room in
     rw test (subst (λ v. (k *ℤ move) ≤ℤ v) (swap_times k den (cell.low -ℤ cell.truth)) most))
 
-there : (cells : List Cell) (n : ℕ) → n < length cells → (cell : Cell) × (slice_get cells n ≡ Some cell)
+pub there : (cells : List Cell) (n : ℕ) → n < length cells → (cell : Cell) × (slice_get cells n ≡ Some cell)
 there [] n inside = absurd (omega arith)
 there (cell ∷ cells) n inside = (get_or (cell ∷ cells) n cell, slice_get-get_or (cell ∷ cells) n cell inside)
 

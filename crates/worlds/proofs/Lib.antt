@@ -1,0 +1,5 @@
+mod Carry
+mod Bounds
+mod Tests
+mod Lists
+mod WorldLaws
