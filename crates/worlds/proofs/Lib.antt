@@ -3,3 +3,8 @@ mod Bounds
 mod Tests
 mod Lists
 mod WorldLaws
+mod OneMore
+mod Held
+mod BoundSums
+mod ShareSteps
+mod RefutationLaws

@@ -24,12 +24,15 @@ share_or_fault hidden number k cell =
     refuse (fault.Unbounded number) (hidden && (int_lt (pos 0) k && not (is_some cell.high))) >>= λ _.
     held number (share hidden k cell)
 
+-- a sum with the share of one cell more, or the first fault
+abbrev pub added_share : Bool → ℕ → ℤ → Cell → ℤ → Result ℤ RefutationFault
+added_share hidden number k cell sum = share_or_fault hidden number k cell >>= λ part. held number (sum +ℤ part)
+
 -- the sum and the shares of the cells from this number on, added up, or the first fault
 abbrev pub summed_from : List Bool → Numbers → ℕ → ℤ → List Cell → Result ℤ RefutationFault
 summed_from flags coefficients number sum [] = Ok sum
 summed_from flags coefficients number sum (cell ∷ cells) =
-    share_or_fault (is_hidden flags number) number (coefficients number) cell >>= λ part.
-    held number (sum +ℤ part) >>= λ next.
+    added_share (is_hidden flags number) number (coefficients number) cell sum >>= λ next.
     summed_from flags coefficients (number + 1) next cells
 
 -- the bound sum of multipliers for a cell and a side, or the first fault
