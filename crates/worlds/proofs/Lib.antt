@@ -1,0 +1,10 @@
+mod Carry
+mod Bounds
+mod Tests
+mod Lists
+mod WorldLaws
+mod OneMore
+mod Held
+mod BoundSums
+mod ShareSteps
+mod RefutationLaws

@@ -1,0 +1,7 @@
+use Rattle.std.proofs.Common.{◌≡◌, ◌∙◌, sym}
+use Rattle.worlds.proofs.Tests.{if_ok}
+use Rattle.worlds.proofs.RefutationLaws.{sum_law}
+use Rattle.worlds.proofs.refutation_check.bound_sum.Goals as goal
+
+pub returns-clause-sum : goal.returns-clause-sum
+returns-clause-sum c = if_ok c.first_sum.result (λ sum is. sum_law c.args.system.now c.args.cells.now c.args.hidden.now.flags c.args.cell c.args.side c.args.multipliers.now sum c.requires.asked (sym c.first_sum.ensures.exact ∙ is))

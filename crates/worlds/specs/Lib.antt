@@ -1,0 +1,5 @@
+pub mod Wide
+pub mod Listed
+pub mod WorldFaults
+pub mod Gathered
+pub mod RefutationFaults

@@ -1,0 +1,168 @@
+ghost use Rattle.std.specs.Prelude.{◌≡◌, ◌↔◌, ◌<◌, ◌≤ℤ◌, ℤ, pos, length, replicate, All, Err, IsOk, IfOk, OnOk, IfErr, Ok};
+ghost use Rattle.sdc_base.specs.Forms.{coefficient};
+ghost use Rattle.sdc_base.specs.Refutations.{refuting, bound_sum as sum_meant};
+ghost use Rattle.sdc_base.specs.Systems.{NamesCells};
+ghost use Rattle.sdc_base.specs.Worlds.{Protects, toward};
+ghost use Rattle.worlds.specs.Gathered.{gathered};
+ghost use Rattle.worlds.specs.RefutationFaults.{added, summed, refutation_fault, IsGivenRefutation};
+
+use crate::adding::{add_at, add_forms};
+use crate::faults::RefutationFault;
+use crate::listed::misplaced_multiplier;
+use crate::moves::clear;
+use crate::multipliers::Multipliers;
+use crate::shares::{held_product, level_of, sum_shares};
+use sdc_base::{Cell, Hidden, Relation, Side, System};
+
+/// The bound sum of multipliers for a cell and a side: how far, times their denominator, they let the cell move at most.
+///
+/// The forms of relations, each as many times as its multiplier says, are added to the cell, as many times as the denominator
+/// says, or below to as many times its opposite. A hidden cell adds to the sum its coefficient times how far it can rise where
+/// the coefficient is above 0, and else times how far it can fall.
+///
+/// There are a cell, a flag and a number of the scratch for each cell of the system, and the cell that is asked about is one of
+/// them; afterwards the scratch may hold any numbers. The fault is the first in this order: the denominator; the first
+/// multiplier that isn't ascending, names no relation or is 0; the first cell whose coefficient leaves 128 bits as it grows,
+/// relation by relation and in each the total before its parts; cell by cell, that a coefficient above 0 meets no upper bound,
+/// or that its share or the sum leaves 128 bits. It goes once through the parts of the relations that have a multiplier and
+/// through all cells, and takes no memory.
+///
+/// Bound sums are those of linear duality.
+pub fn bound_sum(
+    system: &System,
+    cells: &[Cell],
+    hidden: &Hidden,
+    cell: u32,
+    side: Side,
+    multipliers: &Multipliers,
+    scratch: &mut [i128],
+) -> Result<i128, RefutationFault>
+    requires cells { length cells.now ≡ system.now.cells }
+    requires flags { length hidden.now.flags ≡ system.now.cells }
+    requires scratch { length scratch.old ≡ system.now.cells }
+    requires asked { cell < system.now.cells }
+    ensures exact { result ≡ summed system.now cells.now hidden.now.flags cell side multipliers.now }
+    ensures sum { IfOk result (λ sum. sum ≡ sum_meant cells.now hidden.now.flags (coefficient (added system.now cell side multipliers.now))) }
+    ensures length { length scratch.new ≡ length scratch.old }
+{
+    first_sum(system, cells, hidden, cell, side, multipliers, scratch)
+}
+
+/// Whether multipliers refute that a cell lies in some world for a hidden set as far as its level to a side.
+///
+/// The conditions and faults are those of [`bound_sum`], and behind them that the denominator times the level leaves 128 bits,
+/// and that the sum isn't below it. Where the answer is good no world of any denominator takes the cell as far as its level. It
+/// takes no memory.
+///
+/// Refutations are those of linear duality.
+pub fn check_refutation(
+    system: &System,
+    cells: &[Cell],
+    hidden: &Hidden,
+    cell: u32,
+    side: Side,
+    multipliers: &Multipliers,
+    scratch: &mut [i128],
+) -> Result<(), RefutationFault>
+    requires cells { length cells.now ≡ system.now.cells }
+    requires flags { length hidden.now.flags ≡ system.now.cells }
+    requires scratch { length scratch.old ≡ system.now.cells }
+    requires asked { cell < system.now.cells }
+    ensures exact { result ≡ refutation_fault system.now cells.now hidden.now.flags cell side multipliers.now }
+    ensures refutation { IsOk result ↔ IsGivenRefutation system.now cells.now hidden.now.flags cell side multipliers.now }
+    ensures unprotected { IsOk result → ¬ Protects system.now cells.now hidden.now.flags cell side }
+    ensures length { length scratch.new ≡ length scratch.old }
+{
+    first_fault(system, cells, hidden, cell, side, multipliers, scratch)
+}
+
+// The first fault of a refutation.
+fn first_fault(
+    system: &System,
+    cells: &[Cell],
+    hidden: &Hidden,
+    cell: u32,
+    side: Side,
+    multipliers: &Multipliers,
+    scratch: &mut [i128],
+) -> Result<(), RefutationFault>
+    requires cells { length cells.now ≡ system.now.cells }
+    requires flags { length hidden.now.flags ≡ system.now.cells }
+    requires scratch { length scratch.old ≡ system.now.cells }
+    requires asked { cell < system.now.cells }
+    ensures exact { result ≡ refutation_fault system.now cells.now hidden.now.flags cell side multipliers.now }
+    ensures length { length scratch.new ≡ length scratch.old }
+{
+    let sum = first_sum(system, cells, hidden, cell, side, multipliers, scratch)?;
+    let level = level_of(&cells[cell as usize], side);
+    let most = held_product(cell, multipliers.den, level)?;
+    if sum < most {
+        Ok(())
+    } else {
+        Err(RefutationFault::NotBelow)
+    }
+}
+
+// The bound sum, or the first fault on the way to it.
+fn first_sum(
+    system: &System,
+    cells: &[Cell],
+    hidden: &Hidden,
+    cell: u32,
+    side: Side,
+    multipliers: &Multipliers,
+    scratch: &mut [i128],
+) -> Result<i128, RefutationFault>
+    requires cells { length cells.now ≡ system.now.cells }
+    requires flags { length hidden.now.flags ≡ system.now.cells }
+    requires scratch { length scratch.old ≡ system.now.cells }
+    requires asked { cell < system.now.cells }
+    ensures exact { result ≡ summed system.now cells.now hidden.now.flags cell side multipliers.now }
+    ensures length { length scratch.new ≡ length scratch.old }
+{
+    if multipliers.den < 1 {
+        return Err(RefutationFault::Den);
+    }
+    let listed = multipliers.by_relation.as_slice();
+    let relations = system.relations.as_slice();
+    if let Some(place) = misplaced_multiplier(listed, relations.len() as u32) {
+        return Err(RefutationFault::Order(place));
+    }
+    // Read, so that it is known to be a number of 32 bits.
+    let _cells = system.cells;
+    gather(relations, cell, side, multipliers.den, listed, scratch)?;
+    sum_shares(cells, hidden.flags.as_slice(), scratch)
+}
+
+// The coefficients of all cells: the asked one so many times, and the weighted forms.
+fn gather(
+    relations: &[Relation],
+    asked: u32,
+    side: Side,
+    den: i128,
+    multipliers: &[(u32, i128)],
+    numbers: &mut [i128],
+) -> Result<(), RefutationFault>
+    requires asked { asked < length numbers.old }
+    requires cells { All (NamesCells (length numbers.old)) relations.now }
+    requires relations { All (λ m. m.0 < length relations.now) multipliers.now }
+    requires positive { pos 1 ≤ℤ den }
+    ensures length { length numbers.new ≡ length numbers.old }
+    ensures ok { OnOk result (gathered (replicate (length numbers.old) (pos 0)) (refuting relations.now asked side den multipliers.now) ≡ Ok numbers.new) }
+    ensures err { IfErr result (λ fault. gathered (replicate (length numbers.old) (pos 0)) (refuting relations.now asked side den multipliers.now) ≡ Err fault) }
+{
+    clear(numbers);
+    add_at(numbers, asked, toward_side(side, den))?;
+    add_forms(numbers, relations, multipliers)
+}
+
+// An amount toward a side.
+fn toward_side(side: Side, amount: i128) -> i128
+    requires { pos 1 ≤ℤ amount }
+    ensures { result ≡ toward side amount }
+{
+    match side {
+        Side::Above => amount,
+        Side::Below => -amount,
+    }
+}
