@@ -11,6 +11,7 @@ pub mod Showing
 pub mod Stating
 pub mod TableSteps
 pub mod Releasing
+pub mod Protecting
 pub mod Outcomes
 pub mod Settling
 pub mod PutSteps

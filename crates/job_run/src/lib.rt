@@ -13,6 +13,7 @@ mod layouts;
 mod loading;
 mod microdata_file;
 mod printing;
+mod protection;
 mod put;
 mod puts;
 mod refusal;

@@ -9,6 +9,7 @@ ghost use Rattle.job_run.specs.Releases.{figures, first_primary as first_meant, 
 ghost use Rattle.job_run.specs.declared.inputs.Inputs.{Inputs as AnyInputs};
 
 use crate::counted::Counted;
+use crate::protection::open_protection;
 use crate::put::Release;
 use crate::refusal::Refusal;
 use crate::release_texts::puts_for;
@@ -43,7 +44,14 @@ pub(crate) fn release_for(
     }
     let summary = summary_for(counted);
     let system = relations_of(alloc, &counted.book)?;
-    let puts = puts_for(alloc, &counted.described, &counted.book, &system)?;
+    let protected = open_protection(alloc, &system, cells.as_slice())?;
+    let puts = puts_for(
+        alloc,
+        &counted.described,
+        &counted.book,
+        &system,
+        &protected,
+    )?;
     Ok(Release { puts, summary })
 }
 

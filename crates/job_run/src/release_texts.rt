@@ -14,6 +14,7 @@ use linked_tables::Book;
 use release_writer::{Shown, table_bytes};
 use sdc_base::{Hidden, Items, Memory, System, Text};
 use std::alloc::Global;
+use worlds::Protected;
 
 /// What a release without hidden cells puts: first the certificate, and then the tables in the order of the job.
 pub(crate) fn puts_for(
@@ -21,28 +22,19 @@ pub(crate) fn puts_for(
     described: &Described,
     book: &Book,
     system: &System,
+    protected: &Protected<'_>,
 ) -> Result<Items<Put>, Memory>
     requires sound { IsSound described.now }
     requires ready { IsReadyFor described.now book.now }
     requires related { IsSystemOf book.now system.now }
+    requires open { IsOpen book.now protected.now.2 }
     ensures puts { IfOk result (λ puts. (inputs : AnyInputs) → inputs.described ≡ described.now → IsBookOf inputs book.now → puts ≡ puts_of inputs) }
     ensures each { IfOk result (λ puts. length puts ≡ 1 + length described.now.job.tables) }
 {
-    let open = nothing_hidden(alloc, book)?;
     let mut puts = Items::empty(alloc);
     puts.push(certificate_put(alloc, described, book, system)?)?;
-    add_tables(alloc, described, book, &open, &mut puts)?;
+    add_tables(alloc, described, book, protected.hidden(), &mut puts)?;
     Ok(puts)
-}
-
-// The hidden set of a release that hides no cell.
-fn nothing_hidden(alloc: Global, book: &Book) -> Result<Hidden, Memory>
-    ensures { IfOk result (IsOpen book.now) }
-{
-    let flags = Vec::from_elem(alloc, false, book.marks().len())?;
-    Ok(Hidden {
-        flags: Items::new(flags),
-    })
 }
 
 // The certificate.
@@ -70,19 +62,19 @@ fn add_tables(
     alloc: Global,
     described: &Described,
     book: &Book,
-    open: &Hidden,
+    hidden: &Hidden,
     puts: &mut Items<Put>,
 ) -> Result<(), Memory>
     requires sound { IsSound described.now }
     requires ready { IsReadyFor described.now book.now }
-    requires open { IsOpen book.now open.now }
+    requires open { IsOpen book.now hidden.now }
     ensures puts { OnOk result ((inputs : AnyInputs) → inputs.described ≡ described.now → IsBookOf inputs book.now
         → puts.new ≡ puts.old ++ tables_from inputs 0 described.now.job.tables described.now.job.outputs) }
     ensures each { OnOk result (length puts.new ≡ length puts.old + length described.now.job.tables) }
 {
     let outputs = described.job.outputs.as_slice();
     'tables: for (t, line) in described.job.tables.as_slice().iter().enumerate() {
-        let put = table_put(alloc, described, book, open, t as u32, line, &outputs[t])?;
+        let put = table_put(alloc, described, book, hidden, t as u32, line, &outputs[t])?;
         puts.push(put)?;
     }
     Ok(())
@@ -93,14 +85,14 @@ fn table_put(
     alloc: Global,
     described: &Described,
     book: &Book,
-    open: &Hidden,
+    hidden: &Hidden,
     t: u32,
     line: &TableLine,
     output: &OutputLine,
 ) -> Result<Put, Memory>
     requires sound { IsSound described.now }
     requires ready { IsReadyFor described.now book.now }
-    requires open { IsOpen book.now open.now }
+    requires open { IsOpen book.now hidden.now }
     requires table { t < length book.now.tables }
     requires header { length line.now.variables ≡ length (slice_index_or book.now.tables t []) }
     ensures { IfOk result (λ put. (inputs : AnyInputs) → inputs.described ≡ described.now → IsBookOf inputs book.now
@@ -114,7 +106,7 @@ fn table_put(
         t,
         header.as_slice(),
         decimals,
-        Shown::Hidden(open),
+        Shown::Hidden(hidden),
     )?;
     Ok(Put {
         file: FileRef::Table(t),

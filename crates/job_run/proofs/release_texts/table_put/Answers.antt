@@ -12,7 +12,7 @@ use Rattle.job_run.proofs.release_texts.table_put.Goals as goal
 pub returns : goal.returns
 returns c = λ inputs is whole.
     let book = c.args.book.now in
-    let flags = c.args.open.now.flags in
+    let flags = c.args.hidden.now.flags in
     let header = c.as_slice.result.now in
     let fine : c.args.described.now.bound.decimals ≡ inputs.described.bound.decimals = ap (λ (d : Described). d.bound.decimals) (sym is) in
     let text : c.new.result ≡ open_table inputs c.args.t (names_of c.args.line.now) =
