@@ -8,3 +8,4 @@ mod Held
 mod BoundSums
 mod ShareSteps
 mod RefutationLaws
+mod ProtectLaws

@@ -3,3 +3,5 @@ pub mod Listed
 pub mod WorldFaults
 pub mod Gathered
 pub mod RefutationFaults
+pub mod ProtectFaults
+pub mod Protection

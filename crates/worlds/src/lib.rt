@@ -7,15 +7,20 @@ mod listed;
 mod moves;
 mod multipliers;
 mod products;
+mod protected;
+mod protection;
 mod refutation_check;
 mod relations;
 mod shares;
 mod sums;
+#[cfg(test)]
+mod tests;
 mod world;
 mod world_check;
 
 pub use faults::{ProtectFault, RefutationFault, WorldFault};
 pub use multipliers::Multipliers;
+pub use protected::Protected;
 pub use refutation_check::{bound_sum, check_refutation};
 pub use world::{Move, World};
 pub use world_check::{check_world, reaches};

@@ -1,0 +1,6 @@
+use Rattle.std.proofs.Common.{◌≡◌, drop}
+use Rattle.worlds.specs.ProtectFaults.{fixed_hidden}
+use Rattle.worlds.proofs.protection.hidden_fixed.Given as goal
+
+abbrev pub invariant-loop-number : goal.invariant-loop-number
+invariant-loop-number l = fixed_hidden l.flags 0 l.cells ≡ fixed_hidden l.flags l.number (drop l.number l.cells)
