@@ -7,6 +7,8 @@ mod file_shelf;
 mod folder_tray;
 #[cfg(test)]
 mod test_folder;
+#[cfg(test)]
+mod tests;
 mod words;
 
 use crate::answer::{ended_by, without_words};

@@ -23,8 +23,6 @@ mod report;
 mod running;
 mod stated;
 mod stop;
-#[cfg(test)]
-mod tests;
 
 pub use printing::report_text;
 pub use report::{Fault, FileRef, Report, Summary};

@@ -62,6 +62,7 @@ fn settled(alloc: Global, counted: &Counted, priors: &[Prior]) -> Result<Vec<Cel
     ensures gives { (inputs : AnyInputs) → IsCountedOf inputs counted.now
         → Gives refused_for (λ cells. map seen cells.items) result (map_fault prior_fault (settle_of inputs.described.job.rules (figures inputs) priors.now)) }
     ensures few { IfOk result (λ cells. length cells.items < 2 ^ 32) }
+    ensures one_each { IfOk result (λ cells. length cells.items ≡ length counted.now.book.marks) }
 {
     match settle(alloc, &counted.book, &counted.described.job.rules, priors) {
         Ok(cells) => Ok(cells),

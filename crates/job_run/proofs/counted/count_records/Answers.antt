@@ -25,5 +25,6 @@ pub returns-clause-ready : goal.returns-clause-ready
 returns-clause-ready c = record {
   sound = c.requires.described;
   book = is-ready c.args.inputs.described c.filled-book.result c.as_slice.result.now c.filled-book.ensures.told c.filled-book.ensures.one_each (c.filled-book.ensures.tables ∙ c.in_ok-book.ensures.tables);
+  one_each = c.filled-book.ensures.one_each;
   few = c.filled-book.ensures.few;
 }

@@ -1,7 +1,7 @@
-use crate::{Fault, FileRef, Report, Summary, report_text, run};
 use apriori::PriorWhy;
 use hierarchy::TreeFault;
 use job_lang::{Command, JobWhy};
+use job_run::{Fault, FileRef, Report, Summary, report_text, run};
 use microdata::RowWhy;
 use office_io::{MemoryShelf, MemoryTray};
 use rda_meta::MetaWhy;
