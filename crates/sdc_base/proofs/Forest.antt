@@ -19,7 +19,7 @@ leads-then lower one two three first second = by first.0 one first.1
 pub leads-step : (lower : List ℕ) (cell next : ℕ) → slice_index lower cell ≡ next → LeadsTo lower cell next
 leads-step lower cell next h = (suc zero, h)
 
-ends-stay : (lower : List ℕ) (root : ℕ) → slice_index lower root ≡ root → (steps : ℕ) → ascend lower steps root ≡ root
+pub ends-stay : (lower : List ℕ) (root : ℕ) → slice_index lower root ≡ root → (steps : ℕ) → ascend lower steps root ≡ root
 ends-stay lower root end zero = refl
 ends-stay lower root end (suc steps) = ap (ascend lower steps) end ∙ ends-stay lower root end steps
 
@@ -114,20 +114,44 @@ pub meet-linked : (relations : List Relation) (flags : List Bool) (cells : ℕ) 
 meet-linked relations flags cells lower is one other inside within h =
     linked-then relations flags one h.0 other (leads-linked relations flags cells lower is one h.0 inside h.1) (linked-turned relations flags other h.0 (leads-linked relations flags cells lower is other h.0 within h.2))
 
--- an end that points to a lower cell, which relations link to it
-pub forest-joined : (relations : List Relation) (flags : List Bool) (cells : ℕ) (lower : List ℕ) (root next : ℕ) → IsForest relations flags cells lower → next ≤ root → Linked relations flags root next → IsForest relations flags cells (slice_set lower root next)
-forest-joined relations flags cells lower root next is under linked = record {
+differ : {b : Bool} → b ≡ false → b ≡ true → ⊥
+differ one other = absurd cc
+
+lt_or_le : (a b : ℕ) → (a < b) ⊎ (b ≤ a)
+lt_or_le a b = grind arith
+
+-- a cell that points to another lower one
+pub falls-set : (lower : List ℕ) (root next : ℕ) → ((cell : ℕ) → slice_index lower cell ≤ cell) → next ≤ root → (cell : ℕ) → slice_index (slice_set lower root next) cell ≤ cell
+falls-set lower root next falls under cell =
+    elim (cell == root) as (λ b. (cell == root) ≡ b → slice_index (slice_set lower root next) cell ≤ cell) [
+      | true ↦ λ is_root.
+          let same : cell ≡ root = (Decides-eqb cell root).0 is_root in
+          at (lt_or_le root (length lower)) cell same
+      | false ↦ λ other.
+          let apart : cell ≢ root = λ same. absurd (differ other ((Decides-eqb cell root).1 same)) in
+          let here : slice_index (slice_set lower root next) cell ≡ slice_index lower cell = get_or-set_other lower root cell next 0 apart in
+          let old = falls cell in
+          omega (arith, here, old)
+    ] refl
+  where
+    at : (root < length lower) ⊎ (length lower ≤ root) → (cell : ℕ) → cell ≡ root → slice_index (slice_set lower root next) cell ≤ cell
+    at (inl inside) cell same =
+        let here : slice_index (slice_set lower root next) root ≡ next = get_or-set_same lower root next 0 inside in
+        let there : slice_index (slice_set lower root next) cell ≡ slice_index (slice_set lower root next) root = ap (slice_index (slice_set lower root next)) same in
+        omega (arith, here, there, same, under)
+    at (inr past) cell same =
+        let kept : slice_index (slice_set lower root next) cell ≡ slice_index lower cell = ap (λ list. slice_index list cell) (set_past lower root next past) in
+        let old = falls cell in
+        omega (arith, kept, old)
+
+-- a cell that points to another lower one, which relations link to it
+pub forest-set : (relations : List Relation) (flags : List Bool) (cells : ℕ) (lower : List ℕ) (root next : ℕ) → IsForest relations flags cells lower → next ≤ root → Linked relations flags root next → IsForest relations flags cells (slice_set lower root next)
+forest-set relations flags cells lower root next is under linked = record {
   each = length-set lower root next ∙ is.each;
-  falls = by;
+  falls = falls-set lower root next is.falls under;
   links = to;
 }
   where
-    differ : {b : Bool} → b ≡ false → b ≡ true → ⊥
-    differ one other = absurd cc
-
-    lt_or_le : (a b : ℕ) → (a < b) ⊎ (b ≤ a)
-    lt_or_le a b = grind arith
-
     to : (cell : ℕ) → cell < cells → Linked relations flags cell (slice_index (slice_set lower root next) cell)
     to cell inside =
         elim (cell == root) as (λ b. (cell == root) ≡ b → Linked relations flags cell (slice_index (slice_set lower root next) cell)) [
@@ -141,25 +165,6 @@ forest-joined relations flags cells lower root next is under linked = record {
               subst (λ there. Linked relations flags cell there) (sym (get_or-set_other lower root cell next 0 apart)) (is.links cell inside)
         ] refl
 
-    by : (cell : ℕ) → slice_index (slice_set lower root next) cell ≤ cell
-    by cell =
-        elim (cell == root) as (λ b. (cell == root) ≡ b → slice_index (slice_set lower root next) cell ≤ cell) [
-          | true ↦ λ is_root.
-              let same : cell ≡ root = (Decides-eqb cell root).0 is_root in
-              at (lt_or_le root (length lower)) cell same
-          | false ↦ λ other.
-              let apart : cell ≢ root = λ same. absurd (differ other ((Decides-eqb cell root).1 same)) in
-              let here : slice_index (slice_set lower root next) cell ≡ slice_index lower cell = get_or-set_other lower root cell next 0 apart in
-              let old = is.falls cell in
-              omega (arith, here, old)
-        ] refl
-      where
-        at : (root < length lower) ⊎ (length lower ≤ root) → (cell : ℕ) → cell ≡ root → slice_index (slice_set lower root next) cell ≤ cell
-        at (inl inside) cell same =
-            let here : slice_index (slice_set lower root next) root ≡ next = get_or-set_same lower root next 0 inside in
-            let there : slice_index (slice_set lower root next) cell ≡ slice_index (slice_set lower root next) root = ap (slice_index (slice_set lower root next)) same in
-            omega (arith, here, there, same, under)
-        at (inr past) cell same =
-            let kept : slice_index (slice_set lower root next) cell ≡ slice_index lower cell = ap (λ list. slice_index list cell) (set_past lower root next past) in
-            let old = is.falls cell in
-            omega (arith, kept, old)
+-- a cell that meets an end leads to it
+pub meet-end : (lower : List ℕ) (root cell : ℕ) → slice_index lower root ≡ root → Meet lower cell root → LeadsTo lower cell root
+meet-end lower root cell end h = let same : h.0 ≡ root = sym h.2.1 ∙ ends-stay lower root end h.2.0 in subst (LeadsTo lower cell) same h.1

@@ -16,5 +16,6 @@ pub mod SmallTables
 pub mod PlaceLists
 pub mod Chains
 pub mod Forest
+pub mod Shortening
 pub mod Numbering
 pub mod Connecting

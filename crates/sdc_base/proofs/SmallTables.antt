@@ -1,6 +1,6 @@
 -- The small tables, reckoned.
 use Rattle.std.proofs.Common.{refl}
-use Rattle.sdc_base.specs.Examples.{FlatTable, WeightSteps, LastInPart, TwoLevels, SharedMargins, RuleRows}
+use Rattle.sdc_base.specs.Examples.{FlatTable, WeightSteps, LastInPart, TwoLevels, SharedMargins, RelationRows, RuleRows}
 
 pub flat_table : FlatTable
 flat_table = record { cells = refl; sums = refl; counts = refl; none = refl; fewer = refl; named = refl; empty = refl }
@@ -16,6 +16,9 @@ two_levels = record { walk = refl; under = refl }
 
 pub shared_margins : SharedMargins
 shared_margins = record { margin_first = refl; turned = refl }
+
+pub relation_rows : RelationRows
+relation_rows = record { two_way = refl; linked = refl; levels = refl; not_spanned = refl }
 
 pub rule_rows : RuleRows
 rule_rows = record { dominance = refl; percent = refl; both = refl; at_bound = refl; at_percent = refl; frequency = refl; nothing = refl; unit = refl }

@@ -3,6 +3,7 @@ use Rattle.std.specs.Prelude.{◌≡◌, ℕ, zero, suc, true, false, List, [], 
 use Rattle.sdc_base.specs.Trees.{Tree, flat_tree, is_under, upward}
 use Rattle.sdc_base.specs.Records.{Name}
 use Rattle.sdc_base.specs.Cells.{cells_of}
+use Rattle.sdc_base.specs.Relations.{relations_among}
 use Rattle.sdc_base.specs.Sums.{truth, freq}
 use Rattle.sdc_base.specs.Largest.{largest_in}
 use Rattle.sdc_base.specs.Rules.{frequency_names, first_named}
@@ -85,6 +86,15 @@ pub record TwoLevels : Type 0 where
 pub record SharedMargins : Type 0 where
   pub margin_first : cells_of (two_codes ∷ two_codes ∷ []) ((0 ∷ []) ∷ (0 ∷ 1 ∷ []) ∷ []) ≡ (0 ∷ 0 ∷ []) ∷ (1 ∷ 0 ∷ []) ∷ (2 ∷ 0 ∷ []) ∷ (0 ∷ 1 ∷ []) ∷ (0 ∷ 2 ∷ []) ∷ (1 ∷ 1 ∷ []) ∷ (1 ∷ 2 ∷ []) ∷ (2 ∷ 1 ∷ []) ∷ (2 ∷ 2 ∷ []) ∷ []
   pub turned : cells_of (two_codes ∷ two_codes ∷ []) ((1 ∷ 0 ∷ []) ∷ []) ≡ (0 ∷ 0 ∷ []) ∷ (1 ∷ 0 ∷ []) ∷ (2 ∷ 0 ∷ []) ∷ (0 ∷ 1 ∷ []) ∷ (1 ∷ 1 ∷ []) ∷ (2 ∷ 1 ∷ []) ∷ (0 ∷ 2 ∷ []) ∷ (1 ∷ 2 ∷ []) ∷ (2 ∷ 2 ∷ []) ∷ []
+
+-- Relations by cell and then by variable: of a table of two variables; of two tables that share a margin; of two levels of
+-- codes, where all codes below a code in the place of those right below would give the total five parts; and of a table
+-- that doesn't span the second variable, which has none for it.
+pub record RelationRows : Type 0 where
+  pub two_way : relations_among (two_codes ∷ two_codes ∷ []) ((0 ∷ 1 ∷ []) ∷ []) ≡ (0, 3 ∷ 6 ∷ []) ∷ (0, 1 ∷ 2 ∷ []) ∷ (1, 4 ∷ 7 ∷ []) ∷ (2, 5 ∷ 8 ∷ []) ∷ (3, 4 ∷ 5 ∷ []) ∷ (6, 7 ∷ 8 ∷ []) ∷ []
+  pub linked : relations_among (two_codes ∷ two_codes ∷ []) ((0 ∷ []) ∷ (1 ∷ []) ∷ []) ≡ (0, 1 ∷ 2 ∷ []) ∷ (0, 3 ∷ 4 ∷ []) ∷ []
+  pub levels : relations_among (two_levels ∷ []) ((0 ∷ []) ∷ []) ≡ (0, 1 ∷ 4 ∷ []) ∷ (1, 2 ∷ 3 ∷ []) ∷ (4, 5 ∷ []) ∷ []
+  pub not_spanned : relations_among (two_codes ∷ two_codes ∷ []) ((0 ∷ []) ∷ []) ≡ (0, 1 ∷ 2 ∷ []) ∷ []
 
 -- the sum of so many numbers from the front
 abbrev pub sum_of_first : ℕ → List ℤ → ℤ

@@ -1,4 +1,4 @@
-ghost use Rattle.std.specs.Prelude.{◌≡◌, ◌<◌, ◌≤◌, ◌^◌, ◌+◌, ◌++◌, ◌∷◌, [], ℕ, true, false, length, slice_get, slice_index, slice_set, IfOk, IfSome, None, Some};
+ghost use Rattle.std.specs.Prelude.{◌≡◌, ◌<◌, ◌≤◌, ◌^◌, ◌+◌, ◌++◌, ◌∷◌, [], ℕ, Bool, List, true, false, length, slice_get, slice_index, slice_set, IfOk, IfSome, None, Some};
 ghost use Rattle.std.specs.List.{range_with_len};
 ghost use Rattle.sdc_base.specs.declared.relation.Relation.{Relation as AnyRelation};
 ghost use Rattle.sdc_base.specs.HiddenSets.{is_hidden as is_hidden_in};
@@ -25,8 +25,8 @@ pub struct Grouping {
 /// where a chain of relations links them through hidden cells. Components are numbered from 0 in the order of their
 /// lowest cells.
 ///
-/// Each hidden cell points to itself or to a lower cell of its component. It takes a walk along these for each hidden
-/// cell of each relation, and one look at each cell; its one refusal is want of memory.
+/// Each cell points to itself or to a lower cell of its component. It takes a walk along these for each hidden cell of
+/// each relation, which halves later walks from there, and one look at each cell; its one refusal is want of memory.
 pub fn components(alloc: Global, system: &System, hidden: &Hidden) -> Result<Grouping, Memory>
     requires each { length hidden.now.flags ≡ system.now.cells }
     ensures { IfOk result (λ grouping. AreComponents system.now.relations hidden.now.flags grouping.of grouping.sizes) }
@@ -139,8 +139,8 @@ fn join(system: &System, flags: &[bool], one: u32, other: u32, lower: &mut Vec<u
     ensures kept { (first second : ℕ) → Meet lower.old.items first second → Meet lower.new.items first second }
     ensures joined { Meet lower.new.items one other }
 {
-    let first = lowest(lower.as_slice(), one);
-    let second = lowest(lower.as_slice(), other);
+    let first = lowest(lower, one);
+    let second = lowest(lower, other);
     if first < second {
         lower[second as usize] = first;
     } else {
@@ -148,17 +148,26 @@ fn join(system: &System, flags: &[bool], one: u32, other: u32, lower: &mut Vec<u
     }
 }
 
-// The lowest cell that a cell leads to.
-fn lowest(lower: &[u32], cell: u32) -> u32
-    requires falls { (one : ℕ) → slice_index lower.now one ≤ one }
-    requires known { cell < length lower.now }
-    ensures leads { LeadsTo lower.now cell result }
-    ensures end { slice_index lower.now result ≡ result }
-    ensures within { result < length lower.now }
+// The lowest cell that a cell leads to. Each second cell on the way is let point past the next one, so that later walks
+// are shorter; the cells that met meet still.
+fn lowest(lower: &mut Vec<u32>, cell: u32) -> u32
+    requires falls { (one : ℕ) → slice_index lower.old.items one ≤ one }
+    requires known { cell < length lower.old.items }
+    ensures forest { (relations : List AnyRelation) (flags : List Bool) (cells : ℕ) → IsForest relations flags cells lower.old.items → IsForest relations flags cells lower.new.items }
+    ensures kept { (one other : ℕ) → Meet lower.old.items one other → Meet lower.new.items one other }
+    ensures ends { (root : ℕ) → slice_index lower.old.items root ≡ root → slice_index lower.new.items root ≡ root }
+    ensures falls { (one : ℕ) → slice_index lower.new.items one ≤ one }
+    ensures long { length lower.new.items ≡ length lower.old.items }
+    ensures leads { LeadsTo lower.new.items cell result }
+    ensures end { slice_index lower.new.items result ≡ result }
+    ensures within { result < length lower.new.items }
 {
     let mut at = cell;
     'steps: while lower[at as usize] != at {
-        at = lower[at as usize];
+        let next = lower[at as usize];
+        let past = lower[next as usize];
+        lower[at as usize] = past;
+        at = past;
     }
     at
 }

@@ -1,0 +1,183 @@
+ghost use Rattle.std.specs.Prelude.{◌≡◌, length, IfOk};
+
+use crate::{components, relations_of};
+use hierarchy::{CodeTree, flat, from_lead};
+use linked_tables::{Book, BookFault};
+use sdc_base::{Few, Hidden, Items, Memory, Place, Relation, System, Text};
+use std::alloc::Global;
+use std::rt::HostRuntime;
+use std::test::Fail;
+
+// A relation: the total, and the parts.
+type Sum<'a> = (u32, &'a [u32]);
+
+fn text(alloc: Global, bytes: &[u8]) -> Result<Text, Fail> {
+    Ok(Text::new(Vec::from_slice(alloc, bytes)?))
+}
+
+// The total and two other codes.
+fn two_codes(alloc: Global) -> Result<CodeTree, Fail> {
+    let mut codes = Vec::new(alloc);
+    codes.push(text(alloc, b"1")?)?;
+    codes.push(text(alloc, b"2")?)?;
+    Ok(flat(alloc, codes.as_slice(), &text(alloc, b"Total")?)?)
+}
+
+// The total, and by their places 1 N, 2 and 3 below it, 4 S, and 5 below it.
+fn regions(alloc: Global) -> Result<CodeTree, Fail> {
+    let lead = text(alloc, b"@")?;
+    let total = text(alloc, b"Total")?;
+    if lead.as_slice().is_empty() {
+        return two_codes(alloc);
+    }
+    let bytes = b"N\n@N1\n@N2\nS\n@S1\n".as_slice();
+    Ok(from_lead(alloc, bytes, &lead, &total)?)
+}
+
+fn place_of(codes: &[u32]) -> Place {
+    let mut place = Few::empty();
+    for code in codes {
+        let at = place.len();
+        if at < 8 {
+            place.insert(at, *code);
+        }
+    }
+    place
+}
+
+// The book of tables over these trees, of which there are few.
+fn book_of(alloc: Global, trees: Vec<CodeTree>, tables: &[&[u32]]) -> Result<Book, Fail> {
+    let mut spanned = Vec::new(alloc);
+    for table in tables {
+        spanned.push(place_of(table))?;
+    }
+    if trees.len() > 8 || spanned.len() > 100 {
+        return Err(Fail::from(BookFault::Memory));
+    }
+    Ok(Book::new(alloc, trees, spanned)?)
+}
+
+// The relations are these, in this order.
+fn are(relations: &[Relation], sums: &[Sum<'_>]) -> bool {
+    if relations.len() != sums.len() {
+        return false;
+    }
+    relations.iter().zip(sums).all(|(relation, sum)| relation.total == sum.0
+        && relation.parts.as_slice() == sum.1)
+}
+
+// A flag for each cell: true for these.
+fn hidden_of(alloc: Global, cells: u32, hidden: &[u32]) -> Result<Hidden, Memory>
+    ensures { IfOk result (λ set. length set.flags ≡ cells) }
+{
+    let mut flags = Vec::new(alloc);
+    'cells: for cell in 0..cells {
+        flags.push(hidden.contains(&cell))?;
+    }
+    Ok(Hidden {
+        flags: Items::new(flags),
+    })
+}
+
+// The number of each cell's component, and the sizes.
+fn grouped(
+    alloc: Global,
+    system: &System,
+    hidden: &[u32],
+) -> Result<(Vec<Option<u32>>, Vec<u32>), Memory> {
+    let set = hidden_of(alloc, system.cells, hidden)?;
+    let grouping = components(alloc, system, &set)?;
+    Ok((grouping.of.into_vec(), grouping.sizes.into_vec()))
+}
+
+#[test]
+fn two_way_table(rt: HostRuntime) -> Result<(), Fail> {
+    let alloc = rt.alloc();
+    let mut trees = Vec::new(alloc);
+    trees.push(two_codes(alloc)?)?;
+    trees.push(two_codes(alloc)?)?;
+    let tables: &[&[u32]] = &[&[0, 1]];
+    let book = book_of(alloc, trees, tables)?;
+    let system = relations_of(alloc, &book)?;
+    let sums: &[Sum<'_>] = &[
+        (0, &[3, 6]),
+        (0, &[1, 2]),
+        (1, &[4, 7]),
+        (2, &[5, 8]),
+        (3, &[4, 5]),
+        (6, &[7, 8]),
+    ];
+    assert_eq!(rt; system.cells, 9);
+    assert_eq!(rt; are(system.relations.as_slice(), sums), true);
+    // the four inner cells
+    let (of, sizes) = grouped(alloc, &system, &[4, 5, 7, 8])?;
+    assert_eq!(rt; sizes.as_slice(), [4].as_slice());
+    for (cell, number) in of.iter().enumerate() {
+        let inner = cell == 4 || cell == 5 || cell == 7 || cell == 8;
+        assert_eq!(rt; *number, if inner { Some(0) } else { None });
+    }
+    // cell 2 is alone, and 3 is linked to 7 through 4
+    let (of, sizes) = grouped(alloc, &system, &[7, 4, 3, 2])?;
+    assert_eq!(rt; sizes.as_slice(), [1, 3].as_slice());
+    assert_eq!(rt;
+        (of[2], of[3], of[4], of[7]),
+        (Some(0), Some(1), Some(1), Some(1))
+    );
+    // nothing is hidden
+    let (of, sizes) = grouped(alloc, &system, &[])?;
+    assert_eq!(rt; (of.len(), sizes.len()), (9, 0));
+    Ok(())
+}
+
+#[test]
+fn linked_tables(rt: HostRuntime) -> Result<(), Fail> {
+    let alloc = rt.alloc();
+    let mut trees = Vec::new(alloc);
+    trees.push(two_codes(alloc)?)?;
+    trees.push(two_codes(alloc)?)?;
+    trees.push(two_codes(alloc)?)?;
+    let tables: &[&[u32]] = &[&[0, 1], &[0, 2]];
+    let book = book_of(alloc, trees, tables)?;
+    let system = relations_of(alloc, &book)?;
+    let sums: &[Sum<'_>] = &[
+        (0, &[3, 6]),
+        (0, &[1, 2]),
+        (0, &[9, 10]),
+        (1, &[4, 7]),
+        (2, &[5, 8]),
+        (3, &[4, 5]),
+        (3, &[11, 12]),
+        (6, &[7, 8]),
+        (6, &[13, 14]),
+        (9, &[11, 13]),
+        (10, &[12, 14]),
+    ];
+    assert_eq!(rt; system.cells, 15);
+    assert_eq!(rt; are(system.relations.as_slice(), sums), true);
+    // the shared cell 3 links the tables
+    let (of, sizes) = grouped(alloc, &system, &[3, 4, 6, 7, 11, 13])?;
+    assert_eq!(rt; sizes.as_slice(), [6].as_slice());
+    assert_eq!(rt; (of[3], of[7], of[13]), (Some(0), Some(0), Some(0)));
+    Ok(())
+}
+
+#[test]
+fn two_levels(rt: HostRuntime) -> Result<(), Fail> {
+    let alloc = rt.alloc();
+    let mut trees = Vec::new(alloc);
+    trees.push(regions(alloc)?)?;
+    trees.push(two_codes(alloc)?)?;
+    let tables: &[&[u32]] = &[&[0]];
+    let book = book_of(alloc, trees, tables)?;
+    let system = relations_of(alloc, &book)?;
+    let sums: &[Sum<'_>] = &[(0, &[1, 4]), (1, &[2, 3]), (4, &[5])];
+    assert_eq!(rt; system.cells, 6);
+    assert_eq!(rt; are(system.relations.as_slice(), sums), true);
+    let (of, sizes) = grouped(alloc, &system, &[2, 3, 5])?;
+    assert_eq!(rt; sizes.as_slice(), [2, 1].as_slice());
+    assert_eq!(rt;
+        (of[1], of[2], of[3], of[5]),
+        (None, Some(0), Some(0), Some(1))
+    );
+    Ok(())
+}
