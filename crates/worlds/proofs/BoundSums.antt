@@ -108,9 +108,10 @@ first_or P from n low here later =
 pub summed_says : (cells : List Cell) (flags : List Bool) (k : Numbers) (number : ℕ) (rest : List Cell) (sum total : ℤ) → Rest cells number rest → sum ≡ sum_below number (share_at cells flags k) → summed_from flags k number sum rest ≡ Ok total → (total ≡ sum_below (number + length rest) (share_at cells flags k)) × Summed cells flags k number (number + length rest)
 summed_says cells flags k number [] sum total all start ok =
     let same : sum ≡ total = cc in
-    let here : number + 0 ≡ number = omega arith in
-    (sym same ∙ start ∙ ap (λ n. sum_below n (share_at cells flags k)) (sym here),
-     record { shares = λ n low high. absurd (omega (arith, low, high)); sums = λ n low high. absurd (omega (arith, low, high)); bounds = λ n cell low high found. absurd (omega (arith, low, high)) })
+    let here : number + 0 ≡ number = omega arith in (
+      sym same ∙ start ∙ ap (λ n. sum_below n (share_at cells flags k)) (sym here),
+      record { shares = λ n low high. absurd (omega (arith, low, high)); sums = λ n low high. absurd (omega (arith, low, high)); bounds = λ n cell low high found. absurd (omega (arith, low, high)) },
+    )
 summed_says cells flags k number (cell ∷ rest) sum total all start ok =
     let hidden : Bool = is_hidden flags number in
     let f : Numbers = share_at cells flags k in
@@ -121,13 +122,14 @@ summed_says cells flags k number (cell ∷ rest) sum total all start ok =
     let next : sum +ℤ share hidden (k number) cell ≡ sum_below (number + 1) f = ap (λ s. s +ℤ share hidden (k number) cell) start ∙ ap (λ p. sum_below number f +ℤ p) (sym own) ∙ sym (sum_next number f) in
     let later = summed_says cells flags k (number + 1) rest parts.0 total (rest_tail cells number cell rest all) (one.0 ∙ next) parts.2 in
     let more : number + 1 + length rest ≡ number + length (cell ∷ rest) = omega arith in
-    let rests : Summed cells flags k (number + 1) (number + length (cell ∷ rest)) = subst (λ n. Summed cells flags k (number + 1) n) more later.1 in
-    (later.0 ∙ ap (λ n. sum_below n f) more,
-     record {
-       shares = λ n low high. first_or (λ m. m < number + length (cell ∷ rest) → FitsSigned w128 (f m)) number n low (λ _. subst (FitsSigned w128) (sym own) one.1) (λ m above _ below. rests.shares m above below) high;
-       sums = λ n low high. first_or (λ m. m ≤ number + length (cell ∷ rest) → FitsSigned w128 (sum_below m f)) (number + 1) n (omega (arith, low)) (λ _. subst (FitsSigned w128) next one.2) (λ m above _ most. rests.sums m (omega (arith, above)) most) high;
-       bounds = λ n c low high there. first_or (λ m. m < number + length (cell ∷ rest) → slice_get cells m ≡ Some c → IsBounded (is_hidden flags m) (k m) c) number n low (λ _ at. let same : cell ≡ c = same_some cell c (sym found ∙ at) in subst (IsBounded hidden (k number)) same one.3) (λ m above _ below at. rests.bounds m c above below at) high there;
-     })
+    let rests : Summed cells flags k (number + 1) (number + length (cell ∷ rest)) = subst (λ n. Summed cells flags k (number + 1) n) more later.1 in (
+      later.0 ∙ ap (λ n. sum_below n f) more,
+      record {
+        shares = λ n low high. first_or (λ m. m < number + length (cell ∷ rest) → FitsSigned w128 (f m)) number n low (λ _. subst (FitsSigned w128) (sym own) one.1) (λ m above _ below. rests.shares m above below) high;
+        sums = λ n low high. first_or (λ m. m ≤ number + length (cell ∷ rest) → FitsSigned w128 (sum_below m f)) (number + 1) n (omega (arith, low)) (λ _. subst (FitsSigned w128) next one.2) (λ m above _ most. rests.sums m (omega (arith, above)) most) high;
+        bounds = λ n c low high there. first_or (λ m. m < number + length (cell ∷ rest) → slice_get cells m ≡ Some c → IsBounded (is_hidden flags m) (k m) c) number n low (λ _ at. let same : cell ≡ c = same_some cell c (sym found ∙ at) in subst (IsBounded hidden (k number)) same one.3) (λ m above _ below at. rests.bounds m c above below at) high there;
+      },
+    )
 
 pub summed_ends : (cells : List Cell) (flags : List Bool) (k : Numbers) (number : ℕ) (rest : List Cell) (sum : ℤ) → Rest cells number rest → sum ≡ sum_below number (share_at cells flags k) → Summed cells flags k number (number + length rest) → summed_from flags k number sum rest ≡ Ok (sum_below (number + length rest) (share_at cells flags k))
 summed_ends cells flags k number [] sum all start is =

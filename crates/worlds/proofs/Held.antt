@@ -13,7 +13,7 @@ use Rattle.worlds.specs.declared.faults.RefutationFault.{RefutationFault}
 use Rattle.worlds.specs.declared.faults.RefutationFault.TheVariants as fault
 use Rattle.worlds.specs.Gathered.{at, fits, held, gathered}
 use Rattle.worlds.proofs.Bounds.{decides_le}
-use Rattle.worlds.proofs.Tests.{and_true, both_true}
+use Rattle.worlds.proofs.TrueTests.{and_true, both_true}
 use Rattle.worlds.proofs.WorldLaws.{then_ok}
 
 -- ---- a number of 128 bits

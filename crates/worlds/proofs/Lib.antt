@@ -1,6 +1,6 @@
 mod Carry
 mod Bounds
-mod Tests
+mod TrueTests
 mod Lists
 mod WorldLaws
 mod OneMore

@@ -6,7 +6,7 @@ use Rattle.std.proofs.lemmas.List.Elements.{All-nil, All-head, All-tail, All-con
 use Rattle.sdc_base.specs.Forms.{Term}
 use Rattle.sdc_base.specs.Systems.{Numbers}
 use Rattle.worlds.specs.Listed.{Ascend, IsListed, is_next, misplaced, given}
-use Rattle.worlds.proofs.Tests.{and_true, both_true, not_true}
+use Rattle.worlds.proofs.TrueTests.{and_true, both_true, not_true}
 
 -- ---- the first misplaced, and lists as they are to be
 

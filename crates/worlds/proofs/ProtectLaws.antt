@@ -141,9 +141,10 @@ both_asked P number (one ∷ cells) all zero cell found is =
     let own : primary one.kind ≡ true = ap (λ (c : Cell). primary c.kind) same ∙ is in
     let list : asked_of number (one ∷ cells) ≡ (number, Above) ∷ (number, Below) ∷ asked_of (number + 1) cells = ap (λ b. if b then (number, Above) ∷ (number, Below) ∷ asked_of (number + 1) cells else asked_of (number + 1) cells) own in
     let each : All P ((number, Above) ∷ (number, Below) ∷ asked_of (number + 1) cells) = subst (All P) list all in
-    let here : number ≡ number + 0 = omega arith in
-    (subst (λ n. P (n, Above)) here (All-head P (number, Above) ((number, Below) ∷ asked_of (number + 1) cells) each),
-     subst (λ n. P (n, Below)) here (All-head P (number, Below) (asked_of (number + 1) cells) (All-tail P (number, Above) ((number, Below) ∷ asked_of (number + 1) cells) each)))
+    let here : number ≡ number + 0 = omega arith in (
+      subst (λ n. P (n, Above)) here (All-head P (number, Above) ((number, Below) ∷ asked_of (number + 1) cells) each),
+      subst (λ n. P (n, Below)) here (All-head P (number, Below) (asked_of (number + 1) cells) (All-tail P (number, Above) ((number, Below) ∷ asked_of (number + 1) cells) each)),
+    )
 both_asked P number (one ∷ cells) all (suc i) cell found is =
     let there : slice_get cells i ≡ Some cell = get_back one cells i cell found in
     let same : number + 1 + i ≡ number + suc i = omega arith in
@@ -179,7 +180,7 @@ protect_law system cells flags worlds one_each ok =
         fixed_shown = λ number cell found is. start (λ n. is_hidden flags n ≡ false) number (none_hidden flags 0 cells (none_refused fault.FixedHidden (fixed_hidden flags 0 cells) two.1) number cell found (cases_fixed cell.kind is));
       };
       protects = λ number cell side found is.
-        let both = both_asked (IsServed system cells flags) 0 cells served number cell found (cases_primary cell.kind is) in
-        protects_one system cells flags number cell side one_each found
-        (by_side (λ s. IsServed system cells flags (number, s)) (start (λ n. IsServed system cells flags (n, Above)) number both.0) (start (λ n. IsServed system cells flags (n, Below)) number both.1) side);
+          let both = both_asked (IsServed system cells flags) 0 cells served number cell found (cases_primary cell.kind is) in
+          protects_one system cells flags number cell side one_each found
+          (by_side (λ s. IsServed system cells flags (number, s)) (start (λ n. IsServed system cells flags (n, Above)) number both.0) (start (λ n. IsServed system cells flags (n, Below)) number both.1) side);
     }

@@ -141,9 +141,9 @@ sum_ends system cells flags asked side m inside positive listed bounded held_sum
     then_ok (refuse fault.Den (int_lt m.den (pos 1))) (λ _. refuse_at fault.Order place >>= λ _. gathered zeros terms >>= last) tt total
     (passes fault.Den (int_lt m.den (pos 1)) (below_one m.den positive))
     (then_ok (refuse_at fault.Order place) (λ _. gathered zeros terms >>= last) tt total
-      (passes_none fault.Order place (none_where_listed (length system.relations) m.by_relation listed))
-      (then_ok (gathered zeros terms) last ended.0 total ended.1
-        (summed_same flags (at ended.0) k 0 (pos 0) cells gathering.sums ∙ own)))
+    (passes_none fault.Order place (none_where_listed (length system.relations) m.by_relation listed))
+    (then_ok (gathered zeros terms) last ended.0 total ended.1
+    (summed_same flags (at ended.0) k 0 (pos 0) cells gathering.sums ∙ own)))
 
 pub sum_law : (system : System) (cells : List Cell) (flags : List Bool) (asked : ℕ) (side : Side) (m : Multipliers) (sum : ℤ) → asked < system.cells → summed system cells flags asked side m ≡ Ok sum → sum ≡ bound_sum cells flags (coefficient (added system asked side m))
 sum_law system cells flags asked side m sum inside ok = (sum_from system cells flags asked side m sum inside ok).is_sum
@@ -180,7 +180,7 @@ refutation_ends system cells flags asked side m inside is =
     then_ok (summed system cells flags asked side m) (λ sum. held asked product >>= λ most. refuse fault.NotBelow (not (int_lt sum most))) sum tt
     (sum_ends system cells flags asked side m inside own.q_positive is.listed own.bounded is.sum_held)
     (then_ok (held asked product) (λ most. refuse fault.NotBelow (not (int_lt sum most))) product tt
-      (held_passes asked product is.product_held) (passes fault.NotBelow (not (int_lt sum product)) test))
+    (held_passes asked product is.product_held) (passes fault.NotBelow (not (int_lt sum product)) test))
 
 pub refutation_law : (system : System) (cells : List Cell) (flags : List Bool) (asked : ℕ) (side : Side) (m : Multipliers) → asked < system.cells → (refutation_fault system cells flags asked side m ≡ Ok tt) ↔ IsGivenRefutation system cells flags asked side m
 refutation_law system cells flags asked side m inside = (refutation_from system cells flags asked side m inside, refutation_ends system cells flags asked side m inside)

@@ -26,7 +26,7 @@ use Rattle.worlds.specs.Gathered.{at}
 use Rattle.worlds.specs.Listed.{IsListed, misplaced, terms_of, given}
 use Rattle.worlds.specs.WorldFaults.{refuse_at, is_within, move_fault, moves_fault, relations_fault, world_fault, IsGivenWorld}
 use Rattle.worlds.proofs.Bounds.{decides_le}
-use Rattle.worlds.proofs.Tests.{and_true, both_true, true_unless}
+use Rattle.worlds.proofs.TrueTests.{and_true, both_true, true_unless}
 use Rattle.worlds.proofs.Lists.{listed_where_none, none_where_listed, of_given, each_given}
 
 -- ---- steps
@@ -206,10 +206,10 @@ fault_none system cells flags world one_each is =
     then_ok (refuse fault.Den (int_lt den (pos 1))) (λ _. refuse_at fault.Order (misplaced system.cells 0 0 terms) >>= λ _. moves_fault cells flags den terms >>= λ _. relations_fault moves 0 system.relations) tt tt
     (passes fault.Den (int_lt den (pos 1)) (below_one den own.positive))
     (then_ok (refuse_at fault.Order (misplaced system.cells 0 0 terms)) (λ _. moves_fault cells flags den terms >>= λ _. relations_fault moves 0 system.relations) tt tt
-      (passes_none fault.Order (misplaced system.cells 0 0 terms) (none_where_listed system.cells terms is.listed))
-      (then_ok (moves_fault cells flags den terms) (λ _. relations_fault moves 0 system.relations) tt tt
-        (moves_pass cells flags den terms inside is.listed.counting kept)
-        (relations_pass moves 0 system.relations own.relations_hold)))
+    (passes_none fault.Order (misplaced system.cells 0 0 terms) (none_where_listed system.cells terms is.listed))
+    (then_ok (moves_fault cells flags den terms) (λ _. relations_fault moves 0 system.relations) tt tt
+    (moves_pass cells flags den terms inside is.listed.counting kept)
+    (relations_pass moves 0 system.relations own.relations_hold)))
 
 pub world_law : (system : System) (cells : List Cell) (flags : List Bool) (world : World) → length cells ≡ system.cells → (world_fault system cells flags world ≡ Ok tt) ↔ IsGivenWorld system cells flags world
 world_law system cells flags world one_each = (world_from system cells flags world, fault_none system cells flags world one_each)

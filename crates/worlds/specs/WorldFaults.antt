@@ -30,7 +30,7 @@ is_within den move cell =
 abbrev pub move_fault : List Cell → List Bool → ℤ → Term → Result (Unit {0}) WorldFault
 move_fault cells flags den move =
     if is_hidden flags move.0 then
-      (if option_map_or (is_within den move.1) (slice_get cells move.0) false then Ok tt else Err (fault.Bound move.0))
+    (if option_map_or (is_within den move.1) (slice_get cells move.0) false then Ok tt else Err (fault.Bound move.0))
     else Err (fault.Shown move.0)
 
 -- the first fault of the moves

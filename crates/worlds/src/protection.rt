@@ -152,8 +152,26 @@ fn check_cell(
         return Ok(line);
     }
     let cell = number as u32;
-    check_line(system, cells, hidden, &worlds[line], scratch, cell, Side::Above, line)?;
-    check_line(system, cells, hidden, &worlds[line + 1], scratch, cell, Side::Below, line + 1)?;
+    check_line(
+        system,
+        cells,
+        hidden,
+        &worlds[line],
+        scratch,
+        cell,
+        Side::Above,
+        line,
+    )?;
+    check_line(
+        system,
+        cells,
+        hidden,
+        &worlds[line + 1],
+        scratch,
+        cell,
+        Side::Below,
+        line + 1,
+    )?;
     Ok(line + 2)
 }
 

@@ -4,7 +4,7 @@ use Rattle.std.proofs.lemmas.Int.{to_z-of_z}
 use Rattle.std.proofs.lemmas.Option.{slice_get_read}
 use Rattle.sdc_base.specs.Forms.{Term, weighted_forms}
 use Rattle.worlds.specs.Gathered.{gathered}
-use Rattle.worlds.proofs.Tests.{ok_more, err_more}
+use Rattle.worlds.proofs.TrueTests.{ok_more, err_more}
 use Rattle.worlds.proofs.OneMore.{one_form_of}
 use Rattle.worlds.proofs.adding.add_weighted.Goals as goal
 

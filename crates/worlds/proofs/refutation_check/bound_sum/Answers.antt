@@ -1,5 +1,5 @@
 use Rattle.std.proofs.Common.{◌≡◌, ◌∙◌, sym}
-use Rattle.worlds.proofs.Tests.{if_ok}
+use Rattle.worlds.proofs.TrueTests.{if_ok}
 use Rattle.worlds.proofs.RefutationLaws.{sum_law}
 use Rattle.worlds.proofs.refutation_check.bound_sum.Goals as goal
 

@@ -31,7 +31,7 @@ returns-then-sum-most-clause-exact c =
     let told = simp to_z-of_z at c.in_ok-most.ensures in
     let test = simp to_z-of_z at c.if-sum-most.true in
     sym (fault_behind_product c.args.system.now c.args.cells.now c.args.hidden.now.flags c.args.cell c.args.side c.args.multipliers.now c.in_ok-sum.sum c.in_ok-most.most (sym c.in_ok-sum.ensures.exact) (ap (λ l. held c.args.cell (c.args.multipliers.now.den *ℤ l)) read ∙ sym told)
-      ∙ ap (λ b. refuse fault.NotBelow (not b)) test)
+    ∙ ap (λ b. refuse fault.NotBelow (not b)) test)
 
 pub returns-else-sum-most-clause-exact : goal.returns-else-sum-most-clause-exact
 returns-else-sum-most-clause-exact c =
@@ -44,4 +44,4 @@ returns-else-sum-most-clause-exact c =
     let told = simp to_z-of_z at c.in_ok-most.ensures in
     let test = simp to_z-of_z at c.if-sum-most.false in
     sym (fault_behind_product c.args.system.now c.args.cells.now c.args.hidden.now.flags c.args.cell c.args.side c.args.multipliers.now c.in_ok-sum.sum c.in_ok-most.most (sym c.in_ok-sum.ensures.exact) (ap (λ l. held c.args.cell (c.args.multipliers.now.den *ℤ l)) read ∙ sym told)
-      ∙ ap (λ b. refuse fault.NotBelow (not b)) test)
+    ∙ ap (λ b. refuse fault.NotBelow (not b)) test)

@@ -5,7 +5,7 @@ use Rattle.std.proofs.lemmas.Result.{err_from_is_err_and}
 use Rattle.sdc_base.specs.Forms.{Term, weighted_forms}
 use Rattle.sdc_base.specs.Worlds.{toward}
 use Rattle.worlds.specs.Gathered.{gathered}
-use Rattle.worlds.proofs.Tests.{ok_more, err_more}
+use Rattle.worlds.proofs.TrueTests.{ok_more, err_more}
 use Rattle.worlds.proofs.RefutationLaws.{none_are_zeros, gathered_both, gathered_stops}
 use Rattle.worlds.proofs.refutation_check.gather.Goals as goal
 
