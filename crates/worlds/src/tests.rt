@@ -1,4 +1,4 @@
-ghost use Rattle.std.specs.Prelude.{◌≡◌, ◌≢◌, ◌<◌, ◌≤◌, ◌≤ℤ◌, ◌^◌, length, All, IsTrue, pos};
+ghost use Rattle.std.specs.Prelude.{◌≡◌, ◌≢◌, ◌<◌, ◌≤◌, ◌≤ℤ◌, ◌^◌, length, All, true, pos};
 ghost use Rattle.std.specs.Option.{ForSome};
 ghost use Rattle.sdc_base.specs.declared.cell.Kind.TheVariants.{Primary};
 ghost use Rattle.sdc_base.specs.Systems.{NamesCells};
@@ -35,27 +35,14 @@ const TRUTHS: [(u32, Kind); 9] = [
     (40, Kind::Free),
 ];
 
-// Whether relations name cells below a number.
-fn are_named(relations: &[Relation], cells: u32) -> bool
-    ensures { IsTrue result → All (NamesCells cells) relations.now }
+// Whether a relation names cells below a number.
+fn is_named(relation: &Relation, cells: u32) -> bool
+    ensures { result ≡ true → NamesCells cells relation.now }
 {
-    for relation in relations {
-        if relation.total >= cells || !are_below(relation.parts.as_slice(), cells) {
-            return false;
-        }
+    if relation.total >= cells {
+        return false;
     }
-    true
-}
-
-fn are_below(parts: &[u32], cells: u32) -> bool
-    ensures { IsTrue result → All (λ part. part < cells) parts.now }
-{
-    for part in parts {
-        if *part >= cells {
-            return false;
-        }
-    }
-    true
+    relation.parts.as_slice().iter().all(|part| *part < cells)
 }
 
 fn system_of(alloc: Global) -> Result<Option<System>, Fail> {
@@ -67,7 +54,10 @@ fn system_of(alloc: Global) -> Result<Option<System>, Fail> {
         }
         relations.push(Relation { total, parts })?;
     }
-    if relations.len() > 6 || !are_named(&relations, 9) {
+    if relations.len() > 6 {
+        return Ok(None);
+    }
+    if !relations.iter().all(|relation| is_named(relation, 9)) {
         return Ok(None);
     }
     let relations = Items::new(relations);
