@@ -1,5 +1,5 @@
 -- Weighted forms are 0 on every world, so the bound sum limits the asked cell in all of them.
-use Rattle.std.proofs.Common.{◌≡◌, ℕ, ◌<◌, ◌==◌, Bool, true, false, List, [], ◌∷◌, map, length, All, Option, Some, None, IsSome, slice_get, get_or, ℤ, pos, negsuc, neg_ℤ, ◌+ℤ◌, ◌-ℤ◌, ◌*ℤ◌, ◌≤ℤ◌, ◌<ℤ◌, int_lt, arith, refl, ap, sym, subst, ◌∙◌, if◌then◌else◌}
+use Rattle.std.proofs.Common.{◌≡◌, ℕ, ◌<◌, ◌==◌, Bool, true, false, List, [], ◌∷◌, map, length, All, Option, Some, None, IsSome, slice_get, get_or, ℤ, pos, neg_ℤ, ◌+ℤ◌, ◌-ℤ◌, ◌*ℤ◌, ◌≤ℤ◌, ◌<ℤ◌, int_lt, arith, refl, ap, sym, subst, ◌∙◌, if◌then◌else◌}
 use Rattle.std.specs.Option.{option_map_or, ForSome}
 use Rattle.std.proofs.Math.IntN.{*ℤ_comm}
 use Rattle.std.proofs.lemmas.Int.{ints, by_lt_z}
@@ -9,14 +9,14 @@ use Rattle.sdc_base.specs.declared.relation.Relation.{Relation}
 use Rattle.sdc_base.specs.declared.cell.Cell.{Cell}
 use Rattle.sdc_base.specs.declared.side.Side.{Side}
 use Rattle.sdc_base.specs.declared.side.Side.TheVariants.{Above, Below}
-use Rattle.sdc_base.proofs.WholeNumbers.{distrib, distrib_right, assoc, minus_times, times_up, times_down, times_more, below_from_times, swap_times}
+use Rattle.sdc_base.proofs.WholeNumbers.{distrib, distrib_right, minus_times, times_up, times_down, times_more, below_from_times, swap_times}
 use Rattle.sdc_base.proofs.TotalLemmas.{sum_of-cons, sum_of-append, times_sum, sum_of-map, sum_below-add, sum_below-times, sum_below-le, sum_below-same, only}
 use Rattle.sdc_base.specs.Totals.{sum_of, sum_below}
 use Rattle.sdc_base.specs.Systems.{Numbers, form, HoldOn, NamesCells}
 use Rattle.sdc_base.specs.Forms.{Term, form_times, weighted_forms, coefficient}
 use Rattle.sdc_base.specs.HiddenSets.{is_hidden}
 use Rattle.sdc_base.specs.Worlds.{IsWithinBounds, toward}
-use Rattle.sdc_base.specs.Refutations.{WeakDuality, refuting, rise, share, share_at}
+use Rattle.sdc_base.specs.Refutations.{WeakDuality, refuting, share, share_at}
 
 -- what multiples of cells come to on the numbers of the cells
 abbrev pub value_of : Numbers → List Term → ℤ

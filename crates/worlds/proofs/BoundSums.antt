@@ -1,5 +1,5 @@
 -- The checker's sum is the bound sum, and comes to an end exactly where no number is wider than 128 bits and no bound is missing.
-use Rattle.std.proofs.Common.{◌≡◌, ℕ, suc, ◌+◌, ◌<◌, ◌≤◌, ◌==◌, get_or, Bool, true, false, not, ◌&&◌, List, [], ◌∷◌, length, Option, None, Some, is_some, IsSome, slice_get, Result, Ok, Err, FitsSigned, ℤ, pos, ◌+ℤ◌, ◌*ℤ◌, ◌<ℤ◌, int_lt, arith, refl, ap, sym, ◌∙◌, subst, add-one, if◌then◌else◌}
+use Rattle.std.proofs.Common.{◌≡◌, ℕ, ◌+◌, ◌<◌, ◌≤◌, ◌==◌, get_or, Bool, true, false, not, ◌&&◌, List, [], ◌∷◌, length, Option, None, Some, is_some, IsSome, slice_get, Ok, FitsSigned, ℤ, pos, ◌+ℤ◌, ◌<ℤ◌, int_lt, arith, refl, ap, sym, ◌∙◌, subst, add-one}
 use Rattle.std.specs.Int.{w128}
 use Rattle.std.specs.Option.{option_map_or}
 use Rattle.std.proofs.lemmas.Int.{ints, by_lt_z}
@@ -11,8 +11,7 @@ use Rattle.sdc_base.specs.declared.cell.Cell.{Cell}
 use Rattle.sdc_base.specs.Totals.{sum_below}
 use Rattle.sdc_base.specs.HiddenSets.{is_hidden}
 use Rattle.sdc_base.specs.Systems.{Numbers}
-use Rattle.sdc_base.specs.Refutations.{share, share_at, AreBounded}
-use Rattle.worlds.specs.declared.faults.RefutationFault.{RefutationFault}
+use Rattle.sdc_base.specs.Refutations.{share, share_at}
 use Rattle.worlds.specs.declared.faults.RefutationFault.TheVariants as fault
 use Rattle.worlds.specs.Gathered.{held}
 use Rattle.worlds.specs.RefutationFaults.{share_or_fault, added_share, summed_from}

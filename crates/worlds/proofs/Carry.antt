@@ -1,5 +1,5 @@
 -- Carries between the parts of a wide number.
-use Rattle.std.proofs.Common.{◌≡◌, ◌^◌, ◌-◌, arith, ℤ, pos, negsuc, ◌+ℤ◌, ◌*ℤ◌}
+use Rattle.std.proofs.Common.{◌≡◌, ◌^◌, ◌-◌, arith, ℤ, pos, negsuc, ◌+ℤ◌}
 use Rattle.std.proofs.lemmas.Int.{ints}
 use Rattle.worlds.specs.Wide.{wide}
 

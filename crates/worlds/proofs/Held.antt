@@ -1,15 +1,13 @@
 -- Numbers of 128 bits, and multiples added to them.
-use Rattle.std.proofs.Common.{◌≡◌, ◌≢◌, ◌==◌, ℕ, ◌+◌, ◌<◌, ◌^◌, Bool, true, false, ◌&&◌, List, [], ◌∷◌, ◌++◌, length, length-set, slice_index_or, slice_set, get_or, All, Result, Ok, Err, FitsSigned, ℤ, pos, neg_ℤ, ◌+ℤ◌, ◌≤ℤ◌, ◌<ℤ◌, int_lt, int_le, arith, refl, ap, sym, ◌∙◌, subst, if◌then◌else◌}
+use Rattle.std.proofs.Common.{◌≡◌, ◌≢◌, ◌==◌, ℕ, ◌<◌, ◌^◌, true, false, List, [], ◌∷◌, ◌++◌, length, length-set, slice_set, All, Ok, Err, FitsSigned, ℤ, pos, neg_ℤ, ◌+ℤ◌, ◌≤ℤ◌, ◌<ℤ◌, int_lt, int_le, arith, refl, ap, sym, ◌∙◌, subst, if◌then◌else◌}
 use Rattle.std.specs.Int.{w128}
 use Rattle.std.proofs.lemmas.Int.{ints}
 use Rattle.std.proofs.lemmas.Bool.Decides.{Decides-eqb, nat_tests}
 use Rattle.std.proofs.lemmas.List.{get_or-set_same, get_or-set_other, append_assoc}
 use Rattle.std.proofs.lemmas.List.Elements.{All-head, All-tail}
-use Rattle.sdc_base.specs.Steps.{◌>>=◌}
 use Rattle.sdc_base.proofs.StepLemmas.{bind_ok}
 use Rattle.sdc_base.proofs.TotalLemmas.{sum_of-cons, sum_of-append}
 use Rattle.sdc_base.specs.Forms.{Term, coefficient}
-use Rattle.worlds.specs.declared.faults.RefutationFault.{RefutationFault}
 use Rattle.worlds.specs.declared.faults.RefutationFault.TheVariants as fault
 use Rattle.worlds.specs.Gathered.{at, fits, held, gathered}
 use Rattle.worlds.proofs.Bounds.{decides_le}

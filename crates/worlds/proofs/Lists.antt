@@ -1,12 +1,12 @@
 -- Lists as they are to be, and what they give for each number.
-use Rattle.std.proofs.Common.{◌≡◌, ◌≢◌, ℕ, ◌+◌, ◌<◌, ◌≤◌, ◌==◌, Bool, true, false, not, ◌&&◌, nat_lt, List, [], ◌∷◌, fold, All, Option, None, Some, ℤ, pos, arith, refl, ap, sym, ◌∙◌, if◌then◌else◌}
+use Rattle.std.proofs.Common.{◌≡◌, ◌≢◌, ℕ, ◌+◌, ◌<◌, ◌≤◌, ◌==◌, true, false, not, ◌&&◌, nat_lt, List, [], ◌∷◌, fold, All, None, Some, ℤ, pos, arith, refl, if◌then◌else◌}
 use Rattle.std.specs.Ordering.{int_eq}
 use Rattle.std.proofs.lemmas.Bool.Decides.{Decides-int_eq, Decides-eqb, nat_tests}
 use Rattle.std.proofs.lemmas.List.Elements.{All-nil, All-head, All-tail, All-cons}
 use Rattle.sdc_base.specs.Forms.{Term}
 use Rattle.sdc_base.specs.Systems.{Numbers}
 use Rattle.worlds.specs.Listed.{Ascend, IsListed, is_next, misplaced, given}
-use Rattle.worlds.proofs.TrueTests.{and_true, both_true, not_true}
+use Rattle.worlds.proofs.TrueTests.{and_true, not_true}
 
 -- ---- the first misplaced, and lists as they are to be
 

@@ -1,7 +1,6 @@
 -- Worlds without a fault show that the hidden set protects every primary cell.
-use Rattle.std.proofs.Common.{◌≡◌, ℕ, zero, suc, ◌+◌, ◌<◌, ◌==◌, ◌&&◌, not, Bool, true, false, List, [], ◌∷◌, length, drop, get_or, All, Option, None, Some, Result, Ok, Err, slice_get, ℤ, pos, ◌*ℤ◌, ◌≤ℤ◌, int_le, arith, refl, ap, sym, ◌∙◌, subst, add-one, if◌then◌else◌}
+use Rattle.std.proofs.Common.{◌≡◌, ℕ, zero, suc, ◌+◌, ◌<◌, ◌==◌, ◌&&◌, not, Bool, true, false, List, [], ◌∷◌, length, drop, get_or, All, Option, None, Some, Result, Ok, Err, slice_get, ℤ, pos, ◌*ℤ◌, ◌≤ℤ◌, arith, refl, ap, sym, ◌∙◌, subst, if◌then◌else◌}
 use Rattle.std.specs.Option.{option_map_or}
-use Rattle.std.proofs.lemmas.Int.{ints}
 use Rattle.std.proofs.lemmas.Bool.Decides.{Decides-eqb}
 use Rattle.std.proofs.lemmas.List.{drop_more}
 use Rattle.std.proofs.lemmas.List.Elements.{All-nil, All-head, All-tail, All-cons}
@@ -10,11 +9,11 @@ use Rattle.sdc_base.specs.Steps.{◌>>=◌, refuse, map_fault}
 use Rattle.sdc_base.proofs.StepLemmas.{bind_ok}
 use Rattle.sdc_base.specs.declared.cell.Cell.{Cell}
 use Rattle.sdc_base.specs.declared.cell.Kind.{Kind}
-use Rattle.sdc_base.specs.declared.cell.Kind.TheVariants.{Primary, Free, Fixed}
+use Rattle.sdc_base.specs.declared.cell.Kind.TheVariants.{Primary, Fixed}
 use Rattle.sdc_base.specs.declared.side.Side.{Side}
 use Rattle.sdc_base.specs.declared.side.Side.TheVariants.{Above, Below}
 use Rattle.sdc_base.specs.declared.system.System.{System}
-use Rattle.sdc_base.specs.HiddenSets.{is_hidden, IsPermitted}
+use Rattle.sdc_base.specs.HiddenSets.{is_hidden}
 use Rattle.sdc_base.specs.Worlds.{Protects, level, level_at, toward}
 use Rattle.worlds.specs.declared.faults.ProtectFault.{ProtectFault}
 use Rattle.worlds.specs.declared.faults.ProtectFault.TheVariants as fault

@@ -1,5 +1,5 @@
 -- The first fault of a refutation is none exactly where what is given is a refutation, and no number on the way is too wide.
-use Rattle.std.proofs.Common.{◌≡◌, ◌↔◌, ℕ, zero, suc, ◌+◌, ◌<◌, ◌≤◌, Bool, true, false, not, List, [], ◌∷◌, ◌++◌, length, nat_lt, get_or, replicate, All, Option, None, Some, Result, Ok, Err, FitsSigned, slice_get, ℤ, pos, ◌+ℤ◌, ◌*ℤ◌, ◌≤ℤ◌, ◌<ℤ◌, int_lt, arith, refl, ap, sym, ◌∙◌, subst}
+use Rattle.std.proofs.Common.{◌≡◌, ◌↔◌, ℕ, zero, suc, ◌+◌, ◌<◌, ◌≤◌, Bool, true, false, not, List, [], ◌∷◌, ◌++◌, length, nat_lt, get_or, replicate, All, Option, Some, Result, Ok, Err, FitsSigned, slice_get, ℤ, pos, ◌*ℤ◌, ◌≤ℤ◌, ◌<ℤ◌, int_lt, arith, refl, ap, sym, ◌∙◌, subst}
 use Rattle.std.specs.Int.{w128}
 use Rattle.std.proofs.lemmas.Int.{ints}
 use Rattle.std.proofs.lemmas.List.{get_or-replicate, get_or_past, get_or_default, same_lists, length-replicate}
@@ -16,10 +16,9 @@ use Rattle.sdc_base.specs.declared.side.Side.{Side}
 use Rattle.sdc_base.specs.declared.system.System.{System}
 use Rattle.sdc_base.specs.Totals.{sum_below}
 use Rattle.sdc_base.specs.Forms.{Term, weighted_forms, coefficient}
-use Rattle.sdc_base.specs.HiddenSets.{is_hidden}
-use Rattle.sdc_base.specs.Systems.{Numbers, NamesCells}
+use Rattle.sdc_base.specs.Systems.{Numbers}
 use Rattle.sdc_base.specs.Worlds.{Protects, level, level_at, toward}
-use Rattle.sdc_base.specs.Refutations.{refuting, share_at, bound_sum, AreBounded, IsRefutation}
+use Rattle.sdc_base.specs.Refutations.{refuting, share_at, bound_sum, AreBounded}
 use Rattle.worlds.specs.declared.faults.RefutationFault.{RefutationFault}
 use Rattle.worlds.specs.declared.faults.RefutationFault.TheVariants as fault
 use Rattle.worlds.specs.declared.multipliers.Multipliers.{Multipliers}
@@ -29,8 +28,8 @@ use Rattle.worlds.specs.Gathered.{at, held, gathered}
 use Rattle.worlds.specs.RefutationFaults.{summed_from, summed, refutation_fault, added, IsHeldSum, IsGivenRefutation}
 use Rattle.worlds.proofs.Lists.{listed_where_none, none_where_listed}
 use Rattle.worlds.proofs.WorldLaws.{then_ok, not_refused, passes, none_refused, passes_none, from_one, below_one}
-use Rattle.worlds.proofs.Held.{held_says, held_passes, AreSums, AreHeld, Gathering, gathered_says, gathered_ends}
-use Rattle.worlds.proofs.BoundSums.{IsBounded, Summed, summed_says, summed_ends, summed_same}
+use Rattle.worlds.proofs.Held.{held_says, held_passes, Gathering, gathered_says, gathered_ends}
+use Rattle.worlds.proofs.BoundSums.{Summed, summed_says, summed_ends, summed_same}
 
 past : (n cell : ℕ) → nat_lt cell n ≡ false → n ≤ cell
 past n cell is = grind (arith, nat_tests, is)

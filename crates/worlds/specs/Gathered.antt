@@ -1,5 +1,5 @@
 -- Numbers of cells held in 128 bits, and multiples of cells added to them in their order (own).
-use Rattle.std.specs.Prelude.{◌≡◌, ℕ, ◌^◌, ◌&&◌, Bool, List, [], ◌∷◌, slice_index_or, slice_set, Result, Ok, Err, if◌then◌else◌, ℤ, pos, neg_ℤ, ◌+ℤ◌, int_lt, int_le}
+use Rattle.std.specs.Prelude.{ℕ, ◌^◌, ◌&&◌, Bool, List, [], ◌∷◌, slice_index_or, slice_set, Result, Ok, Err, if◌then◌else◌, ℤ, pos, neg_ℤ, ◌+ℤ◌, int_lt, int_le}
 use Rattle.sdc_base.specs.Steps.{◌>>=◌}
 use Rattle.sdc_base.specs.Forms.{Term}
 use Rattle.sdc_base.specs.Systems.{Numbers}

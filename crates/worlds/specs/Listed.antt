@@ -1,5 +1,5 @@
 -- Lists of numbers with a whole number for each, as worlds and multipliers have them (own).
-use Rattle.std.specs.Prelude.{◌≢◌, ℕ, ◌+◌, ◌<◌, ◌≤◌, ◌==◌, ◌&&◌, nat_lt, not, Bool, List, [], ◌∷◌, map, fold, All, Option, None, Some, if◌then◌else◌, ℤ, pos}
+use Rattle.std.specs.Prelude.{◌≢◌, ℕ, ◌+◌, ◌<◌, ◌≤◌, ◌==◌, ◌&&◌, nat_lt, not, Bool, List, [], ◌∷◌, map, fold, All, Option, None, Some, if◌then◌else◌, pos}
 use Rattle.std.specs.Ordering.{int_eq}
 use Rattle.sdc_base.specs.Forms.{Term}
 use Rattle.sdc_base.specs.Systems.{Numbers}

@@ -7,10 +7,17 @@ use Rattle.worlds.specs.declared.world.World.{World}
 use Rattle.worlds.specs.ProtectFaults.{protect_fault, IsProtecting}
 
 -- a system and its cells, a hidden set, and worlds for its primary cells
-abbrev pub Protection : Type 0
-Protection = System × List Cell × Hidden × List World
+pub record Protection : Type 0 where
+  pub system : System
+  pub cells : List Cell
+  pub hidden : Hidden
+  pub worlds : List World
+
+-- what these make
+abbrev pub protection : System → List Cell → Hidden → List World → Protection
+protection system cells hidden worlds = record { system = system; cells = cells; hidden = hidden; worlds = worlds }
 
 -- the worlds have no fault, and the hidden set protects every primary cell to both sides
 pub record IsSound (p : Protection) : Type 0 where
-  pub checked : protect_fault p.0 p.1 p.2.flags p.3 ≡ Ok tt
-  pub protecting : IsProtecting p.0 p.1 p.2.flags
+  pub checked : protect_fault p.system p.cells p.hidden.flags p.worlds ≡ Ok tt
+  pub protecting : IsProtecting p.system p.cells p.hidden.flags

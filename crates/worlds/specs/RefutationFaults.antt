@@ -1,5 +1,5 @@
 -- The bound sum of multipliers, or the first fault on the way to it, and the first fault of a refutation (own).
-use Rattle.std.specs.Prelude.{◌≡◌, ℕ, ◌+◌, ◌<◌, ◌≤◌, ◌&&◌, not, is_some, Bool, List, [], ◌∷◌, ◌++◌, length, replicate, slice_get, Result, Ok, Err, if◌then◌else◌, ℤ, pos, ◌+ℤ◌, ◌*ℤ◌, int_lt, FitsSigned}
+use Rattle.std.specs.Prelude.{◌≡◌, ℕ, ◌+◌, ◌<◌, ◌≤◌, ◌&&◌, not, is_some, Bool, List, [], ◌∷◌, ◌++◌, length, replicate, Result, Ok, ℤ, pos, ◌+ℤ◌, ◌*ℤ◌, int_lt, FitsSigned}
 use Rattle.std.specs.Int.{w128}
 use Rattle.sdc_base.specs.Steps.{◌>>=◌, refuse}
 use Rattle.sdc_base.specs.declared.cell.Cell.{Cell}

@@ -1,5 +1,6 @@
 ghost use Rattle.std.specs.Prelude.{◌≡◌, ◌↔◌, length, Ok, Err, IfOk, IfErr};
 ghost use Rattle.worlds.specs.ProtectFaults.{protect_fault, IsProtecting};
+ghost use Rattle.worlds.specs.Protection.{protection};
 
 use crate::faults::ProtectFault;
 use crate::protection::check_protection;
@@ -19,13 +20,13 @@ pub struct Protected<'a> {
 }
 
 impl<'a> Model for Protected<'a> {
-    ghost use Rattle.worlds.specs.Protection.{Protection, IsSound};
+    ghost use Rattle.worlds.specs.Protection.{Protection, protection, IsSound};
 
     ghost Value = { Protection };
 
-    ghost view = { λ p. (p.system.now, p.cells.now, p.hidden, p.worlds) };
+    ghost view = { λ p. protection p.system.now p.cells.now p.hidden p.worlds };
 
-    ghost invariant = { λ p. IsSound (p.system.now, p.cells.now, p.hidden, p.worlds) };
+    ghost invariant = { λ p. IsSound (protection p.system.now p.cells.now p.hidden p.worlds) };
 }
 
 impl<'a> Protected<'a> {
@@ -48,7 +49,7 @@ impl<'a> Protected<'a> {
         requires scratch { length scratch.old ≡ system.now.cells }
         ensures ok { IfOk result (λ p. protect_fault system.now cells.now hidden.flags worlds ≡ Ok tt) }
         ensures err { IfErr result (λ fault. protect_fault system.now cells.now hidden.flags worlds ≡ Err fault) }
-        ensures value { IfOk result (λ p. p ≡ (system.now, cells.now, hidden, worlds)) }
+        ensures value { IfOk result (λ p. p ≡ protection system.now cells.now hidden worlds) }
         ensures protecting { IfOk result (λ _. IsProtecting system.now cells.now hidden.flags) }
     {
         check_protection(system, cells, &hidden, worlds.as_slice(), scratch)?;
@@ -62,16 +63,16 @@ impl<'a> Protected<'a> {
 
     /// The hidden set.
     pub fn hidden(&self) -> &Hidden
-        ensures hidden { result.now ≡ self.now.2 }
-        ensures protecting { IsProtecting self.now.0 self.now.1 self.now.2.flags }
+        ensures hidden { result.now ≡ self.now.hidden }
+        ensures protecting { IsProtecting self.now.system self.now.cells self.now.hidden.flags }
     {
         &self.hidden
     }
 
     /// The worlds, two for each primary cell in ascending order, above and then below.
     pub fn worlds(&self) -> &[World]
-        ensures worlds { result.now ≡ self.now.3 }
-        ensures checked { protect_fault self.now.0 self.now.1 self.now.2.flags self.now.3 ≡ Ok tt }
+        ensures worlds { result.now ≡ self.now.worlds }
+        ensures checked { protect_fault self.now.system self.now.cells self.now.hidden.flags self.now.worlds ≡ Ok tt }
     {
         self.worlds.as_slice()
     }

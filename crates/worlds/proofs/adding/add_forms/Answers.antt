@@ -1,6 +1,6 @@
-use Rattle.std.proofs.Common.{◌≡◌, ◌∙◌, ◌+◌, ◌++◌, List, ap, arith, drop, pos}
+use Rattle.std.proofs.Common.{◌∙◌, ◌+◌, ◌++◌, ap, arith, drop, pos}
 use Rattle.std.proofs.lemmas.Result.{err_from_is_err_and}
-use Rattle.sdc_base.specs.Forms.{Term, weighted_forms}
+use Rattle.sdc_base.specs.Forms.{weighted_forms}
 use Rattle.worlds.specs.Gathered.{gathered}
 use Rattle.worlds.proofs.OneMore.{multiplier_next}
 use Rattle.worlds.proofs.adding.add_forms.Goals as goal

@@ -1,8 +1,7 @@
-use Rattle.std.proofs.Common.{◌≡◌, ◌∙◌, ◌++◌, ◌<◌, List, length, ap, sym, refl, slice_get, Some, ℤ, FitsSigned, to_z, of_z, rules}
+use Rattle.std.proofs.Common.{◌≡◌, ◌∙◌, length, ap, sym, refl, slice_get, Some, ℤ, FitsSigned, to_z, of_z, rules}
 use Rattle.std.specs.Int.{w128}
 use Rattle.std.proofs.lemmas.Int.{to_z-of_z}
 use Rattle.std.proofs.lemmas.Option.{slice_get_read}
-use Rattle.sdc_base.specs.Forms.{Term, weighted_forms}
 use Rattle.worlds.specs.Gathered.{gathered}
 use Rattle.worlds.proofs.TrueTests.{ok_more, err_more}
 use Rattle.worlds.proofs.OneMore.{one_form_of}

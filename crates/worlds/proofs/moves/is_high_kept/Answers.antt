@@ -1,4 +1,4 @@
-use Rattle.std.proofs.Common.{◌≡◌, ◌∙◌, ap, ℤ, ◌-ℤ◌, ◌≤ℤ◌, FitsSigned, to_z, of_z, arith, rules, sym}
+use Rattle.std.proofs.Common.{◌∙◌, ◌-ℤ◌, ◌≤ℤ◌, FitsSigned, arith, rules}
 use Rattle.std.specs.Int.{w128}
 use Rattle.std.proofs.lemmas.Int.{ints, to_z-of_z}
 use Rattle.worlds.proofs.Bounds.{high_test}

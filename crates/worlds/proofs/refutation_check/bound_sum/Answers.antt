@@ -1,4 +1,4 @@
-use Rattle.std.proofs.Common.{◌≡◌, ◌∙◌, sym}
+use Rattle.std.proofs.Common.{◌∙◌, sym}
 use Rattle.worlds.proofs.TrueTests.{if_ok}
 use Rattle.worlds.proofs.RefutationLaws.{sum_law}
 use Rattle.worlds.proofs.refutation_check.bound_sum.Goals as goal

@@ -1,4 +1,4 @@
-use Rattle.std.proofs.Common.{◌≡◌, ◌↔◌, ◌∙◌, IsOk, sym, subst}
+use Rattle.std.proofs.Common.{◌↔◌, IsOk, sym, subst}
 use Rattle.worlds.specs.RefutationFaults.{refutation_fault, IsGivenRefutation}
 use Rattle.worlds.proofs.TrueTests.{ok_where}
 use Rattle.worlds.proofs.RefutationLaws.{refutation_law, no_world}

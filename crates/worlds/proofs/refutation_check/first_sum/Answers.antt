@@ -1,4 +1,4 @@
-use Rattle.std.proofs.Common.{◌≡◌, ◌∙◌, sym, length, arith, Fits, w32, rules}
+use Rattle.std.proofs.Common.{◌∙◌, sym, length, arith, Fits, w32, rules}
 use Rattle.worlds.proofs.Lists.{listed_where_none}
 use Rattle.worlds.proofs.refutation_check.first_sum.Goals as goal
 

@@ -1,4 +1,4 @@
-use Rattle.std.proofs.Common.{◌≡◌, ◌∙◌, sym, ℤ, ◌-ℤ◌, ◌≤ℤ◌, FitsSigned, to_z, of_z, arith, rules}
+use Rattle.std.proofs.Common.{◌∙◌, sym, ◌-ℤ◌, ◌≤ℤ◌, FitsSigned, arith, rules}
 use Rattle.std.specs.Int.{w128}
 use Rattle.std.proofs.lemmas.Int.{ints, to_z-of_z}
 use Rattle.sdc_base.specs.HiddenSets.{is_hidden}

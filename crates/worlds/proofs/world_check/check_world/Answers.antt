@@ -1,4 +1,4 @@
-use Rattle.std.proofs.Common.{◌≡◌, ◌↔◌, IsOk, sym, subst}
+use Rattle.std.proofs.Common.{◌↔◌, IsOk, sym, subst}
 use Rattle.worlds.specs.WorldFaults.{world_fault, IsGivenWorld}
 use Rattle.worlds.proofs.TrueTests.{ok_where}
 use Rattle.worlds.proofs.WorldLaws.{world_law}

@@ -1,8 +1,8 @@
-use Rattle.std.proofs.Common.{◌≡◌, ◌∙◌, ap, sym, subst, length, FitsSigned, to_z, of_z, Ok, rules}
+use Rattle.std.proofs.Common.{◌≡◌, ◌∙◌, ap, sym, subst, length, FitsSigned, Ok, rules}
 use Rattle.std.specs.Int.{w128}
 use Rattle.std.proofs.lemmas.Int.{to_z-of_z}
 use Rattle.worlds.specs.Gathered.{at}
-use Rattle.worlds.specs.Listed.{misplaced, terms_of}
+use Rattle.worlds.specs.Listed.{terms_of}
 use Rattle.worlds.specs.WorldFaults.{moves_fault, relations_fault}
 use Rattle.worlds.proofs.WorldLaws.{moves_inside, fault_behind_moves}
 use Rattle.worlds.proofs.world_check.first_fault.Goals as goal
