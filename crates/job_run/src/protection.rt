@@ -15,8 +15,8 @@ pub(crate) fn open_protection<'a>(
 ) -> Result<Protected<'a>, Memory>
     requires one_each { length cells.now ≡ system.now.cells }
     requires none { first_primary (map seen cells.now) ≡ None }
-    ensures each { IfOk result (λ protected. length protected.2.flags ≡ length cells.now) }
-    ensures nothing { IfOk result (λ protected. (cell : ℕ) → slice_index_or protected.2.flags cell false ≡ false) }
+    ensures each { IfOk result (λ protected. length protected.hidden.flags ≡ length cells.now) }
+    ensures nothing { IfOk result (λ protected. (cell : ℕ) → slice_index_or protected.hidden.flags cell false ≡ false) }
 {
     let hidden = nothing_hidden(alloc, cells.len())?;
     let mut scratch = Vec::from_elem(alloc, 0, cells.len())?;

@@ -27,7 +27,7 @@ pub(crate) fn puts_for(
     requires sound { IsSound described.now }
     requires ready { IsReadyFor described.now book.now }
     requires related { IsSystemOf book.now system.now }
-    requires open { IsOpen book.now protected.now.2 }
+    requires open { IsOpen book.now protected.now.hidden }
     ensures puts { IfOk result (λ puts. (inputs : AnyInputs) → inputs.described ≡ described.now → IsBookOf inputs book.now → puts ≡ puts_of inputs) }
     ensures each { IfOk result (λ puts. length puts ≡ 1 + length described.now.job.tables) }
 {
