@@ -128,7 +128,9 @@ fn linked_cells(rt: HostRuntime) -> Result<(), Fail> {
     assert_eq!(rt; name_of(&book, 4), [1, 1, 0].as_slice());
     assert_eq!(rt; name_of(&book, 12), [1, 0, 2].as_slice());
     assert_eq!(rt; name_of(&book, 15).len(), 0);
-    assert_eq!(rt; (book.cells(), book.tables()), (15, 3));
+    assert_eq!(rt; book.number(&place_of(&[1, 0, 2])), Some(12));
+    assert_eq!(rt; book.number(&place_of(&[1, 1, 1])), None);
+    assert_eq!(rt; (book.cells(), book.tables(), book.variables()), (15, 3, 3));
     assert_eq!(rt; book.tree(2).is_some(), true);
     assert_eq!(rt; book.tree(3).is_none(), true);
     assert_eq!(rt; book.spans(3).is_none(), true);
