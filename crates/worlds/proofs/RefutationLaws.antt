@@ -1,5 +1,5 @@
 -- The first fault of a refutation is none exactly where what is given is a refutation, and no number on the way is too wide.
-use Rattle.std.proofs.Common.{◌≡◌, ◌↔◌, ℕ, zero, suc, ◌+◌, ◌<◌, ◌≤◌, Bool, true, false, not, List, [], ◌∷◌, ◌++◌, length, nat_lt, get_or, replicate, All, Option, Some, Result, Ok, Err, FitsSigned, slice_get, ℤ, pos, ◌*ℤ◌, ◌≤ℤ◌, ◌<ℤ◌, int_lt, arith, refl, ap, sym, ◌∙◌, subst}
+use Rattle.std.proofs.Common.{◌≡◌, ◌↔◌, ℕ, zero, suc, ◌+◌, ◌<◌, ◌≤◌, Bool, true, false, not, List, [], ◌∷◌, ◌++◌, length, nat_lt, get_or, replicate, All, Option, Some, Result, Ok, Err, FitsSigned, slice_get, ℤ, pos, ◌*ℤ◌, ◌≤ℤ◌, ◌<ℤ◌, int_lt, arith, refl, ap, sym, ◌∙◌, subst, IsOk}
 use Rattle.std.specs.Int.{w128}
 use Rattle.std.proofs.lemmas.Int.{ints}
 use Rattle.std.proofs.lemmas.List.{get_or-replicate, get_or_past, get_or_default, same_lists, length-replicate}
@@ -25,7 +25,8 @@ use Rattle.worlds.specs.declared.multipliers.Multipliers.{Multipliers}
 use Rattle.worlds.specs.Listed.{IsListed, misplaced}
 use Rattle.worlds.specs.WorldFaults.{refuse_at}
 use Rattle.worlds.specs.Gathered.{at, held, gathered}
-use Rattle.worlds.specs.RefutationFaults.{summed_from, summed, refutation_fault, added, IsHeldSum, IsGivenRefutation}
+use Rattle.worlds.specs.RefutationFaults.{summed_from, summed, refutation_fault, added, IsHeldSum, IsGivenSum, IsGivenRefutation}
+use Rattle.worlds.proofs.TrueTests.{ok_some}
 use Rattle.worlds.proofs.Lists.{listed_where_none, none_where_listed}
 use Rattle.worlds.proofs.WorldLaws.{then_ok, not_refused, passes, none_refused, passes_none, from_one, below_one}
 use Rattle.worlds.proofs.Held.{held_says, held_passes, Gathering, gathered_says, gathered_ends}
@@ -146,6 +147,12 @@ sum_ends system cells flags asked side m inside positive listed bounded held_sum
 
 pub sum_law : (system : System) (cells : List Cell) (flags : List Bool) (asked : ℕ) (side : Side) (m : Multipliers) (sum : ℤ) → asked < system.cells → summed system cells flags asked side m ≡ Ok sum → sum ≡ bound_sum cells flags (coefficient (added system asked side m))
 sum_law system cells flags asked side m sum inside ok = (sum_from system cells flags asked side m sum inside ok).is_sum
+
+pub given_law : (system : System) (cells : List Cell) (flags : List Bool) (asked : ℕ) (side : Side) (m : Multipliers) → asked < system.cells → IsOk (summed system cells flags asked side m) ↔ IsGivenSum system cells flags asked side m
+given_law system cells flags asked side m inside =
+    ok_some (IsGivenSum system cells flags asked side m) (summed system cells flags asked side m)
+    (λ sum ok. let given : SumGiven system cells flags asked side m sum = sum_from system cells flags asked side m sum inside ok in record { positive = given.positive; listed = given.listed; bounded = given.bounded; sum_held = given.sum_held })
+    (λ given. (bound_sum cells flags (coefficient (added system asked side m)), sum_ends system cells flags asked side m inside given.positive given.listed given.bounded given.sum_held))
 
 -- ---- the whole
 

@@ -33,3 +33,8 @@ err_more (Err e) f h = f e h
 pub if_ok : {A F : Type 0} {P : A → Type 0} (r : Result A F) → ((x : A) → r ≡ Ok x → P x) → IfOk r P
 if_ok (Ok x) f = f x refl
 if_ok (Err e) f = tt
+
+-- an answer is good exactly where there is a value
+pub ok_some : {A F : Type 0} (P : Type 0) (r : Result A F) → ((x : A) → r ≡ Ok x → P) → (P → (x : A) × (r ≡ Ok x)) → IsOk r ↔ P
+ok_some P (Ok x) f g = (λ _. f x refl, λ _. refl)
+ok_some P (Err e) f g = ((λ bad. absurd cc), (λ p. let found = g p in let clash : Err e ≡ Ok found.0 = found.1 in cc))

@@ -1,5 +1,5 @@
 -- The bound sum of multipliers, or the first fault on the way to it, and the first fault of a refutation (own).
-use Rattle.std.specs.Prelude.{◌≡◌, ℕ, ◌+◌, ◌<◌, ◌≤◌, ◌&&◌, not, is_some, Bool, List, [], ◌∷◌, ◌++◌, length, replicate, Result, Ok, ℤ, pos, ◌+ℤ◌, ◌*ℤ◌, int_lt, FitsSigned}
+use Rattle.std.specs.Prelude.{◌≡◌, ℕ, ◌+◌, ◌<◌, ◌≤◌, ◌&&◌, not, is_some, Bool, List, [], ◌∷◌, ◌++◌, length, replicate, Result, Ok, ℤ, pos, ◌≤ℤ◌, ◌+ℤ◌, ◌*ℤ◌, int_lt, FitsSigned}
 use Rattle.std.specs.Int.{w128}
 use Rattle.sdc_base.specs.Steps.{◌>>=◌, refuse}
 use Rattle.sdc_base.specs.declared.cell.Cell.{Cell}
@@ -10,7 +10,7 @@ use Rattle.sdc_base.specs.Forms.{Term, coefficient}
 use Rattle.sdc_base.specs.HiddenSets.{is_hidden}
 use Rattle.sdc_base.specs.Systems.{Numbers}
 use Rattle.sdc_base.specs.Worlds.{level_at}
-use Rattle.sdc_base.specs.Refutations.{refuting, share, share_at, IsRefutation}
+use Rattle.sdc_base.specs.Refutations.{refuting, share, share_at, AreBounded, IsRefutation}
 use Rattle.worlds.specs.declared.faults.RefutationFault.{RefutationFault}
 use Rattle.worlds.specs.declared.faults.RefutationFault.TheVariants as fault
 use Rattle.worlds.specs.declared.multipliers.Multipliers.{Multipliers}
@@ -60,6 +60,14 @@ pub record IsHeldSum (cells : List Cell) (flags : List Bool) (terms : List Term)
   pub coefficients_held : (done : List Term) (term : Term) (rest : List Term) → terms ≡ done ++ term ∷ rest → FitsSigned w128 (coefficient (done ++ term ∷ []) term.0)
   pub shares_held : (number : ℕ) → number < length cells → FitsSigned w128 (share_at cells flags (coefficient terms) number)
   pub sums_held : (number : ℕ) → number ≤ length cells → FitsSigned w128 (sum_below number (share_at cells flags (coefficient terms)))
+
+-- What is given has a bound sum: the denominator is 1 or more, the multipliers are listed, each hidden cell with a coefficient
+-- above 0 has an upper bound, and no number on the way is wider than 128 bits.
+pub record IsGivenSum (system : System) (cells : List Cell) (flags : List Bool) (asked : ℕ) (side : Side) (multipliers : Multipliers) : Type 0 where
+  pub positive : pos 1 ≤ℤ multipliers.den
+  pub listed : IsListed (length system.relations) multipliers.by_relation
+  pub bounded : AreBounded cells flags (coefficient (added system asked side multipliers))
+  pub sum_held : IsHeldSum cells flags (added system asked side multipliers)
 
 -- what is given is a refutation of the cell's level to the side, and no number on the way is wider than 128 bits
 pub record IsGivenRefutation (system : System) (cells : List Cell) (flags : List Bool) (asked : ℕ) (side : Side) (multipliers : Multipliers) : Type 0 where

@@ -4,7 +4,7 @@ ghost use Rattle.sdc_base.specs.Refutations.{refuting, bound_sum as sum_meant};
 ghost use Rattle.sdc_base.specs.Systems.{NamesCells};
 ghost use Rattle.sdc_base.specs.Worlds.{Protects, toward};
 ghost use Rattle.worlds.specs.Gathered.{gathered};
-ghost use Rattle.worlds.specs.RefutationFaults.{added, summed, refutation_fault, IsGivenRefutation};
+ghost use Rattle.worlds.specs.RefutationFaults.{added, summed, refutation_fault, IsGivenSum, IsGivenRefutation};
 
 use crate::adding::{add_at, add_forms};
 use crate::faults::RefutationFault;
@@ -42,6 +42,7 @@ pub fn bound_sum(
     requires scratch { length scratch.old ≡ system.now.cells }
     requires asked { cell < system.now.cells }
     ensures exact { result ≡ summed system.now cells.now hidden.now.flags cell side multipliers.now }
+    ensures given { IsOk result ↔ IsGivenSum system.now cells.now hidden.now.flags cell side multipliers.now }
     ensures sum { IfOk result (λ sum. sum ≡ sum_meant cells.now hidden.now.flags (coefficient (added system.now cell side multipliers.now))) }
     ensures length { length scratch.new ≡ length scratch.old }
 {
