@@ -13,7 +13,7 @@ use Rattle.sdc_base.specs.declared.cell.Kind.{Kind}
 use Rattle.sdc_base.specs.declared.cell.Kind.TheVariants.{Primary, Free, Fixed}
 use Rattle.sdc_base.specs.declared.cell.Cell.{Cell}
 use Rattle.sdc_base.specs.declared.rule.Rules.{Rules}
-use Rattle.primary_rules.specs.Ranges.{IsTruth}
+use Rattle.primary_rules.specs.Ranges.{IsTruth, most_level}
 use Rattle.linked_tables.specs.declared.mark.Mark.{Mark}
 use Rattle.apriori.specs.declared.prior.Status.{Status}
 use Rattle.apriori.specs.declared.prior.Status.TheVariants.{Unsafe, Safe}
@@ -54,11 +54,17 @@ pub record AreFactsIn (marks : List Mark) (trees : List Tree) (names : List Name
   pub one_each : length names ≡ length marks
   pub each : (cell : ℕ) (name : Name) (mark : Mark) → slice_get names cell ≡ Some name → slice_get marks cell ≡ Some mark → AreFactsOf mark.facts trees name rows × (mark.facts.tops.scale ≡ scale)
 
--- levels of a primary cell of this truth: upwards from a unit, downwards from 0 to the truth
+-- levels of a primary cell of this truth: upwards from a unit to the greatest level, downwards from 0 to the truth
 pub record AreOpen (truth : ℤ) (levels : Levels) : Type 0 where
   pub unit : pos 1 ≤ℤ levels.up
+  pub at_most : levels.up ≤ℤ pos most_level
   pub from_zero : pos 0 ≤ℤ levels.down
   pub within : levels.down ≤ℤ truth
+
+-- the levels of a cell are at most the greatest level
+pub record HasLevelsInRange (cell : Cell) : Type 0 where
+  pub up : cell.up ≤ℤ pos most_level
+  pub down : cell.down ≤ℤ pos most_level
 
 -- the levels with the greater upper one, the first where they are equal
 abbrev pub wider : Levels → Option Levels → Levels

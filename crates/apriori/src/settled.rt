@@ -4,7 +4,7 @@ ghost use Rattle.sdc_base.specs.RuleLevels.{told, keep_of};
 ghost use Rattle.sdc_base.specs.declared.cell.Kind.TheVariants.{Primary};
 ghost use Rattle.primary_rules.specs.Ranges.{AreInRange, IsTruth};
 ghost use Rattle.apriori.specs.Priors.{CanBeLevels, AreBounds, IsPriorOf};
-ghost use Rattle.apriori.specs.Settling.{seen, wider as wider_of, rule_levels as levels_by_rules, cut_at as cut_levels, stated_or as stated_levels, primary_levels as levels_meant, other_kind as kind_meant, low_of as low_meant, high_of as high_meant, settled as settled_as, clash_of as clash_meant, AreOpen};
+ghost use Rattle.apriori.specs.Settling.{seen, wider as wider_of, rule_levels as levels_by_rules, cut_at as cut_levels, stated_or as stated_levels, primary_levels as levels_meant, other_kind as kind_meant, low_of as low_meant, high_of as high_meant, settled as settled_as, clash_of as clash_meant, AreOpen, HasLevelsInRange};
 
 use crate::prior::{Prior, Status};
 use primary_rules::{level, manual};
@@ -16,21 +16,13 @@ pub(crate) fn settled(rules: &Rules, facts: &CellFacts, prior: &Prior) -> Cell
     requires truth { IsTruth facts.now.truth }
     requires kept { keep_of rules.now.list ≤ facts.now.tops.keep }
     requires prior { IsPriorOf facts.now prior.now }
-    ensures { seen result ≡ settled_as rules.now (told facts.now) prior.now }
+    ensures seen { seen result ≡ settled_as rules.now (told facts.now) prior.now }
+    ensures levels { HasLevelsInRange result }
 {
     let low = low_of(facts.truth, prior.bounds);
     let high = high_of(facts.truth, prior.bounds);
-    match primary_levels(rules, facts, prior) {
-        Some(levels) => Cell {
-            truth: facts.truth,
-            low,
-            high,
-            up: levels.up,
-            down: levels.down,
-            kind: Kind::Primary,
-            price: prior.price,
-        },
-        None => Cell {
+    let Some(levels) = primary_levels(rules, facts, prior) else {
+        return Cell {
             truth: facts.truth,
             low,
             high,
@@ -38,7 +30,16 @@ pub(crate) fn settled(rules: &Rules, facts: &CellFacts, prior: &Prior) -> Cell
             down: 0,
             kind: other_kind(facts, prior),
             price: prior.price,
-        },
+        };
+    };
+    Cell {
+        truth: facts.truth,
+        low,
+        high,
+        up: levels.up,
+        down: levels.down,
+        kind: Kind::Primary,
+        price: prior.price,
     }
 }
 

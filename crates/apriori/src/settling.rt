@@ -7,7 +7,7 @@ ghost use Rattle.sdc_base.specs.declared.rows.Row.{Row};
 ghost use Rattle.primary_rules.specs.Ranges.{AreInRange};
 ghost use Rattle.apriori.specs.Faults.{fault_of};
 ghost use Rattle.apriori.specs.Priors.{ArePriors};
-ghost use Rattle.apriori.specs.Settling.{seen, told_of, figures_of, IsReadyFor, AreFactsIn, settled as settled_as, is_before as before, first_of, first_clash as first_meant, settle_of};
+ghost use Rattle.apriori.specs.Settling.{seen, told_of, figures_of, IsReadyFor, AreFactsIn, settled as settled_as, is_before as before, first_of, first_clash as first_meant, settle_of, HasLevelsInRange};
 
 use crate::faults::{PriorError, PriorWhy};
 use crate::prior::Prior;
@@ -41,6 +41,7 @@ pub fn settle(
     ensures over_records { (trees : List Tree) (names : List Name) (rows : List Row) (scale : ℕ) → AreFactsIn book.now.marks trees names rows scale
         → Gives fault_of (λ cells. map seen cells.items) result (settle_of rules.now (figures_of trees names rows scale) priors.now) }
     ensures one_each { IfOk result (λ cells. length cells.items ≡ length book.now.marks) }
+    ensures levels { IfOk result (λ cells. All HasLevelsInRange cells.items) }
 {
     settle_cells(alloc, book.marks(), rules, priors)
 }
@@ -58,6 +59,7 @@ fn settle_cells(
     requires priors { ArePriors marks.now priors.now }
     ensures exact { Gives fault_of (λ cells. map seen cells.items) result (settle_of rules.now (told_of marks.now) priors.now) }
     ensures one_each { IfOk result (λ cells. length cells.items ≡ length marks.now) }
+    ensures levels { IfOk result (λ cells. All HasLevelsInRange cells.items) }
 {
     if let Some((table, line)) = first_clash(marks, rules, priors) {
         return Err(PriorError::At {
@@ -96,6 +98,7 @@ fn cells_of(
     requires priors { ArePriors marks.now priors.now }
     ensures exact { Gives fault_of (λ cells. map seen cells.items) result (Ok (map (λ cell. settled_as rules.now cell.0 cell.1) (zip (told_of marks.now) priors.now))) }
     ensures one_each { IfOk result (λ cells. length cells.items ≡ length marks.now) }
+    ensures levels { IfOk result (λ cells. All HasLevelsInRange cells.items) }
 {
     let mut cells = Vec::new(alloc);
     'cells: for (cell, prior) in priors.iter().enumerate() {

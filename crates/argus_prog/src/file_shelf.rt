@@ -11,14 +11,16 @@ use std::rt::Files;
 ///
 /// A name is a path, and one that doesn't begin with a slash is looked for in the current folder.
 /// The shelf is a trusted edge: it tells nothing of what the files hold, since no proof sees the
-/// system. It counts its faults, the files that it didn't find, and the bytes that it gave since a
-/// file was last begun. Each count stands still at the last value of its type.
+/// system. It counts its faults, the files that it didn't find, and the bytes that it gave and the
+/// reads that it was asked for since a file was last begun. Each count stands still at the last value
+/// of its type.
 #[derive(Drop)]
 pub struct FileShelf<'a, R: Files> {
     rt: &'a R,
     // the chosen file
     file: Option<R::File>,
     taken: u64,
+    reads: u64,
     faults: u64,
     absences: u64,
 }
@@ -28,17 +30,14 @@ impl<'a, R: Files> FileShelf<'a, R> {
 
     /// A shelf from which no file is chosen yet.
     pub fn new(rt: &'a R) -> Self
-        ensures files { ⟦<FileShelf<'a, R> as Shelf>⟧.files result ≡ None }
-        ensures left { ⟦<FileShelf<'a, R> as Shelf>⟧.left result ≡ Some [] }
-        ensures taken { ⟦<FileShelf<'a, R> as Shelf>⟧.taken result ≡ 0 }
-        ensures last { ⟦<FileShelf<'a, R> as Shelf>⟧.last result ≡ None }
-        ensures faults { ⟦<FileShelf<'a, R> as Shelf>⟧.faults result ≡ 0 }
-        ensures absences { ⟦<FileShelf<'a, R> as Shelf>⟧.absences result ≡ 0 }
+        ensures { ⟦<FileShelf<'a, R> as Shelf>⟧.state result
+            ≡ record { files = None; left = Some []; taken = 0; reads = 0; last = None; faults = 0; absences = 0 } }
     {
         FileShelf {
             rt,
             file: None,
             taken: 0,
+            reads: 0,
             faults: 0,
             absences: 0,
         }
@@ -57,21 +56,20 @@ impl<'a, R: Files> FileShelf<'a, R> {
 impl<'a, R: Files> Shelf for FileShelf<'a, R> {
     ghost use Rattle.std.specs.Prelude.{Some, None, [], if◌then◌else◌, is_some};
 
-    ghost files = { λ _. None };
-
-    ghost left = { λ s. if is_some s.file then None else Some [] };
-
-    ghost taken = { λ s. s.taken };
-
-    ghost last = { λ _. None };
-
-    ghost faults = { λ s. s.faults };
-
-    ghost absences = { λ s. s.absences };
+    ghost state = { λ s. record {
+      files = None;
+      left = if is_some s.file then None else Some [];
+      taken = s.taken;
+      reads = s.reads;
+      last = None;
+      faults = s.faults;
+      absences = s.absences;
+    } };
 
     fn begin(&mut self, name: &Text) -> Result<(), BeginFault> {
         self.file = None;
         self.taken = 0;
+        self.reads = 0;
         // A name that isn't UTF-8 is a fault: the kit opens no such path, so nobody has looked.
         let Ok(path) = str::from_utf8(name.as_slice()) else {
             self.count_fault();
@@ -94,6 +92,7 @@ impl<'a, R: Files> Shelf for FileShelf<'a, R> {
     }
 
     fn read(&mut self, buffer: &mut [u8]) -> Result<usize, Failed> {
+        self.reads = self.reads.saturating_add(1);
         let Some(file) = self.file.as_mut() else {
             self.taken = self.taken.saturating_add(0);
             return Ok(0);

@@ -23,9 +23,7 @@ impl<'a, R: Files> FolderTray<'a, R> {
 
     /// A tray that hasn't failed yet.
     pub fn new(rt: &'a R) -> Self
-        ensures files { ⟦<FolderTray<'a, R> as Tray>⟧.files result ≡ None }
-        ensures faults { ⟦<FolderTray<'a, R> as Tray>⟧.faults result ≡ 0 }
-        ensures puts { ⟦<FolderTray<'a, R> as Tray>⟧.puts result ≡ 0 }
+        ensures { ⟦<FolderTray<'a, R> as Tray>⟧.state result ≡ record { files = None; puts = 0; faults = 0 } }
     {
         FolderTray {
             rt,
@@ -38,11 +36,7 @@ impl<'a, R: Files> FolderTray<'a, R> {
 impl<'a, R: Files> Tray for FolderTray<'a, R> {
     ghost use Rattle.std.specs.Prelude.{None};
 
-    ghost files = { λ _. None };
-
-    ghost faults = { λ s. s.faults };
-
-    ghost puts = { λ s. s.puts };
+    ghost state = { λ s. record { files = None; puts = s.puts; faults = s.faults } };
 
     // Whatever keeps the file from being written whole is a fault, be it before it is made or
     // midway: the file then holds the first of the bytes, as many as were written. So is a name

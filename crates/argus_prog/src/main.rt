@@ -3,6 +3,8 @@
 #![tactic(auto)]
 
 mod answer;
+#[cfg(test)]
+mod checker_tests;
 mod file_shelf;
 mod folder_tray;
 #[cfg(test)]

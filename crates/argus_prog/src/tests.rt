@@ -23,13 +23,13 @@ const RELEASED: &str =
     "0 released: 7 records, 0 skipped, 0 passed over, 3 cells, 0 primary, 0 hidden\nargus certificate 1\nmethod MOD\ncells 3\nrelations 1\nend\nA,V\nTotal,150\na,60\nb,90\n";
 
 // A job of two linked tables, with its metadata and records.
-const LINKED: &str =
+pub(crate) const LINKED: &str =
     "<OPENMICRODATA> \"m.asc\"\n<OPENMETADATA> \"m.rda\"\n<SPECIFYTABLE> \"A\"\"B\"|\"V\"\n<SPECIFYTABLE> \"A\"\"C\"|\"V\"\n<SAFETYRULE> FREQ(1,30)\n<SUPPRESS> MOD()\n<WRITETABLE> (1,\"t.csv\")\n<WRITETABLE> (2,\"u.csv\")\n<CERTIFICATE> \"t.cert\"\n";
 
-const THREE: &str =
+pub(crate) const THREE: &str =
     "A 1 2\n<RECODEABLE>\nB 3 2\n<RECODEABLE>\nC 5 2\n<RECODEABLE>\nV 7 3\n<NUMERIC>\n";
 
-const THIRTEEN: &str =
+pub(crate) const THIRTEEN: &str =
     "a1b1c1 10\na1b1c2 10\na1b2c1 10\na1b2c1 10\na1b2c2 10\na1b2c2 20\na2b1c1  5\na2b1c1  5\na2b1c2 10\na2b1c2 10\na2b2c1 15\na2b2c2 10\na2b2c2 15\n";
 
 // The two tables of the thirteen records.
@@ -48,22 +48,26 @@ const USAGE: &str = "1 usage: argus run JOB | check JOB | intervals JOB OUT | de
 
 // The files of a shelf that isn't sound: each of its calls from this one on counts.
 #[derive(Clone, Copy)]
-struct Pieces {
+pub(crate) struct Pieces {
     bytes: u32,
     failing: u64,
 }
 
-const WHOLE: Pieces = Pieces {
+pub(crate) const WHOLE: Pieces = Pieces {
     bytes: 4096,
     failing: 0,
 };
 
-fn text(alloc: Global, bytes: &str) -> Result<Text, Memory> {
+pub(crate) fn text(alloc: Global, bytes: &str) -> Result<Text, Memory> {
     Ok(Text::new(Vec::from_slice(alloc, bytes.as_bytes())?))
 }
 
 // A shelf of these files, that gives pieces of so many bytes and one of whose calls fails.
-fn shelf_of(alloc: Global, given: &[(&str, &str)], pieces: Pieces) -> Result<MemoryShelf, Memory> {
+pub(crate) fn shelf_of(
+    alloc: Global,
+    given: &[(&str, &str)],
+    pieces: Pieces,
+) -> Result<MemoryShelf, Memory> {
     let mut files = Vec::new(alloc);
     for (name, bytes) in given {
         let bytes = Vec::from_slice(alloc, bytes.as_bytes())?;
@@ -125,6 +129,11 @@ fn ran_alone(
 // The job with a line changed.
 fn changed(alloc: Global, from: &str, to: &str) -> Result<String, Memory> {
     Ok(JOB.replace(alloc, from, to)?)
+}
+
+// The text without so many of its last bytes.
+fn without_end(text: &str, bytes: usize) -> &str {
+    text.get(..text.len().saturating_sub(bytes)).unwrap_or(text)
 }
 
 // A table by one variable: the metadata and the records, and what is released by a minimum of one.
@@ -293,6 +302,7 @@ fn jobs(rt: HostRuntime) -> Result<(), Fail> {
     let weights = "A 1 1\nV 2 15\n<NUMERIC>\nW 17 8\n<NUMERIC>\n<WEIGHT>\n";
     let rows = [
         (JOB, METADATA, SEVEN, RELEASED),
+        (JOB, METADATA, without_end(SEVEN, 1), RELEASED),
         (
             &hypercube,
             METADATA,
@@ -355,6 +365,20 @@ fn refusals(rt: HostRuntime) -> Result<(), Fail> {
         (plain, method, no_tree, "a", "hierarchy 1: Absent"),
         (plain, method, jump, "a", "hierarchy 1 line 2: Jump"),
         (plain, method, METADATA, "a 10\na 2\n", "record 2: Short"),
+        (
+            plain,
+            method,
+            METADATA,
+            without_end(SEVEN, 2),
+            "record 7: Short",
+        ),
+        (
+            plain,
+            method,
+            METADATA,
+            "a 10\na 20\nb 20\nb 20\nb 20\nb 30\n",
+            "cell 1: NeedsPlan",
+        ),
         (
             plain,
             method,
@@ -520,6 +544,62 @@ fn statements(rt: HostRuntime) -> Result<(), Fail> {
     Ok(())
 }
 
+// A table by two variables, of which each has 150 codes in its list: it has 22,801 cells alone, and an earlier table by one of
+// them has 151.
+#[test]
+fn too_many_cells(rt: HostRuntime) -> Result<(), Fail> {
+    let alloc = rt.alloc();
+    let mut codes = String::new(alloc);
+    for code in 1..151u32 {
+        let line = format!(in alloc; "{code}\n")?;
+        codes.push_str(line.as_str())?;
+    }
+    let metadata = "A 1 3\n<CODELIST> \"c.cdl\"\nB 4 3\n<CODELIST> \"c.cdl\"\nV 7 3\n<NUMERIC>\n";
+    let one = changed(alloc, "\"A\"|", "\"A\"\"B\"|")?;
+    let second = LINKED.replace(alloc, "\"A\"\"B\"", "\"A\"")?;
+    let second = second.replace(alloc, "\"C\"", "\"B\"")?;
+    for (job, want) in [
+        (&one, "2 refused: table 1: TooManyCells\n"),
+        (&second, "2 refused: table 2: TooManyCells\n"),
+    ] {
+        let files = [
+            ("r.job", job.as_str()),
+            ("m.rda", metadata),
+            ("m.asc", "1  2    5\n"),
+            ("c.cdl", codes.as_str()),
+        ];
+        let got = ran_alone(alloc, &files, WHOLE, 0)?;
+        assert_eq!(rt; got.as_str(), want);
+    }
+    Ok(())
+}
+
+// A table by two variables, of which the office states that its primary cell is to be always shown.
+#[test]
+fn protected_primary_of_two_by_two(rt: HostRuntime) -> Result<(), Fail> {
+    let alloc = rt.alloc();
+    let job = changed(alloc, "\"A\"|", "\"A\"\"B\"|")?;
+    let job = format!(in alloc; "{job}<APRIORI> \"p.hst\",1,\",\"\n")?;
+    let rows = [
+        ("a1,b2,p\n", "2 refused: cell 4: NeedsPlan\n"),
+        (
+            "a1,b2,p\na1,b1,p\n",
+            "2 refused: apriori table 1 line 2: ProtectedPrimary\n",
+        ),
+    ];
+    for (statements, want) in rows {
+        let files = [
+            ("r.job", job.as_str()),
+            ("m.rda", THREE),
+            ("m.asc", THIRTEEN),
+            ("p.hst", statements),
+        ];
+        let got = ran_alone(alloc, &files, WHOLE, 0)?;
+        assert_eq!(rt; got.as_str(), want);
+    }
+    Ok(())
+}
+
 // Two tables have a cell in common, and each has a file that states something of it: the second one must not
 // contradict the first.
 #[test]
@@ -666,7 +746,7 @@ fn a_tray_with_a_release(rt: HostRuntime) -> Result<(), Fail> {
 #[test]
 fn words(rt: HostRuntime) -> Result<(), Fail> {
     let files = [("r.job", JOB), ("m.rda", METADATA), ("m.asc", SEVEN)];
-    let rows: [(&[&str], &str); 9] = [
+    let rows: [(&[&str], &str); 12] = [
         (&[], USAGE),
         (&["run"], USAGE),
         (&["run", ""], USAGE),
@@ -674,6 +754,9 @@ fn words(rt: HostRuntime) -> Result<(), Fail> {
         (&["Run", "r.job"], USAGE),
         (&["run ", "r.job"], USAGE),
         (&["r.job", "run"], USAGE),
+        (&["check", "r.job"], USAGE),
+        (&["intervals", "r.job", "t.int"], USAGE),
+        (&["demo", "1", "100"], USAGE),
         (&["run", "r"], "2 refused: job: Absent\n"),
         (&["run", "r.job"], RELEASED),
     ];

@@ -18,3 +18,4 @@ pub mod FlatLaw
 pub mod MissingLaw
 pub mod ListLaw
 pub mod LevelLaw
+pub mod Children

@@ -226,15 +226,15 @@ fn listed(alloc: Global, bytes: &[u8]) -> Result<Vec<u8>, TreeFault> {
     Ok(joined)
 }
 
-// Lines with the numbers below n, of four digits each, as codes.
-fn numbered(alloc: Global, n: u32) -> Result<Vec<u8>, AllocError> {
+// Codes of four digits each, the numbers from the first one on and before the last one, with this byte behind each.
+fn numbered(alloc: Global, first: u32, past: u32, end: u8) -> Result<Vec<u8>, AllocError> {
     let mut lines = Vec::new(alloc);
-    'numbers: for i in 0..n {
+    'numbers: for i in first..past {
         lines.push(b'0' + (i / 1000 % 10) as u8)?;
         lines.push(b'0' + (i / 100 % 10) as u8)?;
         lines.push(b'0' + (i / 10 % 10) as u8)?;
         lines.push(b'0' + (i % 10) as u8)?;
-        lines.push(b'\n')?;
+        lines.push(end)?;
     }
     Ok(lines)
 }
@@ -260,10 +260,14 @@ fn code_lists(rt: HostRuntime) -> Result<(), Fail> {
             "{bytes}"
         );
     }
-    let most = listed(alloc, numbered(alloc, 5000)?.as_slice())?;
-    assert_eq!(rt; most.len(), 25_000);
+    // 0001 to 2000, and as many codes as there may be
+    for past in [2001, 5001] {
+        let read = listed(alloc, numbered(alloc, 1, past, b'\n')?.as_slice())?;
+        let codes = numbered(alloc, 1, past, b'|')?;
+        assert_eq!(rt; read.as_slice() == codes.as_slice(), true);
+    }
     let more = agrees(
-        listed(alloc, numbered(alloc, 5001)?.as_slice()),
+        listed(alloc, numbered(alloc, 0, 5001, b'\n')?.as_slice()),
         Err(TreeFault::TooMany(5001)),
     );
     assert_eq!(rt; more, true);

@@ -66,15 +66,16 @@ four x y z false false false true h = (refl, refl, refl, refl)
 four x y z false false false false h = absurd cc
 
 -- a table's line without a fault
-record IsFine (variables : List Variable) (t : TableLine) : Type 0 where
-  present : list_any (λ name. is_absent variables name) t.variables ≡ false
-  plain : list_any (λ name. is_numeric variables name) t.variables ≡ false
-  response : is_numeric variables t.response ≡ true
+pub record IsFine (variables : List Variable) (t : TableLine) : Type 0 where
+  pub present : list_any (λ name. is_absent variables name) t.variables ≡ false
+  pub plain : list_any (λ name. is_numeric variables name) t.variables ≡ false
+  pub known : is_absent variables t.response ≡ false
+  pub response : is_numeric variables t.response ≡ true
 
-fine : (variables : List Variable) (t : TableLine) → table_fault variables t ≡ None → IsFine variables t
+pub fine : (variables : List Variable) (t : TableLine) → table_fault variables t ≡ None → IsFine variables t
 fine variables t h =
     let facts = four _ _ _ (list_any (λ name. is_absent variables name) t.variables) (is_absent variables t.response) (list_any (λ name. is_numeric variables name) t.variables) (is_numeric variables t.response) h in
-    record { present = facts.0; plain = facts.2; response = facts.3 }
+    record { present = facts.0; plain = facts.2; known = facts.1; response = facts.3 }
 
 -- ---- names that tables have
 
@@ -170,13 +171,13 @@ placed_in test place (y ∷ xs) (suc k) x at passes =
     ]
 
 -- the first that passes, with its place
-record IsFirst {A : Type 0} (test : A → Bool) (xs : List A) (k : ℕ) (x : A) : Type 0 where
-  first : first_place test xs ≡ Some k
-  at : slice_get xs k ≡ Some x
-  passes : test x ≡ true
-  within : k < length xs
+pub record IsFirst {A : Type 0} (test : A → Bool) (xs : List A) (k : ℕ) (x : A) : Type 0 where
+  pub first : first_place test xs ≡ Some k
+  pub at : slice_get xs k ≡ Some x
+  pub passes : test x ≡ true
+  pub within : k < length xs
 
-first_found : {A : Type 0} (test : A → Bool) (xs : List A) → list_any test xs ≡ true → (k : ℕ) × (x : A) × IsFirst test xs k x
+pub first_found : {A : Type 0} (test : A → Bool) (xs : List A) → list_any test xs ≡ true → (k : ℕ) × (x : A) × IsFirst test xs k x
 first_found test [] h = absurd cc
 first_found {A} test (y ∷ xs) h =
     elim (test y) as (λ t. test y ≡ t → (t || list_any test xs) ≡ true → (k : ℕ) × (x : A) × IsFirst test (y ∷ xs) k x) [
@@ -190,18 +191,18 @@ first_found {A} test (y ∷ xs) h =
 -- ---- where names stand
 
 -- where the variable of a name stands, and where among those that span tables
-record IsSpot (spanning : List ℕ) (variables : List Variable) (q : List ℕ) : Type 0 where
-  variable : Variable
-  named : variable.name ≡ q
-  at : slice_get variables (variable_place variables q) ≡ Some variable
-  among : slice_get spanning (spanning_place spanning variables q) ≡ Some (variable_place variables q)
-  within : spanning_place spanning variables q < length spanning
+pub record IsSpot (spanning : List ℕ) (variables : List Variable) (q : List ℕ) : Type 0 where
+  pub variable : Variable
+  pub named : variable.name ≡ q
+  pub at : slice_get variables (variable_place variables q) ≡ Some variable
+  pub among : slice_get spanning (spanning_place spanning variables q) ≡ Some (variable_place variables q)
+  pub within : spanning_place spanning variables q < length spanning
 
-not_false : (b : Bool) → not b ≡ false → b ≡ true
+pub not_false : (b : Bool) → not b ≡ false → b ≡ true
 not_false true h = refl
 not_false false h = absurd cc
 
-spot : (tables : List TableLine) (variables : List Variable) (q : List ℕ) → AllByRecursion (λ t. table_fault variables t ≡ None) tables → is_spanning tables q ≡ true → IsSpot (spanning_of tables variables) variables q
+pub spot : (tables : List TableLine) (variables : List Variable) (q : List ℕ) → AllByRecursion (λ t. table_fault variables t ≡ None) tables → is_spanning tables q ≡ true → IsSpot (spanning_of tables variables) variables q
 spot tables variables q all spans =
     let known = plain_name variables q tables all spans in
     let found = first_found (λ v. is_named q v) variables (not_false (list_any (λ v. is_named q v) variables) known.present) in
@@ -226,7 +227,7 @@ names_spots : (spanning : List ℕ) (variables : List Variable) (names : List (L
 names_spots spanning variables [] h = tt
 names_spots spanning variables (n ∷ names) h = (h n (or_left (bytes_eq n n) _ (same_name n)), names_spots spanning variables names (λ q g. h q (or_right (bytes_eq n q) _ g)))
 
-tables_spots : (spanning : List ℕ) (variables : List Variable) (tables : List TableLine) → ((q : List ℕ) → is_spanning tables q ≡ true → IsSpot spanning variables q) → AllByRecursion (λ t. AllByRecursion (IsSpot spanning variables) t.variables) tables
+pub tables_spots : (spanning : List ℕ) (variables : List Variable) (tables : List TableLine) → ((q : List ℕ) → is_spanning tables q ≡ true → IsSpot spanning variables q) → AllByRecursion (λ t. AllByRecursion (IsSpot spanning variables) t.variables) tables
 tables_spots spanning variables [] h = tt
 tables_spots spanning variables (t ∷ tables) h =
     (names_spots spanning variables t.variables (λ q g. h q (or_left _ (is_spanning tables q) g)), tables_spots spanning variables tables (λ q g. h q (or_right (list_any (λ n. bytes_eq n q) t.variables) _ g)))

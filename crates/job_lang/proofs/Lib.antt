@@ -17,6 +17,7 @@ pub mod FirstFault
 pub mod Made
 pub mod NamesApart
 pub mod PutsApart
+pub mod BoundNames
 pub mod Earliest
 pub mod MetadataLimits
 pub mod Meant

@@ -188,7 +188,7 @@ outputs_apart : (tables : List TableLine) (variables : List Variable) (outputs :
 outputs_apart tables variables [] all = tt
 outputs_apart tables variables (o ∷ outputs) all = (no_file tables variables o.file all.0, outputs_apart tables variables outputs all.1)
 
-no_fault : (first : Option (ℕ × JobWhy)) (t : Unit {0}) → unless_fault first ≡ Ok t → first ≡ None
+pub no_fault : (first : Option (ℕ × JobWhy)) (t : Unit {0}) → unless_fault first ≡ Ok t → first ≡ None
 no_fault None t h = refl
 no_fault (Some fault) t h = absurd cc
 

@@ -14,6 +14,7 @@ pub mod BoundLimits
 pub mod Rows
 pub mod Laws
 pub mod BindingOrder
+pub mod BoundNames
 pub mod Meaning
 pub mod Spelling
 pub mod JobText

@@ -5,8 +5,7 @@ ghost use Rattle.job_lang.specs.BindingOrder.{GivesEarliest, GivesFirstKind};
 ghost use Rattle.job_lang.specs.Meaning.{JobsAreMeant};
 ghost use Rattle.job_lang.specs.Writable.{LinesAreRead, TextIsRead, IsRoundTrip, JobsAreWritable, JobsAreReadAgain};
 ghost use Rattle.job_lang.specs.Rows.{EightLines, FullText, FullLines, NameBeforeMissing, Bindable, CodeListMet};
-
-use plain_text::joined_lines;
+ghost use Rattle.job_lang.specs.BoundNames.{BoundAsNamed};
 
 /// The definitions give what worked jobs say by hand.
 #[tactic(auto, using(crate::proofs::RowsHold::eight_lines, crate::proofs::RowsHold::full_text, crate::proofs::RowsHold::full_lines, crate::proofs::RowsHold::name_before_missing, crate::proofs::RowsHold::bindable, crate::proofs::RowsHold::code_list_met))]
@@ -30,6 +29,11 @@ pub fn order()
 pub fn binding_order()
     ensures line { GivesEarliest }
     ensures kind { GivesFirstKind }
+{}
+
+/// At the places of a bound job stand the variables that its lines name, for every table.
+pub fn binding_by_name()
+    ensures { BoundAsNamed }
 {}
 
 /// No file that is put is one that is read, or another one that is put.
@@ -62,6 +66,4 @@ pub fn spelling()
     ensures round_trip { IsRoundTrip }
     ensures writable { JobsAreWritable }
     ensures again { JobsAreReadAgain }
-{
-    joined_lines();
-}
+{}

@@ -29,6 +29,8 @@ pub use bound::Bound;
 pub use cost_rule::CostKind;
 pub use faults::{Command, JobError, JobWhy};
 pub use job::{Job, OutputLine, PriorLine, TableLine};
-pub use laws::{binding_order, meaning, metadata_fit, names_apart, order, rows, spelling};
+pub use laws::{
+    binding_by_name, binding_order, meaning, metadata_fit, names_apart, order, rows, spelling,
+};
 pub use reading::read_job;
 pub use sdc_base::{Method, Rule, Rules};

@@ -1,16 +1,5 @@
-pub mod Stopping
-pub mod Sounding
-pub mod Describing
-pub mod Listing
-pub mod Placing
-pub mod Coming
-pub mod FieldSteps
-pub mod Feeding
-pub mod Filling
 pub mod Showing
-pub mod Stating
 pub mod TableSteps
-pub mod Releasing
 pub mod Protecting
 pub mod Outcomes
 pub mod Settling

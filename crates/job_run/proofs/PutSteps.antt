@@ -1,11 +1,12 @@
 -- One more put.
-use Rattle.std.proofs.Common.{◌≡◌, ℕ, zero, suc, arith, ◌+◌, ◌<◌, List, [], ◌∷◌, ◌++◌, length, take, get_or, slice_get, Option, None, Some, option_map, refl, ap, sym, ◌∙◌}
+use Rattle.std.proofs.Common.{◌≡◌, ℕ, zero, suc, arith, ◌+◌, ◌<◌, List, [], ◌∷◌, ◌++◌, length, take, get_or, slice_get, Option, None, Some, option_map, refl, ap, sym, ◌∙◌, inl, inr}
 use Rattle.std.proofs.lemmas.List.{take_more}
 use Rattle.std.proofs.lemmas.Option.{slice_get_read}
 use Rattle.sdc_base.specs.Counts.{counted}
 use Rattle.office_io.specs.Files.{Files, put}
-use Rattle.job_run.specs.Reports.{put_all, OneInPart}
-use Rattle.job_run.specs.declared.report.FileRef.{FileRef}
+use Rattle.office_io.specs.Trays.{TrayState, HasPut, HasPutInPart}
+use Rattle.job_run.specs.Reports.{put_all, OneInPart, SomeWhole, AllWhole}
+use Rattle.job_inputs.specs.declared.file_ref.FileRef.{FileRef}
 use Rattle.job_run.specs.declared.put.Put.{Put}
 
 put_all-push : (out : Files) (puts : List Put) (p : Put) → put_all out (puts ++ p ∷ []) ≡ put (put_all out puts) p.name p.bytes
@@ -26,14 +27,28 @@ pub counted-more : (before after : ℕ) (start i : ℕ) → (i ≡ 0 → before 
 counted-more before after start zero none once more = omega (arith, none refl, more)
 counted-more before after start (suc i) none once more = omega (arith, once (omega arith), more)
 
--- a put that stopped after n bytes
-pub put-part : (puts : List Put) (i n : ℕ) (p : Put) (f : FileRef) (start old new : Option Files) → i < length puts → p ≡ get_or puts i p → p.file ≡ f →
-    old ≡ option_map (λ out. put_all out (take i puts)) start → new ≡ option_map (λ out. put out p.name (take n p.bytes)) old →
-    OneInPart puts f start new
-put-part puts i n p f start old new below is named before after =
-    let there : slice_get puts i ≡ Some p = slice_get_read puts (length puts) i p refl below is in
-    (i, n, p, there, named, after ∙ rw before (after_all start))
+-- a put that stopped after some bytes
+pub put-part : (puts : List Put) (i : ℕ) (p : Put) (f : FileRef) (start old new : TrayState) → i < length puts → p ≡ get_or puts i p → p.file ≡ f
+    → old.files ≡ option_map (λ out. put_all out (take i puts)) start.files → (i ≡ 0 → old ≡ start) → (0 < i → old.puts ≡ counted start.puts i) → HasPutInPart p.name p.bytes old new → OneInPart puts f start new
+put-part puts i p f start old new below is named before none once part = (
+  i,
+  part.files.0,
+  record {
+    next = p;
+    is_next = slice_get_read puts (length puts) i p refl below is;
+    is_of = named;
+    files = part.files.1 ∙ rw before (after_all part.files.0 start.files);
+    puts_made = counted-more old.puts new.puts start.puts i (λ first. ap (λ (t : TrayState). t.puts) (none first)) once part.puts;
+  },
+)
   where
-    after_all : (o : Option Files) → option_map (λ out. put out p.name (take n p.bytes)) (option_map (λ out. put_all out (take i puts)) o) ≡ option_map (λ out. put (put_all out (take i puts)) p.name (take n p.bytes)) o
-    after_all None = refl
-    after_all (Some out) = refl
+    after_all : (n : ℕ) (o : Option Files) → option_map (λ out. put out p.name (take n p.bytes)) (option_map (λ out. put_all out (take i puts)) o) ≡ option_map (λ out. put (put_all out (take i puts)) p.name (take n p.bytes)) o
+    after_all n None = refl
+    after_all n (Some out) = refl
+
+-- the puts so far, where memory was wanting for the next
+pub some-whole : (puts : List Put) (i : ℕ) (start old new : TrayState) → old.files ≡ option_map (λ out. put_all out (take i puts)) start.files → (i ≡ 0 → old ≡ start) → (0 < i → old.puts ≡ counted start.puts i)
+    → new ≡ old → SomeWhole puts start new
+some-whole puts zero start old new before none once same = inl (same ∙ none refl)
+some-whole puts (suc i) start old new before none once same =
+    inr (suc i, ap (λ (t : TrayState). t.files) same ∙ before, ap (λ (t : TrayState). t.puts) same ∙ once (omega arith))

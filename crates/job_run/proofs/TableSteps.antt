@@ -4,9 +4,9 @@ use Rattle.std.specs.Prelude.{slice_index_or}
 use Rattle.job_lang.specs.declared.job.OutputLine.{OutputLine}
 use Rattle.job_lang.specs.declared.job.TableLine.{TableLine}
 use Rattle.job_run.specs.Releases.{names_of, open_table, tables_from}
-use Rattle.job_run.specs.declared.inputs.Inputs.{Inputs}
+use Rattle.job_inputs.specs.declared.inputs.Inputs.{Inputs}
 use Rattle.job_run.specs.declared.put.Put.{Put}
-use Rattle.job_run.specs.declared.report.FileRef.TheVariants as file
+use Rattle.job_inputs.specs.declared.file_ref.FileRef.TheVariants as file
 
 -- table t of a release
 abbrev pub put_at : Inputs → ℕ → TableLine → OutputLine → Put

@@ -1,33 +1,28 @@
--- What the inputs of a job come to: its cells, its tables, its certificate and its numbers (own).
-use Rattle.std.specs.Prelude.{ℕ, ◌+◌, not, Bool, true, false, List, [], ◌∷◌, ◌++◌, length, slice_index_or, Option, None, Some, Result, Ok, Err, ℤ}
-use Rattle.sdc_base.specs.CertificateText.{open_certificate}
-use Rattle.sdc_base.specs.Cells.{cells_of}
+-- What the settled cells of a job come to: its tables, its certificate and its numbers (own).
+use Rattle.std.specs.Prelude.{ℕ, ◌+◌, not, Bool, true, false, List, [], ◌∷◌, ◌++◌, length, slice_index_or, Option, None, Some, Result, Ok, Err}
+use Rattle.job_run.specs.CertificateText.{open_certificate}
 use Rattle.sdc_base.specs.Places.{first_place}
-use Rattle.sdc_base.specs.Records.{Name}
 use Rattle.sdc_base.specs.Relations.{Sum, relations_among}
-use Rattle.sdc_base.specs.RuleLevels.{Figures}
-use Rattle.sdc_base.specs.Steps.{◌>>=◌, map_fault, refuse}
-use Rattle.sdc_base.specs.Sums.{truth}
+use Rattle.sdc_base.specs.Steps.{◌>>=◌, refuse}
 use Rattle.sdc_base.specs.TableText.{table_text}
 use Rattle.sdc_base.specs.declared.cell.Kind.{Kind}
 use Rattle.sdc_base.specs.declared.cell.Kind.TheVariants.{Primary}
 use Rattle.sdc_base.specs.declared.method.Method.{Method}
 use Rattle.sdc_base.specs.declared.method.Method.TheVariants as method
-use Rattle.apriori.specs.Faults.{LineOf}
-use Rattle.apriori.specs.Settling.{Settled, figures_of, settle_of}
-use Rattle.apriori.specs.declared.faults.PriorWhy.{PriorWhy}
-use Rattle.apriori.specs.declared.prior.Prior.{Prior}
+use Rattle.apriori.specs.Settling.{Settled}
 use Rattle.job_lang.specs.declared.job.OutputLine.{OutputLine}
 use Rattle.job_lang.specs.declared.job.TableLine.{TableLine}
-use Rattle.linked_tables.specs.declared.book_fault.BookFault.{BookFault}
-use Rattle.linked_tables.specs.declared.book_fault.BookFault.TheVariants as book
-use Rattle.job_run.specs.declared.inputs.Inputs.{Inputs}
+use Rattle.job_inputs.specs.Cells.{cells, truth_in}
+use Rattle.job_inputs.specs.Settled.{SettledInputs}
+use Rattle.job_inputs.specs.declared.file_ref.FileRef.TheVariants as file
+use Rattle.job_inputs.specs.declared.inputs.Inputs.{Inputs}
 use Rattle.job_run.specs.declared.put.Put.{Put}
 use Rattle.job_run.specs.declared.put.Release.{Release}
 use Rattle.job_run.specs.declared.report.Fault.{Fault}
 use Rattle.job_run.specs.declared.report.Fault.TheVariants as fault
-use Rattle.job_run.specs.declared.report.FileRef.TheVariants as file
 use Rattle.job_run.specs.declared.report.Summary.{Summary}
+use Rattle.job_run.specs.declared.release_stop.ReleaseStop.{ReleaseStop}
+use Rattle.job_run.specs.declared.release_stop.ReleaseStop.TheVariants as stop
 
 -- ---- what is built
 
@@ -43,17 +38,9 @@ is_of_primary other = false
 
 -- ---- cells
 
--- the cells of all tables
-abbrev pub cells : Inputs → List Name
-cells inputs = cells_of inputs.records.trees inputs.described.bound.tables
-
--- the relations between these cells
+-- the relations between the cells of all tables
 abbrev pub relations : Inputs → List Sum
 relations inputs = relations_among inputs.records.trees inputs.described.bound.tables
-
--- what the rules look at in each cell, over the records
-abbrev pub figures : Inputs → List Figures
-figures inputs = figures_of inputs.records.trees (cells inputs) inputs.records.rows inputs.described.bound.scale
 
 -- a primary cell
 abbrev pub is_primary : Settled → Bool
@@ -62,10 +49,6 @@ is_primary cell = is_of_primary cell.kind
 -- the number of the first primary cell
 abbrev pub first_primary : List Settled → Option ℕ
 first_primary settled = first_place is_primary settled
-
--- the truth of a cell over the records
-abbrev pub truth_in : Inputs → Name → ℤ
-truth_in inputs name = truth inputs.records.trees name inputs.records.rows
 
 -- ---- what is put
 
@@ -108,26 +91,19 @@ summary_of inputs = record {
 
 -- ---- the release
 
--- too many cells, as a fault of the run; tables of a bound job have no other fault
-abbrev pub cells_fault : BookFault → Fault
-cells_fault (book.NoSuchVariable t) = fault.Cells t
-cells_fault (book.TwiceInTable t) = fault.Cells t
-cells_fault (book.TooManyCells t) = fault.Cells t
-cells_fault book.Memory = fault.Cells 0
-
 -- the release, unless a cell is primary
 abbrev pub unless_named : Option ℕ → Release → Result Release Fault
 unless_named None release = Ok release
 unless_named (Some cell) release = Err (fault.NeedsPlan cell)
 
--- a line by which a primary cell is to be always shown, as a fault of the run
-abbrev pub prior_fault : LineOf × PriorWhy → Fault
-prior_fault at = fault.Prior at.0.0 at.0.1 at.1
+-- The release of a job's settled inputs, or the first fault: what isn't built yet, or the first primary cell.
+unfoldable pub release_of : SettledInputs → Result Release Fault
+release_of settled = do
+  built ← refuse (fault.NotBuilt file.Job) (not (is_hiding settled.inputs.described.job.method))
+  unless_named (first_primary settled.cells) (record { puts = puts_of settled.inputs; summary = summary_of settled.inputs })
 
--- The release of a job's inputs, with what its a priori files state of each cell, or the first fault: a primary cell that is to
--- be always shown, what isn't built yet, or the first primary cell.
-unfoldable pub release_of : Inputs → List Prior → Result Release Fault
-release_of inputs priors = do
-  settled ← map_fault prior_fault (settle_of inputs.described.job.rules (figures inputs) priors)
-  built ← refuse (fault.NotBuilt file.Job) (not (is_hiding inputs.described.job.method))
-  unless_named (first_primary settled) (record { puts = puts_of inputs; summary = summary_of inputs })
+-- the fault for which settled inputs come to no release; want of memory names none
+abbrev pub unreleased_for : ReleaseStop → Option Fault
+unreleased_for (stop.NotBuilt f) = Some (fault.NotBuilt f)
+unreleased_for (stop.NeedsPlan cell) = Some (fault.NeedsPlan cell)
+unreleased_for stop.Memory = None

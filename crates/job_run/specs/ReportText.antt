@@ -12,8 +12,7 @@ use Rattle.microdata.specs.declared.faults.RowWhy.{RowWhy}
 use Rattle.microdata.specs.declared.faults.RowWhy.TheVariants as row
 use Rattle.rda_meta.specs.declared.faults.MetaWhy.{MetaWhy}
 use Rattle.rda_meta.specs.declared.faults.MetaWhy.TheVariants as meta
-use Rattle.job_run.specs.declared.report.FileRef.{FileRef}
-use Rattle.job_run.specs.declared.report.FileRef.TheVariants as file
+use Rattle.job_inputs.specs.FileTexts.{file_text}
 use Rattle.job_run.specs.declared.report.Fault.{Fault}
 use Rattle.job_run.specs.declared.report.Fault.TheVariants as fault
 use Rattle.job_run.specs.declared.report.Summary.{Summary}
@@ -28,17 +27,6 @@ status_of (report.Refused reason) = 2
 status_of (report.ReadFault f) = 5
 status_of (report.WriteFault f) = 6
 status_of report.Memory = 7
-
--- how a file is named: variables by their number in the metadata and tables, both from 1
-abbrev pub file_text : FileRef → List ℕ
-file_text file.Job = codes "job"
-file_text file.Metadata = codes "metadata"
-file_text (file.CodeList place) = codes "codelist " ++ decimal (place + 1)
-file_text (file.Hierarchy place) = codes "hierarchy " ++ decimal (place + 1)
-file_text file.Microdata = codes "microdata"
-file_text (file.Apriori t) = codes "apriori table " ++ decimal (t + 1)
-file_text file.Certificate = codes "certificate"
-file_text (file.Table t) = codes "table " ++ decimal (t + 1)
 
 -- the command that a job lacks, as it is written
 abbrev pub command_text : Command → List ℕ

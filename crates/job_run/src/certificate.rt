@@ -1,5 +1,5 @@
 ghost use Rattle.std.specs.Prelude.{◌≡◌, IfOk};
-ghost use Rattle.sdc_base.specs.CertificateText.{open_certificate};
+ghost use Rattle.job_run.specs.CertificateText.{open_certificate};
 
 use sdc_base::{Items, Memory, Method};
 use std::alloc::Global;
@@ -31,7 +31,7 @@ struct MethodLine {
 
 impl Display for MethodLine {
     ghost use Rattle.std.specs.Prelude.{Some};
-    ghost use Rattle.sdc_base.specs.CertificateText.{method_line};
+    ghost use Rattle.job_run.specs.CertificateText.{method_line};
 
     ghost output = { λ line. Some (method_line line.method) };
 

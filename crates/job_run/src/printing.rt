@@ -2,7 +2,7 @@ ghost use Rattle.std.specs.Prelude.{◌≡◌, IfOk};
 ghost use Rattle.job_run.specs.ReportText.{status_of, report_text as text_of};
 
 use crate::kinds::{JobKind, TreeKind, meta_kind, prior_kind, row_kind};
-use crate::report::{Fault, FileRef, Report, Summary};
+use crate::report::{Fault, Report, Summary};
 use sdc_base::{Memory, Text};
 use std::alloc::Global;
 use std::fmt;
@@ -34,38 +34,6 @@ pub fn report_text(alloc: Global, report: &Report) -> Result<Text, Memory>
 {
     let line = format!(in alloc; "{report}\n")?;
     Ok(Text::new(line.into_bytes()))
-}
-
-impl Display for FileRef {
-    ghost use Rattle.std.specs.Prelude.{Some};
-    ghost use Rattle.job_run.specs.ReportText.{file_text};
-
-    ghost output = { λ file. Some (file_text file) };
-
-    fn fmt<W: fmt::Write>(&self, f: &mut fmt::Formatter<W>) -> fmt::Result {
-        match self {
-            FileRef::Job => write!(f, "job"),
-            FileRef::Metadata => write!(f, "metadata"),
-            FileRef::CodeList(place) => {
-                let number = u64::from(*place) + 1;
-                write!(f, "codelist {number}")
-            }
-            FileRef::Hierarchy(place) => {
-                let number = u64::from(*place) + 1;
-                write!(f, "hierarchy {number}")
-            }
-            FileRef::Microdata => write!(f, "microdata"),
-            FileRef::Apriori(table) => {
-                let number = u64::from(*table) + 1;
-                write!(f, "apriori table {number}")
-            }
-            FileRef::Certificate => write!(f, "certificate"),
-            FileRef::Table(table) => {
-                let number = u64::from(*table) + 1;
-                write!(f, "table {number}")
-            }
-        }
-    }
 }
 
 impl Display for Fault {

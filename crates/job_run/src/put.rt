@@ -1,4 +1,5 @@
-use crate::report::{FileRef, Summary};
+use crate::report::Summary;
+use job_inputs::FileRef;
 use sdc_base::{Items, Text};
 
 /// A file that is to be put.

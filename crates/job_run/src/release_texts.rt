@@ -1,14 +1,13 @@
 ghost use Rattle.std.specs.Prelude.{◌≡◌, ◌<◌, ◌≤◌, ◌+◌, ◌++◌, ◌∷◌, [], IfOk, OnOk, length, slice_index_or};
-ghost use Rattle.sdc_base.specs.CertificateText.{open_certificate};
+ghost use Rattle.job_run.specs.CertificateText.{open_certificate};
 ghost use Rattle.job_run.specs.Releases.{names_of as header_of, open_table, tables_from, puts_of, certificate_of};
-ghost use Rattle.job_run.specs.Sound.{IsSound};
-ghost use Rattle.job_run.specs.Tabulated.{IsBookOf, IsReadyFor, IsOpen, IsSystemOf};
-ghost use Rattle.job_run.specs.declared.inputs.Inputs.{Inputs as AnyInputs};
+ghost use Rattle.job_inputs.specs.Tabulated.{IsBookOf};
+ghost use Rattle.job_run.specs.Books.{IsOpenBook, IsSystemOf};
+ghost use Rattle.job_inputs.specs.declared.inputs.Inputs.{Inputs as AnyInputs};
 
 use crate::certificate::certificate_bytes;
-use crate::described::Described;
 use crate::put::Put;
-use crate::report::FileRef;
+use job_inputs::{Described, FileRef};
 use job_lang::{OutputLine, TableLine};
 use linked_tables::Book;
 use release_writer::{Shown, table_bytes};
@@ -24,10 +23,8 @@ pub(crate) fn puts_for(
     system: &System,
     protected: &Protected<'_>,
 ) -> Result<Items<Put>, Memory>
-    requires sound { IsSound described.now }
-    requires ready { IsReadyFor described.now book.now }
+    requires shown { IsOpenBook described.now book.now protected.now.hidden }
     requires related { IsSystemOf book.now system.now }
-    requires open { IsOpen book.now protected.now.hidden }
     ensures puts { IfOk result (λ puts. (inputs : AnyInputs) → inputs.described ≡ described.now → IsBookOf inputs book.now → puts ≡ puts_of inputs) }
     ensures each { IfOk result (λ puts. length puts ≡ 1 + length described.now.job.tables) }
 {
@@ -65,9 +62,7 @@ fn add_tables(
     hidden: &Hidden,
     puts: &mut Items<Put>,
 ) -> Result<(), Memory>
-    requires sound { IsSound described.now }
-    requires ready { IsReadyFor described.now book.now }
-    requires open { IsOpen book.now hidden.now }
+    requires shown { IsOpenBook described.now book.now hidden.now }
     ensures puts { OnOk result ((inputs : AnyInputs) → inputs.described ≡ described.now → IsBookOf inputs book.now
         → puts.new ≡ puts.old ++ tables_from inputs 0 described.now.job.tables described.now.job.outputs) }
     ensures each { OnOk result (length puts.new ≡ length puts.old + length described.now.job.tables) }
@@ -90,9 +85,7 @@ fn table_put(
     line: &TableLine,
     output: &OutputLine,
 ) -> Result<Put, Memory>
-    requires sound { IsSound described.now }
-    requires ready { IsReadyFor described.now book.now }
-    requires open { IsOpen book.now hidden.now }
+    requires shown { IsOpenBook described.now book.now hidden.now }
     requires table { t < length book.now.tables }
     requires header { length line.now.variables ≡ length (slice_index_or book.now.tables t []) }
     ensures { IfOk result (λ put. (inputs : AnyInputs) → inputs.described ≡ described.now → IsBookOf inputs book.now

@@ -1,21 +1,9 @@
 use apriori::PriorWhy;
 use hierarchy::TreeFault;
+use job_inputs::{FileRef, InputFault};
 use job_lang::JobWhy;
 use microdata::RowWhy;
 use rda_meta::MetaWhy;
-
-/// A file of a run. A variable is numbered by its place in the metadata, from 0, and a table from 0.
-#[derive(Clone, Copy, Debug, PartialEq, Eq)]
-pub enum FileRef {
-    Job,
-    Metadata,
-    CodeList(u32),
-    Hierarchy(u32),
-    Microdata,
-    Apriori(u32),
-    Certificate,
-    Table(u32),
-}
 
 /// What is wrong with the inputs: the first fault in the order job, metadata, the job's variables in the metadata, for each
 /// spanning variable in the order of the metadata its code list and then its hierarchy, the microdata,
@@ -90,4 +78,24 @@ pub enum Report {
     WriteFault(FileRef),
     /// There was no memory: some of the files may have been put whole.
     Memory,
+}
+
+impl From<InputFault> for Fault {
+    ghost use Rattle.std.specs.Prelude.{◌≡◌};
+    ghost use Rattle.job_run.specs.Faults.{fault_of};
+
+    ghost from_gives = { λ fault e. e ≡ fault_of fault };
+
+    fn from(fault: InputFault) -> Self {
+        match fault {
+            InputFault::Absent(file) => Fault::Absent(file),
+            InputFault::TooLong(file) => Fault::TooLong(file),
+            InputFault::Job { line, why } => Fault::Job { line, why },
+            InputFault::Meta { line, why } => Fault::Meta { line, why },
+            InputFault::Tree(file, fault) => Fault::Tree(file, fault),
+            InputFault::Row { number, why } => Fault::Row { number, why },
+            InputFault::Cells(table) => Fault::Cells(table),
+            InputFault::Prior { table, line, why } => Fault::Prior { table, line, why },
+        }
+    }
 }

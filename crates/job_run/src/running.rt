@@ -1,22 +1,17 @@
-ghost use Rattle.std.specs.Prelude.{◌≡◌, ◌↔◌, ◌≤◌, None, Some, List, ℕ, length, option_map, OnOk, IsOkAnd, IsErrOf, ◌+◌};
+ghost use Rattle.std.specs.Prelude.{◌≡◌, ◌↔◌, ◌≤◌, None, ℕ, option_map, OnOk, IfOk};
 ghost use Rattle.sdc_base.specs.Counts.{Rose, counted};
 ghost use Rattle.sdc_base.specs.Told.{WhereTold};
-ghost use Rattle.office_io.specs.Files.{held_name};
-ghost use Rattle.job_run.specs.Inputs.{limit};
-ghost use Rattle.job_run.specs.Looks.{ComesTo};
+ghost use Rattle.job_inputs.specs.Looks.{ComesTo};
 ghost use Rattle.job_run.specs.Outcome.{job_name, outcome_of};
 ghost use Rattle.job_run.specs.Released.{Releases};
-ghost use Rattle.job_run.specs.Reports.{Meets, Leaves, LeavesAll, Settles, report_of};
-ghost use Rattle.job_run.specs.declared.report.FileRef.{FileRef as AnyFile};
+ghost use Rattle.job_run.specs.Reports.{Meets, Leaves, LeavesAll, Settles, HasCause, HasComeTo, report_of};
 ghost use Rattle.job_run.specs.declared.report.Summary.{Summary as Numbers};
 
-use crate::counted::count_records;
-use crate::inputs::read_inputs;
 use crate::puts::put_files;
 use crate::release::release_for;
-use crate::report::{Fault, Report, Summary};
-use crate::stated::read_priors;
+use crate::report::{Report, Summary};
 use crate::stop::Stop;
+use job_inputs::read_settled;
 use office_io::{Shelf, Tray};
 use sdc_base::Text;
 use std::alloc::Global;
@@ -30,42 +25,38 @@ use std::alloc::Global;
 ///
 /// Other words are answered with the usage line. Usage, a refusal and a fault of the shelf leave the tray as it was. After a
 /// fault of the tray the files put before the one that failed stand whole, and of that one its first bytes may be there; after
-/// want of memory some of the files may have been put whole. It takes any words, any shelf and any tray.
+/// want of memory some of the files may have been put whole. No file is put twice. It takes any words, any shelf and any tray.
 ///
-/// The cost is that of reading each file once, with the records kept in memory; one look-up for each record, table and
-/// combination of codes above the record's; and the bytes of the tables. The commands are the manual's, the order in which the
-/// inputs are looked at is argus's own.
+/// Over a shelf that tells nothing, as one over real files, four answers have a cause that counts show: that a file is absent,
+/// that one is too long, a read fault and a write fault. What else is refused, and what is put, is said of told files alone.
+///
+/// The cost is that of reading each file once, with the records kept in memory; one look-up for each record and table, and
+/// one for each cell and variable; and the bytes of the tables. The commands are the manual's, the order in which the inputs
+/// are looked at is argus's own.
 pub fn run<S: Shelf, T: Tray>(alloc: Global, words: &[Text], shelf: &mut S, tray: &mut T) -> Report
     // Usage comes exactly where the words are none of the forms that are built.
     ensures usage { (result ≡ Report.Usage) ↔ (job_name words.now ≡ None) }
 
-    // The answer is what the told files come to, and the tray holds what the answer says.
-    ensures told { WhereTold (job_name words.now) (λ name. WhereTold (S.files shelf.old) (λ fs. Meets result (outcome_of fs name))) }
-    ensures left { WhereTold (job_name words.now) (λ name. WhereTold (S.files shelf.old) (λ fs. Leaves result (outcome_of fs name) (T.files tray.old) (T.files tray.new))) }
-    ensures untouched { LeavesAll result (T.files tray.old) (T.files tray.new) }
+    // The answer is what the told files come to, and the tray holds what the answer says, each put counted once.
+    ensures told { WhereTold (job_name words.now) (λ name. WhereTold (S.state shelf.old).files (λ fs. Meets result (outcome_of fs name))) }
+    ensures left { WhereTold (job_name words.now) (λ name. WhereTold (S.state shelf.old).files (λ fs. Leaves result (outcome_of fs name) (T.state tray.old) (T.state tray.new))) }
+    ensures untouched { LeavesAll result (T.state tray.old) (T.state tray.new) }
 
-    // A release makes a put for the certificate and one for each table, of which there are one to eight, and an answer that
-    // leaves the tray makes none.
-    ensures once { WhereTold (job_name words.now) (λ name. WhereTold (S.files shelf.old) (λ fs. (summary : Numbers) → result ≡ Report.Released summary
-        → IsOkAnd (outcome_of fs name) (λ release. T.puts tray.new ≡ counted (T.puts tray.old) (length release.puts)))) }
-    ensures some { (summary : Numbers) → result ≡ Report.Released summary → (count : ℕ) × (2 ≤ count) × (count ≤ 9) × (T.puts tray.new ≡ counted (T.puts tray.old) count) }
-    ensures no_put { LeavesAll result (T.puts tray.old) (T.puts tray.new) }
+    // A release makes a put for the certificate and one for each table, of which there are one to eight.
+    ensures some { (summary : Numbers) → result ≡ Report.Released summary
+        → (count : ℕ) × (2 ≤ count) × (count ≤ 9) × ((T.state tray.new).puts ≡ counted (T.state tray.old).puts count) }
 
     // A release is that of the inputs of the told files.
-    ensures released { WhereTold (job_name words.now) (λ name. WhereTold (S.files shelf.old) (λ fs. (summary : Numbers) → result ≡ Report.Released summary
-        → Releases fs name summary (T.files tray.old) (T.files tray.new))) }
+    ensures released { WhereTold (job_name words.now) (λ name. WhereTold (S.state shelf.old).files (λ fs. (summary : Numbers) → result ≡ Report.Released summary
+        → Releases fs name summary (T.state tray.old) (T.state tray.new))) }
 
     // Without a fault of the shelf or the tray, the outcome of the told files is the answer, want of memory aside.
-    ensures complete { WhereTold (job_name words.now) (λ name. WhereTold (S.files shelf.old) (λ fs.
-        ¬ Rose (S.faults shelf.old) (S.faults shelf.new) → ¬ Rose (T.faults tray.old) (T.faults tray.new) → Settles result (outcome_of fs name))) }
+    ensures complete { WhereTold (job_name words.now) (λ name. WhereTold (S.state shelf.old).files (λ fs.
+        ¬ Rose (S.state shelf.old).faults (S.state shelf.new).faults → ¬ Rose (T.state tray.old).faults (T.state tray.new).faults → Settles result (outcome_of fs name))) }
 
-    // Each refusal has its cause, whatever the shelf and the tray tell.
-    ensures absent { (f : AnyFile) → result ≡ Report.Refused (Fault.Absent f) → Rose (S.absences shelf.old) (S.absences shelf.new) }
-    ensures too_long { (f : AnyFile) → result ≡ Report.Refused (Fault.TooLong f) → S.taken shelf.new ≡ limit + 1 }
-    ensures read_fault { (f : AnyFile) → result ≡ Report.ReadFault f → Rose (S.faults shelf.old) (S.faults shelf.new) }
-    ensures came_to { WhereTold (job_name words.now) (λ name. WhereTold (S.files shelf.old) (λ fs. (f : AnyFile) → result ≡ Report.ReadFault f
-        → (held : List ℕ) × ComesTo fs name f held × (S.last shelf.new ≡ held_name fs held))) }
-    ensures write_fault { (f : AnyFile) → result ≡ Report.WriteFault f → Rose (T.faults tray.old) (T.faults tray.new) }
+    // That a file is absent or too long, a read fault and a write fault have their cause, whatever the shelf and the tray tell.
+    ensures cause { HasCause result (S.state shelf.old) (S.state shelf.new) (T.state tray.old) (T.state tray.new) }
+    ensures came_to { WhereTold (job_name words.now) (λ name. WhereTold (S.state shelf.old).files (λ fs. HasComeTo (ComesTo fs name) result fs (S.state shelf.new))) }
 {
     match job_of_words(words) {
         None => Report::Usage,
@@ -94,23 +85,16 @@ fn release<S: Shelf, T: Tray>(
     shelf: &mut S,
     tray: &mut T,
 ) -> Result<Summary, Stop>
-    ensures told { WhereTold (S.files shelf.old) (λ fs. Meets (report_of result) (outcome_of fs name.now)) }
-    ensures left { WhereTold (S.files shelf.old) (λ fs. Leaves (report_of result) (outcome_of fs name.now) (T.files tray.old) (T.files tray.new)) }
-    ensures untouched { LeavesAll (report_of result) (T.files tray.old) (T.files tray.new) }
-    ensures once { WhereTold (S.files shelf.old) (λ fs. OnOk result (IsOkAnd (outcome_of fs name.now) (λ release. T.puts tray.new ≡ counted (T.puts tray.old) (length release.puts)))) }
-    ensures some { OnOk result ((count : ℕ) × (2 ≤ count) × (count ≤ 9) × (T.puts tray.new ≡ counted (T.puts tray.old) count)) }
-    ensures no_put { LeavesAll (report_of result) (T.puts tray.old) (T.puts tray.new) }
-    ensures absent { (f : AnyFile) → IsErrOf result (Stop.Refused (Fault.Absent f)) → Rose (S.absences shelf.old) (S.absences shelf.new) }
-    ensures too_long { (f : AnyFile) → IsErrOf result (Stop.Refused (Fault.TooLong f)) → S.taken shelf.new ≡ limit + 1 }
-    ensures read_fault { (f : AnyFile) → IsErrOf result (Stop.ReadFault f) → Rose (S.faults shelf.old) (S.faults shelf.new) }
-    ensures came_to { WhereTold (S.files shelf.old) (λ fs. (f : AnyFile) → IsErrOf result (Stop.ReadFault f)
-        → (held : List ℕ) × ComesTo fs name.now f held × (S.last shelf.new ≡ held_name fs held)) }
-    ensures write_fault { (f : AnyFile) → IsErrOf result (Stop.WriteFault f) → Rose (T.faults tray.old) (T.faults tray.new) }
+    ensures told { WhereTold (S.state shelf.old).files (λ fs. Meets (report_of result) (outcome_of fs name.now)) }
+    ensures left { WhereTold (S.state shelf.old).files (λ fs. Leaves (report_of result) (outcome_of fs name.now) (T.state tray.old) (T.state tray.new)) }
+    ensures untouched { LeavesAll (report_of result) (T.state tray.old) (T.state tray.new) }
+    ensures some { OnOk result ((count : ℕ) × (2 ≤ count) × (count ≤ 9) × ((T.state tray.new).puts ≡ counted (T.state tray.old).puts count)) }
+    ensures released { WhereTold (S.state shelf.old).files (λ fs. IfOk result (λ summary. Releases fs name.now summary (T.state tray.old) (T.state tray.new))) }
+    ensures cause { HasCause (report_of result) (S.state shelf.old) (S.state shelf.new) (T.state tray.old) (T.state tray.new) }
+    ensures came_to { WhereTold (S.state shelf.old).files (λ fs. HasComeTo (ComesTo fs name.now) (report_of result) fs (S.state shelf.new)) }
 {
-    let inputs = read_inputs(alloc, shelf, name)?;
-    let counted = count_records(alloc, inputs)?;
-    let priors = read_priors(alloc, shelf, &counted)?;
-    let planned = release_for(alloc, &counted, priors.as_slice())?;
+    let settled = read_settled(alloc, shelf, name)?;
+    let planned = release_for(alloc, &settled)?;
     put_files(tray, planned.puts.as_slice())?;
     Ok(planned.summary)
 }

@@ -1,6 +1,7 @@
-use crate::refusal::Refusal;
-use crate::report::{Fault, FileRef};
-use sdc_base::Memory;
+use crate::puts::PutStop;
+use crate::release_stop::ReleaseStop;
+use crate::report::Fault;
+use job_inputs::{FileRef, InputStop};
 
 /// Why a run of a job stopped before its end.
 #[derive(Clone, Copy, Debug, PartialEq, Eq)]
@@ -11,27 +12,46 @@ pub(crate) enum Stop {
     Memory,
 }
 
-impl From<Refusal> for Stop {
+impl From<InputStop> for Stop {
     ghost use Rattle.std.specs.Prelude.{◌≡◌};
-    ghost use Rattle.job_run.specs.Stops.{stop_of};
+    ghost use Rattle.job_run.specs.Stops.{inputs_stop};
 
-    ghost from_gives = { λ refusal e. e ≡ stop_of refusal };
+    ghost from_gives = { λ stop e. e ≡ inputs_stop stop };
 
-    fn from(refusal: Refusal) -> Self {
-        match refusal {
-            Refusal::Refused(fault) => Stop::Refused(fault),
-            Refusal::Memory => Stop::Memory,
+    fn from(stop: InputStop) -> Self {
+        match stop {
+            InputStop::Refused(fault) => Stop::Refused(Fault::from(fault)),
+            InputStop::ReadFault(file) => Stop::ReadFault(file),
+            InputStop::Memory => Stop::Memory,
         }
     }
 }
 
-impl From<Memory> for Stop {
+impl From<ReleaseStop> for Stop {
     ghost use Rattle.std.specs.Prelude.{◌≡◌};
-    ghost use Rattle.job_run.specs.declared.stop.Stop.TheVariants as stop;
+    ghost use Rattle.job_run.specs.Stops.{release_stop};
 
-    ghost from_gives = { λ _ e. e ≡ stop.Memory };
+    ghost from_gives = { λ stop e. e ≡ release_stop stop };
 
-    fn from(_: Memory) -> Self {
-        Stop::Memory
+    fn from(stop: ReleaseStop) -> Self {
+        match stop {
+            ReleaseStop::NotBuilt(file) => Stop::Refused(Fault::NotBuilt(file)),
+            ReleaseStop::NeedsPlan(cell) => Stop::Refused(Fault::NeedsPlan(cell)),
+            ReleaseStop::Memory => Stop::Memory,
+        }
+    }
+}
+
+impl From<PutStop> for Stop {
+    ghost use Rattle.std.specs.Prelude.{◌≡◌};
+    ghost use Rattle.job_run.specs.Stops.{puts_stop};
+
+    ghost from_gives = { λ stop e. e ≡ puts_stop stop };
+
+    fn from(stop: PutStop) -> Self {
+        match stop {
+            PutStop::WriteFault(file) => Stop::WriteFault(file),
+            PutStop::Memory => Stop::Memory,
+        }
     }
 }

@@ -6,3 +6,4 @@ pub mod Below
 pub mod TableSteps
 pub mod Sharing
 pub mod Numbers
+pub mod Guessing

@@ -1,7 +1,7 @@
 -- The cells of a book, and which cell stands at a place of a table (tau-ARGUS user manual, linked tables).
-use Rattle.std.specs.Prelude.{◌≡◌, ℕ, ◌+◌, ◌≤◌, Bool, false, List, [], length, take, slice_get, slice_range, bytes_eq, if◌then◌else◌, All, Option, None}
+use Rattle.std.specs.Prelude.{◌≡◌, ℕ, ◌+◌, ◌≤◌, Bool, false, List, [], length, take, slice_get, slice_index_or, slice_range, bytes_eq, if◌then◌else◌, All, Option, None}
 use Rattle.std.specs.Option.{option_and_then, option_map_or}
-use Rattle.sdc_base.specs.Trees.{IsCodeTree}
+use Rattle.sdc_base.specs.Trees.{IsCodeTree, Tree}
 use Rattle.sdc_base.specs.Records.{Name}
 use Rattle.sdc_base.specs.Places.{first_place}
 use Rattle.sdc_base.specs.Cells.{cells_of, name_of, trees_of}
@@ -9,6 +9,10 @@ use Rattle.sdc_base.specs.CellOrder.{is_place_in}
 use Rattle.linked_tables.specs.declared.mark.Mark.{Mark}
 use Rattle.linked_tables.specs.Held.{Held}
 use Rattle.linked_tables.specs.Tables.{most_cells, has_unknown, has_twice}
+
+-- the tree of a variable, which has no codes behind the last variable
+abbrev pub tree_of : Held → ℕ → Tree
+tree_of book variable = slice_index_or book.trees variable []
 
 -- the names of the cells, in the order of their numbers
 abbrev pub cells : Held → List Name

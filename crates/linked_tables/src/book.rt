@@ -9,7 +9,7 @@ use crate::book_fault::BookFault;
 use crate::mark::Mark;
 use crate::names::{Name, Names};
 use crate::numbering::{Numbering, blank_marks, number_cells};
-use crate::places::{is_place, know_trees};
+use crate::places::{is_place, know_trees, size_at};
 use hierarchy::CodeTree;
 use sdc_base::{Place, name_at};
 use std::alloc::Global;
@@ -27,6 +27,8 @@ pub struct Book {
     tables: Vec<Place>,
     names: Names,
     starts: Vec<u32>,
+    guesses: Vec<usize>,
+    bases: Vec<usize>,
     marks: Vec<Mark>,
 }
 
@@ -61,13 +63,20 @@ impl Book {
         ensures one_each { IfOk result (λ book. length book.marks ≡ length (cells_in book)) }
     {
         know_trees(&trees);
-        let Numbering { names, starts } = number_cells(alloc, &trees, &tables)?;
+        let Numbering {
+            names,
+            starts,
+            guesses,
+            bases,
+        } = number_cells(alloc, &trees, &tables)?;
         let marks = blank_marks(alloc, names.len())?;
         Ok(Book {
             trees,
             tables,
             names,
             starts,
+            guesses,
+            bases,
             marks,
         })
     }
@@ -82,7 +91,7 @@ impl Book {
         ensures within { IfSome result (λ cell. cell < length self.now.marks) }
     {
         let table = self.spans(t)?;
-        let number = self.number_in(table.as_slice(), place)?;
+        let number = self.number_in(t as usize, table.as_slice(), place)?;
         Some(number as u32)
     }
 
@@ -159,13 +168,14 @@ impl Book {
 
 impl Book {
     ghost use Rattle.std.specs.Borrow.{sem};
-    ghost use Rattle.std.specs.Prelude.{if◌then◌else◌, None};
+    ghost use Rattle.std.specs.Prelude.{if◌then◌else◌, None, Some};
     ghost use Rattle.linked_tables.specs.Tables.{most_cells};
     ghost use Rattle.linked_tables.specs.Shared.{is_in, named};
     ghost use Rattle.linked_tables.specs.Lending.{LendsMark, LendsPart};
 
-    // The number of the cell at a place of a table that spans these variables.
-    fn number_in(&self, table: &[u32], place: &[u32]) -> Option<usize>
+    // The number of the cell at a place of a table that spans these variables: the guess, where its name is that of the
+    // place, and else by a look-up.
+    fn number_in(&self, t: usize, table: &[u32], place: &[u32]) -> Option<usize>
         ensures number { result ≡ (if is_in self.now table.now place.now then number_of self.now (named self.now table.now place.now) else None) }
         ensures within { IfSome result (λ number. number < length self.now.marks) }
         ensures few { length self.now.marks ≤ most_cells }
@@ -174,7 +184,26 @@ impl Book {
             return None;
         }
         let name = Name::new(name_at(self.trees.len(), table, place));
-        self.names.number_of(&name)
+        match self.guess(t, table, place, &name) {
+            Some(number) => Some(number),
+            None => self.names.number_of(&name),
+        }
+    }
+
+    // The number that was noted for a place of table t, where its cell has this name.
+    fn guess(&self, t: usize, table: &[u32], place: &[u32], name: &Name) -> Option<usize>
+        ensures number { IfSome result (λ number. number_of self.now name.now ≡ Some number) }
+        ensures within { IfSome result (λ number. number < length self.now.marks) }
+    {
+        let base = self.bases.get(t)?;
+        let number = self
+            .guesses
+            .get(base.wrapping_add(rank_of(&self.trees, table, place)))?;
+        let other = self.names.get(*number)?;
+        if other.as_slice() != name.as_place().as_slice() {
+            return None;
+        }
+        Some(*number)
     }
 
     /// How many cells the tables before t name, which is the number of the first cell of its own.
@@ -207,6 +236,18 @@ impl Book {
     {
         self.marks.slice_mut(from..to)
     }
+}
+
+// How many places of a table stand before a place of it.
+fn rank_of(trees: &[CodeTree], table: &[u32], place: &[u32]) -> usize {
+    let mut rank: usize = 0;
+    for (k, variable) in table.iter().enumerate() {
+        if k < place.len() {
+            let size = size_at(trees, *variable);
+            rank = rank.wrapping_mul(size).wrapping_add(place[k] as usize);
+        }
+    }
+    rank
 }
 
 // The number at a place.

@@ -9,6 +9,7 @@ mod mark;
 mod names;
 mod numbering;
 mod places;
+mod questions;
 mod table_mut;
 #[cfg(test)]
 mod tests;

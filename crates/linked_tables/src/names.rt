@@ -31,7 +31,7 @@ impl Name {
     }
 
     /// The name as a place.
-    fn as_place(&self) -> &Place
+    pub(crate) fn as_place(&self) -> &Place
         ensures { result.now ≡ self.now }
     {
         &self.place

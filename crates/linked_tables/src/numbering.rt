@@ -21,6 +21,10 @@ const MOST_CELLS: usize = 20_000;
 pub(crate) struct Numbering {
     pub(crate) names: Names,
     pub(crate) starts: Vec<u32>,
+    /// The numbers of the cells at all places, table after table, as a guess.
+    pub(crate) guesses: Vec<usize>,
+    /// Where the guesses of each table begin.
+    pub(crate) bases: Vec<usize>,
 }
 
 /// Numbers the cells of tables.
@@ -37,13 +41,21 @@ pub(crate) fn number_cells(
 {
     let mut names = Names::new(alloc);
     let mut starts = Vec::new(alloc);
+    let mut guesses = Vec::new(alloc);
+    let mut bases = Vec::new(alloc);
     starts.push(0)?;
     'tables: for (t, table) in tables.iter().enumerate() {
         check_variables(trees.len(), t as u32, table.as_slice())?;
-        name_below(trees, t as u32, table, &[], &mut names)?;
+        bases.push(guesses.len())?;
+        name_below(trees, t as u32, table, &[], &mut names, &mut guesses)?;
         starts.push(names.len() as u32)?;
     }
-    Ok(Numbering { names, starts })
+    Ok(Numbering {
+        names,
+        starts,
+        guesses,
+        bases,
+    })
 }
 
 // Refuses a table that spans a variable that there isn't, or one twice.
@@ -67,6 +79,7 @@ fn name_below(
     table: &Place,
     place: &[u32],
     names: &mut Names,
+    guesses: &mut Vec<usize>,
 ) -> Result<(), BookFault>
     requires few { length trees.now ≤ 8 }
     requires begun { length place.now ≤ length table.now }
@@ -76,22 +89,32 @@ fn name_below(
 {
     if place.len() >= table.len() {
         let name = name_at(trees.len(), table.as_slice(), place);
-        return add_name(t, Name::new(name), names);
+        return add_name(t, Name::new(name), names, guesses);
     }
     let size = size_at(trees, table.as_slice()[place.len()]);
     'codes: for code in 0..size {
         let longer = with_code(place, code as u32);
-        name_below(trees, t, table, longer.as_slice(), names)?;
+        name_below(trees, t, table, longer.as_slice(), names, guesses)?;
     }
     Ok(())
 }
 
 // Adds a name, unless it is there already; refuses one that is too many.
-fn add_name(t: u32, name: Name, names: &mut Names) -> Result<(), BookFault>
+fn add_name(
+    t: u32,
+    name: Name,
+    names: &mut Names,
+    guesses: &mut Vec<usize>,
+) -> Result<(), BookFault>
     ensures names { OnOk result (capped t (with_name names.old name) ≡ Ok names.new) }
     ensures fault { IfErr result (λ fault. Fails (fault_of fault) (capped t (with_name names.old name))) }
 {
+    let number = match names.number_of(&name) {
+        Some(number) => number,
+        None => names.len(),
+    };
     names.add(name)?;
+    guesses.push(number)?;
     if names.len() > MOST_CELLS {
         return Err(BookFault::TooManyCells(t));
     }

@@ -23,6 +23,7 @@ pub(crate) fn know_trees(trees: &[CodeTree])
     ensures { All IsCodeTree trees.now }
 {
     'trees: for tree in trees {
+        // for the proof: a tree that tells its length says that it is a code tree
         let _ = tree.len();
     }
 }

@@ -101,6 +101,7 @@ fn code_tree(tree: CodeTree) -> CodeTree
     ensures same { result ≡ tree }
     ensures tree { IsCodeTree result }
 {
+    // for the proof: a tree that tells its length says that it is a code tree
     tree.len();
     tree
 }

@@ -27,3 +27,4 @@ pub use layout::{Field, Layout, NumberField, Source};
 pub use pieces::read_pieces;
 pub use reader::Reader;
 pub use records::Records;
+pub use sdc_base::Row;

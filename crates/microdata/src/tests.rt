@@ -1,7 +1,7 @@
 ghost use Rattle.std.specs.Prelude.{◌≡◌, ◌+◌, ◌<◌, ◌≤◌, All, IfOk, length};
 ghost use Rattle.microdata.specs.Layouts.{IsField, IsLayout, IsNumber, IsSource, IsWeight};
 
-use crate::{Field, Layout, NumberField, Reader, Records, RowError, RowWhy, Source};
+use crate::{Field, Layout, NumberField, Reader, Records, RowError, RowWhy, Source, read_pieces};
 use hierarchy::from_lead;
 use sdc_base::{Items, Memory, Text};
 use std::alloc::Global;
@@ -483,6 +483,37 @@ fn records_however_cut(rt: HostRuntime) -> Result<(), Fail> {
                 "{bytes:?} by {size}"
             );
         }
+    }
+    Ok(())
+}
+
+// What is read of pieces that are all there.
+fn read_texts(alloc: Global, pieces: &[&[u8]]) -> Result<Vec<u8>, RowError> {
+    let pieces = texts(alloc, pieces)?;
+    let layout = layout_of(alloc, Shape::Flat)?;
+    let records = read_pieces(alloc, layout, pieces.as_slice())?;
+    Ok(shown(alloc, &records)?)
+}
+
+// A record may begin in one piece and end in another, and a fault in an early piece is the answer.
+#[test]
+fn records_of_pieces(rt: HostRuntime) -> Result<(), Fail> {
+    let alloc = rt.alloc();
+    let rows: [(&[&[u8]], Result<&[u8], RowError>); 5] = [
+        (&[], Ok(b"Total b /0")),
+        (
+            &[b"c  1\na  2\nb  3"],
+            Ok(b"Total b a c |3 1 1|2 2 1|1 3 1/0"),
+        ),
+        (
+            &[b"c", b"", b"  1\na  2\n", b"b  3"],
+            Ok(b"Total b a c |3 1 1|2 2 1|1 3 1/0"),
+        ),
+        (&[b"a  1\nb 2", b"\n", b"c  1\n"], at(2, RowWhy::Short)),
+        (&[b"a  1\nb 2\n", b"c 1\n"], at(2, RowWhy::Short)),
+    ];
+    for (pieces, expected) in rows {
+        assert_eq!(rt; agrees(&read_texts(alloc, pieces), &expected), true);
     }
     Ok(())
 }

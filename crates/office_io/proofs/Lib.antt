@@ -1,3 +1,4 @@
 mod Places
 mod Puts
 mod Told
+pub mod Shelves

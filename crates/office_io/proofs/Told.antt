@@ -28,3 +28,8 @@ IsGot-longer file got (Some rest) n limit h within more bytes is =
     let same : bytes ≡ got ++ rest = cc in
     let fits : n ≤ length rest = within rest refl in
     omega (arith, ap length same, length-append got rest)
+
+pub IsGot-held : (file : Option (List ℕ)) (got : List ℕ) (left : Option (List ℕ)) → IsGot file got left → file ≢ None
+IsGot-held None got None h = absurd h
+IsGot-held None got (Some rest) h = absurd cc
+IsGot-held (Some bytes) got left h = λ none. absurd cc

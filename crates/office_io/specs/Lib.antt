@@ -1,2 +1,5 @@
 pub mod Files
+pub mod Shelves
+pub mod Trays
+pub mod Reading
 pub mod Memory

@@ -1,7 +1,8 @@
-ghost use Rattle.std.specs.Prelude.{◌≡◌, ◌≢◌, ◌-◌, ◌^◌, ◌≤◌, ◌<◌, Some, None, [], IfSome, IfNone, IfOk, OnOk, OnErr, IsErr, IsErrOf, Err, ◌↔◌, length, take, drop, option_map, true};
-ghost use Rattle.sdc_base.specs.Counts.{Rose, counted};
-ghost use Rattle.sdc_base.specs.Told.{WhereTold};
-ghost use Rattle.office_io.specs.Files.{file_of, name_at, bytes_at, rest_at, held_name};
+ghost use Rattle.std.specs.Prelude.{◌≡◌, ◌≢◌, ◌≤◌, ◌<◌, Some, None, [], IfSome, IfNone, IfOk, OnOk, OnErr, IsErr, IsErrOf, Err, ◌↔◌, length, take, true};
+ghost use Rattle.sdc_base.specs.Counts.{counted};
+ghost use Rattle.office_io.specs.Files.{file_of, name_at, bytes_at, rest_at};
+ghost use Rattle.office_io.specs.Shelves.{HasOnlyRead, HasBegun, HasChosen, HasFoundNone, HasNotLooked};
+ghost use Rattle.office_io.specs.Shelves.{HasGiven, HasNotRead, HasReadOnce};
 
 use crate::faults::{BeginFault, Failed};
 use crate::shelf::Shelf;
@@ -26,6 +27,7 @@ pub struct MemoryShelf {
     at: usize,
     known: bool,
     taken: u64,
+    reads: u64,
     faults: u64,
     absences: u64,
     ghost gives_some: { 1 ≤ piece },
@@ -40,12 +42,8 @@ impl MemoryShelf {
     /// numbers stand in `failing` fail, in any order. A read gives at most `piece` bytes, 1 or more.
     pub fn new(files: Vec<(Text, Vec<u8>)>, failing: Vec<u64>, piece: u32) -> MemoryShelf
         requires { 1 ≤ piece }
-        ensures files { ⟦<MemoryShelf as Shelf>⟧.files result ≡ Some (file_of files.items) }
-        ensures left { ⟦<MemoryShelf as Shelf>⟧.left result ≡ Some [] }
-        ensures taken { ⟦<MemoryShelf as Shelf>⟧.taken result ≡ 0 }
-        ensures last { ⟦<MemoryShelf as Shelf>⟧.last result ≡ None }
-        ensures faults { ⟦<MemoryShelf as Shelf>⟧.faults result ≡ 0 }
-        ensures absences { ⟦<MemoryShelf as Shelf>⟧.absences result ≡ 0 }
+        ensures state { ⟦<MemoryShelf as Shelf>⟧.state result
+            ≡ record { files = Some (file_of files.items); left = Some []; taken = 0; reads = 0; last = None; faults = 0; absences = 0 } }
         ensures calls { shelf_calls result ≡ 0 }
         ensures failing { shelf_failing result ≡ failing.items }
         ensures piece { shelf_piece result ≡ piece }
@@ -60,6 +58,7 @@ impl MemoryShelf {
             at: 0,
             known: true,
             taken: 0,
+            reads: 0,
             faults: 0,
             absences: 0,
         }
@@ -120,46 +119,37 @@ fn place_of(files: &[(Text, Vec<u8>)], name: &Text) -> Option<usize>
 }
 
 impl Shelf for MemoryShelf {
-    ghost use Rattle.std.specs.Prelude.{Some, [], option_and_then};
+    ghost use Rattle.std.specs.Prelude.{Some, option_and_then};
     ghost use Rattle.office_io.specs.Files.{file_of, name_at, rest_at};
-    ghost use Rattle.office_io.specs.Memory.{is_due, shelf_files, shelf_left, shelf_taken, shelf_last, shelf_faults, shelf_absences, shelf_calls, shelf_failing, shelf_piece};
+    ghost use Rattle.office_io.specs.Memory.{is_due, shelf_state, shelf_calls, shelf_failing, shelf_piece};
 
-    ghost files = { λ s. Some (file_of s.files.items) };
-
-    ghost left = { λ s. rest_at s.files.items s.known s.chosen s.at };
-
-    ghost taken = { λ s. s.taken };
-
-    ghost last = { λ s. option_and_then (name_at s.files.items) s.last };
-
-    ghost faults = { λ s. s.faults };
-
-    ghost absences = { λ s. s.absences };
+    ghost state = { λ s. record {
+      files = Some (file_of s.files.items);
+      left = rest_at s.files.items s.known s.chosen s.at;
+      taken = s.taken;
+      reads = s.reads;
+      last = option_and_then (name_at s.files.items) s.last;
+      faults = s.faults;
+      absences = s.absences;
+    } };
 
     fn begin(&mut self, name: &Text) -> Result<(), BeginFault>
-        ensures found { OnOk result (WhereTold (shelf_files self.old) (λ fs. shelf_left self.new ≡ fs name.now)) }
-        ensures held { OnOk result (WhereTold (shelf_files self.old) (λ fs. fs name.now ≢ None)) }
-        ensures not_held { IsErrOf result BeginFault.Absent → WhereTold (shelf_files self.old) (λ fs. fs name.now ≡ None) }
-        ensures absent { IsErrOf result BeginFault.Absent → Rose (shelf_absences self.old) (shelf_absences self.new) }
-        ensures failed { IsErrOf result BeginFault.Failed → Rose (shelf_faults self.old) (shelf_faults self.new) }
-        ensures refused { OnErr result (shelf_left self.new ≡ Some []) }
-        ensures none_taken { shelf_taken self.new ≡ 0 }
-        ensures same { shelf_files self.new ≡ shelf_files self.old }
-        ensures last { WhereTold (shelf_files self.old) (λ fs. shelf_last self.new ≡ held_name fs name.now) }
-        ensures faults_stay { shelf_faults self.old ≤ shelf_faults self.new }
-        ensures faults_end { shelf_faults self.old ≤ 2 ^ 64 - 1 → shelf_faults self.new ≤ 2 ^ 64 - 1 }
-        ensures absences_stay { shelf_absences self.old ≤ shelf_absences self.new }
-        ensures absences_end { shelf_absences self.old ≤ 2 ^ 64 - 1 → shelf_absences self.new ≤ 2 ^ 64 - 1 }
+        ensures chosen { OnOk result (HasChosen name.now (shelf_state self.old) (shelf_state self.new)) }
+        ensures absent { IsErrOf result BeginFault.Absent → HasFoundNone name.now (shelf_state self.old) (shelf_state self.new) }
+        ensures failed { IsErrOf result BeginFault.Failed → HasNotLooked (shelf_state self.old) (shelf_state self.new) }
+        ensures begun { HasBegun name.now (shelf_state self.old) (shelf_state self.new) }
+        ensures only_read { HasOnlyRead (shelf_state self.old) (shelf_state self.new) }
         ensures due { IsErrOf result BeginFault.Failed ↔ (is_due (shelf_failing self.old) (shelf_calls self.old) ≡ true) }
         ensures calls { shelf_calls self.new ≡ counted (shelf_calls self.old) 1 }
         ensures failing { shelf_failing self.new ≡ shelf_failing self.old }
         ensures piece_stays { shelf_piece self.new ≡ shelf_piece self.old }
-        ensures one_fault { IsErrOf result BeginFault.Failed → shelf_faults self.new ≡ counted (shelf_faults self.old) 1 }
-        ensures no_fault { (result ≢ Err BeginFault.Failed) → shelf_faults self.new ≡ shelf_faults self.old }
-        ensures one_absence { IsErrOf result BeginFault.Absent → shelf_absences self.new ≡ counted (shelf_absences self.old) 1 }
-        ensures no_absence { (result ≢ Err BeginFault.Absent) → shelf_absences self.new ≡ shelf_absences self.old }
+        ensures one_fault { IsErrOf result BeginFault.Failed → (shelf_state self.new).faults ≡ counted (shelf_state self.old).faults 1 }
+        ensures no_fault { (result ≢ Err BeginFault.Failed) → (shelf_state self.new).faults ≡ (shelf_state self.old).faults }
+        ensures one_absence { IsErrOf result BeginFault.Absent → (shelf_state self.new).absences ≡ counted (shelf_state self.old).absences 1 }
+        ensures no_absence { (result ≢ Err BeginFault.Absent) → (shelf_state self.new).absences ≡ (shelf_state self.old).absences }
     {
         self.taken = 0;
+        self.reads = 0;
         self.at = 0;
         self.known = true;
         self.chosen = None;
@@ -178,30 +168,20 @@ impl Shelf for MemoryShelf {
 
     fn read(&mut self, buffer: &mut [u8]) -> Result<usize, Failed>
         requires { 0 < length buffer.old }
-        ensures fits { IfOk result (λ n. n ≤ length buffer.old) }
-        ensures within { IfOk result (λ n. WhereTold (shelf_left self.old) (λ bytes. n ≤ length bytes)) }
-        ensures given { IfOk result (λ n. WhereTold (shelf_left self.old) (λ bytes. take n buffer.new ≡ take n bytes)) }
-        ensures rest { IfOk result (λ n. shelf_left self.new ≡ option_map (drop n) (shelf_left self.old)) }
-        ensures end { IfOk result (λ n. WhereTold (shelf_left self.old) (λ bytes. (n ≡ 0) ↔ (bytes ≡ []))) }
-        ensures taken { IfOk result (λ n. shelf_taken self.new ≡ counted (shelf_taken self.old) n) }
-        ensures failed { OnErr result (Rose (shelf_faults self.old) (shelf_faults self.new)) }
-        ensures unknown { OnErr result (shelf_left self.new ≡ None) }
-        ensures none_taken { OnErr result (shelf_taken self.new ≡ shelf_taken self.old) }
-        ensures same { shelf_files self.new ≡ shelf_files self.old }
-        ensures last { shelf_last self.new ≡ shelf_last self.old }
-        ensures faults_stay { shelf_faults self.old ≤ shelf_faults self.new }
-        ensures faults_end { shelf_faults self.old ≤ 2 ^ 64 - 1 → shelf_faults self.new ≤ 2 ^ 64 - 1 }
-        ensures absences_stay { shelf_absences self.old ≤ shelf_absences self.new }
-        ensures absences_end { shelf_absences self.old ≤ 2 ^ 64 - 1 → shelf_absences self.new ≤ 2 ^ 64 - 1 }
+        ensures given { IfOk result (λ n. HasGiven n buffer.old buffer.new (shelf_state self.old) (shelf_state self.new)) }
+        ensures failed { OnErr result (HasNotRead (shelf_state self.old) (shelf_state self.new)) }
+        ensures once { HasReadOnce (shelf_state self.old) (shelf_state self.new) }
+        ensures only_read { HasOnlyRead (shelf_state self.old) (shelf_state self.new) }
         ensures due { IsErr result ↔ (is_due (shelf_failing self.old) (shelf_calls self.old) ≡ true) }
         ensures piece { IfOk result (λ n. n ≤ shelf_piece self.old) }
         ensures calls { shelf_calls self.new ≡ counted (shelf_calls self.old) 1 }
         ensures failing { shelf_failing self.new ≡ shelf_failing self.old }
         ensures piece_stays { shelf_piece self.new ≡ shelf_piece self.old }
-        ensures one_fault { OnErr result (shelf_faults self.new ≡ counted (shelf_faults self.old) 1) }
-        ensures no_fault { OnOk result (shelf_faults self.new ≡ shelf_faults self.old) }
-        ensures no_absence { shelf_absences self.new ≡ shelf_absences self.old }
+        ensures one_fault { OnErr result ((shelf_state self.new).faults ≡ counted (shelf_state self.old).faults 1) }
+        ensures no_fault { OnOk result ((shelf_state self.new).faults ≡ (shelf_state self.old).faults) }
+        ensures no_absence { (shelf_state self.new).absences ≡ (shelf_state self.old).absences }
     {
+        self.reads = self.reads.saturating_add(1);
         if self.next_fails() {
             self.faults = self.faults.saturating_add(1);
             self.known = false;

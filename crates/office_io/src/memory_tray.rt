@@ -1,8 +1,9 @@
-ghost use Rattle.std.specs.Prelude.{◌≡◌, ◌≢◌, ℕ, List, ◌-◌, ◌/◌, ◌^◌, ◌≤◌, take, length, true, false, Err, IsErrOf, Some, None, option_map, OnOk, OnErr, IfErr};
-ghost use Rattle.sdc_base.specs.Counts.{Rose, counted};
+ghost use Rattle.std.specs.Prelude.{◌≡◌, ◌≢◌, ℕ, List, ◌/◌, take, length, true, false, IsErrOf, Some, None, option_map, OnOk, OnErr, IfErr};
+ghost use Rattle.sdc_base.specs.Counts.{counted};
 ghost use Rattle.sdc_base.specs.Told.{WhereTold};
-ghost use Rattle.office_io.specs.Files.{file_of, put, told_file};
-ghost use Rattle.office_io.specs.Memory.{is_due, tray_files, tray_faults, tray_puts, tray_failing};
+ghost use Rattle.office_io.specs.Files.{file_of, put};
+ghost use Rattle.office_io.specs.Memory.{is_due, tray_state, tray_failing};
+ghost use Rattle.office_io.specs.Trays.{HasPut, HasPutInPart, LeavesOthers};
 
 use crate::faults::PutFault;
 use crate::tray::Tray;
@@ -31,9 +32,7 @@ impl MemoryTray {
     ///
     /// It takes no memory now, and keeps the allocator for its files.
     pub fn new(alloc: Global, failing: Vec<u64>) -> MemoryTray
-        ensures empty { ⟦<MemoryTray as Tray>⟧.files result ≡ Some (λ _. None) }
-        ensures faults { ⟦<MemoryTray as Tray>⟧.faults result ≡ 0 }
-        ensures puts { tray_puts result ≡ 0 }
+        ensures empty { ⟦<MemoryTray as Tray>⟧.state result ≡ record { files = Some (λ _. None); puts = 0; faults = 0 } }
         ensures failing { tray_failing result ≡ failing.items }
     {
         MemoryTray {
@@ -48,7 +47,7 @@ impl MemoryTray {
     /// The bytes of the file of this name, lent, or none where it is not held. It goes through all puts
     /// from the last one on, until it finds the name.
     pub fn file(&self, name: &Text) -> Option<&[u8]>
-        ensures { WhereTold (⟦<MemoryTray as Tray>⟧.files self.now) (λ fs. option_map (λ bytes. bytes.now) result ≡ fs name.now) }
+        ensures { WhereTold (⟦<MemoryTray as Tray>⟧.state self.now).files (λ fs. option_map (λ bytes. bytes.now) result ≡ fs name.now) }
     {
         for (held, bytes) in &self.files {
             if held.equals(name) {
@@ -81,31 +80,22 @@ impl MemoryTray {
 }
 
 impl Tray for MemoryTray {
+    ghost use Rattle.std.specs.Prelude.{Some};
     ghost use Rattle.office_io.specs.Files.{file_of};
 
-    ghost files = { λ s. Some (file_of s.files.items) };
-
-    ghost faults = { λ s. s.faults };
-
-    ghost puts = { λ s. s.puts };
+    ghost state = { λ s. record { files = Some (file_of s.files.items); puts = s.puts; faults = s.faults } };
 
     fn put(&mut self, name: &Text, bytes: &[u8]) -> Result<(), PutFault>
-        ensures put { OnOk result (tray_files self.new ≡ option_map (λ fs. put fs name.now bytes.now) (tray_files self.old)) }
-        ensures failed { IsErrOf result PutFault.Failed → Rose (tray_faults self.old) (tray_faults self.new) }
-        ensures part { IsErrOf result PutFault.Failed → (n : ℕ) × (tray_files self.new ≡ option_map (λ fs. put fs name.now (take n bytes.now)) (tray_files self.old)) }
-        ensures same { IsErrOf result PutFault.Memory → tray_files self.new ≡ tray_files self.old }
-        ensures no_fault { IsErrOf result PutFault.Memory → tray_faults self.new ≡ tray_faults self.old }
-        ensures others { (other : List ℕ) → other ≢ name.now → told_file (tray_files self.new) other ≡ told_file (tray_files self.old) other }
-        ensures faults_stay { tray_faults self.old ≤ tray_faults self.new }
-        ensures faults_end { tray_faults self.old ≤ 2 ^ 64 - 1 → tray_faults self.new ≤ 2 ^ 64 - 1 }
-        ensures due { OnOk result (is_due (tray_failing self.old) (tray_puts self.old) ≡ false) }
-        ensures not_due { IsErrOf result PutFault.Failed → is_due (tray_failing self.old) (tray_puts self.old) ≡ true }
-        ensures half { IsErrOf result PutFault.Failed → tray_files self.new ≡ option_map (λ fs. put fs name.now (take (length bytes.now / 2) bytes.now)) (tray_files self.old) }
-        ensures counted { (result ≢ Err PutFault.Memory) → tray_puts self.new ≡ counted (tray_puts self.old) 1 }
-        ensures not_counted { IsErrOf result PutFault.Memory → tray_puts self.new ≡ tray_puts self.old }
+        ensures put { OnOk result (HasPut name.now bytes.now (tray_state self.old) (tray_state self.new)) }
+        ensures failed { IsErrOf result PutFault.Failed → HasPutInPart name.now bytes.now (tray_state self.old) (tray_state self.new) }
+        ensures memory { IsErrOf result PutFault.Memory → tray_state self.new ≡ tray_state self.old }
+        ensures others { LeavesOthers name.now (tray_state self.old) (tray_state self.new) }
+        ensures due { OnOk result (is_due (tray_failing self.old) (tray_state self.old).puts ≡ false) }
+        ensures not_due { IsErrOf result PutFault.Failed → is_due (tray_failing self.old) (tray_state self.old).puts ≡ true }
+        ensures half { IsErrOf result PutFault.Failed → HasPut name.now (take (length bytes.now / 2) bytes.now) (tray_state self.old) (tray_state self.new) }
         ensures failing { tray_failing self.new ≡ tray_failing self.old }
-        ensures one_fault { IsErrOf result PutFault.Failed → tray_faults self.new ≡ counted (tray_faults self.old) 1 }
-        ensures fine { OnOk result (tray_faults self.new ≡ tray_faults self.old) }
+        ensures one_fault { IsErrOf result PutFault.Failed → (tray_state self.new).faults ≡ counted (tray_state self.old).faults 1 }
+        ensures fine { OnOk result ((tray_state self.new).faults ≡ (tray_state self.old).faults) }
     {
         let number = self.puts.saturating_add(1);
         if self.failing.contains(&number) {

@@ -1,7 +1,8 @@
-ghost use Rattle.std.specs.Prelude.{◌≡◌, ◌≢◌, ◌+◌, ◌-◌, ◌^◌, ◌≤◌, ◌<◌, ◌↔◌, length, None, Some, IfOk, IsErrOf, OnOk, IfErr, ◌++◌};
+ghost use Rattle.std.specs.Prelude.{◌≡◌, ◌≢◌, ◌+◌, ◌^◌, ◌≤◌, ◌<◌, ◌↔◌, length, None, Some, IfOk, IsErrOf, OnOk, IfErr, ◌++◌};
 ghost use Rattle.sdc_base.specs.Counts.{Rose};
 ghost use Rattle.sdc_base.specs.Told.{WhereTold};
-ghost use Rattle.office_io.specs.Files.{held_name};
+ghost use Rattle.office_io.specs.Shelves.{HasOnlyRead};
+ghost use Rattle.office_io.specs.Reading.{IsWhole, IsAbsent, IsTooLong, HasLookedFor};
 
 use crate::faults::{BeginFault, FileFault};
 use crate::shelf::Shelf;
@@ -15,7 +16,7 @@ use std::alloc::Global;
 /// `limit + 1` bytes were taken from the shelf, so no more are ever read; `Memory`, where the
 /// bytes find no room. Whatever the answer, the shelf's files are as before.
 ///
-/// Every read but the last takes a byte, so it returns for every shelf, after at most `limit + 2`
+/// Every read but the last takes a byte, so it returns for every shelf, after at most `limit + 1`
 /// reads. It asks for up to 4,096 bytes at a time. The bytes are copied once out of the buffer,
 /// and again where the vector grows.
 pub fn read_all<S: Shelf>(
@@ -25,22 +26,13 @@ pub fn read_all<S: Shelf>(
     limit: u64,
 ) -> Result<Vec<u8>, FileFault>
     requires { limit < 2 ^ 62 }
-    ensures file { IfOk result (λ v. WhereTold (S.files shelf.old) (λ fs. fs name.now ≡ Some v.items)) }
-    ensures short { IfOk result (λ v. length v.items ≤ limit) }
-    ensures taken { IfOk result (λ v. S.taken shelf.new ≡ length v.items) }
-    ensures not_held { IsErrOf result FileFault.Absent → WhereTold (S.files shelf.old) (λ fs. fs name.now ≡ None) }
-    ensures absent { IsErrOf result FileFault.Absent → Rose (S.absences shelf.old) (S.absences shelf.new) }
-    ensures failed { IsErrOf result FileFault.Failed → Rose (S.faults shelf.old) (S.faults shelf.new) }
-    ensures too_long { IsErrOf result FileFault.TooLong ↔ (S.taken shelf.new ≡ limit + 1) }
-    ensures longer { IsErrOf result FileFault.TooLong → WhereTold (S.files shelf.old) (λ fs. WhereTold (fs name.now) (λ bytes. limit < length bytes)) }
-    ensures held { IsErrOf result FileFault.TooLong → WhereTold (S.files shelf.old) (λ fs. fs name.now ≢ None) }
-    ensures no_more { S.taken shelf.new ≤ limit + 1 }
-    ensures same { S.files shelf.new ≡ S.files shelf.old }
-    ensures last { WhereTold (S.files shelf.old) (λ fs. S.last shelf.new ≡ held_name fs name.now) }
-    ensures faults_stay { S.faults shelf.old ≤ S.faults shelf.new }
-    ensures faults_end { S.faults shelf.old ≤ 2 ^ 64 - 1 → S.faults shelf.new ≤ 2 ^ 64 - 1 }
-    ensures absences_stay { S.absences shelf.old ≤ S.absences shelf.new }
-    ensures absences_end { S.absences shelf.old ≤ 2 ^ 64 - 1 → S.absences shelf.new ≤ 2 ^ 64 - 1 }
+    ensures whole { IfOk result (λ bytes. IsWhole name.now limit bytes.items (S.state shelf.old) (S.state shelf.new)) }
+    ensures absent { IsErrOf result FileFault.Absent → IsAbsent name.now (S.state shelf.old) (S.state shelf.new) }
+    ensures failed { IsErrOf result FileFault.Failed → Rose (S.state shelf.old).faults (S.state shelf.new).faults }
+    ensures too_long { IsErrOf result FileFault.TooLong ↔ ((S.state shelf.new).taken ≡ limit + 1) }
+    ensures longer { IsErrOf result FileFault.TooLong → IsTooLong name.now limit (S.state shelf.old) }
+    ensures looked_for { HasLookedFor name.now limit (S.state shelf.old) (S.state shelf.new) }
+    ensures only_read { HasOnlyRead (S.state shelf.old) (S.state shelf.new) }
 {
     match shelf.begin(name) {
         Ok(()) => {}

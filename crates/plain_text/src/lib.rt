@@ -11,6 +11,7 @@ mod tests;
 mod units;
 mod units_text;
 mod whole_numbers;
+mod wide_numbers;
 
 pub use blanks::{is_blank_byte, trim};
 pub use cuts::{cut_at, cut_at_blank};
@@ -24,3 +25,4 @@ pub use sdc_base::NumberFault;
 pub use units::read_units;
 pub use units_text::print_units;
 pub use whole_numbers::number_in;
+pub use wide_numbers::wide_number_in;

@@ -8,7 +8,7 @@ use Rattle.sdc_base.specs.declared.rows.Row.{Row}
 use Rattle.sdc_base.specs.declared.facts.CellFacts.{CellFacts}
 use Rattle.sdc_base.specs.declared.rule.Rule.{Rule}
 use Rattle.sdc_base.specs.declared.rule.Rule.TheVariants as rule
-use Rattle.sdc_base.proofs.Kept.{tells_largest}
+use Rattle.sdc_base.proofs.Reordering.{tells_largest}
 use Rattle.primary_rules.specs.Kept.{AreFactsOf, AgreeUpTo, KeptAreEnough}
 
 from_start : (most : ℕ) (rules : List Rule) → most ≤ fold (λ most one. max most (looks_at one)) most rules
@@ -46,5 +46,5 @@ pub facts_agree : (facts : CellFacts) (trees : List Tree) (name : Name) (rows : 
 facts_agree facts trees name rows are = record {
   truth = are.truth;
   freq = are.freq;
-  largest = λ n few. tells_largest facts.tops.scale facts.tops.keep n (contributions trees name rows) facts.tops.list are.tops facts.tops.heavy few;
+  largest = λ n few. tells_largest n (contributions trees name rows) facts.tops are.tops facts.tops.heavy few;
 }

@@ -4,8 +4,6 @@ ghost use Rattle.rda_meta.specs.Rows.{FourLines, Realistic, Files, LateClash, So
 ghost use Rattle.rda_meta.specs.Laws.{IsLenient, IsLenientToEnds, IsLenientToLineEnds, IsInOrder, IsReadAgain, IsRoundTrip, IsSpelling};
 ghost use Rattle.rda_meta.specs.Meaning.{IsMeant, IsCounted};
 
-use plain_text::{joined_lines, joined_lines_with_returns, last_line_without_end};
-
 /// Line ends, blank lines and blanks at the ends of lines change nothing but the line of a fault; and
 /// where no line is put in or taken out, nothing at all. So LF, CR and LF, and no end of the last line
 /// are alike.
@@ -14,11 +12,7 @@ pub fn leniency()
     ensures lines { IsLenient }
     ensures ends { IsLenientToEnds }
     ensures line_ends { IsLenientToLineEnds }
-{
-    joined_lines();
-    joined_lines_with_returns();
-    last_line_without_end();
-}
+{}
 
 /// The fault that is given is that of the first line that has one; where no line has one, that of the
 /// first variable of which the lines say what doesn't go together, at the variable's line.
@@ -43,9 +37,7 @@ pub fn spelling()
     ensures round_trip { IsRoundTrip }
     ensures text { IsReadAgain }
     ensures lines { IsSpelling }
-{
-    joined_lines();
-}
+{}
 
 /// Worked texts and what they say.
 #[tactic(auto, using(crate::proofs::RowsHold::four_lines, crate::proofs::RowsHold::realistic, crate::proofs::RowsHold::files, crate::proofs::RowsHold::late_clash, crate::proofs::RowsHold::some_canonical))]

@@ -27,7 +27,7 @@ use Rattle.linked_tables.specs.Shared.{cells, IsBook, IsTable}
 use Rattle.linked_tables.proofs.Finding.{named-found, found-name}
 use Rattle.relations.specs.Having.{has_spanned}
 use Rattle.relations.specs.Holding.{AreTruths, HaveNoChildren, sum_in, truth_at}
-use Rattle.relations.proofs.Lists.{all-nothing, read-at}
+use Rattle.sdc_base.proofs.GrowingLists.{all-nothing, read-at}
 use Rattle.relations.proofs.Tables.{cell-of_trees, spanned-other}
 
 -- ---- what holds of all of a list

@@ -1,4 +1,2 @@
-pub mod Children
 pub mod Tables
-pub mod Lists
 pub mod Holding

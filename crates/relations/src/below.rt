@@ -1,6 +1,5 @@
-ghost use Rattle.std.specs.Prelude.{◌≡◌, ◌<◌, ◌^◌, ◌++◌, ◌==◌, [], not, length, slice_index, slice_index_or, slice_set, option_to_list, All, IfOk, OnOk};
+ghost use Rattle.std.specs.Prelude.{◌≡◌, ◌<◌, ◌^◌, ◌++◌, ◌==◌, [], not, length, slice_index, slice_set, option_to_list, All, IfOk, OnOk};
 ghost use Rattle.sdc_base.specs.Relations.{codes_below, number_among, parts_among};
-ghost use Rattle.hierarchy.specs.Children.{first_child, next_sibling};
 ghost use Rattle.linked_tables.specs.Shared.{cells as cells_in, IsBook};
 
 use arrayvec::ArrayVec;
@@ -24,19 +23,21 @@ pub(crate) fn parts_of(
     ensures named { IfOk result (λ parts. All (λ part. part < length book.now.marks) parts) }
 {
     let mut parts = Vec::new(alloc);
-    let mut met = first_below(book, name, variable);
+    let mut met = book.first_child(variable, code_for(name, variable));
     'children: while let Some(child) = met {
         add_part(book, name, variable, child, &mut parts)?;
-        met = next_beside(book, variable, child);
+        met = book.next_sibling(variable, child);
     }
     Ok(Items::new(parts))
 }
 
 /// Whether there are codes right below the name's code for the variable.
 pub(crate) fn has_below(book: &Book, name: &Place, variable: u32) -> bool
+    requires { variable < length name.now }
     ensures { result ≡ not (length (codes_below book.now.trees name.now variable) == 0) }
 {
-    first_below(book, name, variable).is_some()
+    book.first_child(variable, code_for(name, variable))
+        .is_some()
 }
 
 // Adds the cell that has this code for the variable, where there is one.
@@ -69,32 +70,10 @@ fn with_code(name: &Place, variable: u32, code: u32) -> Place
     Few::new(codes)
 }
 
-// The first code right below the name's code for the variable.
-fn first_below(book: &Book, name: &Place, variable: u32) -> Option<u32>
-    ensures { result ≡ first_child (slice_index_or book.now.trees variable []) (slice_index name.now variable) }
-{
-    match book.tree(variable) {
-        Some(tree) => tree.first_child(code_at(name.as_slice(), variable)),
-        None => None,
-    }
-}
-
-// The next code that has the same parent.
-fn next_beside(book: &Book, variable: u32, code: u32) -> Option<u32>
-    ensures { result ≡ next_sibling (slice_index_or book.now.trees variable []) code }
-{
-    match book.tree(variable) {
-        Some(tree) => tree.next_sibling(code),
-        None => None,
-    }
-}
-
-// The code of a name for a variable, and the total's where it has none.
-fn code_at(name: &[u32], variable: u32) -> u32
+// The code of a name for the variable.
+fn code_for(name: &Place, variable: u32) -> u32
+    requires { variable < length name.now }
     ensures { result ≡ slice_index name.now variable }
 {
-    match name.get(variable as usize) {
-        Some(code) => *code,
-        None => 0,
-    }
+    name.as_slice()[variable as usize]
 }

@@ -87,6 +87,7 @@ fn add_relation(
 fn has_relation(book: &Book, name: &Place, variable: u32) -> bool
     requires book { IsBook book.now }
     requires cell { is_named (cells_in book.now) name.now ≡ true }
+    requires known { variable < length name.now }
     ensures { result ≡ (spanned book.now.trees book.now.tables name.now variable && not (length (codes_below book.now.trees name.now variable) == 0)) }
 {
     is_spanned(book, name, variable) && has_below(book, name, variable)

@@ -1,61 +1,15 @@
 ghost use Rattle.std.specs.Prelude.{◌≡◌, length, IfOk};
 
 use crate::{components, relations_of};
-use hierarchy::{CodeTree, flat, from_lead};
-use linked_tables::{Book, BookFault};
-use sdc_base::{Few, Hidden, Items, Memory, Place, Relation, System, Text};
+use linked_tables::Book;
+use sdc_base::{Hidden, Items, Memory, Relation, System};
 use std::alloc::Global;
 use std::rt::HostRuntime;
 use std::test::Fail;
+use worked::{pairs, places, regions};
 
 // A relation: the total, and the parts.
 type Sum<'a> = (u32, &'a [u32]);
-
-fn text(alloc: Global, bytes: &[u8]) -> Result<Text, Fail> {
-    Ok(Text::new(Vec::from_slice(alloc, bytes)?))
-}
-
-// The total and two other codes.
-fn two_codes(alloc: Global) -> Result<CodeTree, Fail> {
-    let mut codes = Vec::new(alloc);
-    codes.push(text(alloc, b"1")?)?;
-    codes.push(text(alloc, b"2")?)?;
-    Ok(flat(alloc, codes.as_slice(), &text(alloc, b"Total")?)?)
-}
-
-// The total, and by their places 1 N, 2 and 3 below it, 4 S, and 5 below it.
-fn regions(alloc: Global) -> Result<CodeTree, Fail> {
-    let lead = text(alloc, b"@")?;
-    let total = text(alloc, b"Total")?;
-    if lead.as_slice().is_empty() {
-        return two_codes(alloc);
-    }
-    let bytes = b"N\n@N1\n@N2\nS\n@S1\n".as_slice();
-    Ok(from_lead(alloc, bytes, &lead, &total)?)
-}
-
-fn place_of(codes: &[u32]) -> Place {
-    let mut place = Few::empty();
-    for code in codes {
-        let at = place.len();
-        if at < 8 {
-            place.insert(at, *code);
-        }
-    }
-    place
-}
-
-// The book of tables over these trees, of which there are few.
-fn book_of(alloc: Global, trees: Vec<CodeTree>, tables: &[&[u32]]) -> Result<Book, Fail> {
-    let mut spanned = Vec::new(alloc);
-    for table in tables {
-        spanned.push(place_of(table))?;
-    }
-    if trees.len() > 8 || spanned.len() > 100 {
-        return Err(Fail::from(BookFault::Memory));
-    }
-    Ok(Book::new(alloc, trees, spanned)?)
-}
 
 // The relations are these, in this order.
 fn are(relations: &[Relation], sums: &[Sum<'_>]) -> bool {
@@ -98,11 +52,7 @@ fn grouped(
 #[test]
 fn two_way_table(rt: HostRuntime) -> Result<(), Fail> {
     let alloc = rt.alloc();
-    let mut trees = Vec::new(alloc);
-    trees.push(two_codes(alloc)?)?;
-    trees.push(two_codes(alloc)?)?;
-    let tables: &[&[u32]] = &[&[0, 1]];
-    let book = book_of(alloc, trees, tables)?;
+    let book = Book::new(alloc, pairs(alloc, 2)?, places(alloc, &[&[0, 1]])?)?;
     let system = relations_of(alloc, &book)?;
     let sums: &[Sum<'_>] = &[
         (0, &[3, 6]),
@@ -153,12 +103,7 @@ fn two_way_table(rt: HostRuntime) -> Result<(), Fail> {
 #[test]
 fn linked_tables(rt: HostRuntime) -> Result<(), Fail> {
     let alloc = rt.alloc();
-    let mut trees = Vec::new(alloc);
-    trees.push(two_codes(alloc)?)?;
-    trees.push(two_codes(alloc)?)?;
-    trees.push(two_codes(alloc)?)?;
-    let tables: &[&[u32]] = &[&[0, 1], &[0, 2]];
-    let book = book_of(alloc, trees, tables)?;
+    let book = Book::new(alloc, pairs(alloc, 3)?, places(alloc, &[&[0, 1], &[0, 2]])?)?;
     let system = relations_of(alloc, &book)?;
     let sums: &[Sum<'_>] = &[
         (0, &[3, 6]),
@@ -204,9 +149,7 @@ fn two_levels(rt: HostRuntime) -> Result<(), Fail> {
     let alloc = rt.alloc();
     let mut trees = Vec::new(alloc);
     trees.push(regions(alloc)?)?;
-    trees.push(two_codes(alloc)?)?;
-    let tables: &[&[u32]] = &[&[0]];
-    let book = book_of(alloc, trees, tables)?;
+    let book = Book::new(alloc, trees, places(alloc, &[&[0]])?)?;
     let system = relations_of(alloc, &book)?;
     let sums: &[Sum<'_>] = &[(0, &[1, 4]), (1, &[2, 3]), (4, &[5])];
     assert_eq!(rt; system.cells, 6);

@@ -60,12 +60,6 @@ codes-length trees [] place (suc k) inside long = absurd (omega arith)
 codes-length trees (variable ∷ table) [] (suc k) inside long = absurd (omega arith)
 codes-length trees (variable ∷ table) (code ∷ place) (suc k) inside long = ap suc (codes-length trees table place k (omega arith) (omega arith))
 
--- a variable that there isn't has no codes
-pub code-none : (trees : List Tree) (variable code : ℕ) → slice_get trees variable ≡ None → code_in (slice_index_or trees variable []) code ≡ []
-code-none [] variable code none = refl
-code-none (tree ∷ trees) zero code none = absurd (grind (arith, none))
-code-none (tree ∷ trees) (suc variable) code none = code-none trees variable code none
-
 -- what a list shows that begins with this
 pub first-shows : (names : List (List ℕ)) (name : List ℕ) (i : ℕ) → i + 1 ≡ 1 → name ≡ get_or names i name → 0 < length (slice_index_or names 0 []) → 0 < length name
 first-shows [] name i one is some = absurd (omega (arith, some))

@@ -71,11 +71,5 @@ read-at [] t table h = absurd (grind (arith, h))
 read-at (first ∷ tables) zero table h = grind (arith, h)
 read-at (first ∷ tables) (suc t) table h = read-at tables t table h
 
--- a variable that there isn't has no codes
-pub size-none : (trees : List Tree) (variable : ℕ) → slice_get trees variable ≡ None → 0 ≡ length (slice_index_or trees variable [])
-size-none [] variable none = refl
-size-none (tree ∷ trees) zero none = absurd (grind (arith, none))
-size-none (tree ∷ trees) (suc variable) none = size-none trees variable none
-
 pub same-some : (a b : List ℕ) → Some a ≡ Some b → a ≡ b
 same-some a b h = grind (arith, h)

@@ -16,7 +16,7 @@ same-lines : (f g : List ℕ → List ℕ) (xs : List (List ℕ)) → ((x : List
 same-lines f g [] same = refl
 same-lines f g (x ∷ xs) same = ap (λ t. t ++ flat_map f xs) (same x) ∙ ap (λ t. g x ++ t) (same-lines f g xs same)
 
-same-text : (trees : List Tree) (table : List ℕ) (names : List (List ℕ)) (decimals : ℕ) (one other : Name → Option ℤ) → ((name : Name) → one name ≡ other name) → table_text trees table names decimals one ≡ table_text trees table names decimals other
+pub same-text : (trees : List Tree) (table : List ℕ) (names : List (List ℕ)) (decimals : ℕ) (one other : Name → Option ℤ) → ((name : Name) → one name ≡ other name) → table_text trees table names decimals one ≡ table_text trees table names decimals other
 same-text trees table names decimals one other same =
     ap (λ t. line_text names ++ t)
     (same-lines
@@ -25,7 +25,7 @@ same-text trees table names decimals one other same =
     (places (trees_of trees table))
     (λ place. ap (λ number. line_text (codes_of_place (trees_of trees table) place ++ shown_text decimals number ∷ [])) (same (name_of (length trees) table place))))
 
-then-same : (f g : ℕ → Option ℤ) (cell : Option ℕ) → ((n : ℕ) → f n ≡ g n) → option_and_then f cell ≡ option_and_then g cell
+pub then-same : (f g : ℕ → Option ℤ) (cell : Option ℕ) → ((n : ℕ) → f n ≡ g n) → option_and_then f cell ≡ option_and_then g cell
 then-same f g None same = refl
 then-same f g (Some cell) same = same cell
 

@@ -3,3 +3,9 @@ pub mod BegunLines
 pub mod BegunPlaces
 pub mod ShownText
 pub mod Entering
+pub mod ReadSteps
+pub mod ReadTables
+pub mod Behind
+pub mod ReadBack
+pub mod HaveTexts
+pub mod Rounded

@@ -45,15 +45,12 @@ pub(crate) fn write_place(
     end_line(writer)
 }
 
-// A code of a variable.
+// A code of a variable, and nothing where it has no such code, as the definition reads it.
 fn code_at(book: &Book, variable: u32, code: u32) -> &[u8]
     ensures { result.now ≡ code_in (slice_index_or book.now.trees variable []) code }
 {
-    match book.tree(variable) {
-        Some(tree) => match tree.code(code) {
-            Some(bytes) => bytes,
-            None => &[],
-        },
+    match book.code(variable, code) {
+        Some(bytes) => bytes,
         None => &[],
     }
 }

@@ -2,6 +2,7 @@ ghost use Rattle.std.specs.Prelude.{◌≡◌, ◌≤◌, ◌<◌, [], true, fal
 ghost use Rattle.std.specs.Option.{ForSome};
 ghost use Rattle.sdc_base.specs.TableText.{shown_text};
 ghost use Rattle.linked_tables.specs.Shared.{named, is_in};
+ghost use Rattle.release_writer.specs.Sheets.{IsFromZero};
 ghost use Rattle.release_writer.specs.Shown.{CanBeShown, open_truth, shown_in, shows};
 
 use crate::shown::Shown;
@@ -25,7 +26,16 @@ pub(crate) fn number_text(
     requires shown { CanBeShown book.now shown }
     ensures text { IfOk result (λ text. text ≡ shown_text decimals (shows book.now shown.entry (named book.now (slice_index_or book.now.tables t []) place.now))) }
 {
-    match shown_at(book, t, place, shown) {
+    value_text(alloc, decimals, shown_at(book, t, place, shown))
+}
+
+/// The text of what a cell shows, with `x` for nothing.
+pub(crate) fn value_text(alloc: Global, decimals: u8, value: Option<i128>) -> Result<Text, Memory>
+    requires decimals { decimals ≤ 13 }
+    requires from_zero { IsFromZero value }
+    ensures text { IfOk result (λ text. text ≡ shown_text decimals value) }
+{
+    match value {
         Some(number) => print_units(alloc, number, decimals),
         None => Ok(Text::new(Vec::from_slice(alloc, b"x")?)),
     }

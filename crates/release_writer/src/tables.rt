@@ -55,8 +55,8 @@ pub fn table_bytes(
     bytes_of(writer)
 }
 
-// The bytes that a writer has written.
-fn bytes_of(writer: Writer<Vec<u8>>) -> Result<Vec<u8>, Memory>
+/// The bytes that a writer has written.
+pub(crate) fn bytes_of(writer: Writer<Vec<u8>>) -> Result<Vec<u8>, Memory>
     ensures text { IfOk result (λ bytes. Some bytes.items ≡ written writer) }
 {
     match writer.into_inner() {
@@ -65,8 +65,8 @@ fn bytes_of(writer: Writer<Vec<u8>>) -> Result<Vec<u8>, Memory>
     }
 }
 
-// A writer behind the line of a table's names.
-fn begin(alloc: Global, names: &[Text]) -> Result<Writer<Vec<u8>>, Memory>
+/// A writer behind the line of a table's names.
+pub(crate) fn begin(alloc: Global, names: &[Text]) -> Result<Writer<Vec<u8>>, Memory>
     requires some { 0 < length names.now }
     ensures ready { IfOk result IsReady }
     ensures text { IfOk result (λ writer. written writer ≡ Some (line_text names.now)) }
@@ -117,7 +117,7 @@ fn write_below(
     if place.len() >= page.table.len() {
         return write_whole(alloc, writer, page, place);
     }
-    let size = size_at(page.book, page.table.as_slice()[place.len()]);
+    let size = page.book.size(page.table.as_slice()[place.len()]);
     'codes: for code in 0..size {
         let longer = with_code(place, code as u32);
         write_below(alloc, writer, page, longer.as_slice())?;
@@ -148,15 +148,4 @@ fn write_whole(
         place,
         number.as_slice(),
     )
-}
-
-// How many codes a variable has, the total included.
-fn size_at(book: &Book, variable: u32) -> usize
-    ensures size { result ≡ length (slice_index_or book.now.trees variable []) }
-    ensures small { result ≤ 5001 }
-{
-    match book.tree(variable) {
-        Some(tree) => tree.len(),
-        None => 0,
-    }
 }

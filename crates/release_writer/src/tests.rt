@@ -3,48 +3,19 @@ ghost use Rattle.sdc_base.specs.Numbers.{too_wide};
 ghost use Rattle.release_writer.specs.Shown.{CanBeShown};
 
 use crate::{Shown, table_bytes};
-use hierarchy::{CodeTree, flat};
 use linked_tables::{Book, Mark};
-use sdc_base::{Few, Hidden, Items, Place, Text};
+use sdc_base::{Hidden, Items, Text};
 use std::alloc::Global;
 use std::rt::HostRuntime;
 use std::test::Fail;
-
-fn text(alloc: Global, bytes: &[u8]) -> Result<Text, Fail> {
-    Ok(Text::new(Vec::from_slice(alloc, bytes)?))
-}
-
-fn texts(alloc: Global, names: &[&[u8]]) -> Result<Vec<Text>, Fail> {
-    let mut list = Vec::new(alloc);
-    for name in names {
-        list.push(text(alloc, name)?)?;
-    }
-    Ok(list)
-}
-
-// The total and these codes.
-fn tree_of(alloc: Global, codes: &[&[u8]]) -> Result<CodeTree, Fail> {
-    Ok(flat(alloc, &texts(alloc, codes)?, &text(alloc, b"Total")?)?)
-}
+use worked::{places, texts, tree};
 
 // A book of one table over A, with a, and another over B, with `"c,`, and A.
 fn two_tables(alloc: Global) -> Result<Book, Fail> {
     let mut trees = Vec::new(alloc);
-    trees.push(tree_of(alloc, &[b"a"])?)?;
-    trees.push(tree_of(alloc, &[b"\"c,"])?)?;
-    let mut tables = Vec::new(alloc);
-    tables.push(spanning(0, None))?;
-    tables.push(spanning(1, Some(0)))?;
-    Ok(Book::new(alloc, trees, tables)?)
-}
-
-fn spanning(first: u32, second: Option<u32>) -> Place {
-    let mut table: Place = Few::empty();
-    table.insert(0, first);
-    if let Some(variable) = second {
-        table.insert(1, variable);
-    }
-    table
+    trees.push(tree(alloc, &[b"a"])?)?;
+    trees.push(tree(alloc, &[b"\"c,"])?)?;
+    Ok(Book::new(alloc, trees, places(alloc, &[&[0], &[1, 0]])?)?)
 }
 
 fn are_narrow(numbers: &[i128]) -> bool
@@ -53,7 +24,7 @@ fn are_narrow(numbers: &[i128]) -> bool
     numbers.iter().all(|number| 0 <= *number && *number < 10000000000000000000000000000000000000)
 }
 
-fn are_from_zero(marks: &[Mark]) -> bool
+pub(crate) fn are_from_zero(marks: &[Mark]) -> bool
     ensures { result ≡ true → All (λ mark. pos 0 ≤ℤ mark.facts.truth) marks.now }
 {
     marks.iter().all(|mark| 0 <= mark.facts.truth)

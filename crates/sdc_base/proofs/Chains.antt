@@ -1,5 +1,5 @@
 -- Chains of related cells, joined and turned round.
-use Rattle.std.proofs.Common.{◌≡◌, ℕ, zero, suc, Bool, List, true, refl, sym, subst}
+use Rattle.std.proofs.Common.{◌≡◌, ℕ, zero, suc, Bool, List, refl, sym, subst}
 use Rattle.sdc_base.specs.declared.relation.Relation.{Relation}
 use Rattle.sdc_base.specs.Components.{AreRelated, IsChain, Linked}
 

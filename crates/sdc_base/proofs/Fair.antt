@@ -9,7 +9,7 @@ use Rattle.sdc_base.specs.Largest.{placed, ranked, first_steps}
 use Rattle.sdc_base.specs.Shares.{weight_from, weight_above, shares_from, RankingIsFair}
 
 -- f of each with the weight before it, in the order of a ranked list
-abbrev along : (Contribution → ℕ → ℤ) → ℕ → List Contribution → ℤ
+abbrev pub along : (Contribution → ℕ → ℤ) → ℕ → List Contribution → ℤ
 along f before [] = pos 0
 along f before (x ∷ xs) = f x before +ℤ along f (before + x.weight) xs
 
@@ -19,11 +19,11 @@ each f earlier [] = pos 0
 each f earlier (x ∷ later) = f x (weight_from x.value earlier + weight_above x.value later) +ℤ each f (earlier ++ x ∷ []) later
 
 -- one more contribution stands before those of lower value
-abbrev moved_by : Contribution → (Contribution → ℕ → ℤ) → Contribution → ℕ → ℤ
+abbrev pub moved_by : Contribution → (Contribution → ℕ → ℤ) → Contribution → ℕ → ℤ
 moved_by new f x before = f x (if int_lt x.value new.value then before + new.weight else before)
 
 -- by value downwards
-abbrev IsDown : List Contribution → Type 0
+abbrev pub IsDown : List Contribution → Type 0
 IsDown [] = Unit {0}
 IsDown (x ∷ xs) = AllByRecursion (λ y. y.value ≤ℤ x.value) xs × IsDown xs
 
@@ -51,7 +51,7 @@ all_moved f new before (x ∷ xs) lower =
     rw (test, rest) (ap (λ t. f x (before + new.weight) +ℤ t) (all_moved f new (before + x.weight) xs lower.1))
 
 -- placing one more
-along_placed : (f : Contribution → ℕ → ℤ) (before : ℕ) (xs : List Contribution) (new : Contribution) → IsDown xs → along f before (placed xs new) ≡ f new (before + weight_from new.value xs) +ℤ along (moved_by new f) before xs
+pub along_placed : (f : Contribution → ℕ → ℤ) (before : ℕ) (xs : List Contribution) (new : Contribution) → IsDown xs → along f before (placed xs new) ≡ f new (before + weight_from new.value xs) +ℤ along (moved_by new f) before xs
 along_placed f before [] new down = let none : before + 0 ≡ before = omega arith in rw none refl
 along_placed f before (x ∷ xs) new down =
     elim (int_lt x.value new.value) as (λ b. int_lt x.value new.value ≡ b → along f before (if b then new ∷ x ∷ xs else x ∷ placed xs new) ≡ f new (before + weight_from new.value (x ∷ xs)) +ℤ along (moved_by new f) before (x ∷ xs)) [
@@ -89,7 +89,7 @@ each_push f earlier (x ∷ later) new =
     let joined : (earlier ++ x ∷ []) ++ later ≡ earlier ++ x ∷ later = append_assoc earlier (x ∷ []) later in
     omega (arith, ints, own, each_push f (earlier ++ x ∷ []) later new, ap (λ t. f new (weight_from new.value t)) joined)
 
-sum_by-placed : (f : Contribution → ℕ) (xs : List Contribution) (new : Contribution) → sum_by f (placed xs new) ≡ f new + sum_by f xs
+pub sum_by-placed : (f : Contribution → ℕ) (xs : List Contribution) (new : Contribution) → sum_by f (placed xs new) ≡ f new + sum_by f xs
 sum_by-placed f [] new = omega (arith, sum_by-cons f new [])
 sum_by-placed f (x ∷ xs) new =
     elim (int_lt x.value new.value) as (λ b. sum_by f (if b then new ∷ x ∷ xs else x ∷ placed xs new) ≡ f new + sum_by f (x ∷ xs)) [
@@ -107,7 +107,7 @@ lower_all : (new x : Contribution) (xs : List Contribution) → x.value <ℤ new
 lower_all new x [] less all = tt
 lower_all new x (y ∷ xs) less all = (omega (arith, ints, all.0), lower_all new x xs less all.1)
 
-down_placed : (xs : List Contribution) (new : Contribution) → IsDown xs → IsDown (placed xs new)
+pub down_placed : (xs : List Contribution) (new : Contribution) → IsDown xs → IsDown (placed xs new)
 down_placed [] new down = (tt, tt)
 down_placed (x ∷ xs) new down =
     let rest : IsDown (placed xs new) = down_placed xs new down.1 in
@@ -135,7 +135,7 @@ fair_rest done (new ∷ rest) down weights fair f =
 
 -- ---- the steps
 
-first_along : (steps before : ℕ) (xs : List Contribution) → first_steps (steps - before) xs ≡ along (λ unit n. pos (min unit.weight (steps - n)) *ℤ unit.value) before xs
+pub first_along : (steps before : ℕ) (xs : List Contribution) → first_steps (steps - before) xs ≡ along (λ unit n. pos (min unit.weight (steps - n)) *ℤ unit.value) before xs
 first_along steps before [] = refl
 first_along steps before (x ∷ xs) =
     let rest : (steps - before) - x.weight ≡ steps - (before + x.weight) = omega arith in

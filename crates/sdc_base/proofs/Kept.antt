@@ -1,12 +1,12 @@
 -- The first units of a ranked list are enough for the largest contributions.
-use Rattle.std.proofs.Common.{◌≡◌, ℕ, zero, suc, ◌+◌, ◌-◌, ◌*◌, ◌<◌, ◌≤◌, min, true, false, not, cond, List, [], ◌∷◌, ◌++◌, take, drop, length, get_or, insert, All, pos, ◌+ℤ◌, ◌*ℤ◌, int_lt, arith, refl, ap, sym, subst, ◌∙◌, mul-le-mul_right, if◌then◌else◌}
+use Rattle.std.proofs.Common.{◌≡◌, ℕ, zero, suc, ◌+◌, ◌-◌, ◌*◌, ◌<◌, ◌≤◌, min, true, false, not, cond, List, [], ◌∷◌, ◌++◌, take, drop, length, get_or, insert, All, pos, ◌+ℤ◌, ◌*ℤ◌, int_lt, arith, refl, ap, sym, ◌∙◌, if◌then◌else◌}
 use Rattle.std.proofs.lemmas.Int.{ints}
 use Rattle.std.specs.List.{position_or_len}
 use Rattle.std.proofs.lemmas.List.{take-take, drop_more}
 use Rattle.std.proofs.lemmas.List.Elements.{All-head, All-tail, All-cons, All-take}
 use Rattle.std.proofs.lemmas.List.Sums.{fold_push, position_or_len_is}
 use Rattle.sdc_base.specs.declared.tops.Unit.{Unit as Contribution}
-use Rattle.sdc_base.specs.Largest.{placed, ranked, first_steps, largest, AreHeavy}
+use Rattle.sdc_base.specs.Largest.{placed, ranked, first_steps, AreHeavy}
 
 take_less : (k n : ℕ) (xs : List Contribution) → k ≤ n → take k (take n xs) ≡ take k xs
 take_less k n xs h = take-take k n xs h
@@ -93,12 +93,7 @@ pub tells_more : (keep : ℕ) (units list : List Contribution) (new : Contributi
 tells_more keep units list new told =
     ap (λ t. take keep (placed t new)) told ∙ take-placed keep (ranked units) new ∙ sym (ap (λ t. take keep t) (fold_push placed [] units new))
 
--- ---- what a short list tells
-
-pub tells_largest : (scale keep n : ℕ) (units list : List Contribution) → list ≡ take keep (ranked units) → AreHeavy scale list → n ≤ keep → first_steps (n * scale) list ≡ largest scale n units
-tells_largest scale keep n units list told heavy few =
-    let Heavy : List Contribution → Type 0 = λ t. AreHeavy scale t in
-    ap (λ t. first_steps (n * scale) t) told ∙ kept_are_enough scale keep (n * scale) (ranked units) (subst Heavy told heavy) (mul-le-mul_right scale few)
+-- ---- the steps
 
 pub steps_more : (left i : ℕ) (xs : List Contribution) (d : Contribution) → i < length xs → first_steps left (drop i xs) ≡ pos (min (get_or xs i d).weight left) *ℤ (get_or xs i d).value +ℤ first_steps (left - (get_or xs i d).weight) (drop (i + 1) xs)
 steps_more left i xs d within = ap (λ t. first_steps left t) (drop_more xs i d within)

@@ -12,6 +12,8 @@ pub mod Products
 pub mod Truths
 pub mod Kept
 pub mod Fair
+pub mod Joining
+pub mod Reordering
 pub mod SmallTables
 pub mod PlaceLists
 pub mod Chains
@@ -19,3 +21,5 @@ pub mod Forest
 pub mod Shortening
 pub mod Numbering
 pub mod Connecting
+pub mod GrowingLists
+pub mod ListReads

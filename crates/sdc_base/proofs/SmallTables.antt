@@ -1,6 +1,6 @@
 -- The small tables, reckoned.
 use Rattle.std.proofs.Common.{refl}
-use Rattle.sdc_base.specs.Examples.{FlatTable, WeightSteps, LastInPart, TwoLevels, SharedMargins, RelationRows, RuleRows}
+use Rattle.sdc_base.specs.Examples.{FlatTable, WeightSteps, LastInPart, TwoLevels, SharedMargins, RelationRows, RuleRows, CubeRows}
 
 pub flat_table : FlatTable
 flat_table = record { cells = refl; sums = refl; counts = refl; none = refl; fewer = refl; named = refl; empty = refl }
@@ -22,3 +22,6 @@ relation_rows = record { two_way = refl; linked = refl; levels = refl; not_spann
 
 pub rule_rows : RuleRows
 rule_rows = record { dominance = refl; percent = refl; both = refl; at_bound = refl; at_percent = refl; frequency = refl; nothing = refl; unit = refl }
+
+pub cube_rows : CubeRows
+cube_rows = record { of_code = refl; of_total = refl; inner = refl; outer = refl; order = refl }

@@ -23,7 +23,7 @@ abbrev pub value_of : Numbers → List Term → ℤ
 value_of numbers terms = sum_of (λ term. term.1 *ℤ numbers term.0) terms
 
 -- a form so many times comes to so many times what the form is
-value_of-form_times : (numbers : Numbers) (times : ℤ) (r : Relation) → value_of numbers (form_times times r) ≡ times *ℤ form numbers r
+pub value_of-form_times : (numbers : Numbers) (times : ℤ) (r : Relation) → value_of numbers (form_times times r) ≡ times *ℤ form numbers r
 value_of-form_times numbers times r =
     sum_of-cons (λ (t : Term). t.1 *ℤ numbers t.0) (r.total, times) (map (λ part. (part, neg_ℤ times)) r.parts)
     ∙ omega (arith, ints, sum_of-map (λ (t : Term). t.1 *ℤ numbers t.0) (λ part. (part, neg_ℤ times)) r.parts, times_sum (neg_ℤ times) numbers r.parts, minus_times times (sum_of numbers r.parts), distrib times (numbers r.total) (neg_ℤ (sum_of numbers r.parts)), *ℤ_comm times (neg_ℤ (sum_of numbers r.parts)), minus_times (sum_of numbers r.parts) times, *ℤ_comm times (sum_of numbers r.parts))
@@ -68,7 +68,7 @@ weighted_is_none numbers relations (m ∷ multipliers) hold =
     sum_of-append (λ (t : Term). t.1 *ℤ numbers t.0) terms (weighted_forms relations multipliers)
     ∙ omega (arith, ints, weighted_is_none numbers relations multipliers hold, zero_form)
 
-terms_inside : (n : ℕ) (times : ℤ) (r : Relation) → NamesCells n r → All (λ (t : Term). t.0 < n) (form_times times r)
+pub terms_inside : (n : ℕ) (times : ℤ) (r : Relation) → NamesCells n r → All (λ (t : Term). t.0 < n) (form_times times r)
 terms_inside n times r inside = All-cons (λ (t : Term). t.0 < n) (r.total, times) (map (λ part. (part, neg_ℤ times)) r.parts) inside.total_named (All-map (λ (t : Term). t.0 < n) (λ (part : ℕ). (part, neg_ℤ times)) r.parts inside.parts_named)
 
 pub weighted_inside : (n : ℕ) (relations : List Relation) (multipliers : List Term) → All (NamesCells n) relations → All (λ (t : Term). t.0 < n) (weighted_forms relations multipliers)

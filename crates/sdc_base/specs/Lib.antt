@@ -8,7 +8,6 @@ pub mod Blanks
 pub mod Tokens
 pub mod Numbers
 pub mod Trees
-pub mod Nodes
 pub mod Records
 pub mod Cells
 pub mod CellOrder
@@ -22,12 +21,16 @@ pub mod Totals
 pub mod AddingUp
 pub mod Relations
 pub mod Systems
+pub mod Kinds
 pub mod HiddenSets
 pub mod Components
 pub mod Forests
 pub mod Worlds
 pub mod Forms
 pub mod Refutations
+pub mod Grounds
+pub mod Cubes
+pub mod Subtables
+pub mod Trails
 pub mod Examples
 pub mod TableText
-pub mod CertificateText

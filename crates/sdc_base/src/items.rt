@@ -1,4 +1,4 @@
-ghost use Rattle.std.specs.Prelude.{◌≡◌, ◌++◌, ◌∷◌, [], OnOk, OnErr, IfNone, IfSome};
+ghost use Rattle.std.specs.Prelude.{◌≡◌, ◌++◌, ◌∷◌, ◌<◌, [], length, slice_set, OnOk, OnErr, IfNone, IfSome};
 
 use crate::memory::Memory;
 use std::alloc::Global;
@@ -74,5 +74,13 @@ impl<T: Drop> Items<T> {
             Ok(()) => Ok(()),
             Err(_) => Err(Memory),
         }
+    }
+
+    /// Puts an item in the place of the one that stands at `at`.
+    pub fn set(&mut self, at: usize, item: T)
+        requires { at < length self.old }
+        ensures { self.new ≡ slice_set self.old at item }
+    {
+        self.items[at] = item;
     }
 }

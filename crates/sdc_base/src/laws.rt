@@ -4,7 +4,7 @@ ghost use Rattle.sdc_base.specs.Trees.{UnderIsTested, FlatIsCodeTree};
 ghost use Rattle.sdc_base.specs.Records.{FallsWhereUnderInEach};
 ghost use Rattle.sdc_base.specs.CellOrder.{PlacesAreLexicographic, NamesAreFirst};
 ghost use Rattle.sdc_base.specs.Shares.{RankingIsFair};
-ghost use Rattle.sdc_base.specs.Examples.{FlatTable, WeightSteps, LastInPart, TwoLevels, SharedMargins, RelationRows, RuleRows};
+ghost use Rattle.sdc_base.specs.Examples.{FlatTable, WeightSteps, LastInPart, TwoLevels, SharedMargins, RelationRows, RuleRows, CubeRows};
 ghost use Rattle.sdc_base.specs.AddingUp.{TablesAddUp};
 
 /// The test of being under says of each place of a code tree what the walk of its parents says.
@@ -44,7 +44,7 @@ pub fn ranking_is_fair()
 {}
 
 /// The definitions give what small tables come to by hand.
-#[tactic(auto, using(crate::proofs::SmallTables::flat_table, crate::proofs::SmallTables::weight_steps, crate::proofs::SmallTables::last_in_part, crate::proofs::SmallTables::two_levels, crate::proofs::SmallTables::shared_margins, crate::proofs::SmallTables::relation_rows, crate::proofs::SmallTables::rule_rows))]
+#[tactic(auto, using(crate::proofs::SmallTables::flat_table, crate::proofs::SmallTables::weight_steps, crate::proofs::SmallTables::last_in_part, crate::proofs::SmallTables::two_levels, crate::proofs::SmallTables::shared_margins, crate::proofs::SmallTables::relation_rows, crate::proofs::SmallTables::rule_rows, crate::proofs::SmallTables::cube_rows))]
 pub fn examples()
     ensures flat_table { FlatTable }
     ensures weight_steps { WeightSteps }
@@ -53,6 +53,7 @@ pub fn examples()
     ensures shared_margins { SharedMargins }
     ensures relation_rows { RelationRows }
     ensures rule_rows { RuleRows }
+    ensures cube_rows { CubeRows }
 {}
 
 /// In every table a total's truth is the sum of its children's, for each variable, where no record has a code with

@@ -35,8 +35,8 @@ pub trait TopList {
         ensures { (units : List Contribution) → tells self.now units → result ≡ largest (scale self.now) n units };
 }
 
-/// The largest contributions of a cell by value, of equal values the earlier first, as many as it
-/// keeps. They are enough for the sums over the n largest, up to as many.
+/// The largest contributions of a cell by value, as many as it keeps. They are enough for the sums over
+/// the n largest, up to as many: which of several of equal value it keeps changes none of these sums.
 #[derive(Drop)]
 pub struct Tops {
     pub keep: u8,
@@ -63,12 +63,49 @@ impl Tops {
         ensures keep { result.keep ≡ keep }
         ensures scale { result.scale ≡ scale }
         ensures tells { Tells result [] }
+        ensures empty { result.list ≡ [] }
     {
         Tops {
             keep,
             scale,
             list: Few::empty(),
         }
+    }
+
+    /// The same list.
+    pub fn copy(&self) -> Tops
+        ensures keep { result.keep ≡ self.now.keep }
+        ensures scale { result.scale ≡ self.now.scale }
+        ensures list { result.list ≡ self.now.list }
+    {
+        Tops {
+            keep: self.keep,
+            scale: self.scale,
+            list: self.list.copy(),
+        }
+    }
+
+    /// Takes what another list was offered, which keeps as many and at no lower scale.
+    pub fn join(&mut self, other: &Tops)
+        requires keep { self.old.keep ≤ other.now.keep }
+        requires scale { self.old.scale ≤ other.now.scale }
+        ensures keep { self.new.keep ≡ self.old.keep }
+        ensures scale { self.new.scale ≡ self.old.scale }
+        ensures tells { (units more : List Contribution) → Tells self.old units → Tells other.now more → Tells self.new (units ++ more) }
+    {
+        'units: for unit in other.list.as_slice() {
+            self.put(*unit);
+        }
+    }
+
+    // Puts one more contribution in its place, and keeps the first ones.
+    fn put(&mut self, new: Unit)
+        requires { self.old.scale ≤ new.weight }
+        ensures keep { self.new.keep ≡ self.old.keep }
+        ensures scale { self.new.scale ≡ self.old.scale }
+        ensures list { self.new.list ≡ take self.old.keep (placed self.old.list new) }
+    {
+        put_in(&mut self.list, self.keep as usize, new);
     }
 
     /// The sum of value times weight over the n largest contributions that it keeps, where `scale` weight steps make a
@@ -97,7 +134,7 @@ impl TopList for Tops {
     ghost tells = { Tells };
 
     fn offer(&mut self, value: i64, weight: u32) {
-        put_in(&mut self.list, self.keep as usize, Unit { value, weight });
+        self.put(Unit { value, weight });
     }
 
     fn top(&self, n: u8) -> i128 {

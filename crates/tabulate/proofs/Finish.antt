@@ -1,12 +1,12 @@
 -- From the first list that is made ready to the last record that is given.
-use Rattle.std.proofs.Common.{◌≡◌, ℕ, zero, suc, ◌+◌, ◌-◌, ◌*◌, ◌^◌, ◌<◌, ◌≤◌, nat_lt, min, Bool, true, false, cond, List, [], ◌∷◌, ◌++◌, length, fold, filter, slice_get, slice_index_or, if◌then◌else◌, Option, None, Some, option_map, All, refl, ap, sym, ◌∙◌, subst, arith, ℤ, pos, negsuc, ◌+ℤ◌, ◌*ℤ◌, ◌≤ℤ◌, ◌<ℤ◌, ◌||◌}
+use Rattle.std.proofs.Common.{◌≡◌, ℕ, zero, suc, ◌+◌, ◌-◌, ◌*◌, ◌^◌, ◌<◌, ◌≤◌, nat_lt, min, Bool, true, false, cond, List, [], ◌∷◌, ◌++◌, length, sum_by, fold, filter, slice_get, slice_index_or, if◌then◌else◌, Option, None, Some, option_map, All, refl, ap, sym, ◌∙◌, subst, arith, ℤ, pos, negsuc, ◌+ℤ◌, ◌*ℤ◌, ◌≤ℤ◌, ◌<ℤ◌, ◌||◌}
 use Rattle.std.specs.List.{flat_map}
 use Rattle.std.specs.Option.{option_map_or}
 use Rattle.std.proofs.Math.Nat.{mul-le-mul_left}
 use Rattle.std.proofs.lemmas.Bool.Decides.{nat_tests}
 use Rattle.std.proofs.lemmas.Int.{ints}
 use Rattle.std.proofs.lemmas.List.{take_all}
-use Rattle.std.proofs.lemmas.List.Elements.{All-head, All-tail}
+use Rattle.std.proofs.lemmas.List.Elements.{All-head, All-tail, All-nil}
 use Rattle.std.proofs.lemmas.List.Folds.{list_any-append}
 use Rattle.std.proofs.lemmas.Option.{slice_get_within, get_or_from_slice_get}
 use Rattle.std.specs.Str.{bytes_eq}
@@ -20,12 +20,15 @@ use Rattle.linked_tables.specs.declared.mark.Mark.{Mark}
 use Rattle.linked_tables.specs.Held.{Held}
 use Rattle.linked_tables.specs.Shared.{IsBook, cells, first_own}
 use Rattle.linked_tables.proofs.Sharing.{name-long}
-use Rattle.tabulate.specs.Holding.{AreFine, AreGiven, Holds, hidden_at, kept_at, kept_of}
-use Rattle.tabulate.specs.Giving.{GaveAll, rows_for}
-use Rattle.tabulate.specs.Starting.{Started}
+use Rattle.tabulate.specs.MarkRecords.{HaveOneScale, HaveScalesWithin, MarksHoldRecords, HoldsRecords, hidden_at, settings_at, settings_of, worth}
+use Rattle.tabulate.specs.RecordsByPlace.{GaveRecords, rows_for, variables_of}
+use Rattle.tabulate.specs.UpperCells.{PassedRecords, after_variables}
+use Rattle.tabulate.specs.EmptyLists.{HaveEmptyLists}
 use Rattle.tabulate.specs.Tabulated.{AreTabulated, HasNone, IsRow, TellsOf}
 use Rattle.tabulate.proofs.Standing.{named-where}
-use Rattle.tabulate.proofs.Whole.{IsOf, given-next, given_to}
+use Rattle.tabulate.proofs.MarkSteps.{holds-turned, sum-is}
+use Rattle.tabulate.proofs.PlaceSteps.{given-as}
+use Rattle.tabulate.proofs.Whole.{IsOf, given-next, given_to, placed_in, spanned-is}
 
 -- what is kept of a cell whose list was made ready
 abbrev pub started_at : List Mark → ℕ → ℕ → ℕ → Option (Bool × (ℕ × ℕ))
@@ -48,28 +51,27 @@ read-none-past (x ∷ xs) (suc k) h = let rest = read-none-past xs k h in omega 
 
 -- ---- before the first table
 
-pub started-kept : (old new : Held) (keep scale : ℕ) → Started old new keep scale (length old.marks) → (cell : ℕ) → kept_at new.marks cell ≡ started_at old.marks keep scale cell
+pub started-kept : (old new : Held) (keep scale : ℕ) → HaveEmptyLists old new keep scale (length old.marks) → (cell : ℕ) → settings_at new.marks cell ≡ started_at old.marks keep scale cell
 started-kept old new keep scale started cell = by (slice_get old.marks cell) refl
   where
-    by : (found : Option Mark) → slice_get old.marks cell ≡ found → kept_at new.marks cell ≡ option_map (λ mark. (mark.hidden, (keep, scale))) found
-    by None at = let long = started.long in let past = read-none-past old.marks cell at in ap (option_map kept_of) (read-past new.marks cell (omega (arith, long, past)))
+    by : (found : Option Mark) → slice_get old.marks cell ≡ found → settings_at new.marks cell ≡ option_map (λ mark. (mark.hidden, (keep, scale))) found
+    by None at = let long = started.long in let past = read-none-past old.marks cell at in ap (option_map settings_of) (read-past new.marks cell (omega (arith, long, past)))
     by (Some before) at =
         let below = slice_get_within old.marks cell before at in
         let long = started.long in
         let after = read-within new.marks cell (omega (arith, long, below)) in
         let is = started.ready cell before after.0 below at after.1 in
-        ap (option_map kept_of) after.1 ∙ ap (λ hidden. Some (hidden, (after.0.facts.tops.keep, after.0.facts.tops.scale))) is.hidden ∙ ap (λ kept. Some (before.hidden, (kept, after.0.facts.tops.scale))) is.keeps ∙ ap (λ scaled. Some (before.hidden, (keep, scaled))) is.scaled
+        ap (option_map settings_of) after.1 ∙ ap (λ hidden. Some (hidden, (after.0.facts.tops.keep, after.0.facts.tops.scale))) is.hidden ∙ ap (λ kept. Some (before.hidden, (kept, after.0.facts.tops.scale))) is.keeps ∙ ap (λ scaled. Some (before.hidden, (keep, scaled))) is.scaled
 
-pub started-given : (old new : Held) (keep scale : ℕ) (rows : List Row) → Started old new keep scale (length old.marks) → All HasNone old.marks → AreGiven new.marks (given_to old rows 0)
+pub started-given : (old new : Held) (keep scale : ℕ) (rows : List Row) → HaveEmptyLists old new keep scale (length old.marks) → All HasNone old.marks → MarksHoldRecords new.marks (given_to old rows 0)
 started-given old new keep scale rows started none = λ cell mark at.
     let below = slice_get_within new.marks cell mark at in
     let long = started.long in
     let before = read-within old.marks cell (omega (arith, long, below)) in
     let is = started.ready cell before.0 mark (slice_get_within old.marks cell before.0 before.1) before.1 at in
     let empty : HasNone before.0 = subst HasNone (get_or_from_slice_get old.marks cell before.0 before.0 before.1) (none cell before.0 (slice_get_within old.marks cell before.0 before.1)) in
-    subst (Holds mark) (nothing cell) (record {
-      sum = 0;
-      sum_is = refl;
+    subst (HoldsRecords mark) (nothing cell) (record {
+      from_zero = All-nil (λ (row : Row). pos 0 ≤ℤ row.value);
       truth = is.truth ∙ empty.truth;
       freq = is.freq ∙ empty.freq;
       largest = is.none;
@@ -93,36 +95,58 @@ cell-long : (book : Held) (cell : ℕ) (name : Name) → slice_get (cells book) 
 cell-long book cell name at = long-among book.trees book.tables name (sym (names_are_first.all (flat_map (named_by book.trees) book.tables) name) ∙ named-where (cells book) cell name at)
 
 -- a cell that has a mark has a name
-cell-name : (book now : Held) (keep scale cell : ℕ) (mark : Mark) → IsBook book → kept_at now.marks cell ≡ started_at book.marks keep scale cell → slice_get now.marks cell ≡ Some mark → (name : Name) × (slice_get (cells book) cell ≡ Some name)
-cell-name book now keep scale cell mark is kept at = by (slice_get book.marks cell) refl (sym (ap (option_map kept_of) at) ∙ kept)
+cell-name : (book now : Held) (keep scale cell : ℕ) (mark : Mark) → IsBook book → settings_at now.marks cell ≡ started_at book.marks keep scale cell → slice_get now.marks cell ≡ Some mark → (name : Name) × (slice_get (cells book) cell ≡ Some name)
+cell-name book now keep scale cell mark is kept at = by (slice_get book.marks cell) refl (sym (ap (option_map settings_of) at) ∙ kept)
   where
-    by : (found : Option Mark) → slice_get book.marks cell ≡ found → Some (kept_of mark) ≡ option_map (λ one. (one.hidden, (keep, scale))) found → (name : Name) × (slice_get (cells book) cell ≡ Some name)
+    by : (found : Option Mark) → slice_get book.marks cell ≡ found → Some (settings_of mark) ≡ option_map (λ one. (one.hidden, (keep, scale))) found → (name : Name) × (slice_get (cells book) cell ≡ Some name)
     by None at eq = cc
     by (Some one) at eq =
         let below = slice_get_within book.marks cell one at in
         let each = is.one_each in
         read-within (cells book) cell (omega (arith, below, each))
 
-pub table-given : (book now next : Held) (keep scale : ℕ) (rows : List Row) (t first : ℕ) (table : List ℕ) → IsBook book → All (IsOf book.trees) rows → slice_get book.tables t ≡ Some table → now ≡ record book { marks = now.marks }
-    → ((cell : ℕ) → kept_at next.marks cell ≡ started_at book.marks keep scale cell) → first ≡ first_own now t → GaveAll now next t first rows → AreGiven now.marks (given_to book rows t) → AreGiven next.marks (given_to book rows (t + 1))
-table-given book now next keep scale rows t first table is good at frame kept start all given = λ cell mark here.
+pub table-given : (book now mid next : Held) (keep scale : ℕ) (rows : List Row) (t first past : ℕ) (table : List ℕ) → IsBook book → All (IsOf book.trees) rows → slice_get book.tables t ≡ Some table → now ≡ record book { marks = now.marks }
+    → ((cell : ℕ) → settings_at next.marks cell ≡ started_at book.marks keep scale cell) → first ≡ first_own now t → past ≡ first_own mid (t + 1) → GaveRecords now mid t first rows → PassedRecords mid next (after_variables mid first past (variables_of mid t)) → MarksHoldRecords now.marks (given_to book rows t)
+    → MarksHoldRecords next.marks (given_to book rows (t + 1))
+table-given book now mid next keep scale rows t first past table is good at frame kept start stop all passed given = λ cell mark here.
     let name = cell-name book next keep scale cell mark is (kept cell) here in
+    let framed : mid ≡ record book { marks = mid.marks } = all.frame ∙ ap (λ (b : Held). record b { marks = mid.marks }) frame in
     let own : first ≡ first_own book t = start ∙ ap (λ (b : Held). first_own b t) frame in
-    let same : given_to book rows t cell ++ rows_for now t first rows cell ≡ given_to book rows (t + 1) cell =
-    ap (λ (b : Held). given_to book rows t cell ++ rows_for b t first rows cell) frame
-    ∙ ap (λ n. given_to book rows t cell ++ rows_for book t n rows cell) own
-    ∙ given-next book rows t table cell name.0 is good at name.1 (cell-long book cell name.0 name.1)
+    let last : past ≡ first_own book (t + 1) = stop ∙ ap (λ (b : Held). first_own b (t + 1)) framed in
+    let spans : variables_of mid t ≡ table = ap (λ (b : Held). variables_of b t) framed ∙ spanned-is book t table at in
+    let each : (one : ℕ) → given_to book rows t one ++ rows_for now t first rows one ≡ placed_in book rows t one = λ one.
+    ap (λ (b : Held). given_to book rows t one ++ rows_for b t first rows one) frame ∙ ap (λ n. given_to book rows t one ++ rows_for book t n rows one) own
     in
-    subst (Holds mark) same (all.given (given_to book rows t) given cell mark here)
+    let placed : MarksHoldRecords mid.marks (placed_in book rows t) = given-as mid.marks (λ one. given_to book rows t one ++ rows_for now t first rows one) (placed_in book rows t) each (all.given (given_to book rows t) given) in
+    let same : after_variables mid first past (variables_of mid t) (placed_in book rows t) cell ≡ after_variables book (first_own book t) (first_own book (t + 1)) table (placed_in book rows t) cell =
+    ap (λ (b : Held). after_variables b first past (variables_of mid t) (placed_in book rows t) cell) framed
+    ∙ ap (λ n. after_variables book n past (variables_of mid t) (placed_in book rows t) cell) own
+    ∙ ap (λ n. after_variables book (first_own book t) n (variables_of mid t) (placed_in book rows t) cell) last
+    ∙ ap (λ some. after_variables book (first_own book t) (first_own book (t + 1)) some (placed_in book rows t) cell) spans
+    in
+    holds-turned mark (after_variables book (first_own book t) (first_own book (t + 1)) table (placed_in book rows t) cell) (given_to book rows (t + 1) cell)
+    (given-next book rows t table cell name.0 is good at name.1 (cell-long book cell name.0 name.1))
+    (subst (HoldsRecords mark) same (passed.given (placed_in book rows t) placed cell mark here))
+
+-- all keep as many and have one scale
+pub even-started : (book now : Held) (keep scale : ℕ) → ((cell : ℕ) → settings_at now.marks cell ≡ started_at book.marks keep scale cell) → HaveOneScale now.marks
+even-started book now keep scale kept = λ cell other mark one at there.
+    let first = by mark (slice_get book.marks cell) (sym (ap (option_map settings_of) at) ∙ kept cell) in
+    let second = by one (slice_get book.marks other) (sym (ap (option_map settings_of) there) ∙ kept other) in
+    (first.0 ∙ sym second.0, first.1 ∙ sym second.1)
+  where
+    by : (mark : Mark) (found : Option Mark) → Some (settings_of mark) ≡ option_map (λ one. (one.hidden, (keep, scale))) found → (mark.facts.tops.keep ≡ keep) × (mark.facts.tops.scale ≡ scale)
+    by mark None eq = cc
+    by mark (Some one) eq = (ap (λ (k : Option (Bool × (ℕ × ℕ))). option_map_or (λ one. one.1.0) k 0) eq, ap (λ (k : Option (Bool × (ℕ × ℕ))). option_map_or (λ one. one.1.1) k 0) eq)
 
 -- scales are those of the start
-pub fine-started : (book now : Held) (keep scale weight : ℕ) → ((cell : ℕ) → kept_at now.marks cell ≡ started_at book.marks keep scale cell) → scale ≤ weight → AreFine weight now.marks
-fine-started book now keep scale weight kept heavy = λ cell mark at. by cell mark (slice_get book.marks cell) (sym (ap (option_map kept_of) at) ∙ kept cell)
+pub fine-started : (book now : Held) (keep scale weight : ℕ) → ((cell : ℕ) → settings_at now.marks cell ≡ started_at book.marks keep scale cell) → scale ≤ weight → HaveScalesWithin weight now.marks
+fine-started book now keep scale weight kept heavy = λ cell mark at. by cell mark (slice_get book.marks cell) (sym (ap (option_map settings_of) at) ∙ kept cell)
   where
-    scaled : (mark one : Mark) → Some (kept_of mark) ≡ Some (one.hidden, (keep, scale)) → scale ≡ mark.facts.tops.scale
+    scaled : (mark one : Mark) → Some (settings_of mark) ≡ Some (one.hidden, (keep, scale)) → scale ≡ mark.facts.tops.scale
     scaled mark one h = sym (ap (λ (k : Option (Bool × (ℕ × ℕ))). option_map_or (λ one. one.1.1) k 0) h)
 
-    by : (cell : ℕ) (mark : Mark) (found : Option Mark) → Some (kept_of mark) ≡ option_map (λ one. (one.hidden, (keep, scale))) found → mark.facts.tops.scale ≤ weight
+    by : (cell : ℕ) (mark : Mark) (found : Option Mark) → Some (settings_of mark) ≡ option_map (λ one. (one.hidden, (keep, scale))) found → mark.facts.tops.scale ≤ weight
     by cell mark None eq = cc
     by cell mark (Some one) eq = subst (λ n. n ≤ weight) (scaled mark one eq) heavy
 
@@ -160,7 +184,7 @@ few-in falls (row ∷ rows) =
 -- ---- behind the last table
 
 pub all-given : (book now : Held) (keep scale : ℕ) (rows : List Row) (t : ℕ) → length book.tables ≤ t → IsBook book → All (IsRow book.trees scale) rows → length rows ≤ 1000000 → now ≡ record book { marks = now.marks }
-    → ((cell : ℕ) → kept_at now.marks cell ≡ started_at book.marks keep scale cell) → AreGiven now.marks (given_to book rows t) → AreTabulated now rows keep scale
+    → ((cell : ℕ) → settings_at now.marks cell ≡ started_at book.marks keep scale cell) → MarksHoldRecords now.marks (given_to book rows t) → AreTabulated now rows keep scale
 all-given book now keep scale rows t past is good few frame kept given = λ cell name mark named at.
     subst (λ (b : Held). TellsOf b.trees rows keep scale name mark) (sym frame)
     (tells cell name mark (ap (λ (b : Held). slice_get (cells b) cell) (sym frame) ∙ named) at)
@@ -174,14 +198,16 @@ all-given book now keep scale rows t past is good few frame kept given = λ cell
         let these : given_to book rows t cell ≡ rows_in book.trees name rows =
         ap (λ b. if b then rows_in book.trees (slice_index_or (cells book) cell []) rows else []) below ∙ ap (λ n. rows_in book.trees n rows) (get_or_from_slice_get (cells book) cell name [] named)
         in
-        let holds : Holds mark (rows_in book.trees name rows) = subst (Holds mark) these (given cell mark at) in
-        let room = sum-room book.trees scale (row_falls book.trees name) rows 0 holds.sum good holds.sum_is in
+        let holds : HoldsRecords mark (rows_in book.trees name rows) = subst (HoldsRecords mark) these (given cell mark at) in
+        let sum : ℕ = sum_by worth (rows_in book.trees name rows) in
+        let sum_is = sum-is (rows_in book.trees name rows) holds.from_zero in
+        let room = sum-room book.trees scale (row_falls book.trees name) rows 0 sum good sum_is in
         let few_here = few-in (row_falls book.trees name) rows in
-        let fits : min holds.sum (2 ^ 127 - 1) ≡ holds.sum = omega (arith, room, few) in
+        let fits : min sum (2 ^ 127 - 1) ≡ sum = omega (arith, room, few) in
         let counted : min (length (rows_in book.trees name rows)) (2 ^ 32 - 1) ≡ length (rows_in book.trees name rows) = omega (arith, few_here, few) in
         let same = keeps cell mark at in
         record {
-          truth_is = holds.truth ∙ ap pos fits ∙ sym holds.sum_is;
+          truth_is = holds.truth ∙ ap pos fits ∙ sym sum_is;
           within = subst (λ z. (pos 0 ≤ℤ z) × (z ≤ℤ pos (10 ^ 29))) (sym (holds.truth ∙ ap pos fits)) (omega (arith, ints), omega (arith, ints, room, few));
           freq_is = holds.freq ∙ counted;
           keeps = same.0;
@@ -190,16 +216,16 @@ all-given book now keep scale rows t past is good few frame kept given = λ cell
         }
       where
         keeps : (cell : ℕ) (mark : Mark) → slice_get now.marks cell ≡ Some mark → (mark.facts.tops.keep ≡ keep) × (mark.facts.tops.scale ≡ scale)
-        keeps cell mark at = by (slice_get book.marks cell) (sym (ap (option_map kept_of) at) ∙ kept cell)
+        keeps cell mark at = by (slice_get book.marks cell) (sym (ap (option_map settings_of) at) ∙ kept cell)
           where
-            by : (found : Option Mark) → Some (kept_of mark) ≡ option_map (λ one. (one.hidden, (keep, scale))) found → (mark.facts.tops.keep ≡ keep) × (mark.facts.tops.scale ≡ scale)
+            by : (found : Option Mark) → Some (settings_of mark) ≡ option_map (λ one. (one.hidden, (keep, scale))) found → (mark.facts.tops.keep ≡ keep) × (mark.facts.tops.scale ≡ scale)
             by None eq = cc
             by (Some one) eq = (ap (λ (k : Option (Bool × (ℕ × ℕ))). option_map_or (λ one. one.1.0) k 0) eq, ap (λ (k : Option (Bool × (ℕ × ℕ))). option_map_or (λ one. one.1.1) k 0) eq)
 
-pub hidden-stays : (book now : Held) (keep scale : ℕ) → ((cell : ℕ) → kept_at now.marks cell ≡ started_at book.marks keep scale cell) → (cell : ℕ) → hidden_at now.marks cell ≡ hidden_at book.marks cell
+pub hidden-stays : (book now : Held) (keep scale : ℕ) → ((cell : ℕ) → settings_at now.marks cell ≡ started_at book.marks keep scale cell) → (cell : ℕ) → hidden_at now.marks cell ≡ hidden_at book.marks cell
 hidden-stays book now keep scale kept cell = by (slice_get now.marks cell) (slice_get book.marks cell) (kept cell)
   where
-    by : (found other : Option Mark) → option_map kept_of found ≡ option_map (λ one. (one.hidden, (keep, scale))) other → option_map (λ mark. mark.hidden) found ≡ option_map (λ mark. mark.hidden) other
+    by : (found other : Option Mark) → option_map settings_of found ≡ option_map (λ one. (one.hidden, (keep, scale))) other → option_map (λ mark. mark.hidden) found ≡ option_map (λ mark. mark.hidden) other
     by None None eq = refl
     by None (Some one) eq = cc
     by (Some mark) None eq = cc

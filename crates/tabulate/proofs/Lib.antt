@@ -1,9 +1,13 @@
-pub mod ListReads
+pub mod PlaceLists
 pub mod MarkSteps
 pub mod PlaceSteps
-pub mod Walking
 pub mod RowSteps
-pub mod Counting
+pub mod PassSteps
+pub mod Climbing
+pub mod Filters
 pub mod Standing
+pub mod Moving
+pub mod Folded
+pub mod Gathered
 pub mod Whole
 pub mod Finish

@@ -5,12 +5,12 @@ use Rattle.std.proofs.lemmas.List.{append-nil}
 use Rattle.sdc_base.specs.declared.rows.Row.{Row}
 use Rattle.linked_tables.specs.declared.mark.Mark.{Mark}
 use Rattle.linked_tables.specs.Held.{Held}
-use Rattle.tabulate.specs.Giving.{Gave, GaveAll, hits, rows_for, tuples}
-use Rattle.tabulate.specs.Starting.{IsStarted, Started}
+use Rattle.tabulate.specs.RecordsByPlace.{GaveRecord, GaveRecords, hits, rows_for, own_places}
+use Rattle.tabulate.specs.EmptyLists.{HasEmptyList, HaveEmptyLists}
 use Rattle.tabulate.proofs.PlaceSteps.{given-as}
 
 -- no records
-pub gave-none : (book : Held) (t first : ℕ) → GaveAll book book t first []
+pub gave-none : (book : Held) (t first : ℕ) → GaveRecords book book t first []
 gave-none book t first = record {
   frame = refl;
   kept = λ cell. refl;
@@ -18,24 +18,24 @@ gave-none book t first = record {
 }
 
 -- one record more
-pub gave-row : (a b c : Held) (t first : ℕ) (rows : List Row) (row : Row) → GaveAll a b t first rows → Gave b c t first row (tuples b t row) → GaveAll a c t first (rows ++ row ∷ [])
+pub gave-row : (a b c : Held) (t first : ℕ) (rows : List Row) (row : Row) → GaveRecords a b t first rows → GaveRecord b c t first row (own_places b t row) → GaveRecords a c t first (rows ++ row ∷ [])
 gave-row a b c t first rows row all one = record {
   frame = one.frame ∙ ap (λ (x : Held). record x { marks = c.marks }) all.frame;
   kept = λ cell. one.kept cell ∙ all.kept cell;
-  given = λ given start. given-as c.marks (λ cell. (given cell ++ rows_for a t first rows cell) ++ replicate (hits b t first (tuples b t row) cell) row) (λ cell. given cell ++ rows_for a t first (rows ++ row ∷ []) cell)
+  given = λ given start. given-as c.marks (λ cell. (given cell ++ rows_for a t first rows cell) ++ replicate (hits b t first (own_places b t row) cell) row) (λ cell. given cell ++ rows_for a t first (rows ++ row ∷ []) cell)
       (λ cell. more given cell) (one.given (λ cell. given cell ++ rows_for a t first rows cell) (all.given given start));
 }
   where
-    more : (given : ℕ → List Row) (cell : ℕ) → (given cell ++ rows_for a t first rows cell) ++ replicate (hits b t first (tuples b t row) cell) row ≡ given cell ++ rows_for a t first (rows ++ row ∷ []) cell
+    more : (given : ℕ → List Row) (cell : ℕ) → (given cell ++ rows_for a t first rows cell) ++ replicate (hits b t first (own_places b t row) cell) row ≡ given cell ++ rows_for a t first (rows ++ row ∷ []) cell
     more given cell =
-        let each : Row → List Row = λ one. replicate (hits a t first (tuples a t one) cell) one in
-        append_assoc (given cell) (rows_for a t first rows cell) (replicate (hits b t first (tuples b t row) cell) row)
-        ∙ ap (λ (x : Held). given cell ++ (rows_for a t first rows cell ++ replicate (hits x t first (tuples x t row) cell) row)) all.frame
+        let each : Row → List Row = λ one. replicate (hits a t first (own_places a t one) cell) one in
+        append_assoc (given cell) (rows_for a t first rows cell) (replicate (hits b t first (own_places b t row) cell) row)
+        ∙ ap (λ (x : Held). given cell ++ (rows_for a t first rows cell ++ replicate (hits x t first (own_places x t row) cell) row)) all.frame
         ∙ ap (λ last. given cell ++ (rows_for a t first rows cell ++ last)) (sym (append-nil (each row)))
         ∙ ap (λ found. given cell ++ found) (sym (flat_map-append each rows (row ∷ [])))
 
 -- no list is ready
-pub started-none : (book : Held) (keep scale : ℕ) → Started book book keep scale 0
+pub started-none : (book : Held) (keep scale : ℕ) → HaveEmptyLists book book keep scale 0
 started-none book keep scale = record {
   frame = refl;
   long = refl;
@@ -44,8 +44,8 @@ started-none book keep scale = record {
 }
 
 -- one list more
-pub started-next : (a b c : Held) (keep scale cell : ℕ) → Started a b keep scale cell → c ≡ record b { marks = c.marks } → length c.marks ≡ length b.marks
-    → ((old new : Mark) → slice_get b.marks cell ≡ Some old → slice_get c.marks cell ≡ Some new → IsStarted keep scale old new) → ((other : ℕ) → other ≢ cell → slice_get c.marks other ≡ slice_get b.marks other) → Started a c keep scale (cell + 1)
+pub started-next : (a b c : Held) (keep scale cell : ℕ) → HaveEmptyLists a b keep scale cell → c ≡ record b { marks = c.marks } → length c.marks ≡ length b.marks
+    → ((old new : Mark) → slice_get b.marks cell ≡ Some old → slice_get c.marks cell ≡ Some new → HasEmptyList keep scale old new) → ((other : ℕ) → other ≢ cell → slice_get c.marks other ≡ slice_get b.marks other) → HaveEmptyLists a c keep scale (cell + 1)
 started-next a b c keep scale cell so_far frame long here there = record {
   frame = frame ∙ ap (λ (x : Held). record x { marks = c.marks }) so_far.frame;
   long = long ∙ so_far.long;
@@ -56,7 +56,7 @@ started-next a b c keep scale cell so_far frame long here there = record {
     less_or_same : (k i : ℕ) → k < i + 1 → (k < i) ⊎ (k ≡ i)
     less_or_same k i h = grind arith
 
-    by : (one : ℕ) (before after : Mark) → (one < cell) ⊎ (one ≡ cell) → slice_get a.marks one ≡ Some before → slice_get c.marks one ≡ Some after → IsStarted keep scale before after
+    by : (one : ℕ) (before after : Mark) → (one < cell) ⊎ (one ≡ cell) → slice_get a.marks one ≡ Some before → slice_get c.marks one ≡ Some after → HasEmptyList keep scale before after
     by one before after (inl h) at new = so_far.ready one before after h at (sym (there one (λ same. absurd (omega (arith, h, same)))) ∙ new)
     by one before after (inr same) at new =
         let old_here : slice_get b.marks cell ≡ Some before = so_far.rest cell (omega arith) ∙ subst (λ k. slice_get a.marks k ≡ Some before) same at in

@@ -20,7 +20,7 @@ use Rattle.linked_tables.proofs.CellLists.{cells-stay}
 use Rattle.linked_tables.proofs.TableSteps.{cells-next}
 use Rattle.linked_tables.proofs.Finding.{cell-found, cell-named, place-named}
 use Rattle.linked_tables.proofs.Sharing.{codes_at, code-back, known-below, name-codes, name-long, named-codes, place-good, same-items}
-use Rattle.tabulate.specs.Giving.{is_at}
+use Rattle.tabulate.specs.RecordsByPlace.{is_at}
 
 -- ---- numbers of distinct names
 
@@ -71,16 +71,16 @@ named-where (first ∷ names) (suc k) name at = let rest = named-where names k n
     either true = refl
     either false = refl
 
-at-front : {X : Type 0} (xs ys : List X) (k : ℕ) → k < length xs → slice_get (xs ++ ys) k ≡ slice_get xs k
+pub at-front : {X : Type 0} (xs ys : List X) (k : ℕ) → k < length xs → slice_get (xs ++ ys) k ≡ slice_get xs k
 at-front [] ys k h = absurd (omega (arith, h))
 at-front (x ∷ xs) ys zero h = refl
 at-front (x ∷ xs) ys (suc k) h = at-front xs ys k (omega (arith, h))
 
-once-cells : (book : Held) → IsDistinct bytes_eq (cells book)
+pub once-cells : (book : Held) → IsDistinct bytes_eq (cells book)
 once-cells book = names_are_first.once (flat_map (named_by book.trees) book.tables)
 
 -- the cells of the tables before are the first ones
-front-cells : (book : Held) (t : ℕ) → (later : List Name) × (cells book ≡ cells_of book.trees (take t book.tables) ++ later)
+pub front-cells : (book : Held) (t : ℕ) → (later : List Name) × (cells book ≡ cells_of book.trees (take t book.tables) ++ later)
 front-cells book t =
     let stay = cells-stay book.trees (take t book.tables) (drop t book.tables) in
     (stay.0, ap (cells_of book.trees) (sym (take-append-drop t book.tables)) ∙ stay.1)
@@ -186,16 +186,16 @@ codes-of-name n table place (variable ∷ some) known =
     both false b h = (refl, h)
 
 -- a place is that of its name
-place-of-name : (trees : List Tree) (table place : List ℕ) → IsTable (length trees) table → is_place_in (trees_of trees table) place ≡ true → codes_at (name_of (length trees) table place) table ≡ place
+pub place-of-name : (trees : List Tree) (table place : List ℕ) → IsTable (length trees) table → is_place_in (trees_of trees table) place ≡ true → codes_at (name_of (length trees) table place) table ≡ place
 place-of-name trees table place sound inside = codes-of-name (length trees) table place table sound.known ∙ codes-forth table place sound.once (place-long trees table place inside)
 
-spanned-code : (trees : List Tree) (table : List ℕ) (name : Name) → IsTable (length trees) table → is_named (named_by trees table) name ≡ true → (variable : ℕ) → spans table variable ≡ true → nat_lt (get_or name variable 0) (length (slice_index_or trees variable [])) ≡ true
-spanned-code trees table name sound h variable spanned =
-    ap (λ b. if b then nat_lt (get_or name variable 0) (length (slice_index_or trees variable [])) else get_or name variable 0 == 0) (sym spanned)
-    ∙ named-codes trees table name h variable (known-below (length trees) table variable sound.known spanned)
+pub spanned-code : (trees : List Tree) (table : List ℕ) (name : Name) → IsTable (length trees) table → is_named (named_by trees table) name ≡ true → (variable : ℕ) → spans table variable ≡ true → nat_lt (get_or name variable 0) (length (slice_index_or trees variable [])) ≡ true
+spanned-code trees table name sound h variable variables_of =
+    ap (λ b. if b then nat_lt (get_or name variable 0) (length (slice_index_or trees variable [])) else get_or name variable 0 == 0) (sym variables_of)
+    ∙ named-codes trees table name h variable (known-below (length trees) table variable sound.known variables_of)
 
 -- a name of a table is that of its place, which is one of the table's
-name-back : (trees : List Tree) (table : List ℕ) (name : Name) → is_named (named_by trees table) name ≡ true → name_of (length trees) table (codes_at name table) ≡ name
+pub name-back : (trees : List Tree) (table : List ℕ) (name : Name) → is_named (named_by trees table) name ≡ true → name_of (length trees) table (codes_at name table) ≡ name
 name-back trees table name h =
     same-items (name_of (length trees) table (codes_at name table)) name (name_length table (codes_at name table) (length trees) ∙ sym (name-long trees table name h))
     (λ variable below. let under : variable < length trees = subst (λ n. variable < n) (name_length table (codes_at name table) (length trees)) below in

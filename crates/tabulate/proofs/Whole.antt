@@ -1,13 +1,16 @@
 -- What the cells of a book are given, table after table.
 use Rattle.std.proofs.Common.{◌≡◌, ℕ, ◌+◌, ◌<◌, ◌≤◌, ◌==◌, ◌&&◌, ◌||◌, nat_le, nat_lt, Bool, true, false, cond, List, [], ◌∷◌, ◌++◌, length, map, filter, replicate, slice_get, slice_index, slice_index_or, bytes_eq, if◌then◌else◌, Option, None, Some, All, refl, ap, sym, ◌∙◌, subst, arith, ◌⊎◌, inl, inr}
+use Rattle.std.specs.Prelude.{IsPermutation}
 use Rattle.std.specs.Option.{option_map_or}
 use Rattle.std.proofs.lemmas.Bool.Decides.{nat_tests, Decides-eqb}
 use Rattle.std.proofs.lemmas.List.{append-nil}
 use Rattle.std.proofs.lemmas.List.Elements.{All-head, All-tail}
+use Rattle.std.proofs.lemmas.List.Sorted.{IsPermutation-refl}
 use Rattle.std.proofs.lemmas.Option.{slice_get_within, get_or_from_slice_get}
-use Rattle.sdc_base.specs.Trees.{Tree, IsCodeTree, is_under, upward}
+use Rattle.sdc_base.specs.Trees.{Tree, IsCodeTree, is_under}
 use Rattle.sdc_base.specs.Records.{Name, falls_in, row_falls}
 use Rattle.sdc_base.specs.Sums.{rows_in}
+use Rattle.sdc_base.specs.Places.{count}
 use Rattle.sdc_base.specs.Cells.{is_named, named_by, spans}
 use Rattle.sdc_base.specs.declared.rows.Row.{Row}
 use Rattle.sdc_base.proofs.Walks.{count-none, under_is_tested}
@@ -16,12 +19,14 @@ use Rattle.linked_tables.specs.Held.{Held}
 use Rattle.linked_tables.specs.Tables.{has_unknown}
 use Rattle.linked_tables.specs.Shared.{IsBook, IsTable, cells, cell_at, first_own}
 use Rattle.linked_tables.proofs.CellLists.{starts-rise}
-use Rattle.linked_tables.proofs.Sharing.{codes_at, named-codes}
-use Rattle.tabulate.specs.Tuples.{lines_above, places_over}
-use Rattle.sdc_base.specs.Places.{count}
-use Rattle.tabulate.specs.Giving.{hits, is_at, rows_for, spanned, tuples}
-use Rattle.tabulate.proofs.Counting.{count-map, count-same, tuple-count, under_all, upward-count}
-use Rattle.tabulate.proofs.ListReads.{read-none}
+use Rattle.linked_tables.proofs.Sharing.{codes_at, known-below, named-codes}
+use Rattle.tabulate.specs.RecordsByPlace.{codes_for, hits, is_at, rows_for, variables_of, own_places}
+use Rattle.tabulate.specs.UpperCells.{after_variables}
+use Rattle.tabulate.proofs.Filters.{filter-same}
+use Rattle.tabulate.proofs.Folded.{IsIn}
+use Rattle.tabulate.proofs.Gathered.{HaveUnder, same_all, under_all, variables-done, variables-out}
+use Rattle.sdc_base.proofs.GrowingLists.{read-none}
+use Rattle.tabulate.proofs.Moving.{IsOwn, own-of}
 use Rattle.tabulate.proofs.Standing.{cell-early, own-named, stands-once}
 
 -- ---- falling in a cell is being under its code for each variable of a table that has it
@@ -86,30 +91,27 @@ pub record IsOf (trees : List Tree) (row : Row) : Type 0 where
   pub coded : length row.codes ≡ length trees
   pub inside : (variable : ℕ) → variable < length trees → slice_index row.codes variable < length (slice_index_or trees variable [])
 
-spanned-is : (book : Held) (t : ℕ) (table : List ℕ) → slice_get book.tables t ≡ Some table → spanned book t ≡ table
+pub spanned-is : (book : Held) (t : ℕ) (table : List ℕ) → slice_get book.tables t ≡ Some table → variables_of book t ≡ table
 spanned-is book t table at = ap (λ found. option_map_or (λ one. one) found []) at
 
-hit-once : (book : Held) (t first cell : ℕ) (table : List ℕ) (name : Name) (row : Row) → All IsCodeTree book.trees → IsTable (length book.trees) table → slice_get book.tables t ≡ Some table → slice_get (cells book) cell ≡ Some name → first ≤ cell
-    → is_named (named_by book.trees table) name ≡ true → length name ≡ length book.trees → IsOf book.trees row → hits book t first (tuples book t row) cell ≡ (if row_falls book.trees name row then 1 else 0)
-hit-once book t first cell table name row each sound at is late given long good =
-    let over = places_over (lines_above book.trees row.codes table) in
-    ap (λ spanned_table. count (λ place. is_at book t first place cell) (map (λ rest. [] ++ rest) (places_over (lines_above book.trees row.codes spanned_table)))) (spanned-is book t table at)
-    ∙ count-map (λ place. is_at book t first place cell) (λ rest. [] ++ rest) over
-    ∙ count-same (λ place. is_at book t first place cell) (λ place. bytes_eq place (codes_at name table)) over (λ place. stands-once book t first cell table name place at sound is late given)
-    ∙ tuple-count book.trees row.codes name table (λ variable. walk variable)
-    ∙ ap (λ b. if b then 1 else 0) (sym (falls-under book.trees row.codes name table each sound given long good.coded good.inside))
+-- a record is given to the cell that has its very codes, and to no other
+same-codes : (codes name : Name) (table : List ℕ) → bytes_eq (codes_for codes table) (codes_at name table) ≡ same_all codes name table
+same-codes codes name [] = refl
+same-codes codes name (variable ∷ table) = ap (λ b. (slice_index codes variable == slice_index name variable) && b) (same-codes codes name table)
+
+hit-once : (book : Held) (t first cell : ℕ) (table : List ℕ) (name : Name) (row : Row) → IsTable (length book.trees) table → slice_get book.tables t ≡ Some table → slice_get (cells book) cell ≡ Some name → first ≤ cell
+    → is_named (named_by book.trees table) name ≡ true → hits book t first (own_places book t row) cell ≡ (if same_all row.codes name table then 1 else 0)
+hit-once book t first cell table name row sound at named late given =
+    ap (λ one. count (λ place. is_at book t first place cell) (codes_for row.codes one ∷ [])) (spanned-is book t table at)
+    ∙ ap (λ b. (if b then 1 else 0) + 0) (stands-once book t first cell table name (codes_for row.codes table) at sound named late given ∙ same-codes row.codes name table)
+    ∙ whole (same_all row.codes name table)
   where
-    walk : (variable : ℕ) → count (λ met. met == slice_index name variable) (upward (slice_index_or book.trees variable []) (slice_index row.codes variable)) ≡ (if is_under (slice_index_or book.trees variable []) (slice_index row.codes variable) (slice_index name variable) then 1 else 0)
-    walk variable = split (slice_get book.trees variable) refl
-      where
-        split : (found : Option Tree) → slice_get book.trees variable ≡ found → count (λ met. met == slice_index name variable) (upward (slice_index_or book.trees variable []) (slice_index row.codes variable)) ≡ (if is_under (slice_index_or book.trees variable []) (slice_index row.codes variable) (slice_index name variable) then 1 else 0)
-        split None none =
-            subst (λ tree. count (λ met. met == slice_index name variable) (upward tree (slice_index row.codes variable)) ≡ (if is_under tree (slice_index row.codes variable) (slice_index name variable) then 1 else 0))
-            (sym (read-none book.trees variable [] (sym none))) refl
-        split (Some tree) some = upward-count (slice_index_or book.trees variable []) (each variable [] (slice_get_within book.trees variable tree some)) (slice_index row.codes variable) (slice_index name variable)
+    whole : (b : Bool) → (if b then 1 else 0) + 0 ≡ (if b then 1 else 0)
+    whole true = omega arith
+    whole false = omega arith
 
 -- the rows that a cell is given are those that fall in it
-rows-once : (book : Held) (t first cell : ℕ) (falls : Row → Bool) (rows : List Row) → ((row : Row) → IsOf book.trees row → hits book t first (tuples book t row) cell ≡ (if falls row then 1 else 0)) → All (IsOf book.trees) rows → rows_for book t first rows cell ≡ filter falls rows
+rows-once : (book : Held) (t first cell : ℕ) (falls : Row → Bool) (rows : List Row) → ((row : Row) → IsOf book.trees row → hits book t first (own_places book t row) cell ≡ (if falls row then 1 else 0)) → All (IsOf book.trees) rows → rows_for book t first rows cell ≡ filter falls rows
 rows-once book t first cell falls [] each good = refl
 rows-once book t first cell falls (row ∷ rows) each good =
     let here = each row (All-head (IsOf book.trees) row rows good) in
@@ -122,7 +124,7 @@ rows-once book t first cell falls (row ∷ rows) each good =
 rows-never : (book : Held) (t first cell : ℕ) (rows : List Row) → ((place : List ℕ) → is_at book t first place cell ≡ false) → rows_for book t first rows cell ≡ []
 rows-never book t first cell [] none = refl
 rows-never book t first cell (row ∷ rows) none =
-    ap (λ n. replicate n row ++ rows_for book t first rows cell) (count-none (λ place. is_at book t first place cell) (tuples book t row) none) ∙ rows-never book t first cell rows none
+    ap (λ n. replicate n row ++ rows_for book t first rows cell) (count-none (λ place. is_at book t first place cell) (own_places book t row) none) ∙ rows-never book t first cell rows none
 
 never-early : (book : Held) (t first cell : ℕ) (place : List ℕ) → cell < first → is_at book t first place cell ≡ false
 never-early book t first cell place early = by (cell_at book t place)
@@ -147,8 +149,12 @@ never-late book t first cell place late = by (cell_at book t place) refl
 abbrev pub given_to : Held → List Row → ℕ → ℕ → List Row
 given_to book rows t cell = if nat_lt cell (first_own book t) then rows_in book.trees (slice_index_or (cells book) cell []) rows else []
 
+-- what the cells have, once the records were given to the cells with their very codes
+abbrev pub placed_in : Held → List Row → ℕ → ℕ → List Row
+placed_in book rows t cell = given_to book rows t cell ++ rows_for book t (first_own book t) rows cell
+
 pub given-next : (book : Held) (rows : List Row) (t : ℕ) (table : List ℕ) (cell : ℕ) (name : Name) → IsBook book → All (IsOf book.trees) rows → slice_get book.tables t ≡ Some table → slice_get (cells book) cell ≡ Some name → length name ≡ length book.trees
-    → given_to book rows t cell ++ rows_for book t (first_own book t) rows cell ≡ given_to book rows (t + 1) cell
+    → IsPermutation (after_variables book (first_own book t) (first_own book (t + 1)) table (placed_in book rows t) cell) (given_to book rows (t + 1) cell)
 given-next book rows t table cell name is good at named long = by (below cell (first_own book t)) (below cell (first_own book (t + 1)))
   where
     below : (a b : ℕ) → (a < b) ⊎ (b ≤ a)
@@ -163,20 +169,46 @@ given-next book rows t table cell name is good at named long = by (below cell (f
     sound : IsTable (length book.trees) table
     sound = subst (IsTable (length book.trees)) (get_or_from_slice_get book.tables t table [] at) (is.tables t [] (slice_get_within book.tables t table at))
 
-    by : (cell < first_own book t) ⊎ (first_own book t ≤ cell) → (cell < first_own book (t + 1)) ⊎ (first_own book (t + 1) ≤ cell) → given_to book rows t cell ++ rows_for book t (first_own book t) rows cell ≡ given_to book rows (t + 1) cell
+    inside : (variable : ℕ) → spans table variable ≡ true → All (IsIn book variable) rows
+    inside variable h = λ k d within. (good k d within).inside variable (known-below (length book.trees) table variable sound.known h)
+
+    start : HaveUnder book t rows [] table (placed_in book rows t)
+    start own other top =
+        let late = top.late in
+        let here : nat_lt own (first_own book t) ≡ false = grind (arith, nat_tests, late) in
+        let one = own-of book t own table other at top in
+        let each = rows-once book t (first_own book t) own (λ row. same_all row.codes other table) rows (λ row fits. hit-once book t (first_own book t) own table other row sound at top.at top.late one) good in
+        let all : placed_in book rows t own ≡ filter (λ row. true && same_all row.codes other table) rows = ap (λ b. (if b then rows_in book.trees (slice_index_or (cells book) own []) rows else []) ++ rows_for book t (first_own book t) rows own) here ∙ each in
+        subst (λ some. IsPermutation some (filter (λ row. true && same_all row.codes other table) rows)) (sym all) (IsPermutation-refl (filter (λ row. true && same_all row.codes other table) rows))
+
+    done : IsOwn book t cell name → IsPermutation (after_variables book (first_own book t) (first_own book (t + 1)) table (placed_in book rows t) cell) (filter (row_falls book.trees name) rows)
+    done top =
+        subst (IsPermutation (after_variables book (first_own book t) (first_own book (t + 1)) table (placed_in book rows t) cell))
+        (filter-same (IsOf book.trees) (λ row. under_all book.trees row.codes name table && true) (row_falls book.trees name)
+        (λ row fits. whole (under_all book.trees row.codes name table) ∙ sym (falls-under book.trees row.codes name table is.trees sound (own-of book t cell table name at top) long fits.coded fits.inside)) rows good)
+        (variables-done book t table is at rows inside table [] (placed_in book rows t) (λ variable h. h) sound.once (λ variable h. refl) start cell name top)
+      where
+        whole : (b : Bool) → (b && true) ≡ b
+        whole true = refl
+        whole false = refl
+
+    out : (cell < first_own book t) ⊎ (first_own book (t + 1) ≤ cell) → after_variables book (first_own book t) (first_own book (t + 1)) table (placed_in book rows t) cell ≡ placed_in book rows t cell
+    out h = variables-out book t table is at rows inside table (placed_in book rows t) cell (λ variable h. h) h
+
+    by : (cell < first_own book t) ⊎ (first_own book t ≤ cell) → (cell < first_own book (t + 1)) ⊎ (first_own book (t + 1) ≤ cell) → IsPermutation (after_variables book (first_own book t) (first_own book (t + 1)) table (placed_in book rows t) cell) (given_to book rows (t + 1) cell)
     by (inl early) other =
         let here : nat_lt cell (first_own book t) ≡ true = grind (arith, nat_tests) in
         let next : nat_lt cell (first_own book (t + 1)) ≡ true = grind (arith, nat_tests, rise) in
         let none = rows-never book t (first_own book t) cell rows (λ place. never-early book t (first_own book t) cell place early) in
-        rw (here, next, none) (append-nil (rows_in book.trees (slice_index_or (cells book) cell []) rows))
+        let same : given_to book rows (t + 1) cell ≡ placed_in book rows t cell = rw (here, next, none) (sym (append-nil (rows_in book.trees (slice_index_or (cells book) cell []) rows))) in
+        subst (λ some. IsPermutation some (given_to book rows (t + 1) cell)) (same ∙ sym (out (inl early))) (IsPermutation-refl (given_to book rows (t + 1) cell))
     by (inr late) (inl early) =
-        let here : nat_lt cell (first_own book t) ≡ false = grind (arith, nat_tests) in
         let next : nat_lt cell (first_own book (t + 1)) ≡ true = grind (arith, nat_tests) in
-        let one = own-named book t cell table name at named late early in
-        let each = rows-once book t (first_own book t) cell (row_falls book.trees name) rows (λ row fits. hit-once book t (first_own book t) cell table name row is.trees sound at named late one long fits) good in
-        rw (here, next) (each ∙ ap (λ n. rows_in book.trees n rows) (sym name-at))
+        let same : filter (row_falls book.trees name) rows ≡ given_to book rows (t + 1) cell = rw next (ap (λ n. rows_in book.trees n rows) (sym name-at)) in
+        subst (IsPermutation (after_variables book (first_own book t) (first_own book (t + 1)) table (placed_in book rows t) cell)) same (done (record { at = named; late = late; early = early }))
     by (inr late) (inr past) =
         let here : nat_lt cell (first_own book t) ≡ false = grind (arith, nat_tests) in
         let next : nat_lt cell (first_own book (t + 1)) ≡ false = grind (arith, nat_tests) in
         let none = rows-never book t (first_own book t) cell rows (λ place. never-late book t (first_own book t) cell place past) in
-        rw (here, next, none) refl
+        let same : given_to book rows (t + 1) cell ≡ placed_in book rows t cell = rw (here, next, none) refl in
+        subst (λ some. IsPermutation some (given_to book rows (t + 1) cell)) (same ∙ sym (out (inr past))) (IsPermutation-refl (given_to book rows (t + 1) cell))

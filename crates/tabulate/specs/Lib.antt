@@ -1,5 +1,5 @@
-pub mod Holding
-pub mod Tuples
-pub mod Giving
-pub mod Starting
+pub mod MarkRecords
+pub mod RecordsByPlace
+pub mod EmptyLists
+pub mod UpperCells
 pub mod Tabulated

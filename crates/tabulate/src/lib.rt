@@ -2,9 +2,12 @@
 #![tactic(auto)]
 
 mod adding;
-mod ancestors;
+mod folding;
+mod placing;
+mod reading;
 mod tabulating;
 #[cfg(test)]
 mod tests;
 
+pub use sdc_base::TopList;
 pub use tabulating::tabulate;

@@ -1,12 +1,12 @@
 ghost use Rattle.std.specs.Prelude.{◌≡◌, ◌≢◌, ◌≤◌, ◌<◌, ℕ, Some, length, slice_get, pos, ◌≤ℤ◌, All};
 ghost use Rattle.linked_tables.specs.declared.mark.Mark.{Mark as Noted};
 ghost use Rattle.linked_tables.specs.Shared.{IsBook};
-ghost use Rattle.tabulate.specs.Holding.{AreFine, hidden_at};
-ghost use Rattle.tabulate.specs.Giving.{GaveAll};
-ghost use Rattle.tabulate.specs.Starting.{IsStarted, Started};
+ghost use Rattle.tabulate.specs.MarkRecords.{hidden_at};
+ghost use Rattle.tabulate.specs.EmptyLists.{HasEmptyList, HaveEmptyLists};
 ghost use Rattle.tabulate.specs.Tabulated.{AreTabulated, HasNone, IsRow};
 
-use crate::ancestors::give_below;
+use crate::folding::fold_table;
+use crate::placing::give_rows;
 use linked_tables::{Book, Mark};
 use sdc_base::{Row, Tops};
 
@@ -17,8 +17,8 @@ use sdc_base::{Row, Tops};
 /// It keeps from 2 to 10, and the scale, the weight steps of a whole contribution, is from 1 to 10,000. There are at
 /// most a million records, each with as many codes as the book has trees, a place in each of them, a value from 0 and
 /// below 10^15 units, and a weight below 10^8 steps and not below the scale; the marks have no records yet. It takes no
-/// memory and has no refusal, and one look-up for each record, table and combination of codes above the record's. The
-/// sums are those of the handbook's magnitude tables, the weight steps argus's own.
+/// memory and has no refusal, one look-up for each record and table, and one for each cell and variable of the table that
+/// is the first to name it. The sums are those of the handbook's magnitude tables, the weight steps argus's own.
 pub fn tabulate(book: &mut Book, rows: &[Row], keep: u8, scale: u32)
     requires at_least_two { 2 ≤ keep }
     requires at_most_ten { keep ≤ 10 }
@@ -36,6 +36,8 @@ pub fn tabulate(book: &mut Book, rows: &[Row], keep: u8, scale: u32)
     'tables: for t in 0..book.tables() {
         let first = book.first_own(t);
         give_rows(book, t, first, rows);
+        let past = book.first_own(t + 1);
+        fold_table(book, t, first, past);
     }
 }
 
@@ -45,7 +47,7 @@ fn start(book: &mut Book, keep: u8, scale: u32)
     requires at_most_ten { keep ≤ 10 }
     requires whole { 1 ≤ scale }
     requires fine { scale ≤ 10000 }
-    ensures started { Started book.old book.new keep scale (length book.old.marks) }
+    ensures started { HaveEmptyLists book.old book.new keep scale (length book.old.marks) }
     ensures book { IsBook book.old }
 {
     'cells: for cell in 0..book.cells() {
@@ -60,7 +62,7 @@ fn start_cell(book: &mut Book, cell: u32, keep: u8, scale: u32)
     requires whole { 1 ≤ scale }
     requires fine { scale ≤ 10000 }
     ensures frame { book.new ≡ record book.old { marks = book.new.marks } }
-    ensures here { (old new : Noted) → slice_get book.old.marks cell ≡ Some old → slice_get book.new.marks cell ≡ Some new → IsStarted keep scale old new }
+    ensures here { (old new : Noted) → slice_get book.old.marks cell ≡ Some old → slice_get book.new.marks cell ≡ Some new → HasEmptyList keep scale old new }
     ensures there { (other : ℕ) → other ≢ cell → slice_get book.new.marks other ≡ slice_get book.old.marks other }
     ensures long { length book.new.marks ≡ length book.old.marks }
 {
@@ -75,18 +77,7 @@ fn start_mark(mark: &mut Mark, keep: u8, scale: u32)
     requires at_most_ten { keep ≤ 10 }
     requires whole { 1 ≤ scale }
     requires fine { scale ≤ 10000 }
-    ensures { IsStarted keep scale mark.old mark.new }
+    ensures { HasEmptyList keep scale mark.old mark.new }
 {
     mark.facts.tops = Tops::new(keep, scale);
-}
-
-// Gives records to the cells of table t, but for those before the first one.
-fn give_rows(book: &mut Book, t: u32, first: u32, rows: &[Row])
-    requires from_zero { All (λ row. pos 0 ≤ℤ row.value) rows.now }
-    requires fine { All (λ row. AreFine row.weight book.old.marks) rows.now }
-    ensures { GaveAll book.old book.new t first rows.now }
-{
-    'rows: for row in rows {
-        give_below(book, t, first, row, &[]);
-    }
 }

@@ -1,89 +1,21 @@
 ghost use Rattle.std.specs.Prelude.{None, slice_get, ◌≡◌, ◌<◌, ◌≤◌, ◌^◌, ℕ, [], true, length, slice_index, slice_index_or, All, pos, ◌≤ℤ◌, ◌<ℤ◌};
 ghost use Rattle.tabulate.specs.Tabulated.{HasNone, IsRow};
 
-use crate::tabulate;
-use hierarchy::{CodeTree, flat, from_lead};
-use linked_tables::{Book, BookFault, Mark};
-use sdc_base::{Few, Place, Row, Text, TopList};
+use crate::{TopList, tabulate};
+use linked_tables::{Book, Mark};
+use sdc_base::{Place, Row};
 use std::alloc::Global;
 use std::rt::HostRuntime;
 use std::test::Fail;
-
-// A record: its place in each tree, its value, and its weight in steps.
-type Record<'a> = (&'a [u32], i64, u32);
-
-fn text(alloc: Global, bytes: &[u8]) -> Result<Text, Fail> {
-    Ok(Text::new(Vec::from_slice(alloc, bytes)?))
-}
-
-// The total and two other codes.
-fn two_codes(alloc: Global) -> Result<CodeTree, Fail> {
-    let mut codes = Vec::new(alloc);
-    codes.push(text(alloc, b"1")?)?;
-    codes.push(text(alloc, b"2")?)?;
-    Ok(flat(alloc, codes.as_slice(), &text(alloc, b"Total")?)?)
-}
-
-// The total, and by their places 1 N, 2 and 3 below it, 4 S, and 5 below it.
-fn regions(alloc: Global) -> Result<CodeTree, Fail> {
-    let lead = text(alloc, b"@")?;
-    let total = text(alloc, b"Total")?;
-    if lead.as_slice().is_empty() {
-        return Ok(two_codes(alloc)?);
-    }
-    let bytes = b"N\n@N1\n@N2\nS\n@S1\n".as_slice();
-    Ok(from_lead(alloc, bytes, &lead, &total)?)
-}
-
-fn place_of(codes: &[u32]) -> Place {
-    let mut place = Few::empty();
-    for code in codes {
-        let at = place.len();
-        if at < 8 {
-            place.insert(at, *code);
-        }
-    }
-    place
-}
-
-fn places_of(alloc: Global, tables: &[&[u32]]) -> Result<Vec<Place>, Fail> {
-    let mut places = Vec::new(alloc);
-    for table in tables {
-        places.push(place_of(table))?;
-    }
-    Ok(places)
-}
-
-fn book_of(alloc: Global, trees: Vec<CodeTree>, tables: Vec<Place>) -> Result<Book, BookFault> {
-    if trees.len() > 8 || tables.len() > 100 {
-        return Err(BookFault::Memory);
-    }
-    Book::new(alloc, trees, tables)
-}
+use worked::{Record, pairs, places, regions, rows, thirteen, two_codes};
 
 // The records, in their order or the other way round.
 fn rows_of(alloc: Global, records: &[Record<'_>], turned: bool) -> Result<Vec<Row>, Fail> {
-    let mut rows = Vec::new(alloc);
-    for (codes, value, weight) in records {
-        rows.push(Row {
-            codes: place_of(codes),
-            value: *value,
-            weight: *weight,
-        })?;
-    }
+    let mut made = rows(alloc, records)?;
     if turned {
-        rows.reverse();
+        made.reverse();
     }
-    Ok(rows)
-}
-
-fn size_of(book: &Book, variable: u32) -> usize
-    ensures { result ≡ length (slice_index_or book.now.trees variable []) }
-{
-    match book.tree(variable) {
-        Some(tree) => tree.len(),
-        None => 0,
-    }
+    Ok(made)
 }
 
 fn are_inside(book: &Book, codes: &[u32]) -> bool
@@ -93,7 +25,7 @@ fn are_inside(book: &Book, codes: &[u32]) -> bool
         if k >= 8 {
             return false;
         }
-        if *code as usize >= size_of(book, k as u32) {
+        if *code as usize >= book.size(k as u32) {
             return false;
         }
     }
@@ -200,10 +132,7 @@ fn weighed(
     turned: bool,
     scale: u32,
 ) -> Result<Option<Book>, Fail> {
-    let mut trees = Vec::new(alloc);
-    trees.push(two_codes(alloc)?)?;
-    let tables = places_of(alloc, &[&[0]])?;
-    let mut book = book_of(alloc, trees, tables)?;
+    let mut book = Book::new(alloc, pairs(alloc, 1)?, places(alloc, &[&[0]])?)?;
     let rows = rows_of(alloc, records, turned)?;
     if tabulated(&mut book, rows.as_slice(), 4, scale) {
         Ok(Some(book))
@@ -241,12 +170,8 @@ fn sums_and_largest_by_weight_steps(rt: HostRuntime) -> Result<(), Fail> {
 
 // A book of the tables A by B, A by C, and C by A, of which cell 4 is hidden; given records.
 fn linked(alloc: Global, records: &[Record<'_>], turned: bool) -> Result<Option<Book>, Fail> {
-    let mut trees = Vec::new(alloc);
-    for _ in 0..3u8 {
-        trees.push(two_codes(alloc)?)?;
-    }
-    let tables = places_of(alloc, &[&[0, 1], &[0, 2], &[2, 0]])?;
-    let mut book = book_of(alloc, trees, tables)?;
+    let tables = places(alloc, &[&[0, 1], &[0, 2], &[2, 0]])?;
+    let mut book = Book::new(alloc, pairs(alloc, 3)?, tables)?;
     if let Some(mark) = book.mark_mut(4) {
         mark.hidden = true;
     }
@@ -256,25 +181,6 @@ fn linked(alloc: Global, records: &[Record<'_>], turned: bool) -> Result<Option<
     } else {
         Ok(None)
     }
-}
-
-// Thirteen records, by A, B and C.
-fn thirteen() -> [Record<'static>; 13] {
-    [
-        (&[1, 1, 1], 10, 1),
-        (&[1, 1, 2], 10, 1),
-        (&[1, 2, 1], 10, 1),
-        (&[1, 2, 1], 10, 1),
-        (&[1, 2, 2], 10, 1),
-        (&[1, 2, 2], 20, 1),
-        (&[2, 1, 1], 5, 1),
-        (&[2, 1, 1], 5, 1),
-        (&[2, 1, 2], 10, 1),
-        (&[2, 1, 2], 10, 1),
-        (&[2, 2, 1], 15, 1),
-        (&[2, 2, 2], 10, 1),
-        (&[2, 2, 2], 15, 1),
-    ]
 }
 
 #[test]
@@ -352,8 +258,7 @@ fn records_count_under_each_code_above(rt: HostRuntime) -> Result<(), Fail> {
     let mut trees = Vec::new(alloc);
     trees.push(regions(alloc)?)?;
     trees.push(two_codes(alloc)?)?;
-    let tables = places_of(alloc, &[&[0, 1]])?;
-    let mut book = book_of(alloc, trees, tables)?;
+    let mut book = Book::new(alloc, trees, places(alloc, &[&[0, 1]])?)?;
     // each value is another power of 2, so that a sum tells of which records it is
     let records: &[Record<'_>] = &[
         (&[2, 1], 1, 1),
@@ -378,6 +283,30 @@ fn records_count_under_each_code_above(rt: HostRuntime) -> Result<(), Fail> {
             let number = numbers[code as usize];
             assert_eq!(rt; facts.map(|facts| (facts.0, facts.1)), Some((sum, number)));
         }
+    }
+    Ok(())
+}
+
+#[test]
+fn ties_of_other_weights_change_no_sum(rt: HostRuntime) -> Result<(), Fail> {
+    let alloc = rt.alloc();
+    // In tenths: 10 stands one and a half times; 8 stands once, two and a half times and 1.2 times, and only two of all
+    // are kept, so that the order settles which.
+    let records: &[Record<'_>] = &[(&[1], 10, 15), (&[1], 8, 10), (&[2], 8, 25), (&[2], 8, 12)];
+    for order in 0..24usize {
+        // each order of four, by which one of those that are left comes next
+        let mut left = rows_of(alloc, records, false)?;
+        let mut rows = Vec::new(alloc);
+        for next in [order / 6, order / 2 % 3, order % 2, 0] {
+            if next < left.len() {
+                rows.push(left.remove(next))?;
+            }
+        }
+        let mut book = Book::new(alloc, pairs(alloc, 1)?, places(alloc, &[&[0]])?)?;
+        assert_eq!(rt; tabulated(&mut book, rows.as_slice(), 2, 10), true);
+        assert_eq!(rt; facts_of(&book, 0), Some((526, 4, [100, 190, -1, -1])));
+        assert_eq!(rt; facts_of(&book, 1), Some((230, 2, [100, 190, -1, -1])));
+        assert_eq!(rt; facts_of(&book, 2), Some((296, 2, [80, 160, -1, -1])));
     }
     Ok(())
 }

@@ -31,7 +31,7 @@ unbounded_says hidden k cell None same is shown up =
     let clash : (hidden && (int_lt (pos 0) k && true)) ≡ true = rw (shown, test) refl in
     absurd (let no : true ≡ false = sym clash ∙ is in cc)
 
-bounded_test : (hidden : Bool) (k : ℤ) (high : Option ℤ) → (hidden ≡ true → pos 0 <ℤ k → IsSome high) → (hidden && (int_lt (pos 0) k && not (is_some high))) ≡ false
+pub bounded_test : (hidden : Bool) (k : ℤ) (high : Option ℤ) → (hidden ≡ true → pos 0 <ℤ k → IsSome high) → (hidden && (int_lt (pos 0) k && not (is_some high))) ≡ false
 bounded_test false k high bounded = refl
 bounded_test true k (Some high) bounded = elim (int_lt (pos 0) k) as (λ b. (true && (b && false)) ≡ false) [ true ↦ refl | false ↦ refl ]
 bounded_test true k None bounded =
@@ -68,7 +68,7 @@ added_passes hidden number k cell sum fits whole bounded =
 -- ---- all cells
 
 -- these are the cells from a number on
-abbrev Rest : List Cell → ℕ → List Cell → Type 0
+abbrev pub Rest : List Cell → ℕ → List Cell → Type 0
 Rest cells number rest = (i : ℕ) (cell : Cell) → slice_get rest i ≡ Some cell → slice_get cells (number + i) ≡ Some cell
 
 get_next : (cell : Cell) (rest : List Cell) (i : ℕ) (one : Cell) → slice_get rest i ≡ Some one → slice_get (cell ∷ rest) (i + 1) ≡ Some one
@@ -77,11 +77,11 @@ get_next cell rest i one found =
     let here : get_or rest i one ≡ one = get_or_from_slice_get rest i one one found in
     slice_get-get_or (cell ∷ rest) (i + 1) one (omega (arith, within)) ∙ ap Some (ap (λ n. get_or (cell ∷ rest) n one) (add-one i) ∙ here)
 
-rest_tail : (cells : List Cell) (number : ℕ) (cell : Cell) (rest : List Cell) → Rest cells number (cell ∷ rest) → Rest cells (number + 1) rest
+pub rest_tail : (cells : List Cell) (number : ℕ) (cell : Cell) (rest : List Cell) → Rest cells number (cell ∷ rest) → Rest cells (number + 1) rest
 rest_tail cells number cell rest all i one found =
     subst (λ n. slice_get cells n ≡ Some one) (omega arith) (all (i + 1) one (get_next cell rest i one found))
 
-rest_head : (cells : List Cell) (number : ℕ) (cell : Cell) (rest : List Cell) → Rest cells number (cell ∷ rest) → slice_get cells number ≡ Some cell
+pub rest_head : (cells : List Cell) (number : ℕ) (cell : Cell) (rest : List Cell) → Rest cells number (cell ∷ rest) → slice_get cells number ≡ Some cell
 rest_head cells number cell rest all = subst (λ n. slice_get cells n ≡ Some cell) (omega arith) (all 0 cell refl)
 
 same_some : (a b : Cell) → (Some a) ≡ Some b → a ≡ b

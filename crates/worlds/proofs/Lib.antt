@@ -1,11 +1,12 @@
-mod Carry
-mod Bounds
-mod TrueTests
-mod Lists
-mod WorldLaws
-mod OneMore
-mod Held
-mod BoundSums
-mod ShareSteps
-mod RefutationLaws
-mod ProtectLaws
+pub mod Carry
+pub mod Bounds
+pub mod TrueTests
+pub mod Lists
+pub mod WorldLaws
+pub mod OneMore
+pub mod Held
+pub mod BoundSums
+pub mod ShareSteps
+pub mod RefutationLaws
+pub mod ProtectLaws
+pub mod WideFaults

@@ -13,6 +13,7 @@ use Rattle.sdc_base.specs.declared.cell.Kind.TheVariants.{Primary, Fixed}
 use Rattle.sdc_base.specs.declared.side.Side.{Side}
 use Rattle.sdc_base.specs.declared.side.Side.TheVariants.{Above, Below}
 use Rattle.sdc_base.specs.declared.system.System.{System}
+use Rattle.sdc_base.specs.Kinds.{is_primary, is_fixed}
 use Rattle.sdc_base.specs.HiddenSets.{is_hidden}
 use Rattle.sdc_base.specs.Worlds.{Protects, level, level_at, toward}
 use Rattle.worlds.specs.declared.faults.ProtectFault.{ProtectFault}
@@ -21,7 +22,7 @@ use Rattle.worlds.specs.declared.faults.WorldFault.{WorldFault}
 use Rattle.worlds.specs.declared.world.World.{World}
 use Rattle.worlds.specs.Listed.{terms_of, given}
 use Rattle.worlds.specs.WorldFaults.{refuse_at, world_fault, IsGivenWorld}
-use Rattle.worlds.specs.ProtectFaults.{primary, fixed, primary_shown, fixed_hidden, asked_of, is_reaching, line_number, line_fault, lines_fault, protect_fault, IsProtecting}
+use Rattle.worlds.specs.ProtectFaults.{primary_shown, fixed_hidden, asked_of, is_reaching, line_number, line_fault, lines_fault, protect_fault, IsProtecting}
 use Rattle.worlds.proofs.Bounds.{decides_le}
 use Rattle.worlds.proofs.WorldLaws.{not_refused, none_refused, world_law}
 
@@ -29,7 +30,7 @@ use Rattle.worlds.proofs.WorldLaws.{not_refused, none_refused, world_law}
 
 cut : (number : ℕ) (cell : Cell) (cells : List Cell) → length (asked_of number (cell ∷ cells)) ≡ length (asked_of number (cell ∷ [])) + length (asked_of (number + 1) cells)
 cut number cell cells =
-    elim (primary cell.kind) as (λ b. length (if b then (number, Above) ∷ (number, Below) ∷ asked_of (number + 1) cells else asked_of (number + 1) cells) ≡ length (if b then (number, Above) ∷ (number, Below) ∷ asked_of (number + 1) [] else asked_of (number + 1) []) + length (asked_of (number + 1) cells)) [
+    elim (is_primary cell.kind) as (λ b. length (if b then (number, Above) ∷ (number, Below) ∷ asked_of (number + 1) cells else asked_of (number + 1) cells) ≡ length (if b then (number, Above) ∷ (number, Below) ∷ asked_of (number + 1) [] else asked_of (number + 1) []) + length (asked_of (number + 1) cells)) [
       | true ↦ omega arith
       | false ↦ omega arith
     ]
@@ -42,7 +43,7 @@ asked_next cells i cell within is =
 
 -- ---- permitted sets
 
-start : (P : ℕ → Type 0) (n : ℕ) → P (0 + n) → P n
+pub start : (P : ℕ → Type 0) (n : ℕ) → P (0 + n) → P n
 start P n h = let same : 0 + n ≡ n = omega arith in subst P same h
 
 not_false : (a : Bool) → not a ≡ false → a ≡ true
@@ -69,34 +70,34 @@ get_back one cells i cell found =
     let here : get_or cells i cell ≡ cell = get_or_from_slice_get (one ∷ cells) (suc i) cell cell found in
     slice_get-get_or cells i cell (omega (arith, within)) ∙ ap Some here
 
-cases_primary : (kind : Kind) → kind ≡ Primary → primary kind ≡ true
-cases_primary kind is = ap primary is
+cases_primary : (kind : Kind) → kind ≡ Primary → is_primary kind ≡ true
+cases_primary kind is = ap is_primary is
 
-cases_fixed : (kind : Kind) → kind ≡ Fixed → fixed kind ≡ true
-cases_fixed kind is = ap fixed is
+cases_fixed : (kind : Kind) → kind ≡ Fixed → is_fixed kind ≡ true
+cases_fixed kind is = ap is_fixed is
 
-none_shown : (flags : List Bool) (number : ℕ) (cells : List Cell) → primary_shown flags number cells ≡ None → (i : ℕ) (cell : Cell) → slice_get cells i ≡ Some cell → primary cell.kind ≡ true → is_hidden flags (number + i) ≡ true
+none_shown : (flags : List Bool) (number : ℕ) (cells : List Cell) → primary_shown flags number cells ≡ None → (i : ℕ) (cell : Cell) → slice_get cells i ≡ Some cell → is_primary cell.kind ≡ true → is_hidden flags (number + i) ≡ true
 none_shown flags number [] none i cell found is = absurd (let within : i < 0 = slice_get_within {A = Cell} [] i cell found in omega (arith, within))
 none_shown flags number (one ∷ cells) none zero cell found is =
     let same : one ≡ cell = cc in
-    let own : primary one.kind ≡ true = ap (λ (c : Cell). primary c.kind) same ∙ is in
+    let own : is_primary one.kind ≡ true = ap (λ (c : Cell). is_primary c.kind) same ∙ is in
     let here : number + 0 ≡ number = omega arith in
-    ap (is_hidden flags) here ∙ hidden_from (primary one.kind) (is_hidden flags number) number (primary_shown flags (number + 1) cells) own none
+    ap (is_hidden flags) here ∙ hidden_from (is_primary one.kind) (is_hidden flags number) number (primary_shown flags (number + 1) cells) own none
 none_shown flags number (one ∷ cells) none (suc i) cell found is =
-    let later : primary_shown flags (number + 1) cells ≡ None = rest_from (primary one.kind && not (is_hidden flags number)) number (primary_shown flags (number + 1) cells) none in
+    let later : primary_shown flags (number + 1) cells ≡ None = rest_from (is_primary one.kind && not (is_hidden flags number)) number (primary_shown flags (number + 1) cells) none in
     let there : slice_get cells i ≡ Some cell = get_back one cells i cell found in
     let same : number + suc i ≡ number + 1 + i = omega arith in
     ap (is_hidden flags) same ∙ none_shown flags (number + 1) cells later i cell there is
 
-none_hidden : (flags : List Bool) (number : ℕ) (cells : List Cell) → fixed_hidden flags number cells ≡ None → (i : ℕ) (cell : Cell) → slice_get cells i ≡ Some cell → fixed cell.kind ≡ true → is_hidden flags (number + i) ≡ false
+none_hidden : (flags : List Bool) (number : ℕ) (cells : List Cell) → fixed_hidden flags number cells ≡ None → (i : ℕ) (cell : Cell) → slice_get cells i ≡ Some cell → is_fixed cell.kind ≡ true → is_hidden flags (number + i) ≡ false
 none_hidden flags number [] none i cell found is = absurd (let within : i < 0 = slice_get_within {A = Cell} [] i cell found in omega (arith, within))
 none_hidden flags number (one ∷ cells) none zero cell found is =
     let same : one ≡ cell = cc in
-    let own : fixed one.kind ≡ true = ap (λ (c : Cell). fixed c.kind) same ∙ is in
+    let own : is_fixed one.kind ≡ true = ap (λ (c : Cell). is_fixed c.kind) same ∙ is in
     let here : number + 0 ≡ number = omega arith in
-    ap (is_hidden flags) here ∙ shown_from (fixed one.kind) (is_hidden flags number) number (fixed_hidden flags (number + 1) cells) own none
+    ap (is_hidden flags) here ∙ shown_from (is_fixed one.kind) (is_hidden flags number) number (fixed_hidden flags (number + 1) cells) own none
 none_hidden flags number (one ∷ cells) none (suc i) cell found is =
-    let later : fixed_hidden flags (number + 1) cells ≡ None = rest_from (fixed one.kind && is_hidden flags number) number (fixed_hidden flags (number + 1) cells) none in
+    let later : fixed_hidden flags (number + 1) cells ≡ None = rest_from (is_fixed one.kind && is_hidden flags number) number (fixed_hidden flags (number + 1) cells) none in
     let there : slice_get cells i ≡ Some cell = get_back one cells i cell found in
     let same : number + suc i ≡ number + 1 + i = omega arith in
     ap (is_hidden flags) same ∙ none_hidden flags (number + 1) cells later i cell there is
@@ -127,17 +128,17 @@ all_served system cells flags line (one ∷ asked) (world ∷ worlds) count ok =
 
 asked_tail : (P : ℕ × Side → Type 0) (number : ℕ) (one : Cell) (cells : List Cell) → All P (asked_of number (one ∷ cells)) → All P (asked_of (number + 1) cells)
 asked_tail P number one cells all =
-    elim (primary one.kind) as (λ b. All P (if b then (number, Above) ∷ (number, Below) ∷ asked_of (number + 1) cells else asked_of (number + 1) cells) → All P (asked_of (number + 1) cells)) [
+    elim (is_primary one.kind) as (λ b. All P (if b then (number, Above) ∷ (number, Below) ∷ asked_of (number + 1) cells else asked_of (number + 1) cells) → All P (asked_of (number + 1) cells)) [
       | true ↦ λ each. All-tail P (number, Below) (asked_of (number + 1) cells) (All-tail P (number, Above) ((number, Below) ∷ asked_of (number + 1) cells) each)
       | false ↦ λ each. each
     ] all
 
 -- what holds of all that is asked holds of both sides of a primary cell
-both_asked : (P : ℕ × Side → Type 0) (number : ℕ) (cells : List Cell) → All P (asked_of number cells) → (i : ℕ) (cell : Cell) → slice_get cells i ≡ Some cell → primary cell.kind ≡ true → P (number + i, Above) × P (number + i, Below)
+pub both_asked : (P : ℕ × Side → Type 0) (number : ℕ) (cells : List Cell) → All P (asked_of number cells) → (i : ℕ) (cell : Cell) → slice_get cells i ≡ Some cell → is_primary cell.kind ≡ true → P (number + i, Above) × P (number + i, Below)
 both_asked P number [] all i cell found is = absurd (let within : i < 0 = slice_get_within {A = Cell} [] i cell found in omega (arith, within))
 both_asked P number (one ∷ cells) all zero cell found is =
     let same : one ≡ cell = cc in
-    let own : primary one.kind ≡ true = ap (λ (c : Cell). primary c.kind) same ∙ is in
+    let own : is_primary one.kind ≡ true = ap (λ (c : Cell). is_primary c.kind) same ∙ is in
     let list : asked_of number (one ∷ cells) ≡ (number, Above) ∷ (number, Below) ∷ asked_of (number + 1) cells = ap (λ b. if b then (number, Above) ∷ (number, Below) ∷ asked_of (number + 1) cells else asked_of (number + 1) cells) own in
     let each : All P ((number, Above) ∷ (number, Below) ∷ asked_of (number + 1) cells) = subst (All P) list all in
     let here : number ≡ number + 0 = omega arith in (
@@ -159,7 +160,7 @@ protects_one system cells flags number cell side one_each found served =
     let reach : (world.den *ℤ level_at cells side number) ≤ℤ toward side (moves number) = (decides_le (world.den *ℤ level_at cells side number) (toward side (moves number))).0 served.2 in
     (world.den, moves, cell, given_world.is_world, found, subst (λ l. (world.den *ℤ l) ≤ℤ toward side (moves number)) least reach)
 
-by_side : (P : Side → Type 0) → P Above → P Below → (side : Side) → P side
+pub by_side : (P : Side → Type 0) → P Above → P Below → (side : Side) → P side
 by_side P above below Above = above
 by_side P above below Below = below
 

@@ -36,7 +36,7 @@ past : (n cell : ℕ) → nat_lt cell n ≡ false → n ≤ cell
 past n cell is = grind (arith, nat_tests, is)
 
 -- before anything is added
-zeros_none : (n cell : ℕ) → at (replicate n (pos 0)) cell ≡ pos 0
+pub zeros_none : (n cell : ℕ) → at (replicate n (pos 0)) cell ≡ pos 0
 zeros_none n cell =
     elim (nat_lt cell n) as (λ b. nat_lt cell n ≡ b → at (replicate n (pos 0)) cell ≡ pos 0) [
       | true ↦ λ is. get_or-replicate n cell (pos 0) (pos 0) (grind (arith, nat_tests, is))
@@ -70,7 +70,7 @@ not_false true is = refl
 not_false false is = absurd cc
 
 -- all cells are the cells from the first one on
-from_start : (cells : List Cell) (i : ℕ) (cell : Cell) → slice_get cells i ≡ Some cell → slice_get cells (0 + i) ≡ Some cell
+pub from_start : (cells : List Cell) (i : ℕ) (cell : Cell) → slice_get cells i ≡ Some cell → slice_get cells (0 + i) ≡ Some cell
 from_start cells i cell found = subst (λ n. slice_get cells n ≡ Some cell) (omega arith) found
 
 -- ---- the bound sum
@@ -83,10 +83,21 @@ record SumGiven (system : System) (cells : List Cell) (flags : List Bool) (asked
   pub sum_held : IsHeldSum cells flags (added system asked side m)
   pub is_sum : sum ≡ bound_sum cells flags (coefficient (added system asked side m))
 
-terms_inside : (system : System) (asked : ℕ) (side : Side) (m : Multipliers) → asked < system.cells → All (λ (t : Term). t.0 < length (replicate system.cells (pos 0))) (added system asked side m)
+pub terms_inside : (system : System) (asked : ℕ) (side : Side) (m : Multipliers) → asked < system.cells → All (λ (t : Term). t.0 < length (replicate system.cells (pos 0))) (added system asked side m)
 terms_inside system asked side m inside =
     subst (λ n. All (λ (t : Term). t.0 < n) (added system asked side m)) (sym (length-replicate system.cells (pos 0)))
     (All-cons (λ (t : Term). t.0 < system.cells) (asked, toward side m.den) (weighted_forms system.relations m.by_relation) inside (weighted_inside system.cells system.relations m.by_relation system.named))
+
+-- the numbers of the cells behind all that is added are their coefficients
+pub added_up : (system : System) (asked : ℕ) (side : Side) (m : Multipliers) (n : ℕ) (relations : List Relation) (den : ℤ) (listed : List Term) (after : List ℤ) → asked < system.cells → n ≡ system.cells → relations ≡ system.relations → den ≡ m.den → listed ≡ m.by_relation → gathered (replicate n (pos 0)) (refuting relations asked side den listed) ≡ Ok after → (cell : ℕ) → at after cell ≡ coefficient (added system asked side m) cell
+added_up system asked side m n relations den listed after inside sized related counted read ok =
+    let own : gathered (replicate system.cells (pos 0)) (added system asked side m) ≡ Ok after =
+    subst (λ z. gathered (replicate z (pos 0)) (added system asked side m) ≡ Ok after) sized
+    (subst (λ (rs : List Relation). gathered (replicate n (pos 0)) (refuting rs asked side m.den m.by_relation) ≡ Ok after) related
+    (subst (λ d. gathered (replicate n (pos 0)) (refuting relations asked side d m.by_relation) ≡ Ok after) counted
+    (subst (λ (ts : List Term). gathered (replicate n (pos 0)) (refuting relations asked side den ts) ≡ Ok after) read ok))) in
+    let gathering : Gathering [] (added system asked side m) after = gathered_says (replicate system.cells (pos 0)) [] (added system asked side m) after (terms_inside system asked side m inside) (zeros_none system.cells) own in
+    gathering.sums
 
 sums_all : (cells : List Cell) (flags : List Bool) (k : Numbers) → Summed cells flags k 0 (length cells) → (n : ℕ) → n ≤ length cells → FitsSigned w128 (sum_below n (share_at cells flags k))
 sums_all cells flags k all zero most = omega (arith, ints)

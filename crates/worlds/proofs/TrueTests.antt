@@ -38,3 +38,12 @@ if_ok (Err e) f = tt
 pub ok_some : {A F : Type 0} (P : Type 0) (r : Result A F) → ((x : A) → r ≡ Ok x → P) → (P → (x : A) × (r ≡ Ok x)) → IsOk r ↔ P
 ok_some P (Ok x) f g = (λ _. f x refl, λ _. refl)
 ok_some P (Err e) f g = ((λ bad. absurd cc), (λ p. let found = g p in let clash : Err e ≡ Ok found.0 = found.1 in cc))
+
+pub if_err : {A F : Type 0} {P : F → Type 0} (r : Result A F) → ((e : F) → r ≡ Err e → P e) → IfErr r P
+if_err (Ok x) f = tt
+if_err (Err e) f = f e refl
+
+-- what holds anyway holds where there is a value
+pub on_ok : {A E : Type 0} (P : Type 0) (r : Result A E) → P → OnOk r P
+on_ok P (Ok x) is = is
+on_ok P (Err e) is = tt

@@ -1,12 +1,12 @@
 -- Whether worlds show that a hidden set protects its primary cells, and the first fault of them (own).
-use Rattle.std.specs.Prelude.{◌≡◌, ℕ, ◌+◌, ◌^◌, ◌-◌, min, ◌&&◌, ◌==◌, not, Bool, true, false, List, [], ◌∷◌, length, slice_get, Option, None, Some, Result, Ok, if◌then◌else◌, ◌*ℤ◌, int_le}
+use Rattle.std.specs.Prelude.{◌≡◌, ℕ, ◌+◌, ◌^◌, ◌-◌, min, ◌&&◌, ◌==◌, not, Bool, List, [], ◌∷◌, length, slice_get, Option, None, Some, Result, Ok, if◌then◌else◌, ◌*ℤ◌, int_le}
 use Rattle.sdc_base.specs.Steps.{◌>>=◌, refuse, map_fault}
 use Rattle.sdc_base.specs.declared.cell.Cell.{Cell}
-use Rattle.sdc_base.specs.declared.cell.Kind.{Kind}
-use Rattle.sdc_base.specs.declared.cell.Kind.TheVariants.{Primary, Free, Fixed}
+use Rattle.sdc_base.specs.declared.cell.Kind.TheVariants.{Primary}
 use Rattle.sdc_base.specs.declared.side.Side.{Side}
 use Rattle.sdc_base.specs.declared.side.Side.TheVariants.{Above, Below}
 use Rattle.sdc_base.specs.declared.system.System.{System}
+use Rattle.sdc_base.specs.Kinds.{is_primary, is_fixed}
 use Rattle.sdc_base.specs.HiddenSets.{is_hidden, IsPermitted}
 use Rattle.sdc_base.specs.Worlds.{Protects, level_at, toward}
 use Rattle.worlds.specs.declared.faults.ProtectFault.{ProtectFault}
@@ -15,33 +15,21 @@ use Rattle.worlds.specs.declared.world.World.{World}
 use Rattle.worlds.specs.Listed.{terms_of, given}
 use Rattle.worlds.specs.WorldFaults.{refuse_at, world_fault}
 
--- whether a cell of this kind is primary
-abbrev pub primary : Kind → Bool
-primary Primary = true
-primary Free = false
-primary Fixed = false
-
--- whether a cell of this kind is fixed
-abbrev pub fixed : Kind → Bool
-fixed Primary = false
-fixed Free = false
-fixed Fixed = true
-
 -- the first primary cell, from this number on, that is shown
 abbrev pub primary_shown : List Bool → ℕ → List Cell → Option ℕ
 primary_shown flags number [] = None
-primary_shown flags number (cell ∷ cells) = if primary cell.kind && not (is_hidden flags number) then Some number else primary_shown flags (number + 1) cells
+primary_shown flags number (cell ∷ cells) = if is_primary cell.kind && not (is_hidden flags number) then Some number else primary_shown flags (number + 1) cells
 
 -- the first fixed cell, from this number on, that is hidden
 abbrev pub fixed_hidden : List Bool → ℕ → List Cell → Option ℕ
 fixed_hidden flags number [] = None
-fixed_hidden flags number (cell ∷ cells) = if fixed cell.kind && is_hidden flags number then Some number else fixed_hidden flags (number + 1) cells
+fixed_hidden flags number (cell ∷ cells) = if is_fixed cell.kind && is_hidden flags number then Some number else fixed_hidden flags (number + 1) cells
 
 -- what there is to be a world for, of the cells from this number on: each primary cell, above and then below
 abbrev pub asked_of : ℕ → List Cell → List (ℕ × Side)
 asked_of number [] = []
 asked_of number (cell ∷ cells) =
-    if primary cell.kind then (number, Above) ∷ (number, Below) ∷ asked_of (number + 1) cells else asked_of (number + 1) cells
+    if is_primary cell.kind then (number, Above) ∷ (number, Below) ∷ asked_of (number + 1) cells else asked_of (number + 1) cells
 
 -- whether a world takes a cell at least its level to the side
 abbrev pub is_reaching : List Cell → ℕ × Side → World → Bool

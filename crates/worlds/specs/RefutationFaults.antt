@@ -43,6 +43,10 @@ summed system cells flags asked side multipliers =
     gathered (replicate system.cells (pos 0)) (refuting system.relations asked side multipliers.den multipliers.by_relation) >>= λ coefficients.
     summed_from flags (at coefficients) 0 (pos 0) cells
 
+-- the fault is a number wider than 128 bits at some cell
+abbrev pub IsWideFault : RefutationFault → Type 0
+IsWideFault found = (cell : ℕ) × (found ≡ fault.Wide cell)
+
 -- the first fault of a refutation of the cell's level to the side
 abbrev pub refutation_fault : System → List Cell → List Bool → ℕ → Side → Multipliers → Result (Unit {0}) RefutationFault
 refutation_fault system cells flags asked side multipliers =

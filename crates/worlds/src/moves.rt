@@ -6,23 +6,23 @@ ghost use Rattle.worlds.specs.Listed.{terms_of, given};
 ghost use Rattle.worlds.specs.WorldFaults.{is_within as within_meant, move_fault, moves_fault};
 
 use crate::faults::WorldFault;
+use crate::pattern::Pattern;
 use crate::products::{is_at_least, is_at_most};
 use crate::world::Move;
 use sdc_base::Cell;
 
 // The first fault of moves: one of a shown cell, or one that takes a cell beyond its bounds.
 pub(crate) fn check_moves(
-    cells: &[Cell],
-    flags: &[bool],
+    pattern: &Pattern<'_>,
     den: i128,
     moves: &[Move],
 ) -> Result<(), WorldFault>
-    requires one_each { length flags.now ≡ length cells.now }
-    requires named { All (λ one. one.cell < length cells.now) moves.now }
-    ensures { result ≡ moves_fault cells.now flags.now den (terms_of moves.now) }
+    requires { All (λ one. one.cell < length pattern.now.cells.now) moves.now }
+    ensures { result ≡ moves_fault pattern.now.cells.now pattern.now.hidden.now.flags den (terms_of moves.now) }
 {
+    let flags = pattern.hidden.flags.as_slice();
     for one in moves {
-        check_move(cells, flags, den, *one)?;
+        check_move(pattern.cells, flags, den, *one)?;
     }
     Ok(())
 }

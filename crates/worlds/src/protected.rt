@@ -1,8 +1,10 @@
 ghost use Rattle.std.specs.Prelude.{◌≡◌, ◌↔◌, length, Ok, Err, IfOk, IfErr};
+ghost use Rattle.sdc_base.specs.Grounds.{IsGround};
 ghost use Rattle.worlds.specs.ProtectFaults.{protect_fault, IsProtecting};
 ghost use Rattle.worlds.specs.Protection.{protection};
 
 use crate::faults::ProtectFault;
+use crate::pattern::Pattern;
 use crate::protection::check_protection;
 use crate::world::World;
 use sdc_base::{Cell, Hidden, Items, System};
@@ -44,15 +46,19 @@ impl<'a> Protected<'a> {
         worlds: Items<World>,
         scratch: &mut [i128],
     ) -> Result<Protected<'a>, ProtectFault>
-        requires cells { length cells.now ≡ system.now.cells }
-        requires flags { length hidden.flags ≡ system.now.cells }
+        requires ground { IsGround system.now cells.now hidden.flags }
         requires scratch { length scratch.old ≡ system.now.cells }
         ensures ok { IfOk result (λ p. protect_fault system.now cells.now hidden.flags worlds ≡ Ok tt) }
         ensures err { IfErr result (λ fault. protect_fault system.now cells.now hidden.flags worlds ≡ Err fault) }
         ensures value { IfOk result (λ p. p ≡ protection system.now cells.now hidden worlds) }
         ensures protecting { IfOk result (λ _. IsProtecting system.now cells.now hidden.flags) }
     {
-        check_protection(system, cells, &hidden, worlds.as_slice(), scratch)?;
+        let pattern = Pattern {
+            system,
+            cells,
+            hidden: &hidden,
+        };
+        check_protection(&pattern, worlds.as_slice(), scratch)?;
         Ok(Protected {
             system,
             cells,

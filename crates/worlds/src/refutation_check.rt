@@ -1,16 +1,19 @@
-ghost use Rattle.std.specs.Prelude.{◌≡◌, ◌↔◌, ◌<◌, ◌≤ℤ◌, ℤ, pos, length, replicate, All, Err, IsOk, IfOk, OnOk, IfErr, Ok};
+ghost use Rattle.std.specs.Prelude.{◌≡◌, ◌↔◌, ℕ, ◌<◌, ◌≤ℤ◌, ℤ, pos, length, replicate, All, Err, IsOk, IfOk, OnOk, IfErr, Ok};
 ghost use Rattle.sdc_base.specs.Forms.{coefficient};
-ghost use Rattle.sdc_base.specs.Refutations.{refuting, bound_sum as sum_meant};
+ghost use Rattle.sdc_base.specs.Grounds.{IsGround};
+ghost use Rattle.sdc_base.specs.Refutations.{refuting, bound_sum as sum_meant, AreBounded};
+ghost use Rattle.worlds.specs.Listed.{IsListed};
 ghost use Rattle.sdc_base.specs.Systems.{NamesCells};
 ghost use Rattle.sdc_base.specs.Worlds.{Protects, toward};
-ghost use Rattle.worlds.specs.Gathered.{gathered};
-ghost use Rattle.worlds.specs.RefutationFaults.{added, summed, refutation_fault, IsGivenSum, IsGivenRefutation};
+ghost use Rattle.worlds.specs.Gathered.{at, gathered};
+ghost use Rattle.worlds.specs.RefutationFaults.{added, summed, refutation_fault, IsGivenSum, IsGivenRefutation, IsWideFault};
 
 use crate::adding::{add_at, add_forms};
 use crate::faults::RefutationFault;
 use crate::listed::misplaced_multiplier;
 use crate::moves::clear;
 use crate::multipliers::Multipliers;
+use crate::pattern::Pattern;
 use crate::shares::{held_product, level_of, sum_shares};
 use sdc_base::{Cell, Hidden, Relation, Side, System};
 
@@ -37,23 +40,28 @@ pub fn bound_sum(
     multipliers: &Multipliers,
     scratch: &mut [i128],
 ) -> Result<i128, RefutationFault>
-    requires cells { length cells.now ≡ system.now.cells }
-    requires flags { length hidden.now.flags ≡ system.now.cells }
+    requires ground { IsGround system.now cells.now hidden.now.flags }
     requires scratch { length scratch.old ≡ system.now.cells }
     requires asked { cell < system.now.cells }
     ensures exact { result ≡ summed system.now cells.now hidden.now.flags cell side multipliers.now }
     ensures given { IsOk result ↔ IsGivenSum system.now cells.now hidden.now.flags cell side multipliers.now }
     ensures sum { IfOk result (λ sum. sum ≡ sum_meant cells.now hidden.now.flags (coefficient (added system.now cell side multipliers.now))) }
+    ensures wide { IfErr result (λ fault. pos 1 ≤ℤ multipliers.now.den → IsListed (length system.now.relations) multipliers.now.by_relation → AreBounded cells.now hidden.now.flags (coefficient (added system.now cell side multipliers.now)) → IsWideFault fault) }
     ensures length { length scratch.new ≡ length scratch.old }
 {
-    first_sum(system, cells, hidden, cell, side, multipliers, scratch)
+    let pattern = Pattern {
+        system,
+        cells,
+        hidden,
+    };
+    first_sum(&pattern, cell, side, multipliers, scratch)
 }
 
 /// Whether multipliers refute that a cell lies in some world for a hidden set as far as its level to a side.
 ///
 /// The conditions and faults are those of [`bound_sum`], and behind them that the denominator times the level leaves 128 bits,
-/// and that the sum isn't below it. Where the answer is good no world of any denominator takes the cell as far as its level. It
-/// takes no memory.
+/// and that the sum isn't below it. Where the answer is good no world of any denominator takes the cell as far as its level, and
+/// the scratch holds each cell's coefficient. It takes no memory.
 ///
 /// Refutations are those of linear duality.
 pub fn check_refutation(
@@ -65,36 +73,39 @@ pub fn check_refutation(
     multipliers: &Multipliers,
     scratch: &mut [i128],
 ) -> Result<(), RefutationFault>
-    requires cells { length cells.now ≡ system.now.cells }
-    requires flags { length hidden.now.flags ≡ system.now.cells }
+    requires ground { IsGround system.now cells.now hidden.now.flags }
     requires scratch { length scratch.old ≡ system.now.cells }
     requires asked { cell < system.now.cells }
     ensures exact { result ≡ refutation_fault system.now cells.now hidden.now.flags cell side multipliers.now }
     ensures refutation { IsOk result ↔ IsGivenRefutation system.now cells.now hidden.now.flags cell side multipliers.now }
     ensures unprotected { IsOk result → ¬ Protects system.now cells.now hidden.now.flags cell side }
     ensures length { length scratch.new ≡ length scratch.old }
+    ensures coefficients { OnOk result ((number : ℕ) → at scratch.new number ≡ coefficient (added system.now cell side multipliers.now) number) }
 {
-    first_fault(system, cells, hidden, cell, side, multipliers, scratch)
+    let pattern = Pattern {
+        system,
+        cells,
+        hidden,
+    };
+    first_fault(&pattern, cell, side, multipliers, scratch)
 }
 
 // The first fault of a refutation.
 fn first_fault(
-    system: &System,
-    cells: &[Cell],
-    hidden: &Hidden,
+    pattern: &Pattern<'_>,
     cell: u32,
     side: Side,
     multipliers: &Multipliers,
     scratch: &mut [i128],
 ) -> Result<(), RefutationFault>
-    requires cells { length cells.now ≡ system.now.cells }
-    requires flags { length hidden.now.flags ≡ system.now.cells }
-    requires scratch { length scratch.old ≡ system.now.cells }
-    requires asked { cell < system.now.cells }
-    ensures exact { result ≡ refutation_fault system.now cells.now hidden.now.flags cell side multipliers.now }
+    requires scratch { length scratch.old ≡ pattern.now.system.now.cells }
+    requires asked { cell < pattern.now.system.now.cells }
+    ensures exact { result ≡ refutation_fault pattern.now.system.now pattern.now.cells.now pattern.now.hidden.now.flags cell side multipliers.now }
     ensures length { length scratch.new ≡ length scratch.old }
+    ensures coefficients { OnOk result ((number : ℕ) → at scratch.new number ≡ coefficient (added pattern.now.system.now cell side multipliers.now) number) }
 {
-    let sum = first_sum(system, cells, hidden, cell, side, multipliers, scratch)?;
+    let sum = first_sum(pattern, cell, side, multipliers, scratch)?;
+    let cells = pattern.cells;
     let level = level_of(&cells[cell as usize], side);
     let most = held_product(cell, multipliers.den, level)?;
     if sum < most {
@@ -106,33 +117,30 @@ fn first_fault(
 
 // The bound sum, or the first fault on the way to it.
 fn first_sum(
-    system: &System,
-    cells: &[Cell],
-    hidden: &Hidden,
+    pattern: &Pattern<'_>,
     cell: u32,
     side: Side,
     multipliers: &Multipliers,
     scratch: &mut [i128],
 ) -> Result<i128, RefutationFault>
-    requires cells { length cells.now ≡ system.now.cells }
-    requires flags { length hidden.now.flags ≡ system.now.cells }
-    requires scratch { length scratch.old ≡ system.now.cells }
-    requires asked { cell < system.now.cells }
-    ensures exact { result ≡ summed system.now cells.now hidden.now.flags cell side multipliers.now }
+    requires scratch { length scratch.old ≡ pattern.now.system.now.cells }
+    requires asked { cell < pattern.now.system.now.cells }
+    ensures exact { result ≡ summed pattern.now.system.now pattern.now.cells.now pattern.now.hidden.now.flags cell side multipliers.now }
     ensures length { length scratch.new ≡ length scratch.old }
+    ensures coefficients { OnOk result ((number : ℕ) → at scratch.new number ≡ coefficient (added pattern.now.system.now cell side multipliers.now) number) }
 {
     if multipliers.den < 1 {
         return Err(RefutationFault::Den);
     }
     let listed = multipliers.by_relation.as_slice();
-    let relations = system.relations.as_slice();
+    let relations = pattern.system.relations.as_slice();
     if let Some(place) = misplaced_multiplier(listed, relations.len() as u32) {
         return Err(RefutationFault::Order(place));
     }
     // Read, so that it is known to be a number of 32 bits.
-    let _cells = system.cells;
+    let _cells = pattern.system.cells;
     gather(relations, cell, side, multipliers.den, listed, scratch)?;
-    sum_shares(cells, hidden.flags.as_slice(), scratch)
+    sum_shares(pattern.cells, pattern.hidden.flags.as_slice(), scratch)
 }
 
 // The coefficients of all cells: the asked one so many times, and the weighted forms.

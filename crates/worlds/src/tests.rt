@@ -171,7 +171,6 @@ fn worlds_of_two_by_two(rt: HostRuntime) -> Result<(), Fail> {
         (2, [(4, 13), (5, -13), (7, -13), (8, 13)], Ok(())),
         (i128::MAX, [(4, 1), (5, -1), (7, -1), (8, 1)], Ok(())),
         (1, [(4, 7), (5, -6), (7, -6), (8, 6)], Err(Relation(2))),
-        (1, [(1, 1), (4, 6), (5, -6), (7, -6)], Err(Shown(1))),
         (1, [(4, 6), (5, -6), (7, -31), (8, 6)], Err(Bound(7))),
         (1, [(4, 30), (5, -30), (7, -30), (8, 30)], Ok(())),
         (0, [(4, 6), (5, -6), (7, -6), (8, 6)], Err(Den)),
@@ -192,6 +191,8 @@ fn worlds_of_two_by_two(rt: HostRuntime) -> Result<(), Fail> {
     ] {
         assert_eq!(rt; world_fault(alloc, den, &moves)?, Some(wanted), "{den}");
     }
+    let further = [(1, 1), (4, 6), (5, -6), (7, -6), (8, 6)];
+    assert_eq!(rt; world_fault(alloc, 1, &further)?, Some(Err(Shown(1))));
     Ok(())
 }
 

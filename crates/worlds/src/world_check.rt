@@ -1,4 +1,5 @@
 ghost use Rattle.std.specs.Prelude.{◌≡◌, ◌↔◌, length, IsOk, IsTrue};
+ghost use Rattle.sdc_base.specs.Grounds.{IsGround};
 ghost use Rattle.sdc_base.specs.Worlds.{Reaches};
 ghost use Rattle.worlds.specs.Listed.{terms_of, given};
 ghost use Rattle.worlds.specs.WorldFaults.{world_fault, IsGivenWorld};
@@ -6,6 +7,7 @@ ghost use Rattle.worlds.specs.WorldFaults.{world_fault, IsGivenWorld};
 use crate::faults::WorldFault;
 use crate::listed::misplaced_move;
 use crate::moves::{check_moves, move_of, write_moves};
+use crate::pattern::Pattern;
 use crate::products::{is_at_least, is_at_most};
 use crate::relations::check_relations;
 use crate::world::World;
@@ -28,40 +30,40 @@ pub fn check_world(
     world: &World,
     scratch: &mut [i128],
 ) -> Result<(), WorldFault>
-    requires cells { length cells.now ≡ system.now.cells }
-    requires flags { length hidden.now.flags ≡ system.now.cells }
+    requires ground { IsGround system.now cells.now hidden.now.flags }
     requires scratch { length scratch.old ≡ system.now.cells }
     ensures exact { result ≡ world_fault system.now cells.now hidden.now.flags world.now }
     ensures world { IsOk result ↔ IsGivenWorld system.now cells.now hidden.now.flags world.now }
     ensures length { length scratch.new ≡ length scratch.old }
 {
-    first_fault(system, cells, hidden, world, scratch)
+    let pattern = Pattern {
+        system,
+        cells,
+        hidden,
+    };
+    first_fault(&pattern, world, scratch)
 }
 
 // The first fault of a world.
-fn first_fault(
-    system: &System,
-    cells: &[Cell],
-    hidden: &Hidden,
+pub(crate) fn first_fault(
+    pattern: &Pattern<'_>,
     world: &World,
     scratch: &mut [i128],
 ) -> Result<(), WorldFault>
-    requires cells { length cells.now ≡ system.now.cells }
-    requires flags { length hidden.now.flags ≡ system.now.cells }
-    requires scratch { length scratch.old ≡ system.now.cells }
-    ensures exact { result ≡ world_fault system.now cells.now hidden.now.flags world.now }
+    requires scratch { length scratch.old ≡ pattern.now.system.now.cells }
+    ensures exact { result ≡ world_fault pattern.now.system.now pattern.now.cells.now pattern.now.hidden.now.flags world.now }
     ensures length { length scratch.new ≡ length scratch.old }
 {
     if world.den < 1 {
         return Err(WorldFault::Den);
     }
     let moves = world.moves.as_slice();
-    if let Some(place) = misplaced_move(moves, system.cells) {
+    if let Some(place) = misplaced_move(moves, pattern.system.cells) {
         return Err(WorldFault::Order(place));
     }
-    check_moves(cells, hidden.flags.as_slice(), world.den, moves)?;
+    check_moves(pattern, world.den, moves)?;
     write_moves(moves, scratch);
-    check_relations(system.relations.as_slice(), scratch)
+    check_relations(pattern.system.relations.as_slice(), scratch)
 }
 
 /// Whether a cell lies in a world at least its level to a side, the level of its upper or its lower side.

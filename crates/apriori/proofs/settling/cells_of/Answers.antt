@@ -1,9 +1,11 @@
-use Rattle.std.proofs.Common.{◌≡◌, ℕ, ◌+◌, [], ◌∷◌, ◌++◌, take, map, length, rules, ap, sym, ◌∙◌, arith}
+use Rattle.std.proofs.Common.{◌≡◌, ℕ, ◌+◌, [], ◌∷◌, ◌++◌, take, map, length, rules, ap, sym, ◌∙◌, subst, All, arith}
 use Rattle.std.specs.Prelude.{Ok}
 use Rattle.std.specs.List.{zip}
 use Rattle.sdc_base.specs.RuleLevels.{Figures}
 use Rattle.apriori.specs.declared.prior.Prior.{Prior}
-use Rattle.apriori.specs.Settling.{Settled, seen, told_of, settled}
+use Rattle.apriori.specs.Settling.{Settled, seen, told_of, settled, HasLevelsInRange}
+use Rattle.std.proofs.lemmas.List.Elements.{All-append}
+use Rattle.apriori.proofs.Open.{all_one}
 use Rattle.apriori.proofs.Pairs.{prior_at, settled_more, all_pairs}
 use Rattle.apriori.proofs.settling.cells_of.Goals as goal
 
@@ -17,8 +19,9 @@ cells-preserved c =
     record {
       told =
           ap (map seen) is
-          ∙ settled_more c.args.rules.now c.args.marks.now c.args.priors.now c.cells.cell _ _ c.cells.cells.items c.settled.result c.requires.priors.one_each c.cells-test.true c.cells.invariant.told c.settled.ensures;
+          ∙ settled_more c.args.rules.now c.args.marks.now c.args.priors.now c.cells.cell _ _ c.cells.cells.items c.settled.result c.requires.priors.one_each c.cells-test.true c.cells.invariant.told c.settled.ensures.seen;
       count = count;
+      levels = subst (λ cells. All HasLevelsInRange cells) (sym is) (All-append HasLevelsInRange c.cells.cells.items (c.settled.result ∷ []) c.cells.invariant.levels (all_one HasLevelsInRange c.settled.result c.settled.ensures.levels));
     }
 
 pub returns-clause-exact : goal.returns-clause-exact

@@ -1,10 +1,11 @@
-use Rattle.std.proofs.Common.{◌≡◌, take, map, length}
+use Rattle.std.proofs.Common.{◌≡◌, take, map, length, All}
 use Rattle.std.specs.List.{zip}
-use Rattle.apriori.specs.Settling.{seen, told_of, settled}
+use Rattle.apriori.specs.Settling.{seen, told_of, settled, HasLevelsInRange}
 use Rattle.apriori.proofs.settling.cells_of.Given as goal
 
 abbrev pub invariant-cells : goal.invariant-cells
 invariant-cells l = record {
   told : map seen l.cells.items ≡ map (λ pair. settled l.rules pair.0 pair.1) (take l.cell (zip (told_of l.marks) l.priors));
   count : length l.cells.items ≡ l.cell;
+  levels : All HasLevelsInRange l.cells.items;
 }

@@ -4,7 +4,7 @@ use Rattle.job_lang.specs.declared.job.OutputLine.{OutputLine}
 use Rattle.job_lang.specs.declared.job.TableLine.{TableLine}
 use Rattle.job_run.specs.Releases.{tables_from}
 use Rattle.job_run.specs.declared.put.Put.{Put}
-use Rattle.job_run.proofs.FieldSteps.{one-longer}
+use Rattle.job_inputs.proofs.FieldSteps.{one-longer}
 use Rattle.job_run.proofs.TableSteps.{put_at, tables-more}
 use Rattle.job_run.proofs.release_texts.add_tables.Goals as goal
 
@@ -16,7 +16,7 @@ tables-preserved c = record {
       let here = subst (λ (xs : List TableLine). c.tables.t < length xs) c.as_slice-line-items.ensures c.tables-test.true in
       let line = subst (λ (xs : List TableLine). c.line-item.result ≡ slice_index_or xs c.tables.t c.line-item.result) c.as_slice-line-items.ensures c.line-item.is in
       let output = subst (λ (xs : List OutputLine). c.index-outputs-t.result ≡ slice_index_or xs c.tables.t c.index-outputs-t.result) c.as_slice-outputs.ensures c.index-outputs-t.is in
-      let more = tables-more inputs c.tables.t lines outputs c.line-item.result c.index-outputs-t.result here c.requires.sound.job.outputs line output in
+      let more = tables-more inputs c.tables.t lines outputs c.line-item.result c.index-outputs-t.result here c.requires.shown.sound.job.outputs line output in
       c.in_ok-push.ensures.ok
       ∙ ap (λ (put : Put). c.tables.puts ++ put ∷ []) (c.in_ok-put.ensures inputs is whole)
       ∙ ap (λ (puts : List Put). puts ++ put_at inputs c.tables.t c.line-item.result c.index-outputs-t.result ∷ []) (c.tables.invariant.puts inputs is whole)

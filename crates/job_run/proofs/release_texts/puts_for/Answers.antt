@@ -1,8 +1,8 @@
 use Rattle.std.proofs.Common.{List, [], ◌∷◌, ◌++◌, ap, sym, ◌∙◌}
 use Rattle.job_run.specs.Releases.{tables_from, certificate_of}
-use Rattle.job_run.specs.declared.described.Described.{Described}
+use Rattle.job_inputs.specs.declared.described.Described.{Described}
 use Rattle.job_run.specs.declared.put.Put.{Put}
-use Rattle.job_run.specs.declared.report.FileRef.TheVariants as file
+use Rattle.job_inputs.specs.declared.file_ref.FileRef.TheVariants as file
 use Rattle.job_run.proofs.release_texts.puts_for.Goals as goal
 
 pub returns-clause-puts : goal.returns-clause-puts

@@ -5,7 +5,7 @@ use Rattle.sdc_base.specs.TableText.{table_text}
 use Rattle.linked_tables.specs.Shared.{number_of}
 use Rattle.release_writer.specs.Shown.{open_truth}
 use Rattle.job_run.specs.Releases.{open_table, names_of}
-use Rattle.job_run.specs.declared.described.Described.{Described}
+use Rattle.job_inputs.specs.declared.described.Described.{Described}
 use Rattle.job_run.proofs.Showing.{table-shown}
 use Rattle.job_run.proofs.release_texts.table_put.Goals as goal
 
@@ -18,6 +18,6 @@ returns c = λ inputs is whole.
     let text : c.new.result ≡ open_table inputs c.args.t (names_of c.args.line.now) =
     c.new.ensures ∙ c.in_ok-bytes.ensures.text
     ∙ ap (λ (n : ℕ). table_text book.trees (slice_index_or book.tables c.args.t []) header n (λ name. option_and_then (open_truth book.marks flags) (number_of book name))) fine
-    ∙ table-shown inputs book flags c.args.t header whole c.requires.table c.requires.open.none
+    ∙ table-shown inputs book flags c.args.t header whole c.requires.table c.requires.shown.none_hidden.none
     ∙ ap (open_table inputs c.args.t) (c.as_slice.ensures ∙ c.in_ok-header.ensures) in
     rw (c.in_ok-copy.ensures, text) refl

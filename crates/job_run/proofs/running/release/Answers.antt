@@ -1,177 +1,147 @@
-use native.Mathlib.Omega.{arith}
-use Rattle.std.proofs.Common.{IsErrOf, length, ◌<◌, ◌+◌, ◌≡◌, ap, refl, sym, subst, ◌∙◌, List, option_map, Ok, Err}
-use Rattle.sdc_base.specs.Counts.{counted}
+use Rattle.std.proofs.Common.{◌≡◌, ◌<◌, ◌+◌, arith, IsErrOf, Err, Ok, List, length, ap, refl, subst, sym, ◌∙◌}
 use Rattle.std.proofs.lemmas.Result.{err_from_is_err_and}
-use Rattle.job_run.specs.Reports.{put_all, OneInPart, SomeWhole}
+use Rattle.sdc_base.specs.Counts.{counted}
+use Rattle.office_io.specs.Files.{Files}
+use Rattle.job_inputs.specs.Settled.{IsSettledOf, settled_of}
+use Rattle.job_inputs.specs.declared.described.Described.{Described}
+use Rattle.job_inputs.specs.declared.file_ref.FileRef.{FileRef}
+use Rattle.job_run.specs.Reports.{AllWhole, OneInPart, SomeWhole}
 use Rattle.job_run.specs.declared.put.Put.{Put}
-use Rattle.job_run.specs.declared.report.FileRef.{FileRef}
-use Rattle.job_run.specs.declared.stop.Stop.TheVariants as stop
-use Rattle.job_run.specs.declared.report.Fault.TheVariants as fault
-use Rattle.job_run.proofs.Coming.{statements-come}
-use Rattle.job_run.proofs.Outcomes.{outcome-stated, inputs-fail, book-fails, priors-fail, stop-meets, refusal-meets, refusal-of-book, refusal-of-cells, stop-leaves, refusal-leaves, refusal-no-read, refusal-no-write, halt-meets, halt-leaves}
+use Rattle.job_run.specs.declared.puts.PutStop.TheVariants as stop
+use Rattle.job_run.proofs.Outcomes.{outcome-settled, ok-and, inputs-meet, inputs-leave, inputs-leave-all, inputs-cause, inputs-come, release-meets, release-leaves, release-leaves-all, release-cause, release-come, puts-meet, puts-leave, puts-leave-all, puts-cause, puts-come, released-cause}
+use Rattle.job_run.proofs.Settling.{release-is}
 use Rattle.job_run.proofs.running.release.Goals as goal
 
-pub returns-in_err-inputs-clause-told : goal.returns-in_err-inputs-clause-told
-returns-in_err-inputs-clause-told g c =
+pub returns-in_err-settled-clause-told : goal.returns-in_err-settled-clause-told
+returns-in_err-settled-clause-told g c =
     λ fs told.
     let p = err_from_is_err_and c.from_residual.result c.from_residual.ensures.1 in
-    rw (p.1, p.2) (stop-meets c.in_err-inputs.field-0.0 _ (inputs-fail fs c.args.name.now _ (c.in_err-inputs.ensures.told fs told)) (λ f is. c.in_err-inputs.ensures.no_write f (ap Err is)))
+    rw (p.1, p.2) (inputs-meet c.in_err-settled.field-0.0 fs c.args.name.now (c.in_err-settled.ensures.told fs told))
 
-pub returns-in_err-counted-clause-told : goal.returns-in_err-counted-clause-told
-returns-in_err-counted-clause-told g c =
+pub returns-in_err-settled-clause-left : goal.returns-in_err-settled-clause-left
+returns-in_err-settled-clause-left g c =
     λ fs told.
-    let p = err_from_is_err_and c.from_residual-in_err-counted.result c.from_residual-in_err-counted.ensures.1 in
-    rw (p.1, p.2) (refusal-meets c.in_err-counted.field-0.0 _ (book-fails fs c.args.name.now c.in_ok-inputs.inputs _ (c.in_ok-inputs.ensures.told fs told) c.in_err-counted.ensures.told))
+    let p = err_from_is_err_and c.from_residual.result c.from_residual.ensures.1 in
+    rw (p.1, p.2) (inputs-leave c.in_err-settled.field-0.0 _ _)
 
-pub returns-in_err-counted-clause-absent : goal.returns-in_err-counted-clause-absent
-returns-in_err-counted-clause-absent g c =
-    λ f is.
-    let p = err_from_is_err_and c.from_residual-in_err-counted.result c.from_residual-in_err-counted.ensures.1 in
-    let whole = ap Err (sym p.2) ∙ sym p.1 ∙ is in
-    let stopped : _ ≡ stop.Refused (fault.Absent f) = cc in
-    absurd (refusal-of-book c.in_err-counted.field-0.0 _ (fault.Absent f) c.in_err-counted.ensures.told stopped)
+pub returns-in_err-settled-clause-untouched : goal.returns-in_err-settled-clause-untouched
+returns-in_err-settled-clause-untouched g c =
+    let p = err_from_is_err_and c.from_residual.result c.from_residual.ensures.1 in
+    rw (p.1, p.2) (inputs-leave-all c.in_err-settled.field-0.0 _)
 
-pub returns-in_err-counted-clause-too_long : goal.returns-in_err-counted-clause-too_long
-returns-in_err-counted-clause-too_long g c =
-    λ f is.
-    let p = err_from_is_err_and c.from_residual-in_err-counted.result c.from_residual-in_err-counted.ensures.1 in
-    let whole = ap Err (sym p.2) ∙ sym p.1 ∙ is in
-    let stopped : _ ≡ stop.Refused (fault.TooLong f) = cc in
-    absurd (refusal-of-book c.in_err-counted.field-0.0 _ (fault.TooLong f) c.in_err-counted.ensures.told stopped)
+pub returns-in_err-settled-clause-cause : goal.returns-in_err-settled-clause-cause
+returns-in_err-settled-clause-cause g c =
+    let p = err_from_is_err_and c.from_residual.result c.from_residual.ensures.1 in
+    rw (p.1, p.2) (inputs-cause c.in_err-settled.field-0.0 _ _ _ c.in_err-settled.ensures.cause)
 
-pub returns-in_err-priors-clause-told : goal.returns-in_err-priors-clause-told
-returns-in_err-priors-clause-told g c =
+pub returns-in_err-settled-clause-came_to : goal.returns-in_err-settled-clause-came_to
+returns-in_err-settled-clause-came_to g c =
     λ fs told.
-    let p = err_from_is_err_and c.from_residual-in_err-priors.result c.from_residual-in_err-priors.ensures.1 in
-    let still = c.read_inputs.ensures.same ∙ told in
-    rw (p.1, p.2)
-    (stop-meets c.in_err-priors.field-0.0 _
-    (priors-fail fs c.args.name.now c.in_ok-inputs.inputs _ _ (c.in_ok-inputs.ensures.told fs told) c.in_ok-counted.ensures.told
-    (c.in_err-priors.ensures.told c.in_ok-inputs.inputs c.in_ok-counted.ensures.counted fs still))
-    (λ f is. c.in_err-priors.ensures.no_write f (ap Err is)))
-
-pub returns-in_err-priors-clause-came_to : goal.returns-in_err-priors-clause-came_to
-returns-in_err-priors-clause-came_to g c =
-    λ fs told f is.
-    let p = err_from_is_err_and c.from_residual-in_err-priors.result c.from_residual-in_err-priors.ensures.1 in
-    let whole = ap Err (sym p.2) ∙ sym p.1 ∙ is in
-    let stopped : c.in_err-priors.field-0.0 ≡ stop.ReadFault f = cc in
-    let still = c.read_inputs.ensures.same ∙ told in
-    let came = c.in_err-priors.ensures.came_to c.in_ok-inputs.inputs c.in_ok-counted.ensures.counted fs still f (ap Err stopped) in
-    (came.1, statements-come fs c.args.name.now c.in_ok-inputs.inputs _ f came.0 came.1 came.2 (c.in_ok-inputs.ensures.told fs told) c.in_ok-counted.ensures.told came.3, came.4)
-
-pub returns-in_err-priors-clause-left : goal.returns-in_err-priors-clause-left
-returns-in_err-priors-clause-left g c =
-    λ fs told.
-    let p = err_from_is_err_and c.from_residual-in_err-priors.result c.from_residual-in_err-priors.ensures.1 in
-    rw (p.1, p.2) (stop-leaves c.in_err-priors.field-0.0 _ _ _ refl (λ f is. c.in_err-priors.ensures.no_write f (ap Err is)))
-
-pub returns-in_err-planned-clause-left : goal.returns-in_err-planned-clause-left
-returns-in_err-planned-clause-left g c =
-    λ fs told.
-    let p = err_from_is_err_and c.from_residual-in_err-planned.result c.from_residual-in_err-planned.ensures.1 in
-    rw (p.1, p.2) (refusal-leaves c.in_err-planned.field-0.0 _ _)
-
-pub returns-in_err-planned-clause-read_fault : goal.returns-in_err-planned-clause-read_fault
-returns-in_err-planned-clause-read_fault g c =
-    λ f is.
-    let p = err_from_is_err_and c.from_residual-in_err-planned.result c.from_residual-in_err-planned.ensures.1 in
-    let whole = ap Err (sym p.2) ∙ sym p.1 ∙ is in
-    let stopped : _ ≡ stop.ReadFault f = cc in
-    absurd (refusal-no-read c.in_err-planned.field-0.0 f stopped)
-
-pub returns-in_err-planned-clause-came_to : goal.returns-in_err-planned-clause-came_to
-returns-in_err-planned-clause-came_to g c =
-    λ fs told f is.
-    let p = err_from_is_err_and c.from_residual-in_err-planned.result c.from_residual-in_err-planned.ensures.1 in
-    let whole = ap Err (sym p.2) ∙ sym p.1 ∙ is in
-    let stopped : _ ≡ stop.ReadFault f = cc in
-    absurd (refusal-no-read c.in_err-planned.field-0.0 f stopped)
-
-pub returns-in_err-planned-clause-write_fault : goal.returns-in_err-planned-clause-write_fault
-returns-in_err-planned-clause-write_fault g c =
-    λ f is.
-    let p = err_from_is_err_and c.from_residual-in_err-planned.result c.from_residual-in_err-planned.ensures.1 in
-    let whole = ap Err (sym p.2) ∙ sym p.1 ∙ is in
-    let stopped : _ ≡ stop.WriteFault f = cc in
-    absurd (refusal-no-write c.in_err-planned.field-0.0 f stopped)
+    let p = err_from_is_err_and c.from_residual.result c.from_residual.ensures.1 in
+    rw (p.1, p.2) (inputs-come c.in_err-settled.field-0.0 _ fs (g.S.Shelf.state c.read_settled.new.shelf) (c.in_err-settled.ensures.came_to fs told))
 
 pub returns-in_err-planned-clause-told : goal.returns-in_err-planned-clause-told
 returns-in_err-planned-clause-told g c =
     λ fs told.
     let p = err_from_is_err_and c.from_residual-in_err-planned.result c.from_residual-in_err-planned.ensures.1 in
-    let still = c.read_inputs.ensures.same ∙ told in
-    let outcome = outcome-stated fs c.args.name.now c.in_ok-inputs.inputs _ _ (c.in_ok-inputs.ensures.told fs told) c.in_ok-counted.ensures.told
-    (c.in_ok-priors.ensures.told c.in_ok-inputs.inputs c.in_ok-counted.ensures.counted fs still) in
-    rw (p.1, p.2, outcome, ← c.as_slice.ensures) (refusal-meets c.in_err-planned.field-0.0 _ (c.in_err-planned.ensures.gives c.in_ok-inputs.inputs c.in_ok-counted.ensures.counted))
+    let read = ok-and (λ s. IsSettledOf s c.in_ok-settled.settled) (settled_of fs c.args.name.now) (c.in_ok-settled.ensures.told fs told) in
+    rw (p.1, p.2) (release-meets c.in_err-planned.field-0.0 fs c.args.name.now read.0 read.1 (c.in_err-planned.ensures.gives read.0 read.2))
 
-pub returns-in_err-planned-clause-absent : goal.returns-in_err-planned-clause-absent
-returns-in_err-planned-clause-absent g c =
-    λ f is.
+pub returns-in_err-planned-clause-left : goal.returns-in_err-planned-clause-left
+returns-in_err-planned-clause-left g c =
+    λ fs told.
     let p = err_from_is_err_and c.from_residual-in_err-planned.result c.from_residual-in_err-planned.ensures.1 in
-    let whole = ap Err (sym p.2) ∙ sym p.1 ∙ is in
-    let stopped : _ ≡ stop.Refused (fault.Absent f) = cc in
-    absurd (refusal-of-cells c.in_err-planned.field-0.0 _ _ (fault.Absent f) (c.in_err-planned.ensures.gives c.in_ok-inputs.inputs c.in_ok-counted.ensures.counted) stopped)
+    rw (p.1, p.2) (release-leaves c.in_err-planned.field-0.0 _ _)
 
-pub returns-in_err-planned-clause-too_long : goal.returns-in_err-planned-clause-too_long
-returns-in_err-planned-clause-too_long g c =
-    λ f is.
+pub returns-in_err-planned-clause-untouched : goal.returns-in_err-planned-clause-untouched
+returns-in_err-planned-clause-untouched g c =
     let p = err_from_is_err_and c.from_residual-in_err-planned.result c.from_residual-in_err-planned.ensures.1 in
-    let whole = ap Err (sym p.2) ∙ sym p.1 ∙ is in
-    let stopped : _ ≡ stop.Refused (fault.TooLong f) = cc in
-    absurd (refusal-of-cells c.in_err-planned.field-0.0 _ _ (fault.TooLong f) (c.in_err-planned.ensures.gives c.in_ok-inputs.inputs c.in_ok-counted.ensures.counted) stopped)
+    rw (p.1, p.2) (release-leaves-all c.in_err-planned.field-0.0 _)
+
+pub returns-in_err-planned-clause-cause : goal.returns-in_err-planned-clause-cause
+returns-in_err-planned-clause-cause g c =
+    let p = err_from_is_err_and c.from_residual-in_err-planned.result c.from_residual-in_err-planned.ensures.1 in
+    rw (p.1, p.2) (release-cause c.in_err-planned.field-0.0 _ _ _)
+
+pub returns-in_err-planned-clause-came_to : goal.returns-in_err-planned-clause-came_to
+returns-in_err-planned-clause-came_to g c =
+    λ fs told.
+    let p = err_from_is_err_and c.from_residual-in_err-planned.result c.from_residual-in_err-planned.ensures.1 in
+    rw (p.1, p.2) (release-come c.in_err-planned.field-0.0 _ fs (g.S.Shelf.state c.read_settled.new.shelf))
+
+pub put_files-requires : goal.put_files-requires
+put_files-requires g c =
+    let many : length c.in_ok-planned.planned.puts ≡ 1 + length c.in_ok-settled.settled.described.job.tables = c.in_ok-planned.ensures.some in
+    subst (λ (puts : List Put). 0 < length puts) (sym c.as_slice.ensures) (omega (arith, many))
 
 pub returns-in_err-put_files-clause-told : goal.returns-in_err-put_files-clause-told
 returns-in_err-put_files-clause-told g c =
     λ fs told.
     let p = err_from_is_err_and c.from_residual-in_err-put_files.result c.from_residual-in_err-put_files.ensures.1 in
-    rw (p.1, p.2) (halt-meets c.in_err-put_files.field-0.0 _ c.in_ok-planned.planned c.in_err-put_files.ensures.only (outcome-stated fs c.args.name.now c.in_ok-inputs.inputs _ _ (c.in_ok-inputs.ensures.told fs told) c.in_ok-counted.ensures.told
-    (c.in_ok-priors.ensures.told c.in_ok-inputs.inputs c.in_ok-counted.ensures.counted fs (c.read_inputs.ensures.same ∙ told) ∙ ap Ok (sym c.as_slice.ensures))
-    ∙ c.in_ok-planned.ensures.gives c.in_ok-inputs.inputs c.in_ok-counted.ensures.counted))
+    let read = ok-and (λ s. IsSettledOf s c.in_ok-settled.settled) (settled_of fs c.args.name.now) (c.in_ok-settled.ensures.told fs told) in
+    rw (p.1, p.2) (puts-meet c.in_err-put_files.field-0.0 _ c.in_ok-planned.planned (outcome-settled fs c.args.name.now read.0 read.1 ∙ c.in_ok-planned.ensures.gives read.0 read.2))
 
 pub returns-in_err-put_files-clause-left : goal.returns-in_err-put_files-clause-left
 returns-in_err-put_files-clause-left g c =
     λ fs told.
     let p = err_from_is_err_and c.from_residual-in_err-put_files.result c.from_residual-in_err-put_files.ensures.1 in
+    let read = ok-and (λ s. IsSettledOf s c.in_ok-settled.settled) (settled_of fs c.args.name.now) (c.in_ok-settled.ensures.told fs told) in
     rw (p.1, p.2)
-    (halt-leaves c.in_err-put_files.field-0.0 _ c.in_ok-planned.planned _ _ c.in_err-put_files.ensures.only (outcome-stated fs c.args.name.now c.in_ok-inputs.inputs _ _ (c.in_ok-inputs.ensures.told fs told) c.in_ok-counted.ensures.told
-    (c.in_ok-priors.ensures.told c.in_ok-inputs.inputs c.in_ok-counted.ensures.counted fs (c.read_inputs.ensures.same ∙ told) ∙ ap Ok (sym c.as_slice.ensures))
-    ∙ c.in_ok-planned.ensures.gives c.in_ok-inputs.inputs c.in_ok-counted.ensures.counted)
-    (subst (λ (puts : List Put). (f : FileRef) → IsErrOf {T = Unit {0}} (Err c.in_err-put_files.field-0.0) (stop.WriteFault f) → OneInPart puts f (g.T.Tray.files c.args.tray.now) (g.T.Tray.files c.put_files.new.tray)) c.as_slice-2.ensures c.in_err-put_files.ensures.part)
-    (subst (λ (puts : List Put). IsErrOf {T = Unit {0}} (Err c.in_err-put_files.field-0.0) stop.Memory → SomeWhole puts (g.T.Tray.files c.args.tray.now) (g.T.Tray.files c.put_files.new.tray)) c.as_slice-2.ensures c.in_err-put_files.ensures.memory))
+    (puts-leave c.in_err-put_files.field-0.0 _ c.in_ok-planned.planned _ _ (outcome-settled fs c.args.name.now read.0 read.1 ∙ c.in_ok-planned.ensures.gives read.0 read.2)
+    (subst (λ (puts : List Put). (f : FileRef) → IsErrOf {T = Unit {0}} (Err c.in_err-put_files.field-0.0) (stop.WriteFault f) → OneInPart puts f (g.T.Tray.state c.args.tray.now) (g.T.Tray.state c.put_files.new.tray)) c.as_slice.ensures c.in_err-put_files.ensures.part)
+    (subst (λ (puts : List Put). IsErrOf {T = Unit {0}} (Err c.in_err-put_files.field-0.0) stop.Memory → SomeWhole puts (g.T.Tray.state c.args.tray.now) (g.T.Tray.state c.put_files.new.tray)) c.as_slice.ensures c.in_err-put_files.ensures.memory))
+
+pub returns-in_err-put_files-clause-untouched : goal.returns-in_err-put_files-clause-untouched
+returns-in_err-put_files-clause-untouched g c =
+    let p = err_from_is_err_and c.from_residual-in_err-put_files.result c.from_residual-in_err-put_files.ensures.1 in
+    rw (p.1, p.2) (puts-leave-all c.in_err-put_files.field-0.0 _ _)
+
+pub returns-in_err-put_files-clause-cause : goal.returns-in_err-put_files-clause-cause
+returns-in_err-put_files-clause-cause g c =
+    let p = err_from_is_err_and c.from_residual-in_err-put_files.result c.from_residual-in_err-put_files.ensures.1 in
+    rw (p.1, p.2) (puts-cause c.in_err-put_files.field-0.0 _ _ _ _ c.in_err-put_files.ensures.cause)
+
+pub returns-in_err-put_files-clause-came_to : goal.returns-in_err-put_files-clause-came_to
+returns-in_err-put_files-clause-came_to g c =
+    λ fs told.
+    let p = err_from_is_err_and c.from_residual-in_err-put_files.result c.from_residual-in_err-put_files.ensures.1 in
+    rw (p.1, p.2) (puts-come c.in_err-put_files.field-0.0 _ fs (g.S.Shelf.state c.read_settled.new.shelf))
 
 pub returns-clause-told : goal.returns-clause-told
 returns-clause-told g c =
     λ fs told.
-    rw (outcome-stated fs c.args.name.now c.in_ok-inputs.inputs _ _ (c.in_ok-inputs.ensures.told fs told) c.in_ok-counted.ensures.told
-    (c.in_ok-priors.ensures.told c.in_ok-inputs.inputs c.in_ok-counted.ensures.counted fs (c.read_inputs.ensures.same ∙ told) ∙ ap Ok (sym c.as_slice.ensures))
-    ∙ c.in_ok-planned.ensures.gives c.in_ok-inputs.inputs c.in_ok-counted.ensures.counted) refl
+    let read = ok-and (λ s. IsSettledOf s c.in_ok-settled.settled) (settled_of fs c.args.name.now) (c.in_ok-settled.ensures.told fs told) in
+    rw (outcome-settled fs c.args.name.now read.0 read.1 ∙ c.in_ok-planned.ensures.gives read.0 read.2) refl
 
 pub returns-clause-left : goal.returns-clause-left
 returns-clause-left g c =
     λ fs told.
-    rw (outcome-stated fs c.args.name.now c.in_ok-inputs.inputs _ _ (c.in_ok-inputs.ensures.told fs told) c.in_ok-counted.ensures.told
-    (c.in_ok-priors.ensures.told c.in_ok-inputs.inputs c.in_ok-counted.ensures.counted fs (c.read_inputs.ensures.same ∙ told) ∙ ap Ok (sym c.as_slice.ensures))
-    ∙ c.in_ok-planned.ensures.gives c.in_ok-inputs.inputs c.in_ok-counted.ensures.counted)
-    (c.in_ok-put_files.ensures.ok ∙ ap (λ (puts : List Put). option_map (λ out. put_all out puts) (g.T.Tray.files c.args.tray.now)) c.as_slice-2.ensures)
-
-pub returns-clause-once : goal.returns-clause-once
-returns-clause-once g c =
-    λ fs told.
-    let some : 0 < length c.in_ok-planned.planned.puts = rw c.in_ok-planned.ensures.some (omega arith) in
-    rw (outcome-stated fs c.args.name.now c.in_ok-inputs.inputs _ _ (c.in_ok-inputs.ensures.told fs told) c.in_ok-counted.ensures.told
-    (c.in_ok-priors.ensures.told c.in_ok-inputs.inputs c.in_ok-counted.ensures.counted fs (c.read_inputs.ensures.same ∙ told) ∙ ap Ok (sym c.as_slice.ensures))
-    ∙ c.in_ok-planned.ensures.gives c.in_ok-inputs.inputs c.in_ok-counted.ensures.counted)
-    (subst (λ (puts : List Put). g.T.Tray.puts c.put_files.new.tray ≡ counted (g.T.Tray.puts c.args.tray.now) (length puts)) c.as_slice-2.ensures (c.in_ok-put_files.ensures.once (subst (λ (puts : List Put). 0 < length puts) (sym c.as_slice-2.ensures) some)))
+    let read = ok-and (λ s. IsSettledOf s c.in_ok-settled.settled) (settled_of fs c.args.name.now) (c.in_ok-settled.ensures.told fs told) in
+    rw (outcome-settled fs c.args.name.now read.0 read.1 ∙ c.in_ok-planned.ensures.gives read.0 read.2)
+    (subst (λ (puts : List Put). AllWhole puts (g.T.Tray.state c.args.tray.now) (g.T.Tray.state c.put_files.new.tray)) c.as_slice.ensures c.in_ok-put_files.ensures.whole)
 
 pub returns-clause-some : goal.returns-clause-some
 returns-clause-some g c =
     let puts = c.in_ok-planned.planned.puts in
-    let job = c.in_ok-counted.ensures.ready.sound.job in
-    let many : length puts ≡ 1 + length c.in_ok-counted.counted.described.job.tables = c.in_ok-planned.ensures.some in
-    let some : 0 < length puts = rw many (omega arith) in (
+    let job = c.in_ok-settled.ensures.ready.sound.job in
+    let many : length puts ≡ 1 + length c.in_ok-settled.settled.described.job.tables = c.in_ok-planned.ensures.some in
+    let whole = subst (λ (puts : List Put). AllWhole puts (g.T.Tray.state c.args.tray.now) (g.T.Tray.state c.put_files.new.tray)) c.as_slice.ensures c.in_ok-put_files.ensures.whole in (
       length puts,
       omega (arith, many, job.tables.some),
       omega (arith, many, job.few),
-      subst (λ (puts : List Put). g.T.Tray.puts c.put_files.new.tray ≡ counted (g.T.Tray.puts c.args.tray.now) (length puts)) c.as_slice-2.ensures (c.in_ok-put_files.ensures.once (subst (λ (puts : List Put). 0 < length puts) (sym c.as_slice-2.ensures) some)),
+      whole.puts_made,
     )
+
+pub returns-clause-released : goal.returns-clause-released
+returns-clause-released g c =
+    λ fs told.
+    let read = ok-and (λ s. IsSettledOf s c.in_ok-settled.settled) (settled_of fs c.args.name.now) (c.in_ok-settled.ensures.told fs told) in
+    let whole = subst (λ (puts : List Put). AllWhole puts (g.T.Tray.state c.args.tray.now) (g.T.Tray.state c.put_files.new.tray)) c.as_slice.ensures c.in_ok-put_files.ensures.whole in
+    release-is fs c.args.name.now read.0 c.in_ok-planned.planned _ _ read.1 (c.in_ok-planned.ensures.gives read.0 read.2) whole
+    (c.in_ok-planned.ensures.some ∙ ap (λ (d : Described). 1 + length d.job.tables) read.2.described)
+
+pub returns-clause-cause : goal.returns-clause-cause
+returns-clause-cause g c = released-cause c.in_ok-planned.planned.summary _ _ _ _
+
+pub returns-clause-came_to : goal.returns-clause-came_to
+returns-clause-came_to g c = λ fs told f is. absurd cc

@@ -42,9 +42,9 @@ tables-preserved c =
       sound = sound-next (length trees) tables t table at c.tables.invariant.sound none;
       named = named;
       room = subst (λ (names : List Name). length names ≤ most_cells) made.0 made.1;
-      begun = c.in_ok-push-2.ensures.items
-          ∙ ap (λ (starts : List ℕ). starts ++ c.len.result ∷ []) c.tables.invariant.begun
-          ∙ ap (λ (n : ℕ). starts_of trees tables (t + 1) ++ n ∷ []) (c.len.ensures ∙ ap (λ (names : List Name). length names) named)
+      begun = c.in_ok-push-3.ensures.items
+          ∙ ap (λ (starts : List ℕ). starts ++ c.len-in-tables.result ∷ []) c.tables.invariant.begun
+          ∙ ap (λ (n : ℕ). starts_of trees tables (t + 1) ++ n ∷ []) (c.len-in-tables.ensures ∙ ap (λ (names : List Name). length names) named)
           ∙ sym (starts-more trees tables (t + 1));
     }
 

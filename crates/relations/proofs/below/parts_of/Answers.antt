@@ -2,9 +2,9 @@ use Rattle.std.proofs.Common.{◌≡◌, ◌<◌, ◌≤◌, ◌+◌, ◌-◌, �
 use Rattle.std.specs.Option.{option_map_or}
 use Rattle.sdc_base.specs.Relations.{number_among, parts_among}
 use Rattle.linked_tables.specs.Shared.{cells}
-use Rattle.hierarchy.specs.Children.{next_sibling}
-use Rattle.relations.proofs.Children.{children_from, children-are, children-next, first-is_child, left_from, next-is_child, next-room, next-smaller}
-use Rattle.relations.proofs.Lists.{option-front, option-most}
+use Rattle.hierarchy.specs.Children.{first_child, next_sibling}
+use Rattle.hierarchy.proofs.Children.{children_from, children-are, children-next, first-is_child, left_from, next-is_child, next-room, next-smaller}
+use Rattle.sdc_base.proofs.GrowingLists.{option-front, option-most}
 use Rattle.relations.proofs.below.parts_of.Goals as goal
 
 pub children-init : goal.children-init
@@ -13,11 +13,12 @@ children-init c =
     let tree = slice_index_or book.trees c.args.variable [] in
     let above = slice_index c.args.name.now c.args.variable in
     let parts : List ℕ → List ℕ = parts_among (cells book) c.args.name.now c.args.variable in
+    let met = c.first_child-met.ensures ∙ ap (first_child tree) c.code_for.ensures in
     let none : length c.new-parts.result.items ≡ 0 = ap (λ (one : List ℕ). length one) c.new-parts.ensures.items in
     record {
-      rest = ap (λ (done : List ℕ). done ++ parts (children_from tree above c.first_below-met.result)) c.new-parts.ensures.items
-          ∙ ap parts (ap (children_from tree above) c.first_below-met.ensures ∙ sym (children-are tree above));
-      child = λ child is. first-is_child tree above child (sym c.first_below-met.ensures ∙ is);
+      rest = ap (λ (done : List ℕ). done ++ parts (children_from tree above c.first_child-met.result)) c.new-parts.ensures.items
+          ∙ ap parts (ap (children_from tree above) met ∙ sym (children-are tree above));
+      child = λ child is. first-is_child tree above child (sym met ∙ is);
       few = omega (arith, none);
       named = λ k d h. absurd (omega (arith, none, h));
     }
@@ -28,7 +29,7 @@ children-smaller c =
     let tree = slice_index_or book.trees c.args.variable [] in
     let above = slice_index c.args.name.now c.args.variable in
     let one = c.children.invariant.child c.in-Some.child c.in-Some.is in
-    subst (λ (met : Option ℕ). left_from tree c.next_beside-met.result < left_from tree met) (sym c.in-Some.is) (next-smaller tree above c.in-Some.child c.next_beside-met.result one c.next_beside-met.ensures)
+    subst (λ (met : Option ℕ). left_from tree c.next_sibling-met.result < left_from tree met) (sym c.in-Some.is) (next-smaller tree above c.in-Some.child c.next_sibling-met.result one c.next_sibling-met.ensures)
 
 pub children-preserved : goal.children-preserved
 children-preserved c =
@@ -46,15 +47,15 @@ children-preserved c =
     let room = c.children.invariant.few in
     let before : length old ≤ child = subst (λ (met : Option ℕ). length old ≤ option_map_or (λ child. child) met (length tree)) c.in-Some.is room in
     record {
-      rest = ap (λ (new : List ℕ). new ++ parts (children_from tree above c.next_beside-met.result)) c.in_ok-add_part.ensures.added
-          ∙ ap (λ (met : Option ℕ). (old ++ option_to_list part) ++ parts (children_from tree above met)) c.next_beside-met.ensures
+      rest = ap (λ (new : List ℕ). new ++ parts (children_from tree above c.next_sibling-met.result)) c.in_ok-add_part.ensures.added
+          ∙ ap (λ (met : Option ℕ). (old ++ option_to_list part) ++ parts (children_from tree above met)) c.next_sibling-met.ensures
           ∙ option-front old part (parts (children_from tree above (next_sibling tree child)))
           ∙ ap (λ (codes : List ℕ). old ++ parts codes) (sym (children-next tree above child one.within one.parent))
           ∙ ap (λ (met : Option ℕ). old ++ parts (children_from tree above met)) (sym c.in-Some.is)
           ∙ c.children.invariant.rest;
       child = λ next is.
-          let more = next-is_child tree above child next one.within one.parent (sym c.next_beside-met.ensures ∙ is) in
+          let more = next-is_child tree above child next one.within one.parent (sym c.next_sibling-met.ensures ∙ is) in
           record { behind = omega arith; within = more.within; parent = more.parent };
-      few = next-room tree above child (length c.add_part.new.parts.items) c.next_beside-met.result one c.next_beside-met.ensures (omega (arith, added, before));
+      few = next-room tree above child (length c.add_part.new.parts.items) c.next_sibling-met.result one c.next_sibling-met.ensures (omega (arith, added, before));
       named = c.in_ok-add_part.ensures.within;
     }

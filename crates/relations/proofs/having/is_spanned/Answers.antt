@@ -2,7 +2,7 @@ use Rattle.std.proofs.Common.{◌≡◌, ◌<◌, ◌+◌, ◌||◌, true, false
 use Rattle.std.specs.List.{list_any}
 use Rattle.std.specs.Option.{option_map_or}
 use Rattle.relations.specs.Having.{has_spanned}
-use Rattle.relations.proofs.Lists.{any-next}
+use Rattle.sdc_base.proofs.GrowingLists.{any-next}
 use Rattle.relations.proofs.having.is_spanned.Goals as goal
 
 pub returns-then-has_spanned : goal.returns-then-has_spanned

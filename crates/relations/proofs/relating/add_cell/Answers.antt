@@ -6,7 +6,7 @@ use Rattle.sdc_base.specs.Records.{Name}
 use Rattle.sdc_base.specs.Relations.{Sum, relation_for, relations_for}
 use Rattle.linked_tables.specs.Shared.{cells}
 use Rattle.relations.specs.Holding.{sum_in}
-use Rattle.relations.proofs.Lists.{option-front, range-end, range-next}
+use Rattle.sdc_base.proofs.GrowingLists.{option-front, range-end, range-next}
 use Rattle.relations.proofs.relating.add_cell.Goals as goal
 
 pub variables-preserved : goal.variables-preserved

@@ -6,11 +6,17 @@ use Rattle.sdc_base.specs.declared.relation.Relation.{Relation}
 use Rattle.linked_tables.specs.Shared.{cells}
 use Rattle.relations.proofs.Tables.{cell-of_trees}
 use Rattle.relations.proofs.Holding.{at-named, tables-of}
-use Rattle.relations.proofs.Lists.{all-nothing}
+use Rattle.sdc_base.proofs.GrowingLists.{all-nothing}
 use Rattle.relations.proofs.relating.add_relation.Goals as goal
 
 pub has_relation-requires-clause-cell : goal.has_relation-requires-clause-cell
 has_relation-requires-clause-cell c = at-named (cells c.args.book.now) c.args.cell c.args.name.now c.requires.at
+
+pub has_relation-requires-clause-known : goal.has_relation-requires-clause-known
+has_relation-requires-clause-known c =
+    let book = c.args.book.now in
+    let long = (cell-of_trees book.trees book.tables c.args.name.now c.requires.book.trees (tables-of book c.requires.book) (at-named (cells book) c.args.cell c.args.name.now c.requires.at)).long in
+    omega (arith, long, c.requires.known)
 
 pub parts_of-requires-clause-long : goal.parts_of-requires-clause-long
 parts_of-requires-clause-long c =

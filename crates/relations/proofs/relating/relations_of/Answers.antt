@@ -6,7 +6,7 @@ use Rattle.sdc_base.specs.Systems.{HoldOn}
 use Rattle.sdc_base.specs.declared.relation.Relation.{Relation}
 use Rattle.linked_tables.specs.Shared.{cells}
 use Rattle.relations.specs.Holding.{sum_in, truth_at}
-use Rattle.relations.proofs.Lists.{range-end, range-next}
+use Rattle.sdc_base.proofs.GrowingLists.{range-end, range-next}
 use Rattle.relations.proofs.Holding.{relations-hold}
 use Rattle.relations.proofs.relating.relations_of.Goals as goal
 

@@ -26,7 +26,7 @@ write_below-requires t c =
     let short : length place < length table = omega (arith, c.if-place-len.false, c.len.ensures.len) in
     let same : longer ≡ place ++ code ∷ [] = c.as_slice-in-codes.ensures ∙ c.with_code-longer.ensures in
     let size : length longer ≡ length place + 1 = ap (λ (p : List ℕ). length p) same ∙ length-append place (code ∷ []) in
-    let sizes = c.size_at-size.ensures.size ∙ ap (λ (spanned : List ℕ). length (slice_index_or trees (get_or spanned (length place) 0) [])) c.as_slice.ensures in
+    let sizes = c.size-size.ensures.size ∙ ap (λ (spanned : List ℕ). length (slice_index_or trees (get_or spanned (length place) 0) [])) c.as_slice.ensures in
     let small : code < length (slice_index_or trees (get_or table (length place) 0) []) = omega (arith, c.codes-test.true, sizes) in
     (omega (arith, size, short, c.decreases), (c.codes.invariant.ready, (c.requires.page, (omega (arith, size, short), subst (λ (p : List ℕ). is_place_in (trees_of trees (take (length p) table)) p ≡ true) (sym same) (place-more trees table place code short c.requires.place small)))))
 

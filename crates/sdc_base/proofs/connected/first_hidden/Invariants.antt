@@ -1,4 +1,4 @@
-use Rattle.std.proofs.Common.{◌≡◌, ◌==◌, ◌||◌, true, false, ℕ, take}
+use Rattle.std.proofs.Common.{◌≡◌, ◌==◌, true, false, ℕ, take}
 use Rattle.std.specs.List.{list_any}
 use Rattle.sdc_base.specs.HiddenSets.{is_hidden}
 use Rattle.sdc_base.proofs.connected.first_hidden.Given as goal

@@ -1,6 +1,5 @@
-use Rattle.std.proofs.Common.{◌≡◌, ◌<◌, ◌≤◌, ℕ, List, length, slice_index, slice_set, zero, refl, arith, subst}
-use Rattle.sdc_base.specs.Components.{Linked}
-use Rattle.sdc_base.specs.Forests.{IsForest, LeadsTo, Meet}
+use Rattle.std.proofs.Common.{◌<◌, length, slice_set, zero, refl, arith}
+use Rattle.sdc_base.specs.Forests.{Meet}
 use Rattle.sdc_base.proofs.Chains.{linked-then, linked-turned}
 use Rattle.sdc_base.proofs.Forest.{forest-set, leads-linked, meet-end, meet-joined, meet-kept, meet-turned}
 use Rattle.sdc_base.proofs.connected.join.Goals as goal

@@ -1,4 +1,4 @@
-use Rattle.std.proofs.Common.{◌≡◌, ◌<◌, ◌≤◌, ℕ, length, slice_index, slice_set, ap, arith, sym, ◌∙◌}
+use Rattle.std.proofs.Common.{◌≡◌, ◌<◌, ◌≤◌, length, slice_index, slice_set, ap, arith, sym, ◌∙◌}
 use Rattle.std.proofs.lemmas.List.{get_or_read, length-set}
 use Rattle.sdc_base.proofs.Forest.{falls-set}
 use Rattle.sdc_base.proofs.Shortening.{PointsPast, ends-past, forest-past, leads-past, meet-past}

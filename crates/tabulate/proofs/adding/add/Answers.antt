@@ -2,7 +2,7 @@ use Rattle.std.proofs.Common.{rules}
 use Rattle.std.specs.Int.{w128}
 use Rattle.std.specs.Prelude.{FitsSigned}
 use Rattle.std.proofs.lemmas.Int.{to_z-of_z}
-use Rattle.tabulate.specs.Holding.{units_of}
+use Rattle.tabulate.specs.MarkRecords.{units_of}
 use Rattle.tabulate.proofs.MarkSteps.{holds-more}
 use Rattle.tabulate.proofs.adding.add.Goals as goal
 

@@ -5,6 +5,6 @@ use Rattle.worlds.proofs.protection.check_lines.Given as goal
 abbrev pub invariant-cells : goal.invariant-cells
 invariant-cells l = record {
   long : length l.scratch ≡ length l.fn.scratch;
-  count : l.line + length (asked_of l.number (drop l.number l.cells)) ≡ length l.worlds;
-  rest : lines_fault l.system l.cells l.hidden.flags 0 (asked_of 0 l.cells) l.worlds ≡ lines_fault l.system l.cells l.hidden.flags l.line (asked_of l.number (drop l.number l.cells)) (drop l.line l.worlds);
+  count : l.line + length (asked_of l.number (drop l.number l.pattern.cells.now)) ≡ length l.worlds;
+  rest : lines_fault l.pattern.system.now l.pattern.cells.now l.pattern.hidden.now.flags 0 (asked_of 0 l.pattern.cells.now) l.worlds ≡ lines_fault l.pattern.system.now l.pattern.cells.now l.pattern.hidden.now.flags l.line (asked_of l.number (drop l.number l.pattern.cells.now)) (drop l.line l.worlds);
 }

@@ -3,4 +3,4 @@ use Rattle.worlds.specs.ProtectFaults.{primary_shown}
 use Rattle.worlds.proofs.protection.shown_primary.Given as goal
 
 abbrev pub invariant-loop-number : goal.invariant-loop-number
-invariant-loop-number l = primary_shown l.flags 0 l.cells ≡ primary_shown l.flags l.number (drop l.number l.cells)
+invariant-loop-number l = primary_shown l.pattern.hidden.now.flags 0 l.pattern.cells.now ≡ primary_shown l.pattern.hidden.now.flags l.number (drop l.number l.pattern.cells.now)

@@ -12,4 +12,4 @@ returns-clause-refutation c =
 
 pub returns-clause-unprotected : goal.returns-clause-unprotected
 returns-clause-unprotected c = λ ok.
-    no_world c.args.system.now c.args.cells.now c.args.hidden.now.flags c.args.cell c.args.side c.args.multipliers.now c.requires.cells c.requires.asked ((returns-clause-refutation c).0 ok)
+    no_world c.args.system.now c.args.cells.now c.args.hidden.now.flags c.args.cell c.args.side c.args.multipliers.now c.requires.ground.each_cell c.requires.asked ((returns-clause-refutation c).0 ok)

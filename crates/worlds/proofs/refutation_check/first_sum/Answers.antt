@@ -1,4 +1,11 @@
-use Rattle.std.proofs.Common.{◌∙◌, sym, length, arith, Fits, w32, rules}
+use Rattle.std.proofs.Common.{◌≡◌, ◌∙◌, ℕ, sym, length, to_z, of_z, arith, Fits, FitsSigned, w32, rules}
+use Rattle.std.specs.Int.{w128}
+use Rattle.std.proofs.lemmas.Int.{to_z-of_z}
+use Rattle.sdc_base.specs.Forms.{coefficient}
+use Rattle.worlds.specs.Gathered.{at}
+use Rattle.worlds.specs.RefutationFaults.{added}
+use Rattle.worlds.proofs.TrueTests.{on_ok}
+use Rattle.worlds.proofs.RefutationLaws.{added_up}
 use Rattle.worlds.proofs.Lists.{listed_where_none}
 use Rattle.worlds.proofs.refutation_check.first_sum.Goals as goal
 
@@ -7,5 +14,11 @@ gather-requires-clause-relations c = (listed_where_none (length c.as_slice-relat
 
 pub sum_shares-requires-clause-few : goal.sum_shares-requires-clause-few
 sum_shares-requires-clause-few c =
-    let fits : Fits w32 c.args.system.now.cells = search rules in
-    omega (arith, fits, c.requires.cells)
+    let fits : Fits w32 c.args.pattern.now.system.now.cells = search rules in
+    omega (arith, fits, c.args.pattern.now.one_each.each_cell)
+
+pub returns-clause-coefficients : goal.returns-clause-coefficients
+returns-clause-coefficients c =
+    let den : FitsSigned w128 c.args.multipliers.now.den = search rules in
+    on_ok ((number : ℕ) → at c.gather.new.numbers number ≡ coefficient (added c.args.pattern.now.system.now c.args.cell c.args.side c.args.multipliers.now) number) c.sum_shares.result
+    (added_up c.args.pattern.now.system.now c.args.cell c.args.side c.args.multipliers.now (length c.args.scratch.now) c.as_slice-relations.result.now (to_z w128 (of_z w128 c.args.multipliers.now.den)) c.as_slice-listed.result.now c.gather.new.numbers c.requires.asked c.requires.scratch (search rules) (to_z-of_z w128 c.args.multipliers.now.den den) (search rules) c.in_ok-gather.ensures.ok)

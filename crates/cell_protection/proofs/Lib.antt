@@ -1,0 +1,3 @@
+pub mod Spellable
+pub mod Protecting
+pub mod CertificateLists

@@ -1,0 +1,96 @@
+-- What planning and protecting come to, from what the plan and the protection say.
+use Rattle.std.proofs.Common.{Result, Ok, Err, IfOk, ◌≡◌, ℕ, zero, suc, true, false, List, [], ◌∷◌, map, All, refl, ap, ap₂, ◌∙◌, subst, arith}
+use Rattle.std.specs.List.{AllByRecursion}
+use Rattle.sdc_base.specs.Kinds.{is_fixed}
+use Rattle.sdc_base.specs.HiddenSets.{may_hide}
+use Rattle.sdc_base.specs.declared.cell.Cell.{Cell}
+use Rattle.sdc_base.specs.declared.cell.Kind.{Kind}
+use Rattle.sdc_base.specs.declared.cell.Kind.TheVariants.{Primary, Free, Fixed}
+use Rattle.sdc_base.specs.declared.system.System.{System}
+use Rattle.sdc_base.specs.declared.trail.PlanStep.{PlanStep}
+use Rattle.sdc_base.specs.declared.method.Method.{Method}
+use Rattle.cost_rule.specs.Costs.{price_of}
+use Rattle.cost_rule.specs.declared.kind.CostKind.{CostKind}
+use Rattle.linked_tables.specs.Held.{Held}
+use Rattle.linked_tables.specs.declared.mark.Mark.{Mark}
+use Rattle.hypercube.proofs.AllOf.{all-flat, all-more}
+use Rattle.modular_plan.specs.Plans.{trail_of}
+use Rattle.modular_plan.specs.StepLaws.{CanBeHidden, IsWholeStep}
+use Rattle.repair.specs.HidingOrder.{Case, MayHide, case, corners_of, hide_subjects, planned_set, prices_of}
+use Rattle.repair.specs.Stops.{StopsFor}
+use Rattle.repair.specs.Verdicts.{IsVerdict}
+use Rattle.repair.specs.declared.stopped.Stopped.{Stopped}
+use Rattle.repair.specs.declared.verdict.Verdict.{Verdict}
+use Rattle.repair.specs.declared.verdict.Verdict.TheVariants as verdict
+use Rattle.cell_protection.specs.Protections.{AreNarrow, HasText, IsProtectionOf, passes_of, planned_from, protection_by}
+use Rattle.cell_protection.proofs.Spellable.{spellable}
+
+-- prices are told by the facts of marks alone
+pub same-prices : (cost : CostKind) (cells : List Cell) (old new : List Mark) → map (λ mark. mark.facts) new ≡ map (λ mark. mark.facts) old → prices_of cost cells new ≡ prices_of cost cells old
+same-prices cost [] old new same = refl
+same-prices cost (cell ∷ cells) [] [] same = refl
+same-prices cost (cell ∷ cells) [] (mark ∷ new) same = cc
+same-prices cost (cell ∷ cells) (mark ∷ old) [] same = cc
+same-prices cost (cell ∷ cells) (mark ∷ old) (other ∷ new) same =
+    let here : other.facts ≡ mark.facts = cc in
+    let rest : map (λ one. one.facts) new ≡ map (λ one. one.facts) old = cc in
+    ap₂ (λ (price : ℕ) (prices : List ℕ). price ∷ prices) (ap (price_of cost cell.price) here) (same-prices cost cells old new rest)
+
+may : (kind : Kind) → is_fixed kind ≡ false → may_hide kind ≡ true
+may Primary h = refl
+may Free h = refl
+may Fixed h = cc
+
+by-place : {X : Type 0} (P : X → Type 0) (xs : List X) → AllByRecursion P xs → All P xs
+by-place P [] all k d within = absurd (omega (arith, within))
+by-place P (x ∷ xs) all zero d within = all.0
+by-place P (x ∷ xs) all (suc k) d within = by-place P xs all.1 k d (omega (arith, within))
+
+-- the corners of whole steps may be hidden
+pub corners-may : (book : Held) (cells : List Cell) (steps : List PlanStep) → AllByRecursion (IsWholeStep book cells) steps → All (MayHide cells) (corners_of steps)
+corners-may book cells steps all =
+    by-place (MayHide cells) (corners_of steps)
+    (all-flat (MayHide cells) (λ step. step.corners) steps
+    (all-more (IsWholeStep book cells) (λ step. AllByRecursion (MayHide cells) step.corners) steps
+    (λ step whole. all-more (CanBeHidden cells) (MayHide cells) step.corners (λ number can. record { cell = can.cell; found = can.found; may = may can.cell.kind can.not_fixed }) whole.hideable)
+    all))
+
+-- a verdict with the certificate of its set is what protecting comes to
+pub outcome-by : (c : Case) (prices : List ℕ) (method : Method) (steps : List PlanStep) (limit : ℕ) (one : Verdict) → IsVerdict c prices (planned_from c steps) one → IsProtectionOf c prices method steps limit (protection_by method c steps one)
+outcome-by c prices method steps limit (verdict.Protected protected repairs needs) is = record { verdict = is; certificate_is = refl }
+outcome-by c prices method steps limit (verdict.Cannot cell side multipliers) is = is
+
+-- that certificate has a text
+pub text-by : (book : Held) (system : System) (cells : List Cell) (prices : List ℕ) (method : Method) (steps : List PlanStep) (one : Verdict) → AreNarrow book.tables → AllByRecursion (IsWholeStep book cells) steps
+    → IsVerdict (case system cells) prices (planned_from (case system cells) steps) one → HasText (protection_by method (case system cells) steps one)
+text-by book system cells prices method steps (verdict.Protected protected repairs needs) narrow whole is =
+    spellable book method system cells prices (planned_from (case system cells) steps) (hide_subjects (planned_from (case system cells) steps) repairs) protected steps repairs needs narrow.few narrow.each whole is.0 is.1
+text-by book system cells prices method steps (verdict.Cannot cell side multipliers) narrow whole is = tt
+
+-- the steps and the prices are those by a job's own kind of costs, before the plan marked any cell
+moved-steps : (book : Held) (cells : List Cell) (kind cost : CostKind) (passes other : ℕ) (steps : List PlanStep) → kind ≡ cost → passes ≡ other → steps ≡ trail_of book cells kind passes → steps ≡ trail_of book cells cost other
+moved-steps book cells kind cost passes other steps same by is = is ∙ ap₂ (λ (one : CostKind) (n : ℕ). trail_of book cells one n) same by
+
+moved-prices : (cells : List Cell) (kind cost : CostKind) (old new marks : List Mark) → kind ≡ cost → marks ≡ new → map (λ mark. mark.facts) new ≡ map (λ mark. mark.facts) old → prices_of kind cells marks ≡ prices_of cost cells old
+moved-prices cells kind cost old new marks same are facts = ap (λ (one : CostKind). prices_of one cells marks) same ∙ ap (λ (ms : List Mark). prices_of cost cells ms) are ∙ same-prices cost cells old new facts
+
+pub outcome-moves : (system : System) (cells : List Cell) (kind cost : CostKind) (book : Held) (new marks : List Mark) (method : Method) (passes limit : ℕ) (steps : List PlanStep) (one : Verdict) → kind ≡ cost → marks ≡ new → map (λ mark. mark.facts) new ≡ map (λ mark. mark.facts) book.marks
+    → passes ≡ passes_of method → steps ≡ trail_of book cells kind passes → IsVerdict (case system cells) (prices_of kind cells marks) (planned_set cells (corners_of steps)) one
+    → IsProtectionOf (case system cells) (prices_of cost cells book.marks) method (trail_of book cells cost (passes_of method)) limit (protection_by method (case system cells) steps one)
+outcome-moves system cells kind cost book new marks method passes limit steps one same are facts by made is =
+    let prices = prices_of cost cells book.marks in
+    subst (λ (all : List PlanStep). IsProtectionOf (case system cells) prices method all limit (protection_by method (case system cells) steps one)) (moved-steps book cells kind cost passes (passes_of method) steps same by made)
+    (outcome-by (case system cells) prices method steps limit one
+    (subst (λ (all : List ℕ). IsVerdict (case system cells) all (planned_set cells (corners_of steps)) one) (moved-prices cells kind cost book.marks new marks same are facts) is))
+
+pub stop-moves : (system : System) (cells : List Cell) (kind cost : CostKind) (book : Held) (new marks : List Mark) (method : Method) (passes limit : ℕ) (steps : List PlanStep) (stopped : Stopped) → kind ≡ cost → marks ≡ new → map (λ mark. mark.facts) new ≡ map (λ mark. mark.facts) book.marks
+    → passes ≡ passes_of method → steps ≡ trail_of book cells kind passes → StopsFor (case system cells) (prices_of kind cells marks) (planned_set cells (corners_of steps)) limit stopped.fault stopped.repairs stopped.shown
+    → StopsFor (case system cells) (prices_of cost cells book.marks) (planned_set cells (corners_of (trail_of book cells cost (passes_of method)))) limit stopped.fault stopped.repairs stopped.shown
+stop-moves system cells kind cost book new marks method passes limit steps stopped same are facts by made is =
+    subst (λ (prices : List ℕ). StopsFor (case system cells) prices (planned_set cells (corners_of (trail_of book cells cost (passes_of method)))) limit stopped.fault stopped.repairs stopped.shown) (moved-prices cells kind cost book.marks new marks same are facts)
+    (subst (λ (all : List PlanStep). StopsFor (case system cells) (prices_of kind cells marks) (planned_set cells (corners_of all)) limit stopped.fault stopped.repairs stopped.shown) (moved-steps book cells kind cost passes (passes_of method) steps same by made) is)
+
+-- what holds of a result, where something else of it does
+pub if-ok : {T E : Type 0} (P Q : T → Type 0) (r : Result T E) → ((x : T) → P x → Q x) → IfOk r P → IfOk r Q
+if-ok P Q (Ok x) more is = more x is
+if-ok P Q (Err e) more is = is

@@ -1,0 +1,42 @@
+use Rattle.std.proofs.Common.{◌≡◌, List, All, sym, subst}
+use Rattle.cost_rule.specs.Costs.{AreCosted}
+use Rattle.linked_tables.specs.declared.mark.Mark.{Mark}
+use Rattle.modular_plan.specs.Plans.{trail_of}
+use Rattle.modular_plan.proofs.SameBooks.{same-costed}
+use Rattle.repair.specs.HidingOrder.{case, prices_of}
+use Rattle.cell_protection.specs.Protections.{HasText, IsProtectionOf, passes_of, protection_by}
+use Rattle.cell_protection.specs.declared.protection.Protection.{Protection}
+use Rattle.cell_protection.proofs.Protecting.{corners-may, if-ok, outcome-moves, stop-moves, text-by}
+use Rattle.cell_protection.proofs.protection.protect_by.Goals as goal
+
+pub protect-outcome-requires-clause-costed : goal.protect-outcome-requires-clause-costed
+protect-outcome-requires-clause-costed g c =
+    subst (λ (marks : List Mark). All (λ (mark : Mark). AreCosted mark.facts) marks) (sym c.marks.ensures) (same-costed c.args.book.now c.plan.new.book c.plan.ensures.same c.requires.costed)
+
+pub protect-outcome-requires-clause-corners : goal.protect-outcome-requires-clause-corners
+protect-outcome-requires-clause-corners g c = corners-may c.args.book.now c.args.cells.now c.in_ok-trail.trail.steps c.in_ok-trail.ensures.whole
+
+pub returns-clause-outcome : goal.returns-clause-outcome
+returns-clause-outcome g c =
+    stop-moves c.args.system.now c.args.cells.now c.new-rule.result c.args.cost c.args.book.now c.plan.new.book.marks c.marks.result.now c.args.method c.passes_in.result c.args.limit c.in_ok-trail.trail.steps c.in-Err.stopped
+    c.new-rule.ensures.kind c.marks.ensures c.plan.ensures.same.facts c.passes_in.ensures c.in_ok-trail.ensures.trail c.in-Err.ensures.stopped
+
+pub returns-in-Ok-clause-outcome : goal.returns-in-Ok-clause-outcome
+returns-in-Ok-clause-outcome g c =
+    let all = case c.args.system.now c.args.cells.now in
+    let Outcome : Protection → Type 0 = IsProtectionOf all (prices_of c.args.cost c.args.cells.now c.args.book.now.marks) c.args.method (trail_of c.args.book.now c.args.cells.now c.args.cost (passes_of c.args.method)) c.args.limit in
+    let by = protection_by c.args.method all c.in_ok-trail.trail.steps c.in-Ok.verdict in
+    if-ok (λ made. made ≡ by) Outcome c.certified.result
+    (λ made is. subst Outcome (sym is)
+    (outcome-moves c.args.system.now c.args.cells.now c.new-rule.result c.args.cost c.args.book.now c.plan.new.book.marks c.marks.result.now c.args.method c.passes_in.result c.args.limit c.in_ok-trail.trail.steps c.in-Ok.verdict
+    c.new-rule.ensures.kind c.marks.ensures c.plan.ensures.same.facts c.passes_in.ensures c.in_ok-trail.ensures.trail c.in-Ok.ensures.verdict))
+    c.certified.ensures
+
+pub returns-in-Ok-clause-text : goal.returns-in-Ok-clause-text
+returns-in-Ok-clause-text g c =
+    let all = case c.args.system.now c.args.cells.now in
+    let by = protection_by c.args.method all c.in_ok-trail.trail.steps c.in-Ok.verdict in
+    if-ok (λ made. made ≡ by) HasText c.certified.result
+    (λ made is. subst HasText (sym is)
+    (text-by c.args.book.now c.args.system.now c.args.cells.now (prices_of c.new-rule.result c.args.cells.now c.marks.result.now) c.args.method c.in_ok-trail.trail.steps c.in-Ok.verdict c.requires.narrow c.in_ok-trail.ensures.whole c.in-Ok.ensures.verdict))
+    c.certified.ensures

@@ -1,0 +1,54 @@
+-- What becomes of cells that are to be protected (own).
+use Rattle.std.specs.Prelude.{◌≡◌, ◌≤◌, ℕ, Bool, List, length, All}
+use Rattle.sdc_base.specs.declared.method.Method.{Method}
+use Rattle.sdc_base.specs.declared.method.Method.TheVariants as method
+use Rattle.sdc_base.specs.declared.trail.PlanStep.{PlanStep}
+use Rattle.worlds.specs.Protection.{Protection as HiddenSet}
+use Rattle.certificate.specs.Spelling.{IsSpellable}
+use Rattle.certificate.specs.declared.certificate.Certificate.{Certificate}
+use Rattle.repair.specs.HidingOrder.{Case, corners_of, planned_set}
+use Rattle.repair.specs.Stops.{StopsFor}
+use Rattle.repair.specs.Verdicts.{IsCannot, IsVerdict}
+use Rattle.repair.specs.declared.verdict.Verdict.{Verdict}
+use Rattle.repair.specs.declared.verdict.Verdict.TheVariants as verdict
+use Rattle.cell_protection.specs.Certifying.{certificate_made}
+use Rattle.cell_protection.specs.declared.protection.Protection.{Protection}
+use Rattle.cell_protection.specs.declared.protection.Protection.TheVariants as protection
+
+-- how many passes a plan makes: as many as GH says, one under MOD
+abbrev pub passes_of : Method → ℕ
+passes_of (method.Gh passes) = passes
+passes_of method.Modular = 1
+passes_of (method.Rnd base) = 0
+
+-- at most eight tables, each of one to eight variables
+pub record AreNarrow (tables : List (List ℕ)) : Type 0 where
+  pub few : length tables ≤ 8
+  pub each : All (λ table. (1 ≤ length table) × (length table ≤ 8)) tables
+
+-- the set with which repairing begins: the primary cells and the corners of the planned steps
+abbrev pub planned_from : Case → List PlanStep → List Bool
+planned_from c steps = planned_set c.cells (corners_of steps)
+
+-- A hidden set protects every primary cell, beginning with the cells of these steps, and each of its cells is needed; the certificate
+-- names its cells, the steps, its complete tables, and the repairs and needs.
+pub record IsProtectedWith (c : Case) (prices : List ℕ) (method : Method) (steps : List PlanStep) (protected : HiddenSet) (certificate : Certificate) : Type 0 where
+  pub verdict : IsVerdict c prices (planned_from c steps) (verdict.Protected protected certificate.repairs certificate.needs)
+  pub certificate_is : certificate ≡ certificate_made method c.system c.cells protected steps certificate.repairs certificate.needs
+
+-- What becomes of a case whose trail has these steps: a hidden set that protects, a cell that can't be protected, or a question that
+-- stopped short.
+abbrev pub IsProtectionOf : Case → List ℕ → Method → List PlanStep → ℕ → Protection → Type 0
+IsProtectionOf c prices method steps limit (protection.Protected protected certificate) = IsProtectedWith c prices method steps protected certificate
+IsProtectionOf c prices method steps limit (protection.Cannot cell side multipliers) = IsCannot c cell side multipliers
+IsProtectionOf c prices method steps limit (protection.Undecided stopped) = StopsFor c prices (planned_from c steps) limit stopped.fault stopped.repairs stopped.shown
+
+-- the certificate of a set that protects has a text
+abbrev pub HasText : Protection → Type 0
+HasText (protection.Protected protected certificate) = IsSpellable certificate
+HasText other = Unit {0}
+
+-- the protection that a verdict speaks of, with the certificate of a set that protects
+abbrev pub protection_by : Method → Case → List PlanStep → Verdict → Protection
+protection_by method c steps (verdict.Protected protected repairs needs) = protection.Protected protected (certificate_made method c.system c.cells protected steps repairs needs)
+protection_by method c steps (verdict.Cannot cell side multipliers) = protection.Cannot cell side multipliers

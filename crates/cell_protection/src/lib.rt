@@ -1,0 +1,9 @@
+//! What becomes of settled cells: a hidden set that protects the primary ones, with its certificate, or why there is none.
+#![tactic(auto)]
+
+mod certifying;
+mod protection;
+#[cfg(test)]
+mod tests;
+
+pub use protection::{Protection, protect_cells};

@@ -1,0 +1,11 @@
+pub mod Faults
+pub mod Pieces
+pub mod Numerals
+pub mod TokenLists
+pub mod LineReadings
+pub mod Remainder
+pub mod Certificates
+pub mod Texts
+pub mod Spelling
+pub mod Laws
+pub mod WorkedTexts

@@ -1,0 +1,145 @@
+-- What each kind of line says, by the tokens behind its word, or its first fault: in all tokens first Shape, then Number,
+-- then Order (own).
+use Rattle.std.specs.Prelude.{ℕ, ◌-◌, ◌==◌, nat_lt, not, List, length, map, codes, if◌then◌else◌, Result, Ok, Err}
+use Rattle.std.specs.List.{list_all}
+use Rattle.std.specs.Str.{bytes_eq}
+use Rattle.sdc_base.specs.Steps.{◌>>=◌, refuse}
+use Rattle.sdc_base.specs.declared.method.Method.{Method}
+use Rattle.sdc_base.specs.declared.method.Method.TheVariants as method
+use Rattle.sdc_base.specs.declared.trail.PlanStep.{PlanStep}
+use Rattle.sdc_base.specs.declared.side.Side.{Side}
+use Rattle.sdc_base.specs.declared.side.Side.TheVariants as side
+use Rattle.worlds.specs.declared.refuted.Refuted.{Refuted}
+use Rattle.certificate.specs.declared.certificate.WorldLine.{WorldLine}
+use Rattle.certificate.specs.declared.faults.CertWhy.{CertWhy}
+use Rattle.certificate.specs.declared.faults.CertWhy.TheVariants.{Shape, Order}
+use Rattle.certificate.specs.Pieces.{pieces, space, comma}
+use Rattle.certificate.specs.Numerals.{natural_of, integer_of, denominator_of, ascends}
+use Rattle.certificate.specs.TokenLists.{behind_word, first_of, end_of, only_of, numbers_of, is_pair, terms_of, moves_of}
+
+-- a method with a number of passes
+unfoldable pub passes_of : List (List ℕ) → Result Method CertWhy
+passes_of tokens = do
+  token ← only_of tokens
+  passes ← natural_of 0 token
+  Ok (method.Gh passes)
+
+-- a method with a base
+unfoldable pub base_of : List (List ℕ) → Result Method CertWhy
+base_of tokens = do
+  token ← only_of tokens
+  base ← integer_of token
+  Ok (method.Rnd base)
+
+-- the method without a number
+unfoldable pub modular_of : List (List ℕ) → Result Method CertWhy
+modular_of tokens = do
+  end ← end_of tokens
+  Ok method.Modular
+
+-- the method of this word
+abbrev pub method_by : List ℕ → List (List ℕ) → Result Method CertWhy
+method_by word tokens =
+    if bytes_eq word (codes "MOD") then modular_of tokens
+    else if bytes_eq word (codes "GH") then passes_of tokens
+    else if bytes_eq word (codes "RND") then base_of tokens
+    else Err Shape
+
+-- a method
+unfoldable pub method_of : List (List ℕ) → Result Method CertWhy
+method_of tokens = do
+  word ← first_of tokens
+  method_by word.0 word.1
+
+-- a count
+unfoldable pub count_of : List (List ℕ) → Result ℕ CertWhy
+count_of tokens = do
+  token ← only_of tokens
+  natural_of 0 token
+
+-- the hidden cells, one at least, ascending
+unfoldable pub hidden_of : List (List ℕ) → Result (List ℕ) CertWhy
+hidden_of tokens = do
+  some ← refuse Shape (length tokens == 0)
+  cells ← numbers_of tokens
+  order ← refuse Order (not (ascends cells))
+  Ok cells
+
+-- a step by its four tokens; tables are counted from 1 in the text
+unfoldable pub step_by : List ℕ → List ℕ → List ℕ → List ℕ → Result PlanStep CertWhy
+step_by table parents cell corners = do
+  some_parent ← refuse Shape (length parents == 0)
+  few ← refuse Shape (nat_lt 8 (length (pieces comma parents)))
+  some_corner ← refuse Shape (length corners == 0)
+  number ← natural_of 1 table
+  places ← numbers_of (pieces comma parents)
+  centre ← natural_of 0 cell
+  others ← numbers_of (pieces comma corners)
+  order ← refuse Order (not (ascends others))
+  Ok (record { table = number - 1; parents = places; cell = centre; corners = others })
+
+-- a step of the trail
+unfoldable pub step_of : List (List ℕ) → Result PlanStep CertWhy
+step_of tokens = do
+  table ← first_of tokens
+  parents ← first_of table.1
+  cell ← first_of parents.1
+  corners ← only_of cell.1
+  step_by table.0 parents.0 cell.0 corners
+
+-- the word of a side
+abbrev pub side_word : Side → List ℕ
+side_word side.Above = codes "above"
+side_word side.Below = codes "below"
+
+-- the side of a word
+abbrev pub side_of : List ℕ → Result Side CertWhy
+side_of word =
+    if bytes_eq word (side_word side.Above) then Ok side.Above
+    else if bytes_eq word (side_word side.Below) then Ok side.Below
+    else Err Shape
+
+-- a refutation by its tokens
+unfoldable pub refutation_by : List ℕ → List ℕ → List ℕ → List ℕ → List (List ℕ) → Result Refuted CertWhy
+refutation_by subject cell side den pairs = do
+  at ← side_of side
+  shape ← refuse Shape (not (list_all is_pair pairs))
+  hidden ← natural_of 0 subject
+  primary ← natural_of 0 cell
+  divisor ← denominator_of den
+  terms ← terms_of pairs
+  order ← refuse Order (not (ascends (map (λ term. term.0) terms)))
+  Ok (record { subject = hidden; cell = primary; side = at; multipliers = record { den = divisor; by_relation = terms } })
+
+-- a refutation
+unfoldable pub refutation_of : List (List ℕ) → Result Refuted CertWhy
+refutation_of tokens = do
+  subject ← first_of tokens
+  cell ← first_of subject.1
+  side ← first_of cell.1
+  den ← first_of side.1
+  refutation_by subject.0 cell.0 side.0 den.0 den.1
+
+-- a complete table by its tokens, with one move for each hidden cell
+unfoldable pub world_by : List ℕ → List ℕ → List ℕ → List ℕ → List (List ℕ) → Result WorldLine CertWhy
+world_by hidden cell side den numbers = do
+  at ← side_of side
+  each ← refuse Shape (not (length numbers == length hidden))
+  primary ← natural_of 0 cell
+  divisor ← denominator_of den
+  moves ← moves_of hidden numbers
+  Ok (record { cell = primary; side = at; world = record { den = divisor; moves = moves } })
+
+-- a complete table for these hidden cells
+unfoldable pub world_of : List ℕ → List (List ℕ) → Result WorldLine CertWhy
+world_of hidden tokens = do
+  cell ← first_of tokens
+  side ← first_of cell.1
+  den ← first_of side.1
+  world_by hidden cell.0 side.0 den.0 den.1
+
+-- what a line by this word says
+unfoldable pub item_of : {A : Type 0} → List ℕ → (List (List ℕ) → Result A CertWhy) → List ℕ → Result A CertWhy
+item_of word read line = do
+  tokens ← behind_word word (pieces space line)
+  read tokens

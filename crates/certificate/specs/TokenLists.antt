@@ -1,0 +1,81 @@
+-- Lists of tokens of a line: what each token must be, and what they mean together (own).
+use Rattle.std.specs.Prelude.{ℕ, ◌==◌, Bool, List, [], ◌∷◌, if◌then◌else◌, Result, Ok, Err, ℤ, pos}
+use Rattle.std.specs.List.{list_any, before_first, after_first}
+use Rattle.std.specs.Ordering.{int_eq}
+use Rattle.std.specs.Str.{bytes_eq}
+use Rattle.sdc_base.specs.Forms.{Term}
+use Rattle.sdc_base.specs.Steps.{◌>>=◌, refuse}
+use Rattle.worlds.specs.declared.world.Move.{Move}
+use Rattle.certificate.specs.declared.faults.CertWhy.{CertWhy}
+use Rattle.certificate.specs.declared.faults.CertWhy.TheVariants.{Shape, Number}
+use Rattle.certificate.specs.Pieces.{colon}
+use Rattle.certificate.specs.Numerals.{natural_of, integer_of}
+
+-- the tokens behind the first one, where that is this word
+abbrev pub behind_word : List ℕ → List (List ℕ) → Result (List (List ℕ)) CertWhy
+behind_word word [] = Err Shape
+behind_word word (first ∷ tokens) = if bytes_eq first word then Ok tokens else Err Shape
+
+-- the first token, and those behind it
+abbrev pub first_of : List (List ℕ) → Result (List ℕ × List (List ℕ)) CertWhy
+first_of [] = Err Shape
+first_of (token ∷ tokens) = Ok (token, tokens)
+
+-- there is no further token
+abbrev pub end_of : List (List ℕ) → Result (Unit {0}) CertWhy
+end_of [] = Ok tt
+end_of (token ∷ tokens) = Err Shape
+
+-- the only token
+unfoldable pub only_of : List (List ℕ) → Result (List ℕ) CertWhy
+only_of tokens = do
+  first ← first_of tokens
+  end ← end_of first.1
+  Ok first.0
+
+-- each token a number of a cell, a relation or a place
+unfoldable pub numbers_of : List (List ℕ) → Result (List ℕ) CertWhy
+numbers_of [] = Ok []
+numbers_of (token ∷ tokens) = do
+  number ← natural_of 0 token
+  numbers ← numbers_of tokens
+  Ok (number ∷ numbers)
+
+-- a token has a colon
+abbrev pub is_pair : List ℕ → Bool
+is_pair token = list_any (λ b. b == colon) token
+
+-- a number, a colon and a whole number that isn't 0
+unfoldable pub term_of : List ℕ → Result Term CertWhy
+term_of token = do
+  number ← natural_of 0 (before_first (λ b. b == colon) token)
+  by ← integer_of (after_first (λ b. b == colon) token)
+  counts ← refuse Number (int_eq by (pos 0))
+  Ok (number, by)
+
+-- each token such a pair
+unfoldable pub terms_of : List (List ℕ) → Result (List Term) CertWhy
+terms_of [] = Ok []
+terms_of (token ∷ tokens) = do
+  term ← term_of token
+  terms ← terms_of tokens
+  Ok (term ∷ terms)
+
+-- a move of a cell stands before the others, unless it is 0
+abbrev pub with_move : ℕ → ℤ → List Move → List Move
+with_move cell by moves = if int_eq by (pos 0) then moves else record { cell = cell; by = by } ∷ moves
+
+-- the first token as a whole number, and the tokens behind it
+unfoldable pub first_integer : List (List ℕ) → Result (ℤ × List (List ℕ)) CertWhy
+first_integer tokens = do
+  token ← first_of tokens
+  by ← integer_of token.0
+  Ok (by, token.1)
+
+-- one token for each cell, the whole number by which it moves
+unfoldable pub moves_of : List ℕ → List (List ℕ) → Result (List Move) CertWhy
+moves_of [] tokens = Ok []
+moves_of (cell ∷ cells) tokens = do
+  by ← first_integer tokens
+  moves ← moves_of cells by.1
+  Ok (with_move cell by.0 moves)

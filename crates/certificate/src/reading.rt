@@ -1,0 +1,223 @@
+ghost use Rattle.std.specs.Prelude.{◌≡◌, IfOk, codes};
+ghost use Rattle.sdc_base.specs.Answers.{Gives};
+ghost use Rattle.certificate.specs.Faults.{fault_of};
+ghost use Rattle.certificate.specs.TokenLists.{end_of};
+ghost use Rattle.certificate.specs.LineReadings.{method_of, count_of, hidden_of, step_of, refutation_of, world_of};
+ghost use Rattle.certificate.specs.Certificates as certificates;
+ghost use Rattle.certificate.specs.Certificates.{item_at, items_at, certificate_of};
+ghost use Rattle.certificate.specs.Spelling.{IsSpellable, IsWithinTypes};
+ghost use Rattle.certificate.specs.Texts.{text_of};
+
+use crate::certificate::{Certificate, WorldLine};
+use crate::faults::{CertError, LineError, error_at};
+use crate::lines::{count_in, hidden_in, method_in, refutation_in, step_in, word_in, world_in};
+use crate::reader::{Reader, behind_version};
+use sdc_base::{Items, Method, PlanStep};
+use std::alloc::Global;
+use worlds::Refuted;
+
+/// The certificate of which these bytes are the text.
+///
+/// The fault is that of the first line, from 1, that isn't as the format says. `Version`: the first line has other
+/// words. `NoEnd`: the bytes end before the line `end`; its line is the one after the last. `Shape`: no LF ends the
+/// line, its kind isn't the next one, its tokens are too few or too many, or a token has the wrong form. `Number`: a
+/// number isn't spelled as this program writes it, or is out of range. `Order`: a list in the line doesn't ascend. In
+/// one line all tokens are looked at for `Shape`, then for `Number`, then for `Order`; bytes behind the line `end` are
+/// `Shape` at the next line. `Memory` may come at any point.
+///
+/// Which steps, repairs, needs and complete tables there should be is not looked at. A certificate that is read has
+/// exactly these bytes as its text, so each has one spelling. The cost is the number of bytes; memory is taken for the
+/// lists of the certificate alone. The format is argus's own.
+pub fn read_certificate(alloc: Global, bytes: &[u8]) -> Result<Certificate, CertError>
+    ensures exact { Gives fault_of (λ certificate. certificate) result (certificate_of bytes.now) }
+    ensures spelling { IfOk result (λ certificate. bytes.now ≡ text_of certificate) }
+    ensures spellable { IfOk result (λ certificate. IsSpellable certificate) }
+    ensures within { IfOk result (λ certificate. IsWithinTypes certificate) }
+{
+    let certificate = read_lines(alloc, bytes)?;
+    Ok(certificate)
+}
+
+// The certificate of which the bytes are the text, line by line.
+#[tactic(auto, unfolding(crate::specs::Certificates::certificate_of))]
+fn read_lines(alloc: Global, bytes: &[u8]) -> Result<Certificate, CertError>
+    ensures { Gives fault_of (λ certificate. certificate) result (certificate_of bytes.now) }
+{
+    let mut reader = behind_version(bytes)?;
+    let method = method_line(&mut reader)?;
+    let cells = count_line(b"cells", &mut reader)?;
+    let relations = count_line(b"relations", &mut reader)?;
+    let hidden = hidden_at(alloc, &mut reader)?;
+    let steps = step_lines(alloc, &mut reader)?;
+    let repairs = refutation_lines(alloc, b"repair", &mut reader)?;
+    let needs = refutation_lines(alloc, b"need", &mut reader)?;
+    let worlds = world_lines(alloc, hidden.as_slice(), &mut reader)?;
+    word_line(b"end", &mut reader)?;
+    reader.end()?;
+    Ok(Certificate {
+        method,
+        cells,
+        relations,
+        hidden,
+        steps,
+        repairs,
+        needs,
+        worlds,
+    })
+}
+
+// The line of the method.
+#[tactic(auto, unfolding(crate::specs::Certificates::item_at), using(crate::proofs::LineSteps::fails_with))]
+fn method_line(reader: &mut Reader<'_>) -> Result<Method, CertError>
+    ensures { Gives fault_of (λ method. (method, reader.new)) result (item_at (codes "method") method_of reader.old) }
+{
+    let line = reader.next_line()?;
+    match method_in(line.text) {
+        Ok(method) => Ok(method),
+        Err(why) => Err(CertError::At {
+            line: line.number,
+            why,
+        }),
+    }
+}
+
+// A line of a count, by its word.
+#[tactic(auto, unfolding(crate::specs::Certificates::item_at), using(crate::proofs::LineSteps::fails_with))]
+fn count_line(word: &[u8], reader: &mut Reader<'_>) -> Result<u32, CertError>
+    ensures { Gives fault_of (λ count. (count, reader.new)) result (item_at word.now count_of reader.old) }
+{
+    let line = reader.next_line()?;
+    match count_in(word, line.text) {
+        Ok(count) => Ok(count),
+        Err(why) => Err(CertError::At {
+            line: line.number,
+            why,
+        }),
+    }
+}
+
+// A line that is a word.
+#[tactic(auto, unfolding(crate::specs::Certificates::item_at), using(crate::proofs::LineSteps::fails_with))]
+fn word_line(word: &[u8], reader: &mut Reader<'_>) -> Result<(), CertError>
+    ensures { Gives fault_of (λ fine. (fine, reader.new)) result (item_at word.now end_of reader.old) }
+{
+    let line = reader.next_line()?;
+    match word_in(word, line.text) {
+        Ok(()) => Ok(()),
+        Err(why) => Err(CertError::At {
+            line: line.number,
+            why,
+        }),
+    }
+}
+
+// The line of the hidden cells.
+#[tactic(auto, unfolding(crate::specs::Certificates::item_at), using(crate::proofs::LineSteps::fails_at))]
+fn hidden_line(alloc: Global, reader: &mut Reader<'_>) -> Result<Items<u32>, CertError>
+    ensures { Gives fault_of (λ cells. (cells, reader.new)) result (item_at (codes "hidden") hidden_of reader.old) }
+{
+    let line = reader.next_line()?;
+    match hidden_in(alloc, line.text) {
+        Ok(cells) => Ok(cells),
+        Err(error) => Err(error_at(line.number, error)),
+    }
+}
+
+// The hidden cells, where there is a line of them.
+#[tactic(auto, unfolding(crate::specs::Certificates::hidden_at))]
+fn hidden_at(alloc: Global, reader: &mut Reader<'_>) -> Result<Items<u32>, CertError>
+    ensures { Gives fault_of (λ cells. (cells, reader.new)) result (certificates.hidden_at reader.old) }
+{
+    if reader.is_next(b"hidden") {
+        return hidden_line(alloc, reader);
+    }
+    Ok(Items::empty(alloc))
+}
+
+// The line of a step.
+#[tactic(auto, unfolding(crate::specs::Certificates::item_at), using(crate::proofs::LineSteps::fails_at))]
+fn step_line(alloc: Global, reader: &mut Reader<'_>) -> Result<PlanStep, CertError>
+    ensures { Gives fault_of (λ step. (step, reader.new)) result (item_at (codes "step") step_of reader.old) }
+{
+    let line = reader.next_line()?;
+    match step_in(alloc, line.text) {
+        Ok(step) => Ok(step),
+        Err(error) => Err(error_at(line.number, error)),
+    }
+}
+
+// The lines of the steps.
+fn step_lines(alloc: Global, reader: &mut Reader<'_>) -> Result<Items<PlanStep>, CertError>
+    ensures { Gives fault_of (λ steps. (steps, reader.new)) result (items_at (codes "step") step_of reader.old) }
+{
+    let mut steps = Items::empty(alloc);
+    'lines: while reader.is_next(b"step") {
+        let step = step_line(alloc, reader)?;
+        steps.push(step)?;
+    }
+    Ok(steps)
+}
+
+// The line of a refutation, by its word.
+#[tactic(auto, unfolding(crate::specs::Certificates::item_at), using(crate::proofs::LineSteps::fails_at))]
+fn refutation_line(
+    alloc: Global,
+    word: &[u8],
+    reader: &mut Reader<'_>,
+) -> Result<Refuted, CertError>
+    ensures { Gives fault_of (λ refuted. (refuted, reader.new)) result (item_at word.now refutation_of reader.old) }
+{
+    let line = reader.next_line()?;
+    match refutation_in(alloc, word, line.text) {
+        Ok(refuted) => Ok(refuted),
+        Err(error) => Err(error_at(line.number, error)),
+    }
+}
+
+// The lines of refutations by a word.
+fn refutation_lines(
+    alloc: Global,
+    word: &[u8],
+    reader: &mut Reader<'_>,
+) -> Result<Items<Refuted>, CertError>
+    ensures { Gives fault_of (λ all. (all, reader.new)) result (items_at word.now refutation_of reader.old) }
+{
+    let mut all = Items::empty(alloc);
+    'lines: while reader.is_next(word) {
+        let refuted = refutation_line(alloc, word, reader)?;
+        all.push(refuted)?;
+    }
+    Ok(all)
+}
+
+// The line of a complete table, for these hidden cells.
+#[tactic(auto, unfolding(crate::specs::Certificates::item_at), using(crate::proofs::LineSteps::fails_at))]
+fn world_line(
+    alloc: Global,
+    hidden: &[u32],
+    reader: &mut Reader<'_>,
+) -> Result<WorldLine, CertError>
+    ensures { Gives fault_of (λ world. (world, reader.new)) result (item_at (codes "world") (world_of hidden.now) reader.old) }
+{
+    let line = reader.next_line()?;
+    match world_in(alloc, hidden, line.text) {
+        Ok(world) => Ok(world),
+        Err(error) => Err(error_at(line.number, error)),
+    }
+}
+
+// The lines of complete tables, for these hidden cells.
+fn world_lines(
+    alloc: Global,
+    hidden: &[u32],
+    reader: &mut Reader<'_>,
+) -> Result<Items<WorldLine>, CertError>
+    ensures { Gives fault_of (λ worlds. (worlds, reader.new)) result (items_at (codes "world") (world_of hidden.now) reader.old) }
+{
+    let mut worlds = Items::empty(alloc);
+    'lines: while reader.is_next(b"world") {
+        let world = world_line(alloc, hidden, reader)?;
+        worlds.push(world)?;
+    }
+    Ok(worlds)
+}

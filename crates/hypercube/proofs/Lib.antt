@@ -1,0 +1,13 @@
+pub mod Room
+pub mod Orders
+pub mod AllOf
+pub mod EdgeLists
+pub mod CornerLists
+pub mod SharedCorners
+pub mod Searches
+pub mod Pruning
+pub mod Firsts
+pub mod OfferOrder
+pub mod LeastLaw
+pub mod RisingCorners
+pub mod WholeCubes

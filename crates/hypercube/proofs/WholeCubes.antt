@@ -1,0 +1,270 @@
+-- Each corner of a cube has a cell.
+use Rattle.std.proofs.Common.{◌≡◌, ◌⊎◌, inl, inr, All, ℕ, zero, suc, ◌+◌, ◌*◌, ◌^◌, ◌<◌, ◌≤◌, ◌==◌, ◌&&◌, ◌||◌, nat_lt, Bool, true, false, not, cond, List, [], ◌∷◌, length, map, filter, fold, is_some, get_or, slice_get, slice_index, slice_index_or, Option, None, Some, option_map, if◌then◌else◌, refl, ap, sym, subst, length-append, ◌∙◌, arith}
+use Rattle.std.specs.List.{AllByRecursion, list_any, cons_option, filter_map, range_with_len}
+use Rattle.std.specs.Option.{option_map_or}
+use Rattle.std.proofs.lemmas.Bool.Decides.{Decides-eqb, nat_tests}
+use Rattle.std.proofs.Math.Nat.{pow-suc}
+use Rattle.std.proofs.lemmas.List.{length-map}
+use Rattle.std.proofs.lemmas.Option.{slice_get_cases}
+use Rattle.sdc_base.specs.Trees.{Tree, children, is_child}
+use Rattle.sdc_base.specs.Records.{Name}
+use Rattle.sdc_base.specs.Cells.{code_for, name_of, spans, trees_of}
+use Rattle.sdc_base.specs.CellOrder.{is_place_in}
+use Rattle.sdc_base.specs.Cubes.{choices, corner_at, corner_places, corners_of, cubes_at, edge_to, edges_at, edges_from, edges_to, other_end, own_end, with_corner}
+use Rattle.sdc_base.specs.declared.cube.Corner.{Corner}
+use Rattle.sdc_base.specs.declared.cube.Edge.{Edge}
+use Rattle.linked_tables.specs.Held.{Held}
+use Rattle.linked_tables.specs.Shared.{IsTable, cell_at, is_in, named}
+use Rattle.linked_tables.specs.Tables.{has_twice}
+use Rattle.linked_tables.proofs.Numbers.{numbers_are_names}
+use Rattle.linked_tables.proofs.Sharing.{known-below, name-codes}
+use Rattle.linked_tables.proofs.Finding.{cell-found}
+use Rattle.hypercube.proofs.AllOf.{all-append, all-flat, all-map, all-more}
+use Rattle.hypercube.specs.CornerLaws.{AreInTrees, AreWhole, CubesAreWhole}
+use Rattle.hypercube.proofs.RisingCorners.{HaveNotOne, Pairwise, all-any, found-apart, pairwise-append, pairwise-map, pairwise-with, puts-rise, rising-numbers}
+
+-- ---- edges
+
+-- the ends of an edge are two codes of a tree
+record IsInTree (tree : Tree) (edge : Edge) : Type 0 where
+  code : edge.code < length tree
+  other : edge.other < length tree
+  two : (edge.other == edge.code) ≡ false
+
+children-in : (tree : Tree) (above a n : ℕ) → a + n ≤ length tree → AllByRecursion (λ code. code < length tree) (filter (is_child tree above) (range_with_len a n))
+children-in tree above a zero few = tt
+children-in tree above a (suc n) few =
+    elim (is_child tree above a) as (λ b. AllByRecursion (λ code. code < length tree) (cond b (a ∷ filter (is_child tree above) (range_with_len (a + 1) n)) (filter (is_child tree above) (range_with_len (a + 1) n)))) [
+      | true ↦ (omega (arith, few), children-in tree above (a + 1) n (omega (arith, few)))
+      | false ↦ children-in tree above (a + 1) n (omega (arith, few))
+    ]
+
+edges-in : (tree : Tree) (parent code : ℕ) (others : List ℕ) → code < length tree → AllByRecursion (λ other. other < length tree) others → AllByRecursion (IsInTree tree) (edges_to parent code others)
+edges-in tree parent code [] inside a = tt
+edges-in tree parent code (other ∷ others) inside (here, a) =
+    elim (other == code) as (λ b. (other == code) ≡ b → AllByRecursion (IsInTree tree) (map (edge_to parent code) (cond (not b) (other ∷ filter (λ one. not (one == code)) others) (filter (λ one. not (one == code)) others)))) [
+      | true ↦ λ is. edges-in tree parent code others inside a
+      | false ↦ λ is. (record { code = inside; other = here; two = is }, edges-in tree parent code others inside a)
+    ] refl
+
+from-in : (tree : Tree) (parent code : ℕ) → parent < length tree → code < length tree → AllByRecursion (IsInTree tree) (edges_from tree parent code)
+from-in tree parent code above inside = edges-in tree parent code (parent ∷ children tree parent) inside (above, children-in tree parent 0 (length tree) (omega arith))
+
+-- each edge of a cube is in the tree of its variable
+abbrev EdgesAreIn : List Tree → List ℕ → List Edge → Type 0
+EdgesAreIn trees [] [] = Unit {0}
+EdgesAreIn trees [] (edge ∷ edges) = ⊥
+EdgesAreIn trees (variable ∷ table) [] = ⊥
+EdgesAreIn trees (variable ∷ table) (edge ∷ edges) = IsInTree (slice_index_or trees variable []) edge × EdgesAreIn trees table edges
+
+cubes-in : (trees : List Tree) (name : Name) (table parents : List ℕ) → AreInTrees trees name table parents → AllByRecursion (EdgesAreIn trees table) (cubes_at trees name table parents)
+cubes-in trees name [] [] fits = (tt, tt)
+cubes-in trees name [] (parent ∷ parents) fits = absurd fits
+cubes-in trees name (variable ∷ table) [] fits = absurd fits
+cubes-in trees name (variable ∷ table) (parent ∷ parents) (above, inside, fits) =
+    let tree = slice_index_or trees variable [] in
+    let rest = choices (edges_at trees name table parents) in
+    all-flat (EdgesAreIn trees (variable ∷ table)) (λ one. map (λ others. one ∷ others) rest) (edges_from tree parent (slice_index name variable))
+    (all-more (IsInTree tree) (λ one. AllByRecursion (EdgesAreIn trees (variable ∷ table)) (map (λ others. one ∷ others) rest)) (edges_from tree parent (slice_index name variable))
+    (λ one here. all-map (EdgesAreIn trees (variable ∷ table)) (λ others. one ∷ others) rest (all-more (EdgesAreIn trees table) (λ others. EdgesAreIn trees (variable ∷ table) (one ∷ others)) rest (λ others later. (here, later)) (cubes-in trees name table parents fits)))
+    (from-in tree parent (slice_index name variable) above inside))
+
+-- ---- corners
+
+-- a code in front of a place
+place-more : (tree : Tree) (trees : List Tree) (code : ℕ) (place : List ℕ) → code < length tree → is_place_in trees place ≡ true → is_place_in (tree ∷ trees) (code ∷ place) ≡ true
+place-more tree trees code place inside h = let test : nat_lt code (length tree) ≡ true = grind (arith, nat_tests, inside) in rw (test, h) refl
+
+corners-in : (trees : List Tree) (table : List ℕ) (edges : List Edge) → EdgesAreIn trees table edges → AllByRecursion (λ (corner : List ℕ × Bool). is_place_in (trees_of trees table) corner.0 ≡ true) (corner_places edges)
+corners-in trees [] [] fits = (refl, tt)
+corners-in trees [] (edge ∷ edges) fits = absurd fits
+corners-in trees (variable ∷ table) [] fits = absurd fits
+corners-in trees (variable ∷ table) (edge ∷ edges) (here, fits) =
+    let tree = slice_index_or trees variable [] in
+    let rest = corners-in trees table edges fits in
+    all-append (λ (corner : List ℕ × Bool). is_place_in (tree ∷ trees_of trees table) corner.0 ≡ true) (map (own_end edge) (corner_places edges)) (map (other_end edge) (corner_places edges))
+    (all-map (λ (corner : List ℕ × Bool). is_place_in (tree ∷ trees_of trees table) corner.0 ≡ true) (own_end edge) (corner_places edges)
+    (all-more (λ (corner : List ℕ × Bool). is_place_in (trees_of trees table) corner.0 ≡ true) (λ (corner : List ℕ × Bool). is_place_in (tree ∷ trees_of trees table) (edge.code ∷ corner.0) ≡ true) (corner_places edges)
+    (λ corner h. place-more tree (trees_of trees table) edge.code corner.0 here.code h) rest))
+    (all-map (λ (corner : List ℕ × Bool). is_place_in (tree ∷ trees_of trees table) corner.0 ≡ true) (other_end edge) (corner_places edges)
+    (all-more (λ (corner : List ℕ × Bool). is_place_in (trees_of trees table) corner.0 ≡ true) (λ (corner : List ℕ × Bool). is_place_in (tree ∷ trees_of trees table) (edge.other ∷ corner.0) ≡ true) (corner_places edges)
+    (λ corner h. place-more tree (trees_of trees table) edge.other corner.0 here.other h) rest))
+
+-- where each has a number none is lost
+all-kept : (number : List ℕ → Option ℕ) (places : List (List ℕ × Bool)) → AllByRecursion (λ (corner : List ℕ × Bool). is_some (number corner.0) ≡ true) places → length (filter_map (corner_at number) places) ≡ length places
+all-kept number [] a = refl
+all-kept number (place ∷ places) (here, a) = by (number place.0) here ∙ ap suc (all-kept number places a)
+  where
+    by : (met : Option ℕ) → is_some met ≡ true → length (cons_option (option_map (λ cell. record { cell = cell; plus = place.1 }) met) (filter_map (corner_at number) places)) ≡ suc (length (filter_map (corner_at number) places))
+    by None h = absurd cc
+    by (Some cell) h = refl
+
+put-length : (corners : List Corner) (new : Corner) → length (with_corner corners new) ≡ suc (length corners)
+put-length [] new = refl
+put-length (corner ∷ corners) new =
+    elim (nat_lt new.cell corner.cell) as (λ b. length (if b then new ∷ corner ∷ corners else corner ∷ with_corner corners new) ≡ suc (length (corner ∷ corners))) [
+      | true ↦ refl
+      | false ↦ ap suc (put-length corners new)
+    ]
+
+puts-length : (corners more : List Corner) → length (fold with_corner corners more) ≡ length corners + length more
+puts-length corners [] = omega arith
+puts-length corners (new ∷ more) = let rest = puts-length (with_corner corners new) more in let one = put-length corners new in omega (arith, rest, one)
+
+-- a place of a table has a cell
+cell-there : (book : Held) (t : ℕ) (table place : List ℕ) → slice_get book.tables t ≡ Some table → is_place_in (trees_of book.trees table) place ≡ true → is_some (cell_at book t place) ≡ true
+cell-there book t table place at h = cell-found book t place ∙ ap (λ (found : Option (List ℕ)). option_map_or (λ spanned. is_in book spanned place) found false) at ∙ h
+
+-- ---- how many
+
+as-many : (trees : List Tree) (table : List ℕ) (edges : List Edge) → EdgesAreIn trees table edges → length edges ≡ length table
+as-many trees [] [] fits = refl
+as-many trees [] (edge ∷ edges) fits = absurd fits
+as-many trees (variable ∷ table) [] fits = absurd fits
+as-many trees (variable ∷ table) (edge ∷ edges) (here, fits) = ap suc (as-many trees table edges fits)
+
+-- twice as many for each edge
+places-many : (edges : List Edge) → length (corner_places edges) ≡ 2 ^ length edges
+places-many [] = refl
+places-many (edge ∷ edges) =
+    let rest = places-many edges in
+    let own = length-map (corner_places edges) (own_end edge) in
+    let other = length-map (corner_places edges) (other_end edge) in
+    let both = length-append (map (own_end edge) (corner_places edges)) (map (other_end edge) (corner_places edges)) in
+    let twice : 2 ^ suc (length edges) ≡ 2 ^ length edges * 2 = pow-suc 2 (length edges) in
+    omega (arith, rest, own, other, both, twice)
+
+-- ---- no two have one place
+
+-- two places differ
+abbrev Differ : List ℕ × Bool → List ℕ × Bool → Type 0
+Differ one other = one.0 ≡ other.0 → ⊥
+
+ends-differ : (trees : List Tree) (table : List ℕ) (edges : List Edge) → EdgesAreIn trees table edges → Pairwise Differ (corner_places edges)
+ends-differ trees [] [] fits = (tt, tt)
+ends-differ trees [] (edge ∷ edges) fits = absurd fits
+ends-differ trees (variable ∷ table) [] fits = absurd fits
+ends-differ trees (variable ∷ table) (edge ∷ edges) (here, fits) =
+    let places = corner_places edges in
+    let rest = ends-differ trees table edges fits in
+    pairwise-append Differ (map (own_end edge) places) (map (other_end edge) places)
+    (pairwise-map Differ (own_end edge) places (pairwise-with (λ place. Unit {0}) Differ (λ one other. Differ (own_end edge one) (own_end edge other)) places (λ one other _ _ apart same. apart (tails edge.code edge.code one.0 other.0 same)) (all-any (λ place. Unit {0}) places (λ place. tt)) rest))
+    (pairwise-map Differ (other_end edge) places (pairwise-with (λ place. Unit {0}) Differ (λ one other. Differ (other_end edge one) (other_end edge other)) places (λ one other _ _ apart same. apart (tails edge.other edge.other one.0 other.0 same)) (all-any (λ place. Unit {0}) places (λ place. tt)) rest))
+    (all-map (λ place. AllByRecursion (Differ place) (map (other_end edge) places)) (own_end edge) places
+    (all-any (λ place. AllByRecursion (Differ (own_end edge place)) (map (other_end edge) places)) places
+    (λ one. all-map (Differ (own_end edge one)) (other_end edge) places (all-any (λ other. Differ (own_end edge one) (other_end edge other)) places
+    (λ other same. apart edge here.two (heads edge.code edge.other one.0 other.0 same))))))
+  where
+    tails : (a b : ℕ) (xs ys : List ℕ) → a ∷ xs ≡ b ∷ ys → xs ≡ ys
+    tails a b xs ys same = cc
+
+    heads : (a b : ℕ) (xs ys : List ℕ) → a ∷ xs ≡ b ∷ ys → a ≡ b
+    heads a b xs ys same = cc
+
+    apart : (edge : Edge) → (edge.other == edge.code) ≡ false → edge.code ≡ edge.other → ⊥
+    apart edge two same = let test : (edge.other == edge.code) ≡ true = (Decides-eqb edge.other edge.code).1 (sym same) in absurd cc
+
+-- ---- and so no two have one cell
+
+-- a variable that the table spans behind this one is another
+not-here : (spanned variable : ℕ) (table : List ℕ) → list_any (λ other. other == spanned) table ≡ false → spans table variable ≡ true → (spanned == variable) ≡ false
+not-here spanned variable [] once h = absurd cc
+not-here spanned variable (other ∷ table) once h =
+    elim (other == variable) as (λ b. (other == variable) ≡ b → (b || spans table variable) ≡ true → (spanned == variable) ≡ false) [
+      | true ↦ λ is h. not_same spanned variable (subst (λ (v : ℕ). (v == spanned) ≡ false) ((Decides-eqb other variable).0 is) (first (other == spanned) (list_any (λ one. one == spanned) table) once))
+      | false ↦ λ is h. not-here spanned variable table (second (other == spanned) (list_any (λ one. one == spanned) table) once) h
+    ] refl h
+  where
+    first : (a b : Bool) → (a || b) ≡ false → a ≡ false
+    first true b h = absurd cc
+    first false b h = refl
+
+    second : (a b : Bool) → (a || b) ≡ false → b ≡ false
+    second true b h = absurd cc
+    second false b h = h
+
+    not_same : (one other : ℕ) → (other == one) ≡ false → (one == other) ≡ false
+    not_same one other h = grind (arith, nat_tests, h)
+
+same-places : (table one other : List ℕ) → has_twice table ≡ false → length one ≡ length table → length other ≡ length table
+    → ((variable : ℕ) → spans table variable ≡ true → code_for table one variable ≡ code_for table other variable) → one ≡ other
+same-places [] [] [] once long longer each = refl
+same-places [] [] (d ∷ other) once long longer each = absurd cc
+same-places [] (c ∷ one) other once long longer each = absurd cc
+same-places (variable ∷ table) [] other once long longer each = absurd cc
+same-places (variable ∷ table) (c ∷ one) [] once long longer each = absurd cc
+same-places (variable ∷ table) (c ∷ one) (d ∷ other) once long longer each =
+    let here : (variable == variable) ≡ true = (Decides-eqb variable variable).1 refl in
+    let none = parts (list_any (λ next. next == variable) table) (has_twice table) once in
+    let first : c ≡ d = subst (λ (b : Bool). (if b then c else code_for table one variable) ≡ (if b then d else code_for table other variable)) here (each variable (ap (λ b. b || spans table variable) here)) in
+    let rest : one ≡ other =
+    same-places table one other none.1 (omega (arith, long)) (omega (arith, longer))
+    (λ next h.
+    let away = not-here variable next table none.0 h in
+    subst (λ (b : Bool). (if b then c else code_for table one next) ≡ (if b then d else code_for table other next)) away (each next (ap (λ b. b || spans table next) away ∙ h)))
+    in
+    ap (λ (z : ℕ). z ∷ one) first ∙ ap (λ (zs : List ℕ). d ∷ zs) rest
+  where
+    parts : (a b : Bool) → (a || b) ≡ false → (a ≡ false) × (b ≡ false)
+    parts true b h = absurd cc
+    parts false b h = (refl, h)
+
+place-long : (trees : List Tree) (table place : List ℕ) → is_place_in (trees_of trees table) place ≡ true → length place ≡ length table
+place-long trees [] [] h = refl
+place-long trees [] (code ∷ place) h = absurd cc
+place-long trees (variable ∷ table) [] h = absurd cc
+place-long trees (variable ∷ table) (code ∷ place) h = ap suc (place-long trees table place (later (nat_lt code (length (slice_index_or trees variable []))) (is_place_in (trees_of trees table) place) h))
+  where
+    later : (a b : Bool) → (a && b) ≡ true → b ≡ true
+    later true b h = h
+    later false b h = absurd cc
+
+-- two places of one table with one cell are the same
+same-cell : (book : Held) (t : ℕ) (table one other : List ℕ) (cell : ℕ) → IsTable (length book.trees) table → slice_get book.tables t ≡ Some table
+    → is_place_in (trees_of book.trees table) one ≡ true → is_place_in (trees_of book.trees table) other ≡ true
+    → cell_at book t one ≡ Some cell → cell_at book t other ≡ Some cell → one ≡ other
+same-cell book t table one other cell fits at inside within here there =
+    let name : name_of (length book.trees) table one ≡ name_of (length book.trees) table other =
+    subst (λ (found : Option (List ℕ)). option_map_or (λ spanned. named book spanned one) found [] ≡ option_map_or (λ spanned. named book spanned other) found []) at
+    ((numbers_are_names book t t one other (ap (λ (found : Option (List ℕ)). option_map_or (λ spanned. is_in book spanned one) found false) at ∙ inside) (ap (λ (found : Option (List ℕ)). option_map_or (λ spanned. is_in book spanned other) found false) at ∙ within)).0 (here ∙ sym there))
+    in
+    same-places table one other fits.once (place-long book.trees table one inside) (place-long book.trees table other within)
+    (λ variable h.
+    let known = known-below (length book.trees) table variable fits.known h in
+    sym (name-codes (length book.trees) table one variable known) ∙ ap (λ (n : List ℕ). get_or n variable 0) name ∙ name-codes (length book.trees) table other variable known)
+
+some-same : {X : Type 0} {x y : X} → Some x ≡ Some y → x ≡ y
+some-same h = cc
+
+not-none : {X : Type 0} {x : X} → Some x ≡ None → ⊥
+not-none h = cc
+
+all-at : {X : Type 0} (P : X → Type 0) (xs : List X) (k : ℕ) (x : X) → All P xs → slice_get xs k ≡ Some x → P x
+all-at {X = X} P xs k x all at = by (slice_get_cases xs k).1
+  where
+    by : ((one : X) × (k < length xs) × (slice_get xs k ≡ Some one) × (get_or xs k one ≡ one)) ⊎ ((length xs ≤ k) × (slice_get xs k ≡ None)) → P x
+    by (inl (one, inside, is, read)) = let same : one ≡ x = some-same (sym is ∙ at) in subst P (read ∙ same) (all k one inside)
+    by (inr (past, none)) = absurd (not-none (sym at ∙ none))
+
+-- ---- the law
+
+pub cubes_are_whole : CubesAreWhole
+cubes_are_whole book t table name parents is_book at fits =
+    let good : IsTable (length book.trees) table = all-at (IsTable (length book.trees)) book.tables t table is_book.tables at in
+    all-more (EdgesAreIn book.trees table) (λ cube. AreWhole (length table) (corners_of (cell_at book t) cube)) (cubes_at book.trees name table parents)
+    (λ cube inside.
+    let places = corner_places cube in
+    let within = corners-in book.trees table cube inside in
+    let kept = all-kept (cell_at book t) places (all-more (λ (corner : List ℕ × Bool). is_place_in (trees_of book.trees table) corner.0 ≡ true) (λ (corner : List ℕ × Bool). is_some (cell_at book t corner.0) ≡ true) places (λ corner h. cell-there book t table corner.0 at h) within) in
+    let put = puts-length [] (filter_map (corner_at (cell_at book t)) places) in
+    let many = places-many cube in
+    let long = ap (λ n. 2 ^ n) (as-many book.trees table cube inside) in
+    let apart : Pairwise (HaveNotOne (cell_at book t)) places =
+    pairwise-with (λ (place : List ℕ × Bool). is_place_in (trees_of book.trees table) place.0 ≡ true) Differ (HaveNotOne (cell_at book t)) places
+    (λ one other here there differ cell first second. differ (same-cell book t table one.0 other.0 cell good at here there first second)) within (ends-differ book.trees table cube inside)
+    in
+    record {
+      all = omega (arith, put, kept, many, long);
+      ascending = rising-numbers (corners_of (cell_at book t) cube) (puts-rise [] (filter_map (corner_at (cell_at book t)) places) tt (all-any (λ new. Unit {0}) (filter_map (corner_at (cell_at book t)) places) (λ new. tt)) (found-apart (cell_at book t) places apart));
+    })
+    (cubes-in book.trees name table parents fits)

@@ -1,0 +1,67 @@
+use Rattle.std.proofs.Common.{◌≡◌, ◌≤◌, [], ℕ, None, List, Option, option_map, slice_index_or, drop, length, ap, sym, ◌∙◌, subst}
+use Rattle.sdc_base.specs.Records.{Name}
+use Rattle.sdc_base.specs.Cubes.{Offer, edges_at}
+use Rattle.sdc_base.specs.declared.cube.Cube.{Cube}
+use Rattle.sdc_base.specs.declared.cube.Edge.{Edge}
+use Rattle.linked_tables.specs.Shared.{cell_at, cells as cells_in}
+use Rattle.hypercube.specs.Branches.{Setting, begin_at, best_beyond, codes_at}
+use Rattle.hypercube.specs.LeastCubes.{cubes_in, is_marked, least_cube, price_in}
+use Rattle.hypercube.proofs.EdgeLists.{edges-begin}
+use Rattle.hypercube.proofs.Firsts.{least-serves}
+use Rattle.hypercube.proofs.Searches.{search-all}
+use Rattle.hypercube.proofs.search.cheapest.Goals as goal
+
+pub invariant_of-search : goal.invariant_of-search
+invariant_of-search g c =
+    let trees = c.args.book.now.trees in
+    let name : List ℕ = c.name_of-name.result in
+    let table : List ℕ = c.table_of-table.result in
+    let parents : List ℕ = c.args.subtable.now.parents in
+    let lists : c.as_slice.result.now ≡ edges_at trees name table parents = c.as_slice.ensures.value ∙ c.in_ok-lists.ensures.edges in
+    record {
+      costed = c.requires.costed;
+      up = c.requires.up;
+      down = c.requires.down;
+      few = subst (λ (found : List (List Edge)). length found ≤ 8) (sym c.as_slice.ensures.value) c.in_ok-lists.ensures.few;
+      begun = ap (λ (codes : List ℕ). begin_at codes c.as_slice.result.now) c.codes_at-codes.ensures
+          ∙ ap (λ (found : List (List Edge)). begin_at (codes_at name table parents) found) lists
+          ∙ edges-begin trees name table parents;
+    }
+
+pub returns-clause-least : goal.returns-clause-least
+returns-clause-least g c =
+    let book = c.args.book.now in
+    let subtable = c.args.subtable.now in
+    let levels = c.args.levels in
+    let setting : Setting = record {
+      book = book;
+      cells = c.args.cells.now;
+      cost = c.args.rule.now;
+      table = subtable.table;
+      levels = levels;
+      codes = c.codes_at-codes.result;
+      lists = c.as_slice.result.now;
+    } in
+    let name : c.name_of-name.result ≡ slice_index_or (cells_in book) c.args.cell [] = c.name_of-name.ensures in
+    let table : c.table_of-table.result ≡ slice_index_or book.tables subtable.table [] = c.table_of-table.ensures in
+    let lists : c.as_slice.result.now ≡ edges_at book.trees (slice_index_or (cells_in book) c.args.cell []) (slice_index_or book.tables subtable.table []) subtable.parents =
+    c.as_slice.ensures.value
+    ∙ c.in_ok-lists.ensures.edges
+    ∙ ap (λ (codes : Name). edges_at book.trees codes c.table_of-table.result subtable.parents) name
+    ∙ ap (λ (spanned : List ℕ). edges_at book.trees (slice_index_or (cells_in book) c.args.cell []) spanned subtable.parents) table
+    in
+    let found =
+    c.in_ok-best.ensures
+    ∙ ap (λ (chosen : List Edge). best_beyond setting None chosen (drop (length chosen) setting.lists)) c.empty.ensures
+    ∙ ap (λ (all : List (List Edge)). best_beyond setting None [] all) lists
+    ∙ search-all setting (edges_at book.trees (slice_index_or (cells_in book) c.args.cell []) (slice_index_or book.tables subtable.table []) subtable.parents)
+    in
+    c.cube_of.ensures ∙ ap (λ (best : Option Offer). option_map (λ (offer : Offer). offer.1) best) found
+
+pub returns-clause-serves : goal.returns-clause-serves
+returns-clause-serves g c = λ cube is.
+    let book = c.args.book.now in
+    let cells = c.args.cells.now in
+    let subtable = c.args.subtable.now in
+    let whole : option_map (λ (one : Cube). one.corners) c.cube_of.result ≡ least_cube book cells c.args.rule.now subtable c.args.cell c.args.levels = returns-clause-least g c in
+    least-serves (cell_at book subtable.table) (is_marked book) (price_in book cells c.args.rule.now) cells c.args.levels (cubes_in book subtable c.args.cell) cube.corners (sym whole ∙ ap (λ (found : Option Cube). option_map (λ (one : Cube). one.corners) found) is)

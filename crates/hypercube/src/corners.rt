@@ -1,0 +1,124 @@
+ghost use Rattle.std.specs.Prelude.{◌≡◌, ◌<◌, ◌≤◌, ◌+◌, ◌++◌, [], true, fold, length, drop, insert, option_to_list, IfOk, OnOk};
+ghost use Rattle.sdc_base.specs.Cubes as spec;
+ghost use Rattle.linked_tables.specs.Shared.{cell_at};
+ghost use Rattle.hypercube.specs.Branches.{completed, corners_beyond};
+
+use arrayvec::ArrayVec;
+use linked_tables::Book;
+use sdc_base::{Corner, Edge, Few, Items, Memory, Place, with_code};
+use std::alloc::Global;
+
+/// The corners along edges in table t, by the numbers of their cells upwards, where all further variables of the table
+/// have these codes.
+pub(crate) fn corners_of(
+    alloc: Global,
+    book: &Book,
+    t: u32,
+    edges: &[Edge],
+    codes: &[u32],
+) -> Result<Items<Corner>, Memory>
+    requires few { length edges.now ≤ 8 }
+    requires fewer { length codes.now ≤ 8 }
+    ensures { IfOk result (λ corners. corners ≡ spec.corners_of (completed (cell_at book.now t) codes.now) edges.now) }
+{
+    let mut corners = Vec::new(alloc);
+    add_corners(book, t, edges, codes, &Few::empty(), true, &mut corners)?;
+    Ok(Items::new(corners))
+}
+
+// Adds the corners at the places that begin so and go on along the edges that are left.
+fn add_corners(
+    book: &Book,
+    t: u32,
+    edges: &[Edge],
+    codes: &[u32],
+    place: &Place,
+    plus: bool,
+    corners: &mut Vec<Corner>,
+) -> Result<(), Memory>
+    requires few { length edges.now ≤ 8 }
+    requires fewer { length codes.now ≤ 8 }
+    ensures { OnOk result (corners.new.items ≡ fold spec.with_corner corners.old.items (corners_beyond (completed (cell_at book.now t) codes.now) place.now plus (drop (length place.now) edges.now))) }
+{
+    let k = place.len();
+    if k >= edges.len() {
+        return add_corner(book, t, codes, place, plus, corners);
+    }
+    let edge = edges[k];
+    let own = with_code(place.as_slice(), edge.code);
+    add_corners(book, t, edges, codes, &own, plus, corners)?;
+    let other = with_code(place.as_slice(), edge.other);
+    add_corners(
+        book,
+        t,
+        edges,
+        codes,
+        &other,
+        sign_over(edge, plus),
+        corners,
+    )
+}
+
+// Adds the corner at a place that these codes complete, where a cell stands there.
+fn add_corner(
+    book: &Book,
+    t: u32,
+    codes: &[u32],
+    place: &Place,
+    plus: bool,
+    corners: &mut Vec<Corner>,
+) -> Result<(), Memory>
+    requires fewer { length codes.now ≤ 8 }
+    ensures { OnOk result (corners.new.items ≡ fold spec.with_corner corners.old.items (option_to_list (spec.corner_at (completed (cell_at book.now t) codes.now) (place.now, plus)))) }
+{
+    let whole = place_with(place, codes);
+    if let Some(cell) = book.id(t, whole.as_slice()) {
+        put_in(corners, Corner { cell, plus })?;
+    }
+    Ok(())
+}
+
+// A place with these codes behind it.
+fn place_with(place: &Place, codes: &[u32]) -> ArrayVec<u32, 16>
+    requires { length codes.now ≤ 8 }
+    ensures { result.items ≡ place.now ++ codes.now }
+{
+    let _ = place.len();
+    let mut whole: ArrayVec<u32, 16> = ArrayVec::new();
+    'place: for code in place.as_slice() {
+        whole.push(*code);
+    }
+    'codes: for code in codes {
+        whole.push(*code);
+    }
+    whole
+}
+
+// The sign at the other end of an edge.
+fn sign_over(edge: Edge, plus: bool) -> bool
+    ensures { result ≡ spec.sign_over edge plus }
+{
+    if edge.equal { plus } else { !plus }
+}
+
+// Puts a corner behind all that have no higher number.
+fn put_in(corners: &mut Vec<Corner>, new: Corner) -> Result<(), Memory>
+    ensures { OnOk result (corners.new.items ≡ spec.with_corner corners.old.items new) }
+{
+    let at = place_of(corners, new);
+    corners.insert(at, new)?;
+    Ok(())
+}
+
+// How many stand before the first that has a higher number.
+fn place_of(corners: &[Corner], new: Corner) -> usize
+    ensures place { insert corners.now result new ≡ spec.with_corner corners.now new }
+    ensures within { result ≤ length corners.now }
+{
+    for (i, corner) in corners.iter().enumerate() {
+        if new.cell < corner.cell {
+            return i;
+        }
+    }
+    corners.len()
+}

@@ -1,0 +1,59 @@
+use Rattle.std.proofs.Common.{◌≡◌, ◌∙◌, ◌≤◌, ℕ, List, Option, length, ap, sym, subst, refl, arith, rules, Fits, w32}
+use Rattle.sdc_base.specs.Components.{AreComponents}
+use Rattle.interval_audit.specs.declared.answer.Answer.{Answer}
+use Rattle.interval_audit.specs.Answers.{IsWalkAnswerIn, IsWalkAnswer}
+use Rattle.interval_audit.specs.Groups.{Group, IsComponentOf, group_of, members}
+use Rattle.interval_audit.proofs.Connected.{components_are_groups}
+use Rattle.interval_audit.proofs.SameGroups.{group_is}
+use Rattle.interval_audit.proofs.QuestionAnswers.{if_ok_more}
+use Rattle.interval_audit.proofs.OwnGroup.{if_caused}
+use Rattle.interval_audit.proofs.Proper.{rank-most}
+use Rattle.interval_audit.proofs.asking.ask.Goals as goal
+
+pub invariant_of-inquiry : goal.invariant_of-inquiry
+invariant_of-inquiry c =
+    let of : List (Option ℕ) = c.as_slice-of.result.now in
+    let are : AreComponents c.args.system.now.relations c.args.hidden.now.flags of c.in_ok-grouping.grouping.sizes =
+    subst (λ (of : List (Option ℕ)). AreComponents c.args.system.now.relations c.args.hidden.now.flags of c.in_ok-grouping.grouping.sizes) (sym c.as_slice-of.ensures) c.in_ok-grouping.ensures in
+    let size : c.len-size.result ≡ length c.in_ok-members.members.items = search rules in
+    record {
+      one_each = c.requires.ground;
+      few = omega (arith, size, ap (λ (xs : List ℕ). length xs) c.in_ok-members.ensures, c.if-size-gt1500.false);
+      group = components_are_groups c.args.system.now c.args.hidden.now.flags of c.in_ok-grouping.grouping.sizes c.args.question.cell c.requires.ground.each_flag are c.requires.hidden;
+    }
+
+pub overflow_cast-result : goal.overflow_cast-result
+overflow_cast-result c =
+    let group : Group = group_of c.as_slice-of.result.now c.args.question.cell in
+    let fits : Fits w32 c.args.system.now.cells = search rules in
+    let size : c.len-size.result ≡ length c.in_ok-members.members.items = search rules in
+    omega (arith, fits, size, ap (λ (xs : List ℕ). length xs) c.in_ok-members.ensures, rank-most group c.args.system.now.cells)
+
+pub returns-then-size-gt1500-clause-cause : goal.returns-then-size-gt1500-clause-cause
+returns-then-size-gt1500-clause-cause c =
+    let of : List (Option ℕ) = c.as_slice-of.result.now in
+    let are : AreComponents c.args.system.now.relations c.args.hidden.now.flags of c.in_ok-grouping.grouping.sizes =
+    subst (λ (of : List (Option ℕ)). AreComponents c.args.system.now.relations c.args.hidden.now.flags of c.in_ok-grouping.grouping.sizes) (sym c.as_slice-of.ensures) c.in_ok-grouping.ensures in
+    let own : IsComponentOf c.args.system.now.relations c.args.hidden.now.flags c.args.question.cell (group_of of c.args.question.cell) = group_is c.args.system.now.relations c.args.hidden.now.flags of c.in_ok-grouping.grouping.sizes c.args.question.cell are c.requires.hidden in
+    let size : c.len-size.result ≡ length c.in_ok-members.members.items = search rules in
+    (group_of of c.args.question.cell, own, (refl, size ∙ ap (λ (xs : List ℕ). length xs) c.in_ok-members.ensures, c.if-size-gt1500.true))
+
+pub returns-clause-read : goal.returns-clause-read
+returns-clause-read c =
+    let of : List (Option ℕ) = c.as_slice-of.result.now in
+    let are : AreComponents c.args.system.now.relations c.args.hidden.now.flags of c.in_ok-grouping.grouping.sizes =
+    subst (λ (of : List (Option ℕ)). AreComponents c.args.system.now.relations c.args.hidden.now.flags of c.in_ok-grouping.grouping.sizes) (sym c.as_slice-of.ensures) c.in_ok-grouping.ensures in
+    let own : IsComponentOf c.args.system.now.relations c.args.hidden.now.flags c.args.question.cell (group_of of c.args.question.cell) = group_is c.args.system.now.relations c.args.hidden.now.flags of c.in_ok-grouping.grouping.sizes c.args.question.cell are c.requires.hidden in
+    let size : c.len-size.result ≡ length c.in_ok-members.members.items = search rules in
+    let few : length (members (group_of of c.args.question.cell) c.args.system.now.cells) ≤ 1500 = omega (arith, size, ap (λ (xs : List ℕ). length xs) c.in_ok-members.ensures, c.if-size-gt1500.false) in
+    if_ok_more (λ (answer : Answer). IsWalkAnswerIn c.args.system.now c.args.cells.now (group_of of c.args.question.cell) c.args.question answer)
+    (λ (answer : Answer). IsWalkAnswer c.args.system.now c.args.cells.now c.args.hidden.now.flags c.args.question answer)
+    c.walk_on.result (λ answer is. (group_of of c.args.question.cell, own, few, is)) c.walk_on.ensures.read
+
+pub returns-clause-cause : goal.returns-clause-cause
+returns-clause-cause c =
+    let of : List (Option ℕ) = c.as_slice-of.result.now in
+    let are : AreComponents c.args.system.now.relations c.args.hidden.now.flags of c.in_ok-grouping.grouping.sizes =
+    subst (λ (of : List (Option ℕ)). AreComponents c.args.system.now.relations c.args.hidden.now.flags of c.in_ok-grouping.grouping.sizes) (sym c.as_slice-of.ensures) c.in_ok-grouping.ensures in
+    let own : IsComponentOf c.args.system.now.relations c.args.hidden.now.flags c.args.question.cell (group_of of c.args.question.cell) = group_is c.args.system.now.relations c.args.hidden.now.flags of c.in_ok-grouping.grouping.sizes c.args.question.cell are c.requires.hidden in
+    if_caused c.args.system.now c.args.cells.now c.args.hidden.now.flags (group_of of c.args.question.cell) c.args.question c.args.limit c.walk_on.result own c.walk_on.ensures.cause

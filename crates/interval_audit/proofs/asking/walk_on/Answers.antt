@@ -1,0 +1,24 @@
+use Rattle.std.proofs.Common.{◌≡◌, ◌∙◌, true, false, sym, subst}
+use Rattle.tableau.specs.ProblemForm.{IsWellFormed}
+use Rattle.interval_audit.specs.declared.answer.Answer.{Answer}
+use Rattle.interval_audit.specs.Answers.{IsReadOff, IsWalkAnswerIn}
+use Rattle.interval_audit.specs.Groups.{Group, group_of}
+use Rattle.interval_audit.proofs.Proper.{problem_is}
+use Rattle.interval_audit.proofs.ReadStates.{ended_where}
+use Rattle.interval_audit.proofs.QuestionAnswers.{if_ok_more}
+use Rattle.interval_audit.proofs.asking.walk_on.Goals as goal
+
+pub start-requires : goal.start-requires
+start-requires c =
+    let group : Group = group_of c.args.inquiry.now.of.now c.args.inquiry.now.question.cell in
+    subst IsWellFormed (sym c.in_ok-problem.ensures) (problem_is c.args.inquiry.now.system.now c.args.inquiry.now.cells.now group c.args.inquiry.now.question c.args.inquiry.now.few)
+
+pub finish-requires-2-clause-ended : goal.finish-requires-2-clause-ended
+finish-requires-2-clause-ended c =
+    ended_where c.walk.tableau c.read_state.ensures.bounded (λ neither. let on : c.can_improve.result ≡ true = c.can_improve.ensures.neither.1 neither in let clash : true ≡ false = sym on ∙ c.if-can_improve.false in absurd cc)
+
+pub returns-clause-read : goal.returns-clause-read
+returns-clause-read c =
+    let group : Group = group_of c.args.inquiry.now.of.now c.args.inquiry.now.question.cell in
+    if_ok_more (λ (answer : Answer). IsReadOff c.args.inquiry.now.system.now c.args.inquiry.now.cells.now group c.walk.tableau answer) (λ (answer : Answer). IsWalkAnswerIn c.args.inquiry.now.system.now c.args.inquiry.now.cells.now group c.args.inquiry.now.question answer)
+    c.finish-2.result (λ answer own. (c.walk.tableau, c.read_state.ensures.walked, c.walk.invariant.problem, own)) c.finish-2.ensures.read

@@ -1,0 +1,29 @@
+use Rattle.std.proofs.Common.{◌≡◌, ℕ, true, sym, subst}
+use Rattle.sdc_base.specs.HiddenSets.{is_hidden}
+use Rattle.interval_audit.specs.declared.answer.Answer.{Answer}
+use Rattle.interval_audit.specs.declared.answer.AskFault.{AskFault}
+use Rattle.interval_audit.specs.Answers.{IsTrueAnswer, IsWalkAnswer, IsCauseOf}
+use Rattle.interval_audit.specs.Ends.{IsTrueEnd, IsWalkEnd, IsEndCause}
+use Rattle.interval_audit.proofs.QuestionAnswers.{if_ok_more, if_err_more}
+use Rattle.interval_audit.proofs.ends.end_of.Goals as goal
+
+pub ask-requires-clause-hidden : goal.ask-requires-clause-hidden
+ask-requires-clause-hidden c = subst (λ (one : ℕ). is_hidden c.args.hidden.now.flags one ≡ true) (sym c.end_question-question.ensures.cell_is) c.requires.hidden
+
+pub returns-clause-right : goal.returns-clause-right
+returns-clause-right c =
+    if_ok_more (λ (answer : Answer). IsTrueAnswer c.args.system.now c.args.cells.now c.args.hidden.now.flags c.end_question-question.result answer)
+    (λ (answer : Answer). IsTrueEnd c.args.system.now c.args.cells.now c.args.hidden.now.flags c.args.cell c.args.side answer)
+    c.ask.result (λ answer own. (c.end_question-question.result, c.end_question-question.ensures, own)) c.ask.ensures.right
+
+pub returns-clause-read : goal.returns-clause-read
+returns-clause-read c =
+    if_ok_more (λ (answer : Answer). IsWalkAnswer c.args.system.now c.args.cells.now c.args.hidden.now.flags c.end_question-question.result answer)
+    (λ (answer : Answer). IsWalkEnd c.args.system.now c.args.cells.now c.args.hidden.now.flags c.args.cell c.args.side answer)
+    c.ask.result (λ answer own. (c.end_question-question.result, c.end_question-question.ensures, own)) c.ask.ensures.read
+
+pub returns-clause-cause : goal.returns-clause-cause
+returns-clause-cause c =
+    if_err_more (λ (fault : AskFault). IsCauseOf c.args.system.now c.args.cells.now c.args.hidden.now.flags c.end_question-question.result c.args.limit fault)
+    (λ (fault : AskFault). IsEndCause c.args.system.now c.args.cells.now c.args.hidden.now.flags c.args.cell c.args.side c.args.limit fault)
+    c.ask.result (λ fault own. (c.end_question-question.result, c.end_question-question.ensures, own)) c.ask.ensures.cause

@@ -1,0 +1,34 @@
+-- The two ends of an interval: questions with the target 2^110 (handbook, feasibility interval; the target own).
+use Rattle.std.specs.Prelude.{◌≡◌, ◌⊎◌, ℕ, ◌^◌, Bool, List, pos}
+use Rattle.sdc_base.specs.declared.cell.Cell.{Cell}
+use Rattle.sdc_base.specs.declared.side.Side.{Side}
+use Rattle.sdc_base.specs.declared.side.Side.TheVariants.{Above, Below}
+use Rattle.sdc_base.specs.declared.system.System.{System}
+use Rattle.interval_audit.specs.declared.question.Question.{Question}
+use Rattle.interval_audit.specs.declared.answer.Answer.{Answer}
+use Rattle.interval_audit.specs.declared.answer.AskFault.{AskFault}
+use Rattle.interval_audit.specs.Answers.{IsTrueAnswer, IsWalkAnswer, IsCauseOf}
+
+-- the question asks how far the cell lies to the side, with the target 2^110
+pub record IsEndQuestion (cell : ℕ) (side : Side) (question : Question) : Type 0 where
+  pub cell_is : question.cell ≡ cell
+  pub side_is : question.side ≡ side
+  pub target_is : question.target ≡ pos (2 ^ 110)
+
+-- the answer of such a question is right
+abbrev pub IsTrueEnd : System → List Cell → List Bool → ℕ → Side → Answer → Type 0
+IsTrueEnd system cells flags cell side answer = (question : Question) × IsEndQuestion cell side question × IsTrueAnswer system cells flags question answer
+
+-- the answer of such a question is read off the end of the walk in its component
+abbrev pub IsWalkEnd : System → List Cell → List Bool → ℕ → Side → Answer → Type 0
+IsWalkEnd system cells flags cell side answer = (question : Question) × IsEndQuestion cell side question × IsWalkAnswer system cells flags question answer
+
+-- such a question has no answer for this cause
+abbrev pub IsEndCause : System → List Cell → List Bool → ℕ → Side → ℕ → AskFault → Type 0
+IsEndCause system cells flags cell side limit fault = (question : Question) × IsEndQuestion cell side question × IsCauseOf system cells flags question limit fault
+
+-- The fault is one of the question below, or one of the question above where that below has an answer.
+abbrev pub IsIntervalCause : System → List Cell → List Bool → ℕ → ℕ → AskFault → Type 0
+IsIntervalCause system cells flags cell limit fault =
+    IsEndCause system cells flags cell Below limit fault
+    ⊎ ((answer : Answer) × IsTrueEnd system cells flags cell Below answer × IsWalkEnd system cells flags cell Below answer × IsEndCause system cells flags cell Above limit fault)

@@ -1,0 +1,13 @@
+pub mod Points
+pub mod Groups
+pub mod Columns
+pub mod Labels
+pub mod Problems
+pub mod QuestionLaws
+pub mod FormSigns
+pub mod CellNumbers
+pub mod LowestTerms
+pub mod Readings
+pub mod WalkStates
+pub mod Answers
+pub mod Ends

@@ -1,0 +1,85 @@
+ghost use Rattle.std.specs.Prelude.{◌≡◌, ◌≤◌, length, true, IfOk, IfErr};
+ghost use Rattle.sdc_base.specs.Grounds.{IsGround};
+ghost use Rattle.sdc_base.specs.HiddenSets.{is_hidden};
+ghost use Rattle.sdc_base.specs.declared.side.Side.{Side as AnySide};
+ghost use Rattle.sdc_base.specs.declared.side.Side.TheVariants.{Above, Below};
+ghost use Rattle.interval_audit.specs.declared.question.Question.{Question as AnyQuestion};
+ghost use Rattle.interval_audit.specs.Answers.{IsTrueAnswer, IsWalkAnswer, IsCauseOf};
+ghost use Rattle.interval_audit.specs.Ends.{IsEndQuestion, IsTrueEnd, IsWalkEnd, IsEndCause, IsIntervalCause};
+
+use crate::answer::{Answer, AskFault};
+use crate::asking::ask;
+use crate::question::Question;
+use sdc_base::{Cell, Hidden, Side, System};
+use std::alloc::Global;
+
+/// How far a hidden cell can lie to both sides.
+#[derive(Drop)]
+pub struct TwoEnds {
+    /// How far below the truth.
+    pub below: Answer,
+    /// How far above the truth.
+    pub above: Answer,
+}
+
+/// How far a hidden cell can lie below the truth, and how far above: two questions with the target 2^110, in units,
+/// below first. An end that reaches its target is open.
+///
+/// The conditions are those of [`ask`], and so are the refusals: those of the question below, and then those of the
+/// question above. It costs as much as the two questions.
+///
+/// The two ends are those of the feasibility interval in Hundepool et al., Statistical Disclosure Control, chapter on
+/// magnitude tables; that an end is open from 2^110 on is own.
+pub fn interval(
+    alloc: Global,
+    system: &System,
+    cells: &[Cell],
+    hidden: &Hidden,
+    cell: u32,
+    limit: u64,
+) -> Result<TwoEnds, AskFault>
+    requires ground { IsGround system.now cells.now hidden.now.flags }
+    requires hidden { is_hidden hidden.now.flags cell ≡ true }
+    requires limit { 1 ≤ limit }
+    ensures below { IfOk result (λ ends. IsTrueEnd system.now cells.now hidden.now.flags cell Below ends.below) }
+    ensures above { IfOk result (λ ends. IsTrueEnd system.now cells.now hidden.now.flags cell Above ends.above) }
+    ensures below_read { IfOk result (λ ends. IsWalkEnd system.now cells.now hidden.now.flags cell Below ends.below) }
+    ensures above_read { IfOk result (λ ends. IsWalkEnd system.now cells.now hidden.now.flags cell Above ends.above) }
+    ensures cause { IfErr result (λ fault. IsIntervalCause system.now cells.now hidden.now.flags cell limit fault) }
+{
+    let below = end_of(alloc, system, cells, hidden, cell, Side::Below, limit)?;
+    let above = end_of(alloc, system, cells, hidden, cell, Side::Above, limit)?;
+    Ok(TwoEnds { below, above })
+}
+
+// How far a hidden cell can lie to a side.
+fn end_of(
+    alloc: Global,
+    system: &System,
+    cells: &[Cell],
+    hidden: &Hidden,
+    cell: u32,
+    side: Side,
+    limit: u64,
+) -> Result<Answer, AskFault>
+    requires ground { IsGround system.now cells.now hidden.now.flags }
+    requires hidden { is_hidden hidden.now.flags cell ≡ true }
+    requires limit { 1 ≤ limit }
+    ensures right { IfOk result (λ answer. IsTrueEnd system.now cells.now hidden.now.flags cell side answer) }
+    ensures read { IfOk result (λ answer. IsWalkEnd system.now cells.now hidden.now.flags cell side answer) }
+    ensures cause { IfErr result (λ fault. IsEndCause system.now cells.now hidden.now.flags cell side limit fault) }
+{
+    let question = end_question(cell, side);
+    ask(alloc, system, cells, hidden, question, limit)
+}
+
+// The question how far a cell lies to a side.
+fn end_question(cell: u32, side: Side) -> Question
+    ensures { IsEndQuestion cell side result }
+{
+    Question {
+        cell,
+        side,
+        target: 1 << 110,
+    }
+}

@@ -1,0 +1,90 @@
+ghost use Rattle.std.specs.Prelude.{◌≡◌, ◌<◌, ◌^◌, ◌++◌, ◌∷◌, [], length, if◌then◌else◌, IfOk, OnOk};
+ghost use Rattle.sdc_base.specs.Components.{component};
+ghost use Rattle.interval_audit.specs.Groups.{group_of, members};
+ghost use Rattle.interval_audit.specs.Labels.{is_met, met_relations};
+
+use sdc_base::{Memory, Relation};
+use std::alloc::Global;
+
+// The cells of the asked cell's component, ascending.
+pub(crate) fn members_of(
+    alloc: Global,
+    of: &[Option<u32>],
+    asked: u32,
+    cells: u32,
+) -> Result<Vec<u32>, Memory>
+    ensures { IfOk result (λ list. list.items ≡ members (group_of of.now asked) cells) }
+{
+    let mut list = Vec::new(alloc);
+    'cells: for cell in 0..cells {
+        let wanted = is_in(of, asked, cell);
+        push_if(&mut list, cell, wanted)?;
+    }
+    Ok(list)
+}
+
+// The relations in which a cell of the asked cell's component stands, ascending.
+pub(crate) fn met_by(
+    alloc: Global,
+    relations: &[Relation],
+    of: &[Option<u32>],
+    asked: u32,
+) -> Result<Vec<u32>, Memory>
+    requires few { length relations.now < 2 ^ 32 }
+    ensures { IfOk result (λ list. list.items ≡ met_relations (group_of of.now asked) relations.now) }
+{
+    let mut list = Vec::new(alloc);
+    'relations: for number in 0..relations.len() as u32 {
+        let wanted = meets(of, asked, &relations[number as usize]);
+        push_if(&mut list, number, wanted)?;
+    }
+    Ok(list)
+}
+
+// Puts a number at the end of a list, where it is wanted.
+fn push_if(list: &mut Vec<u32>, number: u32, wanted: bool) -> Result<(), Memory>
+    ensures { OnOk result (list.new.items ≡ list.old.items ++ (if wanted then number ∷ [] else [])) }
+{
+    if wanted {
+        list.push(number)?;
+    }
+    Ok(())
+}
+
+// Whether a cell of the asked cell's component stands in a relation.
+fn meets(of: &[Option<u32>], asked: u32, relation: &Relation) -> bool
+    ensures { result ≡ is_met (group_of of.now asked) relation.now }
+{
+    if is_in(of, asked, relation.total) {
+        return true;
+    }
+    'parts: for part in relation.parts.as_slice() {
+        if is_in(of, asked, *part) {
+            return true;
+        }
+    }
+    false
+}
+
+// Whether a cell is in the asked cell's component.
+fn is_in(of: &[Option<u32>], asked: u32, cell: u32) -> bool
+    ensures { result ≡ group_of of.now asked cell }
+{
+    let Some(number) = component_at(of, asked) else {
+        return false;
+    };
+    let Some(other) = component_at(of, cell) else {
+        return false;
+    };
+    other == number
+}
+
+// The number of a cell's component, none where it is shown.
+fn component_at(of: &[Option<u32>], cell: u32) -> Option<u32>
+    ensures { result ≡ component of.now cell }
+{
+    match of.get(cell as usize) {
+        Some(number) => *number,
+        None => None,
+    }
+}

@@ -1,0 +1,27 @@
+//! How far worlds can move a hidden cell: exact questions to a linear problem of its component.
+#![tactic(auto)]
+
+mod answer;
+mod asking;
+mod checking;
+mod ends;
+mod entries;
+mod finish;
+mod group;
+mod inquiry;
+mod laws;
+mod lowest_terms;
+mod problem;
+mod question;
+mod readings;
+mod rows;
+mod terms;
+#[cfg(test)]
+mod tests;
+
+pub use answer::{Answer, AskFault, Fraction, Walk, WidePlace};
+pub use asking::ask;
+pub use ends::{TwoEnds, interval};
+pub use laws::{answer_is_one, question_laws};
+pub use problem::problem_of;
+pub use question::Question;

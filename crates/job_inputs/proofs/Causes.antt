@@ -1,0 +1,125 @@
+-- What stops one look at a file stops the reading of which it is a part.
+use Rattle.std.proofs.Common.{◌≡◌, ℕ, List, Option, None, Some, Result, Ok, Err, IsErrOf, refl, ap, arith, subst, ◌∙◌}
+use Rattle.sdc_base.specs.Answers.{Fails, Gives}
+use Rattle.sdc_base.specs.Told.{WhereTold}
+use Rattle.hierarchy.specs.declared.tree_fault.TreeFault.TheVariants as tree
+use Rattle.office_io.proofs.Shelves.{only-read-on}
+use Rattle.office_io.specs.Files.{Files}
+use Rattle.office_io.specs.Shelves.{ShelfState, HasOnlyRead}
+use Rattle.job_inputs.specs.Reading.{stop_of, stopped_for, HasCause, HasComeTo, IsReadFrom}
+use Rattle.job_inputs.specs.Refusals.{refused_for, IsForContents, IsOfContents}
+use Rattle.job_inputs.specs.declared.file_ref.FileRef.{FileRef}
+use Rattle.job_inputs.specs.declared.faults.InputFault.{InputFault}
+use Rattle.job_inputs.specs.declared.faults.InputFault.TheVariants as fault
+use Rattle.job_inputs.specs.declared.refusal.Refusal.{Refusal}
+use Rattle.job_inputs.specs.declared.refusal.Refusal.TheVariants as refusal
+use Rattle.job_inputs.specs.declared.stop.InputStop.{InputStop}
+use Rattle.job_inputs.specs.declared.stop.InputStop.TheVariants as stop
+
+-- an error is the same error of another answer
+pub err-as : {X Y : Type 0} (e s : InputStop) → IsErrOf {T = Y} (Err e) s → IsErrOf {T = X} (Err e) s
+err-as e s is = let same : e ≡ s = cc in ap Err same
+
+-- the cause of a stop is one after earlier reads too
+pub cause-on : {X Y : Type 0} (e : InputStop) (old mid new : ShelfState) → HasOnlyRead old mid → HasCause {X = X} (Err e) mid new → HasCause {X = Y} (Err e) old new
+cause-on e old mid new first cause = record {
+  absent = λ f is. omega (arith, first.absences, cause.absent f (err-as e _ is));
+  too_long = λ f is. cause.too_long f (err-as e _ is);
+  read_fault = λ f is. omega (arith, first.faults, cause.read_fault f (err-as e _ is));
+  tree = λ f is. cause.tree f (err-as e _ is);
+}
+
+pub cause-as : {X Y : Type 0} (e : InputStop) (old new : ShelfState) → HasCause {X = X} (Err e) old new → HasCause {X = Y} (Err e) old new
+cause-as e old new cause = record {
+  absent = λ f is. cause.absent f (err-as e _ is);
+  too_long = λ f is. cause.too_long f (err-as e _ is);
+  read_fault = λ f is. cause.read_fault f (err-as e _ is);
+  tree = λ f is. cause.tree f (err-as e _ is);
+}
+
+-- a refusal of contents needs no cause of the shelf
+pub contents-cause : {Y : Type 0} (r : Refusal) (old new : ShelfState) → IsForContents r → HasCause {X = Y} (Err (stop_of r)) old new
+contents-cause (refusal.Refused (fault.Absent f)) old new h = absurd h
+contents-cause (refusal.Refused (fault.TooLong f)) old new h = absurd h
+contents-cause (refusal.Refused (fault.Tree g why)) old new h = record {
+  absent = λ f is. absurd cc;
+  too_long = λ f is. absurd cc;
+  read_fault = λ f is. absurd cc;
+  tree = λ f is. (let same : why ≡ tree.Memory = cc in absurd (rw same at h));
+}
+contents-cause (refusal.Refused (fault.Job line why)) old new h = record { absent = λ f is. absurd cc; too_long = λ f is. absurd cc; read_fault = λ f is. absurd cc; tree = λ f is. absurd cc }
+contents-cause (refusal.Refused (fault.Meta line why)) old new h = record { absent = λ f is. absurd cc; too_long = λ f is. absurd cc; read_fault = λ f is. absurd cc; tree = λ f is. absurd cc }
+contents-cause (refusal.Refused (fault.Row number why)) old new h = record { absent = λ f is. absurd cc; too_long = λ f is. absurd cc; read_fault = λ f is. absurd cc; tree = λ f is. absurd cc }
+contents-cause (refusal.Refused (fault.Cells t)) old new h = record { absent = λ f is. absurd cc; too_long = λ f is. absurd cc; read_fault = λ f is. absurd cc; tree = λ f is. absurd cc }
+contents-cause (refusal.Refused (fault.Prior t line why)) old new h = record { absent = λ f is. absurd cc; too_long = λ f is. absurd cc; read_fault = λ f is. absurd cc; tree = λ f is. absurd cc }
+contents-cause refusal.Memory old new h = record { absent = λ f is. absurd cc; too_long = λ f is. absurd cc; read_fault = λ f is. absurd cc; tree = λ f is. absurd cc }
+
+pub stop-fails : {A : Type 0} (r : Refusal) (meant : Result A InputFault) → Fails (refused_for r) meant → Fails (stopped_for (stop_of r)) meant
+stop-fails (refusal.Refused f) meant h = h
+stop-fails refusal.Memory meant h = tt
+
+-- a file that was come to is come to on the way of the whole
+pub come-on : {X Y : Type 0} (e : InputStop) (part whole : FileRef → List ℕ → Type 0) (files : Files) (new : ShelfState) → ((f : FileRef) (held : List ℕ) → part f held → whole f held)
+    → HasComeTo {X = X} part (Err e) files new → HasComeTo {X = Y} whole (Err e) files new
+come-on e part whole files new wider come = λ f is. let came = come f (err-as e _ is) in (came.0, wider f came.0 came.1, came.2)
+
+pub contents-come : {Y : Type 0} (r : Refusal) (whole : FileRef → List ℕ → Type 0) (files : Files) (new : ShelfState) → HasComeTo {X = Y} whole (Err (stop_of r)) files new
+contents-come (refusal.Refused g) whole files new = λ f is. absurd cc
+contents-come refusal.Memory whole files new = λ f is. absurd cc
+
+-- a look that stops, after others that did not, stops the whole
+pub look-stops : {X X' Y Y' : Type 0} (view : X → Y) (view' : X' → Y') (part : Files → Result Y InputFault) (whole : Files → Result Y' InputFault) (comes comes' : Files → FileRef → List ℕ → Type 0)
+    (e : InputStop) (old mid new : ShelfState) → HasOnlyRead old mid → IsReadFrom view part comes (Err e) mid new
+    → WhereTold old.files (λ fs. Fails (stopped_for e) (part fs) → Fails (stopped_for e) (whole fs))
+    → WhereTold old.files (λ fs. (f : FileRef) (held : List ℕ) → comes fs f held → comes' fs f held)
+    → IsReadFrom view' whole comes' (Err e) old new
+look-stops view view' part whole comes comes' e old mid new first look fails wider = record {
+  told = λ fs told. fails fs told (look.told fs (first.files ∙ told));
+  came_to = λ fs told. come-on e (comes fs) (comes' fs) fs new (wider fs told) (look.came_to fs (first.files ∙ told));
+  only_read = only-read-on old mid new first look.only_read;
+  cause = cause-on e old mid new first look.cause;
+}
+
+-- contents that are refused stop the whole
+pub contents-stop : {X' Y' : Type 0} (view' : X' → Y') (whole : Files → Result Y' InputFault) (comes' : Files → FileRef → List ℕ → Type 0) (r : Refusal) (old new : ShelfState)
+    → HasOnlyRead old new → IsForContents r → WhereTold old.files (λ fs. Fails (refused_for r) (whole fs)) → IsReadFrom view' whole comes' (Err (stop_of r)) old new
+contents-stop view' whole comes' r old new first contents fails = record {
+  told = λ fs told. stop-fails r (whole fs) (fails fs told);
+  came_to = λ fs told. contents-come r (comes' fs) fs new;
+  only_read = first;
+  cause = contents-cause r old new contents;
+}
+
+-- nothing was read yet
+pub only-read-nothing : (state : ShelfState) → HasOnlyRead state state
+only-read-nothing state = record { files = refl; faults = omega arith; faults_end = λ below. below; absences = omega arith; absences_end = λ below. below }
+
+-- looks that succeed are a look that succeeds
+pub look-ends : {X' Y' : Type 0} (view' : X' → Y') (whole : Files → Result Y' InputFault) (comes' : Files → FileRef → List ℕ → Type 0) (x : X') (old mid : ShelfState) {new : ShelfState} → HasOnlyRead old mid → HasOnlyRead mid new
+    → WhereTold old.files (λ fs. whole fs ≡ Ok (view' x)) → IsReadFrom view' whole comes' (Ok x) old new
+look-ends view' whole comes' x old mid {new} first then is = record {
+  told = is;
+  came_to = λ fs told f stops. absurd cc;
+  only_read = only-read-on old mid new first then;
+  cause = record { absent = λ f stops. absurd cc; too_long = λ f stops. absurd cc; read_fault = λ f stops. absurd cc; tree = λ f stops. absurd cc };
+}
+
+-- an answer to a look is one to a wider look of the same meaning
+pub read-wider : {X Y : Type 0} (view : X → Y) (part whole : Files → Result Y InputFault) (comes comes' : Files → FileRef → List ℕ → Type 0) (result : Result X InputStop) (old new : ShelfState)
+    → ((fs : Files) → part fs ≡ whole fs) → ((fs : Files) (f : FileRef) (held : List ℕ) → comes fs f held → comes' fs f held)
+    → IsReadFrom view part comes result old new → IsReadFrom view whole comes' result old new
+read-wider {X} {Y} view part whole comes comes' result old new same wider look = record {
+  told = λ fs told. subst (λ (m : Result Y InputFault). Gives stopped_for view result m) (same fs) (look.told fs told);
+  came_to = λ fs told f is. let came = look.came_to fs told f is in (came.0, wider fs f came.0 came.1, came.2);
+  only_read = look.only_read;
+  cause = look.cause;
+}
+
+-- memory was wanting after some reads
+pub memory-stops : {X' Y' : Type 0} (view' : X' → Y') (whole : Files → Result Y' InputFault) (comes' : Files → FileRef → List ℕ → Type 0) (old new : ShelfState) → HasOnlyRead old new → IsReadFrom view' whole comes' (Err stop.Memory) old new
+memory-stops view' whole comes' old new first = record {
+  told = λ fs told. tt;
+  came_to = λ fs told f is. absurd cc;
+  only_read = first;
+  cause = record { absent = λ f is. absurd cc; too_long = λ f is. absurd cc; read_fault = λ f is. absurd cc; tree = λ f is. absurd cc };
+}

@@ -1,0 +1,15 @@
+pub mod Refusing
+pub mod Causes
+pub mod Sounding
+pub mod Describing
+pub mod Listing
+pub mod Placing
+pub mod Coming
+pub mod FieldSteps
+pub mod Laying
+pub mod Feeding
+pub mod Filling
+pub mod Books
+pub mod Facts
+pub mod Stating
+pub mod Settling

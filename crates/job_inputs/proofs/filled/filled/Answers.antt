@@ -1,0 +1,13 @@
+use Rattle.std.proofs.Common.{ℕ, subst}
+use Rattle.tabulate.specs.Tabulated.{AreTabulated}
+use Rattle.job_inputs.proofs.Filling.{scale-range, rows-are}
+use Rattle.job_inputs.proofs.filled.filled.Goals as goal
+
+pub tabulate-requires-clause-whole : goal.tabulate-requires-clause-whole
+tabulate-requires-clause-whole c = (scale-range c.args.described.now c.requires.sound).0
+
+pub tabulate-requires-clause-rows : goal.tabulate-requires-clause-rows
+tabulate-requires-clause-rows c = rows-are c.args.book.trees c.args.described.now.bound.scale c.args.rows.now c.requires.rows.each
+
+pub returns-clause-told : goal.returns-clause-told
+returns-clause-told c = subst (λ (kept : ℕ). AreTabulated c.tabulate.new.book c.args.rows.now kept c.args.described.now.bound.scale) c.keep-kept.ensures.value c.tabulate.ensures.marks

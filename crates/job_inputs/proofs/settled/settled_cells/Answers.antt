@@ -1,0 +1,28 @@
+use Rattle.std.proofs.Common.{◌≡◌, Ok, map, refl, subst, ap, length, ◌∙◌}
+use Rattle.std.proofs.lemmas.Result.{err_from_is_err_and}
+use Rattle.sdc_base.specs.Answers.{Fails}
+use Rattle.apriori.specs.Faults.{fault_of}
+use Rattle.apriori.specs.Settling.{seen, settle_of}
+use Rattle.job_inputs.proofs.Filling.{in-range}
+use Rattle.job_inputs.proofs.Refusing.{prior_refuses}
+use Rattle.job_inputs.proofs.Facts.{facts-in, are-ready}
+use Rattle.job_inputs.specs.Cells.{cells, figures}
+use Rattle.job_inputs.specs.declared.described.Described.{Described}
+use Rattle.job_inputs.proofs.settled.settled_cells.Goals as goal
+
+pub settle-requires-clause-ready : goal.settle-requires-clause-ready
+settle-requires-clause-ready c = are-ready c.args.counted.now.described.job.rules c.args.counted.now.book.marks c.requires.ready.book.truths c.requires.ready.book.keeps
+
+pub returns-clause-gives : goal.returns-clause-gives
+returns-clause-gives c = λ inputs is.
+    let over = c.in_ok-cells.ensures.over_records inputs.records.trees (cells inputs) inputs.records.rows inputs.described.bound.scale (facts-in inputs c.args.counted.now.book is.book) in
+    let same = subst (λ (d : Described). settle_of d.job.rules (figures inputs) c.args.priors.now ≡ Ok (map seen c.in_ok-cells.cells.items)) is.described over in
+    rw (c.new.ensures, same) refl
+
+pub returns-in_err-cells-clause-gives : goal.returns-in_err-cells-clause-gives
+returns-in_err-cells-clause-gives c = λ inputs is.
+    let p = err_from_is_err_and c.from_residual.result c.from_residual.ensures.1 in
+    let e = c.in_err-cells.field-0.0 in
+    let over = c.in_err-cells.ensures.over_records inputs.records.trees (cells inputs) inputs.records.rows inputs.described.bound.scale (facts-in inputs c.args.counted.now.book is.book) in
+    let same = subst (λ (d : Described). Fails (fault_of e) (settle_of d.job.rules (figures inputs) c.args.priors.now)) is.described over in
+    rw (p.1, p.2) (prior_refuses e (settle_of inputs.described.job.rules (figures inputs) c.args.priors.now) same)

@@ -1,0 +1,15 @@
+pub mod FileTexts
+pub mod Layouts
+pub mod Inputs
+pub mod Sound
+pub mod Listed
+pub mod Placed
+pub mod Cells
+pub mod Stated
+pub mod Looks
+pub mod Refusals
+pub mod Reading
+pub mod Tabulated
+pub mod Counted
+pub mod Settled
+pub mod Laws

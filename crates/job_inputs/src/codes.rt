@@ -1,0 +1,143 @@
+ghost use Rattle.std.specs.Prelude.{◌<◌, ◌≤◌, ◌^◌, ◌≡◌, IfOk, IfErr, Some, length};
+ghost use Rattle.sdc_base.specs.Answers.{Gives};
+ghost use Rattle.sdc_base.specs.Steps.{map_fault};
+ghost use Rattle.hierarchy.specs.CodeList.{codes_of};
+ghost use Rattle.hierarchy.specs.Lead.{lead_of};
+ghost use Rattle.job_inputs.specs.Inputs.{codes_in, listed_tree, tree_in};
+ghost use Rattle.job_inputs.specs.Listed.{AreListed};
+ghost use Rattle.job_inputs.specs.Looks.{IsCodeListOf, IsFile};
+ghost use Rattle.job_inputs.specs.Reading.{IsReadFrom};
+ghost use Rattle.job_inputs.specs.Refusals.{refused_for, tree_refusal as tree_refused, IsForContents};
+
+use crate::faults::InputFault;
+use crate::file_ref::FileRef;
+use crate::loading::load;
+use crate::refusal::Refusal;
+use crate::stop::InputStop;
+use hierarchy::{CodeTree, TreeFault, from_lead, list_gives_its_codes, read_codes, with_missing};
+use office_io::Shelf;
+use rda_meta::Variable;
+use sdc_base::Text;
+use std::alloc::Global;
+
+/// The codes of a variable's code list, where it has one, from the shelf.
+#[tactic(auto, using(crate::proofs::Listing::none_listed), unfolding(crate::specs::Inputs::codes_in))]
+pub(crate) fn read_list<S: Shelf>(
+    alloc: Global,
+    shelf: &mut S,
+    place: u32,
+    variable: &Variable,
+) -> Result<Vec<Text>, InputStop>
+    ensures reads { IsReadFrom (λ codes. codes.items) (λ fs. codes_in fs place variable.now.total variable.now.codes) (λ fs. IsCodeListOf place variable.now) result (S.state shelf.old) (S.state shelf.new) }
+    ensures listed { IfOk result (λ codes. AreListed variable.now.total codes.items) }
+{
+    match &variable.codes {
+        None => Ok(Vec::new(alloc)),
+        Some(name) => load_list(alloc, shelf, place, &variable.total, name),
+    }
+}
+
+// The codes of the list of this name.
+#[tactic(auto, unfolding(crate::specs::Inputs::codes_in))]
+fn load_list<S: Shelf>(
+    alloc: Global,
+    shelf: &mut S,
+    place: u32,
+    total: &Text,
+    name: &Text,
+) -> Result<Vec<Text>, InputStop>
+    ensures reads { IsReadFrom (λ codes. codes.items) (λ fs. codes_in fs place total.now (Some name.now)) (λ fs. IsFile (FileRef.CodeList place) name.now) result (S.state shelf.old) (S.state shelf.new) }
+    ensures listed { IfOk result (λ codes. AreListed total.now codes.items) }
+{
+    let file = FileRef::CodeList(place);
+    let bytes = load(alloc, shelf, name, file)?;
+    let codes = codes_by(alloc, file, bytes.as_slice(), total)?;
+    Ok(codes)
+}
+
+// The codes that the bytes of a list give.
+#[tactic(auto, using(crate::proofs::Refusing::tree_refuses, crate::proofs::Refusing::tree_is_for_contents))]
+fn codes_by(alloc: Global, file: FileRef, bytes: &[u8], total: &Text) -> Result<Vec<Text>, Refusal>
+    requires { length bytes.now < 2 ^ 32 }
+    ensures told { Gives refused_for (λ codes. codes.items) result (map_fault (InputFault.Tree file) (codes_of total.now bytes.now)) }
+    ensures listed { IfOk result (λ codes. AreListed total.now codes.items) }
+    ensures contents { IfErr result IsForContents }
+{
+    list_gives_its_codes();
+    match read_codes(alloc, bytes, total) {
+        Ok(codes) => Ok(codes),
+        Err(fault) => Err(tree_refusal(file, fault)),
+    }
+}
+
+/// The tree of a hierarchy file, with the missing codes of its variable, from the shelf.
+#[tactic(auto, unfolding(crate::specs::Inputs::listed_tree))]
+pub(crate) fn read_tree<S: Shelf>(
+    alloc: Global,
+    shelf: &mut S,
+    place: u32,
+    variable: &Variable,
+    name: &Text,
+    lead: &Text,
+) -> Result<CodeTree, InputStop>
+    requires lead { 0 < length lead.now }
+    requires missing { length variable.now.missing ≤ 2 }
+    ensures { IsReadFrom (λ tree. tree) (λ fs. listed_tree fs place variable.now name.now lead.now) (λ fs. IsFile (FileRef.Hierarchy place) name.now) result (S.state shelf.old) (S.state shelf.new) }
+{
+    let file = FileRef::Hierarchy(place);
+    let bytes = load(alloc, shelf, name, file)?;
+    let tree = tree_by(alloc, file, bytes.as_slice(), lead, variable)?;
+    Ok(tree)
+}
+
+// The tree that the bytes of a hierarchy file give, with the missing codes of its variable.
+#[tactic(auto, unfolding(crate::specs::Inputs::tree_in), using(crate::proofs::Refusing::tree_refuses, crate::proofs::Refusing::tree_is_for_contents))]
+fn tree_by(
+    alloc: Global,
+    file: FileRef,
+    bytes: &[u8],
+    lead: &Text,
+    variable: &Variable,
+) -> Result<CodeTree, Refusal>
+    requires few { length bytes.now < 2 ^ 32 }
+    requires lead { 0 < length lead.now }
+    requires missing { length variable.now.missing ≤ 2 }
+    ensures told { Gives refused_for (λ tree. tree) result (tree_in file variable.now lead.now bytes.now) }
+    ensures contents { IfErr result IsForContents }
+{
+    let tree = lead_tree(alloc, file, bytes, lead, &variable.total)?;
+    match with_missing(alloc, tree, variable.missing.as_slice()) {
+        Ok(whole) => Ok(whole),
+        Err(fault) => Err(tree_refusal(file, fault)),
+    }
+}
+
+// The tree that the bytes of a hierarchy file give, without missing codes.
+#[tactic(auto, using(crate::proofs::Refusing::tree_refuses, crate::proofs::Refusing::tree_is_for_contents))]
+fn lead_tree(
+    alloc: Global,
+    file: FileRef,
+    bytes: &[u8],
+    lead: &Text,
+    total: &Text,
+) -> Result<CodeTree, Refusal>
+    requires few { length bytes.now < 2 ^ 32 }
+    requires lead { 0 < length lead.now }
+    ensures told { Gives refused_for (λ tree. tree) result (map_fault (InputFault.Tree file) (lead_of lead.now total.now bytes.now)) }
+    ensures contents { IfErr result IsForContents }
+{
+    match from_lead(alloc, bytes, lead, total) {
+        Ok(tree) => Ok(tree),
+        Err(fault) => Err(tree_refusal(file, fault)),
+    }
+}
+
+// What is wrong with a file of codes, as a refusal.
+fn tree_refusal(file: FileRef, fault: TreeFault) -> Refusal
+    ensures { result ≡ tree_refused file fault }
+{
+    match fault {
+        TreeFault::Memory => Refusal::Memory,
+        other => Refusal::Refused(InputFault::Tree(file, other)),
+    }
+}

@@ -1,0 +1,51 @@
+ghost use Rattle.std.specs.Prelude.{◌≡◌, IfOk, length};
+ghost use Rattle.sdc_base.specs.Answers.{Gives};
+ghost use Rattle.sdc_base.specs.Steps.{map_fault};
+ghost use Rattle.linked_tables.specs.Tables.{book_of};
+ghost use Rattle.job_inputs.specs.Counted.{IsCountedOf, IsReady};
+ghost use Rattle.job_inputs.specs.Refusals.{refused_for};
+ghost use Rattle.job_inputs.specs.Cells.{cells_fault};
+ghost use Rattle.job_inputs.specs.Sound.{AreSound};
+
+use crate::described::Described;
+use crate::filled::{filled, linked};
+use crate::inputs::Inputs;
+use crate::refusal::Refusal;
+use linked_tables::Book;
+use microdata::Records;
+use std::alloc::Global;
+
+/// A job with its book, whose cells have their records, and with how many records there are and were skipped.
+#[derive(Drop)]
+pub(crate) struct Counted {
+    pub described: Described,
+    pub book: Book,
+    pub records: u64,
+    pub skipped: u64,
+}
+
+/// The inputs of a job with the records in the cells of its tables.
+///
+/// It is refused with the first table up to which there are too many cells.
+pub(crate) fn count_records(alloc: Global, inputs: Inputs) -> Result<Counted, Refusal>
+    requires { AreSound inputs }
+    ensures told { Gives refused_for (λ counted. (counted.book.trees, counted.book.tables)) result (map_fault cells_fault (book_of inputs.records.trees inputs.described.bound.tables)) }
+    ensures counted { IfOk result (IsCountedOf inputs) }
+    ensures ready { IfOk result IsReady }
+{
+    let Inputs { described, records } = inputs;
+    let Records {
+        trees,
+        rows,
+        skipped,
+    } = records;
+    let book = linked(alloc, &described, trees)?;
+    let book = filled(book, &described, rows.as_slice());
+    let records = rows.as_slice().len() as u64;
+    Ok(Counted {
+        described,
+        book,
+        records,
+        skipped,
+    })
+}

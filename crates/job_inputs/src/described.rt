@@ -1,0 +1,85 @@
+ghost use Rattle.std.specs.Prelude.{◌≡◌, ◌<◌, ◌^◌, IfOk, IfErr, length};
+ghost use Rattle.sdc_base.specs.Answers.{Gives};
+ghost use Rattle.sdc_base.specs.Steps.{map_fault};
+ghost use Rattle.rda_meta.specs.Limits.{IsMeta};
+ghost use Rattle.rda_meta.specs.Metadata.{meta_of};
+ghost use Rattle.job_lang.specs.BoundLimits.{IsBound};
+ghost use Rattle.job_lang.specs.Binding.{bound_of, places_of};
+ghost use Rattle.job_lang.specs.JobLimits.{IsJob};
+ghost use Rattle.job_lang.specs.Jobs.{job_of};
+ghost use Rattle.job_inputs.specs.Inputs.{described_of, job_fault, meta_fault};
+ghost use Rattle.job_inputs.specs.Looks.{ComesFirstTo};
+ghost use Rattle.job_inputs.specs.Reading.{IsReadFrom};
+ghost use Rattle.job_inputs.specs.Refusals.{refused_for};
+ghost use Rattle.job_inputs.specs.Sound.{IsSound};
+
+use crate::file_ref::FileRef;
+use crate::loading::load;
+use crate::refusal::Refusal;
+use crate::stop::InputStop;
+use job_lang::{Bound, Job, bind, read_job};
+use office_io::Shelf;
+use rda_meta::{Meta, read_meta};
+use sdc_base::Text;
+use std::alloc::Global;
+
+/// A job with its metadata, and its variables looked up in these.
+#[derive(Drop)]
+pub struct Described {
+    pub job: Job,
+    pub meta: Meta,
+    pub bound: Bound,
+}
+
+/// The job of this name, with its metadata.
+///
+/// The files are looked at in the order job, metadata, each for Absent, then TooLong, then what it says, and at last the
+/// job's variables are looked for in the metadata; the first of these faults is the answer.
+#[tactic(auto, unfolding(crate::specs::Inputs::described_of))]
+pub(crate) fn read_described<S: Shelf>(
+    alloc: Global,
+    shelf: &mut S,
+    name: &Text,
+) -> Result<Described, InputStop>
+    ensures reads { IsReadFrom (λ read. read) (λ fs. described_of fs name.now) (λ fs. ComesFirstTo fs name.now) result (S.state shelf.old) (S.state shelf.new) }
+    ensures sound { IfOk result IsSound }
+{
+    let bytes = load(alloc, shelf, name, FileRef::Job)?;
+    let job = job_in(alloc, bytes.as_slice())?;
+    let text = load(alloc, shelf, &job.meta, FileRef::Metadata)?;
+    let meta = meta_in(alloc, text.as_slice())?;
+    let bound = bound_in(alloc, &job, &meta)?;
+    Ok(Described { job, meta, bound })
+}
+
+// The job that the bytes state.
+#[tactic(auto, using(crate::proofs::Refusing::job_refuses))]
+fn job_in(alloc: Global, bytes: &[u8]) -> Result<Job, Refusal>
+    requires { length bytes.now < 2 ^ 32 }
+    ensures told { Gives refused_for (λ job. job) result (map_fault job_fault (job_of bytes.now)) }
+    ensures within { IfOk result IsJob }
+{
+    Ok(read_job(alloc, bytes)?)
+}
+
+// The metadata that the bytes state.
+#[tactic(auto, using(crate::proofs::Refusing::meta_refuses))]
+fn meta_in(alloc: Global, bytes: &[u8]) -> Result<Meta, Refusal>
+    requires { length bytes.now < 2 ^ 32 }
+    ensures told { Gives refused_for (λ meta. meta) result (map_fault meta_fault (meta_of bytes.now)) }
+    ensures within { IfOk result IsMeta }
+{
+    Ok(read_meta(alloc, bytes)?)
+}
+
+// The job's variables in its metadata.
+#[tactic(auto, using(crate::proofs::Refusing::job_refuses, crate::proofs::Sounding::job_tables, crate::proofs::Sounding::meta_variables))]
+fn bound_in(alloc: Global, job: &Job, meta: &Meta) -> Result<Bound, Refusal>
+    requires job { IsJob job.now }
+    requires meta { IsMeta meta.now }
+    ensures told { Gives refused_for (λ bound. bound) result (map_fault job_fault (bound_of job.now meta.now)) }
+    ensures within { IfOk result (λ bound. IsBound job.now meta.now.variables bound) }
+    ensures places { IfOk result (λ bound. bound ≡ places_of job.now meta.now.variables) }
+{
+    Ok(bind(alloc, job, meta)?)
+}

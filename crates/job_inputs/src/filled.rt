@@ -1,0 +1,86 @@
+ghost use Rattle.std.specs.Prelude.{◌≡◌, ◌≤◌, ◌<◌, ◌^◌, All, IfOk, length};
+ghost use Rattle.sdc_base.specs.Answers.{Gives};
+ghost use Rattle.sdc_base.specs.RuleLevels.{keep_of};
+ghost use Rattle.sdc_base.specs.Steps.{map_fault};
+ghost use Rattle.linked_tables.specs.Blank.{IsBlank};
+ghost use Rattle.linked_tables.specs.Shared.{cells as cells_in};
+ghost use Rattle.linked_tables.specs.Tables.{book_of};
+ghost use Rattle.tabulate.specs.Tabulated.{AreTabulated};
+ghost use Rattle.job_inputs.specs.Refusals.{refused_for, cells_refusal as refusal_for_cells, IsForCells};
+ghost use Rattle.job_inputs.specs.Cells.{cells_fault};
+ghost use Rattle.job_inputs.specs.Sound.{IsSound, AreRows};
+
+use crate::described::Described;
+use crate::faults::InputFault;
+use crate::refusal::Refusal;
+use hierarchy::CodeTree;
+use linked_tables::{Book, BookFault};
+use primary_rules::keep;
+use sdc_base::{Items, Memory, Place, Row};
+use std::alloc::Global;
+use tabulate::tabulate;
+
+/// The book of a job's tables over the trees of its spanning variables, without records.
+///
+/// It is refused with the first table up to which there are too many cells.
+#[tactic(auto, using(crate::proofs::Refusing::cells_refuse))]
+pub(crate) fn linked(
+    alloc: Global,
+    described: &Described,
+    trees: Items<CodeTree>,
+) -> Result<Book, Refusal>
+    requires sound { IsSound described.now }
+    requires as_many { length trees ≡ length described.now.bound.spanning }
+    ensures told { Gives refused_for (λ book. (book.trees, book.tables)) result (map_fault cells_fault (book_of trees described.now.bound.tables)) }
+    ensures trees { IfOk result (λ book. book.trees ≡ trees) }
+    ensures tables { IfOk result (λ book. book.tables ≡ described.now.bound.tables) }
+    ensures blank { IfOk result (λ book. All IsBlank book.marks) }
+{
+    let tables = copy_tables(alloc, described.bound.tables.as_slice())?;
+    match Book::new(alloc, trees.into_vec(), tables) {
+        Ok(book) => Ok(book),
+        Err(fault) => Err(cells_refusal(fault)),
+    }
+}
+
+// A copy of tables.
+fn copy_tables(alloc: Global, tables: &[Place]) -> Result<Vec<Place>, Memory>
+    ensures { IfOk result (λ copies. copies.items ≡ tables.now) }
+{
+    let mut copies = Vec::new(alloc);
+    'tables: for table in tables {
+        copies.push(table.copy())?;
+    }
+    Ok(copies)
+}
+
+// That there are too many cells, as a refusal; a bound job's tables have no other fault.
+fn cells_refusal(fault: BookFault) -> Refusal
+    requires { IsForCells fault }
+    ensures { result ≡ refusal_for_cells fault }
+{
+    match fault {
+        BookFault::TooManyCells(t) => Refusal::Refused(InputFault::Cells(t)),
+        BookFault::Memory => Refusal::Memory,
+        _ => unreachable!(),
+    }
+}
+
+/// The book with the records in its cells: each mark has the sum, the number and the largest of those that fall in its
+/// cell.
+pub(crate) fn filled(book: Book, described: &Described, rows: &[Row]) -> Book
+    requires sound { IsSound described.now }
+    requires blank { All IsBlank book.marks }
+    requires rows { AreRows book.trees described.now.bound.scale rows.now }
+    ensures trees { result.trees ≡ book.trees }
+    ensures tables { result.tables ≡ book.tables }
+    ensures told { AreTabulated result rows.now (keep_of described.now.job.rules.list) described.now.bound.scale }
+    ensures one_each { length result.marks ≡ length (cells_in result) }
+    ensures few { length result.marks < 2 ^ 32 }
+{
+    let mut book = book;
+    let kept = keep(&described.job.rules);
+    tabulate(&mut book, rows, kept, described.bound.scale);
+    let _cells = book.cells();
+    book
+}

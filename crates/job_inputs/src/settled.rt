@@ -1,0 +1,85 @@
+ghost use Rattle.std.specs.Prelude.{◌≡◌, IfOk, IfErr, length, map, All};
+ghost use Rattle.sdc_base.specs.Answers.{Gives, Fails};
+ghost use Rattle.sdc_base.specs.Steps.{map_fault};
+ghost use Rattle.sdc_base.specs.Told.{WhereTold};
+ghost use Rattle.office_io.specs.Shelves.{HasOnlyRead};
+ghost use Rattle.apriori.specs.Priors.{ArePriors};
+ghost use Rattle.apriori.specs.Settling.{seen, settle_of, HasLevelsInRange};
+ghost use Rattle.job_inputs.specs.Cells.{figures, prior_fault};
+ghost use Rattle.job_inputs.specs.Counted.{IsCountedOf, IsReady};
+ghost use Rattle.job_inputs.specs.Looks.{ComesTo};
+ghost use Rattle.job_inputs.specs.Reading.{HasCause, HasComeTo, stopped_for};
+ghost use Rattle.job_inputs.specs.Refusals.{refused_for, IsForContents};
+ghost use Rattle.job_inputs.specs.Settled.{settled_of, IsReadyJob, IsSettledOf, AreSettled, SettledInputs};
+ghost use Rattle.job_inputs.specs.declared.inputs.Inputs.{Inputs as AnyInputs};
+
+use crate::counted::{Counted, count_records};
+use crate::described::Described;
+use crate::inputs::read_inputs;
+use crate::refusal::Refusal;
+use crate::stated::read_priors;
+use crate::stop::InputStop;
+use apriori::{Prior, settle};
+use linked_tables::Book;
+use office_io::Shelf;
+use sdc_base::{Cell, Items, Text};
+use std::alloc::Global;
+
+/// A job with its metadata, the book of its tables with the records in the cells, what each cell is to its protection, and how
+/// many records there are and were skipped.
+#[derive(Drop)]
+pub struct SettledJob {
+    pub described: Described,
+    pub book: Book,
+    pub cells: Items<Cell>,
+    pub records: u64,
+    pub skipped: u64,
+}
+
+/// All that the job of this name has before anything is protected.
+///
+/// The job, its metadata, the code lists and hierarchies of its spanning variables and its microdata are looked at in this
+/// order, then the number of cells, the a priori files by table, and the cells with what is stated of them; the first fault is
+/// the answer. The microdata are read in pieces, every other file whole.
+///
+/// The cost is that of reading each file once, with the records kept in memory; one look-up for each record and table, and one
+/// for each cell and variable. The order is argus's own.
+pub fn read_settled<S: Shelf>(
+    alloc: Global,
+    shelf: &mut S,
+    name: &Text,
+) -> Result<SettledJob, InputStop>
+    ensures told { WhereTold (S.state shelf.old).files (λ fs. AreSettled result (settled_of fs name.now)) }
+    ensures settled { IfOk result (λ job. (settled : SettledInputs) × IsSettledOf settled job) }
+    ensures ready { IfOk result IsReadyJob }
+    ensures came_to { WhereTold (S.state shelf.old).files (λ fs. HasComeTo (ComesTo fs name.now) result fs (S.state shelf.new)) }
+    ensures only_read { HasOnlyRead (S.state shelf.old) (S.state shelf.new) }
+    ensures cause { HasCause result (S.state shelf.old) (S.state shelf.new) }
+{
+    let inputs = read_inputs(alloc, shelf, name)?;
+    let counted = count_records(alloc, inputs)?;
+    let priors = read_priors(alloc, shelf, &counted)?;
+    let cells = settled_cells(alloc, &counted, priors.as_slice())?;
+    Ok(SettledJob {
+        described: counted.described,
+        book: counted.book,
+        cells,
+        records: counted.records,
+        skipped: counted.skipped,
+    })
+}
+
+// What each cell is to its protection.
+#[tactic(auto, using(crate::proofs::Refusing::prior_is_for_contents))]
+fn settled_cells(alloc: Global, counted: &Counted, priors: &[Prior]) -> Result<Items<Cell>, Refusal>
+    requires ready { IsReady counted.now }
+    requires priors { ArePriors counted.now.book.marks priors.now }
+    ensures gives { (inputs : AnyInputs) → IsCountedOf inputs counted.now
+        → Gives refused_for (λ cells. map seen cells) result (map_fault prior_fault (settle_of inputs.described.job.rules (figures inputs) priors.now)) }
+    ensures one_each { IfOk result (λ cells. length cells ≡ length counted.now.book.marks) }
+    ensures levels { IfOk result (λ cells. All HasLevelsInRange cells) }
+    ensures contents { IfErr result IsForContents }
+{
+    let cells = settle(alloc, &counted.book, &counted.described.job.rules, priors)?;
+    Ok(Items::new(cells))
+}

@@ -1,0 +1,122 @@
+ghost use Rattle.std.specs.Prelude.{◌≡◌, ◌<◌, ◌≤◌, IfOk, IfErr, OnOk, ℕ, length, option_map};
+ghost use Rattle.sdc_base.specs.Answers.{Gives};
+ghost use Rattle.sdc_base.specs.Steps.{map_fault};
+ghost use Rattle.sdc_base.specs.Told.{WhereTold};
+ghost use Rattle.office_io.specs.Shelves.{HasOnlyRead};
+ghost use Rattle.apriori.specs.Applying.{file_says};
+ghost use Rattle.apriori.specs.Priors.{ArePriors};
+ghost use Rattle.job_inputs.specs.Cells.{prior_fault};
+ghost use Rattle.job_inputs.specs.Counted.{IsCountedOf, IsReady};
+ghost use Rattle.job_inputs.specs.Inputs.{limit};
+ghost use Rattle.job_inputs.specs.Looks.{IsPriorFileOf, ComesToStatements};
+ghost use Rattle.job_inputs.specs.Reading.{HasCause, HasComeTo, stopped_for};
+ghost use Rattle.job_inputs.specs.Refusals.{refused_for, IsForContents};
+ghost use Rattle.job_inputs.specs.Stated.{basis_in, prior_line as line_of, with_file, priors_of};
+ghost use Rattle.job_inputs.specs.declared.inputs.Inputs.{Inputs as AnyInputs};
+
+use crate::counted::Counted;
+use crate::file_ref::FileRef;
+use crate::loading::load;
+use crate::refusal::Refusal;
+use crate::stop::InputStop;
+use apriori::{Prior, apply, blank_priors};
+use job_lang::PriorLine;
+use office_io::Shelf;
+use sdc_base::Items;
+use std::alloc::Global;
+
+/// What the a priori files of a job's tables state of each cell, by the cell's number.
+///
+/// The files are looked at by table, each for Absent, then TooLong, then what it says; the first fault is the answer.
+pub(crate) fn read_priors<S: Shelf>(
+    alloc: Global,
+    shelf: &mut S,
+    counted: &Counted,
+) -> Result<Items<Prior>, InputStop>
+    requires { IsReady counted.now }
+    ensures told { (inputs : AnyInputs) → IsCountedOf inputs counted.now
+        → WhereTold (S.state shelf.old).files (λ fs. Gives stopped_for (λ priors. priors) result (priors_of fs inputs)) }
+    ensures came_to { (inputs : AnyInputs) → IsCountedOf inputs counted.now
+        → WhereTold (S.state shelf.old).files (λ fs. HasComeTo (ComesToStatements fs inputs) result fs (S.state shelf.new)) }
+    ensures only_read { HasOnlyRead (S.state shelf.old) (S.state shelf.new) }
+    ensures cause { HasCause result (S.state shelf.old) (S.state shelf.new) }
+    ensures fit { IfOk result (λ priors. ArePriors counted.now.book.marks priors) }
+{
+    let mut priors = blank_priors(alloc, counted.book.cells())?;
+    let tables = counted.described.job.tables.as_slice();
+    'tables: for (t, _) in tables.iter().enumerate() {
+        add_file(alloc, shelf, counted, t as u32, &mut priors)?;
+    }
+    Ok(Items::new(priors))
+}
+
+// Adds what a table's a priori file states, where it has one.
+#[tactic(auto, unfolding(crate::specs::Stated::with_file))]
+fn add_file<S: Shelf>(
+    alloc: Global,
+    shelf: &mut S,
+    counted: &Counted,
+    t: u32,
+    priors: &mut Vec<Prior>,
+) -> Result<(), InputStop>
+    requires ready { IsReady counted.now }
+    requires table { t < length counted.now.described.job.tables }
+    requires priors { ArePriors counted.now.book.marks priors.old.items }
+    ensures told { (inputs : AnyInputs) → IsCountedOf inputs counted.now → WhereTold (S.state shelf.old).files (λ fs.
+        Gives stopped_for (λ fine. priors.new.items) result (with_file fs inputs t (line_of t counted.now.described.job.priors) priors.old.items)) }
+    ensures came_to { WhereTold (S.state shelf.old).files (λ fs. HasComeTo (IsPriorFileOf t counted.now.described.job.priors) result fs (S.state shelf.new)) }
+    ensures only_read { HasOnlyRead (S.state shelf.old) (S.state shelf.new) }
+    ensures cause { HasCause result (S.state shelf.old) (S.state shelf.new) }
+    ensures fit { OnOk result (ArePriors counted.now.book.marks priors.new.items) }
+{
+    let Some(line) = prior_line(counted.described.job.priors.as_slice(), t) else {
+        return Ok(());
+    };
+    let bytes = load(alloc, shelf, &line.file, FileRef::Apriori(t))?;
+    state(alloc, counted, t, line, priors, bytes.as_slice())?;
+    Ok(())
+}
+
+// The line of the job that names a table's a priori file, where there is one.
+fn prior_line(lines: &[PriorLine], t: u32) -> Option<&PriorLine>
+    ensures { option_map (λ line. line.now) result ≡ line_of t lines.now }
+{
+    'lines: for line in lines {
+        if line.table == t {
+            return Some(line);
+        }
+    }
+    None
+}
+
+// Adds what the bytes of a table's a priori file state.
+#[tactic(auto, using(crate::proofs::Refusing::prior_is_for_contents))]
+fn state(
+    alloc: Global,
+    counted: &Counted,
+    t: u32,
+    line: &PriorLine,
+    priors: &mut Vec<Prior>,
+    bytes: &[u8],
+) -> Result<(), Refusal>
+    requires ready { IsReady counted.now }
+    requires table { t < length counted.now.described.job.tables }
+    requires priors { ArePriors counted.now.book.marks priors.old.items }
+    requires few { length bytes.now ≤ limit }
+    ensures told { (inputs : AnyInputs) → IsCountedOf inputs counted.now → Gives refused_for (λ fine. priors.new.items) result
+        (map_fault prior_fault (file_says (basis_in inputs) t line.now.separator inputs.described.bound.decimals priors.old.items bytes.now)) }
+    ensures fit { OnOk result (ArePriors counted.now.book.marks priors.new.items) }
+    ensures contents { IfErr result IsForContents }
+{
+    let decimals = counted.described.bound.decimals;
+    apply(
+        alloc,
+        &counted.book,
+        t,
+        priors,
+        bytes,
+        line.separator,
+        decimals,
+    )?;
+    Ok(())
+}

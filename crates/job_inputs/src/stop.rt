@@ -1,0 +1,40 @@
+use crate::faults::InputFault;
+use crate::file_ref::FileRef;
+use crate::refusal::Refusal;
+use sdc_base::Memory;
+
+/// Why the inputs of a job were not read to their end.
+#[derive(Clone, Copy, Debug, PartialEq, Eq)]
+pub enum InputStop {
+    /// They have this fault.
+    Refused(InputFault),
+    /// The shelf failed at this file.
+    ReadFault(FileRef),
+    /// There was no memory.
+    Memory,
+}
+
+impl From<Refusal> for InputStop {
+    ghost use Rattle.std.specs.Prelude.{◌≡◌};
+    ghost use Rattle.job_inputs.specs.Reading.{stop_of};
+
+    ghost from_gives = { λ refusal e. e ≡ stop_of refusal };
+
+    fn from(refusal: Refusal) -> Self {
+        match refusal {
+            Refusal::Refused(fault) => InputStop::Refused(fault),
+            Refusal::Memory => InputStop::Memory,
+        }
+    }
+}
+
+impl From<Memory> for InputStop {
+    ghost use Rattle.std.specs.Prelude.{◌≡◌};
+    ghost use Rattle.job_inputs.specs.declared.stop.InputStop.TheVariants as stop;
+
+    ghost from_gives = { λ _ e. e ≡ stop.Memory };
+
+    fn from(_: Memory) -> Self {
+        InputStop::Memory
+    }
+}

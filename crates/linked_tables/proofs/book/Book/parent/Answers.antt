@@ -1,0 +1,7 @@
+use Rattle.std.proofs.Common.{ap, sym, []}
+use Rattle.sdc_base.specs.Trees.{Tree, parent_at}
+use Rattle.sdc_base.proofs.GrowingLists.{read-none}
+use Rattle.linked_tables.proofs.book.Book.parent.Goals as goal
+
+pub returns-in-None : goal.returns-in-None
+returns-in-None c = ap (λ (tree : Tree). parent_at tree c.args.place) (sym (read-none c.args.self.now.trees c.args.variable [] c.in-None.ensures))

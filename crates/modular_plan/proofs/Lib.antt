@@ -1,0 +1,9 @@
+pub mod DepthSteps
+pub mod SubtableLists
+pub mod PlaceTests
+pub mod Marked
+pub mod SameBooks
+pub mod PlanSteps
+pub mod Passes
+pub mod Shallow
+pub mod WholeSteps

@@ -1,0 +1,244 @@
+-- Each step of a trail is the whole cube of a cell in a subtable.
+use Rattle.std.proofs.Common.{◌≡◌, ◌⊎◌, ℕ, zero, suc, ◌+◌, ◌^◌, ◌<◌, ◌≤◌, ◌==◌, ◌&&◌, ◌||◌, nat_lt, Bool, true, false, not, cond, List, [], ◌∷◌, ◌++◌, length, map, filter, fold, get_or, slice_get, slice_index, slice_index_or, Option, None, Some, if◌then◌else◌, refl, ap, sym, ◌∙◌, subst, arith, append_assoc, length-append}
+use Rattle.std.specs.List.{AllByRecursion, Contains, flat_map, list_all, list_any, range_with_len}
+use Rattle.std.specs.List.Sorted.{IsStrictlyIncreasing}
+use Rattle.std.specs.Option.{MatchOption, option_and_then, option_map_or}
+use Rattle.std.proofs.lemmas.Bool.Decides.{Decides-eqb, nat_tests}
+use Rattle.std.proofs.lemmas.List.{length-map}
+use Rattle.std.proofs.Math.Seq.{get_or-append_seam}
+use Rattle.sdc_base.specs.Trees.{Tree, children, is_child, parent_at}
+use Rattle.sdc_base.specs.Records.{Name}
+use Rattle.sdc_base.specs.Cells.{trees_of}
+use Rattle.sdc_base.specs.Kinds.{is_fixed}
+use Rattle.sdc_base.specs.Cubes.{bears, choices, corners_of, cubes_at, least_of, serve}
+use Rattle.sdc_base.specs.Subtables.{by_depths, depth_of, inner_among, inner_codes, is_code_in, is_place_below, most_depth, of_depth, ordered_subtables, subtable_at, subtables_from, subtables_in}
+use Rattle.sdc_base.specs.Trails.{hidden_after, levels_at, step_of, with_step}
+use Rattle.sdc_base.specs.declared.cell.Cell.{Cell}
+use Rattle.sdc_base.specs.declared.cube.Corner.{Corner}
+use Rattle.sdc_base.specs.declared.cube.Edge.{Edge}
+use Rattle.sdc_base.specs.declared.cube.Subtable.{Subtable}
+use Rattle.sdc_base.specs.declared.facts.Levels.{Levels}
+use Rattle.sdc_base.specs.declared.trail.PlanStep.{PlanStep}
+use Rattle.sdc_base.specs.declared.trail.Trail.{Trail}
+use Rattle.sdc_base.specs.declared.memory.Memory.{Memory}
+use Rattle.std.specs.Prelude.{Result, Ok, Err, IfOk}
+use Rattle.sdc_base.proofs.GrowingLists.{read-at}
+use Rattle.sdc_base.proofs.ListReads.{read-some}
+use Rattle.cost_rule.specs.declared.kind.CostKind.{CostKind}
+use Rattle.linked_tables.specs.Held.{Held}
+use Rattle.linked_tables.specs.Shared.{IsBook, cells, cell_at}
+use Rattle.hypercube.specs.CornerLaws.{AreInTrees, AreWhole}
+use Rattle.hypercube.specs.LeastCubes.{cubes_in, price_in}
+use Rattle.hypercube.specs.LeastLaws.{AreLeast, NoneServes}
+use Rattle.hypercube.proofs.AllOf.{all-append, all-flat, all-map, all-more}
+use Rattle.hypercube.proofs.LeastLaw.{least_is_first}
+use Rattle.hypercube.proofs.WholeCubes.{cubes_are_whole}
+use Rattle.modular_plan.specs.Plans.{codes_at, hidden_among, hidden_in, in_passes, is_cell_of, trail_of, with_cell, with_subtable}
+use Rattle.modular_plan.specs.StepLaws.{CanBeHidden, IsWholeStep, StepsAreWhole}
+
+both : (a b : Bool) → (a && b) ≡ true → (a ≡ true) × (b ≡ true)
+both true b h = (refl, h)
+both false b h = cc
+
+-- ---- subtables
+
+-- a parent for each variable of a table, in the variable's tree
+abbrev AreParents : List Tree → List ℕ → List ℕ → Type 0
+AreParents trees [] [] = Unit {0}
+AreParents trees [] (parent ∷ parents) = ⊥
+AreParents trees (variable ∷ table) [] = ⊥
+AreParents trees (variable ∷ table) (parent ∷ parents) = (parent < length (slice_index_or trees variable [])) × AreParents trees table parents
+
+parents-long : (trees : List Tree) (table parents : List ℕ) → AreParents trees table parents → length parents ≡ length table
+parents-long trees [] [] are = refl
+parents-long trees [] (parent ∷ parents) are = absurd are
+parents-long trees (variable ∷ table) [] are = absurd are
+parents-long trees (variable ∷ table) (parent ∷ parents) are = ap suc (parents-long trees table parents are.1)
+
+among-inside : (tree : Tree) (a n : ℕ) → a + n ≤ length tree → AllByRecursion (λ code. code < length tree) (inner_among tree (range_with_len a n))
+among-inside tree a zero few = tt
+among-inside tree a (suc n) few =
+    elim (not (length (children tree a) == 0)) as (λ b. AllByRecursion (λ code. code < length tree) (cond b (a ∷ inner_among tree (range_with_len (a + 1) n)) (inner_among tree (range_with_len (a + 1) n)))) [
+      | true ↦ (omega (arith, few), among-inside tree (a + 1) n (omega (arith, few)))
+      | false ↦ among-inside tree (a + 1) n (omega (arith, few))
+    ]
+
+parents-inside : (trees : List Tree) (table : List ℕ) → AllByRecursion (AreParents trees table) (choices (map inner_codes (trees_of trees table)))
+parents-inside trees [] = (tt, tt)
+parents-inside trees (variable ∷ table) =
+    let tree = slice_index_or trees variable [] in
+    let rest = choices (map inner_codes (trees_of trees table)) in
+    all-flat (AreParents trees (variable ∷ table)) (λ one. map (λ others. one ∷ others) rest) (inner_codes tree)
+    (all-more (λ code. code < length tree) (λ code. AllByRecursion (AreParents trees (variable ∷ table)) (map (λ others. code ∷ others) rest)) (inner_codes tree)
+    (λ code here. all-map (AreParents trees (variable ∷ table)) (λ others. code ∷ others) rest
+    (all-more (AreParents trees table) (λ others. AreParents trees (variable ∷ table) (code ∷ others)) rest (λ others later. (here, later)) (parents-inside trees table)))
+    (among-inside tree 0 (length tree) (omega arith)))
+
+-- a subtable of one of the tables
+record IsSubtable (trees : List Tree) (tables : List (List ℕ)) (subtable : Subtable) : Type 0 where
+  table : List ℕ
+  stands : slice_get tables subtable.table ≡ Some table
+  parents : AreParents trees table subtable.parents
+
+from-subtables : (trees : List Tree) (tables before rest : List (List ℕ)) → tables ≡ before ++ rest → AllByRecursion (IsSubtable trees tables) (subtables_from trees (length before) rest)
+from-subtables trees tables before [] is = tt
+from-subtables trees tables before (table ∷ rest) is =
+    let at : slice_index_or tables (length before) [] ≡ table = ap (λ all. get_or all (length before) []) is ∙ get_or-append_seam before table rest [] in
+    let long : length tables ≡ length before + length (table ∷ rest) = ap (λ all. length all) is ∙ length-append before (table ∷ rest) in
+    let stands : slice_get tables (length before) ≡ Some table = read-at tables (length before) [] (omega (arith, long)) ∙ ap Some at in
+    let longer : length (before ++ table ∷ []) ≡ length before + 1 = length-append before (table ∷ []) in
+    all-append (IsSubtable trees tables) (subtables_in (length before) (trees_of trees table)) (subtables_from trees (length before + 1) rest)
+    (all-map (IsSubtable trees tables) (subtable_at (length before)) (choices (map inner_codes (trees_of trees table)))
+    (all-more (AreParents trees table) (λ parents. IsSubtable trees tables (subtable_at (length before) parents)) (choices (map inner_codes (trees_of trees table)))
+    (λ parents are. record { table = table; stands = stands; parents = are })
+    (parents-inside trees table)))
+    (subst (λ (t : ℕ). AllByRecursion (IsSubtable trees tables) (subtables_from trees t rest)) longer
+    (from-subtables trees tables (before ++ table ∷ []) rest (is ∙ sym (append_assoc before (table ∷ []) rest))))
+
+all-filter : {X : Type 0} (P : X → Type 0) (test : X → Bool) (xs : List X) → AllByRecursion P xs → AllByRecursion P (filter test xs)
+all-filter P test [] all = tt
+all-filter P test (x ∷ xs) (here, all) = elim (test x) as (λ b. AllByRecursion P (cond b (x ∷ filter test xs) (filter test xs))) [
+  | true ↦ (here, all-filter P test xs all)
+  | false ↦ all-filter P test xs all
+]
+
+all-each : {X : Type 0} (P : X → Type 0) (xs : List X) → ((x : X) → P x) → AllByRecursion P xs
+all-each P [] each = tt
+all-each P (x ∷ xs) each = (each x, all-each P xs each)
+
+ordered-subtables : (trees : List Tree) (tables : List (List ℕ)) → AllByRecursion (IsSubtable trees tables) (ordered_subtables trees tables)
+ordered-subtables trees tables =
+    let depths = range_with_len 0 (most_depth + 1) in
+    let all = subtables_from trees 0 tables in
+    all-flat (IsSubtable trees tables) (λ depth. of_depth trees tables depth all) depths
+    (all-each (λ depth. AllByRecursion (IsSubtable trees tables) (of_depth trees tables depth all)) depths
+    (λ depth. all-filter (IsSubtable trees tables) (λ subtable. depth_of trees tables subtable == depth) all (from-subtables trees tables [] tables refl)))
+
+-- ---- the cells of a subtable
+
+child-inside : (tree : Tree) (above code : ℕ) → is_child tree above code ≡ true → code < length tree
+child-inside tree above code h = by tree code h
+  where
+    by : (nodes : Tree) (code : ℕ) → option_map_or (λ parent. parent == above) (option_and_then (λ node. node.1) (slice_get nodes code)) false ≡ true → code < length nodes
+    by [] zero h = cc
+    by [] (suc code) h = cc
+    by (node ∷ nodes) zero h = omega arith
+    by (node ∷ nodes) (suc code) h = let less = by nodes code h in omega (arith, less)
+
+code-inside : (tree : Tree) (parent code : ℕ) → parent < length tree → is_code_in tree parent code ≡ true → code < length tree
+code-inside tree parent code inside h = by (code == parent) refl h
+  where
+    by : (same : Bool) → (code == parent) ≡ same → (same || is_child tree parent code) ≡ true → code < length tree
+    by true is h = let equal : code ≡ parent = (Decides-eqb code parent).0 is in subst (λ (n : ℕ). n < length tree) (sym equal) inside
+    by false is h = child-inside tree parent code h
+
+names-inside : (trees : List Tree) (name : Name) (table parents : List ℕ) → AreParents trees table parents → is_place_below trees table parents (map (λ variable. slice_index name variable) table) ≡ true → AreInTrees trees name table parents
+names-inside trees name [] [] are h = tt
+names-inside trees name [] (parent ∷ parents) are h = absurd are
+names-inside trees name (variable ∷ table) [] are h = absurd are
+names-inside trees name (variable ∷ table) (parent ∷ parents) are h =
+    let tree = slice_index_or trees variable [] in
+    let parts = both (is_code_in tree parent (slice_index name variable)) (is_place_below trees table parents (map (λ variable. slice_index name variable) table)) h in
+    (are.0, code-inside tree parent (slice_index name variable) are.0 parts.0, names-inside trees name table parents are.1 parts.1)
+
+-- ---- a cube that serves can be hidden
+
+bears-open : (levels : Levels) (plus : Bool) (cell : Cell) → bears levels plus cell ≡ true → is_fixed cell.kind ≡ false
+bears-open levels plus cell h = by (is_fixed cell.kind) _ h
+  where
+    by : (fixed rest : Bool) → (not fixed && rest) ≡ true → fixed ≡ false
+    by true rest h = cc
+    by false rest h = refl
+
+serve-open : (members : List Cell) (levels : Levels) (corners : List Corner) → serve members levels corners ≡ true → AllByRecursion (CanBeHidden members) (map (λ corner. corner.cell) corners)
+serve-open members levels [] h = tt
+serve-open members levels (corner ∷ corners) h =
+    let parts = both (option_map_or (bears levels corner.plus) (slice_get members corner.cell) false) (list_all (λ corner. option_map_or (bears levels corner.plus) (slice_get members corner.cell) false) corners) h in
+    (one (slice_get members corner.cell) refl parts.0, serve-open members levels corners parts.1)
+  where
+    one : (o : Option Cell) → slice_get members corner.cell ≡ o → option_map_or (bears levels corner.plus) o false ≡ true → CanBeHidden members corner.cell
+    one None is h = cc
+    one (Some cell) is h = record { cell = cell; found = is; not_fixed = bears-open levels corner.plus cell h }
+
+contained : {X : Type 0} (P : X → Type 0) (xs : List X) (x : X) → AllByRecursion P xs → Contains xs x → P x
+contained {X = X} P xs x all has = by xs has.0 has.1 has.2 all
+  where
+    by : (ys : List X) (k : ℕ) → k < length ys → slice_index_or ys k x ≡ x → AllByRecursion P ys → P x
+    by [] k within is all = absurd (omega (arith, within))
+    by (y ∷ ys) zero within is all = subst P is all.0
+    by (y ∷ ys) (suc k) within is all = by ys k (omega (arith, within)) is all.1
+
+-- ---- steps
+
+-- a least cube of a cell in a subtable makes a step with all its corners, which can be hidden
+least-whole : (book : Held) (members : List Cell) (subtable : Subtable) (cell : ℕ) (hidden : ℕ → Bool) (price : ℕ → ℕ) (levels : Levels) (corners : List Corner) → IsBook book → IsSubtable book.trees book.tables subtable
+    → is_cell_of book subtable cell ≡ true → AreLeast (cell_at book subtable.table) hidden price members levels (cubes_in book subtable cell) corners → IsWholeStep book members (step_of subtable cell corners)
+least-whole book members subtable cell hidden price levels corners is_book is_subtable is_cell least =
+    let table = is_subtable.table in
+    let name = slice_index_or (cells book) cell [] in
+    let found : slice_index_or book.tables subtable.table [] ≡ table = read-some book.tables subtable.table table [] (sym is_subtable.stands) in
+    let place = codes_at book (slice_index_or book.tables subtable.table []) cell in
+    let below = both (is_place_below book.trees (slice_index_or book.tables subtable.table []) subtable.parents place) (option_map_or (λ one. one == cell) (cell_at book subtable.table place) false) is_cell in
+    let below_table = subst (λ (variables : List ℕ). is_place_below book.trees variables subtable.parents (codes_at book variables cell) ≡ true) found below.0 in
+    let inside : AreInTrees book.trees name table subtable.parents = names-inside book.trees name table subtable.parents is_subtable.parents below_table in
+    let whole = cubes_are_whole book subtable.table table name subtable.parents is_book is_subtable.stands inside in
+    let cube = contained (λ (one : List Edge). AreWhole (length table) (corners_of (cell_at book subtable.table) one)) (cubes_at book.trees name table subtable.parents) least.cube whole
+    (subst (λ (variables : List ℕ). Contains (cubes_at book.trees name variables subtable.parents) least.cube) found least.one) in
+    let mine : AreWhole (length table) corners = subst (λ (all : List Corner). AreWhole (length table) all) (sym least.theirs) cube in
+    record {
+      variables = table;
+      table = is_subtable.stands;
+      parents = parents-long book.trees table subtable.parents is_subtable.parents;
+      all = length-map corners (λ corner. corner.cell) ∙ mine.all;
+      ascending = mine.ascending;
+      hideable = serve-open members levels corners least.served;
+    }
+
+cell-whole : (book : Held) (members : List Cell) (cost : CostKind) (subtable : Subtable) (steps : List PlanStep) (cell : ℕ) → IsBook book → IsSubtable book.trees book.tables subtable
+    → is_cell_of book subtable cell ≡ true → AllByRecursion (IsWholeStep book members) steps → AllByRecursion (IsWholeStep book members) (with_cell book members cost subtable steps cell)
+cell-whole book members cost subtable steps cell is_book is_subtable is_cell all =
+    by (least_of (cell_at book subtable.table) (hidden_after members steps) (price_in book members cost) members (levels_at members cell) (cubes_in book subtable cell))
+    (least_is_first (cell_at book subtable.table) (hidden_after members steps) (price_in book members cost) members (levels_at members cell) (cubes_in book subtable cell))
+  where
+    by : (o : Option (List Corner)) → MatchOption o (NoneServes (cell_at book subtable.table) members (levels_at members cell) (cubes_in book subtable cell)) (AreLeast (cell_at book subtable.table) (hidden_after members steps) (price_in book members cost) members (levels_at members cell) (cubes_in book subtable cell))
+        → AllByRecursion (IsWholeStep book members) (with_step (hidden_after members steps) subtable cell steps o)
+    by None least = all
+    by (Some corners) least = elim (list_any (λ corner. not (hidden_after members steps corner.cell)) corners) as (λ b. AllByRecursion (IsWholeStep book members) (if b then steps ++ step_of subtable cell corners ∷ [] else steps)) [
+      | true ↦ all-append (IsWholeStep book members) steps (step_of subtable cell corners ∷ []) all
+          (least-whole book members subtable cell (hidden_after members steps) (price_in book members cost) (levels_at members cell) corners is_book is_subtable is_cell least, tt)
+      | false ↦ all
+    ]
+
+cells-whole : (book : Held) (members : List Cell) (cost : CostKind) (subtable : Subtable) (among : List ℕ) (steps : List PlanStep) → IsBook book → IsSubtable book.trees book.tables subtable
+    → AllByRecursion (λ cell. is_cell_of book subtable cell ≡ true) among → AllByRecursion (IsWholeStep book members) steps → AllByRecursion (IsWholeStep book members) (fold (with_cell book members cost subtable) steps among)
+cells-whole book members cost subtable [] steps is_book is_subtable are all = all
+cells-whole book members cost subtable (cell ∷ among) steps is_book is_subtable are all =
+    cells-whole book members cost subtable among (with_cell book members cost subtable steps cell) is_book is_subtable are.1 (cell-whole book members cost subtable steps cell is_book is_subtable are.0 all)
+
+among-are : (book : Held) (hidden : ℕ → Bool) (subtable : Subtable) (among : List ℕ) → AllByRecursion (λ cell. is_cell_of book subtable cell ≡ true) (hidden_among book hidden subtable among)
+among-are book hidden subtable [] = tt
+among-are book hidden subtable (cell ∷ among) =
+    elim (hidden cell && is_cell_of book subtable cell) as (λ b. (hidden cell && is_cell_of book subtable cell) ≡ b → AllByRecursion (λ one. is_cell_of book subtable one ≡ true) (cond b (cell ∷ hidden_among book hidden subtable among) (hidden_among book hidden subtable among))) [
+      | true ↦ λ is. ((both (hidden cell) (is_cell_of book subtable cell) is).1, among-are book hidden subtable among)
+      | false ↦ λ is. among-are book hidden subtable among
+    ] refl
+
+subtables-whole : (book : Held) (members : List Cell) (cost : CostKind) (subtables : List Subtable) (steps : List PlanStep) → IsBook book → AllByRecursion (IsSubtable book.trees book.tables) subtables
+    → AllByRecursion (IsWholeStep book members) steps → AllByRecursion (IsWholeStep book members) (fold (with_subtable book members cost) steps subtables)
+subtables-whole book members cost [] steps is_book are all = all
+subtables-whole book members cost (subtable ∷ subtables) steps is_book are all =
+    subtables-whole book members cost subtables (with_subtable book members cost steps subtable) is_book are.1
+    (cells-whole book members cost subtable (hidden_in book (hidden_after members steps) subtable) steps is_book are.0 (among-are book (hidden_after members steps) subtable (range_with_len 0 (length (cells book)))) all)
+
+pub steps_are_whole : StepsAreWhole
+steps_are_whole book members cost passes is_book =
+    let subtables = ordered_subtables book.trees book.tables in
+    subtables-whole book members cost (in_passes subtables (range_with_len 0 passes)) [] is_book
+    (all-flat (IsSubtable book.trees book.tables) (λ pass. subtables) (range_with_len 0 passes)
+    (all-each (λ pass. AllByRecursion (IsSubtable book.trees book.tables) subtables) (range_with_len 0 passes) (λ pass. ordered-subtables book.trees book.tables)))
+    tt
+
+-- and so is each step of what a plan gives
+pub trail-whole : (book : Held) (members : List Cell) (cost : CostKind) (passes : ℕ) (r : Result Trail Memory) → IsBook book → IfOk r (λ trail. trail.steps ≡ trail_of book members cost passes) → IfOk r (λ trail. AllByRecursion (IsWholeStep book members) trail.steps)
+trail-whole book members cost passes (Ok trail) is_book is = subst (λ (steps : List PlanStep). AllByRecursion (IsWholeStep book members) steps) (sym is) (steps_are_whole book members cost passes is_book)
+trail-whole book members cost passes (Err fault) is_book is = tt

@@ -1,0 +1,4 @@
+pub mod Plans
+pub mod Beginnings
+pub mod DepthLaws
+pub mod StepLaws

@@ -1,0 +1,12 @@
+-- Reading on from a shelf that was only read from.
+use Rattle.std.proofs.Common.{◌∙◌, arith}
+use Rattle.office_io.specs.Shelves.{ShelfState, HasOnlyRead}
+
+pub only-read-on : (old mid new : ShelfState) → HasOnlyRead old mid → HasOnlyRead mid new → HasOnlyRead old new
+only-read-on old mid new first then = record {
+  files = then.files ∙ first.files;
+  faults = omega (arith, first.faults, then.faults);
+  faults_end = λ below. then.faults_end (first.faults_end below);
+  absences = omega (arith, first.absences, then.absences);
+  absences_end = λ below. then.absences_end (first.absences_end below);
+}

@@ -1,0 +1,33 @@
+use Rattle.std.proofs.Common.{◌∙◌, List, Bool, ℕ, length, ap, sym, subst}
+use Rattle.sdc_base.specs.HiddenSets.{IsPermitted}
+use Rattle.repair.specs.HidingOrder.{case, corners_of, planned_set}
+use Rattle.repair.proofs.Concluding.{where_ok, cannot_where}
+use Rattle.repair.proofs.Corners.{length-prices}
+use Rattle.repair.proofs.Flags.{planned_length, planned_permitted}
+use Rattle.repair.proofs.protecting.protect.Goals as goal
+
+pub invariant_of-task : goal.invariant_of-task
+invariant_of-task g c = record {
+  fits = record {
+    one_each = c.requires.cells;
+    priced = ap (λ (l : List ℕ). length l) (c.deref.ensures.value ∙ c.in-Ok.ensures) ∙ length-prices c.args.rule.now c.args.cells.now c.args.marks.now c.requires.marks ∙ c.requires.cells;
+    modest = c.requires.modest;
+    in_order = c.deref-2.ensures.value ∙ c.in-Ok-questions_of.ensures;
+    some_steps = c.requires.limit;
+  };
+}
+
+pub settle-requires-clause-each : goal.settle-requires-clause-each
+settle-requires-clause-each g c =
+    ap (λ (l : List Bool). length l) c.in-Ok-make_planned_set.ensures
+    ∙ ap (λ steps. length (planned_set c.args.cells.now (corners_of steps))) c.as_slice.ensures
+    ∙ planned_length c.args.cells.now (corners_of c.args.trail.now.steps) ∙ c.requires.cells
+
+pub settle-requires-clause-permitted : goal.settle-requires-clause-permitted
+settle-requires-clause-permitted g c =
+    subst (IsPermitted c.args.cells.now) (sym (c.in-Ok-make_planned_set.ensures ∙ ap (λ steps. planned_set c.args.cells.now (corners_of steps)) c.as_slice.ensures))
+    (planned_permitted c.args.cells.now (corners_of c.args.trail.now.steps) c.requires.corners)
+
+pub returns-clause-cannot : goal.returns-clause-cannot
+returns-clause-cannot g c =
+    where_ok c.settle.result c.settle.ensures.verdict (λ verdict is. cannot_where (case c.args.system.now c.args.cells.now) c.deref.result.now c.in-Ok-make_planned_set.hidden.flags verdict is)

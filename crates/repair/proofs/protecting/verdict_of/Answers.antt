@@ -1,0 +1,22 @@
+use Rattle.std.proofs.Common.{◌≡◌, ◌∙◌, Ok, Err, sym, subst}
+use Rattle.worlds.specs.Protection.{Protection}
+use Rattle.worlds.specs.ProtectFaults.{protect_fault}
+use Rattle.repair.specs.HidingOrder.{Case, case, hide_subjects}
+use Rattle.repair.specs.Verdicts.{AreNeeds}
+use Rattle.repair.proofs.Passing.{served_pass}
+use Rattle.repair.proofs.Concluding.{protected_by}
+use Rattle.repair.proofs.protecting.verdict_of.Goals as goal
+
+pub unreachable-requires : goal.unreachable-requires
+unreachable-requires c =
+    let task : Case = case c.args.task.now.system.now c.args.task.now.cells.now in
+    let ok : protect_fault c.args.task.now.system.now c.args.task.now.cells.now c.args.progress.hidden.flags c.args.progress.worlds ≡ Ok tt = served_pass task c.args.progress.hidden.flags c.args.progress.worlds c.args.task.now.fits.one_each c.requires.permitted c.requires.served in
+    let bad : Err c.in-Err.field-0 ≡ Ok tt = sym c.in-Err.ensures.err ∙ ok in
+    cc
+
+pub returns : goal.returns
+returns c =
+    λ planned repairs within needs.
+    let task : Case = case c.args.task.now.system.now c.args.task.now.cells.now in
+    let made = protected_by task c.args.task.now.prices.now planned c.args.progress.hidden c.args.progress.worlds c.args.progress.repairs c.in-Ok.protected c.in-Ok.ensures.value c.args.task.now.fits.one_each c.requires.each c.in-Ok.ensures.protecting c.requires.served repairs within in
+    (made, subst (λ (p : Protection). AreNeeds task p.hidden.flags (hide_subjects planned c.args.progress.repairs) c.args.needs) (sym c.in-Ok.ensures.value) needs)

@@ -1,0 +1,50 @@
+use Rattle.std.proofs.Common.{◌<◌, refl, sym, subst, length, List, Bool, arith}
+use Rattle.sdc_base.specs.HiddenSets.{IsPermitted}
+use Rattle.worlds.specs.declared.refuted.Refuted.{Refuted}
+use Rattle.repair.specs.HidingOrder.{Case, case, hide, coefficients_for}
+use Rattle.repair.specs.KeptWorlds.{AreServedBefore, IsRepaired, shown_count}
+use Rattle.repair.proofs.Flags.{free_may, permitted_more, within_hide, fewer_shown}
+use Rattle.repair.proofs.Growing.{served_more}
+use Rattle.repair.proofs.Order.{asked_inside}
+use Rattle.repair.proofs.Repairing.{cheapest_inside, breaking_says, cannot_by, justified_by, one_repaired}
+use Rattle.repair.proofs.serving.hide_one.Goals as goal
+
+pub subject_of-subject-requires-clause-asked : goal.subject_of-subject-requires-clause-asked
+subject_of-subject-requires-clause-asked c = omega (arith, c.args.task.now.fits.one_each, asked_inside c.args.task.now.cells.now c.args.place c.args.asked c.requires.stopped.stands)
+
+pub repair-requires : goal.repair-requires
+repair-requires c = omega (arith, c.args.task.now.fits.one_each, c.requires.each, cheapest_inside _ _ _ _ _ c.in-Some.ensures.some)
+
+pub returns-in-None-clause-ok : goal.returns-in-None-clause-ok
+returns-in-None-clause-ok c =
+    cannot_by (case c.args.task.now.system.now c.args.task.now.cells.now) c.args.progress.now.hidden.flags c.args.place c.args.asked c.args.multipliers c.args.task.now.fits.one_each c.requires.each c.requires.permitted c.requires.stopped c.in-None.ensures.none
+
+pub returns-in_ok-repair-in-Some-clause-permitted : goal.returns-in_ok-repair-in-Some-clause-permitted
+returns-in_ok-repair-in-Some-clause-permitted c =
+    let flags : List Bool = c.args.progress.now.hidden.flags in
+    let own = breaking_says c.args.task.now.cells.now flags (coefficients_for c.args.task.now.system.now c.args.asked c.args.multipliers) c.in-Some.subject c.in-Some.ensures.some.breaking in
+    subst (IsPermitted c.args.task.now.cells.now) (sym c.in_ok-repair-in-Some.ensures.ok_flags)
+    (permitted_more c.args.task.now.cells.now flags c.in-Some.subject (omega (arith, c.args.task.now.fits.one_each, c.requires.each, cheapest_inside _ _ _ _ _ c.in-Some.ensures.some)) (free_may c.args.task.now.cells.now c.in-Some.subject own.is_free) c.requires.permitted)
+
+pub returns-in_ok-repair-in-Some-clause-repaired : goal.returns-in_ok-repair-in-Some-clause-repaired
+returns-in_ok-repair-in-Some-clause-repaired c =
+    λ planned before.
+    let task : Case = case c.args.task.now.system.now c.args.task.now.cells.now in
+    let flags : List Bool = c.args.progress.now.hidden.flags in
+    let repair : Refuted = record { subject = c.in-Some.subject; cell = c.args.asked.0; side = c.args.asked.1; multipliers = c.args.multipliers } in
+    let both = justified_by task c.args.task.now.prices.now flags c.args.place c.args.asked c.args.multipliers c.in-Some.subject repair refl c.requires.stopped c.in-Some.ensures.some in
+    subst (λ (f : List Bool). IsRepaired task c.args.task.now.prices.now planned f c.repair.new.self.repairs c.args.place) (sym c.in_ok-repair-in-Some.ensures.ok_flags)
+    (subst (λ (r : List Refuted). IsRepaired task c.args.task.now.prices.now planned (hide flags c.in-Some.subject) r c.args.place) (sym c.in_ok-repair-in-Some.ensures.ok_repairs)
+    (one_repaired task c.args.task.now.prices.now planned flags c.args.progress.now.repairs c.args.place repair both.0 both.1 c.requires.stopped.stands before))
+
+pub returns-in_ok-repair-in-Some-clause-ok : goal.returns-in_ok-repair-in-Some-clause-ok
+returns-in_ok-repair-in-Some-clause-ok c =
+    let task : Case = case c.args.task.now.system.now c.args.task.now.cells.now in
+    let flags : List Bool = c.args.progress.now.hidden.flags in
+    let within : c.in-Some.subject < length flags = omega (arith, c.args.task.now.fits.one_each, c.requires.each, cheapest_inside _ _ _ _ _ c.in-Some.ensures.some) in
+    let own = breaking_says c.args.task.now.cells.now flags (coefficients_for c.args.task.now.system.now c.args.asked c.args.multipliers) c.in-Some.subject c.in-Some.ensures.some.breaking in (
+      subst (λ (f : List Bool). AreServedBefore task f c.args.place c.repair.new.self.worlds) (sym c.in_ok-repair-in-Some.ensures.ok_flags)
+          (subst (λ ws. AreServedBefore task (hide flags c.in-Some.subject) c.args.place ws) (sym c.in_ok-repair-in-Some.ensures.worlds)
+          (served_more task flags (hide flags c.in-Some.subject) _ c.args.progress.now.worlds (within_hide flags c.in-Some.subject within) c.requires.served)),
+      subst (λ (f : List Bool). shown_count f < shown_count flags) (sym c.in_ok-repair-in-Some.ensures.ok_flags) (fewer_shown flags c.in-Some.subject within own.shown),
+    )

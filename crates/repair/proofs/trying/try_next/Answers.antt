@@ -1,0 +1,33 @@
+use Rattle.std.proofs.Common.{◌≡◌, ◌∙◌, Some, slice_get, length, false, ap, sym, refl, not}
+use Rattle.std.proofs.lemmas.Option.{slice_get_read}
+use Rattle.sdc_base.specs.Kinds.{is_primary, is_free}
+use Rattle.sdc_base.specs.HiddenSets.{is_hidden}
+use Rattle.sdc_base.specs.declared.cell.Cell.{Cell}
+use Rattle.repair.specs.HidingOrder.{Case, case}
+use Rattle.repair.proofs.Repairing.{free_is}
+use Rattle.repair.proofs.Tries.{one_passed, other_kind, shown_kind}
+use Rattle.repair.proofs.trying.try_next.Goals as goal
+
+pub returns-then-not-is_free-clause-ok : goal.returns-then-not-is_free-clause-ok
+returns-then-not-is_free-clause-ok c =
+    λ larger before.
+    let task : Case = case c.args.task.now.system.now c.args.task.now.cells.now in
+    let found : slice_get c.args.task.now.cells.now c.args.cell ≡ Some c.index-task-place.result = slice_get_read c.args.task.now.cells.now (length c.args.task.now.cells.now) c.args.cell c.index-task-place.result refl c.requires.inside c.index-task-place.is in
+    one_passed task larger c.args.cell c.args.progress.now.hidden.flags c.args.progress.now.worlds c.args.tried.now.needs c.args.tried.now.shown c.index-task-place.result found
+    (other_kind c.index-task-place.result.kind (is_hidden c.args.progress.now.hidden.flags c.args.cell) (ap (λ (one : Cell). is_free one.kind) c.index-task-place.is ∙ sym c.is_free.ensures ∙ c.if-not-is_free.true) (c.requires.permitted.fixed_shown c.args.cell c.index-task-place.result found)) before
+
+pub returns-then-not-flags-place-clause-ok : goal.returns-then-not-flags-place-clause-ok
+returns-then-not-flags-place-clause-ok c =
+    λ larger before.
+    let task : Case = case c.args.task.now.system.now c.args.task.now.cells.now in
+    let found : slice_get c.args.task.now.cells.now c.args.cell ≡ Some c.index-task-place.result = slice_get_read c.args.task.now.cells.now (length c.args.task.now.cells.now) c.args.cell c.index-task-place.result refl c.requires.inside c.index-task-place.is in
+    let shown : is_hidden c.args.progress.now.hidden.flags c.args.cell ≡ false = ap (λ flags. is_hidden flags c.args.cell) (sym c.as_slice-flags.ensures) ∙ c.if-not-flags-place.true in
+    one_passed task larger c.args.cell c.args.progress.now.hidden.flags c.args.progress.now.worlds c.args.tried.now.needs c.args.tried.now.shown c.index-task-place.result found
+    (shown_kind (is_hidden c.args.progress.now.hidden.flags c.args.cell) (not (is_primary c.index-task-place.result.kind)) shown) before
+
+pub try_one-requires-clause-is_free : goal.try_one-requires-clause-is_free
+try_one-requires-clause-is_free c = record {
+  cell = c.index-task-place.result;
+  found = slice_get_read c.args.task.now.cells.now (length c.args.task.now.cells.now) c.args.cell c.index-task-place.result refl c.requires.inside c.index-task-place.is;
+  is_kind = free_is c.index-task-place.result.kind (ap (λ (one : Cell). is_free one.kind) c.index-task-place.is ∙ sym c.is_free.ensures ∙ c.if-not-is_free.false);
+}

@@ -1,0 +1,12 @@
+pub mod HidingOrder
+pub mod Choices
+pub mod LevelQuestions
+pub mod Repairs
+pub mod Needs
+pub mod KeptWorlds
+pub mod Stops
+pub mod Verdicts
+pub mod QuestionSteps
+pub mod CellTrials
+pub mod Laws
+pub mod Tasks

@@ -1,0 +1,33 @@
+-- What one question, and all of them, come to on the way of a protection (own).
+use Rattle.std.specs.Prelude.{ℕ, ◌+◌, ◌<◌, Bool, List, Option, None, Some}
+use Rattle.worlds.specs.declared.refuted.Refuted.{Refuted}
+use Rattle.worlds.specs.declared.world.World.{World}
+use Rattle.interval_audit.specs.declared.answer.AskFault.{AskFault}
+use Rattle.repair.specs.declared.serving.Impossible.{Impossible}
+use Rattle.repair.specs.declared.serving.Step.{Step}
+use Rattle.repair.specs.declared.serving.Step.TheVariants.{Served, Repaired, Cannot}
+use Rattle.repair.specs.HidingOrder.{Case}
+use Rattle.repair.specs.KeptWorlds.{AreServedBefore, IsRepaired, shown_count}
+use Rattle.repair.specs.Stops.{IsQuestion}
+use Rattle.repair.specs.Verdicts.{IsCannot}
+
+-- a cell that can't be protected to a side
+abbrev pub IsImpossible : Case → Impossible → Type 0
+IsImpossible c found = IsCannot c found.cell found.side found.multipliers
+
+-- what a question at a place comes to: a world more; or a hidden cell more; or that its cell can't be protected
+abbrev pub IsStep : Case → ℕ → List Bool → List Bool → List World → Step → Type 0
+IsStep c place before flags worlds Served = AreServedBefore c flags (place + 1) worlds
+IsStep c place before flags worlds Repaired = AreServedBefore c flags place worlds × (shown_count flags < shown_count before)
+IsStep c place before flags worlds (Cannot found) = IsImpossible c found
+
+-- the questions before a place have their worlds, or a cell can't be protected
+abbrev pub AreServedOr : Case → ℕ → List Bool → List World → Option Impossible → Type 0
+AreServedOr c place flags worlds None = AreServedBefore c flags place worlds
+AreServedOr c place flags worlds (Some found) = IsImpossible c found
+
+-- a question at some place has a fault, and repairing from the planned set has come to it
+pub record IsHalted (c : Case) (prices : List ℕ) (planned flags : List Bool) (repairs : List Refuted) (limit : ℕ) (fault : AskFault) : Type 0 where
+  pub place : ℕ
+  pub question : IsQuestion c flags limit fault place
+  pub is_repaired : IsRepaired c prices planned flags repairs place

@@ -1,0 +1,52 @@
+-- What a protection comes to (own).
+use Rattle.std.specs.Prelude.{◌≡◌, ℕ, Bool, true, false, List, length, map, All}
+use Rattle.sdc_base.specs.declared.side.Side.{Side}
+use Rattle.sdc_base.specs.HiddenSets.{full_set, IsPermitted}
+use Rattle.sdc_base.specs.Worlds.{Protects}
+use Rattle.worlds.specs.declared.multipliers.Multipliers.{Multipliers}
+use Rattle.worlds.specs.declared.refuted.Refuted.{Refuted}
+use Rattle.worlds.specs.Protection.{Protection}
+use Rattle.worlds.specs.ProtectFaults.{asked_of, IsProtecting}
+use Rattle.repair.specs.KeptWorlds.{AreServed}
+use Rattle.worlds.specs.RefutationFaults.{IsGivenRefutation}
+use Rattle.repair.specs.declared.verdict.Verdict.{Verdict}
+use Rattle.repair.specs.declared.verdict.Verdict.TheVariants.{Protected, Cannot}
+use Rattle.repair.specs.HidingOrder.{Case, hide_subjects, IsSubset, StandsAt, ProtectsBefore, ProtectsAll}
+use Rattle.repair.specs.Repairs.{AreRepairs}
+use Rattle.repair.specs.Needs.{others_hidden, IsNeed}
+
+-- A cell can't be protected to a side: multipliers refute its level for the full set, so that no permitted set protects it; and the
+-- full set protects all that is asked before it.
+pub record IsCannot (c : Case) (cell : ℕ) (side : Side) (multipliers : Multipliers) : Type 0 where
+  pub place : ℕ
+  pub stands : StandsAt c.cells (cell, side) place
+  pub before : ProtectsBefore c (full_set c.cells) place
+  pub refutes : IsGivenRefutation c.system c.cells (full_set c.cells) cell side multipliers
+  pub unprotected : ¬ Protects c.system c.cells (full_set c.cells) cell side
+  pub none_protects : (flags : List Bool) → length flags ≡ length c.cells → IsPermitted c.cells flags → ¬ Protects c.system c.cells flags cell side
+
+-- A hidden set protects every primary cell, as worlds show that are answers of what is asked: it holds primary cells, corners and
+-- subjects of repairs alone, and the repairs are justified and in order.
+pub record IsProtected (c : Case) (prices : List ℕ) (planned : List Bool) (protected : Protection) (repairs : List Refuted) : Type 0 where
+  pub of_system : protected.system ≡ c.system
+  pub of_cells : protected.cells ≡ c.cells
+  pub protecting : IsProtecting c.system c.cells protected.hidden.flags
+  pub served : AreServed c protected.hidden.flags (asked_of 0 c.cells) protected.worlds
+  pub are_repairs : AreRepairs c prices planned repairs
+  pub within : IsSubset protected.hidden.flags (hide_subjects planned repairs)
+  pub full_protects : ProtectsAll c (full_set c.cells)
+
+-- Each hidden cell that isn't primary is needed.
+pub record AreNeeds (c : Case) (flags larger : List Bool) (needs : List Refuted) : Type 0 where
+  pub each_needed : map (λ need. need.subject) needs ≡ others_hidden flags 0 c.cells
+  pub are_needs : All (IsNeed c flags larger) needs
+
+-- what a protection that began with this set comes to
+abbrev pub IsVerdict : Case → List ℕ → List Bool → Verdict → Type 0
+IsVerdict c prices planned (Protected protected repairs needs) = IsProtected c prices planned protected repairs × AreNeeds c protected.hidden.flags (hide_subjects planned repairs) needs
+IsVerdict c prices planned (Cannot cell side multipliers) = IsCannot c cell side multipliers
+
+-- whether the verdict is that a cell can't be protected
+abbrev pub is_cannot : Verdict → Bool
+is_cannot (Protected protected repairs needs) = false
+is_cannot (Cannot cell side multipliers) = true

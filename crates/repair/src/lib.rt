@@ -1,0 +1,24 @@
+//! Protection: hides cells until every primary cell is open to both sides by its levels, and shows those that needn't be hidden.
+#![tactic(auto)]
+
+mod cheapest;
+mod laws;
+mod planned;
+mod prices;
+mod progress;
+mod protecting;
+mod questions;
+mod serving;
+mod stopped;
+mod task;
+#[cfg(test)]
+mod tests;
+mod trial;
+mod trying;
+mod verdict;
+
+pub use laws::{open_set_holds, questions_are_in_order};
+pub use protecting::protect;
+pub use questions::questions_of;
+pub use stopped::Stopped;
+pub use verdict::Verdict;

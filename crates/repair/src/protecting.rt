@@ -1,0 +1,190 @@
+ghost use Rattle.std.specs.Prelude.{◌≡◌, ◌↔◌, ◌≤◌, IsTrue, List, Bool, length, All, IfOk, IfErr};
+ghost use Rattle.sdc_base.specs.HiddenSets.{IsPermitted, full_set};
+ghost use Rattle.cost_rule.specs.Costs.{AreCosted};
+ghost use Rattle.repair.specs.HidingOrder.{case, prices_of, corners_of, planned_set, hide_subjects, IsSubset, MayHide, ProtectsAll};
+ghost use Rattle.repair.specs.Repairs.{AreRepairs};
+ghost use Rattle.repair.specs.KeptWorlds.{HasModestLevels, AreServed, IsRepaired};
+ghost use Rattle.repair.specs.Tasks.{case_of};
+ghost use Rattle.worlds.specs.ProtectFaults.{asked_of};
+ghost use Rattle.repair.specs.Stops.{StopsFor};
+ghost use Rattle.repair.specs.Verdicts.{IsVerdict, AreNeeds, is_cannot};
+
+use crate::planned::make_planned_set;
+use crate::prices::list_prices;
+use crate::progress::Progress;
+use crate::questions::questions_of;
+use crate::serving::serve_all;
+use crate::stopped::{Stopped, out_of_memory, stop_with};
+use crate::task::Task;
+use crate::trying::{Findings, try_all};
+use crate::verdict::Verdict;
+use cost_rule::{CostRule, TellsCosts};
+use linked_tables::Mark;
+use sdc_base::{Cell, Hidden, Items, System, Trail};
+use std::alloc::Global;
+use worlds::{Protected, Refuted};
+
+/// Hides cells until each primary cell is open to both sides by its levels, and shows those that needn't be hidden.
+///
+/// The primary cells and the corners of the trail are hidden first. Then the primary cells are asked about in ascending
+/// order, above before below: whether some world for the hidden set takes the cell as far as its level. Where none
+/// does, multipliers show it, and among the free shown cells that count in them the one of lowest price, then of lowest
+/// number, is hidden too; that is a repair, and the question is asked again. Where there is no such cell, no hidden set
+/// protects the cell to that side: the verdict is `Cannot`, with these multipliers.
+///
+/// Then each hidden free cell is tried as shown, in ascending order: the questions whose worlds move it are asked
+/// again, in their order. Where all are reached the cell is shown; else it stays hidden, and the first refutation is
+/// kept as its need. The verdict is `Protected`, with a world for each question.
+///
+/// There are a cell and a mark for each cell of the system, in the order of their numbers from 0; the marks' facts are
+/// ones that the rule may be asked about; levels are in units and at most `2^110`; the corners are numbers of cells
+/// that aren't fixed. A question takes at most `limit` improvements, 1 or more.
+///
+/// `Stopped` has the fault of the question that stopped short: `Size` where its component has too many hidden cells,
+/// `Work` after `limit` improvements, `Wide` where a number is wider than 128 bits, or `Memory`, which any call may
+/// give. It tells the repairs so far and, ascending, the cells that were shown again, of which the last was being
+/// tried; under `Memory` both lists are empty. What was lent stays as it was.
+///
+/// The rule is asked once for each cell without a price. There is a question for each primary cell and side and for
+/// each repair, and for each hidden free cell as many as have a kept world that moves it. A repair goes once through
+/// the cells and the parts of the relations that have a multiplier, and a trial once through the moves of all kept
+/// worlds.
+///
+/// Repairs and needs are this project's own; the questions are those of the feasibility interval in Hundepool et al.,
+/// Statistical Disclosure Control, chapter on magnitude tables.
+pub fn protect<'a, F: TellsCosts>(
+    alloc: Global,
+    system: &'a System,
+    cells: &'a [Cell],
+    marks: &[Mark],
+    rule: &CostRule<F>,
+    trail: &Trail,
+    limit: u64,
+) -> Result<Verdict<'a>, Stopped>
+    requires cells { length cells.now ≡ system.now.cells }
+    requires marks { length marks.now ≡ length cells.now }
+    requires costed { All (λ mark. AreCosted mark.facts) marks.now }
+    requires modest { All HasModestLevels cells.now }
+    requires corners { All (MayHide cells.now) (corners_of trail.now.steps) }
+    requires limit { 1 ≤ limit }
+    ensures verdict { IfOk result (λ verdict. IsVerdict (case system.now cells.now) (prices_of rule.now cells.now marks.now) (planned_set cells.now (corners_of trail.now.steps)) verdict) }
+    ensures cannot { IfOk result (λ verdict. IsTrue (is_cannot verdict) ↔ ¬ ProtectsAll (case system.now cells.now) (full_set cells.now)) }
+    ensures stopped { IfErr result (λ stopped. StopsFor (case system.now cells.now) (prices_of rule.now cells.now marks.now) (planned_set cells.now (corners_of trail.now.steps)) limit stopped.fault stopped.repairs stopped.shown) }
+{
+    // for the proof: read, so that it is known to be a number of 32 bits
+    let _cells = system.cells;
+    let Ok(prices) = list_prices(alloc, cells, marks, rule) else {
+        return Err(out_of_memory(alloc));
+    };
+    let Ok(questions) = questions_of(alloc, cells) else {
+        return Err(out_of_memory(alloc));
+    };
+    let Ok(hidden) = make_planned_set(alloc, cells, trail.steps.as_slice()) else {
+        return Err(out_of_memory(alloc));
+    };
+    let Ok(mut scratch) = Vec::from_elem(alloc, 0, cells.len()) else {
+        return Err(out_of_memory(alloc));
+    };
+    let task = Task {
+        system,
+        cells,
+        prices: &prices,
+        questions: &questions,
+        limit,
+    };
+    settle(alloc, &task, hidden, &mut scratch)
+}
+
+// Repairs a hidden set until it protects.
+fn settle<'a>(
+    alloc: Global,
+    task: &Task<'a, '_>,
+    hidden: Hidden,
+    scratch: &mut [i128],
+) -> Result<Verdict<'a>, Stopped>
+    requires scratch { length scratch.old ≡ task.now.system.now.cells }
+    requires each { length hidden.flags ≡ task.now.system.now.cells }
+    requires permitted { IsPermitted task.now.cells.now hidden.flags }
+    ensures verdict { IfOk result (λ verdict. IsVerdict (case_of task.now) task.now.prices.now hidden.flags verdict) }
+    ensures stopped { IfErr result (λ stopped. StopsFor (case_of task.now) task.now.prices.now hidden.flags task.now.limit stopped.fault stopped.repairs stopped.shown) }
+{
+    let mut progress = Progress {
+        hidden,
+        worlds: Items::empty(alloc),
+        repairs: Items::empty(alloc),
+    };
+    let outcome = serve_all(alloc, task, scratch, &mut progress);
+    let found = match outcome {
+        Ok(found) => found,
+        Err(fault) => {
+            return Err(stop_with(alloc, fault, progress.repairs, Items::empty(alloc)));
+        }
+    };
+    match found {
+        Some(impossible) => Ok(Verdict::Cannot {
+            cell: impossible.cell,
+            side: impossible.side,
+            multipliers: impossible.multipliers,
+        }),
+        None => narrow(alloc, task, progress, scratch),
+    }
+}
+
+// Shows again what needn't be hidden, where a hidden set serves all that is asked.
+fn narrow<'a>(
+    alloc: Global,
+    task: &Task<'a, '_>,
+    repaired: Progress,
+    scratch: &mut [i128],
+) -> Result<Verdict<'a>, Stopped>
+    requires scratch { length scratch.old ≡ task.now.system.now.cells }
+    requires each { length repaired.hidden.flags ≡ task.now.system.now.cells }
+    requires permitted { IsPermitted task.now.cells.now repaired.hidden.flags }
+    requires served { AreServed (case_of task.now) repaired.hidden.flags (asked_of 0 task.now.cells.now) repaired.worlds }
+    ensures verdict { IfOk result (λ verdict. (planned : List Bool) → IsRepaired (case_of task.now) task.now.prices.now planned repaired.hidden.flags repaired.repairs (length (asked_of 0 task.now.cells.now))
+        → IsVerdict (case_of task.now) task.now.prices.now planned verdict) }
+    ensures stopped { IfErr result (λ stopped. (planned : List Bool) → IsRepaired (case_of task.now) task.now.prices.now planned repaired.hidden.flags repaired.repairs (length (asked_of 0 task.now.cells.now))
+        → StopsFor (case_of task.now) task.now.prices.now planned task.now.limit stopped.fault stopped.repairs stopped.shown) }
+{
+    let mut progress = repaired;
+    let mut tried = Findings {
+        needs: Items::empty(alloc),
+        shown: Items::empty(alloc),
+    };
+    let outcome = try_all(alloc, task, &mut progress, &mut tried);
+    if let Err(fault) = outcome {
+        return Err(stop_with(alloc, fault, progress.repairs, tried.shown));
+    }
+    Ok(verdict_of(task, progress, tried.needs, scratch))
+}
+
+// The verdict that a hidden set protects, by the worlds that are kept for all task.questions.
+fn verdict_of<'a>(
+    task: &Task<'a, '_>,
+    progress: Progress,
+    needs: Items<Refuted>,
+    scratch: &mut [i128],
+) -> Verdict<'a>
+    requires scratch { length scratch.old ≡ task.now.system.now.cells }
+    requires each { length progress.hidden.flags ≡ task.now.system.now.cells }
+    requires permitted { IsPermitted task.now.cells.now progress.hidden.flags }
+    requires served { AreServed (case_of task.now) progress.hidden.flags (asked_of 0 task.now.cells.now) progress.worlds }
+    ensures { (planned : List Bool) → AreRepairs (case_of task.now) task.now.prices.now planned progress.repairs
+        → IsSubset progress.hidden.flags (hide_subjects planned progress.repairs) → AreNeeds (case_of task.now) progress.hidden.flags (hide_subjects planned progress.repairs) needs
+        → IsVerdict (case_of task.now) task.now.prices.now planned result }
+{
+    match Protected::new(
+        task.system,
+        task.cells,
+        progress.hidden,
+        progress.worlds,
+        scratch,
+    ) {
+        Ok(protected) => Verdict::Protected {
+            protected,
+            repairs: progress.repairs,
+            needs,
+        },
+        Err(_) => unreachable!(),
+    }
+}

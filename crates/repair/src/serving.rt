@@ -1,0 +1,206 @@
+ghost use Rattle.std.specs.Prelude.{◌≡◌, ◌+◌, ◌<◌, [], List, Bool, length, All, IfOk, IfErr, OnErr};
+ghost use Rattle.sdc_base.specs.HiddenSets.{IsPermitted};
+ghost use Rattle.sdc_base.specs.Worlds.{level};
+ghost use Rattle.sdc_base.specs.declared.cell.Kind.TheVariants.{Primary as PrimaryKind};
+ghost use Rattle.repair.specs.LevelQuestions.{IsLevelQuestion};
+ghost use Rattle.repair.specs.HidingOrder.{IsOfKind};
+ghost use Rattle.repair.specs.Tasks.{case_of};
+ghost use Rattle.repair.specs.KeptWorlds.{HasModestLevels, AreServedBefore, IsRepaired, IsStopped};
+ghost use Rattle.repair.specs.Stops.{IsQuestion};
+ghost use Rattle.repair.specs.QuestionSteps.{IsStep, IsImpossible, AreServedOr, IsHalted};
+
+use crate::cheapest::subject_of;
+use crate::progress::Progress;
+use crate::task::Task;
+use interval_audit::{Answer, AskFault, Question, ask};
+use sdc_base::{Cell, Memory, Side};
+use std::alloc::Global;
+use worlds::{Multipliers, Refuted};
+
+/// A cell that can't be protected to a side, with multipliers that show it.
+#[derive(Drop)]
+pub(crate) struct Impossible {
+    pub(crate) cell: u32,
+    pub(crate) side: Side,
+    pub(crate) multipliers: Multipliers,
+}
+
+/// What asking once comes to.
+#[derive(Drop)]
+pub(crate) enum Step {
+    /// A world is kept for the question.
+    Served,
+    /// A cell more is hidden.
+    Repaired,
+    /// The cell can't be protected.
+    Cannot(Impossible),
+}
+
+// Asks all questions in their order, hiding cells on the way: a cell that can't be protected, if there is one.
+pub(crate) fn serve_all(
+    alloc: Global,
+    task: &Task<'_, '_>,
+    scratch: &mut [i128],
+    progress: &mut Progress,
+) -> Result<Option<Impossible>, AskFault>
+    requires scratch { length scratch.old ≡ task.now.system.now.cells }
+    requires each { length progress.old.hidden.flags ≡ task.now.system.now.cells }
+    requires permitted { IsPermitted task.now.cells.now progress.old.hidden.flags }
+    requires no_worlds { progress.old.worlds ≡ [] }
+    requires no_repairs { progress.old.repairs ≡ [] }
+    ensures scratch { length scratch.new ≡ length scratch.old }
+    ensures each { length progress.new.hidden.flags ≡ task.now.system.now.cells }
+    ensures permitted { IsPermitted task.now.cells.now progress.new.hidden.flags }
+    ensures ok { IfOk result (λ found. AreServedOr (case_of task.now) (length task.now.questions.now) progress.new.hidden.flags progress.new.worlds found) }
+    ensures repaired { IfOk result (λ _. IsRepaired (case_of task.now) task.now.prices.now progress.old.hidden.flags progress.new.hidden.flags progress.new.repairs (length task.now.questions.now)) }
+    ensures err { IfErr result (λ fault. IsHalted (case_of task.now) task.now.prices.now progress.old.hidden.flags progress.new.hidden.flags progress.new.repairs task.now.limit fault) }
+{
+    'places: for place in 0..task.questions.len() {
+        let found = serve(alloc, task, place, scratch, progress)?;
+        if let Some(impossible) = found {
+            return Ok(Some(impossible));
+        }
+    }
+    Ok(None)
+}
+
+// Asks the question at a place until a world serves it, hiding a cell each time that none does.
+fn serve(
+    alloc: Global,
+    task: &Task<'_, '_>,
+    place: usize,
+    scratch: &mut [i128],
+    progress: &mut Progress,
+) -> Result<Option<Impossible>, AskFault>
+    requires place { place < length task.now.questions.now }
+    requires scratch { length scratch.old ≡ task.now.system.now.cells }
+    requires each { length progress.old.hidden.flags ≡ task.now.system.now.cells }
+    requires permitted { IsPermitted task.now.cells.now progress.old.hidden.flags }
+    requires served { AreServedBefore (case_of task.now) progress.old.hidden.flags place progress.old.worlds }
+    ensures scratch { length scratch.new ≡ length scratch.old }
+    ensures each { length progress.new.hidden.flags ≡ task.now.system.now.cells }
+    ensures permitted { IsPermitted task.now.cells.now progress.new.hidden.flags }
+    ensures repaired { (planned : List Bool) → IsRepaired (case_of task.now) task.now.prices.now planned progress.old.hidden.flags progress.old.repairs place
+        → IsRepaired (case_of task.now) task.now.prices.now planned progress.new.hidden.flags progress.new.repairs place }
+    ensures ok { IfOk result (λ found. AreServedOr (case_of task.now) (place + 1) progress.new.hidden.flags progress.new.worlds found) }
+    ensures err { IfErr result (λ fault. IsQuestion (case_of task.now) progress.new.hidden.flags task.now.limit fault place) }
+{
+    'repairs: loop {
+        let step = ask_once(alloc, task, place, scratch, progress)?;
+        match step {
+            Step::Served => return Ok(None),
+            Step::Repaired => {}
+            Step::Cannot(impossible) => return Ok(Some(impossible)),
+        }
+    }
+}
+
+// Asks the question at a place once: keeps its world, or else hides a cell, or finds that its cell can't be protected.
+fn ask_once(
+    alloc: Global,
+    task: &Task<'_, '_>,
+    place: usize,
+    scratch: &mut [i128],
+    progress: &mut Progress,
+) -> Result<Step, AskFault>
+    requires place { place < length task.now.questions.now }
+    requires scratch { length scratch.old ≡ task.now.system.now.cells }
+    requires each { length progress.old.hidden.flags ≡ task.now.system.now.cells }
+    requires permitted { IsPermitted task.now.cells.now progress.old.hidden.flags }
+    requires served { AreServedBefore (case_of task.now) progress.old.hidden.flags place progress.old.worlds }
+    ensures scratch { length scratch.new ≡ length scratch.old }
+    ensures each { length progress.new.hidden.flags ≡ task.now.system.now.cells }
+    ensures permitted { IsPermitted task.now.cells.now progress.new.hidden.flags }
+    ensures repaired { (planned : List Bool) → IsRepaired (case_of task.now) task.now.prices.now planned progress.old.hidden.flags progress.old.repairs place
+        → IsRepaired (case_of task.now) task.now.prices.now planned progress.new.hidden.flags progress.new.repairs place }
+    ensures ok { IfOk result (λ step. IsStep (case_of task.now) place progress.old.hidden.flags progress.new.hidden.flags progress.new.worlds step) }
+    ensures err { IfErr result (λ fault. IsQuestion (case_of task.now) progress.new.hidden.flags task.now.limit fault place) }
+{
+    let asked = task.questions[place];
+    let question = level_question(task.cells, asked);
+    let answer = ask(
+        alloc,
+        task.system,
+        task.cells,
+        &progress.hidden,
+        question,
+        task.limit,
+    )?;
+    match answer {
+        Answer::Reaches(world) => match progress.keep(world) {
+            Ok(()) => Ok(Step::Served),
+            Err(_) => Err(AskFault::Memory),
+        },
+        Answer::Stops { multipliers, .. } => {
+            match hide_one(task, asked, place, multipliers, scratch, progress) {
+                Ok(step) => Ok(step),
+                Err(_) => Err(AskFault::Memory),
+            }
+        }
+    }
+}
+
+// Hides the cheapest cell that would break the multipliers of a question, or finds that there is none.
+fn hide_one(
+    task: &Task<'_, '_>,
+    asked: (u32, Side),
+    place: usize,
+    multipliers: Multipliers,
+    scratch: &mut [i128],
+    progress: &mut Progress,
+) -> Result<Step, Memory>
+    requires scratch { length scratch.old ≡ task.now.system.now.cells }
+    requires each { length progress.old.hidden.flags ≡ task.now.system.now.cells }
+    requires permitted { IsPermitted task.now.cells.now progress.old.hidden.flags }
+    requires served { AreServedBefore (case_of task.now) progress.old.hidden.flags place progress.old.worlds }
+    requires stopped { IsStopped (case_of task.now) progress.old.hidden.flags place asked multipliers }
+    ensures scratch { length scratch.new ≡ length scratch.old }
+    ensures each { length progress.new.hidden.flags ≡ task.now.system.now.cells }
+    ensures permitted { IsPermitted task.now.cells.now progress.new.hidden.flags }
+    ensures repaired { (planned : List Bool) → IsRepaired (case_of task.now) task.now.prices.now planned progress.old.hidden.flags progress.old.repairs place
+        → IsRepaired (case_of task.now) task.now.prices.now planned progress.new.hidden.flags progress.new.repairs place }
+    ensures ok { IfOk result (λ step. IsStep (case_of task.now) place progress.old.hidden.flags progress.new.hidden.flags progress.new.worlds step) }
+    ensures err { OnErr result (progress.new.hidden.flags ≡ progress.old.hidden.flags) }
+{
+    let subject = subject_of(task, &progress.hidden, asked, &multipliers, scratch);
+    match subject {
+        None => Ok(Step::Cannot(Impossible {
+            cell: asked.0,
+            side: asked.1,
+            multipliers,
+        })),
+        Some(subject) => {
+            progress.repair(Refuted {
+                subject,
+                cell: asked.0,
+                side: asked.1,
+                multipliers,
+            })?;
+            Ok(Step::Repaired)
+        }
+    }
+}
+
+// The question whether a cell can be moved to a side by its level.
+pub(crate) fn level_question(cells: &[Cell], asked: (u32, Side)) -> Question
+    requires primary { IsOfKind cells.now asked.0 PrimaryKind }
+    requires modest { All HasModestLevels cells.now }
+    ensures { IsLevelQuestion cells.now asked result }
+{
+    let target = level_of(&cells[asked.0 as usize], asked.1);
+    Question {
+        cell: asked.0,
+        side: asked.1,
+        target,
+    }
+}
+
+// How far a cell must be open to a side.
+fn level_of(cell: &Cell, side: Side) -> i128
+    ensures { result ≡ level side cell.now }
+{
+    match side {
+        Side::Above => cell.up,
+        Side::Below => cell.down,
+    }
+}

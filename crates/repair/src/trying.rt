@@ -1,0 +1,168 @@
+ghost use Rattle.std.specs.Prelude.{◌≡◌, ◌+◌, ◌<◌, ◌++◌, ◌∷◌, [], ℕ, List, Bool, true, length, IfErr, OnOk};
+ghost use Rattle.sdc_base.specs.HiddenSets.{is_hidden, IsPermitted};
+ghost use Rattle.sdc_base.specs.declared.cell.Kind.TheVariants.{Free as FreeKind};
+ghost use Rattle.worlds.specs.ProtectFaults.{asked_of};
+ghost use Rattle.repair.specs.HidingOrder.{hide, IsOfKind};
+ghost use Rattle.repair.specs.Tasks.{case_of};
+ghost use Rattle.repair.specs.KeptWorlds.{AreServed};
+ghost use Rattle.repair.specs.CellTrials.{renew_worlds, with_new_world, IsTried, TriesStopFor};
+
+use crate::progress::Progress;
+use crate::task::Task;
+use crate::trial::{Trial, ask_anew};
+use interval_audit::AskFault;
+use sdc_base::Items;
+use std::alloc::Global;
+use worlds::{Refuted, World};
+
+/// What was found of the hidden cells that aren't primary.
+#[derive(Drop)]
+pub(crate) struct Findings {
+    /// Why cells must stay hidden.
+    pub(crate) needs: Items<Refuted>,
+    /// The cells that are shown.
+    pub(crate) shown: Items<u32>,
+}
+
+// Tries each hidden free cell as shown, in ascending order.
+pub(crate) fn try_all(
+    alloc: Global,
+    task: &Task<'_, '_>,
+    progress: &mut Progress,
+    tried: &mut Findings,
+) -> Result<(), AskFault>
+    requires each { length progress.old.hidden.flags ≡ task.now.system.now.cells }
+    requires permitted { IsPermitted task.now.cells.now progress.old.hidden.flags }
+    requires served { AreServed (case_of task.now) progress.old.hidden.flags (asked_of 0 task.now.cells.now) progress.old.worlds }
+    requires no_needs { tried.old.needs ≡ [] }
+    requires none_shown { tried.old.shown ≡ [] }
+    ensures repairs { progress.new.repairs ≡ progress.old.repairs }
+    ensures each { OnOk result (length progress.new.hidden.flags ≡ task.now.system.now.cells) }
+    ensures permitted { OnOk result (IsPermitted task.now.cells.now progress.new.hidden.flags) }
+    ensures ok { OnOk result (IsTried (case_of task.now) progress.old.hidden.flags (length task.now.cells.now) progress.new.hidden.flags progress.new.worlds tried.new.needs tried.new.shown) }
+    ensures err { IfErr result (λ fault. TriesStopFor (case_of task.now) progress.old.hidden.flags task.now.limit fault tried.new.shown) }
+{
+    // for the proof: read, so that it is known to be a number of 32 bits
+    let _cells = task.system.cells;
+    'cells: for number in 0..task.cells.len() {
+        try_next(alloc, task, number as u32, progress, tried)?;
+    }
+    Ok(())
+}
+
+// Tries a cell as shown, where it is hidden and free.
+fn try_next(
+    alloc: Global,
+    task: &Task<'_, '_>,
+    cell: u32,
+    progress: &mut Progress,
+    tried: &mut Findings,
+) -> Result<(), AskFault>
+    requires inside { cell < length task.now.cells.now }
+    requires each { length progress.old.hidden.flags ≡ task.now.system.now.cells }
+    requires permitted { IsPermitted task.now.cells.now progress.old.hidden.flags }
+    requires served { AreServed (case_of task.now) progress.old.hidden.flags (asked_of 0 task.now.cells.now) progress.old.worlds }
+    ensures repairs { progress.new.repairs ≡ progress.old.repairs }
+    ensures each { OnOk result (length progress.new.hidden.flags ≡ task.now.system.now.cells) }
+    ensures permitted { OnOk result (IsPermitted task.now.cells.now progress.new.hidden.flags) }
+    ensures ok { OnOk result ((larger : List Bool) → IsTried (case_of task.now) larger cell progress.old.hidden.flags progress.old.worlds tried.old.needs tried.old.shown
+        → IsTried (case_of task.now) larger (cell + 1) progress.new.hidden.flags progress.new.worlds tried.new.needs tried.new.shown) }
+    ensures err { IfErr result (λ fault. (larger : List Bool) → IsTried (case_of task.now) larger cell progress.old.hidden.flags progress.old.worlds tried.old.needs tried.old.shown
+        → TriesStopFor (case_of task.now) larger task.now.limit fault tried.new.shown) }
+{
+    let place = cell as usize;
+    if !task.cells[place].kind.is_free() {
+        return Ok(());
+    }
+    let flags = progress.hidden.flags.as_slice();
+    if !flags[place] {
+        return Ok(());
+    }
+    try_one(alloc, task, cell, progress, tried)
+}
+
+// Tries a hidden free cell as shown: keeps it shown with new worlds, or hides it again and keeps the need.
+fn try_one(
+    alloc: Global,
+    task: &Task<'_, '_>,
+    cell: u32,
+    progress: &mut Progress,
+    tried: &mut Findings,
+) -> Result<(), AskFault>
+    requires is_free { IsOfKind task.now.cells.now cell FreeKind }
+    requires hidden { is_hidden progress.old.hidden.flags cell ≡ true }
+    requires each { length progress.old.hidden.flags ≡ task.now.system.now.cells }
+    requires permitted { IsPermitted task.now.cells.now progress.old.hidden.flags }
+    requires served { AreServed (case_of task.now) progress.old.hidden.flags (asked_of 0 task.now.cells.now) progress.old.worlds }
+    ensures repairs { progress.new.repairs ≡ progress.old.repairs }
+    ensures each { OnOk result (length progress.new.hidden.flags ≡ task.now.system.now.cells) }
+    ensures permitted { OnOk result (IsPermitted task.now.cells.now progress.new.hidden.flags) }
+    ensures ok { OnOk result ((larger : List Bool) → IsTried (case_of task.now) larger cell progress.old.hidden.flags progress.old.worlds tried.old.needs tried.old.shown
+        → IsTried (case_of task.now) larger (cell + 1) progress.new.hidden.flags progress.new.worlds tried.new.needs tried.new.shown) }
+    ensures err { IfErr result (λ fault. (larger : List Bool) → IsTried (case_of task.now) larger cell progress.old.hidden.flags progress.old.worlds tried.old.needs tried.old.shown
+        → TriesStopFor (case_of task.now) larger task.now.limit fault tried.new.shown) }
+{
+    let Ok(()) = tried.shown.push(cell) else {
+        return Err(AskFault::Memory);
+    };
+    progress.hidden.flags.set(cell as usize, false);
+    let trial = ask_anew(
+        alloc,
+        task,
+        cell,
+        &progress.hidden,
+        progress.worlds.as_slice(),
+    )?;
+    match trial {
+        Trial::Reached(news) => {
+            replace(&mut progress.worlds, news);
+            Ok(())
+        }
+        Trial::Stopped(need) => put_back(cell, need, progress, tried),
+    }
+}
+
+// Hides a cell again, and keeps the need.
+fn put_back(
+    cell: u32,
+    need: Refuted,
+    progress: &mut Progress,
+    tried: &mut Findings,
+) -> Result<(), AskFault>
+    requires { cell < length progress.old.hidden.flags }
+    ensures flags { progress.new.hidden.flags ≡ hide progress.old.hidden.flags cell }
+    ensures worlds { progress.new.worlds ≡ progress.old.worlds }
+    ensures repairs { progress.new.repairs ≡ progress.old.repairs }
+    ensures needs { OnOk result (tried.new.needs ≡ tried.old.needs ++ need ∷ []) }
+    ensures shown { OnOk result ((earlier : List ℕ) (last : ℕ) → tried.old.shown ≡ earlier ++ last ∷ [] → tried.new.shown ≡ earlier) }
+    ensures err { IfErr result (λ fault. fault ≡ AskFault.Memory) }
+{
+    progress.hidden.flags.set(cell as usize, true);
+    tried.shown.pop();
+    let Ok(()) = tried.needs.push(need) else {
+        return Err(AskFault::Memory);
+    };
+    Ok(())
+}
+
+// Puts new worlds in the places of those that they replace.
+fn replace(worlds: &mut Items<World>, news: Vec<Option<World>>)
+    requires { length news.items ≡ length worlds.old }
+    ensures { worlds.new ≡ renew_worlds worlds.old news.items }
+{
+    let mut left = news;
+    'news: while let Some(new) = left.pop() {
+        let place = left.len();
+        put_new(worlds, place, new);
+    }
+}
+
+// Puts a new world in a place, where there is one.
+fn put_new(worlds: &mut Items<World>, place: usize, new: Option<World>)
+    requires { place < length worlds.old }
+    ensures { worlds.new ≡ with_new_world worlds.old place new }
+{
+    if let Some(world) = new {
+        worlds.set(place, world);
+    }
+}

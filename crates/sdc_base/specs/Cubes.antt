@@ -1,0 +1,139 @@
+-- Cubes of a cell in a subtable: edges, corners with their signs, levels that they serve, and the least of them (handbook, hypercube method; signs, levels and order own).
+use Rattle.std.specs.Prelude.{ℕ, ◌==◌, ◌&&◌, ◌||◌, nat_lt, Bool, true, false, not, if◌then◌else◌, List, [], ◌∷◌, ◌++◌, map, filter, flat_map, fold, slice_get, slice_index, slice_index_or, Option, None, Some, option_map, ℤ, neg_ℤ, ◌+ℤ◌, int_le}
+use Rattle.std.specs.List.{filter_map, list_all, sum_by}
+use Rattle.std.specs.Option.{option_map_or}
+use Rattle.sdc_base.specs.Trees.{Tree, children}
+use Rattle.sdc_base.specs.Records.{Name}
+use Rattle.sdc_base.specs.Kinds.{is_fixed}
+use Rattle.sdc_base.specs.declared.cell.Cell.{Cell}
+use Rattle.sdc_base.specs.declared.cube.Corner.{Corner}
+use Rattle.sdc_base.specs.declared.cube.Edge.{Edge}
+use Rattle.sdc_base.specs.declared.facts.Levels.{Levels}
+
+-- ---- edges
+
+-- the codes of a subtable for one variable: the parent and its children
+abbrev pub codes_in : Tree → ℕ → List ℕ
+codes_in tree parent = parent ∷ children tree parent
+
+-- The edge from a code to its partner. Where one of both is the parent the ends have one sign; two children have opposite ones.
+abbrev pub edge_to : ℕ → ℕ → ℕ → Edge
+edge_to parent code other = record { code = code; other = other; equal = code == parent || other == parent }
+
+-- the edges from a code to those of these codes that are other ones
+abbrev pub edges_to : ℕ → ℕ → List ℕ → List Edge
+edges_to parent code others = map (edge_to parent code) (filter (λ other. not (other == code)) others)
+
+-- the edges from a code: one to each other code of the subtable
+abbrev pub edges_from : Tree → ℕ → ℕ → List Edge
+edges_from tree parent code = edges_to parent code (codes_in tree parent)
+
+-- the edges from the codes of a cell, variable by variable of a table with these parents
+abbrev pub edges_at : List Tree → Name → List ℕ → List ℕ → List (List Edge)
+edges_at trees name [] parents = []
+edges_at trees name (variable ∷ table) [] = []
+edges_at trees name (variable ∷ table) (parent ∷ parents) =
+    edges_from (slice_index_or trees variable []) parent (slice_index name variable) ∷ edges_at trees name table parents
+
+-- all choices of one of each
+abbrev pub choices : {X : Type 0} → List (List X) → List (List X)
+choices [] = [] ∷ []
+choices (each ∷ more) = flat_map (λ one. map (λ others. one ∷ others) (choices more)) each
+
+-- the cubes with a cell as a corner: all choices of an edge for each variable of the table
+abbrev pub cubes_at : List Tree → Name → List ℕ → List ℕ → List (List Edge)
+cubes_at trees name table parents = choices (edges_at trees name table parents)
+
+-- ---- corners
+
+-- the sign at an edge's other end
+abbrev pub sign_over : Edge → Bool → Bool
+sign_over edge plus = if edge.equal then plus else not plus
+
+-- a corner's place and sign, with an edge more before: at its own end
+abbrev pub own_end : Edge → List ℕ × Bool → List ℕ × Bool
+own_end edge corner = (edge.code ∷ corner.0, corner.1)
+
+-- and at its other end
+abbrev pub other_end : Edge → List ℕ × Bool → List ℕ × Bool
+other_end edge corner = (edge.other ∷ corner.0, sign_over edge corner.1)
+
+-- The places of a cube's corners, each with its sign: all choices of one end of each edge. The sign of the cell's own
+-- place is plus.
+abbrev pub corner_places : List Edge → List (List ℕ × Bool)
+corner_places [] = ([], true) ∷ []
+corner_places (edge ∷ edges) = map (own_end edge) (corner_places edges) ++ map (other_end edge) (corner_places edges)
+
+-- a corner behind all that have no higher number
+abbrev pub with_corner : List Corner → Corner → List Corner
+with_corner [] new = new ∷ []
+with_corner (corner ∷ corners) new = if nat_lt new.cell corner.cell then new ∷ corner ∷ corners else corner ∷ with_corner corners new
+
+-- the corner at a place, where a cell stands there
+abbrev pub corner_at : (List ℕ → Option ℕ) → List ℕ × Bool → Option Corner
+corner_at number place = option_map (λ cell. record { cell = cell; plus = place.1 }) (number place.0)
+
+-- the corners of a cube, by the numbers of their cells upwards
+abbrev pub corners_of : (List ℕ → Option ℕ) → List Edge → List Corner
+corners_of number edges = fold with_corner [] (filter_map (corner_at number) (corner_places edges))
+
+-- ---- what a cube serves
+
+-- the value is within the cell's bounds
+abbrev pub is_within : Cell → ℤ → Bool
+is_within cell value = int_le cell.low value && option_map_or (λ high. int_le value high) cell.high true
+
+-- an amount along a sign
+abbrev pub along : Bool → ℤ → ℤ
+along plus amount = if plus then amount else neg_ℤ amount
+
+-- the cell may be hidden, and stays within its bounds both where it moves upwards by the one level along its sign and where it
+-- moves by the other against it
+abbrev pub bears : Levels → Bool → Cell → Bool
+bears levels plus cell =
+    not (is_fixed cell.kind) && (is_within cell (cell.truth +ℤ along plus levels.up) && is_within cell (cell.truth +ℤ along plus (neg_ℤ levels.down)))
+
+-- each corner bears the levels
+abbrev pub serve : List Cell → Levels → List Corner → Bool
+serve cells levels corners = list_all (λ corner. option_map_or (bears levels corner.plus) (slice_get cells corner.cell) false) corners
+
+-- ---- the least
+
+-- the prices of the corners that aren't hidden yet
+abbrev pub price_of_hiding : (ℕ → Bool) → (ℕ → ℕ) → List Corner → ℕ
+price_of_hiding hidden price corners = sum_by (λ corner. if hidden corner.cell then 0 else price corner.cell) corners
+
+-- corners with what it costs to hide them
+abbrev pub Offer : Type 0
+Offer = ℕ × List Corner
+
+-- the numbers are lower at the first place where they differ; a list that ends there is the lower one
+abbrev pub is_lower : List Corner → List Corner → Bool
+is_lower [] [] = false
+is_lower [] (other ∷ others) = true
+is_lower (one ∷ ones) [] = false
+is_lower (one ∷ ones) (other ∷ others) = nat_lt one.cell other.cell || (one.cell == other.cell && is_lower ones others)
+
+-- it costs less, or as much and has the lower numbers
+abbrev pub comes_before : Offer → Offer → Bool
+comes_before one other = nat_lt one.0 other.0 || (one.0 == other.0 && is_lower one.1 other.1)
+
+-- the better of the best so far and another
+abbrev pub better : {X : Type 0} → (X → X → Bool) → Option X → X → Option X
+better before best x = Some (option_map_or (λ one. if before x one then x else one) best x)
+
+-- the first of all by an order
+abbrev pub first_by : {X : Type 0} → (X → X → Bool) → List X → Option X
+first_by before xs = fold (better before) None xs
+
+-- the corners of a cube with what it costs to hide them
+abbrev pub offer_of : (List ℕ → Option ℕ) → (ℕ → Bool) → (ℕ → ℕ) → List Edge → Offer
+offer_of number hidden price edges = (price_of_hiding hidden price (corners_of number edges), corners_of number edges)
+
+-- those of the cubes that serve
+abbrev pub offers : (List ℕ → Option ℕ) → (ℕ → Bool) → (ℕ → ℕ) → List Cell → Levels → List (List Edge) → List Offer
+offers number hidden price cells levels cubes = filter (λ offer. serve cells levels offer.1) (map (offer_of number hidden price) cubes)
+
+-- the corners of the least of the cubes that serve: the one that costs least, and of those the one with the lowest numbers
+abbrev pub least_of : (List ℕ → Option ℕ) → (ℕ → Bool) → (ℕ → ℕ) → List Cell → Levels → List (List Edge) → Option (List Corner)
+least_of number hidden price cells levels cubes = option_map (λ offer. offer.1) (first_by comes_before (offers number hidden price cells levels cubes))

@@ -1,0 +1,142 @@
+-- The rows of the first table.
+use Rattle.std.proofs.Common.{◌≡◌, ℕ, ◌+◌, ◌<◌, ◌≤◌, List, [], ◌∷◌, ◌++◌, length, map, take, slice_index_or, All, ℤ, pos, arith, refl, ap, sym, subst, ◌∙◌, length-append, ext_get_or}
+use Rattle.std.specs.List.{range_with_len}
+use Rattle.std.proofs.lemmas.List.{map-id, length-map, get_or-map, get_or_default, get_or_append_left, get_or_at, take_at, take-map, map-append, drop_all}
+use Rattle.std.proofs.lemmas.List.Elements.{All-get_or, All-from_get_or}
+use Rattle.std.proofs.lemmas.List.FromFn.{map-range_with_len_more, length-map-range_with_len, get_or-map-range_with_len}
+use Rattle.sdc_base.specs.Forms.{Term, coefficient}
+use Rattle.tableau.specs.declared.problem.Problem.{Problem}
+use Rattle.tableau.specs.declared.problem.LinRow.{LinRow}
+use Rattle.tableau.specs.ProblemForm.{AscendFrom}
+use Rattle.tableau.specs.Problems.{rows_of, target_row, numbers_then_value, first_table}
+use Rattle.tableau.specs.Tables.{Table, HasShape, number_at}
+use Rattle.tableau.specs.Widths.{all_rows}
+use Rattle.tableau.specs.Entries.{IsSparse, AreSparse, AreEntriesOf, AreListsOf, AreEntriesFrom, AreEntriesBelow, row_of_entries, put_entry}
+use Rattle.tableau.proofs.Beginnings.{start_shaped}
+use Rattle.tableau.proofs.Independent.{by_less}
+use Rattle.tableau.proofs.Places.{from_start, from_place, from_none, from_later, from_here, from_taken, made_none, made_on, made_more, made_row}
+
+pub range_more : (from n : ℕ) → range_with_len from (n + 1) ≡ range_with_len from n ++ (from + n) ∷ []
+range_more from n =
+    sym (map-id (range_with_len from (n + 1))) ∙ map-range_with_len_more (λ (k : ℕ). k) from n (from + n) refl ∙ ap (λ t. t ++ (from + n) ∷ []) (map-id (range_with_len from n))
+
+-- ---- entries that are copied, each number changed by h
+
+-- the first i entries are copied
+pub record IsCopied (columns i : ℕ) (h : ℤ → ℤ) (entries made : List Term) : Type 0 where
+  pub next : ℕ
+  pub within : next ≤ columns
+  pub from : AreEntriesFrom next i entries
+  pub so_far : AreEntriesBelow next (λ v. h (coefficient entries v)) made
+
+pub copied_none : (columns : ℕ) (h : ℤ → ℤ) (entries : List Term) → AscendFrom 0 entries → IsCopied columns 0 h entries []
+copied_none columns h entries ascend = record { next = 0; within = omega arith; from = from_start entries ascend; so_far = made_none (λ v. h (coefficient entries v)) }
+
+pub copied_more : (columns i : ℕ) (h : ℤ → ℤ) (d : Term) (entries made now : List Term) (number : ℤ) → h (pos 0) ≡ pos 0 → All (λ entry. entry.0 < columns) entries → i < length entries → IsCopied columns i h entries made →
+    now ≡ put_entry made (slice_index_or entries i d).0 number → number ≡ h (slice_index_or entries i d).1 → IsCopied columns (i + 1) h entries now
+copied_more columns i h d entries made now number none named less copied put is =
+    let place : ℕ = (slice_index_or entries i d).0 in
+    let next : ℕ = copied.next in
+    let same : slice_index_or entries i (columns, pos 0) ≡ slice_index_or entries i d = get_or_default entries i (columns, pos 0) d less in
+    let up : next ≤ place = subst (λ (t : Term). next ≤ t.0) same (from_place next i columns entries copied.from copied.within) in
+    let later : AreEntriesFrom place i entries = from_later next i columns place entries copied.from up (subst (λ (t : Term). place ≤ t.0) (sym same) (omega arith)) in
+    let inside : place < columns = All-get_or (λ (entry : Term). entry.0 < columns) entries i d less named in
+    record {
+      next = place + 1;
+      within = omega arith;
+      from = from_taken i place d entries later less refl;
+      so_far = made_more next place (λ v. h (coefficient entries v)) made now number copied.so_far up
+          (λ v over under. ap h (from_none next i columns v entries copied.from over (subst (λ (t : Term). v < t.0) (sym same) under)) ∙ none)
+          (is ∙ ap h (from_here i place d entries later less refl)) put;
+    }
+
+copied_ended : (columns i : ℕ) (h : ℤ → ℤ) (entries made : List Term) → h (pos 0) ≡ pos 0 → length entries ≤ i → IsCopied columns i h entries made → AreEntriesBelow columns (λ v. h (coefficient entries v)) made
+copied_ended columns i h entries made none ended copied =
+    made_on copied.next columns (λ v. h (coefficient entries v)) made copied.so_far copied.within
+    (λ v over under. ap h (copied.from.same v over ∙ ap (λ (t : List Term). coefficient t v) (drop_all i entries ended)) ∙ none)
+
+length-whole : (columns : ℕ) (f : ℕ → ℤ) (b : ℤ) → length (numbers_then_value columns f b) ≡ columns + 1
+length-whole columns f b = length-append (map f (range_with_len 0 columns)) (b ∷ []) ∙ omega (arith, length-map-range_with_len f 0 columns)
+
+spread_at : (columns : ℕ) (f : ℕ → ℤ) (b : ℤ) (v : ℕ) → v < columns → number_at (numbers_then_value columns f b) v ≡ f v
+spread_at columns f b v below = get_or_append_left (map f (range_with_len 0 columns)) (b ∷ []) (pos 0) v (omega (arith, length-map-range_with_len f 0 columns)) ∙ get_or-map-range_with_len f 0 columns v v (pos 0) below (omega arith)
+
+spread_last : (columns : ℕ) (f : ℕ → ℤ) (b : ℤ) (v : ℕ) → v ≡ columns → number_at (numbers_then_value columns f b) v ≡ b
+spread_last columns f b v is = get_or_at (map f (range_with_len 0 columns)) b [] (pos 0) v (omega (arith, length-map-range_with_len f 0 columns))
+
+-- the copied entries, and the value behind them
+pub copied_row : (columns i : ℕ) (h : ℤ → ℤ) (entries made now : List Term) (b number : ℤ) → h (pos 0) ≡ pos 0 → length entries ≤ i → IsCopied columns i h entries made → now ≡ put_entry made columns number → number ≡ b →
+    AreEntriesOf (columns + 1) (numbers_then_value columns (λ v. h (coefficient entries v)) b) now
+copied_row columns i h entries made now b number none ended copied put is =
+    let f : ℕ → ℤ = λ v. h (coefficient entries v) in
+    let row : List ℤ = numbers_then_value columns f b in
+    let before : AreEntriesBelow columns f made = copied_ended columns i h entries made none ended copied in
+    let same : AreEntriesBelow columns (number_at row) made = record { sparse = before.sparse; same = λ v below. before.same v below ∙ sym (spread_at columns f b v below) } in
+    made_row (columns + 1) (number_at row) row now
+    (made_more columns columns (number_at row) made now number same (omega arith) (λ v over under. absurd (omega arith)) (is ∙ sym (spread_last columns f b columns refl)) put)
+    (length-whole columns f b) (λ v below. refl)
+
+-- the copied entries, where the value is 0
+pub copied_whole : (columns i : ℕ) (h : ℤ → ℤ) (entries made : List Term) → h (pos 0) ≡ pos 0 → length entries ≤ i → IsCopied columns i h entries made → AreEntriesOf (columns + 1) (numbers_then_value columns (λ v. h (coefficient entries v)) (pos 0)) made
+copied_whole columns i h entries made none ended copied = copied_row columns i h entries made made (pos 0) (pos 0) none ended copied refl refl
+
+-- ---- the rows of the table
+
+pub rows_push : (width : ℕ) (rows : List (List ℤ)) (row : List ℤ) (lists now : List (List Term)) (made : List Term) → AreListsOf width rows lists → AreEntriesOf width row made → now ≡ lists ++ made ∷ [] → AreListsOf width (rows ++ row ∷ []) now
+rows_push width rows row lists now made are is put = record {
+  long = ap length put ∙ length-append lists (made ∷ []) ∙ omega (arith, are.long, length-append rows (row ∷ []));
+  each = λ i below.
+      subst (λ (t : List (List Term)). AreEntriesOf width (slice_index_or (rows ++ row ∷ []) i []) (slice_index_or t i [])) (sym put)
+      (by_less i (length rows)
+      (λ less.
+      subst (λ (r : List ℤ). AreEntriesOf width r (slice_index_or (lists ++ made ∷ []) i [])) (sym (get_or_append_left rows (row ∷ []) [] i less))
+      (subst (λ (t : List Term). AreEntriesOf width (slice_index_or rows i []) t) (sym (get_or_append_left lists (made ∷ []) [] i (omega (arith, are.long)))) (are.each i less)))
+      (λ more.
+      let last : i ≡ length rows = omega (arith, length-append rows (row ∷ [])) in
+      subst (λ (r : List ℤ). AreEntriesOf width r (slice_index_or (lists ++ made ∷ []) i [])) (sym (get_or_at rows row [] [] i (sym last)))
+      (subst (λ (t : List Term). AreEntriesOf width row t) (sym (get_or_at lists made [] [] i (omega (arith, are.long)))) is)));
+}
+
+pub rows_stand : (width : ℕ) (rows : List (List ℤ)) (lists : List (List Term)) → AreListsOf width rows lists → map (row_of_entries width) lists ≡ rows
+rows_stand width rows lists are =
+    ext_get_or [] (map (row_of_entries width) lists) rows (length-map lists (row_of_entries width) ∙ are.long)
+    (λ k below.
+    let inside : k < length lists = omega (arith, length-map lists (row_of_entries width)) in
+    get_or-map (row_of_entries width) lists k [] [] inside ∙ (are.each k (omega (arith, are.long))).stands)
+
+pub rows_sparse : (width : ℕ) (rows : List (List ℤ)) (lists : List (List Term)) → AreListsOf width rows lists → AreSparse width lists
+rows_sparse width rows lists are = All-from_get_or (λ (entries : List Term). IsSparse 0 width entries) lists [] (λ k below. (are.each k (omega (arith, are.long))).sparse)
+
+-- a slack's row in the first table
+abbrev pub slack_row : ℕ → LinRow → List ℤ
+slack_row columns row = numbers_then_value columns (coefficient row.entries) row.bound
+
+pub first_rows : (problem : Problem) (slacks with_target lists : List (List Term)) (target objective : List Term) →
+    AreListsOf (problem.columns + 1) (map (slack_row problem.columns) problem.rows) slacks →
+    AreEntriesOf (problem.columns + 1) (numbers_then_value problem.columns (coefficient problem.objective) problem.target) target →
+    AreEntriesOf (problem.columns + 1) (first_table problem).objective objective →
+    with_target ≡ slacks ++ target ∷ [] → lists ≡ with_target ++ objective ∷ [] → AreListsOf (problem.columns + 1) (all_rows (first_table problem)) lists
+first_rows problem slacks with_target lists target objective are target_is objective_is target_put objective_put =
+    let width : ℕ = problem.columns + 1 in
+    let f : LinRow → List ℤ = slack_row problem.columns in
+    let more : AreListsOf width (map f problem.rows ++ f (target_row problem) ∷ []) with_target = rows_push width (map f problem.rows) (f (target_row problem)) slacks with_target target are target_is target_put in
+    let rows_are : map f problem.rows ++ f (target_row problem) ∷ [] ≡ map f (rows_of problem) = sym (map-append f problem.rows (target_row problem ∷ [])) in
+    rows_push width (map f (rows_of problem)) (first_table problem).objective with_target lists objective (subst (λ (r : List (List ℤ)). AreListsOf width r with_target) rows_are more) objective_is objective_put
+
+pub first_is : (problem : Problem) (members others : List ℕ) (lists : List (List Term)) → members ≡ (first_table problem).members → others ≡ (first_table problem).others → AreListsOf (problem.columns + 1) (all_rows (first_table problem)) lists → length others ≡ problem.columns →
+    record { den = pos 1; members = members; others = others; rows = map (row_of_entries (length others + 1)) (take (length members) lists); objective = row_of_entries (length others + 1) (slice_index_or lists (length members) []) } ≡ first_table problem
+first_is problem members others lists members_are others_are are wide =
+    let t : Table = first_table problem in
+    let width : ℕ = problem.columns + 1 in
+    let shaped : HasShape t = start_shaped problem in
+    let height : length t.rows ≡ length members = shaped.rows ∙ ap length (sym members_are) in
+    let size : length lists ≡ length t.rows + 1 = are.long ∙ length-append t.rows (t.objective ∷ []) in
+    let rows_are : map (row_of_entries width) (take (length members) lists) ≡ t.rows = sym (take-map (row_of_entries width) (length members) lists) ∙ ap (take (length members)) (rows_stand width (all_rows t) lists are) ∙ take_at t.rows (t.objective ∷ []) (length members) height in
+    let objective_is : row_of_entries width (slice_index_or lists (length members) []) ≡ t.objective =
+    sym (get_or-map (row_of_entries width) lists (length members) [] [] (omega arith)) ∙ ap (λ (r : List (List ℤ)). slice_index_or r (length members) []) (rows_stand width (all_rows t) lists are) ∙ get_or_at t.rows t.objective [] [] (length members) (omega arith) in
+    let ExchangedRows : List ℕ → List ℕ → List (List ℤ) → List ℤ → Table = λ m o r j. record { den = pos 1; members = m; others = o; rows = r; objective = j } in
+    ap (λ n. ExchangedRows members others (map (row_of_entries (n + 1)) (take (length members) lists)) (row_of_entries (n + 1) (slice_index_or lists (length members) []))) wide
+    ∙ ap (λ (r : List (List ℤ)). ExchangedRows members others r (row_of_entries width (slice_index_or lists (length members) []))) rows_are
+    ∙ ap (λ (j : List ℤ). ExchangedRows members others t.rows j) objective_is
+    ∙ ap (λ (m : List ℕ). ExchangedRows m others t.rows t.objective) members_are
+    ∙ ap (λ (o : List ℕ). ExchangedRows t.members o t.rows t.objective) others_are

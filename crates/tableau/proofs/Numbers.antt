@@ -1,0 +1,105 @@
+-- The numbers of a list, one by one.
+use Rattle.std.proofs.Common.{◌≡◌, ◌≢◌, ◌==◌, true, false, ℕ, zero, suc, ◌+◌, ◌-◌, ◌<◌, ◌≤◌, List, [], ◌∷◌, length, zip, slice_index, slice_index_or, All, ℤ, pos, ◌-ℤ◌, ◌*ℤ◌, ◌<ℤ◌, arith, refl, ap, sym, subst, ◌∙◌, if◌then◌else◌}
+use Rattle.std.proofs.Math.IntN.{*ℤ_comm}
+use Rattle.std.proofs.lemmas.Int.{ints}
+use Rattle.std.proofs.lemmas.Bool.Decides.{nat_tests}
+use Rattle.std.proofs.lemmas.List.Elements.{All-from_get_or}
+use Rattle.sdc_base.proofs.TotalLemmas.{sum_of-cons}
+use Rattle.sdc_base.specs.Forms.{coefficient}
+use Rattle.tableau.specs.declared.problem.Problem.{Problem}
+use Rattle.tableau.specs.Tables.{Table, number_at}
+use Rattle.tableau.specs.Problems.{number_in, number_for}
+use Rattle.tableau.specs.Reads.{member_values, value_for}
+use Rattle.std.proofs.lemmas.List.{get_or-map, length-map}
+use Rattle.tableau.specs.RowLists.{IsLexPositive, list_of, list_size, lead}
+use Rattle.tableau.specs.Walks.{IsTableOf}
+use Rattle.tableau.proofs.Independent.{absent, own_number}
+use Rattle.tableau.proofs.Beginnings.{first_above}
+
+-- the number at a name among distinct ones
+pub named_number : (names : List ℕ) (numbers : List ℤ) (j : ℕ) → j < length names → length names ≤ length numbers → ((i k : ℕ) → i < length names → k < length names → slice_index names i ≡ slice_index names k → i ≡ k) → coefficient (zip names numbers) (slice_index names j) ≡ number_at numbers j
+named_number [] numbers j within long distinct = absurd (omega arith)
+named_number (u ∷ names) [] j within long distinct = absurd (omega arith)
+named_number (u ∷ names) (a ∷ numbers) zero within long distinct =
+    let others : All (λ v. v ≢ u) names = All-from_get_or (λ v. v ≢ u) names 0 (λ i below same. let clash : suc i ≡ 0 = distinct (suc i) 0 (omega arith) (omega arith) same in absurd (omega arith)) in
+    let test : (u == u) ≡ true = grind (arith, nat_tests) in
+    let head : (if u == u then a else pos 0) ≡ a = rw test refl in
+    omega (arith, ints, head, sum_of-cons (λ (t : ℕ × ℤ). if t.0 == u then t.1 else pos 0) (u, a) (zip names numbers), absent names numbers u others)
+named_number (u ∷ names) (a ∷ numbers) (suc j) within long distinct =
+    let v : ℕ = slice_index names j in
+    let apart : u ≢ v = λ same. let clash : 0 ≡ suc j = distinct 0 (suc j) (omega arith) within same in absurd (omega arith) in
+    let test : (u == v) ≡ false = grind (arith, nat_tests) in
+    let head : (if u == v then a else pos 0) ≡ pos 0 = rw test refl in
+    omega (arith, ints, head, sum_of-cons (λ (t : ℕ × ℤ). if t.0 == v then t.1 else pos 0) (u, a) (zip names numbers), named_number names numbers j (omega arith) (omega arith) (λ i k i_below k_below same. let next : suc i ≡ suc k = distinct (suc i) (suc k) (omega arith) (omega arith) same in omega arith))
+
+-- no number at a name that is not there
+pub no_number : (names : List ℕ) (numbers : List ℤ) (v : ℕ) → ((k : ℕ) → k < length names → slice_index names k ≢ v) → coefficient (zip names numbers) v ≡ pos 0
+no_number names numbers v apart = absent names numbers v (All-from_get_or (λ u. u ≢ v) names 0 apart)
+
+pub list_at : (problem : Problem) (table : Table) (k place : ℕ) → place ≢ 0 → list_of problem table k place ≡ number_in table k (problem.columns + (place - 1))
+list_at problem table k zero apart = absurd (apart refl)
+list_at problem table k (suc s) apart = let back : suc s - 1 ≡ s = omega arith in rw back refl
+
+pub list_own : (problem : Problem) (table : Table) (k place v : ℕ) → IsTableOf problem table → k < length table.members → place ≢ 0 → v ≡ problem.columns + (place - 1) → slice_index table.members k ≡ v → table.den ≡ list_of problem table k place
+list_own problem table k place v kept within apart is own =
+    sym (list_at problem table k place apart ∙ ap (number_in table k) (sym is ∙ sym own) ∙ own_number table k (All-from_get_or (λ u. u ≢ slice_index table.members k) table.others 0 (λ j below clash. kept.basis.apart k j within below (sym clash))))
+
+-- at a slack that is not the row's own member
+not_own : (problem : Problem) (table : Table) (k place v : ℕ) → place ≢ 0 → v ≡ problem.columns + (place - 1) → slice_index table.members k ≢ v → list_of problem table k place ≡ coefficient (zip table.others (slice_index_or table.rows k [])) v
+not_own problem table k place v apart is other =
+    let row : List ℤ = slice_index_or table.rows k [] in
+    let member : ℕ = slice_index table.members k in
+    let test : (member == v) ≡ false = grind (arith, nat_tests) in
+    let head : (if member == v then table.den else pos 0) ≡ pos 0 = rw test refl in
+    list_at problem table k place apart ∙ ap (number_in table k) (sym is) ∙ omega (arith, ints, head, sum_of-cons (λ (t : ℕ × ℤ). if t.0 == v then t.1 else pos 0) (member, table.den) (zip table.others row))
+
+pub list_other : (problem : Problem) (table : Table) (k place v j : ℕ) → IsTableOf problem table → k < length table.members → place ≢ 0 → v ≡ problem.columns + (place - 1) → slice_index table.members k ≢ v → j < length table.others → slice_index table.others j ≡ v → number_at (slice_index_or table.rows k []) j ≡ list_of problem table k place
+list_other problem table k place v j kept within apart is other j_within found =
+    let row : List ℤ = slice_index_or table.rows k [] in
+    sym (not_own problem table k place v apart is other ∙ ap (λ u. coefficient (zip table.others row) u) (sym found) ∙ named_number table.others row j j_within (omega (arith, kept.shaped.each k within)) kept.basis.others)
+
+pub list_none : (problem : Problem) (table : Table) (k place v : ℕ) → place ≢ 0 → v ≡ problem.columns + (place - 1) → slice_index table.members k ≢ v → ((j : ℕ) → j < length table.others → slice_index table.others j ≢ v) → pos 0 ≡ list_of problem table k place
+list_none problem table k place v apart is other none =
+    sym (not_own problem table k place v apart is other ∙ no_number table.others (slice_index_or table.rows k []) v none)
+
+-- ---- which list is less
+
+pub lead_above : (p q x y : ℤ) → (x *ℤ q) <ℤ (y *ℤ p) → pos 0 <ℤ (p *ℤ y -ℤ q *ℤ x)
+lead_above p q x y less = omega (arith, ints, *ℤ_comm x q, *ℤ_comm y p)
+
+pub lead_none : (p q x y : ℤ) → x *ℤ q ≡ y *ℤ p → q *ℤ x -ℤ p *ℤ y ≡ pos 0
+lead_none p q x y same = omega (arith, ints, *ℤ_comm x q, *ℤ_comm y p)
+
+pub lead_turned : (problem : Problem) (table : Table) (column one other i : ℕ) → lead problem table column one other i ≡ pos 0 → lead problem table column other one i ≡ pos 0
+lead_turned problem table column one other i none = omega (arith, ints)
+
+from_zero : (j : ℕ) → j ≡ 0 + j
+from_zero j = omega arith
+
+-- the first lead that is not 0 is above it
+pub leads : (problem : Problem) (table : Table) (column one other place : ℕ) → place < list_size problem → ((i : ℕ) → i < place → lead problem table column one other i ≡ pos 0) → pos 0 <ℤ lead problem table column one other place → IsLexPositive (list_size problem) 0 (lead problem table column one other)
+leads problem table column one other place within none above =
+    let g : ℕ → ℤ = lead problem table column one other in
+    first_above (list_size problem) 0 place g within (λ i below. ap g (sym (from_zero i)) ∙ none i below) (subst (λ j. pos 0 <ℤ g j) (from_zero place) above)
+
+same_product : (x q x' q' : ℤ) → x ≡ x' → q ≡ q' → x *ℤ q ≡ x' *ℤ q'
+same_product x q x' q' ex eq = ap (λ t. t *ℤ q) ex ∙ ap (λ t. x' *ℤ t) eq
+
+pub lead_none_at : (p q x y p' q' x' y' : ℤ) → p ≡ p' → q ≡ q' → x ≡ x' → y ≡ y' → x *ℤ q ≡ y *ℤ p → q' *ℤ x' -ℤ p' *ℤ y' ≡ pos 0
+lead_none_at p q x y p' q' x' y' ep eq ex ey same = lead_none p' q' x' y' (sym (same_product x q x' q' ex eq) ∙ same ∙ same_product y p y' p' ey ep)
+
+pub lead_above_at : (p q x y p' q' x' y' : ℤ) → p ≡ p' → q ≡ q' → x ≡ x' → y ≡ y' → (x *ℤ q) <ℤ (y *ℤ p) → pos 0 <ℤ (p' *ℤ y' -ℤ q' *ℤ x')
+lead_above_at p q x y p' q' x' y' ep eq ex ey less = lead_above p' q' x' y' (omega (arith, ints, same_product x q x' q' ex eq, same_product y p y' p' ey ep))
+
+-- ---- what is read off a table
+
+pub value_found : (problem : Problem) (table : Table) (k v : ℕ) → IsTableOf problem table → k < length table.members → slice_index table.members k ≡ v → number_at (slice_index_or table.rows k []) (length table.others) ≡ value_for table v
+value_found problem table k v kept within is =
+    let last : List ℤ → ℤ = λ row. number_at row (length table.others) in
+    sym (ap (λ u. coefficient (zip table.members (member_values table)) u) (sym is)
+    ∙ named_number table.members (member_values table) k within (omega (arith, length-map table.rows last, kept.shaped.rows)) kept.basis.members
+    ∙ get_or-map last table.rows k [] (pos 0) (omega (arith, kept.shaped.rows)))
+
+pub number_found : (problem : Problem) (table : Table) (j v : ℕ) → IsTableOf problem table → j < length table.others → slice_index table.others j ≡ v → number_at table.objective j ≡ number_for table v
+number_found problem table j v kept within is =
+    sym (ap (λ u. coefficient (zip table.others table.objective) u) (sym is) ∙ named_number table.others table.objective j within (omega (arith, kept.shaped.objective)) kept.basis.others)

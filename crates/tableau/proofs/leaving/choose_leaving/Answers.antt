@@ -1,0 +1,22 @@
+use Rattle.std.proofs.Common.{pos, ◌≤ℤ◌, slice_index_or, [], arith, refl, subst}
+use Rattle.std.proofs.lemmas.Int.{ints}
+use Rattle.tableau.specs.Tables.{number_at}
+use Rattle.tableau.specs.Choices.{IsLeaving}
+use Rattle.tableau.specs.SparseTables.{table_of}
+use Rattle.tableau.proofs.LeavingRows.{leaves_new, leaves_tied}
+use Rattle.tableau.proofs.leaving.choose_leaving.Goals as goal
+
+pub returns-in-Less : goal.returns-in-Less
+returns-in-Less c =
+    let t = table_of c.args.table.now in
+    let problem = c.args.problem.now in
+    let up : pos 1 ≤ℤ number_at (slice_index_or t.rows c.args.k []) c.args.column = grind (arith, ints) in
+    let best = subst (λ b. IsLeaving problem t c.args.column c.args.k b) c.in-Some.is c.requires.best in
+    leaves_new problem t c.args.column c.args.k c.in-Some.row best up (c.in-Less.ensures.less refl)
+
+pub returns-in-Equal : goal.returns-in-Equal
+returns-in-Equal c =
+    let t = table_of c.args.table.now in
+    let problem = c.args.problem.now in
+    let best = subst (λ b. IsLeaving problem t c.args.column c.args.k b) c.in-Some.is c.requires.best in
+    leaves_tied problem t c.args.column c.args.k c.in-Some.row best (c.in-Equal.ensures.equal refl)

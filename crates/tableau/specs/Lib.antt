@@ -1,0 +1,17 @@
+pub mod Amounts
+pub mod Tables
+pub mod Problems
+pub mod ProblemForm
+pub mod RowLists
+pub mod Steps
+pub mod Widths
+pub mod Walks
+pub mod Reads
+pub mod Solutions
+pub mod Tableaus
+pub mod WorkedRows
+pub mod Entries
+pub mod SparseTables
+pub mod Choices
+pub mod CommonDivisors
+pub mod NewRows

@@ -1,0 +1,61 @@
+ghost use Rattle.std.specs.Prelude.{◌≡◌, ◌+◌, ◌<◌, [], length, slice_index_or, ℕ, pos, ◌≤ℤ◌, IfSome, IfNone};
+ghost use Rattle.tableau.specs.Tables.{number_at};
+ghost use Rattle.tableau.specs.RowLists.{Leaves};
+ghost use Rattle.tableau.specs.Walks.{IsTableOf};
+ghost use Rattle.tableau.specs.Choices.{IsLeaving, AreSlackPlaces};
+ghost use Rattle.tableau.specs.SparseTables.{table_of};
+
+use crate::lists::compare_lists;
+use crate::problem::Problem;
+use crate::sparse_rows::entry;
+use crate::sparse_table::SparseTable;
+use std::cmp::Ordering;
+
+// The row whose member leaves for a column, none where no number in it is above 0.
+pub(crate) fn leaving_row(
+    problem: &Problem,
+    table: &SparseTable,
+    places: &[u32],
+    column: usize,
+) -> Option<usize>
+    requires kept { IsTableOf problem.now (table_of table.now) }
+    requires places { AreSlackPlaces problem.now (table_of table.now) places.now }
+    requires column { column < length table.now.others.items }
+    ensures none { IfNone result ((k : ℕ) → k < length table.now.members.items → number_at (slice_index_or (table_of table.now).rows k []) column ≤ℤ pos 0) }
+    ensures some { IfSome result (λ row. Leaves problem.now (table_of table.now) row column) }
+{
+    let mut best = None;
+    for k in 0..table.members.len() {
+        best = choose_leaving(problem, table, places, column, best, k);
+    }
+    best
+}
+
+// Which row's member leaves among one row more.
+fn choose_leaving(
+    problem: &Problem,
+    table: &SparseTable,
+    places: &[u32],
+    column: usize,
+    best: Option<usize>,
+    k: usize,
+) -> Option<usize>
+    requires kept { IsTableOf problem.now (table_of table.now) }
+    requires places { AreSlackPlaces problem.now (table_of table.now) places.now }
+    requires column { column < length table.now.others.items }
+    requires row { k < length table.now.members.items }
+    requires best { IsLeaving problem.now (table_of table.now) column k best }
+    ensures { IsLeaving problem.now (table_of table.now) column (k + 1) result }
+{
+    if entry(table, k, column) <= 0 {
+        return best;
+    }
+    let Some(row) = best else {
+        return Some(k);
+    };
+    match compare_lists(problem, table, places, column, k, row) {
+        Ordering::Less => Some(k),
+        Ordering::Equal => Some(row),
+        Ordering::Greater => Some(row),
+    }
+}

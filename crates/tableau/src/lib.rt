@@ -1,0 +1,33 @@
+//! Integer pivoting: a linear problem, and its tables in whole numbers over one denominator.
+#![tactic(auto)]
+
+mod crossing;
+mod dividing;
+mod divisor;
+mod entering;
+mod entries;
+mod exchange;
+mod faults;
+mod first_table;
+#[cfg(test)]
+mod form_check;
+mod laws;
+mod leaving;
+mod lists;
+mod placing;
+mod problem;
+mod products;
+mod reads;
+mod scaling;
+mod sparse_rows;
+mod sparse_table;
+mod step;
+mod stepping;
+mod tableau;
+#[cfg(test)]
+mod tests;
+
+pub use laws::{exchanges_keep, lists_rise, tables_solve, walks_are_one_and_short, worked_rows};
+pub use problem::{LinRow, Problem};
+pub use step::Step;
+pub use tableau::Tableau;

@@ -1,0 +1,58 @@
+ghost use Rattle.std.specs.Prelude.{◌≡◌, ◌∷◌, [], All, pos, ◌≤ℤ◌};
+ghost use Rattle.tabulate.specs.MarkRecords.{HaveScalesWithin};
+ghost use Rattle.tabulate.specs.RecordsByPlace.{GaveRecord, GaveRecords, codes_for, variables_of};
+
+use crate::adding::add;
+use crate::reading::code_at;
+use linked_tables::Book;
+use sdc_base::{Few, Place, Row};
+
+/// Gives each record to the one cell of table t that has its very codes, but for cells before the first one.
+pub(crate) fn give_rows(book: &mut Book, t: u32, first: u32, rows: &[Row])
+    requires from_zero { All (λ row. pos 0 ≤ℤ row.value) rows.now }
+    requires fine { All (λ row. HaveScalesWithin row.weight book.old.marks) rows.now }
+    ensures { GaveRecords book.old book.new t first rows.now }
+{
+    'rows: for row in rows {
+        let place = place_of(book, t, row);
+        give_at(book, t, first, row, place.as_slice());
+    }
+}
+
+// Gives a record to the cell at a place, unless the cell is before the first one.
+fn give_at(book: &mut Book, t: u32, first: u32, row: &Row, place: &[u32])
+    requires from_zero { pos 0 ≤ℤ row.now.value }
+    requires fine { HaveScalesWithin row.now.weight book.old.marks }
+    ensures { GaveRecord book.old book.new t first row.now (place.now ∷ []) }
+{
+    let Some(cell) = book.id(t, place) else {
+        return;
+    };
+    if cell < first {
+        return;
+    }
+    if let Some(mark) = book.mark_mut(cell) {
+        add(mark, row);
+    }
+}
+
+// A record's place in table t: its codes for the variables of the table.
+fn place_of(book: &Book, t: u32, row: &Row) -> Place
+    ensures { result ≡ codes_for row.now.codes (variables_of book.now t) }
+{
+    match book.spans(t) {
+        Some(table) => codes_at(table, row.codes.as_slice()),
+        None => Few::empty(),
+    }
+}
+
+// The codes for these variables.
+fn codes_at(table: &Place, codes: &[u32]) -> Place
+    ensures { result ≡ codes_for codes.now table.now }
+{
+    let mut place = Few::empty();
+    'variables: for k in 0..table.len() {
+        place.insert(k, code_at(codes, table.as_slice()[k]));
+    }
+    place
+}

@@ -1,0 +1,32 @@
+ghost use Rattle.std.specs.Prelude.{◌≡◌, length, IfOk};
+
+use crate::lists::{text, texts};
+use hierarchy::{CodeTree, TreeFault, flat, from_lead};
+use std::alloc::Global;
+
+/// The total and these codes right below it.
+pub fn tree(alloc: Global, codes: &[&[u8]]) -> Result<CodeTree, TreeFault> {
+    flat(alloc, &texts(alloc, codes)?, &text(alloc, b"Total")?)
+}
+
+/// The total and the codes `1` and `2`.
+pub fn two_codes(alloc: Global) -> Result<CodeTree, TreeFault> {
+    tree(alloc, &[b"1", b"2"])
+}
+
+/// So many trees of the total and two codes.
+pub fn pairs(alloc: Global, count: usize) -> Result<Vec<CodeTree>, TreeFault>
+    ensures { IfOk result (λ trees. length trees.items ≡ count) }
+{
+    let mut trees = Vec::new(alloc);
+    'trees: for _ in 0..count {
+        trees.push(two_codes(alloc)?)?;
+    }
+    Ok(trees)
+}
+
+/// The total, and by their places 1 `N`, 2 and 3 below it, 4 `S`, and 5 below it.
+pub fn regions(alloc: Global) -> Result<CodeTree, TreeFault> {
+    let bytes = b"N\n@N1\n@N2\nS\n@S1\n".as_slice();
+    from_lead(alloc, bytes, &text(alloc, b"@")?, &text(alloc, b"Total")?)
+}
