@@ -10,7 +10,7 @@ use hierarchy::from_lead;
 use interval_audit::AskFault;
 use linked_tables::{Book, Mark};
 use relations::relations_of;
-use sdc_base::{Cell, Kind, Method, Side};
+use sdc_base::{Cell, Kind, Method};
 use std::alloc::Global;
 use std::rt::HostRuntime;
 use std::test::Fail;
@@ -137,13 +137,6 @@ fn is_modest(cell: &Cell) -> bool
     cell.up <= 1000 && cell.down <= 1000
 }
 
-fn side_word(side: Side) -> &'static str {
-    match side {
-        Side::Above => "above",
-        Side::Below => "below",
-    }
-}
-
 // The certificate, or what can't be protected, or why it stopped; nothing where the cells aren't those of the book.
 fn answer(
     alloc: Global,
@@ -175,7 +168,7 @@ fn bytes_of(alloc: Global, made: &Protection<'_>) -> Result<Vec<u8>, Fail>
             multipliers,
         } => {
             let number = *cell;
-            let word = side_word(*side);
+            let word = side.word();
             let den = multipliers.den;
             let line = format!(in alloc; "cannot {number} {word} {den}\n")?;
             Ok(Vec::from_slice(alloc, line.as_bytes())?)
@@ -188,7 +181,7 @@ fn stop_line(alloc: Global, fault: &AskFault) -> Result<Vec<u8>, Fail> {
     let line = match fault {
         AskFault::Work(walk) => {
             let cell = walk.question.cell;
-            let word = side_word(walk.question.side);
+            let word = walk.question.side.word();
             let steps = walk.tableau.improved();
             format!(in alloc; "work {cell} {word} {steps}\n")?
         }

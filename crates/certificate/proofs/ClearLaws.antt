@@ -12,7 +12,7 @@ use Rattle.sdc_base.specs.declared.side.Side.TheVariants as side
 use Rattle.worlds.specs.declared.refuted.Refuted.{Refuted}
 use Rattle.worlds.specs.declared.world.Move.{Move}
 use Rattle.certificate.specs.declared.certificate.WorldLine.{WorldLine}
-use Rattle.certificate.specs.LineReadings.{side_word}
+use Rattle.sdc_base.specs.Sides.{side_word}
 use Rattle.certificate.specs.Texts.{method_arguments, comma_list, step_arguments, pair_token, refutation_arguments, next_move, moves_in_turn, world_arguments}
 use Rattle.certificate.specs.Spelling.{FitsIn128Bits, FitsIn32Bits, IsMethodWithinTypes, IsStepSpellable, IsStepWithinTypes, IsTermWithinTypes, IsRefutationWithinTypes, IsWorldWithinTypes}
 use Rattle.certificate.proofs.NumeralLaws.{decimal_apart, signed_apart}

@@ -16,7 +16,8 @@ use Rattle.certificate.specs.declared.faults.CertWhy.TheVariants.{Shape, Order}
 use Rattle.certificate.specs.Pieces.{pieces}
 use Rattle.certificate.specs.Numerals.{natural_of, denominator_of, ascends}
 use Rattle.certificate.specs.TokenLists.{first_of, only_of, numbers_of, is_pair, terms_of, moves_of}
-use Rattle.certificate.specs.LineReadings.{step_by, step_of, side_word, side_of, refutation_by, refutation_of, world_by, world_of}
+use Rattle.sdc_base.specs.Sides.{side_word}
+use Rattle.certificate.specs.LineReadings.{step_by, step_of, side_of, refutation_by, refutation_of, world_by, world_of}
 use Rattle.certificate.specs.Texts.{comma_list, step_arguments, pair_token, refutation_arguments, moves_in_turn, next_move, world_arguments}
 use Rattle.certificate.specs.Spelling.{FitsIn32Bits, IsStepSpellable, IsRefutationSpellable, IsWorldSpellable, IsStepWithinTypes, IsRefutationWithinTypes, IsWorldWithinTypes}
 use Rattle.certificate.proofs.LineReads.{refutation_reads}

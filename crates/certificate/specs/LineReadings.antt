@@ -8,6 +8,7 @@ use Rattle.sdc_base.specs.declared.method.Method.{Method}
 use Rattle.sdc_base.specs.declared.method.Method.TheVariants as method
 use Rattle.sdc_base.specs.declared.trail.PlanStep.{PlanStep}
 use Rattle.sdc_base.specs.declared.side.Side.{Side}
+use Rattle.sdc_base.specs.Sides.{side_word}
 use Rattle.sdc_base.specs.declared.side.Side.TheVariants as side
 use Rattle.worlds.specs.declared.refuted.Refuted.{Refuted}
 use Rattle.certificate.specs.declared.certificate.WorldLine.{WorldLine}
@@ -86,11 +87,6 @@ step_of tokens = do
   cell ← first_of parents.1
   corners ← only_of cell.1
   step_by table.0 parents.0 cell.0 corners
-
--- the word of a side
-abbrev pub side_word : Side → List ℕ
-side_word side.Above = codes "above"
-side_word side.Below = codes "below"
 
 -- the side of a word
 abbrev pub side_of : List ℕ → Result Side CertWhy

@@ -11,7 +11,7 @@ use Rattle.worlds.specs.declared.world.Move.{Move}
 use Rattle.certificate.specs.declared.certificate.Certificate.{Certificate}
 use Rattle.certificate.specs.declared.certificate.WorldLine.{WorldLine}
 use Rattle.certificate.specs.Pieces.{line_feed, space, comma, colon}
-use Rattle.certificate.specs.LineReadings.{side_word}
+use Rattle.sdc_base.specs.Sides.{side_word}
 use Rattle.certificate.specs.Certificates.{first_line}
 
 -- what the line of a method says behind its word

@@ -1,6 +1,6 @@
 ghost use Rattle.std.specs.Prelude.{◌≡◌, ◌++◌, ◌∷◌, [], OnOk, IfOk, IsOk, Ok, true, codes, flat_map};
 ghost use Rattle.std.specs.List.{AllByRecursion};
-ghost use Rattle.certificate.specs.LineReadings as line_readings;
+ghost use Rattle.sdc_base.specs.Sides as sides;
 ghost use Rattle.certificate.specs.Texts.{method_tokens, head_tokens, hidden_tokens, step_tokens, refutation_tokens, world_tokens, line_text, text_of};
 ghost use Rattle.certificate.specs.Certificates.{certificate_of};
 ghost use Rattle.certificate.specs.Numerals.{ascends};
@@ -129,12 +129,9 @@ fn add_steps(alloc: Global, text: &mut Items<u8>, steps: &[PlanStep]) -> Result<
 
 // The word of a side.
 fn side_word(side: Side) -> &'static [u8]
-    ensures { result.now ≡ line_readings.side_word side }
+    ensures { result.now ≡ sides.side_word side }
 {
-    match side {
-        Side::Above => b"above",
-        Side::Below => b"below",
-    }
+    side.word().as_bytes()
 }
 
 // The line of a refutation, behind its word.

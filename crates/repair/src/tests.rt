@@ -10,9 +10,7 @@ use crate::{Stopped, Verdict, protect};
 use cost_rule::{CostKind, CostRule, TellsCosts};
 use interval_audit::AskFault;
 use linked_tables::Mark;
-use sdc_base::{
-    Cell, CellFacts, Items, Kind, Place, PlanStep, Relation, Side, System, Tops, Trail,
-};
+use sdc_base::{Cell, CellFacts, Items, Kind, Place, PlanStep, Relation, System, Tops, Trail};
 use std::alloc::Global;
 use std::rt::HostRuntime;
 use std::test::Fail;
@@ -275,13 +273,6 @@ fn lines_of(alloc: Global, job: Job<'_>) -> Result<Option<String>, Fail> {
     protect_by(alloc, |facts: &CellFacts| kind.cost(facts), job)
 }
 
-fn side_word(side: Side) -> &'static str {
-    match side {
-        Side::Above => "above",
-        Side::Below => "below",
-    }
-}
-
 fn add_multipliers(
     alloc: Global,
     text: &mut String,
@@ -302,7 +293,7 @@ fn add_refuted(alloc: Global, text: &mut String, word: &str, all: &[Refuted]) ->
     for one in all {
         let subject = one.subject;
         let cell = one.cell;
-        let side = side_word(one.side);
+        let side = one.side.word();
         text.push_str(&format!(in alloc; "{word} {subject} {cell} {side}")?)?;
         add_multipliers(alloc, text, &one.multipliers)?;
     }
@@ -367,7 +358,7 @@ fn verdict_lines(alloc: Global, verdict: &Verdict<'_>) -> Result<String, Fail> {
             multipliers,
         } => {
             let number = *cell;
-            let word = side_word(*side);
+            let word = side.word();
             text.push_str(&format!(in alloc; "cannot {number} {word}")?)?;
             add_multipliers(alloc, &mut text, multipliers)?;
         }
@@ -381,14 +372,14 @@ fn stop_lines(alloc: Global, stopped: &Stopped) -> Result<String, Fail> {
     match &stopped.fault {
         AskFault::Work(walk) => {
             let cell = walk.question.cell;
-            let side = side_word(walk.question.side);
+            let side = walk.question.side.word();
             let steps = walk.tableau.improved();
             text.push_str(&format!(in alloc; "work {cell} {side} {steps}\n")?)?;
         }
         AskFault::Wide(..) => text.push_str("wide\n")?,
         AskFault::Size { question, hidden } => {
             let cell = question.cell;
-            let side = side_word(question.side);
+            let side = question.side.word();
             let count = *hidden;
             text.push_str(&format!(in alloc; "size {cell} {side} {count}\n")?)?;
         }

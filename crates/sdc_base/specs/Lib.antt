@@ -1,5 +1,6 @@
 pub mod Counts
 pub mod Told
+pub mod Sides
 pub mod Steps
 pub mod Answers
 pub mod Places
@@ -16,6 +17,7 @@ pub mod Largest
 pub mod Tells
 pub mod Shares
 pub mod Rules
+pub mod Roundings
 pub mod RuleLevels
 pub mod Totals
 pub mod AddingUp

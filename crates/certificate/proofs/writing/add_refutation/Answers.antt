@@ -1,6 +1,6 @@
 use Rattle.std.proofs.Common.{decimal}
 use Rattle.std.specs.Fmt.{signed_decimal}
-use Rattle.certificate.specs.LineReadings.{side_word}
+use Rattle.sdc_base.specs.Sides.{side_word}
 use Rattle.certificate.proofs.AppendSteps.{refuted_appended}
 use Rattle.certificate.proofs.writing.add_refutation.Goals as goal
 

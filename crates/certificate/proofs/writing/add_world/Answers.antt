@@ -1,7 +1,7 @@
 use Rattle.std.proofs.Common.{decimal}
 use Rattle.std.specs.Prelude.{codes}
 use Rattle.std.specs.Fmt.{signed_decimal}
-use Rattle.certificate.specs.LineReadings.{side_word}
+use Rattle.sdc_base.specs.Sides.{side_word}
 use Rattle.certificate.specs.Texts.{moves_in_turn}
 use Rattle.certificate.proofs.AppendSteps.{world_appended}
 use Rattle.certificate.proofs.writing.add_world.Goals as goal
