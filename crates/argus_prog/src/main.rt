@@ -3,10 +3,10 @@
 #![tactic(auto)]
 
 mod answer;
-#[cfg(test)]
-mod checker_tests;
 mod file_shelf;
 mod folder_tray;
+#[cfg(test)]
+mod protected_tests;
 #[cfg(test)]
 mod test_folder;
 #[cfg(test)]

@@ -1,20 +1,22 @@
 use apriori::PriorWhy;
 use hierarchy::TreeFault;
+use interval_audit::Question;
 use job_lang::{Command, JobWhy};
-use job_run::{Fault, FileRef, Report, Summary, report_text, run};
+use job_run::{Fault, FileRef, Report, Stuck, Summary, report_text, run};
 use microdata::RowWhy;
 use office_io::{MemoryShelf, MemoryTray};
 use rda_meta::MetaWhy;
-use sdc_base::{Memory, Text};
+use sdc_base::{Items, Memory, Side, Text};
 use std::alloc::Global;
 use std::rt::HostRuntime;
 use std::test::Fail;
+use worlds::Multipliers;
 
 // The job of one table, with the metadata and the microdata that it names.
 const JOB: &str =
     "<OPENMICRODATA> \"m.asc\"\n<OPENMETADATA> \"m.rda\"\n<SPECIFYTABLE> \"A\"|\"V\"\n<SAFETYRULE> FREQ(3,30)\n<READMICRODATA>\n<SUPPRESS> MOD()\n<WRITETABLE> (1,\"t.csv\")\n<CERTIFICATE> \"t.cert\"\n";
 
-const METADATA: &str = "A 1 1\n<RECODEABLE>\nV 2 3\n<NUMERIC>\n";
+pub(crate) const METADATA: &str = "A 1 1\n<RECODEABLE>\nV 2 3\n<NUMERIC>\n";
 
 const SEVEN: &str = "a 10\na 20\na 30\nb 20\nb 20\nb 20\nb 30\n";
 
@@ -23,7 +25,7 @@ const RELEASED: &str =
     "0 released: 7 records, 0 skipped, 0 passed over, 3 cells, 0 primary, 0 hidden\nargus certificate 1\nmethod MOD\ncells 3\nrelations 1\nend\nA,V\nTotal,150\na,60\nb,90\n";
 
 // A job of two linked tables, with its metadata and records.
-pub(crate) const LINKED: &str =
+const LINKED: &str =
     "<OPENMICRODATA> \"m.asc\"\n<OPENMETADATA> \"m.rda\"\n<SPECIFYTABLE> \"A\"\"B\"|\"V\"\n<SPECIFYTABLE> \"A\"\"C\"|\"V\"\n<SAFETYRULE> FREQ(1,30)\n<SUPPRESS> MOD()\n<WRITETABLE> (1,\"t.csv\")\n<WRITETABLE> (2,\"u.csv\")\n<CERTIFICATE> \"t.cert\"\n";
 
 pub(crate) const THREE: &str =
@@ -58,16 +60,12 @@ pub(crate) const WHOLE: Pieces = Pieces {
     failing: 0,
 };
 
-pub(crate) fn text(alloc: Global, bytes: &str) -> Result<Text, Memory> {
+fn text(alloc: Global, bytes: &str) -> Result<Text, Memory> {
     Ok(Text::new(Vec::from_slice(alloc, bytes.as_bytes())?))
 }
 
 // A shelf of these files, that gives pieces of so many bytes and one of whose calls fails.
-pub(crate) fn shelf_of(
-    alloc: Global,
-    given: &[(&str, &str)],
-    pieces: Pieces,
-) -> Result<MemoryShelf, Memory> {
+fn shelf_of(alloc: Global, given: &[(&str, &str)], pieces: Pieces) -> Result<MemoryShelf, Memory> {
     let mut files = Vec::new(alloc);
     for (name, bytes) in given {
         let bytes = Vec::from_slice(alloc, bytes.as_bytes())?;
@@ -116,7 +114,7 @@ fn ran(
 }
 
 // What the job `r.job` says and leaves on an empty tray, one of whose puts fails.
-fn ran_alone(
+pub(crate) fn ran_alone(
     alloc: Global,
     files: &[(&str, &str)],
     pieces: Pieces,
@@ -376,13 +374,6 @@ fn refusals(rt: HostRuntime) -> Result<(), Fail> {
             plain,
             method,
             METADATA,
-            "a 10\na 20\nb 20\nb 20\nb 20\nb 30\n",
-            "cell 1: NeedsPlan",
-        ),
-        (
-            plain,
-            method,
-            METADATA,
             "a 10\na -2\n",
             "record 2: Negative",
         ),
@@ -391,25 +382,7 @@ fn refusals(rt: HostRuntime) -> Result<(), Fail> {
         (plain, method, LISTED, "4    1\n", "record 1: UnknownCode"),
         (plain, "RND(5)", METADATA, "a\n", "record 1: Short"),
         (plain, "RND(5)", METADATA, SEVEN, "job: NotBuilt"),
-        ("NK(1,40)", method, METADATA, SEVEN, "cell 1: NeedsPlan"),
-        ("P(40)", method, METADATA, SEVEN, "cell 1: NeedsPlan"),
         ("P(40)", "RND(5)", METADATA, SEVEN, "job: NotBuilt"),
-        (plain, method, LEVELS, "A1  1\n", "cell 0: NeedsPlan"),
-        (
-            plain,
-            method,
-            LISTED,
-            "1    1\n2    1\n1    1\n",
-            "cell 2: NeedsPlan",
-        ),
-        (plain, method, METADATA, "a 10\na 20\n", "cell 0: NeedsPlan"),
-        (
-            plain,
-            method,
-            METADATA,
-            "a 10\nb 20\nb 20\n",
-            "cell 1: NeedsPlan",
-        ),
     ];
     for (rules, method, metadata, microdata, want) in rows {
         let job = changed(rt.alloc(), plain, rules)?;
@@ -432,8 +405,8 @@ fn refusals(rt: HostRuntime) -> Result<(), Fail> {
     Ok(())
 }
 
-// The job lacks a command, names an a priori file that isn't there, or is of linked tables with a file that
-// isn't there, a record that is a byte short, or a cell that a rule names.
+// The job lacks a command, would overwrite its own file, names an a priori file that isn't there, or is of linked tables with a
+// file that isn't there or a record that is a byte short.
 #[test]
 fn refusals_of_other_jobs(rt: HostRuntime) -> Result<(), Fail> {
     let alloc = rt.alloc();
@@ -451,12 +424,18 @@ fn refusals_of_other_jobs(rt: HostRuntime) -> Result<(), Fail> {
         "A 1 2",
         "A 1 2\n<HIERARCHICAL>\n<HIERCODELIST> \"none\"",
     )?;
+    let own = changed(alloc, "t.cert", "r.job")?;
+    let rounded = own.replace(alloc, "MOD()", "RND(5)")?;
+    let output = changed(alloc, "t.csv", "r.job")?;
     let rows = [
         (&lacking, METADATA, "", "job line 0: Missing CERTIFICATE"),
+        (&own, METADATA, SEVEN, "out: OutName"),
+        (&own, METADATA, "a\n", "record 1: Short"),
+        (&rounded, METADATA, SEVEN, "out: OutName"),
+        (&output, METADATA, SEVEN, "out: OutName"),
         (&prior, METADATA, "a\n", "record 1: Short"),
         (&prior, METADATA, SEVEN, "apriori table 1: Absent"),
         (&strict, THREE, &short, "record 13: Short"),
-        (&strict, THREE, THIRTEEN, "cell 4: NeedsPlan"),
         (&strict, &first, "a", "codelist 2: Absent"),
         (&strict, &second, "a", "hierarchy 1: Absent"),
     ];
@@ -476,8 +455,8 @@ fn refusals_of_other_jobs(rt: HostRuntime) -> Result<(), Fail> {
     Ok(())
 }
 
-// By the job's method and rules, what the office states of the cells of thirteen records: the first fault,
-// or that no cell is primary any more.
+// By the job's method, what the office states of the cells of thirteen records: the first fault, or that no cell is primary any
+// more.
 #[test]
 fn statements(rt: HostRuntime) -> Result<(), Fail> {
     let alloc = rt.alloc();
@@ -488,15 +467,9 @@ fn statements(rt: HostRuntime) -> Result<(), Fail> {
     )?;
     let (plain, rounded) = ("MOD()", "RND(5)");
     let rows = [
-        (plain, margins, "2 refused: cell 4: NeedsPlan\n"),
         (rounded, margins, "2 refused: job: NotBuilt\n"),
         (plain, "a1,b1,s\n", &released),
         (plain, "\n a1 , b1 , S \r\na1,b1,s", &released),
-        (
-            plain,
-            "a1,b1,s\na2,b2,u\n",
-            "2 refused: cell 8: NeedsPlan\n",
-        ),
         (
             plain,
             &shown,
@@ -574,32 +547,6 @@ fn too_many_cells(rt: HostRuntime) -> Result<(), Fail> {
     Ok(())
 }
 
-// A table by two variables, of which the office states that its primary cell is to be always shown.
-#[test]
-fn protected_primary_of_two_by_two(rt: HostRuntime) -> Result<(), Fail> {
-    let alloc = rt.alloc();
-    let job = changed(alloc, "\"A\"|", "\"A\"\"B\"|")?;
-    let job = format!(in alloc; "{job}<APRIORI> \"p.hst\",1,\",\"\n")?;
-    let rows = [
-        ("a1,b2,p\n", "2 refused: cell 4: NeedsPlan\n"),
-        (
-            "a1,b2,p\na1,b1,p\n",
-            "2 refused: apriori table 1 line 2: ProtectedPrimary\n",
-        ),
-    ];
-    for (statements, want) in rows {
-        let files = [
-            ("r.job", job.as_str()),
-            ("m.rda", THREE),
-            ("m.asc", THIRTEEN),
-            ("p.hst", statements),
-        ];
-        let got = ran_alone(alloc, &files, WHOLE, 0)?;
-        assert_eq!(rt; got.as_str(), want);
-    }
-    Ok(())
-}
-
 // Two tables have a cell in common, and each has a file that states something of it: the second one must not
 // contradict the first.
 #[test]
@@ -620,9 +567,9 @@ fn statements_of_two_tables(rt: HostRuntime) -> Result<(), Fail> {
             "2 refused: apriori table 1 line 1: BadShape\n",
         ),
         (
-            "a1,Total,c,7\n",
-            "a2;c1;u\n\na1;Total;c;007\n",
-            "2 refused: cell 13: NeedsPlan\n",
+            "a1,Total,c,7\na2,b1,p\na2,b1,u\n",
+            "a1;Total;c;007\n",
+            "2 refused: apriori table 1 line 2: ProtectedPrimary\n",
         ),
     ];
     for (first, second, want) in rows {
@@ -683,9 +630,6 @@ fn each_file_in_turn(rt: HostRuntime) -> Result<(), Fail> {
             }
             before = last;
         }
-        let failing = before.saturating_add(1);
-        let got = ran_alone(alloc, &files, Pieces { bytes, failing }, 0)?;
-        assert_eq!(rt; got.as_str(), "2 refused: cell 1: NeedsPlan\n");
     }
     Ok(())
 }
@@ -720,10 +664,6 @@ fn a_tray_with_a_release(rt: HostRuntime) -> Result<(), Fail> {
         (
             "",
             "0 released: 0 records, 0 skipped, 0 passed over, 1 cells, 0 primary, 0 hidden\nargus certificate 1\nmethod MOD\ncells 1\nrelations 0\nend\nA,V\nTotal,0\n",
-        ),
-        (
-            "a 10\n",
-            "2 refused: cell 0: NeedsPlan\nargus certificate 1\nmethod MOD\ncells 1\nrelations 0\nend\nA,V\nTotal,0\n",
         ),
         (
             SEVEN,
@@ -795,6 +735,20 @@ fn reports(rt: HostRuntime) -> Result<(), Fail> {
         number: 1_000_001,
         why: RowWhy::TooMany,
     };
+    let terms = [(0, -1), (70_000, 12)];
+    let multipliers = Multipliers {
+        den: 3,
+        by_relation: Items::new(Vec::from_slice(rt.alloc(), &terms)?),
+    };
+    let question = Question {
+        cell: 7,
+        side: Side::Above,
+        target: 1,
+    };
+    let stuck = Stuck::Size {
+        question,
+        hidden: 2000,
+    };
     let rows = [
         (
             Report::Released(summary),
@@ -829,9 +783,22 @@ fn reports(rt: HostRuntime) -> Result<(), Fail> {
             Report::Refused(Fault::Cells(7)),
             "2 refused: table 8: TooManyCells\n",
         ),
+        (Report::Refused(Fault::OutName), "2 refused: out: OutName\n"),
         (
-            Report::Refused(Fault::NeedsPlan(5000)),
-            "2 refused: cell 5000: NeedsPlan\n",
+            Report::Cannot {
+                cell: 5000,
+                side: Side::Below,
+                multipliers,
+            },
+            "3 cannot protect cell 5000 below\nmultipliers 3 0:-1 70000:12\n",
+        ),
+        (
+            Report::Undecided {
+                stuck,
+                repairs: Items::empty(rt.alloc()),
+                shown: Items::empty(rt.alloc()),
+            },
+            "4 undecided: size, cell 7 above, 2000 hidden\n",
         ),
         (
             Report::WriteFault(FileRef::Table(4_294_967_295)),

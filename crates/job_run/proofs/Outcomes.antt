@@ -1,7 +1,8 @@
 -- What a run comes to, from what its inputs came to.
-use Rattle.std.proofs.Common.{◌≡◌, inl, inr, List, ℕ, Option, Some, Result, Ok, Err, IsErrOf, IsOkAnd, OnOk, refl, ap, ◌∙◌}
+use Rattle.std.proofs.Common.{◌≡◌, ◌⊎◌, inl, inr, List, ℕ, Bool, true, false, not, Result, Ok, Err, IsErrOf, IsOkAnd, refl, ap}
 use Rattle.sdc_base.specs.Answers.{Fails}
 use Rattle.sdc_base.specs.Counts.{Rose}
+use Rattle.sdc_base.specs.Steps.{◌>>=◌, refuse}
 use Rattle.office_io.specs.Files.{Files}
 use Rattle.office_io.specs.Shelves.{ShelfState}
 use Rattle.office_io.specs.Trays.{TrayState}
@@ -10,29 +11,36 @@ use Rattle.job_inputs.specs.Settled.{SettledInputs, settled_of}
 use Rattle.job_inputs.specs.declared.faults.InputFault.{InputFault}
 use Rattle.job_inputs.specs.declared.faults.InputFault.TheVariants as input_fault
 use Rattle.job_inputs.specs.declared.file_ref.FileRef.{FileRef}
+use Rattle.job_inputs.specs.declared.file_ref.FileRef.TheVariants as file
 use Rattle.job_inputs.specs.declared.stop.InputStop.{InputStop}
 use Rattle.job_inputs.specs.declared.stop.InputStop.TheVariants as input
 use Rattle.hierarchy.specs.declared.tree_fault.TreeFault.TheVariants as tree
+use Rattle.job_lang.specs.declared.job.Job.{Job}
 use Rattle.job_run.specs.Faults.{fault_of}
-use Rattle.job_run.specs.Outcome.{outcome_of}
-use Rattle.job_run.specs.Releases.{release_of, unreleased_for}
-use Rattle.job_run.specs.Reports.{report_of, Meets, Leaves, LeavesAll, SomeWhole, OneInPart, HasCause, HasComeTo}
-use Rattle.job_run.specs.Stops.{inputs_stop, release_stop, puts_stop}
+use Rattle.job_run.specs.Outcome.{admitted_of, is_hiding, job_fault, overwrites_job}
+use Rattle.job_run.specs.Protections.{IsReleaseOf}
+use Rattle.job_run.specs.Puts.{SomeWhole, OneInPart}
+use Rattle.job_run.specs.Reports.{report_of, Meets, Leaves, LeavesAll, HasCause, HasComeTo}
+use Rattle.job_run.specs.Stops.{Comes, inputs_stop, puts_stop}
 use Rattle.job_run.specs.declared.put.Release.{Release}
 use Rattle.job_run.specs.declared.puts.PutStop.{PutStop}
 use Rattle.job_run.specs.declared.puts.PutStop.TheVariants as puts
-use Rattle.job_run.specs.declared.release_stop.ReleaseStop.{ReleaseStop}
-use Rattle.job_run.specs.declared.release_stop.ReleaseStop.TheVariants as release
 use Rattle.job_run.specs.declared.report.Fault.{Fault}
+use Rattle.job_run.specs.declared.report.Fault.TheVariants as fault
 use Rattle.job_run.specs.declared.report.Report.TheVariants as report
 use Rattle.job_run.specs.declared.report.Summary.{Summary}
 use Rattle.job_run.specs.declared.stop.Stop.{Stop}
 use Rattle.job_run.specs.declared.stop.Stop.TheVariants as stop
 
--- the outcome, once the inputs are settled
-pub outcome-settled : (files : Files) (name : List ℕ) (settled : SettledInputs) → settled_of files name ≡ Ok settled → outcome_of files name ≡ release_of settled
-unfolding outcome_of
-outcome-settled files name settled read = rw read refl
+-- the settled inputs, where nothing is wrong with the job
+pub admitted : (files : Files) (name : List ℕ) (settled : SettledInputs) → settled_of files name ≡ Ok settled → Ok tt ≡ job_fault name settled.inputs.described.job → admitted_of files name ≡ Ok settled
+unfolding admitted_of
+admitted files name settled read fine = rw (read, ← fine) refl
+
+-- what is wrong with the job, once the inputs are settled
+pub refused : (files : Files) (name : List ℕ) (settled : SettledInputs) (reason : Fault) → settled_of files name ≡ Ok settled → Err reason ≡ job_fault name settled.inputs.described.job → admitted_of files name ≡ Err reason
+unfolding admitted_of
+refused files name settled reason read wrong = rw (read, ← wrong) refl
 
 -- a value that has a property, where there is one
 pub ok-and : {A F : Type 0} (P : A → Type 0) (o : Result A F) → IsOkAnd o P → (x : A) × (o ≡ Ok x) × P x
@@ -41,15 +49,15 @@ ok-and P (Err f) h = absurd h
 
 -- ---- what stopped the inputs
 
-pub inputs-meet : (e : InputStop) (files : Files) (name : List ℕ) → Fails (stopped_for e) (settled_of files name) → Meets (report_of (Err (inputs_stop e))) (outcome_of files name)
-unfolding outcome_of
+pub inputs-meet : (e : InputStop) (files : Files) (name : List ℕ) → Fails (stopped_for e) (settled_of files name) → Meets (report_of (Err (inputs_stop e))) (admitted_of files name)
+unfolding admitted_of
 inputs-meet (input.Refused f) files name h = rw h refl
 inputs-meet (input.ReadFault f) files name h = tt
 inputs-meet input.Memory files name h = tt
 
-pub inputs-leave : (e : InputStop) (outcome : Result Release Fault) (tray : TrayState) → Leaves (report_of (Err (inputs_stop e))) outcome tray tray
-inputs-leave (input.Refused f) outcome tray = refl
-inputs-leave (input.ReadFault f) outcome tray = refl
+pub inputs-leave : (e : InputStop) (outcome : Result SettledInputs Fault) (tray : TrayState) → Leaves (report_of (Err (inputs_stop e))) outcome tray tray
+inputs-leave (input.Refused f) outcome tray = tt
+inputs-leave (input.ReadFault f) outcome tray = tt
 inputs-leave input.Memory outcome tray = inl refl
 
 pub inputs-leave-all : (e : InputStop) (tray : TrayState) → LeavesAll (report_of (Err (inputs_stop e))) tray tray
@@ -92,43 +100,73 @@ inputs-come (input.Refused reason) comes files new come = λ f is. absurd cc
 inputs-come (input.ReadFault g) comes files new come = λ f is. let same : g ≡ f = cc in come f (ap (λ (h : FileRef). Err (input.ReadFault h)) same)
 inputs-come input.Memory comes files new come = λ f is. absurd cc
 
+-- ---- what is wrong with the job
+
+either-fault : (first second : Fault) (one other : Bool) (reason : Fault) → Err reason ≡ (refuse first one >>= λ _. refuse second other) → (reason ≡ first) ⊎ (reason ≡ second)
+either-fault first second true other reason h = inl (let same : reason ≡ first = cc in same)
+either-fault first second false true reason h = inr (let same : reason ≡ second = cc in same)
+either-fault first second false false reason h = absurd cc
+
+job-cause-by : (reason : Fault) (old new : ShelfState) (tray : TrayState) → (reason ≡ fault.OutName) ⊎ (reason ≡ fault.NotBuilt file.Job) → HasCause (report.Refused reason) old new tray tray
+job-cause-by reason old new tray (inl is) = rw is (no-cause (stop.Refused fault.OutName) old new tray tray (λ f is. absurd cc) (λ f is. absurd cc) (λ f is. absurd cc) (λ f is. absurd cc) (λ f is. absurd cc))
+job-cause-by reason old new tray (inr is) = rw is (no-cause (stop.Refused (fault.NotBuilt file.Job)) old new tray tray (λ f is. absurd cc) (λ f is. absurd cc) (λ f is. absurd cc) (λ f is. absurd cc) (λ f is. absurd cc))
+
+pub job-cause : (name : List ℕ) (job : Job) (reason : Fault) (old new : ShelfState) (tray : TrayState) → Err reason ≡ job_fault name job → HasCause (report.Refused reason) old new tray tray
+job-cause name job reason old new tray wrong =
+    job-cause-by reason old new tray (either-fault fault.OutName (fault.NotBuilt file.Job) (overwrites_job name job) (not (is_hiding job.method)) reason wrong)
+
 -- ---- what stopped the release
 
-pub release-meets : (e : ReleaseStop) (files : Files) (name : List ℕ) (settled : SettledInputs) → settled_of files name ≡ Ok settled → Fails (unreleased_for e) (release_of settled) → Meets (report_of (Err (release_stop e))) (outcome_of files name)
-release-meets (release.NotBuilt f) files name settled read h = outcome-settled files name settled read ∙ h
-release-meets (release.NeedsPlan cell) files name settled read h = outcome-settled files name settled read ∙ h
-release-meets release.Memory files name settled read h = tt
+pub stop-meets : (e : Stop) (files : Files) (name : List ℕ) (settled : SettledInputs) → admitted_of files name ≡ Ok settled → Comes settled (Err e) → Meets (report_of (Err e)) (admitted_of files name)
+stop-meets (stop.Refused f) files name settled read comes = absurd comes
+stop-meets (stop.Cannot cell side multipliers) files name settled read comes = rw read comes
+stop-meets (stop.Undecided why repairs shown) files name settled read comes = rw read comes
+stop-meets (stop.ReadFault f) files name settled read comes = absurd comes
+stop-meets (stop.WriteFault f) files name settled read comes = absurd comes
+stop-meets stop.Memory files name settled read comes = tt
 
-pub release-leaves : (e : ReleaseStop) (outcome : Result Release Fault) (tray : TrayState) → Leaves (report_of (Err (release_stop e))) outcome tray tray
-release-leaves (release.NotBuilt f) outcome tray = refl
-release-leaves (release.NeedsPlan cell) outcome tray = refl
-release-leaves release.Memory outcome tray = inl refl
+pub stop-leaves : (e : Stop) (settled : SettledInputs) (outcome : Result SettledInputs Fault) (tray : TrayState) → Comes settled (Err e) → Leaves (report_of (Err e)) outcome tray tray
+stop-leaves (stop.Refused f) settled outcome tray comes = absurd comes
+stop-leaves (stop.Cannot cell side multipliers) settled outcome tray comes = tt
+stop-leaves (stop.Undecided why repairs shown) settled outcome tray comes = tt
+stop-leaves (stop.ReadFault f) settled outcome tray comes = absurd comes
+stop-leaves (stop.WriteFault f) settled outcome tray comes = absurd comes
+stop-leaves stop.Memory settled outcome tray comes = inl refl
 
-pub release-leaves-all : (e : ReleaseStop) (tray : TrayState) → LeavesAll (report_of (Err (release_stop e))) tray tray
-release-leaves-all (release.NotBuilt f) tray = refl
-release-leaves-all (release.NeedsPlan cell) tray = refl
-release-leaves-all release.Memory tray = tt
+pub stop-leaves-all : (e : Stop) (tray : TrayState) → LeavesAll (report_of (Err e)) tray tray
+stop-leaves-all (stop.Refused f) tray = refl
+stop-leaves-all (stop.Cannot cell side multipliers) tray = refl
+stop-leaves-all (stop.Undecided why repairs shown) tray = refl
+stop-leaves-all (stop.ReadFault f) tray = refl
+stop-leaves-all (stop.WriteFault f) tray = tt
+stop-leaves-all stop.Memory tray = tt
 
-pub release-cause : (e : ReleaseStop) (old new : ShelfState) (tray : TrayState) → HasCause (report_of (Err (release_stop e))) old new tray tray
-release-cause (release.NotBuilt g) old new tray = no-cause (release_stop (release.NotBuilt g)) old new tray tray (λ f is. absurd cc) (λ f is. absurd cc) (λ f is. absurd cc) (λ f is. absurd cc) (λ f is. absurd cc)
-release-cause (release.NeedsPlan cell) old new tray = no-cause (release_stop (release.NeedsPlan cell)) old new tray tray (λ f is. absurd cc) (λ f is. absurd cc) (λ f is. absurd cc) (λ f is. absurd cc) (λ f is. absurd cc)
-release-cause release.Memory old new tray = no-cause stop.Memory old new tray tray (λ f is. absurd cc) (λ f is. absurd cc) (λ f is. absurd cc) (λ f is. absurd cc) (λ f is. absurd cc)
+pub stop-cause : (e : Stop) (settled : SettledInputs) (old new : ShelfState) (tray : TrayState) → Comes settled (Err e) → HasCause (report_of (Err e)) old new tray tray
+stop-cause (stop.Refused f) settled old new tray comes = absurd comes
+stop-cause (stop.Cannot cell side multipliers) settled old new tray comes = no-cause (stop.Cannot cell side multipliers) old new tray tray (λ f is. absurd cc) (λ f is. absurd cc) (λ f is. absurd cc) (λ f is. absurd cc) (λ f is. absurd cc)
+stop-cause (stop.Undecided why repairs shown) settled old new tray comes = no-cause (stop.Undecided why repairs shown) old new tray tray (λ f is. absurd cc) (λ f is. absurd cc) (λ f is. absurd cc) (λ f is. absurd cc) (λ f is. absurd cc)
+stop-cause (stop.ReadFault f) settled old new tray comes = absurd comes
+stop-cause (stop.WriteFault f) settled old new tray comes = absurd comes
+stop-cause stop.Memory settled old new tray comes = no-cause stop.Memory old new tray tray (λ f is. absurd cc) (λ f is. absurd cc) (λ f is. absurd cc) (λ f is. absurd cc) (λ f is. absurd cc)
 
-pub release-come : (e : ReleaseStop) (comes : FileRef → List ℕ → Type 0) (files : Files) (new : ShelfState) → HasComeTo comes (report_of (Err (release_stop e))) files new
-release-come (release.NotBuilt g) comes files new = λ f is. absurd cc
-release-come (release.NeedsPlan cell) comes files new = λ f is. absurd cc
-release-come release.Memory comes files new = λ f is. absurd cc
+pub stop-come : (e : Stop) (settled : SettledInputs) (comes : FileRef → List ℕ → Type 0) (files : Files) (new : ShelfState) → Comes settled (Err e) → HasComeTo comes (report_of (Err e)) files new
+stop-come (stop.Refused g) settled come files new comes = absurd comes
+stop-come (stop.Cannot cell side multipliers) settled come files new comes = λ f is. absurd cc
+stop-come (stop.Undecided why repairs shown) settled come files new comes = λ f is. absurd cc
+stop-come (stop.ReadFault g) settled come files new comes = absurd comes
+stop-come (stop.WriteFault g) settled come files new comes = absurd comes
+stop-come stop.Memory settled come files new comes = λ f is. absurd cc
 
 -- ---- what stopped the puts came after whole inputs
 
-pub puts-meet : (e : PutStop) (outcome : Result Release Fault) (r : Release) → outcome ≡ Ok r → Meets (report_of (Err (puts_stop e))) outcome
-puts-meet (puts.WriteFault f) outcome r is = rw is refl
-puts-meet puts.Memory outcome r is = tt
+pub puts-meet : (e : PutStop) (outcome : Result SettledInputs Fault) (settled : SettledInputs) → outcome ≡ Ok settled → Meets (report_of (Err (puts_stop e))) outcome
+puts-meet (puts.WriteFault f) outcome settled is = rw is refl
+puts-meet puts.Memory outcome settled is = tt
 
-pub puts-leave : (e : PutStop) (outcome : Result Release Fault) (r : Release) (old new : TrayState) → outcome ≡ Ok r → ((f : FileRef) → IsErrOf {T = Unit {0}} (Err e) (puts.WriteFault f) → OneInPart r.puts f old new)
-    → (IsErrOf {T = Unit {0}} (Err e) puts.Memory → SomeWhole r.puts old new) → Leaves (report_of (Err (puts_stop e))) outcome old new
-puts-leave (puts.WriteFault f) outcome r old new is part whole = rw is (part f refl)
-puts-leave puts.Memory outcome r old new is part whole = inr (rw is (whole refl))
+pub puts-leave : (e : PutStop) (outcome : Result SettledInputs Fault) (settled : SettledInputs) (r : Release) (old new : TrayState) → outcome ≡ Ok settled → IsReleaseOf settled r
+    → ((f : FileRef) → IsErrOf {T = Unit {0}} (Err e) (puts.WriteFault f) → OneInPart r.puts f old new) → (IsErrOf {T = Unit {0}} (Err e) puts.Memory → SomeWhole r.puts old new) → Leaves (report_of (Err (puts_stop e))) outcome old new
+puts-leave (puts.WriteFault f) outcome settled r old new is made part whole = rw is (r, made, part f refl)
+puts-leave puts.Memory outcome settled r old new is made part whole = inr (rw is (r, made, whole refl))
 
 pub puts-leave-all : (e : PutStop) (old new : TrayState) → LeavesAll (report_of (Err (puts_stop e))) old new
 puts-leave-all (puts.WriteFault f) old new = tt
@@ -151,6 +189,8 @@ released-cause summary old new before after = record { absent = λ f is. absurd 
 pub report-released : (r : Result Summary Stop) (s : Summary) (P : Summary → Type 0) → report_of r ≡ report.Released s → ((t : Summary) → r ≡ Ok t → P t) → P s
 report-released (Ok t) s P e h = let same : t ≡ s = cc in rw (← same) (h t refl)
 report-released (Err (stop.Refused g)) s P e h = absurd cc
+report-released (Err (stop.Cannot cell side multipliers)) s P e h = absurd cc
+report-released (Err (stop.Undecided why repairs shown)) s P e h = absurd cc
 report-released (Err (stop.ReadFault g)) s P e h = absurd cc
 report-released (Err (stop.WriteFault g)) s P e h = absurd cc
 report-released (Err stop.Memory) s P e h = absurd cc

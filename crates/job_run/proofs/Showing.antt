@@ -1,12 +1,14 @@
--- What the tables of a job show where no cell is hidden.
+-- What the tables of a job show with cells hidden.
 use Rattle.std.proofs.Common.{◌≡◌, ℕ, zero, suc, ◌<◌, Bool, true, false, cond, ◌||◌, List, [], ◌∷◌, ◌++◌, length, Option, None, Some, option_map, refl, ap, sym, ◌∙◌, arith, ℤ}
 use Rattle.std.specs.Prelude.{slice_get, slice_index_or, is_some, bytes_eq, flat_map}
-use Rattle.std.specs.Option.{option_and_then}
+use Rattle.std.specs.Option.{option_and_then, option_map_or}
 use Rattle.std.proofs.lemmas.Slice.Eq.{bytes_eq-Decides}
 use Rattle.sdc_base.proofs.Places.{places_are_lexicographic}
 use Rattle.sdc_base.specs.CellOrder.{is_place_in}
-use Rattle.sdc_base.specs.Cells.{places, trees_of, name_of, is_named as is_among}
+use Rattle.sdc_base.specs.HiddenSets.{is_hidden}
+use Rattle.sdc_base.specs.Cells.{places, trees_of, name_of, cells_of, is_named as is_among}
 use Rattle.sdc_base.specs.Records.{Name}
+use Rattle.sdc_base.specs.Relations.{number_among}
 use Rattle.sdc_base.specs.RuleLevels.{keep_of}
 use Rattle.sdc_base.specs.Sums.{truth}
 use Rattle.sdc_base.specs.TableText.{line_text, codes_of_place, shown_text, table_text}
@@ -22,7 +24,7 @@ use Rattle.tabulate.specs.Tabulated.{AreTabulated}
 use Rattle.job_inputs.proofs.Placing.{get-within}
 use Rattle.job_inputs.specs.Tabulated.{IsBookOf}
 use Rattle.job_inputs.specs.declared.inputs.Inputs.{Inputs}
-use Rattle.job_run.specs.Releases.{open_table}
+use Rattle.job_run.specs.Releases.{shown_in, table_of}
 
 -- ---- the text of a table
 
@@ -58,34 +60,45 @@ some-is : (o : Option ℕ) → is_some o ≡ true → (k : ℕ) × (o ≡ Some k
 some-is None h = absurd cc
 some-is (Some k) h = (k, refl)
 
--- with no cell hidden, a cell of the book shows its truth
-pub shows-truth : (book : Held) (rows : List Row) (keep scale : ℕ) (flags : List Bool) (name : Name) → AreTabulated book rows keep scale → length book.marks ≡ length (cells_in book) → ((cell : ℕ) → slice_index_or flags cell false ≡ false)
-    → is_among (cells_in book) name ≡ true → option_and_then (open_truth book.marks flags) (number_of book name) ≡ Some (truth book.trees name rows)
-shows-truth book rows keep scale flags name told many none there =
+-- what a release shows for a name, by trees and tables
+abbrev shown_by : List Tree → List (List ℕ) → List Row → List Bool → Name → Option ℤ
+shown_by trees tables rows flags name = cond (option_map_or (is_hidden flags) (number_among (cells_of trees tables) name) false) None (Some (truth trees name rows))
+
+-- a cell of the book shows its truth over the records, unless it is hidden
+shows-right : (book : Held) (rows : List Row) (keep scale : ℕ) (flags : List Bool) (name : Name) → AreTabulated book rows keep scale → length book.marks ≡ length (cells_in book)
+    → is_among (cells_in book) name ≡ true → option_and_then (open_truth book.marks flags) (number_of book name) ≡ shown_by book.trees book.tables rows flags name
+shows-right book rows keep scale flags name told many there =
     let found = some-is (number_of book name) (named-found (cells_in book) name ∙ there) in
     let at : slice_get (cells_in book) found.0 ≡ Some name = found-name (cells_in book) name found.0 found.1 in
     let mark = read-within book.marks found.0 (omega (arith, many, get-within (cells_in book) found.0 name at)) in
     let tells = told found.0 name mark.0 at mark.1 in
     ap (option_and_then (open_truth book.marks flags)) found.1
-    ∙ ap (λ (t : Bool). cond t None (option_map (λ (m : Mark). m.facts.truth) (slice_get book.marks found.0))) (none found.0)
-    ∙ ap (option_map (λ (m : Mark). m.facts.truth)) mark.1
-    ∙ ap Some tells.truth_is
+    ∙ ap (λ (o : Option Mark). cond (is_hidden flags found.0) None (option_map (λ (m : Mark). m.facts.truth) o)) mark.1
+    ∙ ap (λ (t : ℤ). cond (is_hidden flags found.0) None (Some t)) tells.truth_is
+    ∙ sym (ap (λ (o : Option ℕ). cond (option_map_or (is_hidden flags) o false) None (Some (truth book.trees name rows))) found.1)
 
 get-at : (xs : List (List ℕ)) (k : ℕ) → k < length xs → slice_get xs k ≡ Some (slice_index_or xs k [])
 get-at [] k h = absurd (omega (arith, h))
 get-at (x ∷ xs) zero h = refl
 get-at (x ∷ xs) (suc k) h = get-at xs k (omega (arith, h))
 
--- with no cell hidden, the text of a table of the book is that of its records
-pub table-shown : (inputs : Inputs) (book : Held) (flags : List Bool) (t : ℕ) (header : List (List ℕ)) → IsBookOf inputs book → t < length book.tables → ((cell : ℕ) → slice_index_or flags cell false ≡ false)
-    → table_text book.trees (slice_index_or book.tables t []) header inputs.described.bound.decimals (λ name. option_and_then (open_truth book.marks flags) (number_of book name)) ≡ open_table inputs t header
-table-shown inputs book flags t header is within none =
+-- what the release of inputs shows, by the trees and tables of their book
+shown-same : (inputs : Inputs) (book : Held) (flags : List Bool) (name : Name) → IsBookOf inputs book → shown_by book.trees book.tables inputs.records.rows flags name ≡ shown_in inputs flags name
+shown-same inputs book flags name is =
+    ap (λ (trees : List Tree). shown_by trees book.tables inputs.records.rows flags name) is.trees
+    ∙ ap (λ (tables : List (List ℕ)). shown_by inputs.records.trees tables inputs.records.rows flags name) is.tables
+
+-- the text of a table of the book is that of its records
+pub table-shown : (inputs : Inputs) (book : Held) (flags : List Bool) (t : ℕ) (header : List (List ℕ)) → IsBookOf inputs book → t < length book.tables
+    → table_text book.trees (slice_index_or book.tables t []) header inputs.described.bound.decimals (λ name. option_and_then (open_truth book.marks flags) (number_of book name)) ≡ table_of inputs flags t header
+table-shown inputs book flags t header is within =
     let rows = inputs.records.rows in
     let table = slice_index_or book.tables t [] in
     let decimals = inputs.described.bound.decimals in
-    let here = same-text book.trees table header decimals (λ name. option_and_then (open_truth book.marks flags) (number_of book name)) (λ name. Some (truth book.trees name rows))
-    (λ place inside. shows-truth book rows (keep_of inputs.described.job.rules.list) inputs.described.bound.scale flags (name_of (length book.trees) table place) is.told is.one_each none
-    (place-named book.trees book.tables t table place (get-at book.tables t within) inside)) in
+    let here = same-text book.trees table header decimals (λ name. option_and_then (open_truth book.marks flags) (number_of book name)) (shown_in inputs flags)
+    (λ place inside. shows-right book rows (keep_of inputs.described.job.rules.list) inputs.described.bound.scale flags (name_of (length book.trees) table place) is.told is.one_each
+    (place-named book.trees book.tables t table place (get-at book.tables t within) inside)
+    ∙ shown-same inputs book flags (name_of (length book.trees) table place) is) in
     here
-    ∙ ap (λ (trees : List Tree). table_text trees table header decimals (λ name. Some (truth trees name rows))) is.trees
-    ∙ ap (λ (tables : List (List ℕ)). table_text inputs.records.trees (slice_index_or tables t []) header decimals (λ name. Some (truth inputs.records.trees name rows))) is.tables
+    ∙ ap (λ (trees : List Tree). table_text trees table header decimals (shown_in inputs flags)) is.trees
+    ∙ ap (λ (tables : List (List ℕ)). table_text inputs.records.trees (slice_index_or tables t []) header decimals (shown_in inputs flags)) is.tables

@@ -1,5 +1,5 @@
--- What holds of a job's book and what is hidden in it, when its texts are written (own).
-use Rattle.std.specs.Prelude.{◌≡◌, ℕ, false, length, map, slice_index_or}
+-- What holds of a job's book and of what is hidden in it, when its texts are written (own).
+use Rattle.std.specs.Prelude.{◌≡◌, length, map}
 use Rattle.sdc_base.specs.Relations.{relations_among}
 use Rattle.sdc_base.specs.declared.hidden.Hidden.{Hidden}
 use Rattle.sdc_base.specs.declared.system.System.{System}
@@ -10,18 +10,13 @@ use Rattle.job_inputs.specs.Sound.{IsSound}
 use Rattle.job_inputs.specs.Tabulated.{IsReadyFor}
 use Rattle.job_inputs.specs.declared.described.Described.{Described}
 
--- no cell of the book is hidden
-pub record IsOpen (book : Held) (hidden : Hidden) : Type 0 where
-  pub each : length hidden.flags ≡ length book.marks
-  pub none : (cell : ℕ) → slice_index_or hidden.flags cell false ≡ false
-
 -- the system has the relations between the cells of the book
 pub record IsSystemOf (book : Held) (system : System) : Type 0 where
   pub cells : system.cells ≡ length (cells book)
   pub relations : map sum_in system.relations ≡ relations_among book.trees book.tables
 
--- the job is within its limits, its book is ready for it, and no cell is hidden
-pub record IsOpenBook (described : Described) (book : Held) (hidden : Hidden) : Type 0 where
+-- the job is within its limits, its book is ready for it, and there is a flag for each of its cells
+pub record IsShownBook (described : Described) (book : Held) (hidden : Hidden) : Type 0 where
   pub sound : IsSound described
   pub ready : IsReadyFor described book
-  pub none_hidden : IsOpen book hidden
+  pub each : length hidden.flags ≡ length book.marks

@@ -1,9 +1,10 @@
-pub mod CertificateText
 pub mod Faults
 pub mod Stops
 pub mod Releases
+pub mod Protections
 pub mod Books
 pub mod Outcome
+pub mod Puts
 pub mod Reports
 pub mod Released
 pub mod ReportText

@@ -1,7 +1,12 @@
 -- What a run prints of its report, and the status it ends with (own).
-use Rattle.std.specs.Prelude.{ℕ, ◌+◌, List, [], ◌∷◌, ◌++◌, codes, decimal}
+use Rattle.std.specs.Prelude.{ℕ, ◌+◌, List, [], ◌∷◌, ◌++◌, codes, decimal, flat_map}
+use Rattle.std.specs.Fmt.{signed_decimal}
+use Rattle.sdc_base.specs.Forms.{Term}
+use Rattle.sdc_base.specs.Sides.{side_word}
+use Rattle.sdc_base.specs.declared.side.Side.{Side}
 use Rattle.apriori.specs.declared.faults.PriorWhy.{PriorWhy}
 use Rattle.apriori.specs.declared.faults.PriorWhy.TheVariants as prior
+use Rattle.certificate.specs.Texts.{pair_token}
 use Rattle.hierarchy.specs.declared.tree_fault.TreeFault.{TreeFault}
 use Rattle.hierarchy.specs.declared.tree_fault.TreeFault.TheVariants as tree
 use Rattle.job_lang.specs.declared.faults.Command.{Command}
@@ -12,9 +17,12 @@ use Rattle.microdata.specs.declared.faults.RowWhy.{RowWhy}
 use Rattle.microdata.specs.declared.faults.RowWhy.TheVariants as row
 use Rattle.rda_meta.specs.declared.faults.MetaWhy.{MetaWhy}
 use Rattle.rda_meta.specs.declared.faults.MetaWhy.TheVariants as meta
+use Rattle.worlds.specs.declared.multipliers.Multipliers.{Multipliers}
 use Rattle.job_inputs.specs.FileTexts.{file_text}
 use Rattle.job_run.specs.declared.report.Fault.{Fault}
 use Rattle.job_run.specs.declared.report.Fault.TheVariants as fault
+use Rattle.job_run.specs.declared.report.Stuck.{Stuck}
+use Rattle.job_run.specs.declared.report.Stuck.TheVariants as stuck
 use Rattle.job_run.specs.declared.report.Summary.{Summary}
 use Rattle.job_run.specs.declared.report.Report.{Report}
 use Rattle.job_run.specs.declared.report.Report.TheVariants as report
@@ -24,6 +32,8 @@ abbrev pub status_of : Report → ℕ
 status_of (report.Released summary) = 0
 status_of report.Usage = 1
 status_of (report.Refused reason) = 2
+status_of (report.Cannot cell side multipliers) = 3
+status_of (report.Undecided why repairs shown) = 4
 status_of (report.ReadFault f) = 5
 status_of (report.WriteFault f) = 6
 status_of report.Memory = 7
@@ -108,7 +118,7 @@ fault_text (fault.Row number why) = codes "record " ++ (decimal number ++ (codes
 fault_text (fault.Cells t) = codes "table " ++ (decimal (t + 1) ++ codes ": TooManyCells")
 fault_text (fault.Prior t line why) = codes "apriori table " ++ (decimal (t + 1) ++ (codes " line " ++ (decimal line ++ (codes ": " ++ prior_text why))))
 fault_text (fault.NotBuilt f) = file_text f ++ codes ": NotBuilt"
-fault_text (fault.NeedsPlan cell) = codes "cell " ++ (decimal cell ++ codes ": NeedsPlan")
+fault_text fault.OutName = codes "out: OutName"
 
 -- the numbers of a release
 abbrev pub summary_text : Summary → List ℕ
@@ -120,15 +130,39 @@ summary_text s =
     ++ (decimal s.primary ++ (codes " primary, "
     ++ (decimal s.hidden ++ codes " hidden"))))))))))
 
--- the report's line without its end
+-- a cell and a side
+abbrev pub cell_text : ℕ → Side → List ℕ
+cell_text cell side = codes "cell " ++ (decimal cell ++ (codes " " ++ side_word side))
+
+-- why a question stopped short, and of which cell it is
+abbrev pub stuck_text : Stuck → List ℕ
+stuck_text (stuck.Work walk) = codes "work, " ++ (cell_text walk.question.cell walk.question.side ++ (codes ", " ++ (decimal walk.tableau.improved ++ codes " steps")))
+stuck_text (stuck.Wide walk place) = codes "wide, " ++ cell_text walk.question.cell walk.question.side
+stuck_text (stuck.Size question hidden) = codes "size, " ++ (cell_text question.cell question.side ++ (codes ", " ++ (decimal hidden ++ codes " hidden")))
+
+-- a relation with its number, behind a space
+abbrev pub term_text : Term → List ℕ
+term_text term = codes " " ++ pair_token term
+
+-- the den of multipliers, and each relation that has one with its number
+abbrev pub multipliers_text : Multipliers → List ℕ
+multipliers_text multipliers = codes "multipliers " ++ (signed_decimal multipliers.den ++ flat_map term_text multipliers.by_relation)
+
+-- the first line of a report that a cell can't be protected, with its end
+abbrev pub cannot_line : ℕ → Side → List ℕ
+cannot_line cell side = codes "cannot protect " ++ (cell_text cell side ++ 10 ∷ [])
+
+-- the report's lines without the end of the last
 abbrev pub report_line : Report → List ℕ
 report_line (report.Released summary) = codes "released: " ++ summary_text summary
 report_line report.Usage = codes "usage: argus run JOB | check JOB | intervals JOB OUT | demo SEED RECORDS"
 report_line (report.Refused reason) = codes "refused: " ++ fault_text reason
+report_line (report.Cannot cell side multipliers) = cannot_line cell side ++ multipliers_text multipliers
+report_line (report.Undecided why repairs shown) = codes "undecided: " ++ stuck_text why
 report_line (report.ReadFault f) = codes "read fault: " ++ file_text f
 report_line (report.WriteFault f) = codes "write fault: " ++ file_text f
 report_line report.Memory = codes "memory"
 
--- the report as it is printed: one line, ended by LF
+-- the report as it is printed: one line, two where a cell can't be protected, each ended by LF
 abbrev pub report_text : Report → List ℕ
 report_text r = report_line r ++ 10 ∷ []

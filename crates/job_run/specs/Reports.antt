@@ -1,74 +1,50 @@
--- A report, what the told files come to, what the tray holds afterwards, and the cause of each refusal (own).
-use Rattle.std.specs.Prelude.{◌≡◌, ◌≢◌, ◌⊎◌, ℕ, ◌+◌, List, [], ◌∷◌, length, Option, Some, Result, Ok, Err, IsOk, IsOkAnd, option_map, slice_get, take}
-use Rattle.sdc_base.specs.Counts.{Rose, counted}
+-- A report: what it says of told files, what the tray holds afterwards, and the cause of each refusal (own).
+use Rattle.std.specs.Prelude.{◌≡◌, ◌≢◌, ◌⊎◌, ℕ, ◌+◌, List, Result, Ok, Err, IsOk, IsOkAnd}
+use Rattle.sdc_base.specs.Counts.{Rose}
+use Rattle.cell_protection.specs.declared.protection.Protection.TheVariants as protection
 use Rattle.hierarchy.specs.declared.tree_fault.TreeFault.TheVariants as tree
-use Rattle.office_io.specs.Files.{Files, put, held_name}
+use Rattle.office_io.specs.Files.{Files, held_name}
 use Rattle.office_io.specs.Shelves.{ShelfState}
 use Rattle.office_io.specs.Trays.{TrayState}
 use Rattle.job_inputs.specs.Inputs.{limit}
+use Rattle.job_inputs.specs.Settled.{SettledInputs}
 use Rattle.job_inputs.specs.declared.file_ref.FileRef.{FileRef}
+use Rattle.job_run.specs.Protections.{IsProtectionFor, IsReleaseOf, undecided}
+use Rattle.job_run.specs.Puts.{SomeWhole, OneInPart}
+use Rattle.job_run.specs.declared.put.Release.{Release}
 use Rattle.job_run.specs.declared.report.Fault.{Fault}
 use Rattle.job_run.specs.declared.report.Fault.TheVariants as fault
 use Rattle.job_run.specs.declared.report.Summary.{Summary}
 use Rattle.job_run.specs.declared.report.Report.{Report}
 use Rattle.job_run.specs.declared.report.Report.TheVariants as report
-use Rattle.job_run.specs.declared.put.Put.{Put}
-use Rattle.job_run.specs.declared.put.Release.{Release}
 use Rattle.job_run.specs.declared.stop.Stop.{Stop}
 use Rattle.job_run.specs.declared.stop.Stop.TheVariants as stop
 
--- ---- what the tray holds
-
--- a folder after these puts, one after the other
-abbrev pub put_all : Files → List Put → Files
-put_all files [] = files
-put_all files (p ∷ puts) = put_all (put files p.name p.bytes) puts
-
--- after these puts, each of which was counted once
-pub record AllWhole (puts : List Put) (old new : TrayState) : Type 0 where
-  pub files : new.files ≡ option_map (λ out. put_all out puts) old.files
-  pub puts_made : new.puts ≡ counted old.puts (length puts)
-
--- after some of the puts whole, each of which was counted once, or none
-abbrev pub SomeWhole : List Put → TrayState → TrayState → Type 0
-SomeWhole puts old new = (new ≡ old) ⊎ ((k : ℕ) × (new.files ≡ option_map (λ out. put_all out (take k puts)) old.files) × (new.puts ≡ counted old.puts k))
-
--- after k of the puts whole, and the first n bytes of the next, which is that of this file: each was counted once, and that one too
-pub record IsInPart (puts : List Put) (file : FileRef) (k n : ℕ) (old new : TrayState) : Type 0 where
-  pub next : Put
-  pub is_next : slice_get puts k ≡ Some next
-  pub is_of : next.file ≡ file
-  pub files : new.files ≡ option_map (λ out. put (put_all out (take k puts)) next.name (take n next.bytes)) old.files
-  pub puts_made : new.puts ≡ counted old.puts (k + 1)
-
--- after some of the puts whole, and the first bytes of the next, which is that of this file
-abbrev pub OneInPart : List Put → FileRef → TrayState → TrayState → Type 0
-OneInPart puts file old new = (k n : ℕ) × IsInPart puts file k n old new
-
--- ---- what is reported
-
--- the report says what the told files come to; want of memory and faults of the shelf say nothing of them
-abbrev pub Meets : Report → Result Release Fault → Type 0
-Meets (report.Released summary) outcome = IsOkAnd outcome (λ release. summary ≡ release.summary)
+-- What the report says of the told files, which come to settled inputs or to a first fault: a refusal names that fault, and what can't
+-- be protected or wasn't decided is so of the settled inputs. Want of memory and faults of the shelf say nothing of them.
+abbrev pub Meets : Report → Result SettledInputs Fault → Type 0
+Meets (report.Released summary) outcome = IsOk outcome
 Meets report.Usage outcome = ⊥
 Meets (report.Refused reason) outcome = outcome ≡ Err reason
+Meets (report.Cannot cell side multipliers) outcome = IsOkAnd outcome (λ settled. IsProtectionFor settled (protection.Cannot cell side multipliers))
+Meets (report.Undecided why repairs shown) outcome = IsOkAnd outcome (λ settled. IsProtectionFor settled (undecided why repairs shown))
 Meets (report.ReadFault file) outcome = Unit {0}
 Meets (report.WriteFault file) outcome = IsOk outcome
 Meets report.Memory outcome = Unit {0}
 
--- the tray holds what the report says: all puts, some of them, one in part, or what it held; each was counted once
-abbrev pub Leaves : Report → Result Release Fault → TrayState → TrayState → Type 0
-Leaves (report.Released summary) outcome old new = IsOkAnd outcome (λ release. AllWhole release.puts old new)
-Leaves report.Usage outcome old new = new ≡ old
-Leaves (report.Refused reason) outcome old new = new ≡ old
-Leaves (report.ReadFault file) outcome old new = new ≡ old
-Leaves (report.WriteFault file) outcome old new = IsOkAnd outcome (λ release. OneInPart release.puts file old new)
-Leaves report.Memory outcome old new = (new ≡ old) ⊎ IsOkAnd outcome (λ release. SomeWhole release.puts old new)
+-- Where not all was put, the tray holds a part of the puts of a release of the told files: after a write fault those before the named
+-- file whole and the first bytes of that one, after want of memory some of them or none. Each was counted once.
+abbrev pub Leaves : Report → Result SettledInputs Fault → TrayState → TrayState → Type 0
+Leaves (report.WriteFault file) outcome old new = IsOkAnd outcome (λ settled. (release : Release) × IsReleaseOf settled release × OneInPart release.puts file old new)
+Leaves report.Memory outcome old new = (new ≡ old) ⊎ IsOkAnd outcome (λ settled. (release : Release) × IsReleaseOf settled release × SomeWhole release.puts old new)
+Leaves other outcome old new = Unit {0}
 
 -- a report after which the tray is as it was, whatever the shelf tells
 abbrev pub LeavesAll : Report → TrayState → TrayState → Type 0
 LeavesAll report.Usage old new = new ≡ old
 LeavesAll (report.Refused reason) old new = new ≡ old
+LeavesAll (report.Cannot cell side multipliers) old new = new ≡ old
+LeavesAll (report.Undecided why repairs shown) old new = new ≡ old
 LeavesAll (report.ReadFault file) old new = new ≡ old
 LeavesAll other old new = Unit {0}
 
@@ -86,15 +62,25 @@ pub record HasCause (answer : Report) (old new : ShelfState) (before after : Tra
 abbrev pub HasComeTo : (FileRef → List ℕ → Type 0) → Report → Files → ShelfState → Type 0
 HasComeTo comes answer files new = (f : FileRef) → answer ≡ report.ReadFault f → (held : List ℕ) × comes f held × (new.last ≡ held_name files held)
 
--- Without a fault of shelf or tray, the run answers what the told files come to, or want of memory.
-abbrev pub Settles : Report → Result Release Fault → Type 0
-Settles answer (Ok release) = (answer ≡ report.Released release.summary) ⊎ (answer ≡ report.Memory)
+-- what a run that isn't refused ends with: a release, a cell that can't be protected, a question that stopped short, or no memory
+abbrev pub IsEnd : Report → Type 0
+IsEnd (report.Released summary) = Unit {0}
+IsEnd (report.Cannot cell side multipliers) = Unit {0}
+IsEnd (report.Undecided why repairs shown) = Unit {0}
+IsEnd report.Memory = Unit {0}
+IsEnd other = ⊥
+
+-- Without a fault of shelf or tray, the run answers the first fault of the told files, or ends so, or memory is wanted.
+abbrev pub Settles : Report → Result SettledInputs Fault → Type 0
+Settles answer (Ok settled) = IsEnd answer
 Settles answer (Err reason) = (answer ≡ report.Refused reason) ⊎ (answer ≡ report.Memory)
 
 -- the report of how a run went on
 abbrev pub report_of : Result Summary Stop → Report
 report_of (Ok summary) = report.Released summary
 report_of (Err (stop.Refused reason)) = report.Refused reason
+report_of (Err (stop.Cannot cell side multipliers)) = report.Cannot cell side multipliers
+report_of (Err (stop.Undecided why repairs shown)) = report.Undecided why repairs shown
 report_of (Err (stop.ReadFault file)) = report.ReadFault file
 report_of (Err (stop.WriteFault file)) = report.WriteFault file
 report_of (Err stop.Memory) = report.Memory

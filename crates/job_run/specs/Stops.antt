@@ -1,12 +1,19 @@
--- Why a run of a job stopped (own).
+-- Why a run of a job stopped, and what that says of its settled inputs (own).
+use Rattle.std.specs.Prelude.{ℕ, List, Result, Ok, Err}
+use Rattle.cell_protection.specs.declared.protection.Protection.TheVariants as protection
+use Rattle.interval_audit.specs.declared.answer.AskFault.{AskFault}
+use Rattle.interval_audit.specs.declared.answer.AskFault.TheVariants as ask
+use Rattle.repair.specs.declared.stopped.Stopped.{Stopped}
+use Rattle.worlds.specs.declared.refuted.Refuted.{Refuted}
+use Rattle.job_inputs.specs.Settled.{SettledInputs}
 use Rattle.job_inputs.specs.declared.stop.InputStop.{InputStop}
 use Rattle.job_inputs.specs.declared.stop.InputStop.TheVariants as input
 use Rattle.job_run.specs.Faults.{fault_of}
+use Rattle.job_run.specs.Protections.{IsProtectionFor, IsReleaseOf, undecided}
+use Rattle.job_run.specs.declared.put.Release.{Release}
 use Rattle.job_run.specs.declared.puts.PutStop.{PutStop}
 use Rattle.job_run.specs.declared.puts.PutStop.TheVariants as puts
-use Rattle.job_run.specs.declared.release_stop.ReleaseStop.{ReleaseStop}
-use Rattle.job_run.specs.declared.release_stop.ReleaseStop.TheVariants as release
-use Rattle.job_run.specs.declared.report.Fault.TheVariants as fault
+use Rattle.job_run.specs.declared.report.Stuck.TheVariants as stuck
 use Rattle.job_run.specs.declared.stop.Stop.{Stop}
 use Rattle.job_run.specs.declared.stop.Stop.TheVariants as stop
 
@@ -16,13 +23,28 @@ inputs_stop (input.Refused reason) = stop.Refused (fault_of reason)
 inputs_stop (input.ReadFault file) = stop.ReadFault file
 inputs_stop input.Memory = stop.Memory
 
--- what stopped the release
-abbrev pub release_stop : ReleaseStop → Stop
-release_stop (release.NotBuilt file) = stop.Refused (fault.NotBuilt file)
-release_stop (release.NeedsPlan cell) = stop.Refused (fault.NeedsPlan cell)
-release_stop release.Memory = stop.Memory
-
 -- what stopped the puts
 abbrev pub puts_stop : PutStop → Stop
 puts_stop (puts.WriteFault file) = stop.WriteFault file
 puts_stop puts.Memory = stop.Memory
+
+-- a question that stopped short, with the repairs and the shown cells until then
+abbrev pub question_stop : AskFault → List Refuted → List ℕ → Stop
+question_stop (ask.Work walk) repairs shown = stop.Undecided (stuck.Work walk) repairs shown
+question_stop (ask.Wide walk place) repairs shown = stop.Undecided (stuck.Wide walk place) repairs shown
+question_stop (ask.Size question hidden) repairs shown = stop.Undecided (stuck.Size question hidden) repairs shown
+question_stop ask.Memory repairs shown = stop.Memory
+
+-- a protection that stopped short
+abbrev pub stopped_stop : Stopped → Stop
+stopped_stop stopped = question_stop stopped.fault stopped.repairs stopped.shown
+
+-- settled inputs come to this release, or to this stop of their protection
+abbrev pub Comes : SettledInputs → Result Release Stop → Type 0
+Comes settled (Ok release) = IsReleaseOf settled release
+Comes settled (Err (stop.Refused reason)) = ⊥
+Comes settled (Err (stop.Cannot cell side multipliers)) = IsProtectionFor settled (protection.Cannot cell side multipliers)
+Comes settled (Err (stop.Undecided why repairs shown)) = IsProtectionFor settled (undecided why repairs shown)
+Comes settled (Err (stop.ReadFault file)) = ⊥
+Comes settled (Err (stop.WriteFault file)) = ⊥
+Comes settled (Err stop.Memory) = Unit {0}

@@ -1,14 +1,11 @@
 //! The top call of argus.
 #![tactic(auto)]
 
-mod certificate;
 mod kinds;
 mod printing;
-mod protection;
 mod put;
 mod puts;
 mod release;
-mod release_stop;
 mod release_texts;
 mod report;
 mod running;
@@ -16,5 +13,5 @@ mod stop;
 
 pub use job_inputs::FileRef;
 pub use printing::report_text;
-pub use report::{Fault, Report, Summary};
+pub use report::{Fault, Report, Stuck, Summary};
 pub use running::run;

@@ -1,16 +1,20 @@
-ghost use Rattle.std.specs.Prelude.{◌≡◌, IfOk};
-ghost use Rattle.job_run.specs.ReportText.{status_of, report_text as text_of};
+ghost use Rattle.std.specs.Prelude.{◌≡◌, ◌++◌, ◌∷◌, [], IfOk, flat_map};
+ghost use Rattle.job_run.specs.ReportText.{status_of, term_text as spec_term, multipliers_text as spec_multipliers, report_line as line_of, report_text as text_of};
+ghost use Rattle.job_run.specs.declared.report.Report.TheVariants as AnyReport;
 
 use crate::kinds::{JobKind, TreeKind, meta_kind, prior_kind, row_kind};
-use crate::report::{Fault, Report, Summary};
-use sdc_base::{Memory, Text};
+use crate::report::{Fault, Report, Stuck, Summary};
+use interval_audit::Question;
+use sdc_base::{Memory, Side, Text};
 use std::alloc::Global;
 use std::fmt;
 use std::fmt::Display;
+use worlds::Multipliers;
 
 impl Report {
-    /// The status with which the program ends: 0 for a release, 1 for the usage line, 2 for a
-    /// refusal, 5 and 6 for a fault in reading and in writing, 7 for want of memory. The numbers are argus's own.
+    /// The status with which the program ends: 0 for a release, 1 for the usage line, 2 for a refusal, 3 for a cell that can't be
+    /// protected, 4 where a question stopped short, 5 and 6 for a fault in reading and in writing, 7 for want of memory. The
+    /// numbers are argus's own.
     pub fn status(&self) -> u8
         ensures { result ≡ status_of self.now }
     {
@@ -18,6 +22,8 @@ impl Report {
             Report::Released(_) => 0,
             Report::Usage => 1,
             Report::Refused(_) => 2,
+            Report::Cannot { .. } => 3,
+            Report::Undecided { .. } => 4,
             Report::ReadFault(_) => 5,
             Report::WriteFault(_) => 6,
             Report::Memory => 7,
@@ -25,15 +31,74 @@ impl Report {
     }
 }
 
-/// The text of a report: one line, ended by LF, in which variables are numbered by their place in the metadata and tables in the
-/// order of the job, both from 1, and cells from 0.
+/// The text of a report: one line, two where a cell can't be protected, each ended by LF. Variables are numbered by their place in
+/// the metadata and tables in the order of the job, both from 1, and cells and relations from 0.
 ///
-/// `Memory` is the only refusal. The cost is that of the line, and its wording is argus's own.
+/// `Memory` is the only refusal. The cost is that of the lines, and their wording is argus's own.
 pub fn report_text(alloc: Global, report: &Report) -> Result<Text, Memory>
     ensures { IfOk result (λ text. text ≡ text_of report.now) }
 {
-    let line = format!(in alloc; "{report}\n")?;
+    let line = match report {
+        Report::Cannot {
+            cell,
+            side,
+            multipliers,
+        } => return cannot_text(alloc, *cell, *side, multipliers),
+        Report::Released(summary) => format!(in alloc; "released: {summary}\n")?,
+        Report::Usage => format!(in alloc;
+            "usage: argus run JOB | check JOB | intervals JOB OUT | demo SEED RECORDS\n"
+        )?,
+        Report::Refused(fault) => format!(in alloc; "refused: {fault}\n")?,
+        Report::Undecided { stuck, .. } => format!(in alloc; "undecided: {stuck}\n")?,
+        Report::ReadFault(file) => format!(in alloc; "read fault: {file}\n")?,
+        Report::WriteFault(file) => format!(in alloc; "write fault: {file}\n")?,
+        Report::Memory => format!(in alloc; "memory\n")?,
+    };
     Ok(Text::new(line.into_bytes()))
+}
+
+// The lines of a cell that can't be protected to a side, with the multipliers that show it.
+fn cannot_text(
+    alloc: Global,
+    cell: u32,
+    side: Side,
+    multipliers: &Multipliers,
+) -> Result<Text, Memory>
+    ensures { IfOk result (λ text. text ≡ line_of (AnyReport.Cannot cell side multipliers.now) ++ 10 ∷ []) }
+{
+    let word = side.word();
+    let reason = multipliers_text(alloc, multipliers)?;
+    let text = format!(in alloc; "cannot protect cell {cell} {word}\n{reason}\n")?;
+    Ok(Text::new(text.into_bytes()))
+}
+
+// The den of multipliers, and each relation that has one with its number.
+fn multipliers_text(alloc: Global, multipliers: &Multipliers) -> Result<String, Memory>
+    ensures { IfOk result (λ text. text.bytes.items ≡ spec_multipliers multipliers.now) }
+{
+    let den = multipliers.den;
+    let terms = terms_text(alloc, multipliers.by_relation.as_slice())?;
+    Ok(format!(in alloc; "multipliers {den}{terms}")?)
+}
+
+// Relations with their numbers, each behind a space.
+fn terms_text(alloc: Global, terms: &[(u32, i128)]) -> Result<String, Memory>
+    ensures { IfOk result (λ text. text.bytes.items ≡ flat_map spec_term terms.now) }
+{
+    let mut text = String::new(alloc);
+    'terms: for term in terms {
+        let more = term_text(alloc, *term)?;
+        text.push_str(more.as_str())?;
+    }
+    Ok(text)
+}
+
+// A relation with its number, behind a space.
+fn term_text(alloc: Global, term: (u32, i128)) -> Result<String, Memory>
+    ensures { IfOk result (λ text. text.bytes.items ≡ spec_term term) }
+{
+    let (relation, number) = term;
+    Ok(format!(in alloc; " {relation}:{number}")?)
 }
 
 impl Display for Fault {
@@ -71,8 +136,8 @@ impl Display for Fault {
                 let kind = prior_kind(*why);
                 write!(f, "apriori table {number} line {line}: {kind}")
             }
+            Fault::OutName => write!(f, "out: OutName"),
             Fault::NotBuilt(file) => write!(f, "{file}: NotBuilt"),
-            Fault::NeedsPlan(cell) => write!(f, "cell {cell}: NeedsPlan"),
         }
     }
 }
@@ -99,23 +164,30 @@ impl Display for Summary {
     }
 }
 
-impl Display for Report {
+impl Display for Stuck {
     ghost use Rattle.std.specs.Prelude.{Some};
-    ghost use Rattle.job_run.specs.ReportText.{report_line};
+    ghost use Rattle.job_run.specs.ReportText.{stuck_text};
 
-    ghost output = { λ report. Some (report_line report) };
+    ghost output = { λ stuck. Some (stuck_text stuck) };
 
     fn fmt<W: fmt::Write>(&self, f: &mut fmt::Formatter<W>) -> fmt::Result {
         match self {
-            Report::Released(summary) => write!(f, "released: {summary}"),
-            Report::Usage => write!(
-                f,
-                "usage: argus run JOB | check JOB | intervals JOB OUT | demo SEED RECORDS"
-            ),
-            Report::Refused(fault) => write!(f, "refused: {fault}"),
-            Report::ReadFault(file) => write!(f, "read fault: {file}"),
-            Report::WriteFault(file) => write!(f, "write fault: {file}"),
-            Report::Memory => write!(f, "memory"),
+            Stuck::Work(walk) => {
+                let Question { cell, side, .. } = walk.question;
+                let word = side.word();
+                let steps = walk.tableau.improved();
+                write!(f, "work, cell {cell} {word}, {steps} steps")
+            }
+            Stuck::Wide(walk, _) => {
+                let Question { cell, side, .. } = walk.question;
+                let word = side.word();
+                write!(f, "wide, cell {cell} {word}")
+            }
+            Stuck::Size { question, hidden } => {
+                let Question { cell, side, .. } = *question;
+                let word = side.word();
+                write!(f, "size, cell {cell} {word}, {hidden} hidden")
+            }
         }
     }
 }

@@ -1,7 +1,7 @@
 ghost use Rattle.std.specs.Prelude.{◌≡◌, ◌<◌, ◌≤◌, ℕ, length, OnOk, IsErrOf};
 ghost use Rattle.sdc_base.specs.Counts.{Rose};
 ghost use Rattle.office_io.specs.Trays.{HasPut, HasPutInPart};
-ghost use Rattle.job_run.specs.Reports.{AllWhole, SomeWhole, OneInPart};
+ghost use Rattle.job_run.specs.Puts.{AllWhole, SomeWhole, OneInPart};
 ghost use Rattle.job_inputs.specs.declared.file_ref.FileRef.{FileRef as AnyFile};
 
 use crate::put::Put;

@@ -1,36 +1,45 @@
-ghost use Rattle.std.specs.Prelude.{◌≡◌, ◌<◌, ◌≤◌, ◌+◌, ◌++◌, ◌∷◌, [], IfOk, OnOk, length, slice_index_or};
-ghost use Rattle.job_run.specs.CertificateText.{open_certificate};
-ghost use Rattle.job_run.specs.Releases.{names_of as header_of, open_table, tables_from, puts_of, certificate_of};
-ghost use Rattle.job_inputs.specs.Tabulated.{IsBookOf};
-ghost use Rattle.job_run.specs.Books.{IsOpenBook, IsSystemOf};
+ghost use Rattle.std.specs.Prelude.{◌≡◌, ◌<◌, ◌+◌, ◌++◌, [], Ok, IfOk, OnOk, length, slice_index_or};
+ghost use Rattle.certificate.specs.Spelling.{IsSpellable};
+ghost use Rattle.certificate.specs.Certificates.{certificate_of};
+ghost use Rattle.certificate.specs.Texts.{text_of};
+ghost use Rattle.job_inputs.specs.Sound.{IsSound};
+ghost use Rattle.job_inputs.specs.Tabulated.{IsBookOf, IsReadyFor};
 ghost use Rattle.job_inputs.specs.declared.inputs.Inputs.{Inputs as AnyInputs};
+ghost use Rattle.job_run.specs.Books.{IsShownBook};
+ghost use Rattle.job_run.specs.Releases as releases;
 
-use crate::certificate::certificate_bytes;
 use crate::put::Put;
+use certificate::{Certificate, write_certificate};
 use job_inputs::{Described, FileRef};
 use job_lang::{OutputLine, TableLine};
 use linked_tables::Book;
 use release_writer::{Shown, table_bytes};
-use sdc_base::{Hidden, Items, Memory, System, Text};
+use sdc_base::{Hidden, Items, Memory, Text};
 use std::alloc::Global;
-use worlds::Protected;
 
-/// What a release without hidden cells puts: first the certificate, and then the tables in the order of the job.
+/// What a release puts: first its certificate, and then the tables in the order of the job, with these cells hidden.
 pub(crate) fn puts_for(
     alloc: Global,
     described: &Described,
     book: &Book,
-    system: &System,
-    protected: &Protected<'_>,
+    hidden: &Hidden,
+    certificate: &Certificate,
 ) -> Result<Items<Put>, Memory>
-    requires shown { IsOpenBook described.now book.now protected.now.hidden }
-    requires related { IsSystemOf book.now system.now }
-    ensures puts { IfOk result (λ puts. (inputs : AnyInputs) → inputs.described ≡ described.now → IsBookOf inputs book.now → puts ≡ puts_of inputs) }
+    requires sound { IsSound described.now }
+    requires ready { IsReadyFor described.now book.now }
+    requires text { IsSpellable certificate.now }
+    ensures puts { IfOk result (λ puts. (inputs : AnyInputs) → inputs.described ≡ described.now → IsBookOf inputs book.now
+        → puts ≡ releases.puts_of inputs hidden.now.flags certificate.now) }
     ensures each { IfOk result (λ puts. length puts ≡ 1 + length described.now.job.tables) }
+    ensures read_back { IfOk result (λ puts. certificate_of (text_of certificate.now) ≡ Ok certificate.now) }
 {
+    // There is a flag for each cell.
+    if hidden.flags.as_slice().len() != book.marks().len() {
+        return Err(Memory);
+    }
     let mut puts = Items::empty(alloc);
-    puts.push(certificate_put(alloc, described, book, system)?)?;
-    add_tables(alloc, described, book, protected.hidden(), &mut puts)?;
+    puts.push(certificate_put(alloc, described, certificate)?)?;
+    add_tables(alloc, described, book, hidden, &mut puts)?;
     Ok(puts)
 }
 
@@ -38,19 +47,16 @@ pub(crate) fn puts_for(
 fn certificate_put(
     alloc: Global,
     described: &Described,
-    book: &Book,
-    system: &System,
+    certificate: &Certificate,
 ) -> Result<Put, Memory>
-    requires related { IsSystemOf book.now system.now }
-    ensures { IfOk result (λ put. (inputs : AnyInputs) → inputs.described ≡ described.now → IsBookOf inputs book.now
-        → put ≡ record { file = FileRef.Certificate; name = described.now.job.certificate; bytes = certificate_of inputs }) }
+    requires { IsSpellable certificate.now }
+    ensures put { IfOk result (λ put. put ≡ record { file = FileRef.Certificate; name = described.now.job.certificate; bytes = text_of certificate.now }) }
+    ensures read_back { IfOk result (λ put. certificate_of (text_of certificate.now) ≡ Ok certificate.now) }
 {
-    let relations = system.relations.as_slice().len() as u32;
-    let bytes = certificate_bytes(alloc, described.job.method, book.cells(), relations)?;
     Ok(Put {
         file: FileRef::Certificate,
         name: described.job.certificate.copy(alloc)?,
-        bytes,
+        bytes: Items::new(write_certificate(alloc, certificate)?),
     })
 }
 
@@ -62,9 +68,9 @@ fn add_tables(
     hidden: &Hidden,
     puts: &mut Items<Put>,
 ) -> Result<(), Memory>
-    requires shown { IsOpenBook described.now book.now hidden.now }
+    requires shown { IsShownBook described.now book.now hidden.now }
     ensures puts { OnOk result ((inputs : AnyInputs) → inputs.described ≡ described.now → IsBookOf inputs book.now
-        → puts.new ≡ puts.old ++ tables_from inputs 0 described.now.job.tables described.now.job.outputs) }
+        → puts.new ≡ puts.old ++ releases.tables_from inputs hidden.now.flags 0 described.now.job.tables described.now.job.outputs) }
     ensures each { OnOk result (length puts.new ≡ length puts.old + length described.now.job.tables) }
 {
     let outputs = described.job.outputs.as_slice();
@@ -85,11 +91,11 @@ fn table_put(
     line: &TableLine,
     output: &OutputLine,
 ) -> Result<Put, Memory>
-    requires shown { IsOpenBook described.now book.now hidden.now }
+    requires shown { IsShownBook described.now book.now hidden.now }
     requires table { t < length book.now.tables }
     requires header { length line.now.variables ≡ length (slice_index_or book.now.tables t []) }
     ensures { IfOk result (λ put. (inputs : AnyInputs) → inputs.described ≡ described.now → IsBookOf inputs book.now
-        → put ≡ record { file = FileRef.Table t; name = output.now.file; bytes = open_table inputs t (header_of line.now) }) }
+        → put ≡ record { file = FileRef.Table t; name = output.now.file; bytes = releases.table_of inputs hidden.now.flags t (releases.names_of line.now) }) }
 {
     let header = header_for(alloc, line)?;
     let decimals = described.bound.decimals;
@@ -110,7 +116,7 @@ fn table_put(
 
 // The names of a table's first line: those of its variables and of the response.
 fn header_for(alloc: Global, line: &TableLine) -> Result<Items<Text>, Memory>
-    ensures { IfOk result (λ header. header ≡ header_of line.now) }
+    ensures { IfOk result (λ header. header ≡ releases.names_of line.now) }
 {
     let mut header = Items::empty(alloc);
     'names: for name in line.variables.as_slice() {

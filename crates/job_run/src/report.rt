@@ -1,13 +1,17 @@
 use apriori::PriorWhy;
 use hierarchy::TreeFault;
+use interval_audit::{Question, Walk, WidePlace};
 use job_inputs::{FileRef, InputFault};
 use job_lang::JobWhy;
 use microdata::RowWhy;
 use rda_meta::MetaWhy;
+use sdc_base::{Items, Side};
+use worlds::{Multipliers, Refuted};
 
 /// What is wrong with the inputs: the first fault in the order job, metadata, the job's variables in the metadata, for each
 /// spanning variable in the order of the metadata its code list and then its hierarchy, the microdata,
-/// the number of cells, the a priori files by table, primary cells that are to be always shown, and what is not built yet.
+/// the number of cells, the a priori files by table, primary cells that are to be always shown, an output that has the job's own
+/// name, and what is not built yet.
 #[derive(Clone, Copy, Debug, PartialEq, Eq)]
 pub enum Fault {
     /// The file isn't there.
@@ -40,10 +44,10 @@ pub enum Fault {
         line: u32,
         why: PriorWhy,
     },
+    /// The certificate or an output would take the name of the job's own file.
+    OutName,
     /// The job wants what isn't built so far.
     NotBuilt(FileRef),
-    /// This cell is primary, the first one, and no plan to protect it is built so far. Cells are numbered from 0.
-    NeedsPlan(u32),
 }
 
 /// The numbers of a release.
@@ -63,8 +67,19 @@ pub struct Summary {
     pub hidden: u32,
 }
 
+/// Why a question stopped short of an answer.
+#[derive(Drop)]
+pub enum Stuck {
+    /// Its walk made as many improvements as the job allows, and goes on from there.
+    Work(Walk),
+    /// Its walk needs a number of more than 128 bits at this place.
+    Wide(Walk, WidePlace),
+    /// The component of its cell has too many hidden cells.
+    Size { question: Question, hidden: u32 },
+}
+
 /// What a run of the words comes to.
-#[derive(Clone, Copy, Debug, PartialEq, Eq)]
+#[derive(Drop)]
 pub enum Report {
     /// The certificate and the tables were put.
     Released(Summary),
@@ -72,6 +87,20 @@ pub enum Report {
     Usage,
     /// The inputs have this fault, and nothing was put.
     Refused(Fault),
+    /// No hidden set protects this cell to this side, the first such pair: the multipliers refute it with all cells hidden that may
+    /// be. Cells are numbered from 0. Nothing was put.
+    Cannot {
+        cell: u32,
+        side: Side,
+        multipliers: Multipliers,
+    },
+    /// A question stopped short, after these repairs and with these cells shown again, ascending, of which the last was being
+    /// tried. Nothing was put.
+    Undecided {
+        stuck: Stuck,
+        repairs: Items<Refuted>,
+        shown: Items<u32>,
+    },
     /// The shelf failed at this file, and nothing was put.
     ReadFault(FileRef),
     /// The tray failed at this file: the files put before it stand whole.

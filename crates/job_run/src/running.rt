@@ -2,13 +2,13 @@ ghost use Rattle.std.specs.Prelude.{◌≡◌, ◌↔◌, ◌≤◌, None, ℕ, 
 ghost use Rattle.sdc_base.specs.Counts.{Rose, counted};
 ghost use Rattle.sdc_base.specs.Told.{WhereTold};
 ghost use Rattle.job_inputs.specs.Looks.{ComesTo};
-ghost use Rattle.job_run.specs.Outcome.{job_name, outcome_of};
+ghost use Rattle.job_run.specs.Outcome.{job_name, admitted_of};
 ghost use Rattle.job_run.specs.Released.{Releases};
 ghost use Rattle.job_run.specs.Reports.{Meets, Leaves, LeavesAll, Settles, HasCause, HasComeTo, report_of};
 ghost use Rattle.job_run.specs.declared.report.Summary.{Summary as Numbers};
 
 use crate::puts::put_files;
-use crate::release::release_for;
+use crate::release::{check_job, release_for};
 use crate::report::{Report, Summary};
 use crate::stop::Stop;
 use job_inputs::read_settled;
@@ -38,8 +38,8 @@ pub fn run<S: Shelf, T: Tray>(alloc: Global, words: &[Text], shelf: &mut S, tray
     ensures usage { (result ≡ Report.Usage) ↔ (job_name words.now ≡ None) }
 
     // The answer is what the told files come to, and the tray holds what the answer says, each put counted once.
-    ensures told { WhereTold (job_name words.now) (λ name. WhereTold (S.state shelf.old).files (λ fs. Meets result (outcome_of fs name))) }
-    ensures left { WhereTold (job_name words.now) (λ name. WhereTold (S.state shelf.old).files (λ fs. Leaves result (outcome_of fs name) (T.state tray.old) (T.state tray.new))) }
+    ensures told { WhereTold (job_name words.now) (λ name. WhereTold (S.state shelf.old).files (λ fs. Meets result (admitted_of fs name))) }
+    ensures left { WhereTold (job_name words.now) (λ name. WhereTold (S.state shelf.old).files (λ fs. Leaves result (admitted_of fs name) (T.state tray.old) (T.state tray.new))) }
     ensures untouched { LeavesAll result (T.state tray.old) (T.state tray.new) }
 
     // A release makes a put for the certificate and one for each table, of which there are one to eight.
@@ -52,7 +52,7 @@ pub fn run<S: Shelf, T: Tray>(alloc: Global, words: &[Text], shelf: &mut S, tray
 
     // Without a fault of the shelf or the tray, the outcome of the told files is the answer, want of memory aside.
     ensures complete { WhereTold (job_name words.now) (λ name. WhereTold (S.state shelf.old).files (λ fs.
-        ¬ Rose (S.state shelf.old).faults (S.state shelf.new).faults → ¬ Rose (T.state tray.old).faults (T.state tray.new).faults → Settles result (outcome_of fs name))) }
+        ¬ Rose (S.state shelf.old).faults (S.state shelf.new).faults → ¬ Rose (T.state tray.old).faults (T.state tray.new).faults → Settles result (admitted_of fs name))) }
 
     // That a file is absent or too long, a read fault and a write fault have their cause, whatever the shelf and the tray tell.
     ensures cause { HasCause result (S.state shelf.old) (S.state shelf.new) (T.state tray.old) (T.state tray.new) }
@@ -60,7 +60,7 @@ pub fn run<S: Shelf, T: Tray>(alloc: Global, words: &[Text], shelf: &mut S, tray
 {
     match job_of_words(words) {
         None => Report::Usage,
-        Some(name) => report(release(alloc, name, shelf, tray)),
+        Some(name) => report(run_job(alloc, name, shelf, tray)),
     }
 }
 
@@ -79,14 +79,14 @@ fn job_of_words(words: &[Text]) -> Option<&Text>
 }
 
 // The whole run of a job: everything that is put is made before the first put.
-fn release<S: Shelf, T: Tray>(
+fn run_job<S: Shelf, T: Tray>(
     alloc: Global,
     name: &Text,
     shelf: &mut S,
     tray: &mut T,
 ) -> Result<Summary, Stop>
-    ensures told { WhereTold (S.state shelf.old).files (λ fs. Meets (report_of result) (outcome_of fs name.now)) }
-    ensures left { WhereTold (S.state shelf.old).files (λ fs. Leaves (report_of result) (outcome_of fs name.now) (T.state tray.old) (T.state tray.new)) }
+    ensures told { WhereTold (S.state shelf.old).files (λ fs. Meets (report_of result) (admitted_of fs name.now)) }
+    ensures left { WhereTold (S.state shelf.old).files (λ fs. Leaves (report_of result) (admitted_of fs name.now) (T.state tray.old) (T.state tray.new)) }
     ensures untouched { LeavesAll (report_of result) (T.state tray.old) (T.state tray.new) }
     ensures some { OnOk result ((count : ℕ) × (2 ≤ count) × (count ≤ 9) × ((T.state tray.new).puts ≡ counted (T.state tray.old).puts count)) }
     ensures released { WhereTold (S.state shelf.old).files (λ fs. IfOk result (λ summary. Releases fs name.now summary (T.state tray.old) (T.state tray.new))) }
@@ -94,9 +94,10 @@ fn release<S: Shelf, T: Tray>(
     ensures came_to { WhereTold (S.state shelf.old).files (λ fs. HasComeTo (ComesTo fs name.now) (report_of result) fs (S.state shelf.new)) }
 {
     let settled = read_settled(alloc, shelf, name)?;
-    let planned = release_for(alloc, &settled)?;
-    put_files(tray, planned.puts.as_slice())?;
-    Ok(planned.summary)
+    check_job(name, &settled.described.job)?;
+    let release = release_for(alloc, settled)?;
+    put_files(tray, release.puts.as_slice())?;
+    Ok(release.summary)
 }
 
 // The report of how a run of a job went on.
@@ -106,6 +107,28 @@ fn report(outcome: Result<Summary, Stop>) -> Report
     match outcome {
         Ok(summary) => Report::Released(summary),
         Err(Stop::Refused(fault)) => Report::Refused(fault),
+        Err(
+            Stop::Cannot {
+                cell,
+                side,
+                multipliers,
+            },
+        ) => Report::Cannot {
+            cell,
+            side,
+            multipliers,
+        },
+        Err(
+            Stop::Undecided {
+                stuck,
+                repairs,
+                shown,
+            },
+        ) => Report::Undecided {
+            stuck,
+            repairs,
+            shown,
+        },
         Err(Stop::ReadFault(file)) => Report::ReadFault(file),
         Err(Stop::WriteFault(file)) => Report::WriteFault(file),
         Err(Stop::Memory) => Report::Memory,

@@ -1,15 +1,50 @@
 use crate::puts::PutStop;
-use crate::release_stop::ReleaseStop;
-use crate::report::Fault;
+use crate::report::{Fault, Stuck};
+use interval_audit::AskFault;
 use job_inputs::{FileRef, InputStop};
+use repair::Stopped;
+use sdc_base::{Items, Memory, Side};
+use worlds::{Multipliers, Refuted};
 
 /// Why a run of a job stopped before its end.
-#[derive(Clone, Copy, Debug, PartialEq, Eq)]
+#[derive(Drop)]
 pub(crate) enum Stop {
     Refused(Fault),
+    Cannot {
+        cell: u32,
+        side: Side,
+        multipliers: Multipliers,
+    },
+    Undecided {
+        stuck: Stuck,
+        repairs: Items<Refuted>,
+        shown: Items<u32>,
+    },
     ReadFault(FileRef),
     WriteFault(FileRef),
     Memory,
+}
+
+impl From<Memory> for Stop {
+    ghost use Rattle.std.specs.Prelude.{◌≡◌};
+    ghost use Rattle.job_run.specs.declared.stop.Stop.TheVariants as stop;
+
+    ghost from_gives = { λ _ e. e ≡ stop.Memory };
+
+    fn from(_: Memory) -> Self {
+        Stop::Memory
+    }
+}
+
+impl From<Fault> for Stop {
+    ghost use Rattle.std.specs.Prelude.{◌≡◌};
+    ghost use Rattle.job_run.specs.declared.stop.Stop.TheVariants as stop;
+
+    ghost from_gives = { λ fault e. e ≡ stop.Refused fault };
+
+    fn from(fault: Fault) -> Self {
+        Stop::Refused(fault)
+    }
 }
 
 impl From<InputStop> for Stop {
@@ -27,17 +62,28 @@ impl From<InputStop> for Stop {
     }
 }
 
-impl From<ReleaseStop> for Stop {
+impl From<Stopped> for Stop {
     ghost use Rattle.std.specs.Prelude.{◌≡◌};
-    ghost use Rattle.job_run.specs.Stops.{release_stop};
+    ghost use Rattle.job_run.specs.Stops.{stopped_stop};
 
-    ghost from_gives = { λ stop e. e ≡ release_stop stop };
+    ghost from_gives = { λ stopped e. e ≡ stopped_stop stopped };
 
-    fn from(stop: ReleaseStop) -> Self {
-        match stop {
-            ReleaseStop::NotBuilt(file) => Stop::Refused(Fault::NotBuilt(file)),
-            ReleaseStop::NeedsPlan(cell) => Stop::Refused(Fault::NeedsPlan(cell)),
-            ReleaseStop::Memory => Stop::Memory,
+    fn from(stopped: Stopped) -> Self {
+        let Stopped {
+            fault,
+            repairs,
+            shown,
+        } = stopped;
+        let stuck = match fault {
+            AskFault::Work(walk) => Stuck::Work(walk),
+            AskFault::Wide(walk, place) => Stuck::Wide(walk, place),
+            AskFault::Size { question, hidden } => Stuck::Size { question, hidden },
+            AskFault::Memory => return Stop::Memory,
+        };
+        Stop::Undecided {
+            stuck,
+            repairs,
+            shown,
         }
     }
 }

@@ -1,6 +1,6 @@
 use Rattle.std.proofs.Common.{◌≡◌, ◌<◌, ◌≤◌, option_map, take}
 use Rattle.sdc_base.specs.Counts.{counted}
-use Rattle.job_run.specs.Reports.{put_all}
+use Rattle.job_run.specs.Puts.{put_all}
 use Rattle.job_run.proofs.puts.put_files.Given as goal
 
 abbrev pub invariant-loop-next : goal.invariant-loop-next

@@ -16,11 +16,11 @@ tables-preserved c = record {
       let here = subst (λ (xs : List TableLine). c.tables.t < length xs) c.as_slice-line-items.ensures c.tables-test.true in
       let line = subst (λ (xs : List TableLine). c.line-item.result ≡ slice_index_or xs c.tables.t c.line-item.result) c.as_slice-line-items.ensures c.line-item.is in
       let output = subst (λ (xs : List OutputLine). c.index-outputs-t.result ≡ slice_index_or xs c.tables.t c.index-outputs-t.result) c.as_slice-outputs.ensures c.index-outputs-t.is in
-      let more = tables-more inputs c.tables.t lines outputs c.line-item.result c.index-outputs-t.result here c.requires.shown.sound.job.outputs line output in
+      let more = tables-more inputs c.args.hidden.now.flags c.tables.t lines outputs c.line-item.result c.index-outputs-t.result here c.requires.shown.sound.job.outputs line output in
       c.in_ok-push.ensures.ok
       ∙ ap (λ (put : Put). c.tables.puts ++ put ∷ []) (c.in_ok-put.ensures inputs is whole)
-      ∙ ap (λ (puts : List Put). puts ++ put_at inputs c.tables.t c.line-item.result c.index-outputs-t.result ∷ []) (c.tables.invariant.puts inputs is whole)
-      ∙ append_assoc c.args.puts.now (tables_from inputs 0 (take c.tables.t lines) (take c.tables.t outputs)) (put_at inputs c.tables.t c.line-item.result c.index-outputs-t.result ∷ [])
+      ∙ ap (λ (puts : List Put). puts ++ put_at inputs c.args.hidden.now.flags c.tables.t c.line-item.result c.index-outputs-t.result ∷ []) (c.tables.invariant.puts inputs is whole)
+      ∙ append_assoc c.args.puts.now (tables_from inputs c.args.hidden.now.flags 0 (take c.tables.t lines) (take c.tables.t outputs)) (put_at inputs c.args.hidden.now.flags c.tables.t c.line-item.result c.index-outputs-t.result ∷ [])
       ∙ ap (λ (puts : List Put). c.args.puts.now ++ puts) (sym more);
   each = ap length c.in_ok-push.ensures.ok ∙ one-longer c.tables.puts c.in_ok-put.put (length c.args.puts.now + c.tables.t) c.tables.invariant.each ∙ omega arith;
 }

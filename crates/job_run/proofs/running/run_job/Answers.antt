@@ -1,16 +1,17 @@
-use Rattle.std.proofs.Common.{◌≡◌, ◌<◌, ◌+◌, arith, IsErrOf, Err, Ok, List, length, ap, refl, subst, sym, ◌∙◌}
+use Rattle.std.proofs.Common.{◌≡◌, ◌<◌, ◌+◌, arith, IsErrOf, Err, List, length, ap, refl, subst, sym, ◌∙◌}
 use Rattle.std.proofs.lemmas.Result.{err_from_is_err_and}
-use Rattle.sdc_base.specs.Counts.{counted}
-use Rattle.office_io.specs.Files.{Files}
 use Rattle.job_inputs.specs.Settled.{IsSettledOf, settled_of}
 use Rattle.job_inputs.specs.declared.described.Described.{Described}
 use Rattle.job_inputs.specs.declared.file_ref.FileRef.{FileRef}
-use Rattle.job_run.specs.Reports.{AllWhole, OneInPart, SomeWhole}
+use Rattle.job_run.specs.Outcome.{job_fault}
+use Rattle.job_run.specs.Puts.{AllWhole, OneInPart, SomeWhole}
 use Rattle.job_run.specs.declared.put.Put.{Put}
 use Rattle.job_run.specs.declared.puts.PutStop.TheVariants as stop
-use Rattle.job_run.proofs.Outcomes.{outcome-settled, ok-and, inputs-meet, inputs-leave, inputs-leave-all, inputs-cause, inputs-come, release-meets, release-leaves, release-leaves-all, release-cause, release-come, puts-meet, puts-leave, puts-leave-all, puts-cause, puts-come, released-cause}
+use Rattle.job_run.proofs.Outcomes.{admitted, refused, ok-and, inputs-meet, inputs-leave, inputs-leave-all, inputs-cause, inputs-come, job-cause, stop-meets, stop-leaves, stop-leaves-all, stop-cause, stop-come, puts-meet, puts-leave, puts-leave-all, puts-cause, puts-come, released-cause}
 use Rattle.job_run.proofs.Settling.{release-is}
-use Rattle.job_run.proofs.running.release.Goals as goal
+use Rattle.job_run.proofs.running.run_job.Goals as goal
+
+-- ---- what stopped the inputs
 
 pub returns-in_err-settled-clause-told : goal.returns-in_err-settled-clause-told
 returns-in_err-settled-clause-told g c =
@@ -40,38 +41,77 @@ returns-in_err-settled-clause-came_to g c =
     let p = err_from_is_err_and c.from_residual.result c.from_residual.ensures.1 in
     rw (p.1, p.2) (inputs-come c.in_err-settled.field-0.0 _ fs (g.S.Shelf.state c.read_settled.new.shelf) (c.in_err-settled.ensures.came_to fs told))
 
-pub returns-in_err-planned-clause-told : goal.returns-in_err-planned-clause-told
-returns-in_err-planned-clause-told g c =
+-- ---- what is wrong with the job
+
+pub returns-in_err-check_job-clause-told : goal.returns-in_err-check_job-clause-told
+returns-in_err-check_job-clause-told g c =
     λ fs told.
-    let p = err_from_is_err_and c.from_residual-in_err-planned.result c.from_residual-in_err-planned.ensures.1 in
+    let p = err_from_is_err_and c.from_residual-in_err-check_job.result c.from_residual-in_err-check_job.ensures.1 in
     let read = ok-and (λ s. IsSettledOf s c.in_ok-settled.settled) (settled_of fs c.args.name.now) (c.in_ok-settled.ensures.told fs told) in
-    rw (p.1, p.2) (release-meets c.in_err-planned.field-0.0 fs c.args.name.now read.0 read.1 (c.in_err-planned.ensures.gives read.0 read.2))
+    rw (p.1, p.2) (refused fs c.args.name.now read.0 c.in_err-check_job.field-0.0 read.1 (c.in_err-check_job.ensures ∙ ap (λ (d : Described). job_fault c.args.name.now d.job) read.2.described))
 
-pub returns-in_err-planned-clause-left : goal.returns-in_err-planned-clause-left
-returns-in_err-planned-clause-left g c =
+pub returns-in_err-check_job-clause-left : goal.returns-in_err-check_job-clause-left
+returns-in_err-check_job-clause-left g c =
     λ fs told.
-    let p = err_from_is_err_and c.from_residual-in_err-planned.result c.from_residual-in_err-planned.ensures.1 in
-    rw (p.1, p.2) (release-leaves c.in_err-planned.field-0.0 _ _)
+    let p = err_from_is_err_and c.from_residual-in_err-check_job.result c.from_residual-in_err-check_job.ensures.1 in
+    rw (p.1, p.2) tt
 
-pub returns-in_err-planned-clause-untouched : goal.returns-in_err-planned-clause-untouched
-returns-in_err-planned-clause-untouched g c =
-    let p = err_from_is_err_and c.from_residual-in_err-planned.result c.from_residual-in_err-planned.ensures.1 in
-    rw (p.1, p.2) (release-leaves-all c.in_err-planned.field-0.0 _)
+pub returns-in_err-check_job-clause-untouched : goal.returns-in_err-check_job-clause-untouched
+returns-in_err-check_job-clause-untouched g c =
+    let p = err_from_is_err_and c.from_residual-in_err-check_job.result c.from_residual-in_err-check_job.ensures.1 in
+    rw (p.1, p.2) refl
 
-pub returns-in_err-planned-clause-cause : goal.returns-in_err-planned-clause-cause
-returns-in_err-planned-clause-cause g c =
-    let p = err_from_is_err_and c.from_residual-in_err-planned.result c.from_residual-in_err-planned.ensures.1 in
-    rw (p.1, p.2) (release-cause c.in_err-planned.field-0.0 _ _ _)
+pub returns-in_err-check_job-clause-cause : goal.returns-in_err-check_job-clause-cause
+returns-in_err-check_job-clause-cause g c =
+    let p = err_from_is_err_and c.from_residual-in_err-check_job.result c.from_residual-in_err-check_job.ensures.1 in
+    rw (p.1, p.2) (job-cause c.args.name.now c.in_ok-settled.settled.described.job c.in_err-check_job.field-0.0 _ _ _ c.in_err-check_job.ensures)
 
-pub returns-in_err-planned-clause-came_to : goal.returns-in_err-planned-clause-came_to
-returns-in_err-planned-clause-came_to g c =
+pub returns-in_err-check_job-clause-came_to : goal.returns-in_err-check_job-clause-came_to
+returns-in_err-check_job-clause-came_to g c =
     λ fs told.
-    let p = err_from_is_err_and c.from_residual-in_err-planned.result c.from_residual-in_err-planned.ensures.1 in
-    rw (p.1, p.2) (release-come c.in_err-planned.field-0.0 _ fs (g.S.Shelf.state c.read_settled.new.shelf))
+    let p = err_from_is_err_and c.from_residual-in_err-check_job.result c.from_residual-in_err-check_job.ensures.1 in
+    rw (p.1, p.2) (λ f is. absurd cc)
+
+-- ---- what stopped the release
+
+pub returns-in_err-release-clause-told : goal.returns-in_err-release-clause-told
+returns-in_err-release-clause-told g c =
+    λ fs told.
+    let p = err_from_is_err_and c.from_residual-in_err-release.result c.from_residual-in_err-release.ensures.1 in
+    let read = ok-and (λ s. IsSettledOf s c.in_ok-settled.settled) (settled_of fs c.args.name.now) (c.in_ok-settled.ensures.told fs told) in
+    rw (p.1, p.2) (stop-meets c.in_err-release.field-0.0 fs c.args.name.now read.0
+    (admitted fs c.args.name.now read.0 read.1 (c.in_ok-check_job.ensures ∙ ap (λ (d : Described). job_fault c.args.name.now d.job) read.2.described)) (c.in_err-release.ensures.comes read.0 read.2))
+
+pub returns-in_err-release-clause-left : goal.returns-in_err-release-clause-left
+returns-in_err-release-clause-left g c =
+    λ fs told.
+    let p = err_from_is_err_and c.from_residual-in_err-release.result c.from_residual-in_err-release.ensures.1 in
+    let some = c.in_ok-settled.ensures.settled in
+    rw (p.1, p.2) (stop-leaves c.in_err-release.field-0.0 some.0 _ _ (c.in_err-release.ensures.comes some.0 some.1))
+
+pub returns-in_err-release-clause-untouched : goal.returns-in_err-release-clause-untouched
+returns-in_err-release-clause-untouched g c =
+    let p = err_from_is_err_and c.from_residual-in_err-release.result c.from_residual-in_err-release.ensures.1 in
+    rw (p.1, p.2) (stop-leaves-all c.in_err-release.field-0.0 _)
+
+pub returns-in_err-release-clause-cause : goal.returns-in_err-release-clause-cause
+returns-in_err-release-clause-cause g c =
+    let p = err_from_is_err_and c.from_residual-in_err-release.result c.from_residual-in_err-release.ensures.1 in
+    let some = c.in_ok-settled.ensures.settled in
+    rw (p.1, p.2) (stop-cause c.in_err-release.field-0.0 some.0 _ _ _ (c.in_err-release.ensures.comes some.0 some.1))
+
+pub returns-in_err-release-clause-came_to : goal.returns-in_err-release-clause-came_to
+returns-in_err-release-clause-came_to g c =
+    λ fs told.
+    let p = err_from_is_err_and c.from_residual-in_err-release.result c.from_residual-in_err-release.ensures.1 in
+    let some = c.in_ok-settled.ensures.settled in
+    rw (p.1, p.2) (stop-come c.in_err-release.field-0.0 some.0 _ fs (g.S.Shelf.state c.read_settled.new.shelf) (c.in_err-release.ensures.comes some.0 some.1))
+
+-- ---- the puts
 
 pub put_files-requires : goal.put_files-requires
 put_files-requires g c =
-    let many : length c.in_ok-planned.planned.puts ≡ 1 + length c.in_ok-settled.settled.described.job.tables = c.in_ok-planned.ensures.some in
+    let many : length c.in_ok-release.release.puts ≡ 1 + length c.in_ok-settled.settled.described.job.tables = c.in_ok-release.ensures.some in
     subst (λ (puts : List Put). 0 < length puts) (sym c.as_slice.ensures) (omega (arith, many))
 
 pub returns-in_err-put_files-clause-told : goal.returns-in_err-put_files-clause-told
@@ -79,7 +119,7 @@ returns-in_err-put_files-clause-told g c =
     λ fs told.
     let p = err_from_is_err_and c.from_residual-in_err-put_files.result c.from_residual-in_err-put_files.ensures.1 in
     let read = ok-and (λ s. IsSettledOf s c.in_ok-settled.settled) (settled_of fs c.args.name.now) (c.in_ok-settled.ensures.told fs told) in
-    rw (p.1, p.2) (puts-meet c.in_err-put_files.field-0.0 _ c.in_ok-planned.planned (outcome-settled fs c.args.name.now read.0 read.1 ∙ c.in_ok-planned.ensures.gives read.0 read.2))
+    rw (p.1, p.2) (puts-meet c.in_err-put_files.field-0.0 _ read.0 (admitted fs c.args.name.now read.0 read.1 (c.in_ok-check_job.ensures ∙ ap (λ (d : Described). job_fault c.args.name.now d.job) read.2.described)))
 
 pub returns-in_err-put_files-clause-left : goal.returns-in_err-put_files-clause-left
 returns-in_err-put_files-clause-left g c =
@@ -87,7 +127,8 @@ returns-in_err-put_files-clause-left g c =
     let p = err_from_is_err_and c.from_residual-in_err-put_files.result c.from_residual-in_err-put_files.ensures.1 in
     let read = ok-and (λ s. IsSettledOf s c.in_ok-settled.settled) (settled_of fs c.args.name.now) (c.in_ok-settled.ensures.told fs told) in
     rw (p.1, p.2)
-    (puts-leave c.in_err-put_files.field-0.0 _ c.in_ok-planned.planned _ _ (outcome-settled fs c.args.name.now read.0 read.1 ∙ c.in_ok-planned.ensures.gives read.0 read.2)
+    (puts-leave c.in_err-put_files.field-0.0 _ read.0 c.in_ok-release.release _ _ (admitted fs c.args.name.now read.0 read.1 (c.in_ok-check_job.ensures ∙ ap (λ (d : Described). job_fault c.args.name.now d.job) read.2.described))
+    (c.in_ok-release.ensures.comes read.0 read.2)
     (subst (λ (puts : List Put). (f : FileRef) → IsErrOf {T = Unit {0}} (Err c.in_err-put_files.field-0.0) (stop.WriteFault f) → OneInPart puts f (g.T.Tray.state c.args.tray.now) (g.T.Tray.state c.put_files.new.tray)) c.as_slice.ensures c.in_err-put_files.ensures.part)
     (subst (λ (puts : List Put). IsErrOf {T = Unit {0}} (Err c.in_err-put_files.field-0.0) stop.Memory → SomeWhole puts (g.T.Tray.state c.args.tray.now) (g.T.Tray.state c.put_files.new.tray)) c.as_slice.ensures c.in_err-put_files.ensures.memory))
 
@@ -107,24 +148,22 @@ returns-in_err-put_files-clause-came_to g c =
     let p = err_from_is_err_and c.from_residual-in_err-put_files.result c.from_residual-in_err-put_files.ensures.1 in
     rw (p.1, p.2) (puts-come c.in_err-put_files.field-0.0 _ fs (g.S.Shelf.state c.read_settled.new.shelf))
 
+-- ---- a release
+
 pub returns-clause-told : goal.returns-clause-told
 returns-clause-told g c =
     λ fs told.
     let read = ok-and (λ s. IsSettledOf s c.in_ok-settled.settled) (settled_of fs c.args.name.now) (c.in_ok-settled.ensures.told fs told) in
-    rw (outcome-settled fs c.args.name.now read.0 read.1 ∙ c.in_ok-planned.ensures.gives read.0 read.2) refl
+    rw (admitted fs c.args.name.now read.0 read.1 (c.in_ok-check_job.ensures ∙ ap (λ (d : Described). job_fault c.args.name.now d.job) read.2.described)) refl
 
 pub returns-clause-left : goal.returns-clause-left
-returns-clause-left g c =
-    λ fs told.
-    let read = ok-and (λ s. IsSettledOf s c.in_ok-settled.settled) (settled_of fs c.args.name.now) (c.in_ok-settled.ensures.told fs told) in
-    rw (outcome-settled fs c.args.name.now read.0 read.1 ∙ c.in_ok-planned.ensures.gives read.0 read.2)
-    (subst (λ (puts : List Put). AllWhole puts (g.T.Tray.state c.args.tray.now) (g.T.Tray.state c.put_files.new.tray)) c.as_slice.ensures c.in_ok-put_files.ensures.whole)
+returns-clause-left g c = λ fs told. tt
 
 pub returns-clause-some : goal.returns-clause-some
 returns-clause-some g c =
-    let puts = c.in_ok-planned.planned.puts in
+    let puts = c.in_ok-release.release.puts in
     let job = c.in_ok-settled.ensures.ready.sound.job in
-    let many : length puts ≡ 1 + length c.in_ok-settled.settled.described.job.tables = c.in_ok-planned.ensures.some in
+    let many : length puts ≡ 1 + length c.in_ok-settled.settled.described.job.tables = c.in_ok-release.ensures.some in
     let whole = subst (λ (puts : List Put). AllWhole puts (g.T.Tray.state c.args.tray.now) (g.T.Tray.state c.put_files.new.tray)) c.as_slice.ensures c.in_ok-put_files.ensures.whole in (
       length puts,
       omega (arith, many, job.tables.some),
@@ -137,11 +176,11 @@ returns-clause-released g c =
     λ fs told.
     let read = ok-and (λ s. IsSettledOf s c.in_ok-settled.settled) (settled_of fs c.args.name.now) (c.in_ok-settled.ensures.told fs told) in
     let whole = subst (λ (puts : List Put). AllWhole puts (g.T.Tray.state c.args.tray.now) (g.T.Tray.state c.put_files.new.tray)) c.as_slice.ensures c.in_ok-put_files.ensures.whole in
-    release-is fs c.args.name.now read.0 c.in_ok-planned.planned _ _ read.1 (c.in_ok-planned.ensures.gives read.0 read.2) whole
-    (c.in_ok-planned.ensures.some ∙ ap (λ (d : Described). 1 + length d.job.tables) read.2.described)
+    release-is fs c.args.name.now read.0 c.in_ok-release.release _ _ (admitted fs c.args.name.now read.0 read.1 (c.in_ok-check_job.ensures ∙ ap (λ (d : Described). job_fault c.args.name.now d.job) read.2.described))
+    (c.in_ok-release.ensures.comes read.0 read.2) whole
 
 pub returns-clause-cause : goal.returns-clause-cause
-returns-clause-cause g c = released-cause c.in_ok-planned.planned.summary _ _ _ _
+returns-clause-cause g c = released-cause c.in_ok-release.release.summary _ _ _ _
 
 pub returns-clause-came_to : goal.returns-clause-came_to
 returns-clause-came_to g c = λ fs told f is. absurd cc
