@@ -1,0 +1,4 @@
+pub mod Farthest
+pub mod Intervals
+pub mod IntervalFaults
+pub mod IntervalTexts
