@@ -4,7 +4,7 @@ use Prim.Native.Nat.{◌∣◌}
 use Rattle.std.specs.Int.{IsGcd}
 use Rattle.std.proofs.Math.Nat.{div-add-mod, mul-add, mul_assoc, mul_comm, dvd-mul_left, dvd-mul_right_of_dvd, dvd-add_iff_right, dvd-sub_iff_right, dvd_of_mul-dvd-mul_left, mul-dvd-mul_left, mul-div_cancel', one-dvd, pos_of_dvd_of_pos}
 use Rattle.std.proofs.lemmas.Nat.{mul-le}
-use Rattle.cell_intervals.specs.Farthest.{IsLoweredTo}
+use Rattle.cell_intervals.specs.Lowering.{IsLoweredTo}
 
 -- what divides multiples of two numbers divides the same multiple of their remainder
 pub rest_divides : (d times a b : ℕ) → d ∣ times * a → d ∣ times * b → d ∣ times * (a % b)

@@ -1,3 +1,4 @@
 pub mod Divisors
 pub mod Reaching
 pub mod Bounding
+pub mod OneFile

@@ -28,7 +28,8 @@ use Rattle.interval_audit.specs.Answers.{ReachesTarget, StopsShort}
 use Rattle.interval_audit.specs.Ends.{IsEndQuestion}
 use Rattle.interval_audit.specs.QuestionLaws.{IsBest}
 use Rattle.cell_intervals.specs.declared.ratio.Ratio.{Ratio}
-use Rattle.cell_intervals.specs.Farthest.{IsFarthest, IsLoweredTo, IsOpenTo}
+use Rattle.cell_intervals.specs.Farthest.{IsFarthest, IsOpenTo}
+use Rattle.cell_intervals.specs.Lowering.{IsLoweredTo}
 
 -- ---- whole numbers
 

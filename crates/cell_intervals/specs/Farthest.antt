@@ -1,5 +1,5 @@
 -- How far worlds take a hidden cell from its truth to a side (handbook, feasibility interval; 2^110 as the farthest that is asked: own).
-use Rattle.std.specs.Prelude.{◌≡◌, ◌≤◌, ◌<◌, ◌*◌, ◌^◌, ℕ, Bool, List, pos, ℤ, ◌*ℤ◌}
+use Rattle.std.specs.Prelude.{◌≡◌, ◌<◌, ◌*◌, ◌^◌, ℕ, Bool, List, pos, ℤ, ◌*ℤ◌}
 use Rattle.sdc_base.specs.declared.cell.Cell.{Cell}
 use Rattle.sdc_base.specs.declared.side.Side.{Side}
 use Rattle.sdc_base.specs.declared.system.System.{System}
@@ -7,10 +7,6 @@ use Rattle.sdc_base.specs.Systems.{Numbers}
 use Rattle.sdc_base.specs.Worlds.{IsWorld, toward}
 use Rattle.interval_audit.specs.QuestionLaws.{IsBest}
 use Rattle.cell_intervals.specs.declared.ratio.Ratio.{Ratio}
-
--- a fraction is another one, both divided by one number
-abbrev pub IsLoweredTo : ℕ → ℕ → ℕ → ℕ → Type 0
-IsLoweredTo num den lower_num lower_den = (by : ℕ) × (1 ≤ by) × (num ≡ by * lower_num) × (den ≡ by * lower_den)
 
 -- the farthest that a world takes the cell to the side: less than 2^110, and over a denominator below 2^17
 pub record IsFarthest (system : System) (cells : List Cell) (flags : List Bool) (number : ℕ) (side : Side) (far : Ratio) : Type 0 where

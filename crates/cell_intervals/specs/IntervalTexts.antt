@@ -6,8 +6,12 @@ use Rattle.cell_intervals.specs.declared.interval.UpperEnd.{UpperEnd}
 use Rattle.cell_intervals.specs.declared.interval.UpperEnd.TheVariants.{At, Open}
 
 -- a fraction in digits: a whole number, or what is divided, a slash and what it is divided by
+abbrev pub fraction_text : ℕ → ℕ → List ℕ
+fraction_text num den = if den == 1 then decimal num else decimal num ++ codes "/" ++ decimal den
+
+-- a value in digits
 abbrev pub ratio_text : Ratio → List ℕ
-ratio_text value = if value.den == 1 then decimal value.num else decimal value.num ++ codes "/" ++ decimal value.den
+ratio_text value = fraction_text value.num value.den
 
 -- an upper end: its value, or the word `open`
 abbrev pub upper_text : UpperEnd → List ℕ

@@ -4,6 +4,7 @@
 mod ends;
 mod interval;
 mod intervals;
+mod laws;
 mod ratio;
 #[cfg(test)]
 mod tests;
@@ -11,5 +12,6 @@ mod texts;
 
 pub use interval::{CellInterval, UpperEnd};
 pub use intervals::intervals_of;
+pub use laws::file_is_one;
 pub use ratio::Ratio;
 pub use texts::interval_text;

@@ -1,7 +1,7 @@
 ghost use Rattle.std.specs.Prelude.{◌≡◌, ◌≤◌, ◌<◌, ◌+◌, ◌-◌, ◌*◌, ◌^◌, ℕ};
 ghost use Prim.Native.Nat.{◌∣◌};
 ghost use Rattle.std.specs.Int.{IsGcd};
-ghost use Rattle.cell_intervals.specs.Farthest.{IsLoweredTo};
+ghost use Rattle.cell_intervals.specs.Lowering.{IsLoweredTo};
 
 /// A number of units from 0, as a fraction in lowest terms.
 #[derive(Clone, Copy)]
