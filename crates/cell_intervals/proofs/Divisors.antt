@@ -1,15 +1,14 @@
 -- Numbers that divide others, and fractions in lowest terms.
-use Rattle.std.proofs.Common.{◌≡◌, ℕ, ◌+◌, ◌-◌, ◌*◌, ◌/◌, ◌%◌, ◌<◌, ◌≤◌, ◌^◌, arith, ap, sym, subst, ◌∙◌}
+use Rattle.std.proofs.Common.{◌≡◌, ℕ, ◌+◌, ◌-◌, ◌*◌, ◌/◌, ◌%◌, ◌<◌, ◌≤◌, arith, ap, sym, subst, ◌∙◌}
 use Prim.Native.Nat.{◌∣◌}
 use Rattle.std.specs.Int.{IsGcd}
 use Rattle.std.proofs.Math.Nat.{div-add-mod, mul-add, mul_assoc, mul_comm, dvd-mul_left, dvd-mul_right_of_dvd, dvd-add_iff_right, dvd-sub_iff_right, dvd_of_mul-dvd-mul_left, mul-dvd-mul_left, mul-div_cancel', one-dvd, pos_of_dvd_of_pos}
-use Rattle.std.proofs.lemmas.Nat.{mul-le}
 use Rattle.cell_intervals.specs.Lowering.{IsLoweredTo}
 
 -- what divides multiples of two numbers divides the same multiple of their remainder
 pub rest_divides : (d times a b : ℕ) → d ∣ times * a → d ∣ times * b → d ∣ times * (a % b)
 rest_divides d times a b ha hb =
-    let front : d ∣ times * b * (a / b) = dvd-mul_right_of_dvd hb (a / b) in
+    let front : d ∣ times * b * (a / b) = dvd-mul_right_of_dvd d hb (a / b) in
     let whole : times * a ≡ times * b * (a / b) + times * (a % b) =
     ap (λ n. times * n) (sym (div-add-mod a b)) ∙ mul-add times (b * (a / b)) (a % b) ∙ ap (λ n. n + times * (a % b)) (sym (mul_assoc times b (a / b))) in
     (dvd-add_iff_right d front).1 (subst (λ n. d ∣ n) whole ha)
@@ -48,16 +47,11 @@ less_is_lowest whole num den within gcd =
     (one-dvd (whole * den - num), one-dvd den, λ d of_less of_den. gcd.2 d ((dvd-sub_iff_right d within (dvd-mul_left_of d den whole of_den)).0 of_less) of_den)
   where
     dvd-mul_left_of : (d den whole : ℕ) → d ∣ den → d ∣ whole * den
-    dvd-mul_left_of d den whole h = subst (λ n. d ∣ n) (mul_comm den whole) (dvd-mul_right_of_dvd h whole)
+    dvd-mul_left_of d den whole h = subst (λ n. d ∣ n) (mul_comm den whole) (dvd-mul_right_of_dvd d h whole)
 
 pub more_is_lowest : (whole num den : ℕ) → IsGcd num den 1 → IsGcd (whole * den + num) den 1
 more_is_lowest whole num den gcd =
     (one-dvd (whole * den + num), one-dvd den, λ d of_more of_den. gcd.2 d ((dvd-add_iff_right d (dvd-mul_left_of d den whole of_den)).1 of_more) of_den)
   where
     dvd-mul_left_of : (d den whole : ℕ) → d ∣ den → d ∣ whole * den
-    dvd-mul_left_of d den whole h = subst (λ n. d ∣ n) (mul_comm den whole) (dvd-mul_right_of_dvd h whole)
-
--- ---- widths
-
-pub whole_fits : (whole den : ℕ) → whole ≤ 10 ^ 29 → den < 2 ^ 17 → whole * den ≤ 10 ^ 29 * 2 ^ 17
-whole_fits whole den few narrow = mul-le whole den (10 ^ 29) (2 ^ 17) few (omega (arith, narrow))
+    dvd-mul_left_of d den whole h = subst (λ n. d ∣ n) (mul_comm den whole) (dvd-mul_right_of_dvd d h whole)

@@ -37,7 +37,7 @@ coprime_within (suc most) a (suc b) d times within alone of_a of_b =
     coprime_within most (suc b) (a % suc b) d times (omega (arith, less, within)) rest of_b (rest_divides d times a (suc b) of_a of_b)
   where
     rest : (k : ℕ) → k ∣ suc b → k ∣ a % suc b → k ∣ 1
-    rest k of_b of_rest = alone k (subst (λ n. k ∣ n) (div-add-mod a (suc b)) (dvd-add k (dvd-mul_right_of_dvd of_b (a / suc b)) of_rest)) of_b
+    rest k of_b of_rest = alone k (subst (λ n. k ∣ n) (div-add-mod a (suc b)) (dvd-add k (dvd-mul_right_of_dvd k of_b (a / suc b)) of_rest)) of_b
 
 den_divides : (n d m e : ℕ) → IsGcd n d 1 → n * e ≡ m * d → d ∣ e
 den_divides n d m e lowest same =
@@ -95,14 +95,14 @@ greatest_text system cells flags number known one other first second =
 
 -- an upper end is not open where there is a greatest value
 never_both : (system : System) (cells : List Cell) (flags : List Bool) (number : ℕ) (known : Cell) (high : Ratio) → IsGreatestValue system cells flags number known high → IsUpperEnd system cells flags number known Open → ⊥
-never_both system cells flags number known high greatest open =
-    let w : ℤ = open.0 in
+never_both system cells flags number known high greatest lies =
+    let w : ℤ = lies.0 in
     let e : ℤ = pos high.den in
     let x : ℤ = pos high.num in
     let t : ℤ = known.truth +ℤ pos (2 ^ 110) in
-    let bound : (value_over w known (open.1 number) *ℤ e) ≤ℤ (x *ℤ w) = greatest.greatest w open.1 open.2 in
-    let value : value_over w known (open.1 number) *ℤ e ≡ w *ℤ (e *ℤ t) = ap (λ z. z *ℤ e) open.3 ∙ assoc w t e ∙ ap (λ z. w *ℤ z) (*ℤ_comm t e) in
-    let more : (w *ℤ x) <ℤ (w *ℤ (e *ℤ t)) = times_more w x (e *ℤ t) open.2.positive greatest.short in
+    let bound : (value_over w known (lies.1 number) *ℤ e) ≤ℤ (x *ℤ w) = greatest.greatest w lies.1 lies.2 in
+    let value : value_over w known (lies.1 number) *ℤ e ≡ w *ℤ (e *ℤ t) = ap (λ z. z *ℤ e) lies.3 ∙ assoc w t e ∙ ap (λ z. w *ℤ z) (*ℤ_comm t e) in
+    let more : (w *ℤ x) <ℤ (w *ℤ (e *ℤ t)) = times_more w x (e *ℤ t) lies.2.positive greatest.short in
     omega (arith, ints, bound, value, more, *ℤ_comm x w)
 
 upper_same : (system : System) (cells : List Cell) (flags : List Bool) (number : ℕ) (known : Cell) (one other : UpperEnd) → IsUpperEnd system cells flags number known one → IsUpperEnd system cells flags number known other → upper_text one ≡ upper_text other

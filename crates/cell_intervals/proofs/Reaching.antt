@@ -4,7 +4,7 @@ use Prim.Native.Nat.{◌∣◌}
 use Rattle.std.specs.Int.{w128}
 use Rattle.std.proofs.Math.IntN.{*ℤ_comm}
 use Rattle.std.proofs.Math.Nat.{dvd-mul_left, mul_assoc}
-use Rattle.std.proofs.lemmas.Int.{ints, unsigned_abs-mul}
+use Rattle.std.proofs.lemmas.Int.{ints, unsigned_abs-mul, by_lt_z}
 use Rattle.std.proofs.lemmas.Nat.Gcd.{le_of_dvd}
 use Rattle.sdc_base.specs.declared.cell.Cell.{Cell}
 use Rattle.sdc_base.specs.declared.relation.Relation.{Relation}
@@ -16,7 +16,7 @@ use Rattle.sdc_base.specs.Refutations.{bound_sum}
 use Rattle.sdc_base.specs.Systems.{form, Numbers}
 use Rattle.sdc_base.specs.Totals.{sum_of}
 use Rattle.sdc_base.specs.Worlds.{IsWorld, toward}
-use Rattle.sdc_base.proofs.WholeNumbers.{assoc, below_from_times, swap_times, times_up}
+use Rattle.sdc_base.proofs.WholeNumbers.{assoc, below_from_times, swap_times, times_more}
 use Rattle.sdc_base.proofs.TotalLemmas.{sum_of-cons}
 use Rattle.worlds.specs.declared.multipliers.Multipliers.{Multipliers}
 use Rattle.worlds.specs.declared.world.World.{World}
@@ -39,13 +39,7 @@ size_is (negsuc n) from = absurd (omega (arith, ints, from))
 
 -- a factor above 0 is cancelled
 pub cancel_le : (k a b : ℤ) → pos 1 ≤ℤ k → (k *ℤ a) ≤ℤ (k *ℤ b) → a ≤ℤ b
-cancel_le k a b up h =
-    let step : k *ℤ (b +ℤ pos 1) ≡ k *ℤ b +ℤ k = distrib_one k b in
-    let below : (k *ℤ a) <ℤ (k *ℤ (b +ℤ pos 1)) = omega (arith, ints, up, h, step) in
-    omega (arith, ints, below_from_times k a (b +ℤ pos 1) up below)
-  where
-    distrib_one : (k b : ℤ) → k *ℤ (b +ℤ pos 1) ≡ k *ℤ b +ℤ k
-    distrib_one k b = omega (arith, ints, *ℤ_comm k (b +ℤ pos 1), *ℤ_comm k b)
+cancel_le k a b up h = by_lt_z b a (λ less. let more : (k *ℤ b) <ℤ (k *ℤ a) = times_more k b a up less in absurd (omega (arith, ints, more, h))) (λ r. r)
 
 pub cancel_same : (k a b : ℤ) → pos 1 ≤ℤ k → k *ℤ a ≡ k *ℤ b → a ≡ b
 cancel_same k a b up h =
@@ -126,24 +120,23 @@ short_lowered num den by n d up num_is den_is below =
 -- ---- the two answers
 
 -- a question that stops short
-pub stops_far : (system : System) (cells : List Cell) (flags : List Bool) (number : ℕ) (side : Side) (question : Question) (best : Fraction) (world : World) (multipliers : Multipliers) (far : Ratio) → IsEndQuestion number side question
-    → StopsShort system cells flags question best world multipliers → IsLoweredTo (unsigned_abs best.num) (unsigned_abs best.den) far.num far.den → ((times : ℕ) → unsigned_abs best.den ∣ times * unsigned_abs best.num → far.den ∣ times)
+pub stops_far : (system : System) (cells : List Cell) (flags : List Bool) (number : ℕ) (side : Side) (question : Question) (best : Fraction) (world : World) (multipliers : Multipliers) (num den : ℕ) (far : Ratio) → IsEndQuestion number side question
+    → StopsShort system cells flags question best world multipliers → num ≡ unsigned_abs best.num → den ≡ unsigned_abs best.den → IsLoweredTo num den far.num far.den → ((times : ℕ) → den ∣ times * num → far.den ∣ times)
     → IsFarthest system cells flags number side far
-stops_far system cells flags number side question best world multipliers far asks stops lowered least =
-    let num : ℕ = unsigned_abs best.num in
-    let den : ℕ = unsigned_abs best.den in
+stops_far system cells flags number side question best world multipliers num den far asks stops num_size den_size lowered least =
     let own : IsBest system cells flags number side best.num best.den = subst (λ s. IsBest system cells flags number s best.num best.den) asks.side_is (subst (λ c. IsBest system cells flags c question.side best.num best.den) asks.cell_is stops.is_best) in
     let den_up : pos 1 ≤ℤ best.den = subst (λ z. pos 1 ≤ℤ z) (sym stops.den) stops.is_world.is_world.positive in
-    let num_is : best.num ≡ pos num = size_is best.num (best_from_zero system cells flags number side best.num best.den own) in
-    let den_is : best.den ≡ pos den = size_is best.den (omega (arith, ints, den_up)) in
+    let num_is : best.num ≡ pos num = size_is best.num (best_from_zero system cells flags number side best.num best.den own) ∙ ap pos (sym num_size) in
+    let den_is : best.den ≡ pos den = size_is best.den (omega (arith, ints, den_up)) ∙ ap pos (sym den_size) in
     let whole : IsBest system cells flags number side (pos num) (pos den) = subst (λ z. IsBest system cells flags number side (pos num) z) den_is (subst (λ z. IsBest system cells flags number side z best.den) num_is own) in
     let target : best.num <ℤ (best.den *ℤ pos (2 ^ 110)) = subst (λ z. best.num <ℤ (best.den *ℤ z)) asks.target_is stops.below in
     let below : pos num <ℤ (pos den *ℤ pos (2 ^ 110)) = subst (λ z. pos num <ℤ (z *ℤ pos (2 ^ 110))) den_is (subst (λ z. z <ℤ (best.den *ℤ pos (2 ^ 110))) num_is target) in
     let sum : ℤ = bound_sum cells flags (coefficient (added system question.cell question.side multipliers)) in
+    let equal : sum *ℤ pos den ≡ multipliers.den *ℤ pos num = ap (λ z. sum *ℤ z) (sym den_is) ∙ stops.equal ∙ ap (λ z. multipliers.den *ℤ z) num_is in
     record {
       is_best = best_lowered system cells flags number side num den lowered.0 far.num far.den lowered.1 lowered.2 lowered.3 whole;
       short = short_lowered num den lowered.0 far.num far.den lowered.1 lowered.2 lowered.3 below;
-      narrow = narrow_divisor multipliers.den sum best.num best.den far.den stops.refutes.q_positive (subst (λ z. FitsSigned w128 (multipliers.den *ℤ z)) asks.target_is stops.product_held) stops.equal least;
+      narrow = narrow_divisor multipliers.den sum (pos num) (pos den) far.den stops.refutes.q_positive (subst (λ z. FitsSigned w128 (multipliers.den *ℤ z)) asks.target_is stops.product_held) equal least;
     }
 
 -- a question that reaches its target

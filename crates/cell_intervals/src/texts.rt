@@ -1,4 +1,4 @@
-ghost use Rattle.std.specs.Prelude.{◌≡◌, ◌++◌, IfOk, OnOk, flat_map};
+ghost use Rattle.std.specs.Prelude.{◌≡◌, ◌++◌, IfOk, OnOk, string_bytes};
 ghost use Rattle.cell_intervals.specs.IntervalTexts as meant;
 
 use crate::interval::{CellInterval, UpperEnd};
@@ -45,7 +45,7 @@ fn add_line(alloc: Global, text: &mut Items<u8>, one: &CellInterval) -> Result<(
 
 // An upper end.
 fn upper_text(alloc: Global, high: UpperEnd) -> Result<String, Memory>
-    ensures { IfOk result (λ text. text ≡ meant.upper_text high) }
+    ensures { IfOk result (λ text. string_bytes text ≡ meant.upper_text high) }
 {
     match high {
         UpperEnd::At(value) => ratio_text(alloc, value),
@@ -55,7 +55,7 @@ fn upper_text(alloc: Global, high: UpperEnd) -> Result<String, Memory>
 
 // A fraction in digits.
 fn ratio_text(alloc: Global, value: Ratio) -> Result<String, Memory>
-    ensures { IfOk result (λ text. text ≡ meant.ratio_text value) }
+    ensures { IfOk result (λ text. string_bytes text ≡ meant.ratio_text value) }
 {
     let num = value.num;
     let den = value.den;
