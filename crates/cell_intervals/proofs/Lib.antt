@@ -2,3 +2,4 @@ pub mod Divisors
 pub mod Reaching
 pub mod Bounding
 pub mod OneFile
+pub mod Listing

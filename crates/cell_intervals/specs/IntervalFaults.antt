@@ -10,16 +10,20 @@ use Rattle.interval_audit.specs.declared.answer.AskFault.{AskFault}
 use Rattle.interval_audit.specs.declared.answer.AskFault.TheVariants as fault
 use Rattle.interval_audit.specs.Ends.{IsTrueEnd, IsWalkEnd, IsIntervalCause}
 
--- the question how far the cell lies below its truth has ended with an answer, and so has the one how far above
-abbrev pub HasBothEnds : System → List Cell → List Bool → ℕ → Type 0
-HasBothEnds system cells flags cell =
-    (below : Answer) × (above : Answer)
-    × IsTrueEnd system cells flags cell Below below × IsWalkEnd system cells flags cell Below below
-    × IsTrueEnd system cells flags cell Above above × IsWalkEnd system cells flags cell Above above
+-- both questions about the cell have ended with answers: how far it lies below its truth, and how far above
+pub record HasBothEnds (system : System) (cells : List Cell) (flags : List Bool) (cell : ℕ) : Type 0 where
+  pub below : Answer
+  pub above : Answer
+  pub below_right : IsTrueEnd system cells flags cell Below below
+  pub below_read : IsWalkEnd system cells flags cell Below below
+  pub above_right : IsTrueEnd system cells flags cell Above above
+  pub above_read : IsWalkEnd system cells flags cell Above above
 
 -- the component of the cell has at most 1,500 hidden cells
-abbrev pub HasSmallComponent : System → List Bool → ℕ → Type 0
-HasSmallComponent system flags cell = (group : Group) × IsComponentOf system.relations flags cell group × (length (members group system.cells) ≤ 1500)
+pub record HasSmallComponent (system : System) (flags : List Bool) (cell : ℕ) : Type 0 where
+  pub group : Group
+  pub is_component : IsComponentOf system.relations flags cell group
+  pub few : length (members group system.cells) ≤ 1500
 
 -- the fault is one of this hidden cell's two questions, and those of all hidden cells before it have ended with answers
 pub record IsFaultAt (system : System) (cells : List Cell) (flags : List Bool) (limit : ℕ) (fault : AskFault) (cell : ℕ) : Type 0 where
