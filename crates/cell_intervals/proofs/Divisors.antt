@@ -42,15 +42,15 @@ lower_is_least num den by times up gcd multiples divides =
 
 -- ---- a whole number less a fraction in lowest terms, and with it
 
-pub less_is_lowest : (whole num den : ℕ) → num ≤ whole * den → IsGcd num den 1 → IsGcd (whole * den - num) den 1
-less_is_lowest whole num den within gcd =
+pub minus_is_lowest : (whole num den : ℕ) → num ≤ whole * den → IsGcd num den 1 → IsGcd (whole * den - num) den 1
+minus_is_lowest whole num den within gcd =
     (one-dvd (whole * den - num), one-dvd den, λ d of_less of_den. gcd.2 d ((dvd-sub_iff_right d within (dvd-mul_left_of d den whole of_den)).0 of_less) of_den)
   where
     dvd-mul_left_of : (d den whole : ℕ) → d ∣ den → d ∣ whole * den
     dvd-mul_left_of d den whole h = subst (λ n. d ∣ n) (mul_comm den whole) (dvd-mul_right_of_dvd d h whole)
 
-pub more_is_lowest : (whole num den : ℕ) → IsGcd num den 1 → IsGcd (whole * den + num) den 1
-more_is_lowest whole num den gcd =
+pub plus_is_lowest : (whole num den : ℕ) → IsGcd num den 1 → IsGcd (whole * den + num) den 1
+plus_is_lowest whole num den gcd =
     (one-dvd (whole * den + num), one-dvd den, λ d of_more of_den. gcd.2 d ((dvd-add_iff_right d (dvd-mul_left_of d den whole of_den)).1 of_more) of_den)
   where
     dvd-mul_left_of : (d den whole : ℕ) → d ∣ den → d ∣ whole * den

@@ -3,3 +3,4 @@ pub mod Reaching
 pub mod Bounding
 pub mod OneFile
 pub mod Listing
+pub mod Components

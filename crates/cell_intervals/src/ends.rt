@@ -8,7 +8,7 @@ ghost use Rattle.cell_intervals.specs.Farthest.{IsFarthest, IsOpenTo};
 ghost use Rattle.cell_intervals.specs.Intervals.{IsIntervalOf, IsLeastValue, IsUpperEnd};
 
 use crate::interval::{CellInterval, UpperEnd};
-use crate::ratio::{Ratio, less, lowest_terms_of, more};
+use crate::ratio::{Ratio, lowest_terms_of, minus, plus};
 use interval_audit::{Answer, TwoEnds};
 use sdc_base::{Cell, Hidden, Side, System};
 
@@ -51,7 +51,7 @@ fn low_end(
     let Some(far) = farthest(system, cells, hidden, cell, Side::Below, below) else {
         unreachable!();
     };
-    less(truth, far)
+    minus(truth, far)
 }
 
 // The upper end of a cell's interval.
@@ -72,7 +72,7 @@ fn high_end(
     let Some(far) = farthest(system, cells, hidden, cell, Side::Above, above) else {
         return UpperEnd::Open;
     };
-    UpperEnd::At(more(truth, far))
+    UpperEnd::At(plus(truth, far))
 }
 
 // How far worlds take a cell to a side, in lowest terms, by the answer of its question; none where one takes it 2^110 there.

@@ -12,6 +12,6 @@ mod texts;
 
 pub use interval::{CellInterval, UpperEnd};
 pub use intervals::intervals_of;
-pub use laws::file_is_one;
+pub use laws::{file_is_one, size_is_large};
 pub use ratio::Ratio;
 pub use texts::interval_text;

@@ -14,7 +14,7 @@ pub struct Ratio {
     ghost lowest: { IsGcd num den 1 },
 }
 
-/// A fraction brought to lowest terms. Its denominator is the least by which the fraction is a fraction.
+/// A fraction brought to lowest terms. Whatever many of it are whole are so many times its denominator.
 pub(crate) fn lowest_terms_of(num: u128, den: u128) -> Ratio
     requires { 1 ≤ den }
     ensures same { IsLoweredTo num den result.num result.den }
@@ -43,7 +43,7 @@ fn gcd(one: u128, other: u128) -> u128
 }
 
 /// A whole number less a fraction that is at most it.
-pub(crate) fn less(whole: u128, part: Ratio) -> Ratio
+pub(crate) fn minus(whole: u128, part: Ratio) -> Ratio
     requires whole { whole ≤ 10 ^ 29 }
     requires narrow { part.den < 2 ^ 17 }
     requires within { part.num ≤ whole * part.den }
@@ -57,7 +57,7 @@ pub(crate) fn less(whole: u128, part: Ratio) -> Ratio
 }
 
 /// A whole number and a fraction.
-pub(crate) fn more(whole: u128, part: Ratio) -> Ratio
+pub(crate) fn plus(whole: u128, part: Ratio) -> Ratio
     requires whole { whole ≤ 10 ^ 29 }
     requires narrow { part.den < 2 ^ 17 }
     requires short { part.num < part.den * 2 ^ 110 }
