@@ -11,7 +11,7 @@ use Rattle.sdc_base.specs.Systems.{Numbers}
 use Rattle.sdc_base.specs.Worlds.{IsWorld, value_over}
 use Rattle.sdc_base.proofs.WholeNumbers.{assoc, distrib, distrib_right, minus_times, times_up}
 use Rattle.cell_intervals.specs.declared.interval.CellInterval.{CellInterval}
-use Rattle.cell_intervals.specs.declared.interval.UpperEnd.TheVariants.{At, Open}
+use Rattle.cell_intervals.specs.declared.interval.UpperEnd.TheVariants.{Open}
 use Rattle.cell_intervals.specs.declared.ratio.Ratio.{Ratio}
 use Rattle.cell_intervals.specs.Farthest.{IsFarthest, IsOpenTo}
 use Rattle.cell_intervals.specs.Intervals.{IsGreatestValue, IsIntervalOf, IsLeastValue, IsUpperEnd}
@@ -78,7 +78,9 @@ low_is_least system cells flags number known truth far low truth_is within num_i
     let spread : (w m : ℤ) → (w *ℤ known.truth +ℤ m) *ℤ e +ℤ neg_ℤ m *ℤ e ≡ v *ℤ w +ℤ n *ℤ w = (λ w m. low_spread w known.truth m e n v sum) in
     record {
       attained = (
-        best.attained_den, best.attained_moves, best.attained_world,
+        best.attained_den,
+        best.attained_moves,
+        best.attained_world,
         ap (λ z. value_over best.attained_den known (best.attained_moves number) *ℤ z) den_z ∙ omega (arith, ints, spread best.attained_den (best.attained_moves number), best.attained),
       );
       least = λ den moves world.
@@ -103,7 +105,9 @@ high_is_greatest system cells flags number known truth far high truth_is num_is 
     let short : v <ℤ (e *ℤ (known.truth +ℤ pos (2 ^ 110))) = omega (arith, ints, top, sum, *ℤ_comm e known.truth, farthest.short) in
     record {
       attained = (
-        best.attained_den, best.attained_moves, best.attained_world,
+        best.attained_den,
+        best.attained_moves,
+        best.attained_world,
         ap (λ z. value_over best.attained_den known (best.attained_moves number) *ℤ z) den_z ∙ omega (arith, ints, spread best.attained_den (best.attained_moves number), best.attained),
       );
       greatest = λ den moves world.

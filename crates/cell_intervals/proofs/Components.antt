@@ -11,7 +11,7 @@ use Rattle.interval_audit.specs.declared.answer.WidePlace.{WidePlace}
 use Rattle.interval_audit.specs.declared.question.Question.{Question}
 use Rattle.interval_audit.specs.Ends.{IsEndCause, IsEndQuestion, IsIntervalCause}
 use Rattle.interval_audit.specs.Groups.{Group, IsComponentOf, members}
-use Rattle.cell_intervals.specs.IntervalFaults.{HasSmallComponent, IsFaultAt}
+use Rattle.cell_intervals.specs.IntervalFaults.{HasSmallComponent}
 use Rattle.cell_intervals.specs.Laws.{SizeIsLarge}
 
 same_tests : (a b : Bool) → ((a ≡ true) ↔ (b ≡ true)) → a ≡ b

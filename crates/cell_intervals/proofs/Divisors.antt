@@ -1,5 +1,5 @@
 -- Numbers that divide others, and fractions in lowest terms.
-use Rattle.std.proofs.Common.{◌≡◌, ℕ, ◌+◌, ◌-◌, ◌*◌, ◌/◌, ◌%◌, ◌<◌, ◌≤◌, arith, ap, sym, subst, ◌∙◌}
+use Rattle.std.proofs.Common.{◌≡◌, ℕ, ◌+◌, ◌-◌, ◌*◌, ◌/◌, ◌%◌, ◌≤◌, arith, ap, sym, subst, ◌∙◌}
 use Prim.Native.Nat.{◌∣◌}
 use Rattle.std.specs.Int.{IsGcd}
 use Rattle.std.proofs.Math.Nat.{div-add-mod, mul-add, mul_assoc, mul_comm, dvd-mul_left, dvd-mul_right_of_dvd, dvd-add_iff_right, dvd-sub_iff_right, dvd_of_mul-dvd-mul_left, mul-dvd-mul_left, mul-div_cancel', one-dvd, pos_of_dvd_of_pos}
@@ -24,12 +24,15 @@ lower_positive num den by up gcd =
     pos_of_dvd_of_pos divides up
 
 pub lower_is_lowest : (num den by : ℕ) → 1 ≤ den → IsGcd num den by → IsGcd (num / by) (den / by) 1
-lower_is_lowest num den by up gcd =
-    (one-dvd (num / by), one-dvd (den / by), λ d of_num of_den.
-    let one : (by * d) ∣ num = subst (λ n. (by * d) ∣ n) (mul-div_cancel' by gcd.0) (mul-dvd-mul_left d by of_num) in
-    let other : (by * d) ∣ den = subst (λ n. (by * d) ∣ n) (mul-div_cancel' by gcd.1) (mul-dvd-mul_left d by of_den) in
-    let both : (by * d) ∣ (by * 1) = subst (λ n. (by * d) ∣ n) (omega arith) (gcd.2 (by * d) one other) in
-    dvd_of_mul-dvd-mul_left d (by_positive num den by up gcd) both)
+lower_is_lowest num den by up gcd = (
+  one-dvd (num / by),
+  one-dvd (den / by),
+  λ d of_num of_den.
+      let one : (by * d) ∣ num = subst (λ n. (by * d) ∣ n) (mul-div_cancel' by gcd.0) (mul-dvd-mul_left d by of_num) in
+      let other : (by * d) ∣ den = subst (λ n. (by * d) ∣ n) (mul-div_cancel' by gcd.1) (mul-dvd-mul_left d by of_den) in
+      let both : (by * d) ∣ (by * 1) = subst (λ n. (by * d) ∣ n) (omega arith) (gcd.2 (by * d) one other) in
+      dvd_of_mul-dvd-mul_left d (by_positive num den by up gcd) both,
+)
 
 pub lower_is_same : (num den by : ℕ) → 1 ≤ den → IsGcd num den by → IsLoweredTo num den (num / by) (den / by)
 lower_is_same num den by up gcd = (by, by_positive num den by up gcd, sym (mul-div_cancel' by gcd.0), sym (mul-div_cancel' by gcd.1))

@@ -10,7 +10,7 @@ use Rattle.interval_audit.specs.declared.answer.AskFault.TheVariants as fault
 use Rattle.interval_audit.specs.Ends.{IsIntervalCause}
 use Rattle.interval_audit.specs.Groups.{IsComponentOf}
 use Rattle.cell_intervals.specs.declared.interval.CellInterval.{CellInterval}
-use Rattle.cell_intervals.specs.IntervalFaults.{HasBothEnds, HasSmallComponent, IsFaultAt, IsFaultOf}
+use Rattle.cell_intervals.specs.IntervalFaults.{HasBothEnds, HasSmallComponent, IsFaultOf}
 use Rattle.sdc_base.specs.HiddenSets.{is_hidden}
 use Rattle.sdc_base.proofs.GrowingLists.{filter-front, range-next}
 

@@ -1,5 +1,5 @@
 -- The intervals of a hidden set have one file.
-use Rattle.std.proofs.Common.{◌≡◌, ℕ, zero, suc, ◌+◌, ◌*◌, ◌/◌, ◌%◌, ◌<◌, ◌≤◌, ◌^◌, Bool, List, [], ◌∷◌, ◌++◌, All, map, flat_map, Some, slice_get, ℤ, pos, ◌+ℤ◌, ◌*ℤ◌, ◌≤ℤ◌, ◌<ℤ◌, arith, refl, ap, ap₂, sym, subst, ◌∙◌}
+use Rattle.std.proofs.Common.{◌≡◌, ℕ, zero, suc, ◌*◌, ◌/◌, ◌%◌, ◌<◌, ◌≤◌, ◌^◌, Bool, List, [], ◌∷◌, ◌++◌, All, map, flat_map, Some, slice_get, ℤ, pos, ◌+ℤ◌, ◌*ℤ◌, ◌≤ℤ◌, ◌<ℤ◌, arith, refl, ap, ap₂, sym, subst, ◌∙◌}
 use Prim.Native.Nat.{◌∣◌}
 use Rattle.std.specs.Int.{IsGcd}
 use Rattle.std.specs.Prelude.{codes, decimal}
@@ -10,15 +10,14 @@ use Rattle.std.proofs.lemmas.List.Elements.{All-head, All-tail}
 use Rattle.std.proofs.lemmas.Nat.Gcd.{dvd_refl, dvd-zero, dvd_antisymm}
 use Rattle.sdc_base.specs.declared.cell.Cell.{Cell}
 use Rattle.sdc_base.specs.declared.system.System.{System}
-use Rattle.sdc_base.specs.Systems.{Numbers}
 use Rattle.sdc_base.specs.Worlds.{value_over}
 use Rattle.sdc_base.proofs.WholeNumbers.{assoc, swap_times, times_more, times_up}
 use Rattle.cell_intervals.specs.declared.interval.CellInterval.{CellInterval}
 use Rattle.cell_intervals.specs.declared.interval.UpperEnd.{UpperEnd}
 use Rattle.cell_intervals.specs.declared.interval.UpperEnd.TheVariants.{At, Open}
 use Rattle.cell_intervals.specs.declared.ratio.Ratio.{Ratio}
-use Rattle.cell_intervals.specs.Intervals.{AreIntervals, IsGreatestValue, IsIntervalOf, IsLeastValue, IsUpperEnd}
-use Rattle.cell_intervals.specs.IntervalTexts.{fraction_text, interval_text, line_text, ratio_text, upper_text}
+use Rattle.cell_intervals.specs.Intervals.{IsGreatestValue, IsIntervalOf, IsLeastValue, IsUpperEnd}
+use Rattle.cell_intervals.specs.IntervalTexts.{fraction_text, line_text, ratio_text, upper_text}
 use Rattle.cell_intervals.specs.Laws.{FileIsOne}
 use Rattle.cell_intervals.proofs.Divisors.{rest_divides}
 use Rattle.cell_intervals.proofs.Reaching.{cancel_le, cancel_same}

@@ -34,13 +34,7 @@ pub(crate) fn interval_from(
 }
 
 // The lower end of a cell's interval. No world takes a cell as far below its truth as is asked, since a truth is less than that.
-fn low_end(
-    system: &System,
-    cells: &[Cell],
-    hidden: &Hidden,
-    cell: u32,
-    below: &Answer,
-) -> Ratio
+fn low_end(system: &System, cells: &[Cell], hidden: &Hidden, cell: u32, below: &Answer) -> Ratio
     requires ground { IsGround system.now cells.now hidden.now.flags }
     requires truths { All (λ cell. cell.truth ≤ℤ pos (10 ^ 29)) cells.now }
     requires hidden { is_hidden hidden.now.flags cell ≡ true }
@@ -55,13 +49,7 @@ fn low_end(
 }
 
 // The upper end of a cell's interval.
-fn high_end(
-    system: &System,
-    cells: &[Cell],
-    hidden: &Hidden,
-    cell: u32,
-    above: &Answer,
-) -> UpperEnd
+fn high_end(system: &System, cells: &[Cell], hidden: &Hidden, cell: u32, above: &Answer) -> UpperEnd
     requires ground { IsGround system.now cells.now hidden.now.flags }
     requires truths { All (λ cell. cell.truth ≤ℤ pos (10 ^ 29)) cells.now }
     requires hidden { is_hidden hidden.now.flags cell ≡ true }

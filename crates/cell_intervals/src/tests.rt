@@ -147,9 +147,7 @@ fn case_of(
 fn are_in_range(cells: &[Cell]) -> bool
     ensures { result ≡ true → All (λ cell. cell.truth ≤ℤ pos (10 ^ 29)) cells.now }
 {
-    cells
-        .iter()
-        .all(|cell| cell.truth <= 100_000_000_000_000_000_000_000_000_000)
+    cells.iter().all(|cell| cell.truth <= 100_000_000_000_000_000_000_000_000_000)
 }
 
 // The intervals of a case; none where it can't be asked so.
@@ -167,13 +165,7 @@ fn intervals_in(
     if !are_in_range(cells) {
         return None;
     }
-    Some(intervals_of(
-        alloc,
-        &case.system,
-        cells,
-        &case.hidden,
-        limit,
-    ))
+    Some(intervals_of(alloc, &case.system, cells, &case.hidden, limit))
 }
 
 // Whether the file of the intervals of a case is this one, with a limit of 100.
@@ -263,11 +255,15 @@ fn first_question_without_an_answer_is_named(rt: HostRuntime) -> Result<(), Fail
         assert!(&rt; false);
         return Ok(());
     };
-    assert!(&rt; matches!(intervals_in(alloc, &large, 1), Some(Err(AskFault::Size { question, hidden: 1501 })) if question.cell == 1));
+    assert!(&rt;
+        matches!(intervals_in(alloc, &large, 1), Some(Err(AskFault::Size { question, hidden: 1501 })) if question.cell == 1)
+    );
     let Some(table) = two_by_two(alloc)? else {
         assert!(&rt; false);
         return Ok(());
     };
-    assert!(&rt; matches!(intervals_in(alloc, &table, 1), Some(Err(AskFault::Work(walk))) if walk.question.cell == 4));
+    assert!(&rt;
+        matches!(intervals_in(alloc, &table, 1), Some(Err(AskFault::Work(walk))) if walk.question.cell == 4)
+    );
     Ok(())
 }

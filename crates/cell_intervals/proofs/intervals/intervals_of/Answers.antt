@@ -21,26 +21,26 @@ cells-preserved c =
     let rest : List ℕ = filter (is_hidden flags) (range_with_len (cell + 1) (system.cells - (cell + 1))) in
     elim c.if-as_slice-cell.branch [
       | then-as_slice-cell+in_ok-one+in_ok-push w ↦
-      let one : CellInterval = w.in_ok-one.one in
-      let hidden : is_hidden flags cell ≡ true = subst (λ (bs : List Bool). slice_index_or bs cell false ≡ true) c.as_slice.ensures w.if-as_slice-cell.true in
-      let grown : c.if-as_slice-cell.intervals ≡ c.cells.intervals ++ one ∷ [] = w.intervals-is ∙ w.in_ok-push.ensures.ok in
-      record {
-        numbers =
-            ap (λ (numbers : List ℕ). numbers ++ rest) (numbers_more c.cells.intervals one cell c.if-as_slice-cell.intervals grown w.in_ok-one.ensures.number)
-            ∙ next_hidden flags system.cells (map (λ (interval : CellInterval). interval.cell) c.cells.intervals) (hidden_cells flags) cell c.cells-test.true hidden c.cells.invariant.numbers;
-        each = subst (All P) (sym grown) (All-push P c.cells.intervals one c.cells.invariant.each w.in_ok-one.ensures.right);
-        ended = below_next (HasBothEnds system cells flags) flags cell c.cells.invariant.ended (λ _. w.in_ok-one.ensures.ended);
-      }
+          let one : CellInterval = w.in_ok-one.one in
+          let hidden : is_hidden flags cell ≡ true = subst (λ (bs : List Bool). slice_index_or bs cell false ≡ true) c.as_slice.ensures w.if-as_slice-cell.true in
+          let grown : c.if-as_slice-cell.intervals ≡ c.cells.intervals ++ one ∷ [] = w.intervals-is ∙ w.in_ok-push.ensures.ok in
+          record {
+            numbers =
+                ap (λ (numbers : List ℕ). numbers ++ rest) (numbers_more c.cells.intervals one cell c.if-as_slice-cell.intervals grown w.in_ok-one.ensures.number)
+                ∙ next_hidden flags system.cells (map (λ (interval : CellInterval). interval.cell) c.cells.intervals) (hidden_cells flags) cell c.cells-test.true hidden c.cells.invariant.numbers;
+            each = subst (All P) (sym grown) (All-push P c.cells.intervals one c.cells.invariant.each w.in_ok-one.ensures.right);
+            ended = below_next (HasBothEnds system cells flags) flags cell c.cells.invariant.ended (λ _. w.in_ok-one.ensures.ended);
+          }
       | else-as_slice-cell w ↦
-      let shown : is_hidden flags cell ≡ false = subst (λ (bs : List Bool). slice_index_or bs cell false ≡ false) c.as_slice.ensures w.if-as_slice-cell.false in
-      let same : c.if-as_slice-cell.intervals ≡ c.cells.intervals = w.intervals-is in
-      record {
-        numbers =
-            ap (λ (intervals : List CellInterval). map (λ (interval : CellInterval). interval.cell) intervals ++ rest) same
-            ∙ next_shown flags system.cells (map (λ (interval : CellInterval). interval.cell) c.cells.intervals) (hidden_cells flags) cell c.cells-test.true shown c.cells.invariant.numbers;
-        each = subst (All P) (sym same) c.cells.invariant.each;
-        ended = below_next (HasBothEnds system cells flags) flags cell c.cells.invariant.ended (λ hidden. let clash : false ≡ true = sym shown ∙ hidden in absurd cc);
-      }
+          let shown : is_hidden flags cell ≡ false = subst (λ (bs : List Bool). slice_index_or bs cell false ≡ false) c.as_slice.ensures w.if-as_slice-cell.false in
+          let same : c.if-as_slice-cell.intervals ≡ c.cells.intervals = w.intervals-is in
+          record {
+            numbers =
+                ap (λ (intervals : List CellInterval). map (λ (interval : CellInterval). interval.cell) intervals ++ rest) same
+                ∙ next_shown flags system.cells (map (λ (interval : CellInterval). interval.cell) c.cells.intervals) (hidden_cells flags) cell c.cells-test.true shown c.cells.invariant.numbers;
+            each = subst (All P) (sym same) c.cells.invariant.each;
+            ended = below_next (HasBothEnds system cells flags) flags cell c.cells.invariant.ended (λ hidden. let clash : false ≡ true = sym shown ∙ hidden in absurd cc);
+          }
     ]
 
 pub returns-in_err-one-clause-cause : goal.returns-in_err-one-clause-cause
