@@ -1,4 +1,4 @@
-ghost use Rattle.std.specs.Prelude.{◌≡◌, ◌≤◌, ◌≤ℤ◌, ◌^◌, All, IfNone, IfSome, pos, slice_get, Some, true};
+ghost use Rattle.std.specs.Prelude.{◌≡◌, ◌≤ℤ◌, ◌^◌, All, IfNone, IfSome, pos, slice_get, Some, true};
 ghost use Rattle.sdc_base.specs.Grounds.{IsGround};
 ghost use Rattle.sdc_base.specs.HiddenSets.{is_hidden};
 ghost use Rattle.sdc_base.specs.declared.cell.Cell.{Cell as AnyCell};
@@ -74,7 +74,7 @@ fn farthest(
 ) -> Option<Ratio>
     requires end { IsTrueEnd system.now cells.now hidden.now.flags cell side answer.now }
     ensures stops { IfSome result (IsFarthest system.now cells.now hidden.now.flags cell side) }
-    ensures open { IfNone result (IsOpenTo system.now cells.now hidden.now.flags cell side) }
+    ensures reaches { IfNone result (IsOpenTo system.now cells.now hidden.now.flags cell side) }
 {
     match answer {
         Answer::Stops { best, .. } => Some(lowest_terms_of(

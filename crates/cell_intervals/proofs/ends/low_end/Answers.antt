@@ -6,7 +6,7 @@ use Rattle.cell_intervals.proofs.ends.low_end.Goals as goal
 pub unreachable-requires : goal.unreachable-requires
 unreachable-requires c =
     let inside : c.args.cell < length c.args.cells.now = omega (arith, hidden-inside c.args.hidden.now.flags c.args.cell c.requires.hidden, c.requires.ground.each_cell, c.requires.ground.each_flag) in
-    never_answer c.args.system.now c.args.cells.now c.args.hidden.now.flags c.args.cell c.index-cells-cell.result inside c.requires.truths c.in_default.ensures.«open»
+    never_answer c.args.system.now c.args.cells.now c.args.hidden.now.flags c.args.cell c.index-cells-cell.result inside c.requires.truths c.in_default.ensures.reaches
 
 pub minus-requires-clause-within : goal.minus-requires-clause-within
 minus-requires-clause-within c =
