@@ -11,7 +11,7 @@ use Rattle.sdc_base.specs.Systems.{Numbers}
 use Rattle.sdc_base.specs.Worlds.{IsWorld, value_over}
 use Rattle.sdc_base.proofs.WholeNumbers.{assoc, distrib, distrib_right, minus_times, times_up}
 use Rattle.cell_intervals.specs.declared.interval.CellInterval.{CellInterval}
-use Rattle.cell_intervals.specs.declared.interval.UpperEnd.TheVariants.{Open}
+use Rattle.cell_intervals.specs.declared.interval.UpperEnd.TheVariants.{At, Open}
 use Rattle.cell_intervals.specs.declared.ratio.Ratio.{Ratio}
 use Rattle.cell_intervals.specs.Farthest.{IsFarthest, IsOpenTo}
 use Rattle.cell_intervals.specs.Intervals.{IsGreatestValue, IsIntervalOf, IsLeastValue, IsUpperEnd}
@@ -91,7 +91,7 @@ low_is_least system cells flags number known truth far low truth_is within num_i
 -- ---- the upper end
 
 pub high_is_greatest : (system : System) (cells : List Cell) (flags : List Bool) (number : ℕ) (known : Cell) (truth : ℕ) (far high : Ratio) → known.truth ≡ pos truth → high.num ≡ truth * far.den + far.num → high.den ≡ far.den
-    → IsFarthest system cells flags number Above far → IsGreatestValue system cells flags number known high
+    → IsFarthest system cells flags number Above far → IsUpperEnd system cells flags number known (At high)
 high_is_greatest system cells flags number known truth far high truth_is num_is den_is farthest =
     let best = farthest.is_best in
     let e : ℤ = pos far.den in
@@ -103,7 +103,7 @@ high_is_greatest system cells flags number known truth far high truth_is num_is 
     let spread : (w m : ℤ) → (w *ℤ known.truth +ℤ m) *ℤ e +ℤ n *ℤ w ≡ v *ℤ w +ℤ m *ℤ e = (λ w m. high_spread w known.truth m e n v sum) in
     let top : e *ℤ (known.truth +ℤ pos (2 ^ 110)) ≡ e *ℤ known.truth +ℤ e *ℤ pos (2 ^ 110) = distrib e known.truth (pos (2 ^ 110)) in
     let short : v <ℤ (e *ℤ (known.truth +ℤ pos (2 ^ 110))) = omega (arith, ints, top, sum, *ℤ_comm e known.truth, farthest.short) in
-    record {
+    let greatest : IsGreatestValue system cells flags number known high = record {
       attained = (
         best.attained_den,
         best.attained_moves,
@@ -113,8 +113,8 @@ high_is_greatest system cells flags number known truth far high truth_is num_is 
       greatest = λ den moves world.
           subst (λ z. (value_over den known (moves number) *ℤ z) ≤ℤ (v *ℤ den)) (sym den_z)
           (omega (arith, ints, spread den (moves number), best.furthest den moves world));
-      short = subst (λ z. v <ℤ (z *ℤ (known.truth +ℤ pos (2 ^ 110)))) (sym den_z) short;
-    }
+    } in
+    (greatest, subst (λ z. v <ℤ (z *ℤ (known.truth +ℤ pos (2 ^ 110)))) (sym den_z) short)
 
 pub open_is_upper : (system : System) (cells : List Cell) (flags : List Bool) (number : ℕ) (known : Cell) → IsOpenTo system cells flags number Above → IsUpperEnd system cells flags number known Open
 open_is_upper system cells flags number known lies =
@@ -152,9 +152,9 @@ low_answer system cells flags number d truth far low inside few size num den far
     (low_is_least system cells flags number (slice_index_or cells number d) truth far low (truth_is cells number d truth inside few size) (part_answer system cells flags number d truth far inside few size farthest) num den farthest)
 
 pub high_answer : (system : System) (cells : List Cell) (flags : List Bool) (number : ℕ) (d : Cell) (truth : ℕ) (far high : Ratio) → number < length cells → All (λ (cell : Cell). cell.truth ≤ℤ pos (10 ^ 29)) cells → truth ≡ unsigned_abs (to_z w128 (of_z w128 (slice_index_or cells number d).truth))
-    → high.num ≡ truth * far.den + far.num → high.den ≡ far.den → IsFarthest system cells flags number Above far → (known : Cell) → slice_get cells number ≡ Some known → IsGreatestValue system cells flags number known high
+    → high.num ≡ truth * far.den + far.num → high.den ≡ far.den → IsFarthest system cells flags number Above far → (known : Cell) → slice_get cells number ≡ Some known → IsUpperEnd system cells flags number known (At high)
 high_answer system cells flags number d truth far high inside few size num den farthest known found =
-    subst (λ k. IsGreatestValue system cells flags number k high) (same_cell cells number d known inside found)
+    subst (λ k. IsUpperEnd system cells flags number k (At high)) (same_cell cells number d known inside found)
     (high_is_greatest system cells flags number (slice_index_or cells number d) truth far high (truth_is cells number d truth inside few size) num den farthest)
 
 none_inside : (cells : List Cell) (number : ℕ) → number < length cells → slice_get cells number ≡ None → ⊥

@@ -93,19 +93,19 @@ greatest_text system cells flags number known one other first second =
     same_text one other (omega (arith, greatest_above system cells flags number known one other first second, greatest_above system cells flags number known other one second first))
 
 -- an upper end is not open where there is a greatest value
-never_both : (system : System) (cells : List Cell) (flags : List Bool) (number : ℕ) (known : Cell) (high : Ratio) → IsGreatestValue system cells flags number known high → IsUpperEnd system cells flags number known Open → ⊥
-never_both system cells flags number known high greatest lies =
+never_both : (system : System) (cells : List Cell) (flags : List Bool) (number : ℕ) (known : Cell) (high : Ratio) → IsUpperEnd system cells flags number known (At high) → IsUpperEnd system cells flags number known Open → ⊥
+never_both system cells flags number known high end lies =
     let w : ℤ = lies.0 in
     let e : ℤ = pos high.den in
     let x : ℤ = pos high.num in
     let t : ℤ = known.truth +ℤ pos (2 ^ 110) in
-    let bound : (value_over w known (lies.1 number) *ℤ e) ≤ℤ (x *ℤ w) = greatest.greatest w lies.1 lies.2 in
+    let bound : (value_over w known (lies.1 number) *ℤ e) ≤ℤ (x *ℤ w) = end.0.greatest w lies.1 lies.2 in
     let value : value_over w known (lies.1 number) *ℤ e ≡ w *ℤ (e *ℤ t) = ap (λ z. z *ℤ e) lies.3 ∙ assoc w t e ∙ ap (λ z. w *ℤ z) (*ℤ_comm t e) in
-    let more : (w *ℤ x) <ℤ (w *ℤ (e *ℤ t)) = times_more w x (e *ℤ t) lies.2.positive greatest.short in
+    let more : (w *ℤ x) <ℤ (w *ℤ (e *ℤ t)) = times_more w x (e *ℤ t) lies.2.positive end.1 in
     omega (arith, ints, bound, value, more, *ℤ_comm x w)
 
 upper_same : (system : System) (cells : List Cell) (flags : List Bool) (number : ℕ) (known : Cell) (one other : UpperEnd) → IsUpperEnd system cells flags number known one → IsUpperEnd system cells flags number known other → upper_text one ≡ upper_text other
-upper_same system cells flags number known (At one) (At other) first second = greatest_text system cells flags number known one other first second
+upper_same system cells flags number known (At one) (At other) first second = greatest_text system cells flags number known one other first.0 second.0
 upper_same system cells flags number known (At one) Open first second = absurd (never_both system cells flags number known one first second)
 upper_same system cells flags number known Open (At other) first second = absurd (never_both system cells flags number known other second first)
 upper_same system cells flags number known Open Open first second = refl

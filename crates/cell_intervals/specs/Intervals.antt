@@ -22,16 +22,19 @@ pub record IsLeastValue (system : System) (cells : List Cell) (flags : List Bool
   pub attained : IsAttained system cells flags number cell low
   pub least : (den : ℤ) (moves : Numbers) → IsWorld system cells flags den moves → (pos low.num *ℤ den) ≤ℤ (value_over den cell (moves number) *ℤ pos low.den)
 
--- the greatest value that a world gives the cell: one does, none of any denominator gives it more, and it is less than 2^110 above the
--- truth
+-- the greatest value that a world gives the cell: one does, and none of any denominator gives it more
 pub record IsGreatestValue (system : System) (cells : List Cell) (flags : List Bool) (number : ℕ) (cell : Cell) (high : Ratio) : Type 0 where
   pub attained : IsAttained system cells flags number cell high
   pub greatest : (den : ℤ) (moves : Numbers) → IsWorld system cells flags den moves → (value_over den cell (moves number) *ℤ pos high.den) ≤ℤ (pos high.num *ℤ den)
-  pub short : pos high.num <ℤ (pos high.den *ℤ (cell.truth +ℤ pos (2 ^ 110)))
 
--- the upper end of the cell's interval: the greatest value, or open where some world gives the cell 2^110 more than its truth
+-- a value is less than 2^110 above the cell's truth
+abbrev pub IsBelowOpen : Cell → Ratio → Type 0
+IsBelowOpen cell value = pos value.num <ℤ (pos value.den *ℤ (cell.truth +ℤ pos (2 ^ 110)))
+
+-- The upper end of the cell's interval: the greatest value, where that is less than 2^110 above its truth, and open where some world
+-- gives the cell 2^110 more than its truth.
 abbrev pub IsUpperEnd : System → List Cell → List Bool → ℕ → Cell → UpperEnd → Type 0
-IsUpperEnd system cells flags number cell (At high) = IsGreatestValue system cells flags number cell high
+IsUpperEnd system cells flags number cell (At high) = IsGreatestValue system cells flags number cell high × IsBelowOpen cell high
 IsUpperEnd system cells flags number cell Open =
     (den : ℤ) × (moves : Numbers) × IsWorld system cells flags den moves × (value_over den cell (moves number) ≡ den *ℤ (cell.truth +ℤ pos (2 ^ 110)))
 
