@@ -1,0 +1,57 @@
+-- Which faults come with which components.
+use Rattle.std.proofs.Common.{◌≡◌, ◌↔◌, ◌≤◌, ℕ, Bool, true, false, List, length, inl, inr, arith, refl, ap, sym, subst}
+use Rattle.sdc_base.specs.declared.cell.Cell.{Cell}
+use Rattle.sdc_base.specs.declared.relation.Relation.{Relation}
+use Rattle.sdc_base.specs.declared.side.Side.{Side}
+use Rattle.sdc_base.specs.declared.system.System.{System}
+use Rattle.interval_audit.specs.declared.answer.AskFault.{AskFault}
+use Rattle.interval_audit.specs.declared.answer.AskFault.TheVariants as fault
+use Rattle.interval_audit.specs.declared.answer.Walk.{Walk}
+use Rattle.interval_audit.specs.declared.answer.WidePlace.{WidePlace}
+use Rattle.interval_audit.specs.declared.question.Question.{Question}
+use Rattle.interval_audit.specs.Ends.{IsEndCause, IsEndQuestion, IsIntervalCause}
+use Rattle.interval_audit.specs.Groups.{Group, IsComponentOf, members}
+use Rattle.cell_intervals.specs.IntervalFaults.{HasSmallComponent}
+use Rattle.cell_intervals.specs.Laws.{SizeIsLarge}
+
+same_tests : (a b : Bool) → ((a ≡ true) ↔ (b ≡ true)) → a ≡ b
+same_tests true true h = refl
+same_tests true false h = sym (h.0 refl)
+same_tests false true h = h.1 refl
+same_tests false false h = refl
+
+-- two components of a cell are one
+groups_alike : (relations : List Relation) (flags : List Bool) (asked : ℕ) (one other : Group) → IsComponentOf relations flags asked one → IsComponentOf relations flags asked other → one ≡ other
+groups_alike relations flags asked one other first second =
+    let same : (cell : ℕ) → one cell ≡ other cell = (λ cell. same_tests (one cell) (other cell) ((λ is. (second cell).1 ((first cell).0 is)), (λ is. (first cell).1 ((second cell).0 is)))) in
+    λ i cell. same cell i
+
+-- a component of at most so many cells, of the cell that a question asks about
+asked_small : (system : System) (flags : List Bool) (cell : ℕ) (side : Side) (question : Question) (group : Group) → IsEndQuestion cell side question → IsComponentOf system.relations flags question.cell group → length (members group system.cells) ≤ 1500 → HasSmallComponent system flags cell
+asked_small system flags cell side question group asks is few = record { group = group; is_component = subst (λ c. IsComponentOf system.relations flags c group) asks.cell_is is; few = few }
+
+work_small : (system : System) (cells : List Cell) (flags : List Bool) (cell : ℕ) (side : Side) (limit : ℕ) (walk : Walk) → IsEndCause system cells flags cell side limit (fault.Work walk) → HasSmallComponent system flags cell
+work_small system cells flags cell side limit walk cause = asked_small system flags cell side cause.0 cause.2.0 cause.1 cause.2.1 cause.2.2.4
+
+wide_small : (system : System) (cells : List Cell) (flags : List Bool) (cell : ℕ) (side : Side) (limit : ℕ) (walk : Walk) (place : WidePlace) → IsEndCause system cells flags cell side limit (fault.Wide walk place) → HasSmallComponent system flags cell
+wide_small system cells flags cell side limit walk place cause = asked_small system flags cell side cause.0 cause.2.0 cause.1 cause.2.1 cause.2.2.3
+
+size_large : (system : System) (cells : List Cell) (flags : List Bool) (cell : ℕ) (side : Side) (limit : ℕ) (asked : Question) (hidden : ℕ) → IsEndCause system cells flags cell side limit (fault.Size asked hidden) → HasSmallComponent system flags cell → ⊥
+size_large system cells flags cell side limit asked hidden cause small =
+    let group : Group = cause.2.0 in
+    let own : IsComponentOf system.relations flags cell group = subst (λ c. IsComponentOf system.relations flags c group) cause.1.cell_is cause.2.1 in
+    let same : length (members small.group system.cells) ≡ length (members group system.cells) = ap (λ (g : Group). length (members g system.cells)) (groups_alike system.relations flags cell small.group group small.is_component own) in
+    omega (arith, small.few, same, cause.2.2.1, cause.2.2.2)
+
+either : (system : System) (cells : List Cell) (flags : List Bool) (limit cell : ℕ) (why : AskFault) (P : Type 0) → ((side : Side) → IsEndCause system cells flags cell side limit why → P) → IsIntervalCause system cells flags cell limit why → P
+either system cells flags limit cell why P each (inl below) = each _ below
+either system cells flags limit cell why P each (inr above) = each _ above.3
+
+pub size_is_large : SizeIsLarge
+size_is_large system cells flags limit cell (fault.Work walk) some at =
+    ((λ is. absurd is), (λ large. large (either system cells flags limit cell (fault.Work walk) (HasSmallComponent system flags cell) (λ side cause. work_small system cells flags cell side limit walk cause) at.cause)))
+size_is_large system cells flags limit cell (fault.Wide walk place) some at =
+    ((λ is. absurd is), (λ large. large (either system cells flags limit cell (fault.Wide walk place) (HasSmallComponent system flags cell) (λ side cause. wide_small system cells flags cell side limit walk place cause) at.cause)))
+size_is_large system cells flags limit cell (fault.Size asked hidden) some at =
+    ((λ is small. either system cells flags limit cell (fault.Size asked hidden) ⊥ (λ side cause. size_large system cells flags cell side limit asked hidden cause small) at.cause), (λ large. tt))
+size_is_large system cells flags limit cell fault.Memory some at = absurd (some refl)

@@ -1,0 +1,6 @@
+pub mod Divisors
+pub mod Reaching
+pub mod Bounding
+pub mod OneFile
+pub mod Listing
+pub mod Components

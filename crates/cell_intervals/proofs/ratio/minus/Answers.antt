@@ -1,0 +1,5 @@
+use Rattle.cell_intervals.proofs.Divisors.{minus_is_lowest}
+use Rattle.cell_intervals.proofs.ratio.minus.Goals as goal
+
+pub invariant_of-result : goal.invariant_of-result
+invariant_of-result c = record { positive = c.args.part.positive; lowest = minus_is_lowest c.args.whole c.args.part.num c.args.part.den c.requires.within c.args.part.lowest }

@@ -1,0 +1,73 @@
+ghost use Rattle.std.specs.Prelude.{◌≡◌, ◌≤◌, ◌≤ℤ◌, ◌^◌, All, IfErr, IfOk, pos, true, ℕ};
+ghost use Rattle.sdc_base.specs.Grounds.{IsGround};
+ghost use Rattle.sdc_base.specs.HiddenSets as sets;
+ghost use Rattle.interval_audit.specs.Ends.{IsIntervalCause};
+ghost use Rattle.cell_intervals.specs.IntervalFaults.{HasBothEnds, HasSmallComponent, IsFaultOf};
+ghost use Rattle.cell_intervals.specs.Intervals.{AreIntervals, IsIntervalOf};
+
+use crate::ends::interval_from;
+use crate::interval::CellInterval;
+use interval_audit::{AskFault, interval};
+use sdc_base::{Cell, Hidden, Items, System};
+use std::alloc::Global;
+
+/// What a reader of the tables can find out of each hidden cell, in ascending order of the cells' numbers: the least and the
+/// greatest value that a complete table gives it, of all that agree with the shown cells, the relations and the bounds. The
+/// upper end is open where some complete table gives the cell 2^110 units more than its truth.
+///
+/// There are a cell and a flag for each cell of the system, no truth is above 10^29 units, and `limit`, 1 or more, says how
+/// many improvements each question may make.
+///
+/// For each hidden cell two questions are asked, below first ([`interval`]). The refusals are those of the first question that
+/// has no answer: `Size` where the component of its cell has more than 1,500 hidden cells, `Work` and `Wide` where its walk
+/// stops short. Want of memory may come at any time. What is lent stays as it was.
+///
+/// It costs as much as two questions for each hidden cell.
+///
+/// The interval is the feasibility interval in Hundepool et al., Statistical Disclosure Control, chapter on magnitude tables;
+/// that an end is open from 2^110 on is own.
+pub fn intervals_of(
+    alloc: Global,
+    system: &System,
+    cells: &[Cell],
+    hidden: &Hidden,
+    limit: u64,
+) -> Result<Items<CellInterval>, AskFault>
+    requires ground { IsGround system.now cells.now hidden.now.flags }
+    requires truths { All (λ cell. cell.truth ≤ℤ pos (10 ^ 29)) cells.now }
+    requires limit { 1 ≤ limit }
+    ensures intervals { IfOk result (AreIntervals system.now cells.now hidden.now.flags) }
+    ensures small { IfOk result (λ _. (cell : ℕ) → sets.is_hidden hidden.now.flags cell ≡ true → HasSmallComponent system.now hidden.now.flags cell) }
+    ensures cause { IfErr result (IsFaultOf system.now cells.now hidden.now.flags limit) }
+{
+    let mut intervals = Items::empty(alloc);
+    'cells: for cell in 0..system.cells {
+        if hidden.flags.as_slice()[cell as usize] {
+            let one = interval_of(alloc, system, cells, hidden, cell, limit)?;
+            intervals.push(one)?;
+        }
+    }
+    Ok(intervals)
+}
+
+// The interval of a hidden cell.
+fn interval_of(
+    alloc: Global,
+    system: &System,
+    cells: &[Cell],
+    hidden: &Hidden,
+    cell: u32,
+    limit: u64,
+) -> Result<CellInterval, AskFault>
+    requires ground { IsGround system.now cells.now hidden.now.flags }
+    requires truths { All (λ cell. cell.truth ≤ℤ pos (10 ^ 29)) cells.now }
+    requires hidden { sets.is_hidden hidden.now.flags cell ≡ true }
+    requires limit { 1 ≤ limit }
+    ensures number { IfOk result (λ one. one.cell ≡ cell) }
+    ensures right { IfOk result (IsIntervalOf system.now cells.now hidden.now.flags) }
+    ensures ended { IfOk result (λ _. HasBothEnds system.now cells.now hidden.now.flags cell) }
+    ensures cause { IfErr result (IsIntervalCause system.now cells.now hidden.now.flags cell limit) }
+{
+    let ends = interval(alloc, system, cells, hidden, cell, limit)?;
+    Ok(interval_from(system, cells, hidden, cell, &ends))
+}

@@ -1,0 +1,17 @@
+//! What a reader of released tables can find out of each hidden cell: the interval of its values, and the file of all intervals.
+#![tactic(auto)]
+
+mod ends;
+mod interval;
+mod intervals;
+mod laws;
+mod ratio;
+#[cfg(test)]
+mod tests;
+mod texts;
+
+pub use interval::{CellInterval, UpperEnd};
+pub use intervals::intervals_of;
+pub use laws::{file_is_one, size_is_large};
+pub use ratio::Ratio;
+pub use texts::interval_text;
