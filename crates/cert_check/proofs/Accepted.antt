@@ -18,6 +18,7 @@ use Rattle.sdc_base.specs.declared.system.System.{System}
 use Rattle.sdc_base.specs.Totals.{sum_below}
 use Rattle.sdc_base.specs.Forms.{coefficient}
 use Rattle.sdc_base.specs.HiddenSets.{is_hidden}
+use Rattle.sdc_base.specs.Kinds.{is_free}
 use Rattle.sdc_base.specs.Systems.{Numbers}
 use Rattle.sdc_base.specs.Worlds.{level, level_at, toward}
 use Rattle.sdc_base.specs.Refutations.{share, share_at}
@@ -39,14 +40,16 @@ use Rattle.repair.specs.Repairs.{cell_and_side, IsJustified, EachRepair}
 use Rattle.repair.proofs.Fewer.{share_from_zero}
 use Rattle.cert_check.specs.declared.faults.CheckFault.{CheckFault}
 use Rattle.cert_check.specs.declared.faults.CheckFault.TheVariants as fault
-use Rattle.cert_check.specs.declared.case.Case.{Case}
-use Rattle.cert_check.specs.ReleaseLines.{differing_line, line_after, text_of_table, table_fault, tables_fault}
+use Rattle.cert_check.specs.ReleaseLines.{differing_line, line_after, hiding_text, table_fault, tables_fault}
 use Rattle.cert_check.specs.RepairList.{may_repair, subject_counts, repair_fault, repairs_fault}
 use Rattle.cert_check.specs.OutsidePlan.{first_outside}
 use Rattle.cert_check.specs.WorldList.{same_side, is_for, line_fault, lines_fault}
 use Rattle.cert_check.specs.NeedList.{need_fault, each_need_fault}
 use Rattle.cert_check.specs.Counts.{names_cells}
-use Rattle.cert_check.specs.Acceptance.{IsWorldFor, EachWorld, IsNeeded, EachTable}
+use Rattle.cert_check.specs.Acceptance.{IsWorldFor, EachWorld, IsNeeded}
+use Rattle.linked_tables.specs.Held.{Held}
+use Rattle.release_writer.specs.Shown.{open_truth}
+use Rattle.release_writer.specs.ReadingLaws.{AreTexts}
 
 -- ---- steps
 
@@ -274,11 +277,13 @@ texts_same line (x ∷ xs) (y ∷ ys) none =
       | false ↦ λ is bad. absurd cc
     ] refl none
 
-pub tables_good : (case : Case) (flags : List Bool) (t : ℕ) (names : List (List (List ℕ))) (release : List (List ℕ)) → tables_fault case.book.now flags case.decimals t names release ≡ Ok tt → EachTable case flags t names release
-tables_good case flags t [] release ok = tt
-tables_good case flags t (one ∷ names) [] ok = tt
-tables_good case flags t (one ∷ names) (bytes ∷ release) ok =
-    let parts = bind_ok (table_fault case.book.now flags case.decimals one t bytes) (λ _. tables_fault case.book.now flags case.decimals (t + 1) names release) tt ok in (
-      texts_same 1 bytes (text_of_table case.book.now flags case.decimals one t) (none_refused (λ line. fault.Release t (line_number line)) (differing_line 1 bytes (text_of_table case.book.now flags case.decimals one t)) parts.1),
-      tables_good case flags (t + 1) names release parts.2,
+pub tables_good : (book : Held) (flags : List Bool) (decimals t : ℕ) (tables : List (List ℕ)) (names : List (List (List ℕ))) (files : List (List ℕ)) → length names ≡ length tables → length files ≡ length tables → tables_fault book flags decimals t tables names files ≡ Ok tt → AreTexts book decimals (open_truth book.marks flags) tables names files
+tables_good book flags decimals t [] names files named written ok = tt
+tables_good book flags decimals t (table ∷ tables) [] files named written ok = absurd (omega (arith, named))
+tables_good book flags decimals t (table ∷ tables) (own ∷ names) [] named written ok = absurd (omega (arith, written))
+tables_good book flags decimals t (table ∷ tables) (own ∷ names) (bytes ∷ files) named written ok =
+    let text : List ℕ = hiding_text book flags decimals table own in
+    let parts = bind_ok (table_fault book flags decimals t table own bytes) (λ _. tables_fault book flags decimals (t + 1) tables names files) tt ok in (
+      texts_same 1 bytes text (none_refused (λ line. fault.Release t (line_number line)) (differing_line 1 bytes text) parts.1),
+      tables_good book flags decimals (t + 1) tables names files (omega (arith, named)) (omega (arith, written)) parts.2,
     )

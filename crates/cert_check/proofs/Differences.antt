@@ -12,6 +12,12 @@ pub drop_none : {A : Type 0} (i : ℕ) → drop i [] ≡ none_of A
 drop_none zero = refl
 drop_none (suc i) = refl
 
+-- nothing is left behind the last item
+pub past : {A : Type 0} (xs : List A) (i : ℕ) → length xs ≤ i → drop i xs ≡ none_of A
+past [] i most = drop_none i
+past (x ∷ xs) zero most = absurd (omega (arith, most))
+past (x ∷ xs) (suc i) most = past xs i (omega (arith, most))
+
 on_suc : {A B : Type 0} (same : A → B → Bool) (k : ℕ) (xs : List A) (ys : List B) (i : ℕ) (x : A) → i < length xs → x ≡ get_or xs i x → option_map_or (same x) (slice_get ys i) false ≡ true → first_difference same k (drop i xs) (drop i ys) ≡ first_difference same (k + 1) (drop (suc i) xs) (drop (suc i) ys)
 on_suc same k [] ys i x within is there = absurd (omega (arith, within))
 on_suc same k (z ∷ xs) [] i x within is there = absurd cc

@@ -15,7 +15,7 @@ use Rattle.cert_check.specs.WorldList.{lines_fault, place_fault}
 use Rattle.cert_check.specs.NeedList.{each_need_fault, place_fault as need_place_fault}
 use Rattle.cert_check.specs.RepairList.{repair_fault, repairs_fault}
 use Rattle.cert_check.specs.ReleaseLines.{table_fault, tables_fault}
-use Rattle.cert_check.proofs.Differences.{drop_none}
+use Rattle.cert_check.proofs.Differences.{drop_none, past}
 
 -- ---- worlds
 
@@ -100,8 +100,14 @@ repaired_next flags repairs i repair within is = ap (λ (l : List Refuted). hide
 
 -- ---- tables
 
--- the table at a place, and those behind it
-pub tables_next : (book : Held) (flags : List Bool) (decimals : ℕ) (names : List (List (List ℕ))) (release : List (List ℕ)) (t : ℕ) → t < length names → t < length release → tables_fault book flags decimals t (drop t names) (drop t release) ≡ (table_fault book flags decimals (get_or names t []) t (get_or release t []) >>= λ _. tables_fault book flags decimals (t + 1) (drop (t + 1) names) (drop (t + 1) release))
-tables_next book flags decimals names release t named within =
-    ap (λ (l : List (List (List ℕ))). tables_fault book flags decimals t l (drop t release)) (drop_more names t [] named)
-    ∙ ap (λ (l : List (List ℕ)). tables_fault book flags decimals t (get_or names t [] ∷ drop (t + 1) names) l) (drop_more release t [] within)
+-- the table at a place, and those after it
+pub tables_next : (book : Held) (flags : List Bool) (decimals : ℕ) (tables : List (List ℕ)) (names : List (List (List ℕ))) (files : List (List ℕ)) (t : ℕ) → t < length tables → t < length names → t < length files
+    → tables_fault book flags decimals t (drop t tables) (drop t names) (drop t files) ≡ (table_fault book flags decimals t (get_or tables t []) (get_or names t []) (get_or files t []) >>= λ _. tables_fault book flags decimals (t + 1) (drop (t + 1) tables) (drop (t + 1) names) (drop (t + 1) files))
+tables_next book flags decimals tables names files t within named written =
+    ap (λ (l : List (List ℕ)). tables_fault book flags decimals t l (drop t names) (drop t files)) (drop_more tables t [] within)
+    ∙ ap (λ (l : List (List (List ℕ))). tables_fault book flags decimals t (get_or tables t [] ∷ drop (t + 1) tables) l (drop t files)) (drop_more names t [] named)
+    ∙ ap (λ (l : List (List ℕ)). tables_fault book flags decimals t (get_or tables t [] ∷ drop (t + 1) tables) (get_or names t [] ∷ drop (t + 1) names) l) (drop_more files t [] written)
+
+-- no table is left
+pub tables_over : (book : Held) (flags : List Bool) (decimals t : ℕ) (tables : List (List ℕ)) (names : List (List (List ℕ))) (files : List (List ℕ)) → length tables ≤ t → tables_fault book flags decimals t (drop t tables) (drop t names) (drop t files) ≡ Ok tt
+tables_over book flags decimals t tables names files over = ap (λ (l : List (List ℕ)). tables_fault book flags decimals t l (drop t names) (drop t files)) (past tables t over)

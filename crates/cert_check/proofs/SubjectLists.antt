@@ -9,7 +9,6 @@ use Rattle.sdc_base.specs.HiddenSets.{is_hidden}
 use Rattle.worlds.specs.ProtectFaults.{asked_of}
 use Rattle.sdc_base.specs.Kinds.{is_primary}
 use Rattle.repair.specs.Needs.{others_hidden}
-use Rattle.cert_check.proofs.Differences.{drop_none, none_of}
 
 cut : (flags : List Bool) (number : ℕ) (cell : Cell) (cells : List Cell) → others_hidden flags number (cell ∷ cells) ≡ others_hidden flags number (cell ∷ []) ++ others_hidden flags (number + 1) cells
 cut flags number cell cells =
@@ -64,11 +63,10 @@ asked_from number most (cell ∷ cells) size =
 pub asked_are_cells : (cells : List Cell) → All (λ (one : ℕ × Side). one.0 < length cells) (asked_of 0 cells)
 asked_are_cells cells = asked_from 0 (length cells) cells (omega arith)
 
-pub past : {A : Type 0} (xs : List A) (i : ℕ) → length xs ≤ i → drop i xs ≡ none_of A
-past [] i most = drop_none i
-past (x ∷ xs) zero most = absurd (omega (arith, most))
-past (x ∷ xs) (suc i) most = past xs i (omega (arith, most))
-
--- behind the last cell all that is asked is there
-pub asked_whole : (asked : List (ℕ × Side)) (cells : List Cell) (i : ℕ) → length cells ≤ i → asked ++ asked_of i (drop i cells) ≡ asked_of 0 cells → asked ≡ asked_of 0 cells
-asked_whole asked cells i most is = sym (append-nil asked) ∙ ap (λ (l : List Cell). asked ++ asked_of i l) (sym (past cells i most)) ∙ is
+-- the subjects are cells
+pub subjects_below : (flags : List Bool) (cells : List Cell) → All (λ subject. subject < length cells) (others_hidden flags 0 cells)
+subjects_below flags cells = all_weaker (IsSubject flags 0 (length cells)) (λ subject. subject < length cells) (others_hidden flags 0 cells) (λ subject is. is.below) (subjects_are flags 0 (length cells) cells (omega arith))
+where
+  all_weaker : {A : Type 0} (P Q : A → Type 0) (xs : List A) → ((x : A) → P x → Q x) → All P xs → All Q xs
+  all_weaker P Q [] more all = All-nil Q
+  all_weaker P Q (x ∷ xs) more all = All-cons Q x xs (more x (All-head P x xs all)) (all_weaker P Q xs more (All-tail P x xs all))

@@ -98,22 +98,10 @@ fn check_suppressed(
     check_release(alloc, case.book, hidden, case.names, case.decimals, release)?;
     let mut scratch = Vec::from_elem(alloc, 0, case.cells.len())?;
     check_hiding(alloc, case, hidden, certificate, &mut scratch)?;
-    check_worlds(
-        alloc,
-        case.system,
-        case.cells,
-        hidden,
-        certificate.worlds.as_slice(),
-        &mut scratch,
-    )?;
-    check_needs(
-        alloc,
-        case.system,
-        case.cells,
-        hidden,
-        certificate.needs.as_slice(),
-        &mut scratch,
-    )
+    let worlds = certificate.worlds.as_slice();
+    check_worlds(alloc, case.system, case.cells, hidden, worlds, &mut scratch)?;
+    let needs = certificate.needs.as_slice();
+    check_needs(alloc, case.system, case.cells, hidden, needs, &mut scratch)
 }
 
 // The first fault of what hides cells.

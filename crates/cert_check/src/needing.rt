@@ -25,6 +25,8 @@ pub(crate) fn check_needs(
     requires scratch { length scratch.old ≡ system.now.cells }
     requires asked { All (λ need. need.cell < system.now.cells) needs.now }
     ensures exact { Gives fault_of (λ u. u) result (needs_fault system.now cells.now hidden.old.flags needs.now) }
+    ensures hidden { OnOk result (hidden.new.flags ≡ hidden.old.flags) }
+    ensures length { length scratch.new ≡ length scratch.old }
 {
     // Read, so that it is known to be a number of 32 bits.
     let _cells = system.cells;
@@ -75,6 +77,8 @@ fn check_each(
     requires subjects { subjects.now ≡ others_hidden hidden.old.flags 0 cells.now }
     requires asked { All (λ need. need.cell < system.now.cells) needs.now }
     ensures exact { result ≡ each_need_fault system.now cells.now hidden.old.flags 0 subjects.now needs.now }
+    ensures hidden { OnOk result (hidden.new.flags ≡ hidden.old.flags) }
+    ensures length { length scratch.new ≡ length scratch.old }
 {
     for (place, need) in needs.iter().enumerate() {
         check_place(system, cells, hidden, subjects, place, need, scratch)?;

@@ -31,11 +31,7 @@ pub(crate) fn check_rounded(
 }
 
 // The numbers that the tables show.
-fn read_values(
-    alloc: Global,
-    case: &Case<'_>,
-    release: &[Text],
-) -> Result<Items<i128>, CheckFault>
+fn read_values(alloc: Global, case: &Case<'_>, release: &[Text]) -> Result<Items<i128>, CheckFault>
     requires case { IsCase case.now release.now }
     ensures exact { Gives fault_of (λ values. values) result (map_fault meant.at_line (rounded_read case.now.book.now case.now.names.now case.now.decimals release.now)) }
     ensures each { IfOk result (λ values. length values ≡ length case.now.cells.now) }

@@ -44,13 +44,19 @@ const SMALL_COUNTS: [Row; 9] = [
 ];
 
 // The tables of the former with cells 4, 5, 7 and 8 hidden, and of the latter rounded to the base 5.
-const SUPPRESSED: &str = "A,B,V\nTotal,Total,140\nTotal,1,50\nTotal,2,90\n1,Total,70\n1,1,x\n1,2,x\n2,Total,70\n2,1,x\n2,2,x\n";
+const SUPPRESSED: &str =
+    "A,B,V\nTotal,Total,140\nTotal,1,50\nTotal,2,90\n1,Total,70\n1,1,x\n1,2,x\n2,Total,70\n2,1,x\n2,2,x\n";
+
 const ROUNDED: &str =
     "A,B,V\nTotal,Total,15\nTotal,1,10\nTotal,2,5\n1,Total,5\n1,1,5\n1,2,0\n2,Total,10\n2,1,5\n2,2,5\n";
 
 // A certificate of a plan, one of repairs alone, and one of a rounding.
-const PLANNED: &str = "argus certificate 1\nmethod MOD\ncells 9\nrelations 6\nhidden 4 5 7 8\nstep 1 0,0 4 4,5,7,8\nneed 5 4 above 1 4:1\nneed 7 4 above 1 3:-1 4:1 5:1\nneed 8 4 above 1 3:-1 4:1\nworld 4 above 1 6 -6 -6 6\nworld 4 below 1 -6 6 6 -6\nend\n";
-const REPAIRED: &str = "argus certificate 1\nmethod MOD\ncells 9\nrelations 6\nhidden 4 5 7 8\nrepair 5 4 above 1 4:1\nrepair 8 4 above 1 3:-1 4:1\nrepair 7 4 above 1 3:-1 4:1 5:1\nneed 5 4 above 1 4:1\nneed 7 4 above 1 3:-1 4:1 5:1\nneed 8 4 above 1 3:-1 4:1\nworld 4 above 1 6 -6 -6 6\nworld 4 below 1 -6 6 6 -6\nend\n";
+const PLANNED: &str =
+    "argus certificate 1\nmethod MOD\ncells 9\nrelations 6\nhidden 4 5 7 8\nstep 1 0,0 4 4,5,7,8\nneed 5 4 above 1 4:1\nneed 7 4 above 1 3:-1 4:1 5:1\nneed 8 4 above 1 3:-1 4:1\nworld 4 above 1 6 -6 -6 6\nworld 4 below 1 -6 6 6 -6\nend\n";
+
+const REPAIRED: &str =
+    "argus certificate 1\nmethod MOD\ncells 9\nrelations 6\nhidden 4 5 7 8\nrepair 5 4 above 1 4:1\nrepair 8 4 above 1 3:-1 4:1\nrepair 7 4 above 1 3:-1 4:1 5:1\nneed 5 4 above 1 4:1\nneed 7 4 above 1 3:-1 4:1 5:1\nneed 8 4 above 1 3:-1 4:1\nworld 4 above 1 6 -6 -6 6\nworld 4 below 1 -6 6 6 -6\nend\n";
+
 const ROUNDING: &str = "argus certificate 1\nmethod RND 5\ncells 9\nrelations 6\nend\n";
 
 // A cell of a kind, with levels of 6 where it is primary.
@@ -243,19 +249,43 @@ fn planned(
     table: &str,
     words: &str,
 ) -> Result<Option<CheckFault>, Fail> {
-    fault_of(rt, alloc, &SHOWN_MARGINS, Method::Modular, true, table, words)
+    fault_of(
+        rt,
+        alloc,
+        &SHOWN_MARGINS,
+        Method::Modular,
+        true,
+        table,
+        words,
+    )
 }
 
 // The first fault of a rounded table.
 fn rounded(rt: &impl Abort, alloc: Global, table: &str) -> Result<Option<CheckFault>, Fail> {
-    fault_of(rt, alloc, &SMALL_COUNTS, Method::Rnd(5), false, table, ROUNDING)
+    fault_of(
+        rt,
+        alloc,
+        &SMALL_COUNTS,
+        Method::Rnd(5),
+        false,
+        table,
+        ROUNDING,
+    )
 }
 
 #[test]
 fn accepted(rt: HostRuntime) -> Result<(), Fail> {
     let alloc = rt.alloc();
     assert_eq!(rt; planned(&rt, alloc, SUPPRESSED, PLANNED)?, None);
-    let repaired = fault_of(&rt, alloc, &SHOWN_MARGINS, Method::Modular, false, SUPPRESSED, REPAIRED)?;
+    let repaired = fault_of(
+        &rt,
+        alloc,
+        &SHOWN_MARGINS,
+        Method::Modular,
+        false,
+        SUPPRESSED,
+        REPAIRED,
+    )?;
     assert_eq!(rt; repaired, None);
     assert_eq!(rt; rounded(&rt, alloc, ROUNDED)?, None);
     Ok(())
@@ -270,16 +300,40 @@ fn faults_of_certificates(rt: HostRuntime) -> Result<(), Fail> {
         ("method MOD", "method GH 1", CheckFault::Method),
         ("step 1 0,0 4", "step 1 0,1 4", CheckFault::Step(0)),
         ("step 1 0,0 4 4,5,7,8\n", "", CheckFault::Step(0)),
-        ("need 5 4", "step 1 0,0 4 4,5\nneed 5 4", CheckFault::Step(1)),
-        ("need 5 4", "repair 5 4 above 1 4:1\nneed 5 4", CheckFault::RepairCell(0)),
+        (
+            "need 5 4",
+            "step 1 0,0 4 4,5\nneed 5 4",
+            CheckFault::Step(1),
+        ),
+        (
+            "need 5 4",
+            "repair 5 4 above 1 4:1\nneed 5 4",
+            CheckFault::RepairCell(0),
+        ),
         ("world 4 below", "world 4 above", CheckFault::WorldCell(1)),
         ("world 4 below 1 -6 6 6 -6\n", "", CheckFault::WorldCell(1)),
-        ("above 1 6 -6", "above 1 7 -6", CheckFault::World(0, WorldFault::Relation(2))),
-        ("below 1 -6 6 6 -6", "below 1 -5 5 5 -5", CheckFault::NotReached(4, Side::Below)),
-        ("need 8 4 above 1 3:-1 4:1\nworld 4 above 1 6", "world 4 above 1 7", CheckFault::World(0, WorldFault::Relation(2))),
+        (
+            "above 1 6 -6",
+            "above 1 7 -6",
+            CheckFault::World(0, WorldFault::Relation(2)),
+        ),
+        (
+            "below 1 -6 6 6 -6",
+            "below 1 -5 5 5 -5",
+            CheckFault::NotReached(4, Side::Below),
+        ),
+        (
+            "need 8 4 above 1 3:-1 4:1\nworld 4 above 1 6",
+            "world 4 above 1 7",
+            CheckFault::World(0, WorldFault::Relation(2)),
+        ),
         ("need 7 4", "need 8 4", CheckFault::NeedCell(1)),
         ("need 8 4 above 1 3:-1 4:1\n", "", CheckFault::NeedCell(2)),
-        ("need 5 4 above 1 4:1", "need 5 4 above 1 3:1", CheckFault::Need(0, RefutationFault::Unbounded(4))),
+        (
+            "need 5 4 above 1 4:1",
+            "need 5 4 above 1 3:1",
+            CheckFault::Need(0, RefutationFault::Unbounded(4)),
+        ),
     ] {
         let words = PLANNED.replace(alloc, old, new)?;
         assert_eq!(rt; planned(&rt, alloc, SUPPRESSED, &words)?, Some(fault));
@@ -293,12 +347,32 @@ fn faults_of_repairs(rt: HostRuntime) -> Result<(), Fail> {
     for (old, new, fault) in [
         ("repair 8 4", "repair 3 4", CheckFault::RepairCell(1)),
         ("repair 8 4", "repair 5 4", CheckFault::RepairCell(1)),
-        ("repair 5 4 above 1 4:1", "repair 7 4 above 1 4:1", CheckFault::RepairCell(0)),
-        ("repair 5 4 above 1 4:1", "repair 5 4 above 1 3:1", CheckFault::Repair(0, RefutationFault::Unbounded(4))),
-        ("repair 7 4 above 1 3:-1 4:1 5:1\n", "", CheckFault::Outside(7)),
+        (
+            "repair 5 4 above 1 4:1",
+            "repair 7 4 above 1 4:1",
+            CheckFault::RepairCell(0),
+        ),
+        (
+            "repair 5 4 above 1 4:1",
+            "repair 5 4 above 1 3:1",
+            CheckFault::Repair(0, RefutationFault::Unbounded(4)),
+        ),
+        (
+            "repair 7 4 above 1 3:-1 4:1 5:1\n",
+            "",
+            CheckFault::Outside(7),
+        ),
     ] {
         let words = REPAIRED.replace(alloc, old, new)?;
-        let found = fault_of(&rt, alloc, &SHOWN_MARGINS, Method::Modular, false, SUPPRESSED, &words)?;
+        let found = fault_of(
+            &rt,
+            alloc,
+            &SHOWN_MARGINS,
+            Method::Modular,
+            false,
+            SUPPRESSED,
+            &words,
+        )?;
         assert_eq!(rt; found, Some(fault));
     }
     Ok(())
@@ -308,9 +382,15 @@ fn faults_of_repairs(rt: HostRuntime) -> Result<(), Fail> {
 fn faults_of_hidden_sets_and_tables(rt: HostRuntime) -> Result<(), Fail> {
     let alloc = rt.alloc();
     let shown = "argus certificate 1\nmethod MOD\ncells 9\nrelations 6\nhidden 5 7 8\nend\n";
-    assert_eq!(rt; planned(&rt, alloc, SUPPRESSED, shown)?, Some(CheckFault::PrimaryShown(4)));
+    assert_eq!(rt;
+        planned(&rt, alloc, SUPPRESSED, shown)?,
+        Some(CheckFault::PrimaryShown(4))
+    );
     let hidden = "argus certificate 1\nmethod MOD\ncells 9\nrelations 6\nhidden 3 4 5\nend\n";
-    assert_eq!(rt; planned(&rt, alloc, SUPPRESSED, hidden)?, Some(CheckFault::FixedHidden(3)));
+    assert_eq!(rt;
+        planned(&rt, alloc, SUPPRESSED, hidden)?,
+        Some(CheckFault::FixedHidden(3))
+    );
     for (old, new, line) in [
         ("A,B,V", "A,B,W", 1),
         ("Total,1,50", "Total,1,51", 3),
@@ -330,16 +410,32 @@ fn faults_of_hidden_sets_and_tables(rt: HostRuntime) -> Result<(), Fail> {
 fn faults_of_roundings(rt: HostRuntime) -> Result<(), Fail> {
     let alloc = rt.alloc();
     for (old, new, fault) in [
-        ("1,2,0\n2,Total,10\n2,1,5\n2,2,5", "1,2,5\n2,Total,10\n2,1,5\n2,2,0", CheckFault::Relation(4)),
+        (
+            "1,2,0\n2,Total,10\n2,1,5\n2,2,5",
+            "1,2,5\n2,Total,10\n2,1,5\n2,2,0",
+            CheckFault::Relation(4),
+        ),
         ("2,2,5\n", "2,2,10\n", CheckFault::Rounded(8)),
         ("2,2,5\n", "2,2,4\n", CheckFault::Rounded(8)),
-        ("2,2,5\n", "2,2,x\n", CheckFault::Release { table: 0, line: 10 }),
+        (
+            "2,2,5\n",
+            "2,2,x\n",
+            CheckFault::Release { table: 0, line: 10 },
+        ),
     ] {
         let table = ROUNDED.replace(alloc, old, new)?;
         assert_eq!(rt; rounded(&rt, alloc, &table)?, Some(fault));
     }
     let words = ROUNDING.replace(alloc, "end", "hidden 4\nend")?;
-    let found = fault_of(&rt, alloc, &SMALL_COUNTS, Method::Rnd(5), false, ROUNDED, &words)?;
+    let found = fault_of(
+        &rt,
+        alloc,
+        &SMALL_COUNTS,
+        Method::Rnd(5),
+        false,
+        ROUNDED,
+        &words,
+    )?;
     assert_eq!(rt; found, Some(CheckFault::Method));
     Ok(())
 }
