@@ -1,7 +1,8 @@
 -- Values that have no fault are a rounding.
-use Rattle.std.proofs.Common.{◌≡◌, ℕ, zero, suc, ◌+◌, ◌<◌, ◌&&◌, Bool, true, false, List, [], ◌∷◌, length, length-map, map, slice_get, All, Option, None, Some, Result, Ok, Err, ℤ, pos, ◌+ℤ◌, ◌-ℤ◌, ◌*ℤ◌, ◌<ℤ◌, ◌≤ℤ◌, int_lt, arith, refl, ap, sym, ◌∙◌, subst, if◌then◌else◌}
+use Rattle.std.proofs.Common.{◌≡◌, ℕ, zero, suc, ◌+◌, ◌<◌, ◌&&◌, Bool, true, false, List, [], ◌∷◌, length, map, slice_get, All, Option, None, Some, Result, Ok, Err, ℤ, pos, ◌+ℤ◌, ◌-ℤ◌, ◌*ℤ◌, ◌<ℤ◌, ◌≤ℤ◌, int_lt, arith, refl, ap, sym, ◌∙◌, subst, if◌then◌else◌}
 use Rattle.std.specs.Ordering.{int_eq}
-use Rattle.std.specs.Int.{int_div}
+use Rattle.std.specs.Prelude.{int_div}
+use Rattle.std.proofs.lemmas.List.{length-map}
 use Rattle.std.specs.Int.RustNames.{int_rem}
 use Rattle.std.proofs.lemmas.Int.{ints, quot-rem}
 use Rattle.std.proofs.lemmas.Bool.Decides.{Decides-int_eq}
@@ -81,6 +82,10 @@ adjacent base truth value is =
       not_above = less value (truth +ℤ base) b.1;
     }
 
+adjacent_from : (base : ℤ) (numbers : Numbers) (number : ℕ) (cell : Cell) (cells : List Cell) (k : ℕ) → k < length (cell ∷ cells) → IsAdjacent base cell.truth (numbers number) → ((i : ℕ) → i < length cells → IsAdjacent base (number_at (map (λ (one : Cell). one.truth) cells) i) (numbers (number + 1 + i))) → IsAdjacent base (number_at (map (λ (one : Cell). one.truth) (cell ∷ cells)) k) (numbers (number + k))
+adjacent_from base numbers number cell cells zero within here later = let same : number + 0 ≡ number = omega arith in subst (λ n. IsAdjacent base cell.truth (numbers n)) (sym same) here
+adjacent_from base numbers number cell cells (suc k) within here later = let same : number + suc k ≡ number + 1 + k = omega arith in subst (λ n. IsAdjacent base (number_at (map (λ (one : Cell). one.truth) cells) k) (numbers n)) (sym same) (later k (omega (arith, within)))
+
 all_adjacent : (base : ℤ) (numbers : Numbers) (number : ℕ) (cells : List Cell) → first_unrounded base numbers number cells ≡ None → (k : ℕ) → k < length cells → IsAdjacent base (number_at (map (λ cell. cell.truth) cells) k) (numbers (number + k))
 all_adjacent base numbers number [] none k within = absurd (omega (arith, within))
 all_adjacent base numbers number (cell ∷ cells) none k within =
@@ -88,10 +93,6 @@ all_adjacent base numbers number (cell ∷ cells) none k within =
       | true ↦ λ is later. adjacent_from base numbers number cell cells k within (adjacent base cell.truth (numbers number) is) (all_adjacent base numbers (number + 1) cells later)
       | false ↦ λ is bad. absurd cc
     ] refl none
-where
-  adjacent_from : (base : ℤ) (numbers : Numbers) (number : ℕ) (cell : Cell) (cells : List Cell) (k : ℕ) → k < length (cell ∷ cells) → IsAdjacent base cell.truth (numbers number) → ((i : ℕ) → i < length cells → IsAdjacent base (number_at (map (λ (one : Cell). one.truth) cells) i) (numbers (number + 1 + i))) → IsAdjacent base (number_at (map (λ (one : Cell). one.truth) (cell ∷ cells)) k) (numbers (number + k))
-  adjacent_from base numbers number cell cells zero within here later = let same : number + 0 ≡ number = omega arith in subst (λ n. IsAdjacent base cell.truth (numbers n)) (sym same) here
-  adjacent_from base numbers number cell cells (suc k) within here later = let same : number + suc k ≡ number + 1 + k = omega arith in subst (λ n. IsAdjacent base (number_at (map (λ (one : Cell). one.truth) cells) k) (numbers n)) (sym same) (later k (omega (arith, within)))
 
 -- ---- relations
 

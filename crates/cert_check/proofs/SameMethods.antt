@@ -1,5 +1,5 @@
 -- What tests of methods say where they are true.
-use Rattle.std.proofs.Common.{◌≡◌, ℕ, ◌==◌, ◌&&◌, ◌||◌, not, Bool, true, false, List, [], ◌∷◌, length, refl, ap}
+use Rattle.std.proofs.Common.{◌≡◌, ℕ, ◌==◌, ◌&&◌, ◌||◌, not, Bool, true, false, List, [], ◌∷◌, length, arith, refl, ap}
 use Rattle.std.specs.Ordering.{int_eq}
 use Rattle.std.proofs.lemmas.Bool.Decides.{Decides-eqb, Decides-int_eq}
 use Rattle.sdc_base.specs.declared.method.Method.{Method}
@@ -31,7 +31,7 @@ bare_where false rounds bare rounded is = absurd cc
 
 none_left : {A : Type 0} (xs : List A) → (length xs == 0) ≡ true → xs ≡ []
 none_left [] is = refl
-none_left (x ∷ xs) is = absurd cc
+none_left (x ∷ xs) is = absurd (omega (arith, (Decides-eqb (length (x ∷ xs)) 0).0 is))
 
 pub nothing_listed : (c : Certificate) → lists_nothing c ≡ true → ListsNothing c
 nothing_listed c is =

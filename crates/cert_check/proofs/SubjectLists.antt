@@ -63,10 +63,10 @@ asked_from number most (cell ∷ cells) size =
 pub asked_are_cells : (cells : List Cell) → All (λ (one : ℕ × Side). one.0 < length cells) (asked_of 0 cells)
 asked_are_cells cells = asked_from 0 (length cells) cells (omega arith)
 
+all_weaker : {A : Type 0} (P Q : A → Type 0) (xs : List A) → ((x : A) → P x → Q x) → All P xs → All Q xs
+all_weaker P Q [] more all = All-nil Q
+all_weaker P Q (x ∷ xs) more all = All-cons Q x xs (more x (All-head P x xs all)) (all_weaker P Q xs more (All-tail P x xs all))
+
 -- the subjects are cells
 pub subjects_below : (flags : List Bool) (cells : List Cell) → All (λ subject. subject < length cells) (others_hidden flags 0 cells)
 subjects_below flags cells = all_weaker (IsSubject flags 0 (length cells)) (λ subject. subject < length cells) (others_hidden flags 0 cells) (λ subject is. is.below) (subjects_are flags 0 (length cells) cells (omega arith))
-where
-  all_weaker : {A : Type 0} (P Q : A → Type 0) (xs : List A) → ((x : A) → P x → Q x) → All P xs → All Q xs
-  all_weaker P Q [] more all = All-nil Q
-  all_weaker P Q (x ∷ xs) more all = All-cons Q x xs (more x (All-head P x xs all)) (all_weaker P Q xs more (All-tail P x xs all))

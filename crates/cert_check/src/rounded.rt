@@ -1,4 +1,5 @@
-ghost use Rattle.std.specs.Prelude.{◌≡◌, ◌≤ℤ◌, ◌<◌, ◌^◌, true, pos, length, All, IfOk};
+ghost use Rattle.std.specs.Prelude.{◌≡◌, ◌≤ℤ◌, ◌+ℤ◌, ◌-ℤ◌, ◌<◌, ◌^◌, true, pos, int_lt, length, All, IfOk};
+ghost use Rattle.std.specs.Int.RustNames.{int_rem};
 ghost use Rattle.std.specs.Ordering.{int_eq};
 ghost use Rattle.sdc_base.specs.Answers.{Gives};
 ghost use Rattle.sdc_base.specs.Steps.{map_fault};
@@ -89,9 +90,37 @@ fn is_adjacent(cell: &Cell, base: i128, value: i128) -> bool
     requires from_zero { pos 0 ≤ℤ value }
     ensures { result ≡ meant.is_adjacent base cell.now.truth value }
 {
+    is_multiple(base, value) && is_above_lower(cell, base, value) && is_below_upper(cell, base, value)
+}
+
+// Whether a value is a multiple of the base.
+fn is_multiple(base: i128, value: i128) -> bool
+    requires base { pos 1 ≤ℤ base }
+    ensures { result ≡ int_eq (int_rem value base) (pos 0) }
+{
+    value % base == 0
+}
+
+// Whether a value is less than one base below a cell's truth.
+#[tactic(auto, using(crate::proofs::PartsTaken::above_lower))]
+fn is_above_lower(cell: &Cell, base: i128, value: i128) -> bool
+    requires from_zero { pos 0 ≤ℤ value }
+    ensures { result ≡ int_lt (cell.now.truth -ℤ base) value }
+{
     // for the proof: read, so that the truth is known to be from 0.
     let _low = cell.low;
-    value % base == 0 && cell.truth - value < base && value - cell.truth < base
+    cell.truth - value < base
+}
+
+// Whether a value is less than one base above a cell's truth.
+#[tactic(auto, using(crate::proofs::PartsTaken::below_upper))]
+fn is_below_upper(cell: &Cell, base: i128, value: i128) -> bool
+    requires from_zero { pos 0 ≤ℤ value }
+    ensures { result ≡ int_lt value (cell.now.truth +ℤ base) }
+{
+    // for the proof: read, so that the truth is known to be from 0.
+    let _low = cell.low;
+    value - cell.truth < base
 }
 
 // The first relation that doesn't hold on the values.
