@@ -13,3 +13,5 @@ pub mod Cases
 pub mod FirstFault
 pub mod Acceptance
 pub mod LineLaws
+pub mod RoundingLaws
+pub mod WrittenLaws

@@ -23,4 +23,4 @@ mod tests;
 pub use accepting::accept;
 pub use case::Case;
 pub use faults::CheckFault;
-pub use laws::lines_differ;
+pub use laws::{lines_differ, protected_is_accepted, rounding_is_judged};

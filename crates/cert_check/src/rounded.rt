@@ -90,7 +90,9 @@ fn is_adjacent(cell: &Cell, base: i128, value: i128) -> bool
     requires from_zero { pos 0 ≤ℤ value }
     ensures { result ≡ meant.is_adjacent base cell.now.truth value }
 {
-    is_multiple(base, value) && is_above_lower(cell, base, value) && is_below_upper(cell, base, value)
+    is_multiple(base, value)
+        && is_above_lower(cell, base, value)
+        && is_below_upper(cell, base, value)
 }
 
 // Whether a value is a multiple of the base.
