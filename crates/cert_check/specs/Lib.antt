@@ -1,0 +1,17 @@
+pub mod FirstDifference
+pub mod Counts
+pub mod Methods
+pub mod HiddenSet
+pub mod ReleaseLines
+pub mod TrailSteps
+pub mod RepairList
+pub mod OutsidePlan
+pub mod WorldList
+pub mod NeedList
+pub mod RoundedRelease
+pub mod Cases
+pub mod FirstFault
+pub mod Acceptance
+pub mod LineLaws
+pub mod RoundingLaws
+pub mod WrittenLaws

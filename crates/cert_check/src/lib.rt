@@ -1,0 +1,26 @@
+//! Whether a certificate shows that a release is protected, or that it is rounded.
+#![tactic(auto)]
+
+mod accepting;
+mod case;
+mod counting;
+mod faults;
+mod hiding;
+mod laws;
+mod lines;
+mod methods;
+mod needing;
+mod numbering;
+mod outside;
+mod planned;
+mod release;
+mod repairing;
+mod rounded;
+mod steps;
+#[cfg(test)]
+mod tests;
+
+pub use accepting::accept;
+pub use case::Case;
+pub use faults::CheckFault;
+pub use laws::{lines_differ, protected_is_accepted, rounding_is_judged};

@@ -1,0 +1,44 @@
+ghost use Rattle.std.specs.Prelude.{◌≡◌, ◌<◌, length, map, fold, All, IfOk};
+ghost use Rattle.sdc_base.specs.Kinds.{is_primary};
+ghost use Rattle.repair.specs.HidingOrder.{hide, corners_of, planned_set};
+
+use crate::hiding::hide_all;
+use sdc_base::{Cell, Hidden, Items, Memory, PlanStep};
+use std::alloc::Global;
+
+/// The hidden set of the plan: the primary cells and the corners of the steps.
+pub(crate) fn planned_hidden(
+    alloc: Global,
+    cells: &[Cell],
+    steps: &[PlanStep],
+) -> Result<Hidden, Memory>
+    requires corners { All (λ corner. corner < length cells.now) (corners_of steps.now) }
+    ensures { IfOk result (λ hidden. hidden.flags ≡ planned_set cells.now (corners_of steps.now)) }
+{
+    let mut flags = primary_flags(alloc, cells)?;
+    hide_corners(&mut flags, steps);
+    Ok(Hidden {
+        flags: Items::new(flags),
+    })
+}
+
+// Which cells are primary.
+fn primary_flags(alloc: Global, cells: &[Cell]) -> Result<Vec<bool>, Memory>
+    ensures { IfOk result (λ flags. flags.items ≡ map (λ cell. is_primary cell.kind) cells.now) }
+{
+    let mut flags = Vec::new(alloc);
+    for cell in cells {
+        flags.push(cell.kind.is_primary())?;
+    }
+    Ok(flags)
+}
+
+// Hides the corners of the steps.
+fn hide_corners(flags: &mut [bool], steps: &[PlanStep])
+    requires { All (λ corner. corner < length flags.old) (corners_of steps.now) }
+    ensures { flags.new ≡ fold hide flags.old (corners_of steps.now) }
+{
+    for step in steps {
+        hide_all(flags, step.corners.as_slice());
+    }
+}
