@@ -1,0 +1,16 @@
+mod Counting
+mod FormLemmas
+mod Nearness
+mod SearchLemmas
+mod Choosing
+mod Adjacency
+mod Betweenness
+mod Completeness
+mod Smallness
+mod Opening
+mod SumSteps
+mod Unrounded
+mod Keeping
+mod Going
+mod PartSteps
+mod Ordering

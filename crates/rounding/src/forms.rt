@@ -1,0 +1,27 @@
+ghost use Rattle.std.specs.Prelude.{◌≡◌, ◌==◌, ◌≤◌, ◌≤ℤ◌, ◌^◌, neg_ℤ, pos, length};
+ghost use Rattle.std.specs.List.{count_by};
+ghost use Rattle.rounding.specs.Extremes.{count_of as times_in_form};
+
+use sdc_base::Relation;
+
+// How often a relation's form counts a cell.
+pub(crate) fn count_of(relation: &Relation, cell: u32) -> i128
+    ensures value { result ≡ times_in_form relation.now cell }
+    ensures low { neg_ℤ (pos (2 ^ 32)) ≤ℤ result }
+    ensures high { result ≤ℤ pos 1 }
+{
+    let taken = times_in(relation.parts.as_slice(), cell) as i128;
+    if relation.total == cell {
+        1 - taken
+    } else {
+        -taken
+    }
+}
+
+// How often a cell is among parts.
+fn times_in(parts: &[u32], cell: u32) -> usize
+    ensures value { result ≡ count_by (λ part. part == cell) parts.now }
+    ensures few { result ≤ length parts.now }
+{
+    parts.iter().filter(|part| **part == cell).count()
+}

@@ -1,0 +1,17 @@
+//! Controlled rounding: each cell at a multiple of a base next to its truth, so that tables still add up.
+#![tactic(auto)]
+
+mod fault;
+mod forms;
+mod laws;
+mod neighbours;
+mod numbers;
+mod partial;
+mod rounding;
+mod search;
+#[cfg(test)]
+mod tests;
+
+pub use fault::RoundFault;
+pub use laws::{extremes_are_bounds, search_is_in_order};
+pub use rounding::{Rounding, round};

@@ -1,0 +1,202 @@
+ghost use Rattle.std.specs.Prelude.{◌≡◌, ◌<◌, ◌≤◌, ◌^◌, ◌≤ℤ◌, ◌-ℤ◌, ◌+ℤ◌, neg_ℤ, pos, ℕ, ℤ, List, [], All, IsTrue, ◌↔◌, if◌then◌else◌, int_lt, length, slice_get, slice_set, Some, IfOk};
+ghost use Rattle.sdc_base.specs.declared.relation.Relation.{Relation as AnyRelation};
+ghost use Rattle.sdc_base.specs.Systems.{NamesCells, HoldOn, form};
+ghost use Rattle.sdc_base.specs.Roundings.{number_at};
+ghost use Rattle.rounding.specs.Neighbours.{is_multiple as is_multiple_of, neighbour};
+ghost use Rattle.rounding.specs.Choices.{unrounded_cells, by_choices};
+ghost use Rattle.rounding.specs.Extremes.{count_of as times_in_form, change, extreme_numbers, extreme};
+ghost use Rattle.rounding.specs.Tasks.{IsTruth};
+ghost use Rattle.rounding.specs.PartialLists.{IsNear, AreExtremes, AreSmall};
+
+use crate::forms::count_of;
+use crate::neighbours::{down, is_multiple};
+use sdc_base::{Memory, Relation};
+use std::alloc::Global;
+
+// The cells whose truths aren't multiples of the base, ascending.
+pub(crate) fn cells_to_round(
+    alloc: Global,
+    cells: u32,
+    truths: &[i128],
+    base: i128,
+) -> Result<Vec<u32>, Memory>
+    requires base { pos 1 ≤ℤ base }
+    requires truths { All IsTruth truths.now }
+    requires each { length truths.now ≡ cells }
+    ensures { IfOk result (λ found. found.items ≡ unrounded_cells base 0 truths.now) }
+{
+    let mut found = Vec::new(alloc);
+    'cells: for cell in 0..cells {
+        if is_multiple(base, truths[cell as usize]) {
+            continue;
+        }
+        found.push(cell)?;
+    }
+    Ok(found)
+}
+
+// A number for each cell: a truth that is a multiple as it is, any other to one side.
+pub(crate) fn numbers_to(
+    alloc: Global,
+    truths: &[i128],
+    base: i128,
+    side: bool,
+) -> Result<Vec<i128>, Memory>
+    requires base { pos 1 ≤ℤ base }
+    requires most { base ≤ℤ pos (10 ^ 22) }
+    requires truths { All IsTruth truths.now }
+    ensures { IfOk result (λ numbers. numbers.items ≡ by_choices side base truths.now []) }
+{
+    let mut numbers = Vec::new(alloc);
+    'truths: for truth in truths {
+        numbers.push(number_to(base, *truth, side))?;
+    }
+    Ok(numbers)
+}
+
+// A truth that is a multiple as it is, any other to one side.
+fn number_to(base: i128, truth: i128, side: bool) -> i128
+    requires base { pos 1 ≤ℤ base }
+    requires most { base ≤ℤ pos (10 ^ 22) }
+    requires truth { IsTruth truth }
+    ensures { result ≡ (if is_multiple_of base truth then truth else neighbour base truth side) }
+{
+    if is_multiple(base, truth) {
+        truth
+    } else if side {
+        down(base, truth) + base
+    } else {
+        down(base, truth)
+    }
+}
+
+// Sets the number of a cell to another near it, and the extremes of the forms with it: the first ones take these numbers for the
+// cells that a form counts above 0 times, the second ones for the others.
+pub(crate) fn set_number(
+    relations: &[Relation],
+    numbers: &mut Vec<i128>,
+    cell: u32,
+    to: i128,
+    first: &mut Vec<i128>,
+    second: &mut Vec<i128>,
+)
+    requires named { All (NamesCells (length numbers.old.items)) relations.now }
+    requires cell { cell < length numbers.old.items }
+    requires low { neg_ℤ (pos (2 ^ 74)) ≤ℤ (to -ℤ number_at numbers.old.items cell) }
+    requires high { (to -ℤ number_at numbers.old.items cell) ≤ℤ pos (2 ^ 74) }
+    requires first { (length first.old.items ≡ length relations.now) × AreSmall first.old.items }
+    requires second { (length second.old.items ≡ length relations.now) × AreSmall second.old.items }
+    ensures numbers { numbers.new.items ≡ slice_set numbers.old.items cell to }
+    ensures first { (other : List ℤ) → AreExtremes numbers.old.items other relations.now first.old.items → AreExtremes numbers.new.items other relations.now first.new.items }
+    ensures second { (other : List ℤ) → AreExtremes other numbers.old.items relations.now second.old.items → AreExtremes other numbers.new.items relations.now second.new.items }
+{
+    let by = to - numbers[cell as usize];
+    numbers[cell as usize] = to;
+    move_sums(relations, first, cell, by, 0);
+    move_sums(relations, second, cell, 0, by);
+}
+
+// Moves the extreme of each form as a cell's numbers move: by the first amount where a form counts it above 0 times, else by the
+// other one.
+fn move_sums(relations: &[Relation], sums: &mut Vec<i128>, cell: u32, one: i128, other: i128)
+    requires each { length sums.old.items ≡ length relations.now }
+    requires small { AreSmall sums.old.items }
+    requires one { (neg_ℤ (pos (2 ^ 74)) ≤ℤ one) × (one ≤ℤ pos (2 ^ 74)) }
+    requires other { (neg_ℤ (pos (2 ^ 74)) ≤ℤ other) × (other ≤ℤ pos (2 ^ 74)) }
+    ensures each { length sums.new.items ≡ length sums.old.items }
+    ensures moved { (number : ℕ) (r : AnyRelation) → slice_get relations.now number ≡ Some r → number_at sums.new.items number ≡ number_at sums.old.items number +ℤ change r cell one other }
+{
+    'relations: for (number, relation) in relations.iter().enumerate() {
+        sums[number] += sum_change(relation, cell, one, other);
+    }
+}
+
+// By how much the extreme of one form moves.
+fn sum_change(relation: &Relation, cell: u32, one: i128, other: i128) -> i128
+    requires one { (neg_ℤ (pos (2 ^ 74)) ≤ℤ one) × (one ≤ℤ pos (2 ^ 74)) }
+    requires other { (neg_ℤ (pos (2 ^ 74)) ≤ℤ other) × (other ≤ℤ pos (2 ^ 74)) }
+    ensures value { result ≡ change relation.now cell one other }
+    ensures low { neg_ℤ (pos (2 ^ 110)) ≤ℤ result }
+    ensures high { result ≤ℤ pos (2 ^ 110) }
+{
+    let times = count_of(relation, cell);
+    let by = number_by_count(times, one, other);
+    times * by
+}
+
+// The extremes of the forms between one list of numbers and another.
+pub(crate) fn extremes_of(
+    alloc: Global,
+    relations: &[Relation],
+    truths: &[i128],
+    one: &[i128],
+    other: &[i128],
+) -> Result<Vec<i128>, Memory>
+    requires named { All (NamesCells (length truths.now)) relations.now }
+    requires lengths { (length one.now ≡ length truths.now) × (length other.now ≡ length truths.now) }
+    requires near_one { (c : ℕ) → IsNear (10 ^ 22) (number_at one.now c) (number_at truths.now c) }
+    requires near_other { (c : ℕ) → IsNear (10 ^ 22) (number_at other.now c) (number_at truths.now c) }
+    requires hold { HoldOn (number_at truths.now) relations.now }
+    ensures { IfOk result (λ sums. AreExtremes one.now other.now relations.now sums.items) }
+{
+    let mut sums = Vec::new(alloc);
+    'relations: for relation in relations {
+        sums.push(extreme_of(relation, truths, one, other))?;
+    }
+    Ok(sums)
+}
+
+// The extreme of one form. The relation holds on the truths, so this is what the form takes on how far the numbers are from
+// them, and these sums stay within 128 bits.
+fn extreme_of(relation: &Relation, truths: &[i128], one: &[i128], other: &[i128]) -> i128
+    requires named { NamesCells (length truths.now) relation.now }
+    requires lengths { (length one.now ≡ length truths.now) × (length other.now ≡ length truths.now) }
+    requires near_one { (c : ℕ) → IsNear (10 ^ 22) (number_at one.now c) (number_at truths.now c) }
+    requires near_other { (c : ℕ) → IsNear (10 ^ 22) (number_at other.now c) (number_at truths.now c) }
+    requires holds { form (number_at truths.now) relation.now ≡ pos 0 }
+    ensures { result ≡ extreme (number_at one.now) (number_at other.now) relation.now }
+{
+    let mut sum = distance(relation, relation.total, truths, one, other);
+    'parts: for part in relation.parts.as_slice() {
+        sum -= distance(relation, *part, truths, one, other);
+    }
+    sum
+}
+
+// How far the number that an extreme takes for a cell is from its truth.
+fn distance(relation: &Relation, cell: u32, truths: &[i128], one: &[i128], other: &[i128]) -> i128
+    requires cell { cell < length truths.now }
+    requires lengths { (length one.now ≡ length truths.now) × (length other.now ≡ length truths.now) }
+    requires near_one { IsNear (10 ^ 22) (number_at one.now cell) (number_at truths.now cell) }
+    requires near_other { IsNear (10 ^ 22) (number_at other.now cell) (number_at truths.now cell) }
+    ensures value { result ≡ extreme_numbers relation.now (number_at one.now) (number_at other.now) cell -ℤ number_at truths.now cell }
+    ensures low { neg_ℤ (pos (10 ^ 22)) ≤ℤ result }
+    ensures high { result ≤ℤ pos (10 ^ 22) }
+{
+    let times = count_of(relation, cell);
+    let number = number_by_count(times, one[cell as usize], other[cell as usize]);
+    number - truths[cell as usize]
+}
+
+// The first number where there are more than 0 times, else the other.
+fn number_by_count(times: i128, one: i128, other: i128) -> i128
+    ensures { result ≡ (if int_lt (pos 0) times then one else other) }
+{
+    if times > 0 { one } else { other }
+}
+
+// Whether 0 lies between the least and the greatest of each form.
+pub(crate) fn all_span_none(least: &[i128], greatest: &[i128]) -> bool
+    requires { length greatest.now ≡ length least.now }
+    ensures { IsTrue result ↔ ((number : ℕ) → number < length least.now → (number_at least.now number ≤ℤ pos 0) × (pos 0 ≤ℤ number_at greatest.now number)) }
+{
+    'sums: for (number, low) in least.iter().enumerate() {
+        if *low > 0 {
+            return false;
+        }
+        if greatest[number] < 0 {
+            return false;
+        }
+    }
+    true
+}
