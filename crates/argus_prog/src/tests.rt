@@ -517,36 +517,6 @@ fn statements(rt: HostRuntime) -> Result<(), Fail> {
     Ok(())
 }
 
-// A table by two variables, of which each has 150 codes in its list: it has 22,801 cells alone, and an earlier table by one of
-// them has 151.
-#[test]
-fn too_many_cells(rt: HostRuntime) -> Result<(), Fail> {
-    let alloc = rt.alloc();
-    let mut codes = String::new(alloc);
-    for code in 1..151u32 {
-        let line = format!(in alloc; "{code}\n")?;
-        codes.push_str(line.as_str())?;
-    }
-    let metadata = "A 1 3\n<CODELIST> \"c.cdl\"\nB 4 3\n<CODELIST> \"c.cdl\"\nV 7 3\n<NUMERIC>\n";
-    let one = changed(alloc, "\"A\"|", "\"A\"\"B\"|")?;
-    let second = LINKED.replace(alloc, "\"A\"\"B\"", "\"A\"")?;
-    let second = second.replace(alloc, "\"C\"", "\"B\"")?;
-    for (job, want) in [
-        (&one, "2 refused: table 1: TooManyCells\n"),
-        (&second, "2 refused: table 2: TooManyCells\n"),
-    ] {
-        let files = [
-            ("r.job", job.as_str()),
-            ("m.rda", metadata),
-            ("m.asc", "1  2    5\n"),
-            ("c.cdl", codes.as_str()),
-        ];
-        let got = ran_alone(alloc, &files, WHOLE, 0)?;
-        assert_eq!(rt; got.as_str(), want);
-    }
-    Ok(())
-}
-
 // Two tables have a cell in common, and each has a file that states something of it: the second one must not
 // contradict the first.
 #[test]
