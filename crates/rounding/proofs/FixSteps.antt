@@ -1,14 +1,13 @@
 -- The numbers that fixed cells leave.
-use Rattle.std.proofs.Common.{◌≡◌, ◌≢◌, ◌⊎◌, inl, inr, ℕ, zero, suc, ◌+◌, ◌-◌, ◌^◌, ◌<◌, ◌≤◌, ◌==◌, Bool, true, false, List, [], ◌∷◌, ◌++◌, length, get_or, take, All, Some, slice_get, ℤ, pos, ◌+ℤ◌, ◌-ℤ◌, ◌≤ℤ◌, ◌<ℤ◌, int_lt, fold, arith, refl, ap, sym, subst, ◌∙◌, if◌then◌else◌, append-nil, length-append, length-set, get_or-set_other, get_or-set_same}
+use Rattle.std.proofs.Common.{◌≡◌, ◌≢◌, ◌⊎◌, inl, inr, ℕ, zero, suc, ◌^◌, ◌<◌, ◌≤◌, ◌==◌, Bool, true, false, List, [], ◌∷◌, ◌++◌, length, All, Some, slice_get, ℤ, pos, ◌≤ℤ◌, ◌<ℤ◌, fold, arith, refl, ap, sym, subst, ◌∙◌, if◌then◌else◌, append-nil, length-set, get_or-set_other, get_or-set_same}
 use Rattle.std.proofs.Math.ListN.{set}
 use Rattle.std.proofs.lemmas.Int.{ints}
 use Rattle.std.proofs.lemmas.Bool.{cases_lt}
 use Rattle.std.proofs.lemmas.Bool.Decides.{Decides-eqb, nat_tests}
-use Rattle.std.proofs.lemmas.List.{get_or_past, set-set, set-get_or}
+use Rattle.std.proofs.lemmas.List.{get_or_past}
 use Rattle.std.proofs.lemmas.List.Sums.{fold-append}
 use Rattle.std.proofs.lemmas.List.Elements.{All-nil, All-cons}
 use Rattle.std.proofs.lemmas.Option.{slice_get_within}
-use Rattle.sdc_base.specs.declared.system.System.{System}
 use Rattle.sdc_base.specs.Roundings.{number_at, IsAdjacent}
 use Rattle.rounding.specs.Neighbours.{is_multiple, neighbour}
 use Rattle.rounding.specs.Choices.{by_choices}
@@ -58,10 +57,6 @@ set_here_or_not xs cell c z inside =
       | true ↦ λ test. let same : cell ≡ c = (Decides-eqb cell c).0 test in inl (same, ap (λ (j : ℕ). number_at (set xs cell z) j) (sym same) ∙ get_or-set_same xs cell z (pos 0) inside)
       | false ↦ λ test. let apart : c ≢ cell = grind (arith, nat_tests, test) in inr ((λ same. apart (sym same)), get_or-set_other xs cell c z (pos 0) apart)
     ] refl
-
--- past the end all numbers are 0
-past_set : (xs : List ℤ) (cell c : ℕ) (z : ℤ) → length xs ≤ c → number_at (set xs cell z) c ≡ number_at xs c
-past_set xs cell c z past = get_or_past (set xs cell z) c (pos 0) (omega (arith, length-set xs cell z)) ∙ sym (get_or_past xs c (pos 0) past)
 
 stands_on : (base : ℤ) (truths lows highs : List ℤ) (fix : Fix) (c : ℕ) → length lows ≡ length highs → c < length lows → Stands base (number_at truths c) (number_at lows c) (number_at highs c)
     → Stands base (number_at truths c) (number_at (with_fix base truths lows fix) c) (number_at (with_fix base truths highs fix) c)

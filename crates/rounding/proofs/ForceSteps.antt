@@ -12,13 +12,11 @@ use Rattle.std.proofs.lemmas.List.{drop-append-le}
 use Rattle.std.proofs.lemmas.List.Sums.{fold-append}
 use Rattle.std.proofs.lemmas.Option.{slice_get_within, get_or_from_slice_get}
 use Rattle.sdc_base.specs.declared.relation.Relation.{Relation}
-use Rattle.sdc_base.specs.declared.system.System.{System}
-use Rattle.sdc_base.specs.Totals.{sum_below}
-use Rattle.sdc_base.specs.Systems.{Numbers, NamesCells, HoldOn, form}
+use Rattle.sdc_base.specs.Systems.{Numbers, NamesCells, form}
 use Rattle.sdc_base.specs.Roundings.{number_at, IsRounding}
 use Rattle.sdc_base.proofs.TotalLemmas.{sum_below-same}
 use Rattle.sdc_base.proofs.WholeNumbers.{times_up, minus_times}
-use Rattle.rounding.specs.Neighbours.{is_multiple, neighbour}
+use Rattle.rounding.specs.Neighbours.{neighbour}
 use Rattle.rounding.specs.Choices.{by_choices}
 use Rattle.rounding.specs.Extremes.{count_of, extreme_numbers, extreme, change}
 use Rattle.rounding.specs.Tasks.{IsProper}

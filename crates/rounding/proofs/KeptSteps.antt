@@ -1,26 +1,24 @@
 -- What is kept beside fixed cells stays right as one is fixed or freed.
-use Rattle.std.proofs.Common.{◌≡◌, ◌≢◌, ◌⊎◌, inl, inr, ℕ, zero, suc, ◌+◌, ◌-◌, ◌^◌, ◌<◌, ◌≤◌, Bool, true, false, List, [], ◌∷◌, ◌++◌, length, get_or, take, map, All, Some, slice_get, ℤ, pos, neg_ℤ, ◌+ℤ◌, ◌-ℤ◌, ◌≤ℤ◌, ◌<ℤ◌, eqb, int_lt, arith, refl, ap, sym, subst, ◌∙◌, length-append, get_or-set_same, ◌||◌}
+use Rattle.std.proofs.Common.{◌≡◌, ◌≢◌, ◌⊎◌, inl, inr, ℕ, zero, suc, ◌-◌, ◌^◌, ◌<◌, ◌≤◌, Bool, true, false, List, [], ◌∷◌, ◌++◌, length, take, map, All, Some, slice_get, ℤ, pos, neg_ℤ, ◌+ℤ◌, ◌-ℤ◌, ◌≤ℤ◌, ◌<ℤ◌, eqb, int_lt, arith, refl, ap, sym, subst, ◌∙◌, length-append, get_or-set_same, ◌||◌}
 use Rattle.std.proofs.Math.ListN.{set}
 use Rattle.std.proofs.Math.Seq.{take-append_seam}
 use Rattle.std.specs.List.{IsDistinct, AllByRecursion, list_any}
 use Rattle.std.proofs.lemmas.Int.{ints}
-use Rattle.std.proofs.lemmas.Bool.{cases_lt}
 use Rattle.std.proofs.lemmas.Bool.Decides.{Decides-eqb, nat_tests}
 use Rattle.std.proofs.lemmas.List.{set-set, set-get_or, take-append-le}
 use Rattle.std.proofs.lemmas.Map.Keys.{IsDistinct-cons}
 use Rattle.std.proofs.lemmas.Map.Steps.{length-le_from_distinct_below}
 use Rattle.std.proofs.lemmas.Option.{slice_get_within, same_Some}
 use Rattle.sdc_base.specs.declared.relation.Relation.{Relation}
-use Rattle.sdc_base.specs.declared.system.System.{System}
 use Rattle.sdc_base.specs.Systems.{NamesCells}
 use Rattle.sdc_base.specs.Roundings.{number_at}
-use Rattle.rounding.specs.Neighbours.{is_multiple, neighbour}
+use Rattle.rounding.specs.Neighbours.{neighbour}
 use Rattle.rounding.specs.Choices.{by_choices}
 use Rattle.rounding.specs.Extremes.{extreme}
 use Rattle.rounding.specs.Namings.{IsNamingOf, IsNaming}
 use Rattle.rounding.specs.Sums.{IsNear, AreExtremes, AreSmall}
 use Rattle.rounding.specs.Tasks.{IsProper}
-use Rattle.rounding.specs.Fixes.{Fix, by_fixes, FixedCells, fixed_cells, number_left, IsFree, IsSettable, IsKept, allows}
+use Rattle.rounding.specs.Fixes.{Fix, by_fixes, FixedCells, number_left, IsFree, IsSettable, IsKept, allows}
 use Rattle.rounding.proofs.FixSteps.{length-by_fixes, one_more_fix, free_is_new, left_near, either_left}
 use Rattle.rounding.proofs.Smallness.{extremes_small}
 

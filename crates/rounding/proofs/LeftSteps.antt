@@ -1,7 +1,6 @@
 -- What choices and what they force leave.
-use Rattle.std.proofs.Common.{◌≡◌, ◌≢◌, ◌⊎◌, inl, inr, ℕ, zero, suc, ◌+◌, ◌-◌, ◌<◌, ◌≤◌, ◌==◌, Bool, true, false, List, [], ◌∷◌, ◌++◌, length, get_or, take, map, All, Some, slice_get, ℤ, pos, ◌+ℤ◌, ◌≤ℤ◌, ◌<ℤ◌, int_lt, int_le, ◌&&◌, fold, arith, refl, ap, sym, subst, ◌∙◌, if◌then◌else◌, append-nil, append_assoc, length-append, get_or-set_other, get_or-set_same}
+use Rattle.std.proofs.Common.{◌≡◌, ◌≢◌, ◌⊎◌, inl, inr, ℕ, zero, suc, ◌+◌, ◌-◌, ◌<◌, ◌≤◌, ◌==◌, Bool, true, false, List, [], ◌∷◌, ◌++◌, length, get_or, All, Some, slice_get, ℤ, pos, ◌≤ℤ◌, ◌<ℤ◌, int_lt, int_le, ◌&&◌, fold, arith, refl, ap, sym, subst, ◌∙◌, if◌then◌else◌, append_assoc, get_or-set_other, get_or-set_same}
 use Rattle.std.proofs.Math.ListN.{set}
-use Rattle.std.specs.List.{list_all}
 use Rattle.std.proofs.lemmas.Int.{ints}
 use Rattle.std.proofs.lemmas.Bool.Decides.{Decides-eqb, nat_tests}
 use Rattle.std.proofs.lemmas.List.{ext_get_or}
@@ -9,15 +8,14 @@ use Rattle.std.proofs.lemmas.List.Elements.{All-head, All-tail}
 use Rattle.std.proofs.lemmas.List.Sums.{fold-append, list_all-from_AllPass}
 use Rattle.std.proofs.lemmas.Option.{slice_get-get_or}
 use Rattle.sdc_base.specs.declared.relation.Relation.{Relation}
-use Rattle.sdc_base.specs.declared.system.System.{System}
 use Rattle.sdc_base.specs.Systems.{NamesCells}
-use Rattle.sdc_base.specs.Roundings.{number_at, IsRounding}
+use Rattle.sdc_base.specs.Roundings.{number_at}
 use Rattle.rounding.specs.Neighbours.{is_multiple, neighbour}
 use Rattle.rounding.specs.Choices.{Choices, unrounded_cells, by_choices}
 use Rattle.rounding.specs.Extremes.{count_of, extreme_numbers, extreme, spans_none, is_open}
 use Rattle.rounding.specs.Searches.{Rounds, NoneExtends, unrounded_count}
 use Rattle.rounding.specs.Tasks.{IsProper}
-use Rattle.rounding.specs.Fixes.{Fix, with_fix, by_fixes, FixedCells, number_left, allows, IsWithin, NoneWithin, can_hold, AllCanHold, IsForced, IsTaken}
+use Rattle.rounding.specs.Fixes.{Fix, with_fix, by_fixes, FixedCells, number_left, allows, IsWithin, NoneWithin, AllCanHold, IsForced, IsTaken}
 use Rattle.rounding.specs.PartialLists.{AreLeft}
 use Rattle.rounding.proofs.Betweenness.{longer_lies}
 use Rattle.rounding.proofs.Choosing.{unrounded_within, one_more_choice, length-by_choices, whole_leaves_one}

@@ -1,5 +1,5 @@
 -- The steps of a partial list.
-use Rattle.std.proofs.Common.{◌≡◌, ◌⊎◌, inl, inr, ℕ, zero, suc, ◌+◌, ◌-◌, ◌<◌, ◌≤◌, Bool, true, false, List, [], ◌∷◌, ◌++◌, length, get_or, take, drop, map, Some, slice_get, ℤ, pos, ◌≤ℤ◌, arith, refl, ap, sym, subst, ◌∙◌, append_assoc, length-append}
+use Rattle.std.proofs.Common.{◌≡◌, ◌⊎◌, inl, inr, ℕ, zero, suc, ◌<◌, ◌≤◌, Bool, true, false, List, [], ◌∷◌, ◌++◌, length, get_or, take, drop, Some, slice_get, ◌≤ℤ◌, arith, refl, ap, sym, subst, ◌∙◌, append_assoc, length-append}
 use Rattle.std.proofs.Math.Seq.{take-append_seam, drop-append_seam, take-length}
 use Rattle.std.proofs.lemmas.Int.{ints}
 use Rattle.std.proofs.lemmas.List.{take-append-le, length-take-le, map-append}
@@ -9,16 +9,13 @@ use Rattle.sdc_base.specs.declared.relation.Relation.{Relation}
 use Rattle.sdc_base.specs.Roundings.{number_at}
 use Rattle.rounding.specs.Neighbours.{is_multiple}
 use Rattle.rounding.specs.Choices.{Choices, unrounded_cells, by_choices}
-use Rattle.rounding.specs.Extremes.{spans_none}
-use Rattle.rounding.specs.Namings.{IsNaming, IsNamingOf}
-use Rattle.rounding.specs.Searches.{unrounded_count}
+use Rattle.rounding.specs.Namings.{IsNaming}
 use Rattle.rounding.specs.Tasks.{IsProper}
-use Rattle.rounding.specs.Fixes.{Fix, by_fixes, FixedCells, number_left, allows, NoneWithin, can_hold, AllCanHold, IsForced, IsTaken, HoldFrom, Untouched}
+use Rattle.rounding.specs.Fixes.{Fix, by_fixes, FixedCells, number_left, NoneWithin, can_hold, AllCanHold, IsForced, IsTaken, HoldFrom, Untouched}
 use Rattle.rounding.specs.PartialLists.{Step, choices_of, AreLeft, fixed_before, IsPartial}
 use Rattle.rounding.proofs.LeftSteps.{next_cell, next_inside, next_off, left_none, left_taken, left_forced}
 use Rattle.rounding.proofs.FixSteps.{truths_between}
 use Rattle.rounding.proofs.Opening.{each_spans}
-use Rattle.rounding.proofs.NamingSteps.{listed_at}
 use Rattle.rounding.proofs.SumSteps.{get_or_any, named_at}
 use Rattle.rounding.proofs.ForceSteps.{untouched_holds}
 

@@ -1,13 +1,13 @@
 -- The steps of the search on a partial list.
-use Rattle.std.proofs.Common.{◌≡◌, ℕ, ◌+◌, ◌<◌, ◌≤◌, Bool, true, false, not, List, [], ◌∷◌, ◌++◌, length, get_or, ℤ, arith, refl, ap, sym, subst, ◌∙◌, append-nil}
+use Rattle.std.proofs.Common.{◌≡◌, ℕ, ◌+◌, ◌<◌, Bool, true, false, not, List, [], ◌∷◌, ◌++◌, length, get_or, ℤ, arith, ap, sym, subst, ◌∙◌, append-nil}
 use Rattle.sdc_base.specs.Roundings.{number_at, IsRounding}
 use Rattle.rounding.specs.Neighbours.{is_multiple}
-use Rattle.rounding.specs.Choices.{Choices, unrounded_cells, by_choices}
+use Rattle.rounding.specs.Choices.{Choices}
 use Rattle.rounding.specs.Extremes.{is_open}
-use Rattle.rounding.specs.Searches.{Rounds, Stops, HasSeen, NoneExtends, unrounded_count, ahead_in, after_in}
+use Rattle.rounding.specs.Searches.{Rounds, Stops, HasSeen, NoneExtends, unrounded_count}
 use Rattle.rounding.specs.Tasks.{IsProper}
-use Rattle.rounding.specs.Fixes.{Fix, by_fixes, FixedCells, allows, AllCanHold, NoneWithin}
-use Rattle.rounding.specs.PartialLists.{Step, choices_of, AreLeft, IsPartial, IsSameTask, LeadsTo, ahead_of, after_of}
+use Rattle.rounding.specs.Fixes.{by_fixes, FixedCells, allows}
+use Rattle.rounding.specs.PartialLists.{Step, choices_of, IsPartial, IsSameTask, LeadsTo, ahead_of, after_of}
 use Rattle.rounding.proofs.LeftSteps.{left_open, up_allowed, whole_left, none_extends, barred_extends}
 use Rattle.rounding.proofs.Opening.{open_whole_rounds}
 use Rattle.rounding.proofs.PartialSteps.{IsNext, length-choices_of}

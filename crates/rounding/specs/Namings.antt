@@ -1,5 +1,5 @@
 -- For each cell the relations that name it (own).
-use Rattle.std.specs.Prelude.{◌≡◌, ◌≢◌, ℕ, ◌<◌, ◌+◌, List, [], length, slice_get, slice_index, slice_index_or, Some, ℤ, pos}
+use Rattle.std.specs.Prelude.{◌≡◌, ◌≢◌, ℕ, ◌<◌, ◌+◌, List, [], length, slice_get, slice_index, slice_index_or, Some, pos}
 use Rattle.sdc_base.specs.declared.relation.Relation.{Relation}
 use Rattle.sdc_base.specs.declared.system.System.{System}
 use Rattle.rounding.specs.Extremes.{count_of}

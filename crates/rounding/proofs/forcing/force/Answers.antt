@@ -1,4 +1,4 @@
-use Rattle.std.proofs.Common.{◌≡◌, ◌+ℤ◌, ◌-ℤ◌, ◌++◌, ◌∷◌, [], Ok, Err, Result, OnOk, arith, rules, refl, not, FitsSigned}
+use Rattle.std.proofs.Common.{◌≡◌, ◌+ℤ◌, ◌-ℤ◌, ◌++◌, ◌∷◌, [], Ok, Err, Result, OnOk, arith, refl, not, FitsSigned}
 use Rattle.std.specs.Int.{w128}
 use Rattle.std.proofs.lemmas.Int.{ints, to_z-of_z}
 use Rattle.rounding.proofs.NamingSteps.{listed_at}

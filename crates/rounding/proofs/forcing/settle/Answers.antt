@@ -1,4 +1,4 @@
-use Rattle.std.proofs.Common.{◌≡◌, ◌<◌, ◌∙◌, true, false, List, slice_get, length, arith, rules, ap, sym, refl, FitsSigned}
+use Rattle.std.proofs.Common.{◌∙◌, true, false, List, slice_get, length, arith, ap, sym, refl, FitsSigned}
 use Rattle.std.specs.Int.{w128}
 use Rattle.std.proofs.lemmas.Int.{ints, to_z-of_z}
 use Rattle.std.proofs.lemmas.Option.{slice_get_read}

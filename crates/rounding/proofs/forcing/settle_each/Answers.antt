@@ -1,4 +1,4 @@
-use Rattle.std.proofs.Common.{◌≡◌, ◌<◌, ◌∙◌, ℕ, Some, true, slice_get, get_or, arith, ap, sym, subst, refl, inl, inr}
+use Rattle.std.proofs.Common.{◌≡◌, ◌∙◌, ℕ, true, slice_get, get_or, arith, ap, sym, inl, inr}
 use Rattle.std.proofs.lemmas.Bool.{cases_lt}
 use Rattle.rounding.specs.Fixes.{can_hold}
 use Rattle.rounding.proofs.ForceSteps.{forced_then, hold_further}

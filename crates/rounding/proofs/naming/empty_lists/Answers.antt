@@ -1,4 +1,4 @@
-use Rattle.std.proofs.Common.{◌≡◌, ◌++◌, ◌∷◌, [], ℕ, List, get_or, length, arith, sym, subst, ap, ◌∙◌, length-append}
+use Rattle.std.proofs.Common.{◌∷◌, [], ℕ, List, get_or, length, arith, ap, ◌∙◌, length-append}
 use Rattle.rounding.proofs.NamingSteps.{empty_more}
 use Rattle.rounding.proofs.naming.empty_lists.Goals as goal
 

@@ -1,4 +1,4 @@
-use Rattle.std.proofs.Common.{◌≡◌, ◌<◌, ◌+◌, false, true, arith, refl, sym}
+use Rattle.std.proofs.Common.{◌≡◌, ◌+◌, false, true, arith, refl, sym}
 use Rattle.rounding.specs.PartialLists.{choices_of}
 use Rattle.rounding.proofs.SearchSteps.{found_values, not_whole, not_viable, stops_here, same_then, same_left, same_on, start_seen, all_seen}
 use Rattle.rounding.proofs.search.search.Goals as goal

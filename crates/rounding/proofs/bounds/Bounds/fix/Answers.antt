@@ -1,4 +1,4 @@
-use Rattle.std.proofs.Common.{◌≡◌, ◌<◌, ◌∙◌, ℤ, length, arith, rules, ap, sym, refl, inl, inr, FitsSigned}
+use Rattle.std.proofs.Common.{◌∙◌, ℤ, arith, rules, ap, sym, refl, inl, inr, FitsSigned}
 use Rattle.std.proofs.Math.ListN.{set}
 use Rattle.std.specs.Int.{w128}
 use Rattle.std.proofs.lemmas.Int.{ints, to_z-of_z}

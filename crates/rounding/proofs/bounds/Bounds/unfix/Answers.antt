@@ -1,10 +1,10 @@
-use Rattle.std.proofs.Common.{◌≡◌, ◌<◌, ◌∙◌, ◌-ℤ◌, ◌+ℤ◌, ℤ, length, arith, rules, ap, sym, refl, inl, inr, FitsSigned}
+use Rattle.std.proofs.Common.{◌-ℤ◌, ◌+ℤ◌, ℤ, arith, rules, ap, sym, refl, inl, inr, FitsSigned}
 use Rattle.std.specs.Int.{w128}
 use Rattle.std.proofs.lemmas.Int.{ints, to_z-of_z}
 use Rattle.rounding.specs.Namings.{IsNaming}
 use Rattle.rounding.specs.Fixes.{fixed_cells}
 use Rattle.rounding.proofs.NamingSteps.{listed_at}
-use Rattle.rounding.proofs.KeptSteps.{back_of, settable_low, settable_high, all_but_last, back_up, back_down, same_extremes}
+use Rattle.rounding.proofs.KeptSteps.{back_of, settable_low, settable_high, back_up, back_down, same_extremes}
 use Rattle.rounding.proofs.SumSteps.{read_at}
 use Rattle.rounding.proofs.bounds.Bounds.unfix.Goals as goal
 

@@ -1,4 +1,4 @@
-use Rattle.std.proofs.Common.{◌≡◌, ◌∙◌, ◌<◌, ℕ, List, true, get_or, length, arith, ap, sym, subst}
+use Rattle.std.proofs.Common.{◌≡◌, ◌∙◌, ℕ, List, true, get_or, length, arith, ap, sym, subst}
 use Rattle.rounding.specs.Namings.{IsNaming}
 use Rattle.rounding.specs.Tasks.{IsProper}
 use Rattle.rounding.specs.Fixes.{FixedCells, allows}

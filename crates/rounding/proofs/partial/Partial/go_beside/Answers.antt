@@ -1,4 +1,4 @@
-use Rattle.std.proofs.Common.{◌≡◌, ◌∙◌, ◌<◌, ℕ, false, true, get_or, length, arith, ap, sym, subst, refl}
+use Rattle.std.proofs.Common.{◌≡◌, ◌∙◌, ℕ, false, true, get_or, length, arith, ap, sym, subst, refl}
 use Rattle.rounding.specs.Fixes.{allows}
 use Rattle.rounding.specs.PartialLists.{choices_of}
 use Rattle.rounding.proofs.PartialSteps.{read_cell, next_of}

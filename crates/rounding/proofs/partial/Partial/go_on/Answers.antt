@@ -1,5 +1,4 @@
-use Rattle.std.proofs.Common.{◌≡◌, ◌∙◌, ◌<◌, ℕ, List, true, get_or, length, not, arith, ap, sym, subst, refl}
-use Rattle.rounding.specs.Fixes.{allows}
+use Rattle.std.proofs.Common.{◌≡◌, ◌∙◌, ℕ, get_or, length, not, arith, ap, refl}
 use Rattle.rounding.proofs.PartialSteps.{read_cell, next_of}
 use Rattle.rounding.proofs.SearchSteps.{go_allowed, leads_on}
 use Rattle.rounding.proofs.partial.Partial.go_on.Goals as goal

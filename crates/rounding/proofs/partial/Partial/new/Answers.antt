@@ -1,4 +1,4 @@
-use Rattle.std.proofs.Common.{◌≡◌, ◌∙◌, [], ap, sym, refl, subst, FitsSigned}
+use Rattle.std.proofs.Common.{◌∙◌, ap, sym, refl, subst, FitsSigned}
 use Rattle.std.specs.Int.{w128}
 use Rattle.std.proofs.lemmas.Int.{to_z-of_z}
 use Rattle.rounding.specs.Namings.{IsNaming}
