@@ -12,7 +12,7 @@ Lies lower number upper = (lower ≤ℤ number) × (number ≤ℤ upper)
 lies_self : (z : ℤ) → Lies z z z
 lies_self z = (omega (arith, ints), omega (arith, ints))
 
-neighbour_lies : (base truth : ℤ) (choice : Bool) → pos 1 ≤ℤ base → Lies (neighbour base truth false) (neighbour base truth choice) (neighbour base truth true)
+pub neighbour_lies : (base truth : ℤ) (choice : Bool) → pos 1 ≤ℤ base → Lies (neighbour base truth false) (neighbour base truth choice) (neighbour base truth true)
 neighbour_lies base truth false positive = (omega (arith, ints), omega (arith, ints))
 neighbour_lies base truth true positive = (omega (arith, ints), omega (arith, ints))
 

@@ -9,8 +9,13 @@ mod Completeness
 mod Smallness
 mod Opening
 mod SumSteps
+mod NamingSteps
+mod FixSteps
+mod KeptSteps
+mod ForceSteps
+mod LeftSteps
+mod SeenSteps
+mod PartialSteps
+mod SearchSteps
 mod Unrounded
-mod Keeping
-mod Going
-mod PartSteps
 mod Ordering

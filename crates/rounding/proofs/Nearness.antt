@@ -4,7 +4,7 @@ use Rattle.std.proofs.lemmas.Int.{ints}
 use Rattle.sdc_base.specs.declared.relation.Relation.{Relation}
 use Rattle.sdc_base.specs.Totals.{sum_of}
 use Rattle.sdc_base.specs.Systems.{Numbers, form}
-use Rattle.rounding.specs.PartialLists.{IsNear}
+use Rattle.rounding.specs.Sums.{IsNear}
 use Rattle.sdc_base.proofs.TotalLemmas.{sum_of-cons}
 
 parts_near : (far : ℕ) (x t : Numbers) (cells : List ℕ) → ((c : ℕ) → IsNear far (x c) (t c)) → IsNear (length cells * far) (sum_of x cells) (sum_of t cells)

@@ -18,7 +18,7 @@ use Rattle.rounding.proofs.Betweenness.{longer_lies}
 use Rattle.rounding.proofs.Completeness.{by_choices_adjacent, adjacent_are_made}
 use Rattle.rounding.proofs.SearchLemmas.{each_reached}
 
-spans : (a b : ℤ) → a ≤ℤ pos 0 → pos 0 ≤ℤ b → (int_le a (pos 0) && int_le (pos 0) b) ≡ true
+pub spans : (a b : ℤ) → a ≤ℤ pos 0 → pos 0 ≤ℤ b → (int_le a (pos 0) && int_le (pos 0) b) ≡ true
 spans a b low high = let first : int_le a (pos 0) ≡ true = grind (arith, ints) in let second : int_le (pos 0) b ≡ true = grind (arith, ints) in rw (first, second) refl
 
 span_is_none : (a : ℤ) → (int_le a (pos 0) && int_le (pos 0) a) ≡ true → a ≡ pos 0
@@ -28,7 +28,7 @@ span_is_none a is =
       | false ↦ λ _ clash. absurd cc
     ] refl is
 
-each_spans : (n : ℕ) (lower upper numbers : Numbers) (relations : List Relation) → Between lower upper numbers → All (NamesCells n) relations → HoldOn numbers relations → All (λ r. spans_none lower upper r ≡ true) relations
+pub each_spans : (n : ℕ) (lower upper numbers : Numbers) (relations : List Relation) → Between lower upper numbers → All (NamesCells n) relations → HoldOn numbers relations → All (λ r. spans_none lower upper r ≡ true) relations
 each_spans n lower upper numbers [] between named hold = All-nil (λ r. spans_none lower upper r ≡ true)
 each_spans n lower upper numbers (r ∷ relations) between named hold =
     let here : NamesCells n r = All-head (NamesCells n) r relations named in

@@ -12,7 +12,7 @@ use Rattle.sdc_base.specs.Roundings.{number_at}
 use Rattle.rounding.specs.Choices.{Choices, by_choices}
 use Rattle.rounding.specs.Extremes.{count_of, extreme_numbers, extreme}
 use Rattle.rounding.specs.Tasks.{IsTruth}
-use Rattle.rounding.specs.PartialLists.{IsNear, AreExtremes, AreSmall}
+use Rattle.rounding.specs.Sums.{IsNear, AreExtremes, AreSmall}
 use Rattle.rounding.proofs.Nearness.{form_near}
 use Rattle.rounding.proofs.Choosing.{length-by_choices}
 use Rattle.rounding.proofs.Completeness.{by_choices_adjacent}

@@ -1,5 +1,5 @@
 -- How the sums of the relations move with a cell's numbers.
-use Rattle.std.proofs.Common.{◌≡◌, ℕ, zero, suc, ◌+◌, ◌^◌, ◌<◌, ◌≤◌, ◌==◌, Bool, true, false, List, length, get_or, All, Some, slice_get, ℤ, pos, neg_ℤ, ◌+ℤ◌, ◌-ℤ◌, ◌*ℤ◌, ◌≤ℤ◌, int_lt, arith, refl, ap, sym, subst, ◌∙◌, if◌then◌else◌, inl, inr, get_or-set_other, get_or-set_same, ◌≢◌, take, [], ◌∷◌, ◌++◌, length-append}
+use Rattle.std.proofs.Common.{◌≡◌, ℕ, zero, suc, ◌+◌, ◌^◌, ◌<◌, ◌≤◌, ◌==◌, Bool, true, false, List, length, get_or, All, Some, slice_get, ℤ, pos, neg_ℤ, ◌+ℤ◌, ◌-ℤ◌, ◌*ℤ◌, ◌≤ℤ◌, ◌⊎◌, int_lt, arith, refl, ap, sym, subst, ◌∙◌, if◌then◌else◌, inl, inr, get_or-set_other, get_or-set_same, ◌≢◌, take, [], ◌∷◌, ◌++◌, length-append}
 use Rattle.std.proofs.Math.ListN.{set}
 use Rattle.std.proofs.lemmas.Int.{ints, by_lt_z}
 use Rattle.std.proofs.lemmas.Bool.{cases_lt}
@@ -14,7 +14,8 @@ use Rattle.sdc_base.specs.Systems.{Numbers, NamesCells}
 use Rattle.sdc_base.proofs.WholeNumbers.{times_up, times_down}
 use Rattle.sdc_base.specs.Roundings.{number_at}
 use Rattle.rounding.specs.Extremes.{count_of, extreme, change}
-use Rattle.rounding.specs.PartialLists.{AreExtremes}
+use Rattle.rounding.specs.Sums.{AreExtremes}
+use Rattle.rounding.specs.Namings.{Lacks, IsNamingOf}
 use Rattle.rounding.proofs.FormLemmas.{Changed, extreme_changed}
 
 -- ---- one product
@@ -45,35 +46,80 @@ product_within t b low high modest =
     let down = times_up t (neg_ℤ (pos (2 ^ 74))) b from modest.low in
     (omega (arith, ints, down), omega (arith, ints, up)))
 
--- ---- the sums of the first relations have moved
+-- ---- the sums of the first relations that name a cell have moved
 
-pub record AreMoved (relations : List Relation) (old now : List ℤ) (cell : ℕ) (one other : ℤ) (passed : ℕ) : Type 0 where
-  pub moved : (n : ℕ) (r : Relation) → n < passed → slice_get relations n ≡ Some r → number_at now n ≡ number_at old n +ℤ change r cell one other
-  pub rest : (n : ℕ) → passed ≤ n → number_at now n ≡ number_at old n
+-- a number is in a list, or isn't
+pub find_number : (numbers : List ℕ) (n : ℕ) → ((j : ℕ) × ((j < length numbers) × (get_or numbers j 0 ≡ n))) ⊎ Lacks numbers n
+find_number [] n = inr (λ place below. absurd (omega arith))
+find_number (x ∷ numbers) n =
+    elim (x == n) as (λ b. (x == n) ≡ b → ((j : ℕ) × ((j < suc (length numbers)) × (get_or (x ∷ numbers) j 0 ≡ n))) ⊎ Lacks (x ∷ numbers) n) [
+      | true ↦ λ test. inl (0, (omega arith, (Decides-eqb x n).0 test))
+      | false ↦ λ test. later x numbers n (grind (arith, nat_tests, test)) (find_number numbers n)
+    ] refl
+  where
+    lacks_more : (x : ℕ) (numbers : List ℕ) (n : ℕ) → x ≢ n → Lacks numbers n → Lacks (x ∷ numbers) n
+    lacks_more x numbers n apart lacks zero below = apart
+    lacks_more x numbers n apart lacks (suc place) below = lacks place (omega arith)
 
-pub none_moved : (relations : List Relation) (sums : List ℤ) (cell : ℕ) (one other : ℤ) → AreMoved relations sums sums cell one other 0
-none_moved relations sums cell one other = record { moved = λ n r below there. absurd (omega arith); rest = λ n past. refl }
+    later : (x : ℕ) (numbers : List ℕ) (n : ℕ) → x ≢ n → ((j : ℕ) × ((j < length numbers) × (get_or numbers j 0 ≡ n))) ⊎ Lacks numbers n → ((j : ℕ) × ((j < suc (length numbers)) × (get_or (x ∷ numbers) j 0 ≡ n))) ⊎ Lacks (x ∷ numbers) n
+    later x numbers n apart (inl found) = inl (suc found.0, (omega (arith, found.1.0), found.1.1))
+    later x numbers n apart (inr lacks) = inr (lacks_more x numbers n apart lacks)
 
-pub one_more_moved : (relations : List Relation) (old now : List ℤ) (cell : ℕ) (one other : ℤ) (k : ℕ) (item : Relation) (to : ℤ) → k < length now → slice_get relations k ≡ Some item → to ≡ number_at now k +ℤ change item cell one other
-    → AreMoved relations old now cell one other k → AreMoved relations old (set now k to) cell one other (k + 1)
-one_more_moved relations old now cell one other k item to inside found is are = record {
-  moved = λ n r below there.
-      elim (cases_lt n k) as (λ _. number_at (set now k to) n ≡ number_at old n +ℤ change r cell one other) [
-        | inl less ↦ let apart : n ≢ k = omega arith in get_or-set_other now k n to (pos 0) apart ∙ are.moved n r less there
-        | inr not_less ↦
-            let same : n ≡ k = omega arith in
-            let one_item : item ≡ r = same_Some item r (sym found ∙ ap (λ (j : ℕ). slice_get relations j) (sym same) ∙ there) in
-            ap (λ (j : ℕ). number_at (set now k to) j) same ∙ get_or-set_same now k to (pos 0) inside ∙ is
-            ∙ ap (λ z. z +ℤ change item cell one other) (are.rest k (omega arith))
-            ∙ ap (λ (j : ℕ). number_at old j +ℤ change item cell one other) (sym same)
-            ∙ ap (λ (q : Relation). number_at old n +ℤ change q cell one other) one_item
-      ];
-  rest = λ n past. let apart : n ≢ k = omega arith in get_or-set_other now k n to (pos 0) apart ∙ are.rest n (omega arith);
-}
+pub record AreMoved (relations : List Relation) (named : List ℕ) (old now : List ℤ) (cell : ℕ) (one other : ℤ) (passed : ℕ) : Type 0 where
+  pub moved : (j : ℕ) (r : Relation) → j < passed → slice_get relations (get_or named j 0) ≡ Some r → number_at now (get_or named j 0) ≡ number_at old (get_or named j 0) +ℤ change r cell one other
+  pub rest : (n : ℕ) → ((j : ℕ) → j < passed → get_or named j 0 ≢ n) → number_at now n ≡ number_at old n
+
+pub none_moved : (relations : List Relation) (named : List ℕ) (sums : List ℤ) (cell : ℕ) (one other : ℤ) → AreMoved relations named sums sums cell one other 0
+none_moved relations named sums cell one other = record { moved = λ j r below there. absurd (omega arith); rest = λ n past. refl }
+
+-- where the sums before this place have moved, the one at it has not
+pub not_yet : (relations : List Relation) (named : List ℕ) (old now : List ℤ) (cell : ℕ) (one other : ℤ) (k : ℕ) → k < length named → IsNamingOf relations cell named → AreMoved relations named old now cell one other k → number_at now (get_or named k 0) ≡ number_at old (get_or named k 0)
+not_yet relations named old now cell one other k inside naming are = are.rest (get_or named k 0) (λ j below same. omega (arith, naming.ascends.ascending j k below inside, same))
+
+pub one_more_moved : (relations : List Relation) (named : List ℕ) (old now : List ℤ) (cell : ℕ) (one other : ℤ) (k : ℕ) (item : Relation) (to : ℤ) → k < length named → IsNamingOf relations cell named → length now ≡ length relations → slice_get relations (get_or named k 0) ≡ Some item → to ≡ number_at now (get_or named k 0) +ℤ change item cell one other
+    → AreMoved relations named old now cell one other k → AreMoved relations named old (set now (get_or named k 0) to) cell one other (k + 1)
+one_more_moved relations named old now cell one other k item to inside naming each found is are =
+    let here : ℕ = get_or named k 0 in
+    record {
+      moved = λ j r below there.
+          elim (cases_lt j k) as (λ _. number_at (set now here to) (get_or named j 0) ≡ number_at old (get_or named j 0) +ℤ change r cell one other) [
+            | inl less ↦
+                let ascending = naming.ascends.ascending j k less inside in
+                let apart : get_or named j 0 ≢ here = omega (arith, ascending) in
+                get_or-set_other now here (get_or named j 0) to (pos 0) apart ∙ are.moved j r less there
+            | inr not_less ↦
+                let same : j ≡ k = omega arith in
+                let place : get_or named j 0 ≡ here = ap (λ (i : ℕ). get_or named i 0) same in
+                let within = naming.ascends.within k inside in
+                let one_item : item ≡ r = same_Some item r (sym found ∙ ap (λ (i : ℕ). slice_get relations i) (sym place) ∙ there) in
+                ap (λ (i : ℕ). number_at (set now here to) i) place ∙ get_or-set_same now here to (pos 0) (omega (arith, within, each)) ∙ is
+                ∙ ap (λ z. z +ℤ change item cell one other) (not_yet relations named old now cell one other k inside naming are)
+                ∙ ap (λ (i : ℕ). number_at old i +ℤ change item cell one other) (sym place)
+                ∙ ap (λ (q : Relation). number_at old (get_or named j 0) +ℤ change q cell one other) one_item
+          ];
+      rest = λ n past.
+          let apart : n ≢ here = λ same. past k (omega arith) (sym same) in
+          get_or-set_other now here n to (pos 0) apart ∙ are.rest n (λ j below. past j (omega arith));
+    }
+
+no_change : (r : Relation) (cell : ℕ) (one other : ℤ) → count_of r cell ≡ pos 0 → change r cell one other ≡ pos 0
+no_change r cell one other none = ap (λ k. k *ℤ (if int_lt (pos 0) k then one else other)) none ∙ omega (arith, ints)
+
+-- all sums have moved: those of relations that don't name the cell by 0
+pub all_moved : (relations : List Relation) (named : List ℕ) (old now : List ℤ) (cell : ℕ) (one other : ℤ) (k : ℕ) → length named ≤ k → k ≤ length named → IsNamingOf relations cell named → AreMoved relations named old now cell one other k → (n : ℕ) (r : Relation) → slice_get relations n ≡ Some r → number_at now n ≡ number_at old n +ℤ change r cell one other
+all_moved relations named old now cell one other k past inside naming are n r there =
+    elim (find_number named n) as (λ _. number_at now n ≡ number_at old n +ℤ change r cell one other) [
+      | inl found ↦
+          let place : get_or named found.0 0 ≡ n = found.1.1 in
+          subst (λ (i : ℕ). number_at now i ≡ number_at old i +ℤ change r cell one other) place (are.moved found.0 r (omega (arith, found.1.0)) (ap (λ (i : ℕ). slice_get relations i) place ∙ there))
+      | inr lacks ↦
+          let none = no_change r cell one other (naming.whole n r there lacks) in
+          are.rest n (λ j below. lacks j (omega arith)) ∙ omega (arith, ints, none)
+    ]
 
 -- ---- the extremes after a cell's number is set
 
-changed_by_set : (numbers : List ℤ) (cell : ℕ) (to by : ℤ) → cell < length numbers → by ≡ to -ℤ number_at numbers cell → Changed cell by (number_at numbers) (number_at (set numbers cell to))
+pub changed_by_set : (numbers : List ℤ) (cell : ℕ) (to by : ℤ) → cell < length numbers → by ≡ to -ℤ number_at numbers cell → Changed cell by (number_at numbers) (number_at (set numbers cell to))
 changed_by_set numbers cell to by inside is c =
     elim (cell == c) as (λ b. (cell == c) ≡ b → number_at (set numbers cell to) c ≡ number_at numbers c +ℤ (if b then by else pos 0)) [
       | true ↦ λ test.
@@ -91,7 +137,7 @@ unchanged numbers cell c = same (cell == c) (numbers c)
     same true z = omega (arith, ints)
     same false z = omega (arith, ints)
 
-named_at : (n : ℕ) (relations : List Relation) (k : ℕ) (r : Relation) → All (NamesCells n) relations → slice_get relations k ≡ Some r → NamesCells n r
+pub named_at : (n : ℕ) (relations : List Relation) (k : ℕ) (r : Relation) → All (NamesCells n) relations → slice_get relations k ≡ Some r → NamesCells n r
 named_at n relations k r named there = subst (NamesCells n) (get_or_from_slice_get relations k r r there) (All-get_or (NamesCells n) relations k r (slice_get_within relations k r there) named)
 
 pub first_set : (relations : List Relation) (numbers other : List ℤ) (cell : ℕ) (to by : ℤ) (sums sums' : List ℤ) → All (NamesCells (length numbers)) relations → cell < length numbers → by ≡ to -ℤ number_at numbers cell → length sums' ≡ length sums
@@ -149,10 +195,10 @@ all_extremes one other relations sums k past inside are = record { each = omega 
 
 -- ---- reads
 
-get_or_any : (xs : List ℤ) (k : ℕ) (d e : ℤ) → k < length xs → get_or xs k d ≡ get_or xs k e
-get_or_any [] k d e inside = absurd (omega arith)
-get_or_any (x ∷ xs) zero d e inside = refl
-get_or_any (x ∷ xs) (suc k) d e inside = get_or_any xs k d e (omega arith)
+pub get_or_any : {X : Type 0} (xs : List X) (k : ℕ) (d e : X) → k < length xs → get_or xs k d ≡ get_or xs k e
+get_or_any {X} [] k d e inside = absurd (omega arith)
+get_or_any {X} (x ∷ xs) zero d e inside = refl
+get_or_any {X} (x ∷ xs) (suc k) d e inside = get_or_any xs k d e (omega arith)
 
 pub read_at : (xs : List ℤ) (k : ℕ) (x : ℤ) → k < length xs → x ≡ get_or xs k x → x ≡ number_at xs k
 read_at xs k x inside is = is ∙ get_or_any xs k x (pos 0) inside

@@ -2,6 +2,9 @@ pub mod Tasks
 pub mod Neighbours
 pub mod Choices
 pub mod Extremes
-pub mod PartialLists
+pub mod Sums
+pub mod Namings
+pub mod Fixes
 pub mod Searches
+pub mod PartialLists
 pub mod SearchOrder

@@ -1,43 +1,55 @@
--- A partial list of choices, with the numbers and sums that a search keeps beside it (own).
-use Rattle.std.specs.Prelude.{◌≡◌, ℕ, ◌^◌, ◌≤◌, false, true, List, length, slice_get, Some, ℤ, pos, neg_ℤ, ◌+ℤ◌, ◌-ℤ◌, ◌≤ℤ◌}
-use Rattle.sdc_base.specs.declared.relation.Relation.{Relation}
-use Rattle.sdc_base.specs.declared.system.System.{System}
+-- Partial lists of choices as a search holds them (own).
+use Rattle.std.specs.Prelude.{◌≡◌, ℕ, ◌<◌, ◌≤◌, ◌+◌, ◌++◌, Bool, true, false, List, length, map, take, slice_get, Some, ◌≤ℤ◌}
 use Rattle.sdc_base.specs.Roundings.{number_at}
 use Rattle.rounding.specs.Choices.{Choices, unrounded_cells, by_choices}
-use Rattle.rounding.specs.Extremes.{extreme}
+use Rattle.rounding.specs.Namings.{IsNaming}
+use Rattle.rounding.specs.Fixes.{FixedCells, number_left, IsWithin, NoneWithin, AllCanHold}
+use Rattle.rounding.specs.Searches.{Rounds, HasSeen, ahead_in, after_in}
 use Rattle.rounding.specs.Tasks.{IsProper}
 
--- one number isn't further from another than this
-pub record IsNear (far : ℕ) (one other : ℤ) : Type 0 where
-  pub low : (other -ℤ pos far) ≤ℤ one
-  pub high : one ≤ℤ (other +ℤ pos far)
+-- a choice, and how many cells were fixed before it
+abbrev pub Step : Type 0
+Step = Bool × ℕ
 
--- a sum for each relation: the extremes of its form between one list of numbers and another
-pub record AreExtremes (one other : List ℤ) (relations : List Relation) (sums : List ℤ) : Type 0 where
-  pub each : length sums ≡ length relations
-  pub extremes : (number : ℕ) (r : Relation) → slice_get relations number ≡ Some r → number_at sums number ≡ extreme (number_at one) (number_at other) r
+-- the choices of steps
+abbrev pub choices_of : List Step → Choices
+choices_of steps = map (λ step. step.0) steps
 
--- sums far within 128 bits
-abbrev pub AreSmall : List ℤ → Type 0
-AreSmall sums = (number : ℕ) → (neg_ℤ (pos (2 ^ 120)) ≤ℤ number_at sums number) × (number_at sums number ≤ℤ pos (2 ^ 120))
+-- The numbers left are among those that the choices leave, and every rounding that makes the choices is between them.
+pub record AreLeft (b : FixedCells) (choices : Choices) : Type 0 where
+  pub inside : (cell : ℕ) → (number_at (by_choices false b.base b.truths choices) cell ≤ℤ number_left false b cell) × (number_left true b cell ≤ℤ number_at (by_choices true b.base b.truths choices) cell)
+  pub sound : (rest : Choices) → Rounds b.system b.truths b.base (choices ++ rest) → IsWithin b (by_choices false b.base b.truths (choices ++ rest))
 
--- choices for the first cells that aren't multiples
-pub record PartialList : Type 0 where
-  pub system : System
-  pub truths : List ℤ
-  pub base : ℤ
-  pub choices : Choices
+-- the fixed cells as they were at a step
+abbrev pub fixed_before : FixedCells → Step → FixedCells
+fixed_before b step = record b { fixes = take step.1 b.fixes }
 
--- what these make
-abbrev pub partial_list : System → List ℤ → ℤ → Choices → PartialList
-partial_list system truths base choices = record { system = system; truths = truths; base = base; choices = choices }
+-- Choices one after another, each with what it fixed. Before each step every relation could hold. Where the list is viable, they
+-- can now, and else no rounding is left.
+pub record IsPartial (b : FixedCells) (naming : List (List ℕ)) (cells : List ℕ) (steps : List Step) (viable : Bool) : Type 0 where
+  pub proper : IsProper b.system b.truths b.base
+  pub listed : IsNaming b.system naming
+  pub unrounded : cells ≡ unrounded_cells b.base 0 b.truths
+  pub few : length steps ≤ length cells
+  pub ascending : (one other : ℕ) (s t : Step) → one < other → slice_get steps one ≡ Some s → slice_get steps other ≡ Some t → s.1 ≤ t.1
+  pub marks : (place : ℕ) (step : Step) → slice_get steps place ≡ Some step → step.1 ≤ length b.fixes
+  pub earlier : (place : ℕ) (step : Step) → slice_get steps place ≡ Some step → AreLeft (fixed_before b step) (choices_of (take place steps)) × AllCanHold (fixed_before b step)
+  pub left : AreLeft b (choices_of steps)
+  pub hold : viable ≡ true → AllCanHold b
+  pub none : viable ≡ false → NoneWithin b
 
--- the cells that aren't multiples, the least and the greatest numbers, and the least and the greatest sums that the choices leave
-pub record IsKept (p : PartialList) (numbers : List ℕ) (lows highs mins maxs : List ℤ) : Type 0 where
-  pub proper : IsProper p.system p.truths p.base
-  pub cells : numbers ≡ unrounded_cells p.base 0 p.truths
-  pub few : length p.choices ≤ length numbers
-  pub lower : lows ≡ by_choices false p.base p.truths p.choices
-  pub upper : highs ≡ by_choices true p.base p.truths p.choices
-  pub least : AreExtremes lows highs p.system.relations mins
-  pub greatest : AreExtremes highs lows p.system.relations maxs
+-- the same system, truths and base
+abbrev pub IsSameTask : FixedCells → FixedCells → Type 0
+IsSameTask before after = after ≡ record before { fixes = after.fixes }
+
+-- what comes from a list on, in the search
+abbrev pub ahead_of : FixedCells → Choices → List Choices
+ahead_of b list = ahead_in b.system b.truths b.base list
+
+-- what comes after a list and those that extend it
+abbrev pub after_of : FixedCells → Choices → List Choices
+after_of b list = after_in b.system b.truths b.base list
+
+-- from a list on, one list is looked at and others may be left out, and these are ahead
+abbrev pub LeadsTo : FixedCells → Choices → List Choices → Type 0
+LeadsTo b list lists = (seen : ℕ) → HasSeen b.system b.truths b.base seen (ahead_of b list) → HasSeen b.system b.truths b.base (seen + 1) lists

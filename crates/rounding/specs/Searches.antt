@@ -46,3 +46,14 @@ ahead_in system truths base list = ahead (is_open system truths base) (unrounded
 pub record Stops (system : System) (truths : List ℤ) (base : ℤ) (nodes : ℕ) : Type 0 where
   pub many : nodes ≤ length (lists_of system truths base)
   pub none : All (λ list. Rounds system truths base list → ⊥) (take nodes (lists_of system truths base))
+
+-- no rounding extends a list
+abbrev pub NoneExtends : System → List ℤ → ℤ → Choices → Type 0
+NoneExtends system truths base list = (rest : Choices) → Rounds system truths base (list ++ rest) → ⊥
+
+-- At least so many lists of the search have been looked at, or left out, and none of them is a rounding. These are ahead.
+pub record HasSeen (system : System) (truths : List ℤ) (base : ℤ) (seen : ℕ) (lists : List Choices) : Type 0 where
+  pub front : List Choices
+  pub whole : lists_of system truths base ≡ front ++ lists
+  pub many : seen ≤ length front
+  pub none : All (λ list. Rounds system truths base list → ⊥) front

@@ -1,9 +1,12 @@
 //! Controlled rounding: each cell at a multiple of a base next to its truth, so that tables still add up.
 #![tactic(auto)]
 
+mod bounds;
 mod fault;
+mod forcing;
 mod forms;
 mod laws;
+mod naming;
 mod neighbours;
 mod numbers;
 mod partial;

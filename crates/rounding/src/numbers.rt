@@ -6,7 +6,9 @@ ghost use Rattle.rounding.specs.Neighbours.{is_multiple as is_multiple_of, neigh
 ghost use Rattle.rounding.specs.Choices.{unrounded_cells, by_choices};
 ghost use Rattle.rounding.specs.Extremes.{count_of as times_in_form, change, extreme_numbers, extreme};
 ghost use Rattle.rounding.specs.Tasks.{IsTruth};
-ghost use Rattle.rounding.specs.PartialLists.{IsNear, AreExtremes, AreSmall};
+ghost use Rattle.rounding.specs.Sums.{IsNear, AreExtremes, AreSmall};
+ghost use Rattle.rounding.specs.Namings.{IsNamingOf};
+ghost use Rattle.rounding.specs.Fixes.{IsSettable};
 
 use crate::forms::count_of;
 use crate::neighbours::{down, is_multiple};
@@ -70,35 +72,39 @@ fn number_to(base: i128, truth: i128, side: bool) -> i128
     }
 }
 
-// Sets the number of a cell to another near it, and the extremes of the forms with it: the first ones take these numbers for the
-// cells that a form counts above 0 times, the second ones for the others.
+// Sets the number of a cell to another near it, and the extremes of the forms that name it with it: the first ones take these
+// numbers for the cells that a form counts above 0 times, the second ones for the others.
 pub(crate) fn set_number(
     relations: &[Relation],
+    named: &[u32],
     numbers: &mut Vec<i128>,
     cell: u32,
     to: i128,
     first: &mut Vec<i128>,
     second: &mut Vec<i128>,
 )
-    requires named { All (NamesCells (length numbers.old.items)) relations.now }
-    requires cell { cell < length numbers.old.items }
-    requires low { neg_ℤ (pos (2 ^ 74)) ≤ℤ (to -ℤ number_at numbers.old.items cell) }
-    requires high { (to -ℤ number_at numbers.old.items cell) ≤ℤ pos (2 ^ 74) }
-    requires first { (length first.old.items ≡ length relations.now) × AreSmall first.old.items }
-    requires second { (length second.old.items ≡ length relations.now) × AreSmall second.old.items }
+    requires { IsSettable relations.now named.now numbers.old.items cell to first.old.items second.old.items }
     ensures numbers { numbers.new.items ≡ slice_set numbers.old.items cell to }
     ensures first { (other : List ℤ) → AreExtremes numbers.old.items other relations.now first.old.items → AreExtremes numbers.new.items other relations.now first.new.items }
     ensures second { (other : List ℤ) → AreExtremes other numbers.old.items relations.now second.old.items → AreExtremes other numbers.new.items relations.now second.new.items }
 {
     let by = to - numbers[cell as usize];
     numbers[cell as usize] = to;
-    move_sums(relations, first, cell, by, 0);
-    move_sums(relations, second, cell, 0, by);
+    move_sums(relations, named, first, cell, by, 0);
+    move_sums(relations, named, second, cell, 0, by);
 }
 
-// Moves the extreme of each form as a cell's numbers move: by the first amount where a form counts it above 0 times, else by the
-// other one.
-fn move_sums(relations: &[Relation], sums: &mut Vec<i128>, cell: u32, one: i128, other: i128)
+// Moves the extremes of the forms that name a cell as its numbers move: by the first amount where a form counts it above 0 times,
+// else by the other one.
+fn move_sums(
+    relations: &[Relation],
+    named: &[u32],
+    sums: &mut Vec<i128>,
+    cell: u32,
+    one: i128,
+    other: i128,
+)
+    requires named { IsNamingOf relations.now cell named.now }
     requires each { length sums.old.items ≡ length relations.now }
     requires small { AreSmall sums.old.items }
     requires one { (neg_ℤ (pos (2 ^ 74)) ≤ℤ one) × (one ≤ℤ pos (2 ^ 74)) }
@@ -106,8 +112,8 @@ fn move_sums(relations: &[Relation], sums: &mut Vec<i128>, cell: u32, one: i128,
     ensures each { length sums.new.items ≡ length sums.old.items }
     ensures moved { (number : ℕ) (r : AnyRelation) → slice_get relations.now number ≡ Some r → number_at sums.new.items number ≡ number_at sums.old.items number +ℤ change r cell one other }
 {
-    'relations: for (number, relation) in relations.iter().enumerate() {
-        sums[number] += sum_change(relation, cell, one, other);
+    'named: for number in named {
+        sums[*number as usize] += sum_change(&relations[*number as usize], cell, one, other);
     }
 }
 
@@ -183,20 +189,4 @@ fn number_by_count(times: i128, one: i128, other: i128) -> i128
     ensures { result ≡ (if int_lt (pos 0) times then one else other) }
 {
     if times > 0 { one } else { other }
-}
-
-// Whether 0 lies between the least and the greatest of each form.
-pub(crate) fn all_span_none(least: &[i128], greatest: &[i128]) -> bool
-    requires { length greatest.now ≡ length least.now }
-    ensures { IsTrue result ↔ ((number : ℕ) → number < length least.now → (number_at least.now number ≤ℤ pos 0) × (pos 0 ≤ℤ number_at greatest.now number)) }
-{
-    'sums: for (number, low) in least.iter().enumerate() {
-        if *low > 0 {
-            return false;
-        }
-        if greatest[number] < 0 {
-            return false;
-        }
-    }
-    true
 }

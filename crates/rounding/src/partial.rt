@@ -1,38 +1,27 @@
-ghost use Rattle.std.specs.Prelude.{◌≡◌, ◌++◌, ◌∷◌, [], ◌<◌, ◌≤◌, ◌^◌, ◌↔◌, length, IfOk, OnOk, OnErr, IfNone, IfSome, IsTrue, true, false};
-ghost use Rattle.rounding.specs.Choices.{by_choices};
-ghost use Rattle.rounding.specs.Extremes.{is_open as opens};
+ghost use Rattle.std.specs.Prelude.{◌≡◌, ◌<◌, ◌↔◌, ◌++◌, ◌∷◌, [], true, false, length, slice_index, IsTrue, IfOk, OnOk, IfNone, IfSome};
+ghost use Rattle.rounding.specs.Fixes.{by_fixes, fixed_cells, allows as allows_side};
+ghost use Rattle.rounding.specs.PartialLists.{IsPartial, IsSameTask, LeadsTo, ahead_of, choices_of};
 ghost use Rattle.rounding.specs.Tasks.{IsProper};
-ghost use Rattle.rounding.specs.PartialLists.{PartialList, partial_list};
-ghost use Rattle.rounding.specs.Searches.{unrounded_count};
 
-use crate::numbers::{all_span_none, cells_to_round, extremes_of, numbers_to, set_number};
+use crate::bounds::Bounds;
+use crate::forcing::propagate;
+use crate::naming::naming_of;
+use crate::numbers::cells_to_round;
 use sdc_base::{Items, Memory, System};
 use std::alloc::Global;
-use std::marker::Model;
 
-// Choices for the first cells that aren't multiples of the base, with the lower and the upper number that they leave each cell,
-// and the least and the greatest that they leave each relation's form.
+// Choices for the first cells that aren't multiples of the base, with the numbers that they and the relations leave each cell.
 #[derive(Drop)]
 pub(crate) struct Partial<'a> {
-    system: &'a System,
-    truths: &'a [i128],
-    base: i128,
+    bounds: Bounds<'a>,
+    // For each cell the relations that name it.
+    naming: Vec<Items<u32>>,
+    // The cells that aren't multiples.
     cells: Vec<u32>,
-    choices: Vec<bool>,
-    lower: Vec<i128>,
-    upper: Vec<i128>,
-    least: Vec<i128>,
-    greatest: Vec<i128>,
-}
-
-impl<'a> Model for Partial<'a> {
-    ghost use Rattle.rounding.specs.PartialLists.{PartialList, partial_list, IsKept};
-
-    ghost Value = { PartialList };
-
-    ghost view = { λ p. partial_list p.system.now p.truths.now p.base p.choices.items };
-
-    ghost invariant = { λ p. IsKept (partial_list p.system.now p.truths.now p.base p.choices.items) p.cells.items p.lower.items p.upper.items p.least.items p.greatest.items };
+    // Each choice, and how many cells were fixed before it.
+    steps: Vec<(bool, usize)>,
+    // Whether each relation can hold on the numbers left.
+    viable: bool,
 }
 
 impl<'a> Partial<'a> {
@@ -44,115 +33,120 @@ impl<'a> Partial<'a> {
         base: i128,
     ) -> Result<Partial<'a>, Memory>
         requires { IsProper system.now truths.now base }
-        ensures { IfOk result (λ p. p ≡ partial_list system.now truths.now base []) }
+        ensures bounds { IfOk result (λ p. p.bounds ≡ fixed_cells system.now truths.now base []) }
+        ensures steps { IfOk result (λ p. p.steps.items ≡ []) }
+        ensures kept { IfOk result (λ p. IsPartial p.bounds p.naming.items p.cells.items p.steps.items p.viable) }
     {
-        let relations = system.relations.as_slice();
+        let bounds = Bounds::new(alloc, system, truths, base)?;
+        let naming = naming_of(alloc, system)?;
         let cells = cells_to_round(alloc, system.cells, truths, base)?;
-        let lower = numbers_to(alloc, truths, base, false)?;
-        let upper = numbers_to(alloc, truths, base, true)?;
-        let least = extremes_of(alloc, relations, truths, lower.as_slice(), upper.as_slice())?;
-        let greatest = extremes_of(alloc, relations, truths, upper.as_slice(), lower.as_slice())?;
+        let steps = Vec::new(alloc);
         Ok(Partial {
-            system,
-            truths,
-            base,
+            bounds,
+            naming,
             cells,
-            choices: Vec::new(alloc),
-            lower,
-            upper,
-            least,
-            greatest,
+            steps,
+            viable: true,
         })
+    }
+
+    // Whether each relation can hold on the numbers left.
+    pub fn is_viable(&self) -> bool
+        ensures { result ≡ self.now.viable }
+    {
+        self.viable
     }
 
     // Whether there is a choice for every cell that isn't a multiple.
     pub fn is_whole(&self) -> bool
-        ensures value { IsTrue result ↔ (length self.now.choices ≡ unrounded_count self.now.truths self.now.base) }
-        ensures within { length self.now.choices ≤ unrounded_count self.now.truths self.now.base }
+        ensures { IsTrue result ↔ (length self.now.steps.items ≡ length self.now.cells.items) }
     {
-        self.choices.len() == self.cells.len()
+        self.steps.len() == self.cells.len()
     }
 
-    // Whether the list is open.
-    pub fn is_open(&self) -> bool
-        ensures { result ≡ opens self.now.system self.now.truths self.now.base self.now.choices }
+    // Makes one more choice, down where the relations leave that way.
+    pub fn go_on(&mut self) -> Result<(), Memory>
+        requires kept { IsPartial self.old.bounds self.old.naming.items self.old.cells.items self.old.steps.items self.old.viable }
+        requires viable { self.old.viable ≡ true }
+        requires room { length self.old.steps.items < length self.old.cells.items }
+        ensures kept { OnOk result (IsPartial self.new.bounds self.new.naming.items self.new.cells.items self.new.steps.items self.new.viable) }
+        ensures same { OnOk result (IsSameTask self.old.bounds self.new.bounds) }
+        ensures on { OnOk result (LeadsTo self.old.bounds (choices_of self.old.steps.items) (ahead_of self.old.bounds (choices_of self.new.steps.items))) }
     {
-        all_span_none(self.least.as_slice(), self.greatest.as_slice())
+        let cell = self.cells[self.steps.len()];
+        let down = self.bounds.allows(cell, false);
+        self.choose(!down)?;
+        Ok(())
     }
 
-    // Makes one more choice. After want of memory the choices are as before.
-    pub fn choose(&mut self, up: bool) -> Result<(), Memory>
-        requires { length self.old.choices < unrounded_count self.old.truths self.old.base }
-        ensures ok { OnOk result (self.new ≡ record self.old { choices = self.old.choices ++ up ∷ [] }) }
-        ensures err { OnErr result (self.new ≡ self.old) }
+    // Takes choices back to the last one that is down and can be up, and makes it up. False where there is none.
+    pub fn go_beside(&mut self) -> Result<bool, Memory>
+        requires kept { IsPartial self.old.bounds self.old.naming.items self.old.cells.items self.old.steps.items self.old.viable }
+        requires barred { self.old.viable ≡ false }
+        ensures kept { IfOk result (λ more. IsTrue more → IsPartial self.new.bounds self.new.naming.items self.new.cells.items self.new.steps.items self.new.viable) }
+        ensures same { IfOk result (λ more. IsTrue more → IsSameTask self.old.bounds self.new.bounds) }
+        ensures on { IfOk result (λ more. IsTrue more → LeadsTo self.old.bounds (choices_of self.old.steps.items) (ahead_of self.old.bounds (choices_of self.new.steps.items))) }
+        ensures end { IfOk result (λ more. more ≡ false → LeadsTo self.old.bounds (choices_of self.old.steps.items) []) }
     {
-        let cell = self.cells[self.choices.len()];
-        self.choices.push(up)?;
-        let relations = self.system.relations.as_slice();
-        if up {
-            let to = self.upper[cell as usize];
-            set_number(
-                relations,
-                &mut self.lower,
-                cell,
-                to,
-                &mut self.least,
-                &mut self.greatest,
-            );
-            Ok(())
-        } else {
-            let to = self.lower[cell as usize];
-            set_number(
-                relations,
-                &mut self.upper,
-                cell,
-                to,
-                &mut self.greatest,
-                &mut self.least,
-            );
-            Ok(())
+        'back: loop {
+            let Some(up) = self.take_back() else {
+                return Ok(false);
+            };
+            if up {
+                continue;
+            }
+            let cell = self.cells[self.steps.len()];
+            let other = self.bounds.allows(cell, true);
+            if !other {
+                continue;
+            }
+            self.choose(true)?;
+            return Ok(true);
         }
     }
 
-    // Takes the last choice back, and gives it.
-    pub fn take_back(&mut self) -> Option<bool>
-        ensures none { IfNone result (self.old.choices ≡ []) }
-        ensures same { IfNone result (self.new ≡ self.old) }
-        ensures some { IfSome result (λ up. self.old ≡ record self.new { choices = self.new.choices ++ up ∷ [] }) }
-        ensures room { IfSome result (λ _. length self.new.choices < unrounded_count self.new.truths self.new.base) }
+    // Makes one more choice, and fixes what it forces.
+    fn choose(&mut self, up: bool) -> Result<(), Memory>
+        requires kept { IsPartial self.old.bounds self.old.naming.items self.old.cells.items self.old.steps.items self.old.viable }
+        requires viable { self.old.viable ≡ true }
+        requires room { length self.old.steps.items < length self.old.cells.items }
+        requires allowed { allows_side self.old.bounds (slice_index self.old.cells.items (length self.old.steps.items)) up ≡ true }
+        ensures kept { OnOk result (IsPartial self.new.bounds self.new.naming.items self.new.cells.items self.new.steps.items self.new.viable) }
+        ensures same { OnOk result (IsSameTask self.old.bounds self.new.bounds) }
+        ensures choices { OnOk result (choices_of self.new.steps.items ≡ choices_of self.old.steps.items ++ up ∷ []) }
     {
-        let up = self.choices.pop()?;
-        let cell = self.cells[self.choices.len()];
-        let relations = self.system.relations.as_slice();
-        if up {
-            let to = self.lower[cell as usize] - self.base;
-            set_number(
-                relations,
-                &mut self.lower,
-                cell,
-                to,
-                &mut self.least,
-                &mut self.greatest,
-            );
-            Some(up)
-        } else {
-            let to = self.upper[cell as usize] + self.base;
-            set_number(
-                relations,
-                &mut self.upper,
-                cell,
-                to,
-                &mut self.greatest,
-                &mut self.least,
-            );
-            Some(up)
-        }
+        let cell = self.cells[self.steps.len()];
+        let mark = self.bounds.fixed();
+        self.steps.push((up, mark))?;
+        let named = self.naming[cell as usize].as_slice();
+        self.bounds.take_side(named, cell, up)?;
+        let viable = propagate(&mut self.bounds, self.naming.as_slice(), mark)?;
+        self.viable = viable;
+        Ok(())
     }
 
-    // The numbers to the lower side.
+    // Takes the last choice back, with all that it forced, and gives it.
+    fn take_back(&mut self) -> Option<bool>
+        requires { IsPartial self.old.bounds self.old.naming.items self.old.cells.items self.old.steps.items self.old.viable }
+        ensures none { IfNone result (self.old.steps.items ≡ []) }
+        ensures some { IfSome result (λ up. choices_of self.old.steps.items ≡ choices_of self.new.steps.items ++ up ∷ []) }
+        ensures kept { IfSome result (λ _. IsPartial self.new.bounds self.new.naming.items self.new.cells.items self.new.steps.items self.new.viable) }
+        ensures viable { IfSome result (λ _. self.new.viable ≡ true) }
+        ensures same { IfSome result (λ _. IsSameTask self.old.bounds self.new.bounds) }
+        ensures fewer { IfSome result (λ _. length self.new.steps.items < length self.old.steps.items) }
+        ensures room { IfSome result (λ _. length self.new.steps.items < length self.new.cells.items) }
+    {
+        let step = self.steps.pop()?;
+        let mark = step.1;
+        self.bounds.unfix_to(self.naming.as_slice(), mark);
+        self.viable = true;
+        Some(step.0)
+    }
+
+    // The least numbers left, which are the values once there is a choice for every cell.
     pub fn into_values(self) -> Items<i128>
-        ensures { result ≡ by_choices false self.entry.base self.entry.truths self.entry.choices }
+        ensures { result ≡ by_fixes false self.entry.bounds.base self.entry.bounds.truths self.entry.bounds.fixes }
     {
-        Items::new(self.lower)
+        self.bounds.into_values()
     }
 }

@@ -5,7 +5,7 @@ ghost use Rattle.rounding.specs.Tasks.{IsProper};
 ghost use Rattle.rounding.specs.Searches.{Stops, unrounded_count};
 
 use crate::fault::RoundFault;
-use crate::search::searched;
+use crate::search::search_values;
 use sdc_base::{Items, System};
 use std::alloc::Global;
 use std::marker::Model;
@@ -42,13 +42,19 @@ impl<'a> Rounding<'a> {
     }
 }
 
-/// A rounding of truths to a base, by a search that looks at no more than so many lists of choices.
+/// A rounding of truths to a base (zero-restricted controlled rounding; own).
 ///
-/// The base is from 1 to 10^22. There is a truth for each cell, from 0 to 10^29, and the relations hold on the truths. Cells whose
-/// truths aren't multiples of the base take one of the two multiples next to them, in ascending number, down before up. The
-/// search goes through the partial lists of such choices whose proper beginnings all leave each relation able to hold. It
-/// keeps for each relation the least and the greatest of total less parts that the choices leave, so each list costs one look at
-/// each part of each relation.
+/// `truths` has a truth for each cell of `system`, from 0 to 10^29 units, on which the relations hold; `base` is from 1 to 10^22
+/// units; `nodes` is how many lists of choices may be looked at, from 1.
+///
+/// A truth that is a multiple of the base stays. The other cells, in ascending number, are tried at the multiple below and then at
+/// the one above. A list of such choices goes on as long as each relation can hold on the numbers left; what a relation forces is
+/// fixed before more is chosen, and lists that no rounding extends are left out. `NoRounding` comes only where there is none.
+/// `Nodes` comes where so many lists were looked at and none was a rounding, and never where `nodes` is at least twice 2 to the
+/// number of cells that aren't multiples. Which of several roundings is given is free. `Memory` leaves nothing behind.
+///
+/// Each cell that is fixed or freed costs one look at each part of each relation that names it, and each relation that has come to
+/// one of its extremes one look at each of its parts.
 pub fn round<'a>(
     alloc: Global,
     system: &'a System,
@@ -64,7 +70,7 @@ pub fn round<'a>(
     ensures limit { (n : ℕ) → result ≡ Err (RoundFault.Nodes n) → (n ≡ nodes) × Stops system.now truths.now base n }
     ensures enough { 2 ^ (unrounded_count truths.now base + 1) ≤ nodes → (n : ℕ) → result ≢ Err (RoundFault.Nodes n) }
 {
-    match searched(alloc, system, truths, base, nodes) {
+    match search_values(alloc, system, truths, base, nodes) {
         Ok(values) => Ok(Rounding {
             system,
             truths,

@@ -1,15 +1,17 @@
-ghost use Rattle.std.specs.Prelude.{◌≡◌, ◌≢◌, ◌≤◌, ◌<◌, ◌+◌, [], false, List, ℕ, ℤ, OnOk, IfOk, IsTrue};
+ghost use Rattle.std.specs.Prelude.{◌≡◌, ◌≢◌, ◌≤◌, [], false, List, ℕ, ℤ, OnOk, IfOk};
 ghost use Rattle.sdc_base.specs.Roundings.{IsRounding};
+ghost use Rattle.rounding.specs.Fixes.{by_fixes};
+ghost use Rattle.rounding.specs.PartialLists.{IsPartial};
 ghost use Rattle.rounding.specs.Tasks.{IsProper};
-ghost use Rattle.rounding.specs.Searches.{Rounds, Stops, after_in, ahead_in};
+ghost use Rattle.rounding.specs.Searches.{Stops};
 
 use crate::fault::RoundFault;
 use crate::partial::Partial;
-use sdc_base::{Items, Memory, System};
+use sdc_base::{Items, System};
 use std::alloc::Global;
 
 // The values of a rounding, by a search that looks at no more than so many lists of choices.
-pub(crate) fn searched(
+pub(crate) fn search_values(
     alloc: Global,
     system: &System,
     truths: &[i128],
@@ -31,27 +33,27 @@ pub(crate) fn searched(
     }
 }
 
-// Goes through the lists of choices in the order of the search, until one is a rounding, or so many have been looked at.
+// Goes through lists of choices in the order of the search, until one is a rounding, or so many have been looked at. Lists that no
+// rounding extends may be left out.
 fn search(partial: &mut Partial<'_>, nodes: u64) -> Result<(), RoundFault>
-    requires proper { IsProper partial.old.system partial.old.truths partial.old.base }
-    requires start { partial.old.choices ≡ [] }
+    requires kept { IsPartial partial.old.bounds partial.old.naming.items partial.old.cells.items partial.old.steps.items partial.old.viable }
+    requires start { partial.old.steps.items ≡ [] }
     requires nodes { 1 ≤ nodes }
-    ensures same { partial.new ≡ record partial.old { choices = partial.new.choices } }
-    ensures found { OnOk result (Rounds partial.old.system partial.old.truths partial.old.base partial.new.choices) }
-    ensures none { result ≡ Err RoundFault.NoRounding → (values : List ℤ) → IsRounding partial.old.system partial.old.truths partial.old.base values → ⊥ }
-    ensures limit { (n : ℕ) → result ≡ Err (RoundFault.Nodes n) → (n ≡ nodes) × Stops partial.old.system partial.old.truths partial.old.base n }
+    ensures found { OnOk result (IsRounding partial.old.bounds.system partial.old.bounds.truths partial.old.bounds.base (by_fixes false partial.new.bounds.base partial.new.bounds.truths partial.new.bounds.fixes)) }
+    ensures none { result ≡ Err RoundFault.NoRounding → (values : List ℤ) → IsRounding partial.old.bounds.system partial.old.bounds.truths partial.old.bounds.base values → ⊥ }
+    ensures limit { (n : ℕ) → result ≡ Err (RoundFault.Nodes n) → (n ≡ nodes) × Stops partial.old.bounds.system partial.old.bounds.truths partial.old.bounds.base n }
 {
     let mut seen: u64 = 0;
     'lists: loop {
         seen += 1;
-        if partial.is_open() {
+        if partial.is_viable() {
             if partial.is_whole() {
                 return Ok(());
             }
             if seen == nodes {
                 return Err(RoundFault::Nodes(nodes));
             }
-            let Ok(()) = partial.choose(false) else {
+            let Ok(()) = partial.go_on() else {
                 return Err(RoundFault::Memory);
             };
             continue;
@@ -59,29 +61,11 @@ fn search(partial: &mut Partial<'_>, nodes: u64) -> Result<(), RoundFault>
         if seen == nodes {
             return Err(RoundFault::Nodes(nodes));
         }
-        let Ok(more) = go_beside(partial) else {
+        let Ok(more) = partial.go_beside() else {
             return Err(RoundFault::Memory);
         };
         if !more {
             return Err(RoundFault::NoRounding);
         }
-    }
-}
-
-// Takes choices back to the last one that is down and makes it up, or takes all back where none is down.
-fn go_beside(partial: &mut Partial<'_>) -> Result<bool, Memory>
-    ensures same { partial.new ≡ record partial.old { choices = partial.new.choices } }
-    ensures more { IfOk result (λ more. IsTrue more → after_in partial.old.system partial.old.truths partial.old.base partial.old.choices ≡ ahead_in partial.old.system partial.old.truths partial.old.base partial.new.choices) }
-    ensures end { IfOk result (λ more. more ≡ false → after_in partial.old.system partial.old.truths partial.old.base partial.old.choices ≡ []) }
-{
-    'back: loop {
-        let Some(up) = partial.take_back() else {
-            return Ok(false);
-        };
-        if up {
-            continue;
-        }
-        partial.choose(true)?;
-        return Ok(true);
     }
 }

@@ -3,7 +3,7 @@ use Rattle.std.specs.Int.{w128}
 use Rattle.std.proofs.lemmas.Int.{ints, to_z-of_z}
 use Rattle.sdc_base.specs.Roundings.{number_at}
 use Rattle.rounding.specs.Extremes.{extreme_numbers}
-use Rattle.rounding.specs.PartialLists.{IsNear}
+use Rattle.rounding.specs.Sums.{IsNear}
 use Rattle.rounding.proofs.Smallness.{mixed_near}
 use Rattle.rounding.proofs.numbers.distance.Goals as goal
 

@@ -1,141 +1,79 @@
-use Rattle.std.proofs.Common.{◌<◌, ◌∙◌, ℤ, List, All, length, arith, rules, ap, sym, refl, subst, FitsSigned}
-use Rattle.std.specs.Int.{w128}
-use Rattle.std.proofs.Math.ListN.{set}
-use Rattle.std.proofs.lemmas.Int.{ints, to_z-of_z}
-use Rattle.sdc_base.specs.declared.relation.Relation.{Relation}
-use Rattle.sdc_base.specs.Systems.{NamesCells}
-use Rattle.rounding.specs.PartialLists.{partial_list}
-use Rattle.rounding.specs.Searches.{unrounded_count}
-use Rattle.rounding.proofs.SumSteps.{read_at}
-use Rattle.rounding.proofs.Keeping.{ready, same_extremes, made_up, made_down}
+use Rattle.std.proofs.Common.{◌≡◌, ◌∙◌, ℕ, List, true, get_or, length, arith, ap, sym, subst}
+use Rattle.rounding.specs.Namings.{IsNaming}
+use Rattle.rounding.specs.Tasks.{IsProper}
+use Rattle.rounding.specs.Fixes.{FixedCells, allows}
+use Rattle.rounding.specs.PartialLists.{Step, choices_of}
+use Rattle.rounding.proofs.NamingSteps.{listed_at}
+use Rattle.rounding.proofs.PartialSteps.{read_cell, next_of, choices_more, partial_on, taken_ready, taken_from, on_same}
 use Rattle.rounding.proofs.partial.Partial.choose.Goals as goal
 
-pub index-to-requires : goal.index-to-requires
-index-to-requires c =
-    let s = c.self.inside in
-    let below : length s.choices.items < unrounded_count s.truths.now s.base = rw (← c.self.view_is) at c.requires in
-    let all = ready (partial_list s.system.now s.truths.now s.base s.choices.items) s.cells.items s.lower.items s.upper.items s.least.items s.greatest.items c.len.result c.index-cell.result.now c.self.invariant below (omega (arith, c.len.ensures, s.choices.ok)) c.index-cell.ensures in
-    omega (arith, all.next.inside_highs, s.upper.ok)
+pub index-requires : goal.index-requires
+index-requires c =
+    let s = c.args.self.now in
+    let last : c.len.result ≡ length s.steps.items = omega (arith, c.len.ensures, s.steps.ok) in
+    let read = read_cell s.cells.items c.len.result c.index-cell.result.now (omega (arith, last, c.requires.room)) c.index-cell.ensures in
+    let next = next_of s.bounds s.naming.items s.cells.items s.steps.items s.viable c.len.result c.index-cell.result.now c.requires.kept c.requires.room last read in
+    omega (arith, next.inside_naming, s.naming.ok)
 
-pub index-to-requires-else-up : goal.index-to-requires-else-up
-index-to-requires-else-up c =
-    let s = c.self.inside in
-    let below : length s.choices.items < unrounded_count s.truths.now s.base = rw (← c.self.view_is) at c.requires in
-    let all = ready (partial_list s.system.now s.truths.now s.base s.choices.items) s.cells.items s.lower.items s.upper.items s.least.items s.greatest.items c.len.result c.index-cell.result.now c.self.invariant below (omega (arith, c.len.ensures, s.choices.ok)) c.index-cell.ensures in
-    omega (arith, all.next.inside_lows, s.lower.ok)
+pub take_side-requires-clause-cell : goal.take_side-requires-clause-cell
+take_side-requires-clause-cell c =
+    let s = c.args.self.now in
+    let last : c.len.result ≡ length s.steps.items = omega (arith, c.len.ensures, s.steps.ok) in
+    let read = read_cell s.cells.items c.len.result c.index-cell.result.now (omega (arith, last, c.requires.room)) c.index-cell.ensures in
+    let next = next_of s.bounds s.naming.items s.cells.items s.steps.items s.viable c.len.result c.index-cell.result.now c.requires.kept c.requires.room last read in
+    next.inside_cells
 
-pub set_number-requires-clause-named : goal.set_number-requires-clause-named
-set_number-requires-clause-named c =
-    let s = c.self.inside in
-    let below : length s.choices.items < unrounded_count s.truths.now s.base = rw (← c.self.view_is) at c.requires in
-    let all = ready (partial_list s.system.now s.truths.now s.base s.choices.items) s.cells.items s.lower.items s.upper.items s.least.items s.greatest.items c.len.result c.index-cell.result.now c.self.invariant below (omega (arith, c.len.ensures, s.choices.ok)) c.index-cell.ensures in
-    subst (λ (rs : List Relation). All (NamesCells (length s.lower.items)) rs) (sym c.as_slice-relations.ensures) all.next.named.0
+pub take_side-requires-clause-unrounded : goal.take_side-requires-clause-unrounded
+take_side-requires-clause-unrounded c =
+    let s = c.args.self.now in
+    let last : c.len.result ≡ length s.steps.items = omega (arith, c.len.ensures, s.steps.ok) in
+    let read = read_cell s.cells.items c.len.result c.index-cell.result.now (omega (arith, last, c.requires.room)) c.index-cell.ensures in
+    let next = next_of s.bounds s.naming.items s.cells.items s.steps.items s.viable c.len.result c.index-cell.result.now c.requires.kept c.requires.room last read in
+    next.off
 
-pub set_number-requires-clause-cell : goal.set_number-requires-clause-cell
-set_number-requires-clause-cell c =
-    let s = c.self.inside in
-    let below : length s.choices.items < unrounded_count s.truths.now s.base = rw (← c.self.view_is) at c.requires in
-    let all = ready (partial_list s.system.now s.truths.now s.base s.choices.items) s.cells.items s.lower.items s.upper.items s.least.items s.greatest.items c.len.result c.index-cell.result.now c.self.invariant below (omega (arith, c.len.ensures, s.choices.ok)) c.index-cell.ensures in
-    all.next.inside_lows
+pub take_side-requires-clause-proper : goal.take_side-requires-clause-proper
+take_side-requires-clause-proper c = c.requires.kept.proper
 
-pub set_number-requires-clause-low : goal.set_number-requires-clause-low
-set_number-requires-clause-low c =
-    let s = c.self.inside in
-    let below : length s.choices.items < unrounded_count s.truths.now s.base = rw (← c.self.view_is) at c.requires in
-    let all = ready (partial_list s.system.now s.truths.now s.base s.choices.items) s.cells.items s.lower.items s.upper.items s.least.items s.greatest.items c.len.result c.index-cell.result.now c.self.invariant below (omega (arith, c.len.ensures, s.choices.ok)) c.index-cell.ensures in
-    let to_is = read_at s.upper.items c.index-cell.result.now c.index-to.result.now all.next.inside_highs c.index-to.ensures in
-    omega (arith, ints, to_is, all.next.apart, all.positive, all.most)
+pub take_side-requires-clause-allowed : goal.take_side-requires-clause-allowed
+take_side-requires-clause-allowed c =
+    let s = c.args.self.now in
+    let last : c.len.result ≡ length s.steps.items = omega (arith, c.len.ensures, s.steps.ok) in
+    let read = read_cell s.cells.items c.len.result c.index-cell.result.now (omega (arith, last, c.requires.room)) c.index-cell.ensures in
+    let next = next_of s.bounds s.naming.items s.cells.items s.steps.items s.viable c.len.result c.index-cell.result.now c.requires.kept c.requires.room last read in
+    subst (λ (cell : ℕ). allows s.bounds cell c.args.up ≡ true) (sym (read ∙ ap (λ (k : ℕ). get_or s.cells.items k 0) last)) c.requires.allowed
 
-pub set_number-requires-clause-high : goal.set_number-requires-clause-high
-set_number-requires-clause-high c =
-    let s = c.self.inside in
-    let below : length s.choices.items < unrounded_count s.truths.now s.base = rw (← c.self.view_is) at c.requires in
-    let all = ready (partial_list s.system.now s.truths.now s.base s.choices.items) s.cells.items s.lower.items s.upper.items s.least.items s.greatest.items c.len.result c.index-cell.result.now c.self.invariant below (omega (arith, c.len.ensures, s.choices.ok)) c.index-cell.ensures in
-    let to_is = read_at s.upper.items c.index-cell.result.now c.index-to.result.now all.next.inside_highs c.index-to.ensures in
-    omega (arith, ints, to_is, all.next.apart, all.positive, all.most)
+pub take_side-requires-clause-naming : goal.take_side-requires-clause-naming
+take_side-requires-clause-naming c =
+    let s = c.args.self.now in
+    let last : c.len.result ≡ length s.steps.items = omega (arith, c.len.ensures, s.steps.ok) in
+    let read = read_cell s.cells.items c.len.result c.index-cell.result.now (omega (arith, last, c.requires.room)) c.index-cell.ensures in
+    let next = next_of s.bounds s.naming.items s.cells.items s.steps.items s.viable c.len.result c.index-cell.result.now c.requires.kept c.requires.room last read in
+    listed_at s.bounds.system s.naming.items c.index-cell.result.now c.index.result.now c.as_slice-named.result.now c.requires.kept.listed next.inside_cells c.index.ensures c.as_slice-named.ensures
 
-pub set_number-requires-clause-first : goal.set_number-requires-clause-first
-set_number-requires-clause-first c =
-    let s = c.self.inside in
-    let below : length s.choices.items < unrounded_count s.truths.now s.base = rw (← c.self.view_is) at c.requires in
-    let all = ready (partial_list s.system.now s.truths.now s.base s.choices.items) s.cells.items s.lower.items s.upper.items s.least.items s.greatest.items c.len.result c.index-cell.result.now c.self.invariant below (omega (arith, c.len.ensures, s.choices.ok)) c.index-cell.ensures in
-    (all.mins_each ∙ ap (λ (rs : List Relation). length rs) (sym c.as_slice-relations.ensures), all.mins_small)
+pub propagate-requires-clause-proper : goal.propagate-requires-clause-proper
+propagate-requires-clause-proper c = subst (λ (a : FixedCells). IsProper a.system a.truths a.base) (sym c.in_ok-take_side.ensures.grown) c.requires.kept.proper
 
-pub set_number-requires-clause-second : goal.set_number-requires-clause-second
-set_number-requires-clause-second c =
-    let s = c.self.inside in
-    let below : length s.choices.items < unrounded_count s.truths.now s.base = rw (← c.self.view_is) at c.requires in
-    let all = ready (partial_list s.system.now s.truths.now s.base s.choices.items) s.cells.items s.lower.items s.upper.items s.least.items s.greatest.items c.len.result c.index-cell.result.now c.self.invariant below (omega (arith, c.len.ensures, s.choices.ok)) c.index-cell.ensures in
-    (all.maxs_each ∙ ap (λ (rs : List Relation). length rs) (sym c.as_slice-relations.ensures), all.maxs_small)
+pub propagate-requires-clause-naming : goal.propagate-requires-clause-naming
+propagate-requires-clause-naming c =
+    subst (λ (lists : List (List ℕ)). IsNaming c.take_side.new.self.system lists) (sym c.as_slice.ensures.value) (subst (λ (a : FixedCells). IsNaming a.system c.args.self.now.naming.items) (sym c.in_ok-take_side.ensures.grown) c.requires.kept.listed)
 
-pub invariant_of-self-then-up : goal.invariant_of-self-then-up
-invariant_of-self-then-up c =
-    let s = c.self.inside in
-    let below : length s.choices.items < unrounded_count s.truths.now s.base = rw (← c.self.view_is) at c.requires in
-    let all = ready (partial_list s.system.now s.truths.now s.base s.choices.items) s.cells.items s.lower.items s.upper.items s.least.items s.greatest.items c.len.result c.index-cell.result.now c.self.invariant below (omega (arith, c.len.ensures, s.choices.ok)) c.index-cell.ensures in
-    let to_is = read_at s.upper.items c.index-cell.result.now c.index-to.result.now all.next.inside_highs c.index-to.ensures in
-    let fits : FitsSigned w128 c.index-to.result.now = search rules in
-    let numbers = simp to_z-of_z at c.set_number.ensures.numbers in
-    let relations = c.as_slice-relations.ensures in
-    let first = c.set_number.ensures.first s.upper.items (same_extremes _ _ _ _ _ _ _ refl refl (sym relations) c.self.invariant.least) in
-    let second = c.set_number.ensures.second s.upper.items (same_extremes _ _ _ _ _ _ _ refl refl (sym relations) c.self.invariant.greatest) in
-    made_up s.system.now s.truths.now s.base s.choices.items c.push.new.self.items c.args.up s.cells.items s.lower.items c.set_number.new.numbers.items s.upper.items s.least.items s.greatest.items c.index-cell.result.now c.as_slice-relations.result.now c.set_number.new.first.items c.set_number.new.second.items
-    c.self.invariant all.below all.is c.if-up.true c.in_ok-push.ensures.items (numbers ∙ ap (λ (z : ℤ). set s.lower.items c.index-cell.result.now z) to_is) relations first second
+pub propagate-requires-clause-from : goal.propagate-requires-clause-from
+propagate-requires-clause-from c = taken_from c.args.self.now.bounds c.take_side.new.self c.index-cell.result.now c.args.up c.fixed-mark.result c.fixed-mark.ensures.value c.in_ok-take_side.ensures
 
-pub set_number-requires-else-up-clause-named : goal.set_number-requires-else-up-clause-named
-set_number-requires-else-up-clause-named c =
-    let s = c.self.inside in
-    let below : length s.choices.items < unrounded_count s.truths.now s.base = rw (← c.self.view_is) at c.requires in
-    let all = ready (partial_list s.system.now s.truths.now s.base s.choices.items) s.cells.items s.lower.items s.upper.items s.least.items s.greatest.items c.len.result c.index-cell.result.now c.self.invariant below (omega (arith, c.len.ensures, s.choices.ok)) c.index-cell.ensures in
-    subst (λ (rs : List Relation). All (NamesCells (length s.upper.items)) rs) (sym c.as_slice-relations.ensures) all.next.named.1
+pub propagate-requires-clause-ready : goal.propagate-requires-clause-ready
+propagate-requires-clause-ready c = taken_ready c.args.self.now.bounds c.take_side.new.self c.index-cell.result.now c.args.up c.fixed-mark.result c.fixed-mark.ensures.value (c.requires.kept.hold c.requires.viable) c.in_ok-take_side.ensures
 
-pub set_number-requires-else-up-clause-cell : goal.set_number-requires-else-up-clause-cell
-set_number-requires-else-up-clause-cell c =
-    let s = c.self.inside in
-    let below : length s.choices.items < unrounded_count s.truths.now s.base = rw (← c.self.view_is) at c.requires in
-    let all = ready (partial_list s.system.now s.truths.now s.base s.choices.items) s.cells.items s.lower.items s.upper.items s.least.items s.greatest.items c.len.result c.index-cell.result.now c.self.invariant below (omega (arith, c.len.ensures, s.choices.ok)) c.index-cell.ensures in
-    all.next.inside_highs
+pub returns-clause-kept : goal.returns-clause-kept
+returns-clause-kept c =
+    let s = c.args.self.now in
+    let last : c.len.result ≡ length s.steps.items = omega (arith, c.len.ensures, s.steps.ok) in
+    let read = read_cell s.cells.items c.len.result c.index-cell.result.now (omega (arith, last, c.requires.room)) c.index-cell.ensures in
+    let next = next_of s.bounds s.naming.items s.cells.items s.steps.items s.viable c.len.result c.index-cell.result.now c.requires.kept c.requires.room last read in
+    partial_on s.bounds c.take_side.new.self c.propagate.new.bounds s.naming.items s.cells.items s.steps.items c.push.new.self.items s.viable c.in_ok-viable.viable c.args.up c.fixed-mark.result c.index-cell.result.now
+    c.requires.kept c.requires.viable c.requires.room next c.in_ok-push.ensures.items c.fixed-mark.ensures.value c.in_ok-take_side.ensures c.in_ok-viable.ensures.forced c.in_ok-viable.ensures.hold c.in_ok-viable.ensures.none
 
-pub set_number-requires-else-up-clause-low : goal.set_number-requires-else-up-clause-low
-set_number-requires-else-up-clause-low c =
-    let s = c.self.inside in
-    let below : length s.choices.items < unrounded_count s.truths.now s.base = rw (← c.self.view_is) at c.requires in
-    let all = ready (partial_list s.system.now s.truths.now s.base s.choices.items) s.cells.items s.lower.items s.upper.items s.least.items s.greatest.items c.len.result c.index-cell.result.now c.self.invariant below (omega (arith, c.len.ensures, s.choices.ok)) c.index-cell.ensures in
-    let to_is = read_at s.lower.items c.index-cell.result.now c.index-to-else-up.result.now all.next.inside_lows c.index-to-else-up.ensures in
-    omega (arith, ints, to_is, all.next.apart, all.positive, all.most)
+pub returns-clause-same : goal.returns-clause-same
+returns-clause-same c = on_same c.args.self.now.bounds c.take_side.new.self c.propagate.new.bounds c.index-cell.result.now c.args.up c.in_ok-take_side.ensures c.in_ok-viable.ensures.forced
 
-pub set_number-requires-else-up-clause-high : goal.set_number-requires-else-up-clause-high
-set_number-requires-else-up-clause-high c =
-    let s = c.self.inside in
-    let below : length s.choices.items < unrounded_count s.truths.now s.base = rw (← c.self.view_is) at c.requires in
-    let all = ready (partial_list s.system.now s.truths.now s.base s.choices.items) s.cells.items s.lower.items s.upper.items s.least.items s.greatest.items c.len.result c.index-cell.result.now c.self.invariant below (omega (arith, c.len.ensures, s.choices.ok)) c.index-cell.ensures in
-    let to_is = read_at s.lower.items c.index-cell.result.now c.index-to-else-up.result.now all.next.inside_lows c.index-to-else-up.ensures in
-    omega (arith, ints, to_is, all.next.apart, all.positive, all.most)
-
-pub set_number-requires-else-up-clause-first : goal.set_number-requires-else-up-clause-first
-set_number-requires-else-up-clause-first c =
-    let s = c.self.inside in
-    let below : length s.choices.items < unrounded_count s.truths.now s.base = rw (← c.self.view_is) at c.requires in
-    let all = ready (partial_list s.system.now s.truths.now s.base s.choices.items) s.cells.items s.lower.items s.upper.items s.least.items s.greatest.items c.len.result c.index-cell.result.now c.self.invariant below (omega (arith, c.len.ensures, s.choices.ok)) c.index-cell.ensures in
-    (all.maxs_each ∙ ap (λ (rs : List Relation). length rs) (sym c.as_slice-relations.ensures), all.maxs_small)
-
-pub set_number-requires-else-up-clause-second : goal.set_number-requires-else-up-clause-second
-set_number-requires-else-up-clause-second c =
-    let s = c.self.inside in
-    let below : length s.choices.items < unrounded_count s.truths.now s.base = rw (← c.self.view_is) at c.requires in
-    let all = ready (partial_list s.system.now s.truths.now s.base s.choices.items) s.cells.items s.lower.items s.upper.items s.least.items s.greatest.items c.len.result c.index-cell.result.now c.self.invariant below (omega (arith, c.len.ensures, s.choices.ok)) c.index-cell.ensures in
-    (all.mins_each ∙ ap (λ (rs : List Relation). length rs) (sym c.as_slice-relations.ensures), all.mins_small)
-
-pub invariant_of-self-else-up : goal.invariant_of-self-else-up
-invariant_of-self-else-up c =
-    let s = c.self.inside in
-    let below : length s.choices.items < unrounded_count s.truths.now s.base = rw (← c.self.view_is) at c.requires in
-    let all = ready (partial_list s.system.now s.truths.now s.base s.choices.items) s.cells.items s.lower.items s.upper.items s.least.items s.greatest.items c.len.result c.index-cell.result.now c.self.invariant below (omega (arith, c.len.ensures, s.choices.ok)) c.index-cell.ensures in
-    let to_is = read_at s.lower.items c.index-cell.result.now c.index-to-else-up.result.now all.next.inside_lows c.index-to-else-up.ensures in
-    let fits : FitsSigned w128 c.index-to-else-up.result.now = search rules in
-    let numbers = simp to_z-of_z at c.set_number-else-up.ensures.numbers in
-    let relations = c.as_slice-relations.ensures in
-    let first = c.set_number-else-up.ensures.first s.lower.items (same_extremes _ _ _ _ _ _ _ refl refl (sym relations) c.self.invariant.greatest) in
-    let second = c.set_number-else-up.ensures.second s.lower.items (same_extremes _ _ _ _ _ _ _ refl refl (sym relations) c.self.invariant.least) in
-    made_down s.system.now s.truths.now s.base s.choices.items c.push.new.self.items c.args.up s.cells.items s.lower.items s.upper.items c.set_number-else-up.new.numbers.items s.least.items s.greatest.items c.index-cell.result.now c.as_slice-relations.result.now c.set_number-else-up.new.second.items c.set_number-else-up.new.first.items
-    c.self.invariant all.below all.is c.if-up.false c.in_ok-push.ensures.items (numbers ∙ ap (λ (z : ℤ). set s.upper.items c.index-cell.result.now z) to_is) relations second first
+pub returns-clause-choices : goal.returns-clause-choices
+returns-clause-choices c = ap (λ (steps : List Step). choices_of steps) c.in_ok-push.ensures.items ∙ choices_more c.args.self.now.steps.items (c.args.up, c.fixed-mark.result)

@@ -1,0 +1,119 @@
+-- Cells fixed one after another at a neighbour of their truth, and the numbers that this leaves the cells (own).
+use Rattle.std.specs.Prelude.{◌≡◌, ℕ, ◌<◌, ◌^◌, ◌++◌, [], Bool, true, false, List, All, length, take, drop, fold, slice_get, slice_index, slice_set, Some, ℤ, pos, negsuc, neg_ℤ, ◌-ℤ◌, ◌≤ℤ◌, int_lt, if◌then◌else◌}
+use Rattle.sdc_base.specs.declared.relation.Relation.{Relation}
+use Rattle.sdc_base.specs.declared.system.System.{System}
+use Rattle.sdc_base.specs.Systems.{NamesCells}
+use Rattle.sdc_base.specs.Roundings.{number_at, IsRounding}
+use Rattle.rounding.specs.Neighbours.{is_multiple, neighbour}
+use Rattle.rounding.specs.Choices.{by_choices}
+use Rattle.rounding.specs.Extremes.{count_of, spans_none}
+use Rattle.rounding.specs.Namings.{IsNamingOf}
+use Rattle.rounding.specs.Sums.{AreExtremes, AreSmall}
+use Rattle.rounding.specs.Tasks.{IsProper}
+
+-- a cell, and whether it is fixed at the upper neighbour of its truth or at the lower one
+abbrev pub Fix : Type 0
+Fix = ℕ × Bool
+
+-- the numbers after one more cell is fixed
+abbrev pub with_fix : ℤ → List ℤ → List ℤ → Fix → List ℤ
+with_fix base truths numbers fix = slice_set numbers fix.0 (neighbour base (number_at truths fix.0) fix.1)
+
+-- A number for each cell: a fixed cell where it is fixed, a multiple as it is, and the others to one side. So these are the least
+-- numbers that are left, for down, and the greatest, for up.
+abbrev pub by_fixes : Bool → ℤ → List ℤ → List Fix → List ℤ
+by_fixes side base truths fixes = fold (with_fix base truths) (by_choices side base truths []) fixes
+
+-- fixed cells, with what they are cells of
+pub record FixedCells : Type 0 where
+  pub system : System
+  pub truths : List ℤ
+  pub base : ℤ
+  pub fixes : List Fix
+
+-- what these make
+abbrev pub fixed_cells : System → List ℤ → ℤ → List Fix → FixedCells
+fixed_cells system truths base fixes = record { system = system; truths = truths; base = base; fixes = fixes }
+
+-- the least number, for down, or the greatest, for up, that is left a cell
+abbrev pub number_left : Bool → FixedCells → ℕ → ℤ
+number_left side b = number_at (by_fixes side b.base b.truths b.fixes)
+
+-- a cell that is no multiple and isn't fixed
+pub record IsFree (b : FixedCells) (cell : ℕ) : Type 0 where
+  pub inside : cell < length b.truths
+  pub unrounded : is_multiple b.base (number_at b.truths cell) ≡ false
+  pub low : number_left false b cell ≡ neighbour b.base (number_at b.truths cell) false
+  pub high : number_left true b cell ≡ neighbour b.base (number_at b.truths cell) true
+
+-- whether the numbers left allow a cell this neighbour of its truth
+abbrev pub allows : FixedCells → ℕ → Bool → Bool
+allows b cell up = if up then int_lt (number_at b.truths cell) (number_left true b cell) else int_lt (number_left false b cell) (number_at b.truths cell)
+
+-- values between the numbers left
+abbrev pub IsWithin : FixedCells → List ℤ → Type 0
+IsWithin b values = (cell : ℕ) → (number_left false b cell ≤ℤ number_at values cell) × (number_at values cell ≤ℤ number_left true b cell)
+
+-- no rounding is between the numbers left
+abbrev pub NoneWithin : FixedCells → Type 0
+NoneWithin b = (values : List ℤ) → IsRounding b.system b.truths b.base values → IsWithin b values → ⊥
+
+-- whether a relation's form can be 0 on the numbers left
+abbrev pub can_hold : FixedCells → Relation → Bool
+can_hold b r = spans_none (number_left false b) (number_left true b) r
+
+-- every relation can hold on the numbers left
+abbrev pub AllCanHold : FixedCells → Type 0
+AllCanHold b = (number : ℕ) (r : Relation) → slice_get b.system.relations number ≡ Some r → can_hold b r ≡ true
+
+-- none of these fixes is of a cell that a relation counts
+abbrev pub Untouched : Relation → List Fix → Type 0
+Untouched r fixes = All (λ fix. count_of r fix.0 ≡ pos 0) fixes
+
+-- each relation can hold whose cells weren't fixed from this place on
+abbrev pub HoldFrom : ℕ → FixedCells → Type 0
+HoldFrom from b = (number : ℕ) (r : Relation) → slice_get b.system.relations number ≡ Some r → Untouched r (drop from b.fixes) → can_hold b r ≡ true
+
+-- the same of the relations with these numbers
+abbrev pub HoldOf : List ℕ → ℕ → FixedCells → Type 0
+HoldOf numbers from b = (place : ℕ) (r : Relation) → place < length numbers → slice_get b.system.relations (slice_index numbers place) ≡ Some r → Untouched r (drop from b.fixes) → can_hold b r ≡ true
+
+-- a relation's form counts a cell above 0 times, or below
+abbrev pub Counts : Bool → Relation → ℕ → Type 0
+Counts true r cell = pos 1 ≤ℤ count_of r cell
+Counts false r cell = count_of r cell ≤ℤ negsuc 0
+
+-- Further cells are fixed: the numbers left lie between those before, and no rounding is lost.
+pub record IsForced (before after : FixedCells) : Type 0 where
+  pub more : List Fix
+  pub grown : after ≡ record before { fixes = before.fixes ++ more }
+  pub narrower : (cell : ℕ) → (number_left false before cell ≤ℤ number_left false after cell) × (number_left true after cell ≤ℤ number_left true before cell)
+  pub keeps : (values : List ℤ) → IsRounding before.system before.truths before.base values → IsWithin before values → IsWithin after values
+
+-- a cell is fixed at a neighbour of its truth, and only that cell, or it was there already
+pub record IsTaken (cell : ℕ) (up : Bool) (before after : FixedCells) : Type 0 where
+  pub more : List Fix
+  pub grown : after ≡ record before { fixes = before.fixes ++ more }
+  pub alone : All (λ fix. fix.0 ≡ cell) more
+  pub here : (side : Bool) → number_left side after cell ≡ neighbour before.base (number_at before.truths cell) up
+
+-- what a change of one cell's number needs: the relations that name it, a number near, and small sums
+pub record IsSettable (relations : List Relation) (named : List ℕ) (numbers : List ℤ) (cell : ℕ) (to : ℤ) (first second : List ℤ) : Type 0 where
+  pub naming : IsNamingOf relations cell named
+  pub names : All (NamesCells (length numbers)) relations
+  pub inside : cell < length numbers
+  pub low : neg_ℤ (pos (2 ^ 74)) ≤ℤ (to -ℤ number_at numbers cell)
+  pub high : (to -ℤ number_at numbers cell) ≤ℤ pos (2 ^ 74)
+  pub first_each : length first ≡ length relations
+  pub second_each : length second ≡ length relations
+  pub first_small : AreSmall first
+  pub second_small : AreSmall second
+
+-- The numbers and sums that are kept beside fixed cells. Each cell was free before it was fixed.
+pub record IsKept (b : FixedCells) (lows highs mins maxs : List ℤ) : Type 0 where
+  pub proper : IsProper b.system b.truths b.base
+  pub free : (place : ℕ) (fix : Fix) → slice_get b.fixes place ≡ Some fix → IsFree (record b { fixes = take place b.fixes }) fix.0
+  pub lower : lows ≡ by_fixes false b.base b.truths b.fixes
+  pub upper : highs ≡ by_fixes true b.base b.truths b.fixes
+  pub least : AreExtremes lows highs b.system.relations mins
+  pub greatest : AreExtremes highs lows b.system.relations maxs
