@@ -43,8 +43,8 @@ two_wide = record {
   target = pos (2 ^ 100);
 }
 
--- The exchange of the first slack for the first column is wide at row 3 and column 1, and at row 4 and the values'
--- column 5; at row 3 and the values' column it is not.
+-- The exchange of the first slack for the first column is wide in the row of member 3 at column 1, and in that of member 4 at the
+-- values' column, which is number 5; in the row of member 3 at the values' column it is not.
 pub record TwoWide : Type 0 where
   pub wide : IsWideAt (first_table two_wide) 0 0 1 1
   pub wide_value : IsWideAt (first_table two_wide) 0 0 2 2
