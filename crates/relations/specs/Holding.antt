@@ -1,13 +1,14 @@
 -- Relations as totals with their parts, and marks whose truths are those of records (handbook, feasibility interval).
-use Rattle.std.specs.Prelude.{◌≡◌, ℕ, ◌<◌, List, [], length, slice_get, slice_index, slice_index_or, All, Some, pos}
+use Rattle.std.specs.Prelude.{◌≡◌, ℕ, ◌<◌, List, [], length, slice_get, map, slice_index, slice_index_or, All, Some, pos}
 use Rattle.std.specs.Option.{option_map_or}
 use Rattle.sdc_base.specs.Trees.{Tree, children}
 use Rattle.sdc_base.specs.Records.{Name}
-use Rattle.sdc_base.specs.Relations.{Sum}
+use Rattle.sdc_base.specs.Relations.{Sum, relations_among}
 use Rattle.sdc_base.specs.Sums.{truth}
 use Rattle.sdc_base.specs.Systems.{Numbers}
 use Rattle.sdc_base.specs.declared.relation.Relation.{Relation}
 use Rattle.sdc_base.specs.declared.rows.Row.{Row}
+use Rattle.sdc_base.specs.declared.system.System.{System}
 use Rattle.linked_tables.specs.declared.mark.Mark.{Mark}
 use Rattle.linked_tables.specs.Held.{Held}
 use Rattle.linked_tables.specs.Shared.{cells}
@@ -15,6 +16,11 @@ use Rattle.linked_tables.specs.Shared.{cells}
 -- a relation as a total and its parts
 abbrev pub sum_in : Relation → Sum
 sum_in r = (r.total, r.parts)
+
+-- the system has the relations between the cells of the book
+pub record IsSystemOf (book : Held) (system : System) : Type 0 where
+  pub cells : system.cells ≡ length (cells book)
+  pub relations : map sum_in system.relations ≡ relations_among book.trees book.tables
 
 -- the truth that the mark of each cell has; 0 where there is no such cell
 abbrev pub truth_at : List Mark → Numbers

@@ -31,6 +31,7 @@ protected_by c prices planned hidden worlds repairs p made one_each each protect
     subst (λ q. IsProtected c prices planned q repairs) (sym made) (record {
       of_system = refl;
       of_cells = refl;
+      each_flag = omega (arith, one_each, each);
       protecting = protecting;
       served = served;
       are_repairs = repaired_so;

@@ -25,11 +25,13 @@ pub record IsCannot (c : Case) (cell : ℕ) (side : Side) (multipliers : Multipl
   pub unprotected : ¬ Protects c.system c.cells (full_set c.cells) cell side
   pub none_protects : (flags : List Bool) → length flags ≡ length c.cells → IsPermitted c.cells flags → ¬ Protects c.system c.cells flags cell side
 
--- A hidden set protects every primary cell, as worlds show that are answers of what is asked: it holds primary cells, corners and
+-- A hidden set, with a flag for each cell, protects every primary cell, as worlds show that are answers of what is asked: it holds
+-- primary cells, corners and
 -- subjects of repairs alone, and the repairs are justified and in order.
 pub record IsProtected (c : Case) (prices : List ℕ) (planned : List Bool) (protected : Protection) (repairs : List Refuted) : Type 0 where
   pub of_system : protected.system ≡ c.system
   pub of_cells : protected.cells ≡ c.cells
+  pub each_flag : length protected.hidden.flags ≡ length c.cells
   pub protecting : IsProtecting c.system c.cells protected.hidden.flags
   pub served : AreServed c protected.hidden.flags (asked_of 0 c.cells) protected.worlds
   pub are_repairs : AreRepairs c prices planned repairs
