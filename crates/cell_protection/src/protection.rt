@@ -6,6 +6,7 @@ ghost use Rattle.repair.specs.HidingOrder.{case, prices_of};
 ghost use Rattle.cell_protection.specs.Protections.{AreNarrow, HasText, IsProtectionOf, passes_of, protection_by};
 
 use crate::certifying::certificate_for;
+use crate::planning::passes_in;
 use certificate::Certificate;
 use cost_rule::{CostKind, CostRule, TellsCosts};
 use linked_tables::Book;
@@ -64,17 +65,6 @@ pub fn protect_cells<'a>(
 {
     let f = |facts: &CellFacts| cost.cost(facts);
     protect_by(alloc, book, system, cells, method, cost, f, limit)
-}
-
-// How many passes a plan makes by a method.
-fn passes_in(method: Method) -> u32
-    ensures { result ≡ passes_of method }
-{
-    match method {
-        Method::Gh(passes) => passes,
-        Method::Modular => 1,
-        Method::Rnd(_) => 0,
-    }
 }
 
 // The same, where `f` tells the costs.
