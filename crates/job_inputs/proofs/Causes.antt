@@ -1,6 +1,7 @@
 -- What stops one look at a file stops the reading of which it is a part.
-use Rattle.std.proofs.Common.{◌≡◌, ℕ, List, Option, None, Some, Result, Ok, Err, IsErrOf, refl, ap, arith, subst, ◌∙◌}
+use Rattle.std.proofs.Common.{◌≡◌, ℕ, Bool, true, false, List, Option, None, Some, Result, Ok, Err, IsErrOf, refl, ap, arith, subst, ◌∙◌}
 use Rattle.sdc_base.specs.Answers.{Fails, Gives}
+use Rattle.sdc_base.specs.Steps.{refuse}
 use Rattle.sdc_base.specs.Told.{WhereTold}
 use Rattle.hierarchy.specs.declared.tree_fault.TreeFault.TheVariants as tree
 use Rattle.office_io.proofs.Shelves.{only-read-on}
@@ -9,8 +10,8 @@ use Rattle.office_io.specs.Shelves.{ShelfState, HasOnlyRead}
 use Rattle.job_inputs.specs.Reading.{stop_of, stopped_for, HasCause, HasComeTo, IsReadFrom}
 use Rattle.job_inputs.specs.Refusals.{refused_for, IsForContents, IsOfContents}
 use Rattle.job_inputs.specs.declared.file_ref.FileRef.{FileRef}
-use Rattle.job_inputs.specs.declared.faults.InputFault.{InputFault}
-use Rattle.job_inputs.specs.declared.faults.InputFault.TheVariants as fault
+use Rattle.job_inputs.specs.declared.faults.Fault.{Fault}
+use Rattle.job_inputs.specs.declared.faults.Fault.TheVariants as fault
 use Rattle.job_inputs.specs.declared.refusal.Refusal.{Refusal}
 use Rattle.job_inputs.specs.declared.refusal.Refusal.TheVariants as refusal
 use Rattle.job_inputs.specs.declared.stop.InputStop.{InputStop}
@@ -52,9 +53,16 @@ contents-cause (refusal.Refused (fault.Meta line why)) old new h = record { abse
 contents-cause (refusal.Refused (fault.Row number why)) old new h = record { absent = λ f is. absurd cc; too_long = λ f is. absurd cc; read_fault = λ f is. absurd cc; tree = λ f is. absurd cc }
 contents-cause (refusal.Refused (fault.Cells t)) old new h = record { absent = λ f is. absurd cc; too_long = λ f is. absurd cc; read_fault = λ f is. absurd cc; tree = λ f is. absurd cc }
 contents-cause (refusal.Refused (fault.Prior t line why)) old new h = record { absent = λ f is. absurd cc; too_long = λ f is. absurd cc; read_fault = λ f is. absurd cc; tree = λ f is. absurd cc }
+contents-cause (refusal.Refused (fault.Certificate line why)) old new h = record { absent = λ f is. absurd cc; too_long = λ f is. absurd cc; read_fault = λ f is. absurd cc; tree = λ f is. absurd cc }
+contents-cause (refusal.Refused fault.OutName) old new h = record { absent = λ f is. absurd cc; too_long = λ f is. absurd cc; read_fault = λ f is. absurd cc; tree = λ f is. absurd cc }
 contents-cause refusal.Memory old new h = record { absent = λ f is. absurd cc; too_long = λ f is. absurd cc; read_fault = λ f is. absurd cc; tree = λ f is. absurd cc }
 
-pub stop-fails : {A : Type 0} (r : Refusal) (meant : Result A InputFault) → Fails (refused_for r) meant → Fails (stopped_for (stop_of r)) meant
+-- nor does an output that would take the job's own name
+pub out-name-cause : {Y : Type 0} (reason : Fault) (overwrites : Bool) (old new : ShelfState) → Err reason ≡ refuse fault.OutName overwrites → HasCause {X = Y} (Err (stop.Refused reason)) old new
+out-name-cause reason true old new h = (let same : reason ≡ fault.OutName = cc in rw same (contents-cause (refusal.Refused fault.OutName) old new tt))
+out-name-cause reason false old new h = absurd cc
+
+pub stop-fails : {A : Type 0} (r : Refusal) (meant : Result A Fault) → Fails (refused_for r) meant → Fails (stopped_for (stop_of r)) meant
 stop-fails (refusal.Refused f) meant h = h
 stop-fails refusal.Memory meant h = tt
 
@@ -68,7 +76,7 @@ contents-come (refusal.Refused g) whole files new = λ f is. absurd cc
 contents-come refusal.Memory whole files new = λ f is. absurd cc
 
 -- a look that stops, after others that did not, stops the whole
-pub look-stops : {X X' Y Y' : Type 0} (view : X → Y) (view' : X' → Y') (part : Files → Result Y InputFault) (whole : Files → Result Y' InputFault) (comes comes' : Files → FileRef → List ℕ → Type 0)
+pub look-stops : {X X' Y Y' : Type 0} (view : X → Y) (view' : X' → Y') (part : Files → Result Y Fault) (whole : Files → Result Y' Fault) (comes comes' : Files → FileRef → List ℕ → Type 0)
     (e : InputStop) (old mid new : ShelfState) → HasOnlyRead old mid → IsReadFrom view part comes (Err e) mid new
     → WhereTold old.files (λ fs. Fails (stopped_for e) (part fs) → Fails (stopped_for e) (whole fs))
     → WhereTold old.files (λ fs. (f : FileRef) (held : List ℕ) → comes fs f held → comes' fs f held)
@@ -81,7 +89,7 @@ look-stops view view' part whole comes comes' e old mid new first look fails wid
 }
 
 -- contents that are refused stop the whole
-pub contents-stop : {X' Y' : Type 0} (view' : X' → Y') (whole : Files → Result Y' InputFault) (comes' : Files → FileRef → List ℕ → Type 0) (r : Refusal) (old new : ShelfState)
+pub contents-stop : {X' Y' : Type 0} (view' : X' → Y') (whole : Files → Result Y' Fault) (comes' : Files → FileRef → List ℕ → Type 0) (r : Refusal) (old new : ShelfState)
     → HasOnlyRead old new → IsForContents r → WhereTold old.files (λ fs. Fails (refused_for r) (whole fs)) → IsReadFrom view' whole comes' (Err (stop_of r)) old new
 contents-stop view' whole comes' r old new first contents fails = record {
   told = λ fs told. stop-fails r (whole fs) (fails fs told);
@@ -95,7 +103,7 @@ pub only-read-nothing : (state : ShelfState) → HasOnlyRead state state
 only-read-nothing state = record { files = refl; faults = omega arith; faults_end = λ below. below; absences = omega arith; absences_end = λ below. below }
 
 -- looks that succeed are a look that succeeds
-pub look-ends : {X' Y' : Type 0} (view' : X' → Y') (whole : Files → Result Y' InputFault) (comes' : Files → FileRef → List ℕ → Type 0) (x : X') (old mid : ShelfState) {new : ShelfState} → HasOnlyRead old mid → HasOnlyRead mid new
+pub look-ends : {X' Y' : Type 0} (view' : X' → Y') (whole : Files → Result Y' Fault) (comes' : Files → FileRef → List ℕ → Type 0) (x : X') (old mid : ShelfState) {new : ShelfState} → HasOnlyRead old mid → HasOnlyRead mid new
     → WhereTold old.files (λ fs. whole fs ≡ Ok (view' x)) → IsReadFrom view' whole comes' (Ok x) old new
 look-ends view' whole comes' x old mid {new} first then is = record {
   told = is;
@@ -105,18 +113,18 @@ look-ends view' whole comes' x old mid {new} first then is = record {
 }
 
 -- an answer to a look is one to a wider look of the same meaning
-pub read-wider : {X Y : Type 0} (view : X → Y) (part whole : Files → Result Y InputFault) (comes comes' : Files → FileRef → List ℕ → Type 0) (result : Result X InputStop) (old new : ShelfState)
+pub read-wider : {X Y : Type 0} (view : X → Y) (part whole : Files → Result Y Fault) (comes comes' : Files → FileRef → List ℕ → Type 0) (result : Result X InputStop) (old new : ShelfState)
     → ((fs : Files) → part fs ≡ whole fs) → ((fs : Files) (f : FileRef) (held : List ℕ) → comes fs f held → comes' fs f held)
     → IsReadFrom view part comes result old new → IsReadFrom view whole comes' result old new
 read-wider {X} {Y} view part whole comes comes' result old new same wider look = record {
-  told = λ fs told. subst (λ (m : Result Y InputFault). Gives stopped_for view result m) (same fs) (look.told fs told);
+  told = λ fs told. subst (λ (m : Result Y Fault). Gives stopped_for view result m) (same fs) (look.told fs told);
   came_to = λ fs told f is. let came = look.came_to fs told f is in (came.0, wider fs f came.0 came.1, came.2);
   only_read = look.only_read;
   cause = look.cause;
 }
 
 -- memory was wanting after some reads
-pub memory-stops : {X' Y' : Type 0} (view' : X' → Y') (whole : Files → Result Y' InputFault) (comes' : Files → FileRef → List ℕ → Type 0) (old new : ShelfState) → HasOnlyRead old new → IsReadFrom view' whole comes' (Err stop.Memory) old new
+pub memory-stops : {X' Y' : Type 0} (view' : X' → Y') (whole : Files → Result Y' Fault) (comes' : Files → FileRef → List ℕ → Type 0) (old new : ShelfState) → HasOnlyRead old new → IsReadFrom view' whole comes' (Err stop.Memory) old new
 memory-stops view' whole comes' old new first = record {
   told = λ fs told. tt;
   came_to = λ fs told f is. absurd cc;

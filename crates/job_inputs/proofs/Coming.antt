@@ -15,6 +15,7 @@ use Rattle.job_inputs.specs.Looks.{IsFile, IsListedIn, IsHierarchyOf, IsCodeList
 use Rattle.job_inputs.specs.declared.described.Described.{Described}
 use Rattle.job_inputs.specs.declared.file_ref.FileRef.{FileRef}
 use Rattle.job_inputs.specs.declared.file_ref.FileRef.TheVariants as file
+use Rattle.job_inputs.specs.declared.purpose.Purpose.{Purpose}
 
 was-ok : {A E F : Type 0} (f : E → F) (r : Result A E) (x : A) → map_fault f r ≡ Ok x → IsOk r
 was-ok f (Ok y) x h = refl
@@ -35,30 +36,32 @@ pub comes-to-hierarchy : (files : Files) (place : ℕ) (variable : Variable) (f 
     → f ≡ file.Hierarchy place → IsListedIn held variable.shape → FieldComesTo files place variable f held
 comes-to-hierarchy files place variable f held codes read is listed = rw is (refl, rw read refl, listed)
 
-pub first-comes : (files : Files) (name : List ℕ) (f : FileRef) (held : List ℕ) → ComesFirstTo files name f held → ComesTo files name f held
-first-comes files name file.Job held h = h
-first-comes files name file.Metadata held h = h
-first-comes files name (file.CodeList at) held h = absurd h
-first-comes files name (file.Hierarchy at) held h = absurd h
-first-comes files name file.Microdata held h = absurd h
-first-comes files name (file.Apriori t) held h = absurd h
-first-comes files name file.Certificate held h = absurd h
-first-comes files name (file.Table t) held h = absurd h
+pub first-comes : (purpose : Purpose) (files : Files) (name : List ℕ) (f : FileRef) (held : List ℕ) → ComesFirstTo purpose files name f held → ComesTo purpose files name f held
+first-comes purpose files name file.Job held h = h
+first-comes purpose files name file.Metadata held h = h
+first-comes purpose files name (file.CodeList at) held h = absurd h
+first-comes purpose files name (file.Hierarchy at) held h = absurd h
+first-comes purpose files name file.Microdata held h = absurd h
+first-comes purpose files name (file.Apriori t) held h = absurd h
+first-comes purpose files name file.Certificate held h = absurd h
+first-comes purpose files name (file.Table t) held h = absurd h
+first-comes purpose files name file.Out held h = absurd h
 
-pub fields-come-to : (files : Files) (name : List ℕ) (described : Described) (f : FileRef) (held : List ℕ) → described_of files name ≡ Ok described → FieldsComeTo files (spanning described) f held → ComesTo files name f held
-fields-come-to files name described file.Job held read h = absurd h.comes
-fields-come-to files name described file.Metadata held read h = absurd h.comes
-fields-come-to files name described (file.CodeList at) held read h = (described, read, h)
-fields-come-to files name described (file.Hierarchy at) held read h = (described, read, h)
-fields-come-to files name described file.Microdata held read h = absurd h.comes
-fields-come-to files name described (file.Apriori t) held read h = absurd h.comes
-fields-come-to files name described file.Certificate held read h = absurd h.comes
-fields-come-to files name described (file.Table t) held read h = absurd h.comes
+pub fields-come-to : (purpose : Purpose) (files : Files) (name : List ℕ) (described : Described) (f : FileRef) (held : List ℕ) → described_of purpose files name ≡ Ok described → FieldsComeTo files (spanning described) f held → ComesTo purpose files name f held
+fields-come-to purpose files name described file.Job held read h = absurd h.comes
+fields-come-to purpose files name described file.Metadata held read h = absurd h.comes
+fields-come-to purpose files name described (file.CodeList at) held read h = (described, read, h)
+fields-come-to purpose files name described (file.Hierarchy at) held read h = (described, read, h)
+fields-come-to purpose files name described file.Microdata held read h = absurd h.comes
+fields-come-to purpose files name described (file.Apriori t) held read h = absurd h.comes
+fields-come-to purpose files name described file.Certificate held read h = absurd h.comes
+fields-come-to purpose files name described (file.Table t) held read h = absurd h.comes
+fields-come-to purpose files name described file.Out held read h = absurd h.comes
 
-pub microdata-comes : (files : Files) (name : List ℕ) (described : Described) (fields : List Field) (f : FileRef) (held : List ℕ) → described_of files name ≡ Ok described → fields_of files (spanning described) ≡ Ok fields
-    → IsFile file.Microdata described.job.micro f held → ComesTo files name f held
-microdata-comes files name described fields f held read laid comes = rw comes.is_file (described, read, rw laid refl, comes.is_name)
+pub microdata-comes : (purpose : Purpose) (files : Files) (name : List ℕ) (described : Described) (fields : List Field) (f : FileRef) (held : List ℕ) → described_of purpose files name ≡ Ok described → fields_of files (spanning described) ≡ Ok fields
+    → IsFile file.Microdata described.job.micro f held → ComesTo purpose files name f held
+microdata-comes purpose files name described fields f held read laid comes = rw comes.is_file (described, read, rw laid refl, comes.is_name)
 
-pub statements-come : (files : Files) (name : List ℕ) (inputs : Inputs) (given : List Tree × List (List ℕ)) (f : FileRef) (t : ℕ) (held : List ℕ) → f ≡ file.Apriori t → inputs_of files name ≡ Ok inputs
-    → map_fault cells_fault (book_of inputs.records.trees inputs.described.bound.tables) ≡ Ok given → StatementsComeTo files inputs t held → ComesTo files name f held
-statements-come files name inputs given f t held is read linked comes = rw is (inputs, read, was-ok cells_fault (book_of inputs.records.trees inputs.described.bound.tables) given linked, comes)
+pub statements-come : (purpose : Purpose) (files : Files) (name : List ℕ) (inputs : Inputs) (given : List Tree × List (List ℕ)) (f : FileRef) (t : ℕ) (held : List ℕ) → f ≡ file.Apriori t → inputs_of purpose files name ≡ Ok inputs
+    → map_fault cells_fault (book_of inputs.records.trees inputs.described.bound.tables) ≡ Ok given → StatementsComeTo files inputs t held → ComesTo purpose files name f held
+statements-come purpose files name inputs given f t held is read linked comes = rw is (inputs, read, was-ok cells_fault (book_of inputs.records.trees inputs.described.bound.tables) given linked, comes)

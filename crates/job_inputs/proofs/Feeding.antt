@@ -13,8 +13,8 @@ use Rattle.microdata.specs.declared.layout.Layout.{Layout}
 use Rattle.microdata.specs.declared.records.Records.{Records}
 use Rattle.job_inputs.specs.Inputs.{limit, row_fault, too_long_or, records_in}
 use Rattle.job_inputs.specs.declared.file_ref.FileRef.TheVariants as file
-use Rattle.job_inputs.specs.declared.faults.InputFault.{InputFault}
-use Rattle.job_inputs.specs.declared.faults.InputFault.TheVariants as fault
+use Rattle.job_inputs.specs.declared.faults.Fault.{Fault}
+use Rattle.job_inputs.specs.declared.faults.Fault.TheVariants as fault
 
 -- so many bytes of the file were fed, and the others are left
 pub record IsFed (layout : Layout) (bytes : List ℕ) (reader : Reading) (left : Option (List ℕ)) (taken : ℕ) : Type 0 where
@@ -76,7 +76,7 @@ fault-in law layout front behind at short faulty =
       | false ↦ rw ((law layout front behind at faulty).1) refl
     ]
 
-fault-of : (o : Option InputFault) (told : Result (Unit {0}) (ℕ × RowWhy)) (meant : Result Records InputFault) → Fails o (map_fault row_fault told) → ((at : ℕ × RowWhy) → told ≡ Err at → meant ≡ Err (row_fault at)) → Fails o meant
+fault-of : (o : Option Fault) (told : Result (Unit {0}) (ℕ × RowWhy)) (meant : Result Records Fault) → Fails o (map_fault row_fault told) → ((at : ℕ × RowWhy) → told ≡ Err at → meant ≡ Err (row_fault at)) → Fails o meant
 fault-of None told meant fails same = tt
 fault-of (Some one) (Ok x) meant fails same = absurd cc
 fault-of (Some one) (Err at) meant fails same = let is : row_fault at ≡ one = cc in same at refl ∙ ap Err is
@@ -100,7 +100,7 @@ is-fine : (told : Result (Unit {0}) (ℕ × RowWhy)) → map_fault row_fault tol
 is-fine (Ok x) h = refl
 is-fine (Err at) h = absurd cc
 
-pub fed-faulty : FaultsStand → (layout : Layout) (bytes : List ℕ) (reader : Reading) (left : Option (List ℕ)) (taken n m : ℕ) (buffer : List ℕ) (o : Option InputFault) → IsFed layout bytes reader left taken
+pub fed-faulty : FaultsStand → (layout : Layout) (bytes : List ℕ) (reader : Reading) (left : Option (List ℕ)) (taken n m : ℕ) (buffer : List ℕ) (o : Option Fault) → IsFed layout bytes reader left taken
     → WhereTold left (λ rest. n ≤ length rest) → WhereTold left (λ rest. take n buffer ≡ take n rest) → m ≤ n → taken + m ≤ limit
     → ((got : List ℕ) → HasRead reader layout got → Fails o (map_fault row_fault (fed_of layout (got ++ take m buffer)))) → Fails o (records_in layout (Some bytes))
 fed-faulty law layout bytes reader left taken n m buffer o fed within given less short fails =
@@ -134,14 +134,14 @@ fed-long layout bytes reader left taken n buffer fed within given more short fin
 
 -- ---- a whole file
 
-pub whole-read : (layout : Layout) (bytes : List ℕ) (e : Option InputFault) → length bytes ≤ limit → Fails e (map_fault row_fault (records_of layout bytes)) → Fails e (records_in layout (Some bytes))
+pub whole-read : (layout : Layout) (bytes : List ℕ) (e : Option Fault) → length bytes ≤ limit → Fails e (map_fault row_fault (records_of layout bytes)) → Fails e (records_in layout (Some bytes))
 whole-read layout bytes e short fails = rw (not-beyond (length bytes) short) fails
 
 pub whole-is : (layout : Layout) (bytes : List ℕ) (records : Records) → length bytes ≤ limit → map_fault row_fault (records_of layout bytes) ≡ Ok records → records_in layout (Some bytes) ≡ Ok records
 whole-is layout bytes records short is = rw (not-beyond (length bytes) short) is
 
 -- what is refused of the whole file, and what is read of it, is what the file holds
-pub file-refused : (o : Option InputFault) (layout : Layout) (held : Option (List ℕ)) → held ≢ None
+pub file-refused : (o : Option Fault) (layout : Layout) (held : Option (List ℕ)) → held ≢ None
     → ((bytes : List ℕ) → held ≡ Some bytes → (length bytes ≤ limit) × Fails o (map_fault row_fault (records_of layout bytes))) → Fails o (records_in layout held)
 file-refused o layout None there h = absurd (there refl)
 file-refused o layout (Some bytes) there h = let whole = h bytes refl in whole-read layout bytes o whole.0 whole.1
@@ -152,6 +152,6 @@ file-read records layout None there h = absurd (there refl)
 file-read records layout (Some bytes) there h = let whole = h bytes refl in whole-is layout bytes records whole.0 whole.1
 
 -- a fault of the fed bytes is one of the file
-pub fed-stops : (layout : Layout) (held : Option (List ℕ)) (o : Option InputFault) → held ≢ None → ((bytes : List ℕ) → held ≡ Some bytes → Fails o (records_in layout (Some bytes))) → Fails o (records_in layout held)
+pub fed-stops : (layout : Layout) (held : Option (List ℕ)) (o : Option Fault) → held ≢ None → ((bytes : List ℕ) → held ≡ Some bytes → Fails o (records_in layout (Some bytes))) → Fails o (records_in layout held)
 fed-stops layout None o there h = absurd (there refl)
 fed-stops layout (Some bytes) o there h = h bytes refl

@@ -16,7 +16,7 @@ use Rattle.job_inputs.proofs.Refusing.{fails-on}
 use Rattle.job_inputs.specs.Inputs.{codes_in, source_of, field_of, fields_of}
 use Rattle.job_inputs.specs.Looks.{FieldComesTo, FieldsComeTo}
 use Rattle.job_inputs.specs.declared.file_ref.FileRef.{FileRef}
-use Rattle.job_inputs.specs.declared.faults.InputFault.{InputFault}
+use Rattle.job_inputs.specs.declared.faults.Fault.{Fault}
 
 -- a place that a bound job has is one of the metadata
 pub known : (numeric : Bool) (variables : List Variable) (places : List ℕ) (i : ℕ) → AllByRecursion (IsNumericAt numeric variables) places → i < length places → slice_index_or places i 0 < length variables
@@ -47,7 +47,7 @@ variables-more variables (place ∷ places) (suc i) v inside is =
     ap (with_variable place (slice_get variables place)) rest ∙ with-front place (slice_get variables place) (variables_at variables (take i places)) ((slice_index_or places i 0, v) ∷ [])
 
 -- a step and the next, both with values
-both : (a : Result Field InputFault) (rest : Result (List Field) InputFault) (x : Field) (xs : List Field) → a ≡ Ok x → rest ≡ Ok xs → (a >>= (λ field. rest >>= (λ fields. Ok (field ∷ fields)))) ≡ Ok (x ∷ xs)
+both : (a : Result Field Fault) (rest : Result (List Field) Fault) (x : Field) (xs : List Field) → a ≡ Ok x → rest ≡ Ok xs → (a >>= (λ field. rest >>= (λ fields. Ok (field ∷ fields)))) ≡ Ok (x ∷ xs)
 both a rest x xs one more = rw (one, more) refl
 
 one-more : (files : Files) (before : List (ℕ × Variable)) (fields : List Field) (one : ℕ × Variable) (field : Field) → fields_of files before ≡ Ok fields → field_of files one.0 one.1 ≡ Ok field
@@ -60,10 +60,10 @@ one-more files (first ∷ before) fields one field read next =
     let made : a.0 ∷ b.0 ≡ fields = cc in
     both (field_of files first.0 first.1) (fields_of files (before ++ one ∷ [])) a.0 (b.0 ++ field ∷ []) a.1 (one-more files before b.0 one field b.1 next) ∙ ap (λ (xs : List Field). Ok (xs ++ field ∷ [])) made
 
-stopped-later : (a : Result Field InputFault) (rest : Result (List Field) InputFault) (x : Field) (fault : InputFault) → a ≡ Ok x → rest ≡ Err fault → (a >>= (λ field. rest >>= (λ fields. Ok (field ∷ fields)))) ≡ Err fault
+stopped-later : (a : Result Field Fault) (rest : Result (List Field) Fault) (x : Field) (fault : Fault) → a ≡ Ok x → rest ≡ Err fault → (a >>= (λ field. rest >>= (λ fields. Ok (field ∷ fields)))) ≡ Err fault
 stopped-later a rest x fault one more = rw (one, more) refl
 
-one-stops : (files : Files) (before : List (ℕ × Variable)) (fields : List Field) (one : ℕ × Variable) (behind : List (ℕ × Variable)) (fault : InputFault) → fields_of files before ≡ Ok fields → field_of files one.0 one.1 ≡ Err fault
+one-stops : (files : Files) (before : List (ℕ × Variable)) (fields : List Field) (one : ℕ × Variable) (behind : List (ℕ × Variable)) (fault : Fault) → fields_of files before ≡ Ok fields → field_of files one.0 one.1 ≡ Err fault
     → fields_of files (before ++ one ∷ behind) ≡ Err fault
 unfolding fields_of
 one-stops files [] fields one behind fault read stops = rw stops refl
@@ -80,7 +80,7 @@ fields-more files variables places i v fields field inside is read next =
     rw (add-one, variables-more variables places i v inside is) (one-more files (variables_at variables (take i places)) fields (slice_index_or places i 0, v) field read next)
 
 -- what stops one variable stops all
-pub fields-stop : (files : Files) (variables : List Variable) (places : List ℕ) (i : ℕ) (v : Variable) (fields : List Field) (o : Option InputFault) → i < length places → slice_get variables (slice_index_or places i 0) ≡ Some v
+pub fields-stop : (files : Files) (variables : List Variable) (places : List ℕ) (i : ℕ) (v : Variable) (fields : List Field) (o : Option Fault) → i < length places → slice_get variables (slice_index_or places i 0) ≡ Some v
     → fields_of files (variables_at variables (take i places)) ≡ Ok fields → Fails o (field_of files (slice_index_or places i 0) v)
     → Fails o (fields_of files (variables_at variables places))
 fields-stop files variables places i v fields None inside is read stops = tt
@@ -115,12 +115,12 @@ one-longer (y ∷ ys) x n h = omega (arith, one-longer ys x (length ys) refl, h)
 -- ---- one variable's files
 
 -- what stops its code list stops its field
-pub list-stops : (files : Files) (place : ℕ) (v : Variable) (o : Option InputFault) → Fails o (codes_in files place v.total v.codes) → Fails o (field_of files place v)
+pub list-stops : (files : Files) (place : ℕ) (v : Variable) (o : Option Fault) → Fails o (codes_in files place v.total v.codes) → Fails o (field_of files place v)
 unfolding field_of
 list-stops files place v o h = fails-on o (codes_in files place v.total v.codes) _ h
 
 -- and so does what stops the source of its codes
-pub source-stops : (files : Files) (place : ℕ) (v : Variable) (codes : List (List ℕ)) (o : Option InputFault) → codes_in files place v.total v.codes ≡ Ok codes → Fails o (source_of files place v codes v.shape) → Fails o (field_of files place v)
+pub source-stops : (files : Files) (place : ℕ) (v : Variable) (codes : List (List ℕ)) (o : Option Fault) → codes_in files place v.total v.codes ≡ Ok codes → Fails o (source_of files place v codes v.shape) → Fails o (field_of files place v)
 unfolding field_of
 source-stops files place v codes o read h = rw read (fails-on o (source_of files place v codes v.shape) _ h)
 

@@ -12,4 +12,7 @@ pub mod Filling
 pub mod Books
 pub mod Facts
 pub mod Stating
+pub mod Truths
 pub mod Settling
+pub mod CertificateFiles
+pub mod Shelving

@@ -18,8 +18,8 @@ use Rattle.microdata.specs.declared.layout.Source.TheVariants as source
 use Rattle.job_inputs.proofs.Refusing.{fails-on}
 use Rattle.job_inputs.specs.Inputs.{look, codes_in, tree_in, listed_tree, source_of}
 use Rattle.job_inputs.specs.Listed.{AreListed}
-use Rattle.job_inputs.specs.declared.faults.InputFault.{InputFault}
-use Rattle.job_inputs.specs.declared.faults.InputFault.TheVariants as fault
+use Rattle.job_inputs.specs.declared.faults.Fault.{Fault}
+use Rattle.job_inputs.specs.declared.faults.Fault.TheVariants as fault
 use Rattle.job_inputs.specs.declared.file_ref.FileRef.TheVariants as file
 
 other-bytes : (a b : List ℕ) → b ≢ a → bytes_eq a b ≡ false
@@ -52,11 +52,11 @@ are-listed law total bytes kept read =
 
 -- ---- a code list
 
-pub list-file-stops : (files : Files) (place : ℕ) (total name : List ℕ) (o : Option InputFault) → Fails o (look files name (file.CodeList place)) → Fails o (codes_in files place total (Some name))
+pub list-file-stops : (files : Files) (place : ℕ) (total name : List ℕ) (o : Option Fault) → Fails o (look files name (file.CodeList place)) → Fails o (codes_in files place total (Some name))
 unfolding codes_in
 list-file-stops files place total name o h = fails-on o (look files name (file.CodeList place)) _ h
 
-pub list-contents-stop : (files : Files) (place : ℕ) (total name bytes : List ℕ) (o : Option InputFault) → look files name (file.CodeList place) ≡ Ok bytes → Fails o (map_fault (fault.Tree (file.CodeList place)) (codes_of total bytes)) → Fails o (codes_in files place total (Some name))
+pub list-contents-stop : (files : Files) (place : ℕ) (total name bytes : List ℕ) (o : Option Fault) → look files name (file.CodeList place) ≡ Ok bytes → Fails o (map_fault (fault.Tree (file.CodeList place)) (codes_of total bytes)) → Fails o (codes_in files place total (Some name))
 unfolding codes_in
 list-contents-stop files place total name bytes o read h = rw read h
 
@@ -67,11 +67,11 @@ list-is files place total name bytes kept read h = rw read h
 
 -- ---- a hierarchy
 
-pub tree-file-stops : (files : Files) (place : ℕ) (v : Variable) (name lead : List ℕ) (o : Option InputFault) → Fails o (look files name (file.Hierarchy place)) → Fails o (listed_tree files place v name lead)
+pub tree-file-stops : (files : Files) (place : ℕ) (v : Variable) (name lead : List ℕ) (o : Option Fault) → Fails o (look files name (file.Hierarchy place)) → Fails o (listed_tree files place v name lead)
 unfolding listed_tree
 tree-file-stops files place v name lead o h = fails-on o (look files name (file.Hierarchy place)) _ h
 
-pub tree-contents-stop : (files : Files) (place : ℕ) (v : Variable) (name lead bytes : List ℕ) (o : Option InputFault) → look files name (file.Hierarchy place) ≡ Ok bytes → Fails o (tree_in (file.Hierarchy place) v lead bytes) → Fails o (listed_tree files place v name lead)
+pub tree-contents-stop : (files : Files) (place : ℕ) (v : Variable) (name lead bytes : List ℕ) (o : Option Fault) → look files name (file.Hierarchy place) ≡ Ok bytes → Fails o (tree_in (file.Hierarchy place) v lead bytes) → Fails o (listed_tree files place v name lead)
 unfolding listed_tree
 tree-contents-stop files place v name lead bytes o read h = rw read h
 
@@ -81,7 +81,7 @@ tree-is files place v name lead bytes tree read h = rw read h
 
 -- ---- the source of codes that are listed
 
-pub listed-stops : (files : Files) (place : ℕ) (v : Variable) (codes : List (List ℕ)) (name lead : List ℕ) (s : Shape) (o : Option InputFault) → s ≡ shape.Listed name lead → Fails o (listed_tree files place v name lead) → Fails o (source_of files place v codes s)
+pub listed-stops : (files : Files) (place : ℕ) (v : Variable) (codes : List (List ℕ)) (name lead : List ℕ) (s : Shape) (o : Option Fault) → s ≡ shape.Listed name lead → Fails o (listed_tree files place v name lead) → Fails o (source_of files place v codes s)
 unfolding source_of
 listed-stops files place v codes name lead s o is h = rw is (fails-on o (listed_tree files place v name lead) _ h)
 

@@ -24,7 +24,7 @@ use Rattle.microdata.specs.declared.records.Records.{Records}
 use Rattle.microdata.specs.declared.layout.NumberField.{NumberField}
 use Rattle.job_inputs.specs.Layouts.{number_field, no_number, number_at, weight_in, last_position, up_to_field, up_to_number, layout_of}
 use Rattle.job_inputs.specs.Placed.{IsPlaced, IsPlacedField, IsPlacedNumber}
-use Rattle.job_inputs.specs.Sound.{IsSound, AreRecords}
+use Rattle.job_inputs.specs.Sound.{IsSound, AreAtLeaves, AreRecords}
 use Rattle.job_inputs.specs.declared.described.Described.{Described}
 use Rattle.microdata.specs.declared.layout.Source.TheVariants as source
 
@@ -220,12 +220,13 @@ scale-is described h =
 
 -- records that were read by the layout of a bound job
 pub are-records : (described : Described) (fields : List Field) (layout : Layout) (records : Records) → IsSound described → length fields ≡ length described.bound.spanning
-    → layout ≡ layout_of described.meta.variables described.bound fields → AreWithinLimits layout records → AllByRecursion IsCodeTree records.trees
+    → layout ≡ layout_of described.meta.variables described.bound fields → AreWithinLimits layout records → AllByRecursion IsCodeTree records.trees → AreAtLeaves records
     → AreRecords (length described.bound.spanning) described.bound.scale records
-are-records described fields layout records h many is within trees =
+are-records described fields layout records h many is within trees leaves =
     let here = subst (λ (l : Layout). AreWithinLimits l records) is within in
     record {
       as_many = here.trees ∙ many;
       trees = trees;
       rows = record { few = here.few; each = subst (λ (scale : ℕ). AllByRecursion (IsRow scale records.trees) records.rows) (scale-is described h) here.rows };
+      leaves = leaves;
     }

@@ -28,8 +28,8 @@ use Rattle.job_inputs.specs.Cells.{cells_fault, prior_fault}
 use Rattle.job_inputs.specs.Inputs.{job_fault, meta_fault, row_fault}
 use Rattle.job_inputs.specs.Refusals.{refused_for, job_refusal, meta_refusal, row_refusal, tree_refusal, cells_refusal, prior_refusal, IsOfContents, IsForContents}
 use Rattle.job_inputs.specs.declared.file_ref.FileRef.{FileRef}
-use Rattle.job_inputs.specs.declared.faults.InputFault.{InputFault}
-use Rattle.job_inputs.specs.declared.faults.InputFault.TheVariants as fault
+use Rattle.job_inputs.specs.declared.faults.Fault.{Fault}
+use Rattle.job_inputs.specs.declared.faults.Fault.TheVariants as fault
 use Rattle.job_inputs.specs.declared.refusal.Refusal.{Refusal}
 use Rattle.job_inputs.specs.declared.refusal.Refusal.TheVariants as refusal
 
@@ -85,11 +85,11 @@ pub prior_is_for_contents : (e : PriorError) → IsForContents (prior_refusal e)
 prior_is_for_contents (prior_error.At table line why) = tt
 prior_is_for_contents prior_error.Memory = tt
 
-of-fault : {A F : Type 0} (f : F → InputFault) (read : Result A F) (is : InputFault) → ((x : F) → IsOfContents (f x)) → map_fault f read ≡ Err is → IsOfContents is
+of-fault : {A F : Type 0} (f : F → Fault) (read : Result A F) (is : Fault) → ((x : F) → IsOfContents (f x)) → map_fault f read ≡ Err is → IsOfContents is
 of-fault f (Ok x) is each h = absurd cc
 of-fault f (Err e) is each h = let same : f e ≡ is = cc in subst IsOfContents same (each e)
 
-for-fault : {A F : Type 0} (f : F → InputFault) (r : Refusal) (read : Result A F) → ((x : F) → IsOfContents (f x)) → Fails (refused_for r) (map_fault f read) → IsForContents r
+for-fault : {A F : Type 0} (f : F → Fault) (r : Refusal) (read : Result A F) → ((x : F) → IsOfContents (f x)) → Fails (refused_for r) (map_fault f read) → IsForContents r
 for-fault f (refusal.Refused is) read each h = of-fault f read is each h
 for-fault f refusal.Memory read each h = tt
 

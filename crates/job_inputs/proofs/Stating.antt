@@ -20,7 +20,7 @@ use Rattle.job_inputs.specs.Stated.{basis_in, prior_line, with_file, with_files}
 use Rattle.job_inputs.specs.declared.counted.Counted.{Counted}
 use Rattle.job_inputs.specs.declared.described.Described.{Described}
 use Rattle.job_inputs.specs.declared.inputs.Inputs.{Inputs}
-use Rattle.job_inputs.specs.declared.faults.InputFault.{InputFault}
+use Rattle.job_inputs.specs.declared.faults.Fault.{Fault}
 
 -- before the first table nothing is stated
 pub files-none : (files : Files) (inputs : Inputs) (priors : List Prior) (n : ℕ) → priors ≡ replicate n blank → n ≡ length (cells inputs) → with_files files inputs 0 ≡ Ok priors
@@ -36,14 +36,14 @@ files-more files inputs described t stated next is before one =
     rw (add-one, before) here
 
 -- a fault stands, however many tables follow
-files-err : (files : Files) (inputs : Inputs) (more t tables : ℕ) (f : InputFault) → tables ≡ more + t → with_files files inputs t ≡ Err f → with_files files inputs tables ≡ Err f
+files-err : (files : Files) (inputs : Inputs) (more t tables : ℕ) (f : Fault) → tables ≡ more + t → with_files files inputs t ≡ Err f → with_files files inputs tables ≡ Err f
 unfolding with_files
 files-err files inputs zero t tables f is h = let same : t ≡ tables = omega (arith, is) in subst (λ (n : ℕ). with_files files inputs n ≡ Err f) same h
 files-err files inputs (suc more) t tables f is h =
     let one : tables ≡ suc (more + t) = omega (arith, is) in
     rw (one, files-err files inputs more t (more + t) f refl h) refl
 
-one-stops : (files : Files) (inputs : Inputs) (described : Described) (t : ℕ) (stated : List Prior) (f : InputFault) → described ≡ inputs.described → with_files files inputs t ≡ Ok stated
+one-stops : (files : Files) (inputs : Inputs) (described : Described) (t : ℕ) (stated : List Prior) (f : Fault) → described ≡ inputs.described → with_files files inputs t ≡ Ok stated
     → with_file files inputs t (prior_line t described.job.priors) stated ≡ Err f → with_files files inputs (t + 1) ≡ Err f
 unfolding with_files
 one-stops files inputs described t stated f is before stops =
@@ -51,7 +51,7 @@ one-stops files inputs described t stated f is before stops =
     rw (add-one, before) here
 
 -- what stops one table's file stops all
-pub files-stop : (files : Files) (inputs : Inputs) (described : Described) (t tables : ℕ) (stated : List Prior) (o : Option InputFault) → described ≡ inputs.described → with_files files inputs t ≡ Ok stated
+pub files-stop : (files : Files) (inputs : Inputs) (described : Described) (t tables : ℕ) (stated : List Prior) (o : Option Fault) → described ≡ inputs.described → with_files files inputs t ≡ Ok stated
     → Fails o (with_file files inputs t (prior_line t described.job.priors) stated) → t < tables → Fails o (with_files files inputs tables)
 files-stop files inputs described t tables stated None is before stops within = tt
 files-stop files inputs described t tables stated (Some f) is before stops within =
@@ -82,11 +82,11 @@ pub prior-file-none : (files : Files) (inputs : Inputs) (t : ℕ) (line : Option
 unfolding with_file
 prior-file-none files inputs t line stated none = rw none refl
 
-pub prior-file-stops : (files : Files) (inputs : Inputs) (t : ℕ) (told : Option PriorLine) (line : PriorLine) (stated : List Prior) (o : Option InputFault) → told ≡ Some line → Fails o (look files line.file (file.Apriori t)) → Fails o (with_file files inputs t told stated)
+pub prior-file-stops : (files : Files) (inputs : Inputs) (t : ℕ) (told : Option PriorLine) (line : PriorLine) (stated : List Prior) (o : Option Fault) → told ≡ Some line → Fails o (look files line.file (file.Apriori t)) → Fails o (with_file files inputs t told stated)
 unfolding with_file
 prior-file-stops files inputs t told line stated o is h = rw is (fails-on o (look files line.file (file.Apriori t)) _ h)
 
-pub prior-contents-stop : (files : Files) (inputs : Inputs) (t : ℕ) (told : Option PriorLine) (line : PriorLine) (bytes : List ℕ) (stated : List Prior) (o : Option InputFault) → told ≡ Some line → look files line.file (file.Apriori t) ≡ Ok bytes
+pub prior-contents-stop : (files : Files) (inputs : Inputs) (t : ℕ) (told : Option PriorLine) (line : PriorLine) (bytes : List ℕ) (stated : List Prior) (o : Option Fault) → told ≡ Some line → look files line.file (file.Apriori t) ≡ Ok bytes
     → Fails o (map_fault prior_fault (file_says (basis_in inputs) t line.separator inputs.described.bound.decimals stated bytes)) → Fails o (with_file files inputs t told stated)
 unfolding with_file
 prior-contents-stop files inputs t told line bytes stated o is read h = rw (is, read) h

@@ -13,3 +13,4 @@ file_text file.Microdata = codes "microdata"
 file_text (file.Apriori t) = codes "apriori table " ++ decimal (t + 1)
 file_text file.Certificate = codes "certificate"
 file_text (file.Table t) = codes "table " ++ decimal (t + 1)
+file_text file.Out = codes "out"

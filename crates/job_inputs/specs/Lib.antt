@@ -1,4 +1,6 @@
 pub mod FileTexts
+pub mod FaultTexts
+pub mod Purposes
 pub mod Layouts
 pub mod Inputs
 pub mod Sound
@@ -12,4 +14,6 @@ pub mod Reading
 pub mod Tabulated
 pub mod Counted
 pub mod Settled
+pub mod Tables
 pub mod Laws
+pub mod CertificateFile

@@ -1,21 +1,21 @@
 -- To which file a run comes, when nothing before it has a fault (own).
 use Rattle.std.specs.Prelude.{◌≡◌, ℕ, List, ◌∷◌, ◌++◌, Some, Result, Ok, IsOk}
-use Rattle.sdc_base.specs.Steps.{◌>>=◌, map_fault}
+use Rattle.sdc_base.specs.Steps.{◌>>=◌}
 use Rattle.office_io.specs.Files.{Files}
 use Rattle.rda_meta.specs.declared.meta.Shape.{Shape}
 use Rattle.rda_meta.specs.declared.meta.Shape.TheVariants as shape
 use Rattle.rda_meta.specs.declared.meta.Variable.{Variable}
-use Rattle.job_lang.specs.Jobs.{job_of}
 use Rattle.job_lang.specs.declared.job.Job.{Job}
 use Rattle.job_lang.specs.declared.job.PriorLine.{PriorLine}
 use Rattle.linked_tables.specs.Tables.{book_of}
-use Rattle.job_inputs.specs.Inputs.{look, job_fault, described_of, codes_in, fields_of, spanning, inputs_of}
+use Rattle.job_inputs.specs.Inputs.{look, job_for, described_of, codes_in, fields_of, spanning, inputs_of}
 use Rattle.job_inputs.specs.Stated.{prior_line, with_files}
 use Rattle.job_inputs.specs.declared.described.Described.{Described}
 use Rattle.job_inputs.specs.declared.inputs.Inputs.{Inputs}
 use Rattle.job_inputs.specs.declared.file_ref.FileRef.{FileRef}
 use Rattle.job_inputs.specs.declared.file_ref.FileRef.TheVariants as file
-use Rattle.job_inputs.specs.declared.faults.InputFault.{InputFault}
+use Rattle.job_inputs.specs.declared.faults.Fault.{Fault}
+use Rattle.job_inputs.specs.declared.purpose.Purpose.{Purpose}
 
 -- this file alone, by this name
 pub record IsFile (wanted : FileRef) (name : List ℕ) (f : FileRef) (held : List ℕ) : Type 0 where
@@ -23,16 +23,16 @@ pub record IsFile (wanted : FileRef) (name : List ℕ) (f : FileRef) (held : Lis
   pub is_name : held ≡ name
 
 -- the job of the named file, or the first fault on the way to it
-unfoldable pub job_read : Files → List ℕ → Result Job InputFault
-job_read files name = do
+unfoldable pub job_read : Purpose → Files → List ℕ → Result Job Fault
+job_read purpose files name = do
   bytes ← look files name file.Job
-  map_fault job_fault (job_of bytes)
+  job_for purpose bytes
 
 -- Reading job and metadata comes to this file, which has this name: to the job; or to the metadata of a job without fault.
-abbrev pub ComesFirstTo : Files → List ℕ → FileRef → List ℕ → Type 0
-ComesFirstTo files name file.Job held = held ≡ name
-ComesFirstTo files name file.Metadata held = (job : Job) × (job_read files name ≡ Ok job) × (held ≡ job.meta)
-ComesFirstTo files name other held = ⊥
+abbrev pub ComesFirstTo : Purpose → Files → List ℕ → FileRef → List ℕ → Type 0
+ComesFirstTo purpose files name file.Job held = held ≡ name
+ComesFirstTo purpose files name file.Metadata held = (job : Job) × (job_read purpose files name ≡ Ok job) × (held ≡ job.meta)
+ComesFirstTo purpose files name other held = ⊥
 
 -- the variable has its codes from this hierarchy file
 abbrev pub IsListedIn : List ℕ → Shape → Type 0
@@ -80,12 +80,12 @@ abbrev pub IsPriorFileOf : ℕ → List PriorLine → FileRef → List ℕ → T
 IsPriorFileOf t lines f held = (line : PriorLine) × (prior_line t lines ≡ Some line) × (f ≡ file.Apriori t) × (held ≡ line.file)
 
 -- the run comes to this file, which has this name, and nothing before it has a fault
-abbrev pub ComesTo : Files → List ℕ → FileRef → List ℕ → Type 0
-ComesTo files name file.Job held = ComesFirstTo files name file.Job held
-ComesTo files name file.Metadata held = ComesFirstTo files name file.Metadata held
-ComesTo files name (file.CodeList at) held = (described : Described) × (described_of files name ≡ Ok described) × FieldsComeTo files (spanning described) (file.CodeList at) held
-ComesTo files name (file.Hierarchy at) held = (described : Described) × (described_of files name ≡ Ok described) × FieldsComeTo files (spanning described) (file.Hierarchy at) held
-ComesTo files name file.Microdata held =
-    (described : Described) × (described_of files name ≡ Ok described) × IsOk (fields_of files (spanning described)) × (held ≡ described.job.micro)
-ComesTo files name (file.Apriori t) held = (inputs : Inputs) × (inputs_of files name ≡ Ok inputs) × IsOk (book_of inputs.records.trees inputs.described.bound.tables) × StatementsComeTo files inputs t held
-ComesTo files name other held = ⊥
+abbrev pub ComesTo : Purpose → Files → List ℕ → FileRef → List ℕ → Type 0
+ComesTo purpose files name file.Job held = ComesFirstTo purpose files name file.Job held
+ComesTo purpose files name file.Metadata held = ComesFirstTo purpose files name file.Metadata held
+ComesTo purpose files name (file.CodeList at) held = (described : Described) × (described_of purpose files name ≡ Ok described) × FieldsComeTo files (spanning described) (file.CodeList at) held
+ComesTo purpose files name (file.Hierarchy at) held = (described : Described) × (described_of purpose files name ≡ Ok described) × FieldsComeTo files (spanning described) (file.Hierarchy at) held
+ComesTo purpose files name file.Microdata held =
+    (described : Described) × (described_of purpose files name ≡ Ok described) × IsOk (fields_of files (spanning described)) × (held ≡ described.job.micro)
+ComesTo purpose files name (file.Apriori t) held = (inputs : Inputs) × (inputs_of purpose files name ≡ Ok inputs) × IsOk (book_of inputs.records.trees inputs.described.bound.tables) × StatementsComeTo files inputs t held
+ComesTo purpose files name other held = ⊥

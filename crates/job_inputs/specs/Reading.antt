@@ -6,10 +6,10 @@ use Rattle.sdc_base.specs.Told.{WhereTold}
 use Rattle.hierarchy.specs.declared.tree_fault.TreeFault.TheVariants as tree
 use Rattle.office_io.specs.Files.{Files, held_name}
 use Rattle.office_io.specs.Shelves.{ShelfState, HasOnlyRead}
-use Rattle.job_inputs.specs.Inputs.{limit}
+use Rattle.job_inputs.specs.Inputs.{limit_of}
 use Rattle.job_inputs.specs.declared.file_ref.FileRef.{FileRef}
-use Rattle.job_inputs.specs.declared.faults.InputFault.{InputFault}
-use Rattle.job_inputs.specs.declared.faults.InputFault.TheVariants as fault
+use Rattle.job_inputs.specs.declared.faults.Fault.{Fault}
+use Rattle.job_inputs.specs.declared.faults.Fault.TheVariants as fault
 use Rattle.job_inputs.specs.declared.refusal.Refusal.{Refusal}
 use Rattle.job_inputs.specs.declared.refusal.Refusal.TheVariants as refusal
 use Rattle.job_inputs.specs.declared.stop.InputStop.{InputStop}
@@ -21,7 +21,7 @@ stop_of (refusal.Refused fault) = stop.Refused fault
 stop_of refusal.Memory = stop.Memory
 
 -- the fault for which inputs were refused; faults of the shelf and want of memory name none
-abbrev pub stopped_for : InputStop → Option InputFault
+abbrev pub stopped_for : InputStop → Option Fault
 stopped_for (stop.Refused fault) = Some fault
 stopped_for (stop.ReadFault file) = None
 stopped_for stop.Memory = None
@@ -31,7 +31,7 @@ stopped_for stop.Memory = None
 -- want of memory.
 pub record HasCause {X : Type 0} (result : Result X InputStop) (old new : ShelfState) : Type 0 where
   pub absent : (f : FileRef) → IsErrOf result (stop.Refused (fault.Absent f)) → Rose old.absences new.absences
-  pub too_long : (f : FileRef) → IsErrOf result (stop.Refused (fault.TooLong f)) → new.taken ≡ limit + 1
+  pub too_long : (f : FileRef) → IsErrOf result (stop.Refused (fault.TooLong f)) → new.taken ≡ limit_of f + 1
   pub read_fault : (f : FileRef) → IsErrOf result (stop.ReadFault f) → Rose old.faults new.faults
   pub tree : (f : FileRef) → result ≢ Err (stop.Refused (fault.Tree f tree.Memory))
 
@@ -41,7 +41,7 @@ HasComeTo comes result files new =
     (f : FileRef) → IsErrOf result (stop.ReadFault f) → (held : List ℕ) × comes f held × (new.last ≡ held_name files held)
 
 -- the answer to a look at files of a shelf: what they hold or their first fault, as far as they are told
-pub record IsReadFrom {X Y : Type 0} (view : X → Y) (meant : Files → Result Y InputFault) (comes : Files → FileRef → List ℕ → Type 0) (result : Result X InputStop) (old new : ShelfState) : Type 0 where
+pub record IsReadFrom {X Y : Type 0} (view : X → Y) (meant : Files → Result Y Fault) (comes : Files → FileRef → List ℕ → Type 0) (result : Result X InputStop) (old new : ShelfState) : Type 0 where
   pub told : WhereTold old.files (λ fs. Gives stopped_for view result (meant fs))
   pub came_to : WhereTold old.files (λ fs. HasComeTo (comes fs) result fs new)
   pub only_read : HasOnlyRead old new

@@ -14,13 +14,13 @@ use Rattle.rda_meta.specs.declared.faults.MetaError.{MetaError}
 use Rattle.rda_meta.specs.declared.faults.MetaError.TheVariants as meta_error
 use Rattle.job_inputs.specs.Cells.{cells_fault}
 use Rattle.job_inputs.specs.declared.file_ref.FileRef.{FileRef}
-use Rattle.job_inputs.specs.declared.faults.InputFault.{InputFault}
-use Rattle.job_inputs.specs.declared.faults.InputFault.TheVariants as fault
+use Rattle.job_inputs.specs.declared.faults.Fault.{Fault}
+use Rattle.job_inputs.specs.declared.faults.Fault.TheVariants as fault
 use Rattle.job_inputs.specs.declared.refusal.Refusal.{Refusal}
 use Rattle.job_inputs.specs.declared.refusal.Refusal.TheVariants as refusal
 
 -- the fault for which contents are refused
-abbrev pub refused_for : Refusal → Option InputFault
+abbrev pub refused_for : Refusal → Option Fault
 refused_for (refusal.Refused fault) = Some fault
 refused_for refusal.Memory = None
 
@@ -61,7 +61,7 @@ prior_refusal (prior_error.At table line why) = refusal.Refused (fault.Prior tab
 prior_refusal prior_error.Memory = refusal.Memory
 
 -- a fault that contents may have: they are not absent, not too long, and their codes don't want memory
-abbrev pub IsOfContents : InputFault → Type 0
+abbrev pub IsOfContents : Fault → Type 0
 IsOfContents (fault.Absent f) = ⊥
 IsOfContents (fault.TooLong f) = ⊥
 IsOfContents (fault.Tree f tree.Memory) = ⊥

@@ -7,6 +7,7 @@ use Rattle.rda_meta.specs.Limits.{IsMeta}
 use Rattle.job_lang.specs.BoundLimits.{IsBound}
 use Rattle.job_lang.specs.JobLimits.{IsJob}
 use Rattle.job_lang.specs.Binding.{places_of}
+use Rattle.microdata.specs.Leaves.{AreLeaves}
 use Rattle.microdata.specs.Ranges.{IsRow}
 use Rattle.microdata.specs.declared.records.Records.{Records}
 use Rattle.job_inputs.specs.declared.described.Described.{Described}
@@ -24,11 +25,17 @@ pub record AreRows (trees : List Tree) (scale : ℕ) (rows : List Row) : Type 0 
   pub few : length rows ≤ 1000000
   pub each : AllByRecursion (IsRow scale trees) rows
 
--- the records have a code tree for each spanning variable, there are at most a million, and each is within its limits
+-- no record has a code with others below it in its tree
+abbrev pub AreAtLeaves : Records → Type 0
+AreAtLeaves records = AllByRecursion (λ row. AreLeaves records.trees row.codes) records.rows
+
+-- The records have a code tree for each spanning variable, there are at most a million, each is within its limits, and their codes
+-- have none below them.
 pub record AreRecords (spanning scale : ℕ) (records : Records) : Type 0 where
   pub as_many : length records.trees ≡ spanning
   pub trees : AllByRecursion IsCodeTree records.trees
   pub rows : AreRows records.trees scale records.rows
+  pub leaves : AreAtLeaves records
 
 -- all that was read is within its limits
 pub record AreSound (inputs : Inputs) : Type 0 where

@@ -12,7 +12,7 @@ use Rattle.job_inputs.specs.Inputs.{look}
 use Rattle.job_inputs.specs.Cells.{cells, truth_in, prior_fault}
 use Rattle.job_inputs.specs.declared.inputs.Inputs.{Inputs}
 use Rattle.job_inputs.specs.declared.file_ref.FileRef.TheVariants as file
-use Rattle.job_inputs.specs.declared.faults.InputFault.{InputFault}
+use Rattle.job_inputs.specs.declared.faults.Fault.{Fault}
 
 -- what is known of each cell of all tables: its truth and its number of records
 abbrev pub known_in : Inputs → List Known
@@ -28,19 +28,19 @@ prior_line t [] = None
 prior_line t (line ∷ lines) = if line.table == t then Some line else prior_line t lines
 
 -- what is stated, with a table's a priori file, where it has one, or the first fault of the file
-unfoldable pub with_file : Files → Inputs → ℕ → Option PriorLine → List Prior → Result (List Prior) InputFault
+unfoldable pub with_file : Files → Inputs → ℕ → Option PriorLine → List Prior → Result (List Prior) Fault
 with_file files inputs t None priors = Ok priors
 with_file files inputs t (Some line) priors = do
   bytes ← look files line.file (file.Apriori t)
   map_fault prior_fault (file_says (basis_in inputs) t line.separator inputs.described.bound.decimals priors bytes)
 
 -- what the a priori files of the first so many tables state of each cell, or the first fault of one of them
-unfoldable pub with_files : Files → Inputs → ℕ → Result (List Prior) InputFault
+unfoldable pub with_files : Files → Inputs → ℕ → Result (List Prior) Fault
 with_files files inputs zero = Ok (replicate (length (cells inputs)) blank)
 with_files files inputs (suc t) = do
   stated ← with_files files inputs t
   with_file files inputs t (prior_line t inputs.described.job.priors) stated
 
 -- what those of all tables state
-abbrev pub priors_of : Files → Inputs → Result (List Prior) InputFault
+abbrev pub priors_of : Files → Inputs → Result (List Prior) Fault
 priors_of files inputs = with_files files inputs (length inputs.described.job.tables)

@@ -9,7 +9,7 @@ ghost use Rattle.job_inputs.specs.Looks.{IsCodeListOf, IsFile};
 ghost use Rattle.job_inputs.specs.Reading.{IsReadFrom};
 ghost use Rattle.job_inputs.specs.Refusals.{refused_for, tree_refusal as tree_refused, IsForContents};
 
-use crate::faults::InputFault;
+use crate::faults::Fault;
 use crate::file_ref::FileRef;
 use crate::loading::load;
 use crate::refusal::Refusal;
@@ -59,7 +59,7 @@ fn load_list<S: Shelf>(
 #[tactic(auto, using(crate::proofs::Refusing::tree_refuses, crate::proofs::Refusing::tree_is_for_contents))]
 fn codes_by(alloc: Global, file: FileRef, bytes: &[u8], total: &Text) -> Result<Vec<Text>, Refusal>
     requires { length bytes.now < 2 ^ 32 }
-    ensures told { Gives refused_for (λ codes. codes.items) result (map_fault (InputFault.Tree file) (codes_of total.now bytes.now)) }
+    ensures told { Gives refused_for (λ codes. codes.items) result (map_fault (Fault.Tree file) (codes_of total.now bytes.now)) }
     ensures listed { IfOk result (λ codes. AreListed total.now codes.items) }
     ensures contents { IfErr result IsForContents }
 {
@@ -123,7 +123,7 @@ fn lead_tree(
 ) -> Result<CodeTree, Refusal>
     requires few { length bytes.now < 2 ^ 32 }
     requires lead { 0 < length lead.now }
-    ensures told { Gives refused_for (λ tree. tree) result (map_fault (InputFault.Tree file) (lead_of lead.now total.now bytes.now)) }
+    ensures told { Gives refused_for (λ tree. tree) result (map_fault (Fault.Tree file) (lead_of lead.now total.now bytes.now)) }
     ensures contents { IfErr result IsForContents }
 {
     match from_lead(alloc, bytes, lead, total) {
@@ -138,6 +138,6 @@ fn tree_refusal(file: FileRef, fault: TreeFault) -> Refusal
 {
     match fault {
         TreeFault::Memory => Refusal::Memory,
-        other => Refusal::Refused(InputFault::Tree(file, other)),
+        other => Refusal::Refused(Fault::Tree(file, other)),
     }
 }

@@ -6,18 +6,19 @@ ghost use Rattle.rda_meta.specs.Metadata.{meta_of};
 ghost use Rattle.job_lang.specs.BoundLimits.{IsBound};
 ghost use Rattle.job_lang.specs.Binding.{bound_of, places_of};
 ghost use Rattle.job_lang.specs.JobLimits.{IsJob};
-ghost use Rattle.job_lang.specs.Jobs.{job_of};
-ghost use Rattle.job_inputs.specs.Inputs.{described_of, job_fault, meta_fault};
+ghost use Rattle.job_inputs.specs.Inputs.{described_of, job_fault, job_for, meta_fault};
 ghost use Rattle.job_inputs.specs.Looks.{ComesFirstTo};
 ghost use Rattle.job_inputs.specs.Reading.{IsReadFrom};
-ghost use Rattle.job_inputs.specs.Refusals.{refused_for};
+ghost use Rattle.job_inputs.specs.Refusals.{refused_for, IsForContents};
 ghost use Rattle.job_inputs.specs.Sound.{IsSound};
 
+use crate::faults::Fault;
 use crate::file_ref::FileRef;
 use crate::loading::load;
+use crate::purpose::{Purpose, is_unfit};
 use crate::refusal::Refusal;
 use crate::stop::InputStop;
-use job_lang::{Bound, Job, bind, read_job};
+use job_lang::{Bound, Job, JobWhy, bind, read_job};
 use office_io::Shelf;
 use rda_meta::{Meta, read_meta};
 use sdc_base::Text;
@@ -31,35 +32,44 @@ pub struct Described {
     pub bound: Bound,
 }
 
-/// The job of this name, with its metadata.
+/// The job of this name, read for a purpose, with its metadata.
 ///
 /// The files are looked at in the order job, metadata, each for Absent, then TooLong, then what it says, and at last the
-/// job's variables are looked for in the metadata; the first of these faults is the answer.
+/// job's variables are looked for in the metadata; the first of these faults is the answer. Of a job whose method is unfit for
+/// the purpose nothing more is read.
 #[tactic(auto, unfolding(crate::specs::Inputs::described_of))]
 pub(crate) fn read_described<S: Shelf>(
     alloc: Global,
     shelf: &mut S,
     name: &Text,
+    purpose: Purpose,
 ) -> Result<Described, InputStop>
-    ensures reads { IsReadFrom (λ read. read) (λ fs. described_of fs name.now) (λ fs. ComesFirstTo fs name.now) result (S.state shelf.old) (S.state shelf.new) }
+    ensures reads { IsReadFrom (λ read. read) (λ fs. described_of purpose fs name.now) (λ fs. ComesFirstTo purpose fs name.now) result (S.state shelf.old) (S.state shelf.new) }
     ensures sound { IfOk result IsSound }
 {
     let bytes = load(alloc, shelf, name, FileRef::Job)?;
-    let job = job_in(alloc, bytes.as_slice())?;
+    let job = job_in(alloc, bytes.as_slice(), purpose)?;
     let text = load(alloc, shelf, &job.meta, FileRef::Metadata)?;
     let meta = meta_in(alloc, text.as_slice())?;
     let bound = bound_in(alloc, &job, &meta)?;
     Ok(Described { job, meta, bound })
 }
 
-// The job that the bytes state.
-#[tactic(auto, using(crate::proofs::Refusing::job_refuses))]
-fn job_in(alloc: Global, bytes: &[u8]) -> Result<Job, Refusal>
+// The job that the bytes state, for a purpose.
+fn job_in(alloc: Global, bytes: &[u8], purpose: Purpose) -> Result<Job, Refusal>
     requires { length bytes.now < 2 ^ 32 }
-    ensures told { Gives refused_for (λ job. job) result (map_fault job_fault (job_of bytes.now)) }
+    ensures told { Gives refused_for (λ job. job) result (job_for purpose bytes.now) }
     ensures within { IfOk result IsJob }
+    ensures contents { IfErr result IsForContents }
 {
-    Ok(read_job(alloc, bytes)?)
+    let job = read_job(alloc, bytes)?;
+    if is_unfit(purpose, job.method) {
+        return Err(Refusal::Refused(Fault::Job {
+            line: 0,
+            why: JobWhy::BadValue,
+        }));
+    }
+    Ok(job)
 }
 
 // The metadata that the bytes state.

@@ -1,7 +1,8 @@
 use std::fmt;
 use std::fmt::Display;
 
-/// A file of a job. A variable is numbered by its place in the metadata, from 0, and a table from 0.
+/// A file of a job, or the one that is to be put under a name of its own. A variable is numbered by its place in the metadata,
+/// from 0, and a table from 0.
 #[derive(Clone, Copy, Debug, PartialEq, Eq)]
 pub enum FileRef {
     Job,
@@ -12,6 +13,7 @@ pub enum FileRef {
     Apriori(u32),
     Certificate,
     Table(u32),
+    Out,
 }
 
 impl Display for FileRef {
@@ -42,6 +44,7 @@ impl Display for FileRef {
                 let number = u64::from(*table) + 1;
                 write!(f, "table {number}")
             }
+            FileRef::Out => write!(f, "out"),
         }
     }
 }

@@ -11,7 +11,7 @@ ghost use Rattle.job_inputs.specs.Cells.{cells_fault};
 ghost use Rattle.job_inputs.specs.Sound.{IsSound, AreRows};
 
 use crate::described::Described;
-use crate::faults::InputFault;
+use crate::faults::Fault;
 use crate::refusal::Refusal;
 use hierarchy::CodeTree;
 use linked_tables::{Book, BookFault};
@@ -60,7 +60,7 @@ fn cells_refusal(fault: BookFault) -> Refusal
     ensures { result ≡ refusal_for_cells fault }
 {
     match fault {
-        BookFault::TooManyCells(t) => Refusal::Refused(InputFault::Cells(t)),
+        BookFault::TooManyCells(t) => Refusal::Refused(Fault::Cells(t)),
         BookFault::Memory => Refusal::Memory,
         _ => unreachable!(),
     }

@@ -8,6 +8,7 @@ use crate::described::{Described, read_described};
 use crate::fields::read_fields;
 use crate::layouts::layout_for;
 use crate::microdata_file::read_records;
+use crate::purpose::Purpose;
 use crate::stop::InputStop;
 use microdata::Records;
 use office_io::Shelf;
@@ -21,7 +22,7 @@ pub struct Inputs {
     pub records: Records,
 }
 
-/// The job of this name with all that its input files hold.
+/// The job of this name with all that its input files hold, read for a purpose.
 ///
 /// They are looked at in this order, and the first fault is the answer: the job, the metadata, the job's variables in the
 /// metadata, for each spanning variable in the order of the metadata its code list and then its hierarchy, and the microdata.
@@ -30,11 +31,12 @@ pub(crate) fn read_inputs<S: Shelf>(
     alloc: Global,
     shelf: &mut S,
     name: &Text,
+    purpose: Purpose,
 ) -> Result<Inputs, InputStop>
-    ensures reads { IsReadFrom (λ read. read) (λ fs. inputs_of fs name.now) (λ fs. ComesTo fs name.now) result (S.state shelf.old) (S.state shelf.new) }
+    ensures reads { IsReadFrom (λ read. read) (λ fs. inputs_of purpose fs name.now) (λ fs. ComesTo purpose fs name.now) result (S.state shelf.old) (S.state shelf.new) }
     ensures sound { IfOk result AreSound }
 {
-    let described = read_described(alloc, shelf, name)?;
+    let described = read_described(alloc, shelf, name, purpose)?;
     let fields = read_fields(alloc, shelf, &described)?;
     let layout = layout_for(alloc, &described, fields)?;
     let records = read_records(alloc, shelf, &described.job.micro, layout)?;

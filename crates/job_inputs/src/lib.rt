@@ -3,6 +3,7 @@
 //! The files are looked at in one order, which is argus's own, and the first fault is the answer.
 #![tactic(auto)]
 
+mod certificate_file;
 mod codes;
 mod counted;
 mod described;
@@ -11,19 +12,26 @@ mod fields;
 mod file_ref;
 mod filled;
 mod inputs;
+mod kinds;
 mod laws;
 mod layouts;
 mod loading;
 mod microdata_file;
+mod outputs;
+mod purpose;
 mod refusal;
 mod settled;
 mod stated;
 mod stop;
+mod tables;
 
+pub use certificate_file::read_certificate_file;
 pub use described::Described;
-pub use faults::InputFault;
+pub use faults::Fault;
 pub use file_ref::FileRef;
 pub use inputs::Inputs;
 pub use laws::only_cells_are_too_many;
+pub use purpose::Purpose;
 pub use settled::{SettledJob, read_settled};
 pub use stop::InputStop;
+pub use tables::{header_for, read_tables, table_names};

@@ -1,9 +1,9 @@
-ghost use Rattle.std.specs.Prelude.{◌≤◌, IfOk, length};
-ghost use Rattle.job_inputs.specs.Inputs.{limit, look};
+ghost use Rattle.std.specs.Prelude.{◌≡◌, ◌≤◌, IfOk, length};
+ghost use Rattle.job_inputs.specs.Inputs.{limit_of, look};
 ghost use Rattle.job_inputs.specs.Looks.{IsFile};
 ghost use Rattle.job_inputs.specs.Reading.{IsReadFrom};
 
-use crate::faults::InputFault;
+use crate::faults::Fault;
 use crate::file_ref::FileRef;
 use crate::stop::InputStop;
 use office_io::{FileFault, Shelf, read_all};
@@ -13,7 +13,21 @@ use std::alloc::Global;
 /// The greatest input file, in bytes.
 pub(crate) const LIMIT: u64 = 268_435_456;
 
-/// The bytes of an input file, or its own fault: Absent, then TooLong.
+/// The greatest certificate or table that was put, in bytes: 2^60.
+const OUTPUT_LIMIT: u64 = 1_152_921_504_606_846_976;
+
+// The greatest file of its kind, in bytes.
+fn limit_for(file: FileRef) -> u64
+    ensures { result ≡ limit_of file }
+{
+    match file {
+        FileRef::Certificate => OUTPUT_LIMIT,
+        FileRef::Table(_) => OUTPUT_LIMIT,
+        _ => LIMIT,
+    }
+}
+
+/// The bytes of a file, or its own fault: Absent, then TooLong.
 pub(crate) fn load<S: Shelf>(
     alloc: Global,
     shelf: &mut S,
@@ -21,12 +35,12 @@ pub(crate) fn load<S: Shelf>(
     file: FileRef,
 ) -> Result<Vec<u8>, InputStop>
     ensures reads { IsReadFrom (λ bytes. bytes.items) (λ fs. look fs name.now file) (λ fs. IsFile file name.now) result (S.state shelf.old) (S.state shelf.new) }
-    ensures short { IfOk result (λ bytes. length bytes.items ≤ limit) }
+    ensures short { IfOk result (λ bytes. length bytes.items ≤ limit_of file) }
 {
-    match read_all(alloc, shelf, name, LIMIT) {
+    match read_all(alloc, shelf, name, limit_for(file)) {
         Ok(bytes) => Ok(bytes),
-        Err(FileFault::Absent) => Err(InputStop::Refused(InputFault::Absent(file))),
-        Err(FileFault::TooLong) => Err(InputStop::Refused(InputFault::TooLong(file))),
+        Err(FileFault::Absent) => Err(InputStop::Refused(Fault::Absent(file))),
+        Err(FileFault::TooLong) => Err(InputStop::Refused(Fault::TooLong(file))),
         Err(FileFault::Failed) => Err(InputStop::ReadFault(file)),
         Err(FileFault::Memory) => Err(InputStop::Memory),
     }

@@ -14,14 +14,15 @@ ghost use Rattle.job_inputs.specs.Inputs.{limit, row_fault, records_in, look_at_
 ghost use Rattle.job_inputs.specs.Looks.{IsFile};
 ghost use Rattle.job_inputs.specs.Reading.{IsReadFrom, HasCause, stopped_for};
 ghost use Rattle.job_inputs.specs.Refusals.{refused_for, IsForContents};
+ghost use Rattle.job_inputs.specs.Sound.{AreAtLeaves};
 ghost use Rattle.job_inputs.specs.declared.file_ref.FileRef.{FileRef as AnyFile};
 
-use crate::faults::InputFault;
+use crate::faults::Fault;
 use crate::file_ref::FileRef;
 use crate::loading::LIMIT;
 use crate::refusal::Refusal;
 use crate::stop::InputStop;
-use microdata::{Layout, Reader, Records, faults_stand, read_is_within_limits};
+use microdata::{Layout, Reader, Records, faults_stand, read_is_within_limits, rows_are_at_leaves};
 use office_io::{BeginFault, Shelf};
 use sdc_base::Text;
 use std::alloc::Global;
@@ -39,6 +40,7 @@ pub(crate) fn read_records<S: Shelf>(
     requires { IsLayout layout }
     ensures reads { IsReadFrom (λ records. records) (λ fs. look_at_records fs name.now layout) (λ fs. IsFile FileRef.Microdata name.now) result (S.state shelf.old) (S.state shelf.new) }
     ensures within { IfOk result (λ records. AreWithinLimits layout records) }
+    ensures leaves { IfOk result AreAtLeaves }
     ensures trees { IfOk result (λ records. AllByRecursion IsCodeTree records.trees) }
 {
     let mut reader = Reader::new(alloc, layout)?;
@@ -59,7 +61,7 @@ fn begin<S: Shelf>(shelf: &mut S, name: &Text) -> Result<(), InputStop>
 {
     match shelf.begin(name) {
         Ok(()) => Ok(()),
-        Err(BeginFault::Absent) => Err(InputStop::Refused(InputFault::Absent(FileRef::Microdata))),
+        Err(BeginFault::Absent) => Err(InputStop::Refused(Fault::Absent(FileRef::Microdata))),
         Err(BeginFault::Failed) => Err(InputStop::ReadFault(FileRef::Microdata)),
     }
 }
@@ -95,7 +97,7 @@ fn feed_all<S: Shelf>(shelf: &mut S, reader: &mut Reader) -> Result<(), InputSto
         feed_piece(reader, &piece[..within])?;
         let beyond = within < n;
         if beyond {
-            return Err(InputStop::Refused(InputFault::TooLong(FileRef::Microdata)));
+            return Err(InputStop::Refused(Fault::TooLong(FileRef::Microdata)));
         }
         taken += n as u64;
     }
@@ -118,9 +120,11 @@ fn finish(reader: Reader) -> Result<Records, Refusal>
     ensures exact { (layout : AnyLayout) (bytes : List ℕ) → HasRead reader layout bytes
         → Gives refused_for (λ records. records) result (map_fault row_fault (records_of layout bytes)) }
     ensures within { IfOk result (λ records. (layout : AnyLayout) (bytes : List ℕ) → HasRead reader layout bytes → AreWithinLimits layout records) }
+    ensures leaves { IfOk result (λ records. (layout : AnyLayout) (bytes : List ℕ) → HasRead reader layout bytes → AreAtLeaves records) }
     ensures trees { IfOk result (λ records. AllByRecursion IsCodeTree records.trees) }
     ensures contents { IfErr result IsForContents }
 {
     read_is_within_limits();
+    rows_are_at_leaves();
     Ok(reader.finish()?)
 }

@@ -1,4 +1,4 @@
-use crate::faults::InputFault;
+use crate::faults::Fault;
 use apriori::PriorError;
 use job_lang::JobError;
 use microdata::RowError;
@@ -10,7 +10,7 @@ use std::alloc::{AllocError, AllocFailed};
 #[derive(Clone, Copy, Debug, PartialEq, Eq)]
 pub(crate) enum Refusal {
     /// The inputs have this fault.
-    Refused(InputFault),
+    Refused(Fault),
     /// There is no memory.
     Memory,
 }
@@ -56,7 +56,7 @@ impl From<JobError> for Refusal {
 
     fn from(error: JobError) -> Self {
         match error {
-            JobError::At { line, why } => Refusal::Refused(InputFault::Job { line, why }),
+            JobError::At { line, why } => Refusal::Refused(Fault::Job { line, why }),
             JobError::Memory => Refusal::Memory,
         }
     }
@@ -70,7 +70,7 @@ impl From<MetaError> for Refusal {
 
     fn from(error: MetaError) -> Self {
         match error {
-            MetaError::At { line, why } => Refusal::Refused(InputFault::Meta { line, why }),
+            MetaError::At { line, why } => Refusal::Refused(Fault::Meta { line, why }),
             MetaError::Memory => Refusal::Memory,
         }
     }
@@ -84,7 +84,7 @@ impl From<RowError> for Refusal {
 
     fn from(error: RowError) -> Self {
         match error {
-            RowError::At { number, why } => Refusal::Refused(InputFault::Row { number, why }),
+            RowError::At { number, why } => Refusal::Refused(Fault::Row { number, why }),
             RowError::Memory => Refusal::Memory,
         }
     }
@@ -98,7 +98,7 @@ impl From<PriorError> for Refusal {
 
     fn from(error: PriorError) -> Self {
         match error {
-            PriorError::At { table, line, why } => Refusal::Refused(InputFault::Prior {
+            PriorError::At { table, line, why } => Refusal::Refused(Fault::Prior {
                 table,
                 line,
                 why,

@@ -11,11 +11,14 @@ ghost use Rattle.job_inputs.specs.Looks.{ComesTo};
 ghost use Rattle.job_inputs.specs.Reading.{HasCause, HasComeTo, stopped_for};
 ghost use Rattle.job_inputs.specs.Refusals.{refused_for, IsForContents};
 ghost use Rattle.job_inputs.specs.Settled.{settled_of, IsReadyJob, IsSettledOf, AreSettled, SettledInputs};
+ghost use Rattle.job_inputs.specs.Sound.{AreSound};
 ghost use Rattle.job_inputs.specs.declared.inputs.Inputs.{Inputs as AnyInputs};
 
 use crate::counted::{Counted, count_records};
 use crate::described::Described;
 use crate::inputs::read_inputs;
+use crate::outputs::check_outputs;
+use crate::purpose::Purpose;
 use crate::refusal::Refusal;
 use crate::stated::read_priors;
 use crate::stop::InputStop;
@@ -36,11 +39,12 @@ pub struct SettledJob {
     pub skipped: u64,
 }
 
-/// All that the job of this name has before anything is protected.
+/// All that the job of this name has before anything is protected, read for a purpose.
 ///
 /// The job, its metadata, the code lists and hierarchies of its spanning variables and its microdata are looked at in this
-/// order, then the number of cells, the a priori files by table, and the cells with what is stated of them; the first fault is
-/// the answer. The microdata are read in pieces, every other file whole.
+/// order, then the number of cells, the a priori files by table, the cells with what is stated of them, and then whether the
+/// certificate or an output would take the job's own name; the first fault is the answer. Where intervals are asked for, a job
+/// that rounds is refused as soon as it is read. The microdata are read in pieces, every other file whole.
 ///
 /// The cost is that of reading each file once, with the records kept in memory; one look-up for each record and table, and one
 /// for each cell and variable. The order is argus's own.
@@ -48,18 +52,20 @@ pub fn read_settled<S: Shelf>(
     alloc: Global,
     shelf: &mut S,
     name: &Text,
+    purpose: Purpose,
 ) -> Result<SettledJob, InputStop>
-    ensures told { WhereTold (S.state shelf.old).files (λ fs. AreSettled result (settled_of fs name.now)) }
-    ensures settled { IfOk result (λ job. (settled : SettledInputs) × IsSettledOf settled job) }
+    ensures told { WhereTold (S.state shelf.old).files (λ fs. AreSettled result (settled_of purpose fs name.now)) }
+    ensures settled { IfOk result (λ job. (settled : SettledInputs) × IsSettledOf settled job × AreSound settled.inputs) }
     ensures ready { IfOk result IsReadyJob }
-    ensures came_to { WhereTold (S.state shelf.old).files (λ fs. HasComeTo (ComesTo fs name.now) result fs (S.state shelf.new)) }
+    ensures came_to { WhereTold (S.state shelf.old).files (λ fs. HasComeTo (ComesTo purpose fs name.now) result fs (S.state shelf.new)) }
     ensures only_read { HasOnlyRead (S.state shelf.old) (S.state shelf.new) }
     ensures cause { HasCause result (S.state shelf.old) (S.state shelf.new) }
 {
-    let inputs = read_inputs(alloc, shelf, name)?;
+    let inputs = read_inputs(alloc, shelf, name, purpose)?;
     let counted = count_records(alloc, inputs)?;
     let priors = read_priors(alloc, shelf, &counted)?;
     let cells = settled_cells(alloc, &counted, priors.as_slice())?;
+    check_outputs(name, &counted.described.job)?;
     Ok(SettledJob {
         described: counted.described,
         book: counted.book,
@@ -78,6 +84,7 @@ fn settled_cells(alloc: Global, counted: &Counted, priors: &[Prior]) -> Result<I
         → Gives refused_for (λ cells. map seen cells) result (map_fault prior_fault (settle_of inputs.described.job.rules (figures inputs) priors.now)) }
     ensures one_each { IfOk result (λ cells. length cells ≡ length counted.now.book.marks) }
     ensures levels { IfOk result (λ cells. All HasLevelsInRange cells) }
+    ensures truths { IfOk result (λ cells. map (λ mark. mark.facts.truth) counted.now.book.marks ≡ map (λ cell. cell.truth) cells) }
     ensures contents { IfErr result IsForContents }
 {
     let cells = settle(alloc, &counted.book, &counted.described.job.rules, priors)?;

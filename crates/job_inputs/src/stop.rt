@@ -1,4 +1,4 @@
-use crate::faults::InputFault;
+use crate::faults::Fault;
 use crate::file_ref::FileRef;
 use crate::refusal::Refusal;
 use sdc_base::Memory;
@@ -7,7 +7,7 @@ use sdc_base::Memory;
 #[derive(Clone, Copy, Debug, PartialEq, Eq)]
 pub enum InputStop {
     /// They have this fault.
-    Refused(InputFault),
+    Refused(Fault),
     /// The shelf failed at this file.
     ReadFault(FileRef),
     /// There was no memory.
@@ -25,6 +25,17 @@ impl From<Refusal> for InputStop {
             Refusal::Refused(fault) => InputStop::Refused(fault),
             Refusal::Memory => InputStop::Memory,
         }
+    }
+}
+
+impl From<Fault> for InputStop {
+    ghost use Rattle.std.specs.Prelude.{◌≡◌};
+    ghost use Rattle.job_inputs.specs.declared.stop.InputStop.TheVariants as stop;
+
+    ghost from_gives = { λ fault e. e ≡ stop.Refused fault };
+
+    fn from(fault: Fault) -> Self {
+        InputStop::Refused(fault)
     }
 }
 

@@ -7,7 +7,7 @@ use Rattle.job_inputs.proofs.Causes.{look-stops, contents-stop, look-ends, only-
 use Rattle.job_inputs.proofs.Listing.{list-file-stops, list-contents-stop, list-is}
 use Rattle.job_inputs.specs.Reading.{stopped_for}
 use Rattle.job_inputs.specs.Refusals.{refused_for}
-use Rattle.job_inputs.specs.declared.faults.InputFault.TheVariants as fault
+use Rattle.job_inputs.specs.declared.faults.Fault.TheVariants as fault
 use Rattle.job_inputs.specs.declared.file_ref.FileRef.TheVariants as file
 use Rattle.job_inputs.proofs.codes.load_list.Goals as goal
 

@@ -3,9 +3,8 @@ use Rattle.std.proofs.lemmas.Result.{err_from_is_err_and}
 use Rattle.sdc_base.specs.Answers.{Fails}
 use Rattle.sdc_base.specs.Steps.{map_fault}
 use Rattle.rda_meta.specs.Metadata.{meta_of}
-use Rattle.job_lang.specs.Jobs.{job_of}
 use Rattle.office_io.proofs.Shelves.{only-read-on}
-use Rattle.job_inputs.specs.Inputs.{job_fault, meta_fault}
+use Rattle.job_inputs.specs.Inputs.{job_for, meta_fault}
 use Rattle.job_inputs.specs.Reading.{stopped_for}
 use Rattle.job_inputs.specs.Refusals.{refused_for}
 use Rattle.job_inputs.proofs.Causes.{look-stops, contents-stop, look-ends, only-read-nothing}
@@ -19,29 +18,29 @@ returns-in_err-bytes-clause-reads g c =
     let e = c.in_err-bytes.field-0.0 in
     rw (p.1, p.2)
     (look-stops _ _ _ _ _ _ e _ _ _ (only-read-nothing _) c.in_err-bytes.ensures.reads
-    (λ fs told fails. job-file-stops fs c.args.name.now (stopped_for e) fails)
-    (λ fs told f held comes. job-comes fs c.args.name.now f held comes))
+    (λ fs told fails. job-file-stops c.args.purpose fs c.args.name.now (stopped_for e) fails)
+    (λ fs told f held comes. job-comes c.args.purpose fs c.args.name.now f held comes))
 
 pub returns-in_err-job-clause-reads : goal.returns-in_err-job-clause-reads
 returns-in_err-job-clause-reads g c =
     let p = err_from_is_err_and c.from_residual-in_err-job.result c.from_residual-in_err-job.ensures.1 in
     let r = c.in_err-job.field-0.0 in
     let first = c.in_ok-bytes.ensures.reads in
-    let refused = subst (λ (bytes : List ℕ). Fails (refused_for r) (map_fault job_fault (job_of bytes))) c.as_slice.ensures.value c.in_err-job.ensures.told in
+    let refused = subst (λ (bytes : List ℕ). Fails (refused_for r) (job_for c.args.purpose bytes)) c.as_slice.ensures.value c.in_err-job.ensures.told in
     rw (p.1, p.2)
-    (contents-stop _ _ _ r _ _ first.only_read (job-is-for-contents r _ c.in_err-job.ensures.told)
-    (λ fs told. job-stops fs c.args.name.now c.in_ok-bytes.bytes.items (refused_for r) (first.told fs told) refused))
+    (contents-stop _ _ _ r _ _ first.only_read c.in_err-job.ensures.contents
+    (λ fs told. job-stops c.args.purpose fs c.args.name.now c.in_ok-bytes.bytes.items (refused_for r) (first.told fs told) refused))
 
 pub returns-in_err-text-clause-reads : goal.returns-in_err-text-clause-reads
 returns-in_err-text-clause-reads g c =
     let p = err_from_is_err_and c.from_residual-in_err-text.result c.from_residual-in_err-text.ensures.1 in
     let e = c.in_err-text.field-0.0 in
     let first = c.in_ok-bytes.ensures.reads in
-    let read = subst (λ (bytes : List ℕ). map_fault job_fault (job_of bytes) ≡ Ok c.in_ok-job.job) c.as_slice.ensures.value c.in_ok-job.ensures.told in
+    let read = subst (λ (bytes : List ℕ). job_for c.args.purpose bytes ≡ Ok c.in_ok-job.job) c.as_slice.ensures.value c.in_ok-job.ensures.told in
     rw (p.1, p.2)
     (look-stops _ _ _ _ _ _ e _ _ _ first.only_read c.in_err-text.ensures.reads
-    (λ fs told fails. meta-file-stops fs c.args.name.now c.in_ok-bytes.bytes.items c.in_ok-job.job (stopped_for e) (first.told fs told) read fails)
-    (λ fs told f held comes. meta-comes fs c.args.name.now c.in_ok-job.job f held (job-was-read fs c.args.name.now c.in_ok-bytes.bytes.items c.in_ok-job.job (first.told fs told) read) comes))
+    (λ fs told fails. meta-file-stops c.args.purpose fs c.args.name.now c.in_ok-bytes.bytes.items c.in_ok-job.job (stopped_for e) (first.told fs told) read fails)
+    (λ fs told f held comes. meta-comes c.args.purpose fs c.args.name.now c.in_ok-job.job f held (job-was-read c.args.purpose fs c.args.name.now c.in_ok-bytes.bytes.items c.in_ok-job.job (first.told fs told) read) comes))
 
 pub returns-in_err-meta-clause-reads : goal.returns-in_err-meta-clause-reads
 returns-in_err-meta-clause-reads g c =
@@ -49,11 +48,11 @@ returns-in_err-meta-clause-reads g c =
     let r = c.in_err-meta.field-0.0 in
     let first = c.in_ok-bytes.ensures.reads in
     let then = c.in_ok-text.ensures.reads in
-    let read = subst (λ (bytes : List ℕ). map_fault job_fault (job_of bytes) ≡ Ok c.in_ok-job.job) c.as_slice.ensures.value c.in_ok-job.ensures.told in
+    let read = subst (λ (bytes : List ℕ). job_for c.args.purpose bytes ≡ Ok c.in_ok-job.job) c.as_slice.ensures.value c.in_ok-job.ensures.told in
     let refused = subst (λ (bytes : List ℕ). Fails (refused_for r) (map_fault meta_fault (meta_of bytes))) c.as_slice-2.ensures.value c.in_err-meta.ensures.told in
     rw (p.1, p.2)
     (contents-stop _ _ _ r _ _ (only-read-on _ _ _ first.only_read then.only_read) (meta-is-for-contents r _ c.in_err-meta.ensures.told)
-    (λ fs told. meta-stops fs c.args.name.now c.in_ok-bytes.bytes.items c.in_ok-text.text.items c.in_ok-job.job (refused_for r) (first.told fs told) read (then.told fs (first.only_read.files ∙ told)) refused))
+    (λ fs told. meta-stops c.args.purpose fs c.args.name.now c.in_ok-bytes.bytes.items c.in_ok-text.text.items c.in_ok-job.job (refused_for r) (first.told fs told) read (then.told fs (first.only_read.files ∙ told)) refused))
 
 pub returns-in_err-bound-clause-reads : goal.returns-in_err-bound-clause-reads
 returns-in_err-bound-clause-reads g c =
@@ -61,23 +60,23 @@ returns-in_err-bound-clause-reads g c =
     let r = c.in_err-bound.field-0.0 in
     let first = c.in_ok-bytes.ensures.reads in
     let then = c.in_ok-text.ensures.reads in
-    let read = subst (λ (bytes : List ℕ). map_fault job_fault (job_of bytes) ≡ Ok c.in_ok-job.job) c.as_slice.ensures.value c.in_ok-job.ensures.told in
+    let read = subst (λ (bytes : List ℕ). job_for c.args.purpose bytes ≡ Ok c.in_ok-job.job) c.as_slice.ensures.value c.in_ok-job.ensures.told in
     let said = subst (λ (bytes : List ℕ). map_fault meta_fault (meta_of bytes) ≡ Ok c.in_ok-meta.meta) c.as_slice-2.ensures.value c.in_ok-meta.ensures.told in
     rw (p.1, p.2)
     (contents-stop _ _ _ r _ _ (only-read-on _ _ _ first.only_read then.only_read) (job-is-for-contents r _ c.in_err-bound.ensures.told)
     (λ fs told.
-    bound-stops fs c.args.name.now c.in_ok-bytes.bytes.items c.in_ok-text.text.items c.in_ok-job.job c.in_ok-meta.meta (refused_for r) (first.told fs told) read (then.told fs (first.only_read.files ∙ told)) said
+    bound-stops c.args.purpose fs c.args.name.now c.in_ok-bytes.bytes.items c.in_ok-text.text.items c.in_ok-job.job c.in_ok-meta.meta (refused_for r) (first.told fs told) read (then.told fs (first.only_read.files ∙ told)) said
     c.in_err-bound.ensures.told))
 
 pub returns-clause-reads : goal.returns-clause-reads
 returns-clause-reads g c =
     let first = c.in_ok-bytes.ensures.reads in
     let then = c.in_ok-text.ensures.reads in
-    let read = subst (λ (bytes : List ℕ). map_fault job_fault (job_of bytes) ≡ Ok c.in_ok-job.job) c.as_slice.ensures.value c.in_ok-job.ensures.told in
+    let read = subst (λ (bytes : List ℕ). job_for c.args.purpose bytes ≡ Ok c.in_ok-job.job) c.as_slice.ensures.value c.in_ok-job.ensures.told in
     let said = subst (λ (bytes : List ℕ). map_fault meta_fault (meta_of bytes) ≡ Ok c.in_ok-meta.meta) c.as_slice-2.ensures.value c.in_ok-meta.ensures.told in
     look-ends _ _ _ _ _ _ first.only_read then.only_read
     (λ fs told.
-    described-is fs c.args.name.now c.in_ok-bytes.bytes.items c.in_ok-text.text.items c.in_ok-job.job c.in_ok-meta.meta c.in_ok-bound.bound (first.told fs told) read (then.told fs (first.only_read.files ∙ told)) said
+    described-is c.args.purpose fs c.args.name.now c.in_ok-bytes.bytes.items c.in_ok-text.text.items c.in_ok-job.job c.in_ok-meta.meta c.in_ok-bound.bound (first.told fs told) read (then.told fs (first.only_read.files ∙ told)) said
     c.in_ok-bound.ensures.told)
 
 pub returns-clause-sound : goal.returns-clause-sound

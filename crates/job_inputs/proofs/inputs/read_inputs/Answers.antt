@@ -14,8 +14,8 @@ returns-in_err-described-clause-reads g c =
     let e = c.in_err-described.field-0.0 in
     rw (p.1, p.2)
     (look-stops _ _ _ _ _ _ e _ _ _ (only-read-nothing _) c.in_err-described.ensures.reads
-    (λ fs told fails. described-stops-all fs c.args.name.now (stopped_for e) fails)
-    (λ fs told f held comes. first-comes fs c.args.name.now f held comes))
+    (λ fs told fails. described-stops-all c.args.purpose fs c.args.name.now (stopped_for e) fails)
+    (λ fs told f held comes. first-comes c.args.purpose fs c.args.name.now f held comes))
 
 pub returns-in_err-fields-clause-reads : goal.returns-in_err-fields-clause-reads
 returns-in_err-fields-clause-reads g c =
@@ -25,8 +25,8 @@ returns-in_err-fields-clause-reads g c =
     let first = c.in_ok-described.ensures.reads in
     rw (p.1, p.2)
     (look-stops _ _ _ _ _ _ e _ _ _ first.only_read c.in_err-fields.ensures.reads
-    (λ fs told fails. fields-stop-all fs c.args.name.now described (stopped_for e) (first.told fs told) fails)
-    (λ fs told f held comes. fields-come-to fs c.args.name.now described f held (first.told fs told) comes))
+    (λ fs told fails. fields-stop-all c.args.purpose fs c.args.name.now described (stopped_for e) (first.told fs told) fails)
+    (λ fs told f held comes. fields-come-to c.args.purpose fs c.args.name.now described f held (first.told fs told) comes))
 
 pub returns-in_err-layout-clause-reads : goal.returns-in_err-layout-clause-reads
 returns-in_err-layout-clause-reads g c =
@@ -44,8 +44,8 @@ returns-in_err-records-clause-reads g c =
     rw (p.1, p.2)
     (look-stops _ _ _ _ _ _ e _ _ _ (only-read-on _ _ _ first.only_read then.only_read) c.in_err-records.ensures.reads
     (λ fs told fails.
-    records-stop-all fs c.args.name.now described fields c.in_ok-layout.layout (stopped_for e) (first.told fs told) (then.told fs (first.only_read.files ∙ told)) c.in_ok-layout.ensures.exact fails)
-    (λ fs told f held comes. microdata-comes fs c.args.name.now described fields f held (first.told fs told) (then.told fs (first.only_read.files ∙ told)) comes))
+    records-stop-all c.args.purpose fs c.args.name.now described fields c.in_ok-layout.layout (stopped_for e) (first.told fs told) (then.told fs (first.only_read.files ∙ told)) c.in_ok-layout.ensures.exact fails)
+    (λ fs told f held comes. microdata-comes c.args.purpose fs c.args.name.now described fields f held (first.told fs told) (then.told fs (first.only_read.files ∙ told)) comes))
 
 pub returns-clause-reads : goal.returns-clause-reads
 returns-clause-reads g c =
@@ -55,12 +55,12 @@ returns-clause-reads g c =
     let before = only-read-on _ _ _ first.only_read then.only_read in
     look-ends _ _ _ _ _ _ before last.only_read
     (λ fs told.
-    inputs-are fs c.args.name.now c.in_ok-described.described c.in_ok-fields.fields c.in_ok-layout.layout c.in_ok-records.records (first.told fs told) (then.told fs (first.only_read.files ∙ told)) c.in_ok-layout.ensures.exact
+    inputs-are c.args.purpose fs c.args.name.now c.in_ok-described.described c.in_ok-fields.fields c.in_ok-layout.layout c.in_ok-records.records (first.told fs told) (then.told fs (first.only_read.files ∙ told)) c.in_ok-layout.ensures.exact
     (last.told fs (before.files ∙ told)))
 
 pub returns-clause-sound : goal.returns-clause-sound
 returns-clause-sound g c = record {
   described = c.in_ok-described.ensures.sound;
   records = are-records c.in_ok-described.described c.in_ok-fields.fields c.in_ok-layout.layout c.in_ok-records.records c.in_ok-described.ensures.sound c.in_ok-fields.ensures.as_many c.in_ok-layout.ensures.exact
-      c.in_ok-records.ensures.within c.in_ok-records.ensures.trees;
+      c.in_ok-records.ensures.within c.in_ok-records.ensures.trees c.in_ok-records.ensures.leaves;
 }

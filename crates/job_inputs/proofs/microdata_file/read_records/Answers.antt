@@ -58,3 +58,8 @@ pub returns-clause-within : goal.returns-clause-within
 returns-clause-within g c =
     let read = c.in_ok-feed_all.ensures.some c.args.layout c.in_ok-reader.ensures.fed in
     c.in_ok-records.ensures.within c.args.layout read.0 read.1
+
+pub returns-clause-leaves : goal.returns-clause-leaves
+returns-clause-leaves g c =
+    let read = c.in_ok-feed_all.ensures.some c.args.layout c.in_ok-reader.ensures.fed in
+    c.in_ok-records.ensures.leaves c.args.layout read.0 read.1

@@ -5,6 +5,7 @@ use Rattle.apriori.specs.Faults.{fault_of}
 use Rattle.apriori.specs.Settling.{seen, settle_of}
 use Rattle.job_inputs.proofs.Filling.{in-range}
 use Rattle.job_inputs.proofs.Refusing.{prior_refuses}
+use Rattle.job_inputs.proofs.Truths.{truths-are}
 use Rattle.job_inputs.proofs.Facts.{facts-in, are-ready}
 use Rattle.job_inputs.specs.Cells.{cells, figures}
 use Rattle.job_inputs.specs.declared.described.Described.{Described}
@@ -26,3 +27,7 @@ returns-in_err-cells-clause-gives c = λ inputs is.
     let over = c.in_err-cells.ensures.over_records inputs.records.trees (cells inputs) inputs.records.rows inputs.described.bound.scale (facts-in inputs c.args.counted.now.book is.book) in
     let same = subst (λ (d : Described). Fails (fault_of e) (settle_of d.job.rules (figures inputs) c.args.priors.now)) is.described over in
     rw (p.1, p.2) (prior_refuses e (settle_of inputs.described.job.rules (figures inputs) c.args.priors.now) same)
+
+pub returns-clause-truths : goal.returns-clause-truths
+returns-clause-truths c =
+    rw (c.new.ensures) (truths-are c.args.counted.now.described.job.rules c.args.counted.now.book.marks c.args.priors.now c.in_ok-cells.cells.items c.requires.priors.one_each c.in_ok-cells.ensures.exact)

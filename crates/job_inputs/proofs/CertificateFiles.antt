@@ -1,0 +1,38 @@
+-- A job's file of a certificate, and what is refused of it.
+use Rattle.std.proofs.Common.{◌≡◌, ℕ, List, Option, Result, Ok, refl}
+use Rattle.sdc_base.specs.Answers.{Fails}
+use Rattle.sdc_base.specs.Steps.{map_fault}
+use Rattle.office_io.specs.Files.{Files}
+use Rattle.certificate.specs.Certificates.{certificate_of}
+use Rattle.certificate.specs.Faults.{fault_of}
+use Rattle.certificate.specs.declared.certificate.Certificate.{Certificate}
+use Rattle.certificate.specs.declared.faults.CertError.{CertError}
+use Rattle.certificate.specs.declared.faults.CertError.TheVariants as error
+use Rattle.certificate.specs.declared.faults.CertWhy.{CertWhy}
+use Rattle.job_lang.specs.declared.job.Job.{Job}
+use Rattle.job_inputs.proofs.Refusing.{fails-on}
+use Rattle.job_inputs.specs.CertificateFile.{certificate_fault, certificate_in, certificate_refusal}
+use Rattle.job_inputs.specs.Inputs.{look}
+use Rattle.job_inputs.specs.Refusals.{refused_for, IsForContents}
+use Rattle.job_inputs.specs.declared.file_ref.FileRef.TheVariants as file
+use Rattle.job_inputs.specs.declared.faults.Fault.{Fault}
+
+pub certificate_refuses : {A : Type 0} (e : CertError) (read : Result A (ℕ × CertWhy)) → Fails (fault_of e) read → Fails (refused_for (certificate_refusal e)) (map_fault certificate_fault read)
+certificate_refuses (error.At line why) read h = rw h refl
+certificate_refuses error.Memory read h = tt
+
+pub certificate_is_for_contents : (e : CertError) → IsForContents (certificate_refusal e)
+certificate_is_for_contents (error.At line why) = tt
+certificate_is_for_contents error.Memory = tt
+
+pub file-stops : (files : Files) (job : Job) (o : Option Fault) → Fails o (look files job.certificate file.Certificate) → Fails o (certificate_in files job)
+unfolding certificate_in
+file-stops files job o h = fails-on o (look files job.certificate file.Certificate) _ h
+
+pub contents-stop-it : (files : Files) (job : Job) (bytes : List ℕ) (o : Option Fault) → look files job.certificate file.Certificate ≡ Ok bytes → Fails o (map_fault certificate_fault (certificate_of bytes)) → Fails o (certificate_in files job)
+unfolding certificate_in
+contents-stop-it files job bytes o read h = rw read h
+
+pub certificate-is : (files : Files) (job : Job) (bytes : List ℕ) (certificate : Certificate) → look files job.certificate file.Certificate ≡ Ok bytes → map_fault certificate_fault (certificate_of bytes) ≡ Ok certificate → certificate_in files job ≡ Ok certificate
+unfolding certificate_in
+certificate-is files job bytes certificate read h = rw read h

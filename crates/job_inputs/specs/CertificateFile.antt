@@ -1,0 +1,31 @@
+-- The certificate that a job's file of one holds, or what is wrong with it (own).
+use Rattle.std.specs.Prelude.{ℕ, Result}
+use Rattle.sdc_base.specs.Steps.{◌>>=◌, map_fault}
+use Rattle.office_io.specs.Files.{Files}
+use Rattle.job_lang.specs.declared.job.Job.{Job}
+use Rattle.certificate.specs.Certificates.{certificate_of}
+use Rattle.certificate.specs.declared.certificate.Certificate.{Certificate}
+use Rattle.certificate.specs.declared.faults.CertError.{CertError}
+use Rattle.certificate.specs.declared.faults.CertError.TheVariants as error
+use Rattle.certificate.specs.declared.faults.CertWhy.{CertWhy}
+use Rattle.job_inputs.specs.Inputs.{look}
+use Rattle.job_inputs.specs.declared.file_ref.FileRef.TheVariants as file
+use Rattle.job_inputs.specs.declared.faults.Fault.{Fault}
+use Rattle.job_inputs.specs.declared.faults.Fault.TheVariants as fault
+use Rattle.job_inputs.specs.declared.refusal.Refusal.{Refusal}
+use Rattle.job_inputs.specs.declared.refusal.Refusal.TheVariants as refusal
+
+-- what is wrong with a certificate, as a fault of the files
+abbrev pub certificate_fault : ℕ × CertWhy → Fault
+certificate_fault at = fault.Certificate at.0 at.1
+
+-- the certificate of a job, or the first fault of its file: Absent, TooLong, then that of its first bad line
+unfoldable pub certificate_in : Files → Job → Result Certificate Fault
+certificate_in files job = do
+  bytes ← look files job.certificate file.Certificate
+  map_fault certificate_fault (certificate_of bytes)
+
+-- an error of the certificate as a refusal
+abbrev pub certificate_refusal : CertError → Refusal
+certificate_refusal (error.At line why) = refusal.Refused (fault.Certificate line why)
+certificate_refusal error.Memory = refusal.Memory

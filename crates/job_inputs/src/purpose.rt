@@ -1,0 +1,23 @@
+ghost use Rattle.std.specs.Prelude.{◌≡◌};
+ghost use Rattle.job_inputs.specs.Purposes.{is_unfit as unfit};
+
+use sdc_base::Method;
+
+/// What the inputs of a job are read for.
+#[derive(Clone, Copy, Debug, PartialEq, Eq)]
+pub enum Purpose {
+    /// For its release, or to check one: the job may have any method.
+    Release,
+    /// For the intervals of its hidden cells: the job must have a method that hides cells.
+    Intervals,
+}
+
+/// Whether a job's method leaves nothing of what its inputs are read for: rounding hides no cells.
+pub(crate) fn is_unfit(purpose: Purpose, method: Method) -> bool
+    ensures { result ≡ unfit purpose method }
+{
+    match (purpose, method) {
+        (Purpose::Intervals, Method::Rnd(_)) => true,
+        _ => false,
+    }
+}
