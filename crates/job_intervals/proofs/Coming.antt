@@ -1,0 +1,79 @@
+-- The settled inputs of a job with its tables, step by step.
+use Rattle.std.proofs.Common.{◌≡◌, ℕ, Bool, true, false, List, Option, Result, Ok, Err, IsOkAnd, refl, ap, sym, subst, ◌∙◌}
+use Rattle.sdc_base.specs.Answers.{Fails}
+use Rattle.sdc_base.specs.Steps.{refuse}
+use Rattle.office_io.specs.Files.{Files}
+use Rattle.job_inputs.proofs.Refusing.{fails-on}
+use Rattle.job_inputs.specs.Looks.{ComesTo as ComesToInput}
+use Rattle.job_inputs.specs.Settled.{SettledInputs, settled_of}
+use Rattle.job_inputs.specs.Tables.{tables_of, TablesComeTo, ComesToTables}
+use Rattle.job_inputs.specs.declared.described.Described.{Described}
+use Rattle.job_inputs.specs.declared.faults.Fault.{Fault}
+use Rattle.job_inputs.specs.declared.faults.Fault.TheVariants as fault
+use Rattle.job_inputs.specs.declared.file_ref.FileRef.{FileRef}
+use Rattle.job_inputs.specs.declared.file_ref.FileRef.TheVariants as file
+use Rattle.job_inputs.specs.declared.purpose.Purpose.TheVariants as purpose
+use Rattle.job_intervals.specs.OutNames.{overwrites}
+use Rattle.job_intervals.specs.Shelved.{shelved_of, ComesTo}
+
+-- a value that has a property, where there is one
+pub ok_and : {A F : Type 0} (P : A → Type 0) (o : Result A F) → IsOkAnd o P → (x : A) × (o ≡ Ok x) × P x
+ok_and P (Ok x) h = (x, refl, h)
+ok_and P (Err f) h = absurd h
+
+-- ---- what the told files come to
+
+-- what stops the inputs stops all
+pub settled_fails : (files : Files) (name out : List ℕ) (o : Option Fault) → Fails o (settled_of purpose.Intervals files name) → Fails o (shelved_of files name out)
+unfolding shelved_of
+settled_fails files name out o h = fails-on o (settled_of purpose.Intervals files name) _ h
+
+-- and so does a put that would overwrite a file of the job
+pub out_fails : (files : Files) (name out : List ℕ) (settled : SettledInputs) (reason : Fault) → settled_of purpose.Intervals files name ≡ Ok settled → refuse fault.OutName (overwrites name out settled.inputs.described) ≡ Err reason → shelved_of files name out ≡ Err reason
+unfolding shelved_of
+out_fails files name out settled reason read wrong = rw (read, wrong) refl
+
+-- and a fault of the tables' files
+pub tables_fail : (files : Files) (name out : List ℕ) (settled : SettledInputs) (o : Option Fault) → settled_of purpose.Intervals files name ≡ Ok settled → refuse fault.OutName (overwrites name out settled.inputs.described) ≡ Ok tt
+    → Fails o (tables_of files settled.inputs.described.job) → Fails o (shelved_of files name out)
+unfolding shelved_of
+tables_fail files name out settled o read fine h = rw (read, fine) (fails-on o (tables_of files settled.inputs.described.job) _ h)
+
+-- inputs and tables are all that there is
+pub shelved_is : (files : Files) (name out : List ℕ) (settled : SettledInputs) (tables : List (List ℕ)) → settled_of purpose.Intervals files name ≡ Ok settled → refuse fault.OutName (overwrites name out settled.inputs.described) ≡ Ok tt
+    → tables_of files settled.inputs.described.job ≡ Ok tables → shelved_of files name out ≡ Ok (record { settled = settled; tables = tables })
+unfolding shelved_of
+shelved_is files name out settled tables read fine are = rw (read, fine, are) refl
+
+-- the name of the file to be put is looked at alike for the job that was read and for the told one
+pub out_same : (name out : List ℕ) (one other : Described) (looked : Result (Unit {0}) Fault) → looked ≡ refuse fault.OutName (overwrites name out one) → one ≡ other → refuse fault.OutName (overwrites name out other) ≡ looked
+out_same name out one other looked is same = sym (is ∙ ap (λ (d : Described). refuse fault.OutName (overwrites name out d)) same)
+
+-- ---- to which file the run came
+
+not_refused : (reason : Fault) (b : Bool) → refuse reason b ≡ Ok tt → b ≡ false
+not_refused reason true h = absurd cc
+not_refused reason false h = refl
+
+-- a file of the inputs is one of all
+pub input_comes : (files : Files) (name out : List ℕ) (f : FileRef) (held : List ℕ) → ComesToInput purpose.Intervals files name f held → ComesTo files name out f held
+input_comes files name out file.Job held h = h
+input_comes files name out file.Metadata held h = h
+input_comes files name out (file.CodeList at) held h = h
+input_comes files name out (file.Hierarchy at) held h = h
+input_comes files name out file.Microdata held h = h
+input_comes files name out (file.Apriori t) held h = h
+input_comes files name out file.Certificate held h = h
+input_comes files name out (file.Table t) held h = absurd h
+input_comes files name out file.Out held h = h
+
+table_at : (files : Files) (name out : List ℕ) (settled : SettledInputs) (t : ℕ) (f : FileRef) (held : List ℕ) → settled_of purpose.Intervals files name ≡ Ok settled → refuse fault.OutName (overwrites name out settled.inputs.described) ≡ Ok tt
+    → f ≡ file.Table t → TablesComeTo files settled.inputs.described.job t held → ComesTo files name out f held
+table_at files name out settled t f held read fine is comes =
+    rw is (record { settled = settled; read = read; fine = not_refused fault.OutName (overwrites name out settled.inputs.described) fine; comes = comes })
+
+-- and so is a table, where the inputs and the name of the file to be put have no fault
+pub table_comes : (files : Files) (name out : List ℕ) (settled : SettledInputs) (described : Described) (f : FileRef) (held : List ℕ) → settled_of purpose.Intervals files name ≡ Ok settled → refuse fault.OutName (overwrites name out settled.inputs.described) ≡ Ok tt
+    → described ≡ settled.inputs.described → ComesToTables files described.job f held → ComesTo files name out f held
+table_comes files name out settled described f held read fine is comes =
+    table_at files name out settled comes.0 f held read fine comes.1 (subst (λ (d : Described). TablesComeTo files d.job comes.0 held) is comes.2)

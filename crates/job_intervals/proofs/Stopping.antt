@@ -1,0 +1,115 @@
+-- Faults of tables and of questions as stops.
+use Rattle.std.proofs.Common.{◌≡◌, ◌⊎◌, inl, inr, ℕ, Bool, List, Option, Some, Result, Ok, Err, refl, subst, sym, ◌∙◌}
+use Rattle.sdc_base.specs.Answers.{Fails}
+use Rattle.sdc_base.specs.declared.system.System.{System}
+use Rattle.office_io.specs.Files.{Files}
+use Rattle.office_io.specs.Shelves.{ShelfState}
+use Rattle.interval_audit.specs.declared.answer.AskFault.{AskFault}
+use Rattle.interval_audit.specs.declared.answer.AskFault.TheVariants as ask
+use Rattle.cell_intervals.specs.IntervalFaults.{IsFaultOf}
+use Rattle.relations.specs.Holding.{IsSystemOf}
+use Rattle.cert_check.specs.FirstFault.{fault_of}
+use Rattle.cert_check.specs.declared.faults.CheckFault.{CheckFault}
+use Rattle.cert_check.specs.declared.faults.CheckFault.TheVariants as check
+use Rattle.job_inputs.specs.Reading.{HasCause as HasInputCause, HasComeTo as HasInputComeTo}
+use Rattle.job_inputs.specs.Sound.{AreSound}
+use Rattle.job_inputs.specs.declared.faults.Fault.{Fault}
+use Rattle.job_inputs.specs.declared.file_ref.FileRef.{FileRef}
+use Rattle.job_inputs.specs.declared.settled.SettledJob.{SettledJob}
+use Rattle.job_inputs.specs.declared.stop.InputStop.{InputStop}
+use Rattle.job_inputs.specs.declared.stop.InputStop.TheVariants as input
+use Rattle.job_intervals.specs.Finding.{Comes, ComesFromSet, IsFound}
+use Rattle.job_intervals.specs.Shelved.{ShelvedTables}
+use Rattle.job_intervals.specs.Stops.{memory_stop, table_stop, question_stop, HasCause, HasComeTo}
+use Rattle.job_intervals.specs.declared.interval_file.IntervalFile.{IntervalFile}
+use Rattle.job_intervals.specs.declared.stop.IntervalStop.{IntervalStop}
+use Rattle.job_intervals.specs.declared.stop.IntervalStop.TheVariants as stop
+
+-- ---- want of memory
+
+-- it needs no cause
+pub memory_cause : {X : Type 0} (old new : ShelfState) → HasInputCause {X = X} (Err input.Memory) old new
+memory_cause old new = record { absent = λ f is. absurd cc; too_long = λ f is. absurd cc; read_fault = λ f is. absurd cc; tree = λ f is. absurd cc }
+
+-- and came at no file
+pub memory_comes : {X : Type 0} (comes : FileRef → List ℕ → Type 0) (files : Files) (new : ShelfState) → HasInputComeTo {X = X} comes (Err input.Memory) files new
+memory_comes comes files new = λ f is. absurd cc
+
+-- ---- faults of the tables
+
+-- a fault of the tables is want of memory, or a stop for that fault
+table_is : (e : CheckFault) → (table_stop e ≡ memory_stop) ⊎ ((table_stop e ≡ stop.NotAccepted e) × (fault_of e ≡ Some e))
+table_is check.Counts = inr (refl, refl)
+table_is check.Method = inr (refl, refl)
+table_is (check.PrimaryShown cell) = inr (refl, refl)
+table_is (check.FixedHidden cell) = inr (refl, refl)
+table_is (check.Release table line) = inr (refl, refl)
+table_is (check.Step k) = inr (refl, refl)
+table_is (check.RepairCell k) = inr (refl, refl)
+table_is (check.Repair k why) = inr (refl, refl)
+table_is (check.Outside cell) = inr (refl, refl)
+table_is (check.WorldCell k) = inr (refl, refl)
+table_is (check.World k why) = inr (refl, refl)
+table_is (check.NotReached cell side) = inr (refl, refl)
+table_is (check.NeedCell k) = inr (refl, refl)
+table_is (check.Need k why) = inr (refl, refl)
+table_is (check.Rounded cell) = inr (refl, refl)
+table_is (check.Relation number) = inr (refl, refl)
+table_is check.Memory = inl refl
+
+-- so it stops the run for the first fault of the tables
+pub table_stops : {A : Type 0} (meant : Result A CheckFault) (shelved : Result ShelvedTables Fault) (e : CheckFault) → Fails (fault_of e) meant
+    → ((why : CheckFault) → meant ≡ Err why → Comes shelved (Err (stop.NotAccepted why))) → Comes shelved (Err (table_stop e))
+table_stops {A} meant shelved e fails make = elim (table_is e) [
+  | inl memory ↦ rw memory tt
+  | inr own ↦ rw (own.0) (make e (subst (λ (o : Option CheckFault). Fails o meant) own.1 fails))
+]
+
+-- and is found so over any shelf
+pub table_found : {A : Type 0} (meant : Result A CheckFault) (e : CheckFault) → Fails (fault_of e) meant
+    → ((why : CheckFault) → meant ≡ Err why → (shelved : ShelvedTables) × AreSound shelved.settled.inputs × Comes (Ok shelved) (Err (stop.NotAccepted why))) → IsFound (Err (table_stop e))
+table_found {A} meant e fails make = elim (table_is e) [
+  | inl memory ↦ rw memory tt
+  | inr own ↦ rw (own.0) (make e (subst (λ (o : Option CheckFault). Fails o meant) own.1 fails))
+]
+
+-- where it stops the inputs, that is for want of memory
+pub table_memory : (e : CheckFault) (why : InputStop) → table_stop e ≡ stop.Inputs why → why ≡ input.Memory
+table_memory e why is = elim (table_is e) [
+  | inl memory ↦ (let same : stop.Inputs why ≡ stop.Inputs input.Memory = sym is ∙ memory in cc)
+  | inr own ↦ (let same : stop.Inputs why ≡ stop.NotAccepted e = sym is ∙ own.0 in absurd cc)
+]
+
+-- it needs no cause of the shelf
+pub table_cause : (e : CheckFault) (old new : ShelfState) → HasCause (Err (table_stop e)) old new
+table_cause e old new = λ why is. (let same : table_stop e ≡ stop.Inputs why = cc in rw (table_memory e why same) (memory_cause old new))
+
+-- and came at no file
+pub table_comes_to : (e : CheckFault) (comes : FileRef → List ℕ → Type 0) (files : Files) (new : ShelfState) → HasComeTo comes (Err (table_stop e)) files new
+table_comes_to e comes files new = λ why is. (let same : table_stop e ≡ stop.Inputs why = cc in rw (table_memory e why same) (memory_comes comes files new))
+
+-- ---- questions without an answer
+
+-- a question without an answer stops the run
+pub question_stops : (job : SettledJob) (system : System) (flags : List Bool) (e : AskFault) → IsSystemOf job.book system → IsFaultOf system job.cells flags job.described.job.steps e → ComesFromSet job flags (Err (question_stop e))
+question_stops job system flags ask.Memory is fault = tt
+question_stops job system flags (ask.Work walk) is fault = record { system = system; system_is = is; not_memory = λ same. absurd cc; fault = fault }
+question_stops job system flags (ask.Wide walk place) is fault = record { system = system; system_is = is; not_memory = λ same. absurd cc; fault = fault }
+question_stops job system flags (ask.Size question hidden) is fault = record { system = system; system_is = is; not_memory = λ same. absurd cc; fault = fault }
+
+-- where the answer for a hidden set stops the inputs, that is for want of memory
+pub set_memory : (job : SettledJob) (flags : List Bool) (r : Result IntervalFile IntervalStop) (why : InputStop) → ComesFromSet job flags r → r ≡ Err (stop.Inputs why) → why ≡ input.Memory
+set_memory job flags (Ok file) why comes is = absurd cc
+set_memory job flags (Err (stop.Inputs (input.Refused f))) why comes is = absurd comes
+set_memory job flags (Err (stop.Inputs (input.ReadFault f))) why comes is = absurd comes
+set_memory job flags (Err (stop.Inputs input.Memory)) why comes is = cc
+set_memory job flags (Err (stop.NotAccepted e)) why comes is = absurd comes
+set_memory job flags (Err (stop.Undecided e)) why comes is = absurd cc
+
+-- so it needs no cause of the shelf
+pub set_cause : (job : SettledJob) (flags : List Bool) (r : Result IntervalFile IntervalStop) (old new : ShelfState) → ComesFromSet job flags r → HasCause r old new
+set_cause job flags r old new comes = λ why is. rw (set_memory job flags r why comes is) (memory_cause old new)
+
+-- and came at no file
+pub set_comes_to : (job : SettledJob) (flags : List Bool) (r : Result IntervalFile IntervalStop) (to : FileRef → List ℕ → Type 0) (files : Files) (new : ShelfState) → ComesFromSet job flags r → HasComeTo to r files new
+set_comes_to job flags r to files new comes = λ why is. rw (set_memory job flags r why comes is) (memory_comes to files new)

@@ -1,0 +1,58 @@
+use Rattle.std.proofs.Common.{Ok, refl}
+use Rattle.std.proofs.lemmas.Result.{err_from_is_err_and}
+use Rattle.job_intervals.proofs.Answering.{refused_for, set_comes, set_found}
+use Rattle.job_intervals.proofs.Coming.{ok_and}
+use Rattle.job_intervals.proofs.Stopping.{table_stops, table_found, table_cause, table_comes_to, set_cause, set_comes_to}
+use Rattle.job_intervals.specs.Shelved.{shelved_of, IsShelvedOf}
+use Rattle.job_intervals.specs.ShownTables.{flags_in}
+use Rattle.job_intervals.proofs.finding.find_intervals.Goals as goal
+
+-- ---- the tables
+
+pub returns-in_err-hidden-clause-told : goal.returns-in_err-hidden-clause-told
+returns-in_err-hidden-clause-told g c =
+    λ fs told.
+    let p = err_from_is_err_and c.from_residual-in_err-hidden.result c.from_residual-in_err-hidden.ensures.1 in
+    let shelved = c.in_ok-shelved.shelved in
+    let meant = shelved_of fs c.args.name.now c.args.out.now in
+    let one = ok_and (λ it. IsShelvedOf it shelved) meant (c.in_ok-shelved.ensures.told fs told) in
+    rw (p.1, p.2) (table_stops (flags_in shelved.job shelved.tables) meant c.in_err-hidden.field-0.0 c.in_err-hidden.ensures.exact (λ why first. refused_for meant one.0 shelved why one.1 one.2 first))
+
+pub returns-in_err-hidden-clause-found : goal.returns-in_err-hidden-clause-found
+returns-in_err-hidden-clause-found g c =
+    let p = err_from_is_err_and c.from_residual-in_err-hidden.result c.from_residual-in_err-hidden.ensures.1 in
+    let shelved = c.in_ok-shelved.shelved in
+    let some = c.in_ok-shelved.ensures.settled in
+    rw (p.1, p.2) (table_found (flags_in shelved.job shelved.tables) c.in_err-hidden.field-0.0 c.in_err-hidden.ensures.exact (λ why first. (some.0, some.2, refused_for (Ok some.0) some.0 shelved why refl some.1 first)))
+
+pub returns-in_err-hidden-clause-came_to : goal.returns-in_err-hidden-clause-came_to
+returns-in_err-hidden-clause-came_to g c =
+    λ fs told.
+    let p = err_from_is_err_and c.from_residual-in_err-hidden.result c.from_residual-in_err-hidden.ensures.1 in
+    rw (p.1, p.2) (table_comes_to c.in_err-hidden.field-0.0 _ fs (g.S.Shelf.state c.read_shelved.new.shelf))
+
+pub returns-in_err-hidden-clause-cause : goal.returns-in_err-hidden-clause-cause
+returns-in_err-hidden-clause-cause g c =
+    let p = err_from_is_err_and c.from_residual-in_err-hidden.result c.from_residual-in_err-hidden.ensures.1 in
+    rw (p.1, p.2) (table_cause c.in_err-hidden.field-0.0 (g.S.Shelf.state c.args.shelf.now) (g.S.Shelf.state c.read_shelved.new.shelf))
+
+-- ---- the hidden set
+
+pub returns-clause-told : goal.returns-clause-told
+returns-clause-told g c =
+    λ fs told.
+    let shelved = c.in_ok-shelved.shelved in
+    let meant = shelved_of fs c.args.name.now c.args.out.now in
+    let one = ok_and (λ it. IsShelvedOf it shelved) meant (c.in_ok-shelved.ensures.told fs told) in
+    set_comes meant one.0 shelved c.in_ok-hidden.hidden.flags c.file_for.result one.1 one.2 c.in_ok-hidden.ensures.exact c.file_for.ensures
+
+pub returns-clause-found : goal.returns-clause-found
+returns-clause-found g c =
+    let some = c.in_ok-shelved.ensures.settled in
+    set_found some.0 c.in_ok-shelved.shelved c.in_ok-hidden.hidden.flags c.file_for.result some.2 some.1 c.in_ok-hidden.ensures.exact c.file_for.ensures
+
+pub returns-clause-came_to : goal.returns-clause-came_to
+returns-clause-came_to g c = λ fs told. set_comes_to c.in_ok-shelved.shelved.job c.in_ok-hidden.hidden.flags c.file_for.result _ fs (g.S.Shelf.state c.read_shelved.new.shelf) c.file_for.ensures
+
+pub returns-clause-cause : goal.returns-clause-cause
+returns-clause-cause g c = set_cause c.in_ok-shelved.shelved.job c.in_ok-hidden.hidden.flags c.file_for.result (g.S.Shelf.state c.args.shelf.now) (g.S.Shelf.state c.read_shelved.new.shelf) c.file_for.ensures
