@@ -1,0 +1,106 @@
+-- What stops the reading of a release, and to which file it comes.
+use Rattle.std.proofs.Common.{◌≡◌, ℕ, List, Option, Result, Ok, Err, IsOkAnd, refl, ap, ◌∙◌, subst}
+use Rattle.sdc_base.specs.Answers.{Fails}
+use Rattle.certificate.specs.declared.certificate.Certificate.{Certificate}
+use Rattle.office_io.specs.Files.{Files}
+use Rattle.job_inputs.proofs.Refusing.{fails-on}
+use Rattle.job_inputs.specs.CertificateFile.{certificate_in}
+use Rattle.job_inputs.specs.Looks.{IsFile, ComesTo as InputsComeTo}
+use Rattle.job_inputs.specs.Settled.{SettledInputs, settled_of, IsSettledOf}
+use Rattle.job_inputs.specs.Tables.{tables_of, ComesToTables, TablesComeTo}
+use Rattle.job_inputs.specs.declared.described.Described.{Described}
+use Rattle.job_inputs.specs.declared.faults.Fault.{Fault}
+use Rattle.job_inputs.specs.declared.file_ref.FileRef.{FileRef}
+use Rattle.job_inputs.specs.declared.file_ref.FileRef.TheVariants as file
+use Rattle.job_inputs.specs.declared.purpose.Purpose.TheVariants as purpose
+use Rattle.job_inputs.specs.declared.settled.SettledJob.{SettledJob}
+use Rattle.job_check.specs.Reading.{IsReleasedOf, ComesTo}
+use Rattle.job_check.specs.Released.{released_of}
+use Rattle.job_check.specs.declared.reading.ReadRelease.{ReadRelease}
+
+-- a value that has a property, where there is one
+pub ok-and : {A F : Type 0} (P : A → Type 0) (o : Result A F) → IsOkAnd o P → (x : A) × (o ≡ Ok x) × P x
+ok-and P (Ok x) h = (x, refl, h)
+ok-and P (Err f) h = absurd h
+
+-- ---- what stops the reading
+
+-- what stops the settled inputs stops all
+pub settled-fails : (files : Files) (name : List ℕ) (o : Option Fault) → Fails o (settled_of purpose.Release files name) → Fails o (released_of files name)
+unfolding released_of
+settled-fails files name o h = fails-on o (settled_of purpose.Release files name) _ h
+
+certificate-fails : (files : Files) (name : List ℕ) (settled : SettledInputs) (o : Option Fault) → settled_of purpose.Release files name ≡ Ok settled → Fails o (certificate_in files settled.inputs.described.job) → Fails o (released_of files name)
+unfolding released_of
+certificate-fails files name settled o read h = rw read (fails-on o (certificate_in files settled.inputs.described.job) _ h)
+
+tables-fail : (files : Files) (name : List ℕ) (settled : SettledInputs) (certificate : Certificate) (o : Option Fault) → settled_of purpose.Release files name ≡ Ok settled → certificate_in files settled.inputs.described.job ≡ Ok certificate
+    → Fails o (tables_of files settled.inputs.described.job) → Fails o (released_of files name)
+unfolding released_of
+tables-fail files name settled certificate o read signed h = rw (read, signed) (fails-on o (tables_of files settled.inputs.described.job) _ h)
+
+released-is : (files : Files) (name : List ℕ) (settled : SettledInputs) (certificate : Certificate) (tables : List (List ℕ)) → settled_of purpose.Release files name ≡ Ok settled → certificate_in files settled.inputs.described.job ≡ Ok certificate
+    → tables_of files settled.inputs.described.job ≡ Ok tables → released_of files name ≡ Ok (record { settled = settled; certificate = certificate; tables = tables })
+unfolding released_of
+released-is files name settled certificate tables read signed put = rw (read, signed, put) refl
+
+-- ---- the same, for the job that was read
+
+-- the files come to settled inputs, which are those of this job
+abbrev pub WasSettled : Files → List ℕ → SettledJob → Type 0
+WasSettled files name job = IsOkAnd (settled_of purpose.Release files name) (λ settled. IsSettledOf settled job)
+
+record Inputs (files : Files) (name : List ℕ) (job : SettledJob) : Type 0 where
+  settled : SettledInputs
+  read : settled_of purpose.Release files name ≡ Ok settled
+  is : IsSettledOf settled job
+
+inputs-of : (files : Files) (name : List ℕ) (job : SettledJob) → WasSettled files name job → Inputs files name job
+inputs-of files name job was = let it = ok-and (λ settled. IsSettledOf settled job) (settled_of purpose.Release files name) was in record { settled = it.0; read = it.1; is = it.2 }
+
+-- so does what stops the certificate
+pub no-certificate : (files : Files) (name : List ℕ) (job : SettledJob) (o : Option Fault) → WasSettled files name job → Fails o (certificate_in files job.described.job) → Fails o (released_of files name)
+no-certificate files name job o was h =
+    let it = inputs-of files name job was in
+    certificate-fails files name it.settled o it.read (subst (λ (d : Described). Fails o (certificate_in files d.job)) it.is.described h)
+
+-- and what stops a table
+pub no-tables : (files : Files) (name : List ℕ) (job : SettledJob) (certificate : Certificate) (o : Option Fault) → WasSettled files name job → certificate_in files job.described.job ≡ Ok certificate → Fails o (tables_of files job.described.job)
+    → Fails o (released_of files name)
+no-tables files name job certificate o was signed h =
+    let it = inputs-of files name job was in
+    tables-fail files name it.settled certificate o it.read (subst (λ (d : Described). certificate_in files d.job ≡ Ok certificate) it.is.described signed) (subst (λ (d : Described). Fails o (tables_of files d.job)) it.is.described h)
+
+-- job, certificate and tables are all that there is
+pub all-read : (files : Files) (name : List ℕ) (read : ReadRelease) → WasSettled files name read.job → certificate_in files read.job.described.job ≡ Ok read.certificate → tables_of files read.job.described.job ≡ Ok read.tables
+    → IsOkAnd (released_of files name) (λ released. IsReleasedOf released read)
+all-read files name read was signed put =
+    let it = inputs-of files name read.job was in
+    rw (released-is files name it.settled read.certificate read.tables it.read (subst (λ (d : Described). certificate_in files d.job ≡ Ok read.certificate) it.is.described signed)
+    (subst (λ (d : Described). tables_of files d.job ≡ Ok read.tables) it.is.described put))
+    (record { settled = it.is; certificate = refl; tables = refl })
+
+-- ---- to which file it comes
+
+pub inputs-come : (files : Files) (name : List ℕ) (f : FileRef) (held : List ℕ) → InputsComeTo purpose.Release files name f held → ComesTo files name f held
+inputs-come files name file.Job held h = h
+inputs-come files name file.Metadata held h = h
+inputs-come files name (file.CodeList at) held h = h
+inputs-come files name (file.Hierarchy at) held h = h
+inputs-come files name file.Microdata held h = h
+inputs-come files name (file.Apriori t) held h = h
+inputs-come files name file.Certificate held h = absurd h
+inputs-come files name (file.Table t) held h = absurd h
+inputs-come files name file.Out held h = absurd h
+
+pub certificate-comes : (files : Files) (name : List ℕ) (job : SettledJob) (f : FileRef) (held : List ℕ) → WasSettled files name job → IsFile file.Certificate job.described.job.certificate f held → ComesTo files name f held
+certificate-comes files name job f held was comes =
+    let it = inputs-of files name job was in
+    rw comes.is_file (it.settled, it.read, comes.is_name ∙ ap (λ (d : Described). d.job.certificate) it.is.described)
+
+pub tables-come : (files : Files) (name : List ℕ) (job : SettledJob) (certificate : Certificate) (f : FileRef) (held : List ℕ) → WasSettled files name job → certificate_in files job.described.job ≡ Ok certificate
+    → ComesToTables files job.described.job f held → ComesTo files name f held
+tables-come files name job certificate f held was signed comes =
+    let it = inputs-of files name job was in
+    let here = subst (λ (d : Described). certificate_in files d.job ≡ Ok certificate) it.is.described signed in
+    rw comes.1 (it.settled, it.read, rw here refl, subst (λ (d : Described). TablesComeTo files d.job comes.0 held) it.is.described comes.2)

@@ -1,0 +1,6 @@
+pub mod Released
+pub mod Cases
+pub mod Reading
+pub mod Answers
+pub mod Laws
+pub mod RoundingLaws

@@ -1,0 +1,36 @@
+use cert_check::CheckFault;
+use job_inputs::InputStop;
+
+/// Why the release of a job isn't accepted.
+#[derive(Clone, Copy, Debug, PartialEq, Eq)]
+pub enum CheckStop {
+    /// The inputs, the certificate or the tables were not read to their end, or there was no memory.
+    Inputs(InputStop),
+    /// The release with its certificate has this fault, the first one, which is never want of memory.
+    NotAccepted(CheckFault),
+}
+
+impl From<InputStop> for CheckStop {
+    ghost use Rattle.std.specs.Prelude.{◌≡◌};
+    ghost use Rattle.job_check.specs.declared.stop.CheckStop.TheVariants as stop;
+
+    ghost from_gives = { λ input e. e ≡ stop.Inputs input };
+
+    fn from(input: InputStop) -> Self {
+        CheckStop::Inputs(input)
+    }
+}
+
+impl From<CheckFault> for CheckStop {
+    ghost use Rattle.std.specs.Prelude.{◌≡◌};
+    ghost use Rattle.job_check.specs.Answers.{stop_for};
+
+    ghost from_gives = { λ fault e. e ≡ stop_for fault };
+
+    fn from(fault: CheckFault) -> Self {
+        match fault {
+            CheckFault::Memory => CheckStop::Inputs(InputStop::Memory),
+            other => CheckStop::NotAccepted(other),
+        }
+    }
+}
