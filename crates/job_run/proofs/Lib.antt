@@ -2,7 +2,15 @@ pub mod Showing
 pub mod TableSteps
 pub mod SameBook
 pub mod Releasing
+pub mod Bases
+pub mod SameSystem
+pub mod JobTruths
+pub mod RoundedJobs
+pub mod ShownLaws
 pub mod Outcomes
 pub mod Settling
+pub mod ReleaseRuns
+pub mod CheckRuns
+pub mod IntervalRuns
 pub mod PutSteps
 pub mod TermTexts

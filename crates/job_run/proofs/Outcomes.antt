@@ -2,45 +2,29 @@
 use Rattle.std.proofs.Common.{◌≡◌, ◌⊎◌, inl, inr, List, ℕ, Bool, true, false, not, Result, Ok, Err, IsErrOf, IsOkAnd, refl, ap}
 use Rattle.sdc_base.specs.Answers.{Fails}
 use Rattle.sdc_base.specs.Counts.{Rose}
-use Rattle.sdc_base.specs.Steps.{◌>>=◌, refuse}
 use Rattle.office_io.specs.Files.{Files}
 use Rattle.office_io.specs.Shelves.{ShelfState}
 use Rattle.office_io.specs.Trays.{TrayState}
 use Rattle.job_inputs.specs.Reading.{stopped_for, HasCause as HasInputCause, HasComeTo as HasInputComeTo}
 use Rattle.job_inputs.specs.Settled.{SettledInputs, settled_of}
-use Rattle.job_inputs.specs.declared.faults.InputFault.{InputFault}
-use Rattle.job_inputs.specs.declared.faults.InputFault.TheVariants as input_fault
 use Rattle.job_inputs.specs.declared.file_ref.FileRef.{FileRef}
-use Rattle.job_inputs.specs.declared.file_ref.FileRef.TheVariants as file
+use Rattle.job_inputs.specs.declared.purpose.Purpose.TheVariants as purpose
 use Rattle.job_inputs.specs.declared.stop.InputStop.{InputStop}
 use Rattle.job_inputs.specs.declared.stop.InputStop.TheVariants as input
 use Rattle.hierarchy.specs.declared.tree_fault.TreeFault.TheVariants as tree
-use Rattle.job_lang.specs.declared.job.Job.{Job}
-use Rattle.job_run.specs.Faults.{fault_of}
-use Rattle.job_run.specs.Outcome.{admitted_of, is_hiding, job_fault, overwrites_job}
-use Rattle.job_run.specs.Protections.{IsReleaseOf}
+use Rattle.job_run.specs.Endings.{IsReleaseOf}
 use Rattle.job_run.specs.Puts.{SomeWhole, OneInPart}
 use Rattle.job_run.specs.Reports.{report_of, Meets, Leaves, LeavesAll, HasCause, HasComeTo}
 use Rattle.job_run.specs.Stops.{Comes, inputs_stop, puts_stop}
 use Rattle.job_run.specs.declared.put.Release.{Release}
 use Rattle.job_run.specs.declared.puts.PutStop.{PutStop}
 use Rattle.job_run.specs.declared.puts.PutStop.TheVariants as puts
-use Rattle.job_run.specs.declared.report.Fault.{Fault}
-use Rattle.job_run.specs.declared.report.Fault.TheVariants as fault
+use Rattle.job_inputs.specs.declared.faults.Fault.{Fault}
+use Rattle.job_inputs.specs.declared.faults.Fault.TheVariants as fault
 use Rattle.job_run.specs.declared.report.Report.TheVariants as report
 use Rattle.job_run.specs.declared.report.Summary.{Summary}
 use Rattle.job_run.specs.declared.stop.Stop.{Stop}
 use Rattle.job_run.specs.declared.stop.Stop.TheVariants as stop
-
--- the settled inputs, where nothing is wrong with the job
-pub admitted : (files : Files) (name : List ℕ) (settled : SettledInputs) → settled_of files name ≡ Ok settled → Ok tt ≡ job_fault name settled.inputs.described.job → admitted_of files name ≡ Ok settled
-unfolding admitted_of
-admitted files name settled read fine = rw (read, ← fine) refl
-
--- what is wrong with the job, once the inputs are settled
-pub refused : (files : Files) (name : List ℕ) (settled : SettledInputs) (reason : Fault) → settled_of files name ≡ Ok settled → Err reason ≡ job_fault name settled.inputs.described.job → admitted_of files name ≡ Err reason
-unfolding admitted_of
-refused files name settled reason read wrong = rw (read, ← wrong) refl
 
 -- a value that has a property, where there is one
 pub ok-and : {A F : Type 0} (P : A → Type 0) (o : Result A F) → IsOkAnd o P → (x : A) × (o ≡ Ok x) × P x
@@ -49,8 +33,7 @@ ok-and P (Err f) h = absurd h
 
 -- ---- what stopped the inputs
 
-pub inputs-meet : (e : InputStop) (files : Files) (name : List ℕ) → Fails (stopped_for e) (settled_of files name) → Meets (report_of (Err (inputs_stop e))) (admitted_of files name)
-unfolding admitted_of
+pub inputs-meet : (e : InputStop) (files : Files) (name : List ℕ) → Fails (stopped_for e) (settled_of purpose.Release files name) → Meets (report_of (Err (inputs_stop e))) (settled_of purpose.Release files name)
 inputs-meet (input.Refused f) files name h = rw h refl
 inputs-meet (input.ReadFault f) files name h = tt
 inputs-meet input.Memory files name h = tt
@@ -66,9 +49,9 @@ inputs-leave-all (input.ReadFault f) tray = refl
 inputs-leave-all input.Memory tray = tt
 
 -- an answer that is none of those with a cause
-no-cause : (answer : Stop) (old new : ShelfState) (before after : TrayState) → ((f : FileRef) → report_of (Err answer) ≡ report.Refused (fault_of (input_fault.Absent f)) → ⊥)
-    → ((f : FileRef) → report_of (Err answer) ≡ report.Refused (fault_of (input_fault.TooLong f)) → ⊥) → ((f : FileRef) → report_of (Err answer) ≡ report.ReadFault f → ⊥)
-    → ((f : FileRef) → report_of (Err answer) ≡ report.WriteFault f → ⊥) → ((f : FileRef) → report_of (Err answer) ≡ report.Refused (fault_of (input_fault.Tree f tree.Memory)) → ⊥)
+no-cause : (answer : Stop) (old new : ShelfState) (before after : TrayState) → ((f : FileRef) → report_of (Err answer) ≡ report.Refused (fault.Absent f) → ⊥)
+    → ((f : FileRef) → report_of (Err answer) ≡ report.Refused (fault.TooLong f) → ⊥) → ((f : FileRef) → report_of (Err answer) ≡ report.ReadFault f → ⊥)
+    → ((f : FileRef) → report_of (Err answer) ≡ report.WriteFault f → ⊥) → ((f : FileRef) → report_of (Err answer) ≡ report.Refused (fault.Tree f tree.Memory) → ⊥)
     → HasCause (report_of (Err answer)) old new before after
 no-cause answer old new before after a b c d e = record {
   absent = λ f is. absurd (a f is);
@@ -78,20 +61,14 @@ no-cause answer old new before after a b c d e = record {
   tree = λ f is. e f is;
 }
 
-fault-cause : {X : Type 0} (reason : InputFault) (old new : ShelfState) (tray : TrayState) → HasInputCause {X = X} (Err (input.Refused reason)) old new → HasCause (report_of (Err (inputs_stop (input.Refused reason)))) old new tray tray
-fault-cause (input_fault.Absent g) old new tray cause = record { absent = λ f is. cause.absent g refl; too_long = λ f is. absurd cc; read_fault = λ f is. absurd cc; write_fault = λ f is. absurd cc; tree = λ f is. absurd cc }
-fault-cause (input_fault.TooLong g) old new tray cause = record { absent = λ f is. absurd cc; too_long = λ f is. cause.too_long g refl; read_fault = λ f is. absurd cc; write_fault = λ f is. absurd cc; tree = λ f is. absurd cc }
-fault-cause (input_fault.Job line why) old new tray cause = no-cause (stop.Refused (fault_of (input_fault.Job line why))) old new tray tray (λ f is. absurd cc) (λ f is. absurd cc) (λ f is. absurd cc) (λ f is. absurd cc) (λ f is. absurd cc)
-fault-cause (input_fault.Meta line why) old new tray cause = no-cause (stop.Refused (fault_of (input_fault.Meta line why))) old new tray tray (λ f is. absurd cc) (λ f is. absurd cc) (λ f is. absurd cc) (λ f is. absurd cc) (λ f is. absurd cc)
-fault-cause (input_fault.Tree g why) old new tray cause =
-    no-cause (stop.Refused (fault_of (input_fault.Tree g why))) old new tray tray (λ f is. absurd cc) (λ f is. absurd cc) (λ f is. absurd cc) (λ f is. absurd cc)
-    (λ f is. let same : why ≡ tree.Memory = cc in cause.tree g (ap (λ w. Err (input.Refused (input_fault.Tree g w))) same))
-fault-cause (input_fault.Row number why) old new tray cause = no-cause (stop.Refused (fault_of (input_fault.Row number why))) old new tray tray (λ f is. absurd cc) (λ f is. absurd cc) (λ f is. absurd cc) (λ f is. absurd cc) (λ f is. absurd cc)
-fault-cause (input_fault.Cells t) old new tray cause = no-cause (stop.Refused (fault_of (input_fault.Cells t))) old new tray tray (λ f is. absurd cc) (λ f is. absurd cc) (λ f is. absurd cc) (λ f is. absurd cc) (λ f is. absurd cc)
-fault-cause (input_fault.Prior t line why) old new tray cause = no-cause (stop.Refused (fault_of (input_fault.Prior t line why))) old new tray tray (λ f is. absurd cc) (λ f is. absurd cc) (λ f is. absurd cc) (λ f is. absurd cc) (λ f is. absurd cc)
-
 pub inputs-cause : {X : Type 0} (e : InputStop) (old new : ShelfState) (tray : TrayState) → HasInputCause {X = X} (Err e) old new → HasCause (report_of (Err (inputs_stop e))) old new tray tray
-inputs-cause (input.Refused reason) old new tray cause = fault-cause reason old new tray cause
+inputs-cause (input.Refused reason) old new tray cause = record {
+  absent = λ f is. (let same : reason ≡ fault.Absent f = cc in cause.absent f (ap (λ (one : Fault). Err (input.Refused one)) same));
+  too_long = λ f is. (let same : reason ≡ fault.TooLong f = cc in cause.too_long f (ap (λ (one : Fault). Err (input.Refused one)) same));
+  read_fault = λ f is. absurd cc;
+  write_fault = λ f is. absurd cc;
+  tree = λ f is. (let same : reason ≡ fault.Tree f tree.Memory = cc in cause.tree f (ap (λ (one : Fault). Err (input.Refused one)) same));
+}
 inputs-cause (input.ReadFault g) old new tray cause = record { absent = λ f is. absurd cc; too_long = λ f is. absurd cc; read_fault = λ f is. cause.read_fault g refl; write_fault = λ f is. absurd cc; tree = λ f is. absurd cc }
 inputs-cause input.Memory old new tray cause = no-cause stop.Memory old new tray tray (λ f is. absurd cc) (λ f is. absurd cc) (λ f is. absurd cc) (λ f is. absurd cc) (λ f is. absurd cc)
 
@@ -100,26 +77,12 @@ inputs-come (input.Refused reason) comes files new come = λ f is. absurd cc
 inputs-come (input.ReadFault g) comes files new come = λ f is. let same : g ≡ f = cc in come f (ap (λ (h : FileRef). Err (input.ReadFault h)) same)
 inputs-come input.Memory comes files new come = λ f is. absurd cc
 
--- ---- what is wrong with the job
-
-either-fault : (first second : Fault) (one other : Bool) (reason : Fault) → Err reason ≡ (refuse first one >>= λ _. refuse second other) → (reason ≡ first) ⊎ (reason ≡ second)
-either-fault first second true other reason h = inl (let same : reason ≡ first = cc in same)
-either-fault first second false true reason h = inr (let same : reason ≡ second = cc in same)
-either-fault first second false false reason h = absurd cc
-
-job-cause-by : (reason : Fault) (old new : ShelfState) (tray : TrayState) → (reason ≡ fault.OutName) ⊎ (reason ≡ fault.NotBuilt file.Job) → HasCause (report.Refused reason) old new tray tray
-job-cause-by reason old new tray (inl is) = rw is (no-cause (stop.Refused fault.OutName) old new tray tray (λ f is. absurd cc) (λ f is. absurd cc) (λ f is. absurd cc) (λ f is. absurd cc) (λ f is. absurd cc))
-job-cause-by reason old new tray (inr is) = rw is (no-cause (stop.Refused (fault.NotBuilt file.Job)) old new tray tray (λ f is. absurd cc) (λ f is. absurd cc) (λ f is. absurd cc) (λ f is. absurd cc) (λ f is. absurd cc))
-
-pub job-cause : (name : List ℕ) (job : Job) (reason : Fault) (old new : ShelfState) (tray : TrayState) → Err reason ≡ job_fault name job → HasCause (report.Refused reason) old new tray tray
-job-cause name job reason old new tray wrong =
-    job-cause-by reason old new tray (either-fault fault.OutName (fault.NotBuilt file.Job) (overwrites_job name job) (not (is_hiding job.method)) reason wrong)
-
 -- ---- what stopped the release
 
-pub stop-meets : (e : Stop) (files : Files) (name : List ℕ) (settled : SettledInputs) → admitted_of files name ≡ Ok settled → Comes settled (Err e) → Meets (report_of (Err e)) (admitted_of files name)
+pub stop-meets : (e : Stop) (files : Files) (name : List ℕ) (settled : SettledInputs) → settled_of purpose.Release files name ≡ Ok settled → Comes settled (Err e) → Meets (report_of (Err e)) (settled_of purpose.Release files name)
 stop-meets (stop.Refused f) files name settled read comes = absurd comes
 stop-meets (stop.Cannot cell side multipliers) files name settled read comes = rw read comes
+stop-meets stop.NoRounding files name settled read comes = rw read comes
 stop-meets (stop.Undecided why repairs shown) files name settled read comes = rw read comes
 stop-meets (stop.ReadFault f) files name settled read comes = absurd comes
 stop-meets (stop.WriteFault f) files name settled read comes = absurd comes
@@ -128,6 +91,7 @@ stop-meets stop.Memory files name settled read comes = tt
 pub stop-leaves : (e : Stop) (settled : SettledInputs) (outcome : Result SettledInputs Fault) (tray : TrayState) → Comes settled (Err e) → Leaves (report_of (Err e)) outcome tray tray
 stop-leaves (stop.Refused f) settled outcome tray comes = absurd comes
 stop-leaves (stop.Cannot cell side multipliers) settled outcome tray comes = tt
+stop-leaves stop.NoRounding settled outcome tray comes = tt
 stop-leaves (stop.Undecided why repairs shown) settled outcome tray comes = tt
 stop-leaves (stop.ReadFault f) settled outcome tray comes = absurd comes
 stop-leaves (stop.WriteFault f) settled outcome tray comes = absurd comes
@@ -136,6 +100,7 @@ stop-leaves stop.Memory settled outcome tray comes = inl refl
 pub stop-leaves-all : (e : Stop) (tray : TrayState) → LeavesAll (report_of (Err e)) tray tray
 stop-leaves-all (stop.Refused f) tray = refl
 stop-leaves-all (stop.Cannot cell side multipliers) tray = refl
+stop-leaves-all stop.NoRounding tray = refl
 stop-leaves-all (stop.Undecided why repairs shown) tray = refl
 stop-leaves-all (stop.ReadFault f) tray = refl
 stop-leaves-all (stop.WriteFault f) tray = tt
@@ -144,6 +109,7 @@ stop-leaves-all stop.Memory tray = tt
 pub stop-cause : (e : Stop) (settled : SettledInputs) (old new : ShelfState) (tray : TrayState) → Comes settled (Err e) → HasCause (report_of (Err e)) old new tray tray
 stop-cause (stop.Refused f) settled old new tray comes = absurd comes
 stop-cause (stop.Cannot cell side multipliers) settled old new tray comes = no-cause (stop.Cannot cell side multipliers) old new tray tray (λ f is. absurd cc) (λ f is. absurd cc) (λ f is. absurd cc) (λ f is. absurd cc) (λ f is. absurd cc)
+stop-cause stop.NoRounding settled old new tray comes = no-cause stop.NoRounding old new tray tray (λ f is. absurd cc) (λ f is. absurd cc) (λ f is. absurd cc) (λ f is. absurd cc) (λ f is. absurd cc)
 stop-cause (stop.Undecided why repairs shown) settled old new tray comes = no-cause (stop.Undecided why repairs shown) old new tray tray (λ f is. absurd cc) (λ f is. absurd cc) (λ f is. absurd cc) (λ f is. absurd cc) (λ f is. absurd cc)
 stop-cause (stop.ReadFault f) settled old new tray comes = absurd comes
 stop-cause (stop.WriteFault f) settled old new tray comes = absurd comes
@@ -152,6 +118,7 @@ stop-cause stop.Memory settled old new tray comes = no-cause stop.Memory old new
 pub stop-come : (e : Stop) (settled : SettledInputs) (comes : FileRef → List ℕ → Type 0) (files : Files) (new : ShelfState) → Comes settled (Err e) → HasComeTo comes (report_of (Err e)) files new
 stop-come (stop.Refused g) settled come files new comes = absurd comes
 stop-come (stop.Cannot cell side multipliers) settled come files new comes = λ f is. absurd cc
+stop-come stop.NoRounding settled come files new comes = λ f is. absurd cc
 stop-come (stop.Undecided why repairs shown) settled come files new comes = λ f is. absurd cc
 stop-come (stop.ReadFault g) settled come files new comes = absurd comes
 stop-come (stop.WriteFault g) settled come files new comes = absurd comes
@@ -190,6 +157,7 @@ pub report-released : (r : Result Summary Stop) (s : Summary) (P : Summary → T
 report-released (Ok t) s P e h = let same : t ≡ s = cc in rw (← same) (h t refl)
 report-released (Err (stop.Refused g)) s P e h = absurd cc
 report-released (Err (stop.Cannot cell side multipliers)) s P e h = absurd cc
+report-released (Err stop.NoRounding) s P e h = absurd cc
 report-released (Err (stop.Undecided why repairs shown)) s P e h = absurd cc
 report-released (Err (stop.ReadFault g)) s P e h = absurd cc
 report-released (Err (stop.WriteFault g)) s P e h = absurd cc

@@ -1,5 +1,5 @@
 -- What becomes of a job's settled cells, as the release or the stop of its run.
-use Rattle.std.proofs.Common.{◌≡◌, ◌≤◌, ℕ, suc, arith, Bool, true, false, cond, List, [], ◌∷◌, length, map, filter, Err, refl, ap, subst, ◌∙◌}
+use Rattle.std.proofs.Common.{◌≡◌, ◌≤◌, ℕ, suc, arith, All, Bor, Bool, true, false, cond, List, [], ◌∷◌, length, map, filter, Option, None, Ok, Err, refl, ap, sym, subst, ◌∙◌, ℤ, pos, ◌≤ℤ◌}
 use Rattle.std.specs.List.{range_with_len}
 use Rattle.std.proofs.lemmas.List.FromFn.{length-range_with_len}
 use Rattle.sdc_base.specs.Cells.{cells_of}
@@ -7,6 +7,7 @@ use Rattle.sdc_base.specs.HiddenSets.{is_hidden}
 use Rattle.sdc_base.specs.Kinds.{is_primary}
 use Rattle.sdc_base.specs.Trees.{Tree}
 use Rattle.sdc_base.specs.declared.cell.Cell.{Cell}
+use Rattle.sdc_base.specs.declared.hidden.Hidden.{Hidden}
 use Rattle.sdc_base.specs.declared.method.Method.{Method}
 use Rattle.sdc_base.specs.declared.trail.PlanStep.{PlanStep}
 use Rattle.apriori.specs.Settling.{Settled, seen}
@@ -20,29 +21,40 @@ use Rattle.interval_audit.specs.declared.answer.AskFault.{AskFault}
 use Rattle.interval_audit.specs.declared.answer.AskFault.TheVariants as ask
 use Rattle.linked_tables.specs.Held.{Held}
 use Rattle.linked_tables.specs.Shared.{cells as cells_in}
+use Rattle.linked_tables.specs.declared.mark.Mark.{Mark}
 use Rattle.modular_plan.specs.Plans.{trail_of}
+use Rattle.primary_rules.specs.Ranges.{IsTruth}
+use Rattle.release_writer.specs.Shown.{CanBeShown}
+use Rattle.release_writer.specs.declared.shown.Shown.TheVariants as shown
 use Rattle.repair.specs.HidingOrder.{Case, case, prices_of}
 use Rattle.repair.specs.declared.stopped.Stopped.{Stopped}
 use Rattle.worlds.specs.Protection.{Protection as HiddenSet}
 use Rattle.worlds.specs.declared.refuted.Refuted.{Refuted}
 use Rattle.job_inputs.specs.Cells.{cells}
 use Rattle.job_inputs.specs.Settled.{SettledInputs, IsSettledOf}
-use Rattle.job_inputs.specs.Tabulated.{IsBookOf}
+use Rattle.job_inputs.specs.Tabulated.{IsReadyFor}
 use Rattle.job_inputs.specs.declared.described.Described.{Described}
 use Rattle.job_inputs.specs.declared.settled.SettledJob.{SettledJob}
-use Rattle.job_run.specs.Books.{IsSystemOf}
-use Rattle.job_run.specs.Protections.{IsProtectionFor}
+use Rattle.relations.specs.Holding.{IsSystemOf}
+use Rattle.job_run.specs.Endings.{IsReleaseBy}
+use Rattle.job_run.specs.Protections.{IsProtectionFor, IsSuppressedRelease, StopsShort}
 use Rattle.job_run.specs.Releases.{summary_of}
+use Rattle.job_run.specs.Roundings.{base_of}
+use Rattle.job_run.specs.declared.put.Release.{Release}
 use Rattle.job_run.specs.declared.report.Summary.{Summary}
 use Rattle.job_run.specs.Stops.{Comes, question_stop, stopped_stop}
 
+-- a job has the base of its settled inputs, if it has one
+pub same-base : (settled : SettledInputs) (job : SettledJob) → IsSettledOf settled job → base_of settled.inputs.described ≡ base_of job.described
+same-base settled job is = ap base_of (sym is.described)
+
 -- what protecting the cells of a job comes to is what its settled inputs come to
-pub protection-for : (settled : SettledInputs) (job : SettledJob) (system : System) (protection : Protection) → IsSettledOf settled job → IsSystemOf job.book system
+pub protection-for : (settled : SettledInputs) (job : SettledJob) (system : System) (protection : Protection) → base_of job.described ≡ None → IsSettledOf settled job → IsSystemOf job.book system
     → IsProtectionOf (case system job.cells) (prices_of job.described.job.cost job.cells job.book.marks) job.described.job.method (trail_of job.book job.cells job.described.job.cost (passes_of job.described.job.method)) job.described.job.steps protection
     → IsProtectionFor settled protection
-protection-for settled job system protection is_job is_system is = record { job = job; system = system; job_is = is_job; system_is = is_system; comes_to = is }
+protection-for settled job system protection hides is_job is_system is = record { hides = same-base settled job is_job ∙ hides; job = job; system = system; job_is = is_job; system_is = is_system; comes_to = is }
 
-question-comes : (settled : SettledInputs) (fault : AskFault) (repairs : List Refuted) (shown : List ℕ) → IsProtectionFor settled (protection.Undecided (record { fault = fault; repairs = repairs; shown = shown }))
+question-comes : (settled : SettledInputs) (fault : AskFault) (repairs : List Refuted) (shown : List ℕ) → StopsShort settled fault repairs shown
     → Comes settled (Err (question_stop fault repairs shown))
 question-comes settled (ask.Work walk) repairs shown is = is
 question-comes settled (ask.Wide walk place) repairs shown is = is
@@ -54,18 +66,15 @@ pub stopped-comes : (settled : SettledInputs) (stopped : Stopped) → IsProtecti
 stopped-comes settled stopped is = question-comes settled stopped.fault stopped.repairs stopped.shown is
 
 -- the same, where the cells are read through a slice
-pub outcome-for : (settled : SettledInputs) (job : SettledJob) (system : System) (cells : List Cell) (one other : Protection) → IsSettledOf settled job → IsSystemOf job.book system → cells ≡ job.cells → one ≡ other
+pub outcome-for : (settled : SettledInputs) (job : SettledJob) (system : System) (cells : List Cell) (one other : Protection) → base_of job.described ≡ None → IsSettledOf settled job → IsSystemOf job.book system → cells ≡ job.cells → one ≡ other
     → IsProtectionOf (case system cells) (prices_of job.described.job.cost cells job.book.marks) job.described.job.method (trail_of job.book cells job.described.job.cost (passes_of job.described.job.method)) job.described.job.steps one
     → IsProtectionFor settled other
-outcome-for settled job system cells one other is_job is_system same is_other is =
-    protection-for settled job system other is_job is_system
+outcome-for settled job system cells one other hides is_job is_system same is_other is =
+    protection-for settled job system other hides is_job is_system
     (subst (λ (protection : Protection). IsProtectionOf (case system job.cells) (prices_of job.described.job.cost job.cells job.book.marks) job.described.job.method (trail_of job.book job.cells job.described.job.cost (passes_of job.described.job.method)) job.described.job.steps protection) is_other
     (subst (λ (all : List Cell). IsProtectionOf (case system all) (prices_of job.described.job.cost all job.book.marks) job.described.job.method (trail_of job.book all job.described.job.cost (passes_of job.described.job.method)) job.described.job.steps one) same is))
 
--- ---- the numbers of a release
-
-abbrev pub summary : ℕ → ℕ → ℕ → ℕ → ℕ → ℕ → Summary
-summary records skipped passed_over cells primary hidden = record { records = records; skipped = skipped; passed_over = passed_over; cells = cells; primary = primary; hidden = hidden }
+-- ---- the hidden cells
 
 few-pass : (test : ℕ → Bool) (numbers : List ℕ) → length (filter test numbers) ≤ length numbers
 few-pass test [] = omega arith
@@ -83,6 +92,25 @@ few-hidden c prices method steps limit one hidden_set certificate is_one is =
     let few : length (hidden_numbers c.system.cells hidden_set.hidden.flags) ≤ length (range_with_len 0 c.system.cells) = few-pass (is_hidden hidden_set.hidden.flags) (range_with_len 0 c.system.cells) in
     omega (arith, same, few, length-range_with_len 0 c.system.cells)
 
+-- there is a flag for each cell
+pub each-flag : (c : Case) (prices : List ℕ) (method : Method) (steps : List PlanStep) (limit : ℕ) (one : Protection) (hidden_set : HiddenSet) (certificate : Certificate) → one ≡ protection.Protected hidden_set certificate → IsProtectionOf c prices method steps limit one
+    → length hidden_set.hidden.flags ≡ length c.cells
+each-flag c prices method steps limit one hidden_set certificate is_one is =
+    let protected : IsProtectedWith c prices method steps hidden_set certificate = subst (λ (protection : Protection). IsProtectionOf c prices method steps limit protection) is_one is in
+    protected.verdict.0.each_flag
+
+from-zero : (marks : List Mark) → All (λ (mark : Mark). IsTruth mark.facts.truth) marks → All (λ (mark : Mark). pos 0 ≤ℤ mark.facts.truth) marks
+from-zero marks all k d within = (all k d within).from_zero
+
+-- a book with its truths in range and a flag for each cell can be shown with cells hidden
+pub hidden-can : (described : Described) (book : Held) (hidden : Bor Hidden) → IsReadyFor described book → length hidden.now.flags ≡ length book.marks → CanBeShown book (shown.Hidden hidden)
+hidden-can described book hidden ready each = (each, from-zero book.marks ready.truths)
+
+-- ---- the numbers of a release
+
+abbrev pub summary : ℕ → ℕ → ℕ → ℕ → ℕ → ℕ → Summary
+summary records skipped passed_over cells primary hidden = record { records = records; skipped = skipped; passed_over = passed_over; cells = cells; primary = primary; hidden = hidden }
+
 -- as many cells are primary, however they are seen
 as-many-primary : (cells : List Cell) → length (filter (λ (cell : Cell). is_primary cell.kind) cells) ≡ length (filter (λ (cell : Settled). is_primary cell.kind) (map seen cells))
 as-many-primary [] = refl
@@ -92,16 +120,25 @@ as-many-primary (cell ∷ cells) = elim (is_primary cell.kind) as (λ b. length 
       | false ↦ as-many-primary cells
     ]
 
--- the numbers are those of the settled inputs
-pub numbers-are : (settled : SettledInputs) (job : SettledJob) (book : Held) (certificate : Certificate) (all : List Cell) (hidden : List ℕ) (count primary : ℕ) → IsSettledOf settled job → IsBookOf settled.inputs book
-    → count ≡ length (cells_in book) → all ≡ job.cells → primary ≡ length (filter (λ (cell : Cell). is_primary cell.kind) all) → hidden ≡ certificate.hidden
-    → summary job.records job.skipped job.described.meta.passed_over count primary (length hidden) ≡ summary_of settled certificate
-numbers-are settled job book certificate all hidden count primary is is_book counted same primaries listed =
-    ap (λ (n : ℕ). summary n job.skipped job.described.meta.passed_over count primary (length hidden)) is.records
-    ∙ ap (λ (n : ℕ). summary (length settled.inputs.records.rows) n job.described.meta.passed_over count primary (length hidden)) is.skipped
-    ∙ ap (λ (d : Described). summary (length settled.inputs.records.rows) settled.inputs.records.skipped d.meta.passed_over count primary (length hidden)) is.described
-    ∙ ap (λ (n : ℕ). summary (length settled.inputs.records.rows) settled.inputs.records.skipped settled.inputs.described.meta.passed_over n primary (length hidden))
-    (counted ∙ ap (λ (trees : List Tree). length (cells_of trees book.tables)) is_book.trees ∙ ap (λ (tables : List (List ℕ)). length (cells_of settled.inputs.records.trees tables)) is_book.tables)
-    ∙ ap (λ (n : ℕ). summary (length settled.inputs.records.rows) settled.inputs.records.skipped settled.inputs.described.meta.passed_over (length (cells settled.inputs)) n (length hidden))
+-- the numbers of a job are those of its settled inputs
+pub numbers-are : (settled : SettledInputs) (job : SettledJob) (all : List Cell) (count primary : ℕ) → IsSettledOf settled job
+    → count ≡ length (cells_in job.book) → all ≡ job.cells → primary ≡ length (filter (λ (cell : Cell). is_primary cell.kind) all)
+    → summary job.records job.skipped job.described.meta.passed_over count primary 0 ≡ summary_of settled 0
+numbers-are settled job all count primary is counted same primaries =
+    ap (λ (n : ℕ). summary n job.skipped job.described.meta.passed_over count primary 0) is.records
+    ∙ ap (λ (n : ℕ). summary (length settled.inputs.records.rows) n job.described.meta.passed_over count primary 0) is.skipped
+    ∙ ap (λ (d : Described). summary (length settled.inputs.records.rows) settled.inputs.records.skipped d.meta.passed_over count primary 0) is.described
+    ∙ ap (λ (n : ℕ). summary (length settled.inputs.records.rows) settled.inputs.records.skipped settled.inputs.described.meta.passed_over n primary 0)
+    (counted ∙ ap (λ (trees : List Tree). length (cells_of trees job.book.tables)) is.book.trees ∙ ap (λ (tables : List (List ℕ)). length (cells_of settled.inputs.records.trees tables)) is.book.tables)
+    ∙ ap (λ (n : ℕ). summary (length settled.inputs.records.rows) settled.inputs.records.skipped settled.inputs.described.meta.passed_over (length (cells settled.inputs)) n 0)
     (primaries ∙ ap (λ (cs : List Cell). length (filter (λ (cell : Cell). is_primary cell.kind) cs)) same ∙ as-many-primary job.cells ∙ ap (λ (cs : List Settled). length (filter (λ (cell : Settled). is_primary cell.kind) cs)) is.cells)
-    ∙ ap (λ (numbers : List ℕ). summary (length settled.inputs.records.rows) settled.inputs.records.skipped settled.inputs.described.meta.passed_over (length (cells settled.inputs)) (length (filter (λ (cell : Settled). is_primary cell.kind) settled.cells)) (length numbers)) listed
+
+-- with so many cells hidden they are those with so many
+pub with-hidden : (settled : SettledInputs) (numbers : Summary) (counted hidden : ℕ) → numbers ≡ summary_of settled 0 → counted ≡ hidden → record numbers { hidden = counted } ≡ summary_of settled hidden
+with-hidden settled numbers counted hidden is same = ap (λ (s : Summary). record s { hidden = counted }) is ∙ ap (summary_of settled) same
+
+-- ---- a suppressed release
+
+-- a hidden set that protects makes a suppressed release
+pub suppressed-comes : (settled : SettledInputs) (job : SettledJob) (release : Release) → base_of job.described ≡ None → IsSettledOf settled job → IsSuppressedRelease settled release → Comes settled (Ok release)
+suppressed-comes settled job release hides is_of is = subst (λ (base : Option ℤ). IsReleaseBy base settled release) (sym (same-base settled job is_of ∙ hides)) is

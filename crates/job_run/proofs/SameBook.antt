@@ -69,6 +69,10 @@ same-length f [] (y ∷ ys) h = absurd cc
 same-length f (x ∷ xs) [] h = absurd cc
 same-length f (x ∷ xs) (y ∷ ys) h = let rest : map f xs ≡ map f ys = cc in ap suc (same-length f xs ys rest)
 
+-- it has as many marks
+pub as-many-marks : (old new : Held) → IsSameButHidden old new → length new.marks ≡ length old.marks
+as-many-marks old new same = same-length (λ (one : Mark). one.facts) new.marks old.marks same.facts
+
 -- the book is still that of its inputs
 pub still-book : (inputs : Inputs) (old new : Held) → IsSameButHidden old new → IsBookOf inputs old → IsBookOf inputs new
 still-book inputs old new same is = record {
@@ -79,7 +83,7 @@ still-book inputs old new same is = record {
       let tells = is.told cell name before.0 (ap (λ (names : List Name). slice_get names cell) (sym (same-cells old new same)) ∙ named) before.1 in
       tabulated-trees old.trees new.trees inputs.records.rows (keep_of inputs.described.job.rules.list) inputs.described.bound.scale name mark same.trees
       (tells-same old.trees inputs.records.rows (keep_of inputs.described.job.rules.list) inputs.described.bound.scale name mark before.0 before.2 tells);
-  one_each = same-length (λ (one : Mark). one.facts) new.marks old.marks same.facts ∙ is.one_each ∙ ap (λ (names : List Name). length names) (sym (same-cells old new same));
+  one_each = as-many-marks old new same ∙ is.one_each ∙ ap (λ (names : List Name). length names) (sym (same-cells old new same));
 }
 
 -- and still ready for a job

@@ -2,20 +2,20 @@
 use Rattle.std.proofs.Common.{◌≡◌, ◌≢◌, inl, inr, ℕ, List, Result, Ok, Err, refl, ap, sym}
 use Rattle.office_io.specs.Files.{Files}
 use Rattle.office_io.specs.Trays.{TrayState}
-use Rattle.job_inputs.specs.Settled.{SettledInputs}
 use Rattle.job_inputs.specs.declared.file_ref.FileRef.{FileRef}
-use Rattle.job_run.specs.Outcome.{admitted_of}
-use Rattle.job_run.specs.Protections.{IsReleaseOf}
+use Rattle.job_inputs.specs.Settled.{SettledInputs, settled_of}
+use Rattle.job_inputs.specs.declared.purpose.Purpose.TheVariants as purpose
+use Rattle.job_run.specs.Endings.{IsReleaseOf}
 use Rattle.job_run.specs.Puts.{AllWhole}
 use Rattle.job_run.specs.Released.{Releases}
 use Rattle.job_run.specs.Reports.{Meets, Settles}
 use Rattle.job_run.specs.declared.put.Release.{Release}
-use Rattle.job_run.specs.declared.report.Fault.{Fault}
+use Rattle.job_inputs.specs.declared.faults.Fault.{Fault}
 use Rattle.job_run.specs.declared.report.Report.{Report}
 use Rattle.job_run.specs.declared.report.Report.TheVariants as report
 
 -- a release is what its record says
-pub release-is : (files : Files) (name : List ℕ) (settled : SettledInputs) (release : Release) (old new : TrayState) → admitted_of files name ≡ Ok settled → IsReleaseOf settled release → AllWhole release.puts old new
+pub release-is : (files : Files) (name : List ℕ) (settled : SettledInputs) (release : Release) (old new : TrayState) → settled_of purpose.Release files name ≡ Ok settled → IsReleaseOf settled release → AllWhole release.puts old new
     → Releases files name release.summary old new
 release-is files name settled release old new read is whole = record { settled = settled; release = release; read = read; is_release = is; numbers = refl; put = whole }
 
@@ -23,11 +23,16 @@ release-is files name settled release old new read is whole = record { settled =
 pub settles : (answer : Report) (outcome : Result SettledInputs Fault) → Meets answer outcome → ((f : FileRef) → answer ≢ report.ReadFault f) → ((f : FileRef) → answer ≢ report.WriteFault f) → Settles answer outcome
 settles (report.Released s) (Ok settled) meets no_read no_write = tt
 settles (report.Released s) (Err f) meets no_read no_write = absurd cc
+settles report.Accepted outcome meets no_read no_write = absurd meets
+settles (report.Intervals cells) outcome meets no_read no_write = absurd meets
 settles report.Usage outcome meets no_read no_write = absurd meets
 settles (report.Refused f) (Ok settled) meets no_read no_write = absurd cc
 settles (report.Refused f) (Err g) meets no_read no_write = inl (let same : g ≡ f = cc in ap report.Refused (sym same))
 settles (report.Cannot cell side multipliers) (Ok settled) meets no_read no_write = tt
 settles (report.Cannot cell side multipliers) (Err f) meets no_read no_write = absurd meets
+settles report.NoRounding (Ok settled) meets no_read no_write = tt
+settles report.NoRounding (Err f) meets no_read no_write = absurd meets
+settles (report.NotAccepted why) outcome meets no_read no_write = absurd meets
 settles (report.Undecided why repairs shown) (Ok settled) meets no_read no_write = tt
 settles (report.Undecided why repairs shown) (Err f) meets no_read no_write = absurd meets
 settles (report.ReadFault f) outcome meets no_read no_write = absurd (no_read f refl)

@@ -1,22 +1,36 @@
--- What holds of a job's book and of what is hidden in it, when its texts are written (own).
-use Rattle.std.specs.Prelude.{◌≡◌, length, map}
-use Rattle.sdc_base.specs.Relations.{relations_among}
-use Rattle.sdc_base.specs.declared.hidden.Hidden.{Hidden}
-use Rattle.sdc_base.specs.declared.system.System.{System}
+-- What holds of a settled job before it is released, and of its book when its texts are written (own).
+use Rattle.std.specs.Prelude.{Option, ℤ}
+use Rattle.sdc_base.specs.Records.{Name}
 use Rattle.linked_tables.specs.Held.{Held}
-use Rattle.linked_tables.specs.Shared.{cells}
-use Rattle.relations.specs.Holding.{sum_in}
-use Rattle.job_inputs.specs.Sound.{IsSound}
+use Rattle.release_writer.specs.Shown.{CanBeShown}
+use Rattle.release_writer.specs.declared.shown.Shown.{Shown}
+use Rattle.release_writer.specs.declared.shown.Shown.TheVariants as shown
+use Rattle.job_inputs.specs.Settled.{SettledInputs, IsReadyJob, IsSettledOf}
+use Rattle.job_inputs.specs.Sound.{AreSound, IsSound}
 use Rattle.job_inputs.specs.Tabulated.{IsReadyFor}
 use Rattle.job_inputs.specs.declared.described.Described.{Described}
+use Rattle.job_inputs.specs.declared.inputs.Inputs.{Inputs}
+use Rattle.job_inputs.specs.declared.settled.SettledJob.{SettledJob}
+use Rattle.job_run.specs.Releases.{shown_in, value_in}
 
--- the system has the relations between the cells of the book
-pub record IsSystemOf (book : Held) (system : System) : Type 0 where
-  pub cells : system.cells ≡ length (cells book)
-  pub relations : map sum_in system.relations ≡ relations_among book.trees book.tables
+-- the job is that of settled inputs, and all that was read for these is within its limits
+pub record IsOfInputs (job : SettledJob) : Type 0 where
+  pub settled : SettledInputs
+  pub is_of : IsSettledOf settled job
+  pub sound : AreSound settled.inputs
 
--- the job is within its limits, its book is ready for it, and there is a flag for each of its cells
-pub record IsShownBook (described : Described) (book : Held) (hidden : Hidden) : Type 0 where
+-- the job has what a release wants of it
+pub record CanBeReleased (job : SettledJob) : Type 0 where
+  pub ready : IsReadyJob job
+  pub inputs : IsOfInputs job
+
+-- what every table shows for the cell with this name
+abbrev pub shown_by : Inputs → Shown → Name → Option ℤ
+shown_by inputs (shown.Hidden hidden) name = shown_in inputs hidden.now.flags name
+shown_by inputs (shown.Rounded values) name = value_in inputs values.now name
+
+-- the job is within its limits, its book is ready for it, and what is to be shown of its cells can be
+pub record IsShownBook (described : Described) (book : Held) (shown : Shown) : Type 0 where
   pub sound : IsSound described
   pub ready : IsReadyFor described book
-  pub each : length hidden.flags ≡ length book.marks
+  pub can : CanBeShown book shown

@@ -2,20 +2,21 @@
 use Rattle.std.specs.Prelude.{◌≡◌, ℕ, List, Ok}
 use Rattle.office_io.specs.Files.{Files}
 use Rattle.office_io.specs.Trays.{TrayState}
-use Rattle.job_inputs.specs.Settled.{SettledInputs}
-use Rattle.job_run.specs.Outcome.{admitted_of}
-use Rattle.job_run.specs.Protections.{IsReleaseOf}
+use Rattle.job_inputs.specs.Settled.{SettledInputs, settled_of}
+use Rattle.job_inputs.specs.declared.purpose.Purpose.TheVariants as purpose
+use Rattle.job_run.specs.Endings.{IsReleaseOf}
 use Rattle.job_run.specs.Puts.{AllWhole}
 use Rattle.job_run.specs.declared.put.Release.{Release}
 use Rattle.job_run.specs.declared.report.Summary.{Summary}
 
--- The tray holds a release of the told files: their settled inputs are protected by a hidden set, as its certificate shows, and the
--- folder is as it was, but for this certificate and the tables, in which exactly these cells are hidden and every other shows its
--- truth. Each was put once, and the numbers are those of the release.
+-- The tray holds a release of the told files, and the folder is as it was but for its certificate and its tables. Where the job hides,
+-- a hidden set protects their settled inputs, as the certificate shows; exactly these cells are hidden, and every other shows its
+-- truth. Where it rounds, every cell of every table shows its value of one rounding. Each file was put once, and the numbers are those
+-- of the release.
 pub record Releases (files : Files) (name : List ℕ) (summary : Summary) (old new : TrayState) : Type 0 where
   pub settled : SettledInputs
   pub release : Release
-  pub read : admitted_of files name ≡ Ok settled
+  pub read : settled_of purpose.Release files name ≡ Ok settled
   pub is_release : IsReleaseOf settled release
   pub numbers : summary ≡ release.summary
   pub put : AllWhole release.puts old new

@@ -6,14 +6,16 @@ use Rattle.hierarchy.specs.declared.tree_fault.TreeFault.TheVariants as tree
 use Rattle.office_io.specs.Files.{Files, held_name}
 use Rattle.office_io.specs.Shelves.{ShelfState}
 use Rattle.office_io.specs.Trays.{TrayState}
-use Rattle.job_inputs.specs.Inputs.{limit}
+use Rattle.job_inputs.specs.Inputs.{limit_of}
 use Rattle.job_inputs.specs.Settled.{SettledInputs}
 use Rattle.job_inputs.specs.declared.file_ref.FileRef.{FileRef}
-use Rattle.job_run.specs.Protections.{IsProtectionFor, IsReleaseOf, undecided}
+use Rattle.job_run.specs.Endings.{IsReleaseOf, IsUndecided}
+use Rattle.job_run.specs.Protections.{IsProtectionFor}
 use Rattle.job_run.specs.Puts.{SomeWhole, OneInPart}
+use Rattle.job_run.specs.Roundings.{HasNoRounding}
 use Rattle.job_run.specs.declared.put.Release.{Release}
-use Rattle.job_run.specs.declared.report.Fault.{Fault}
-use Rattle.job_run.specs.declared.report.Fault.TheVariants as fault
+use Rattle.job_inputs.specs.declared.faults.Fault.{Fault}
+use Rattle.job_inputs.specs.declared.faults.Fault.TheVariants as fault
 use Rattle.job_run.specs.declared.report.Summary.{Summary}
 use Rattle.job_run.specs.declared.report.Report.{Report}
 use Rattle.job_run.specs.declared.report.Report.TheVariants as report
@@ -21,13 +23,18 @@ use Rattle.job_run.specs.declared.stop.Stop.{Stop}
 use Rattle.job_run.specs.declared.stop.Stop.TheVariants as stop
 
 -- What the report says of the told files, which come to settled inputs or to a first fault: a refusal names that fault, and what can't
--- be protected or wasn't decided is so of the settled inputs. Want of memory and faults of the shelf say nothing of them.
+-- be protected, has no rounding or wasn't decided is so of the settled inputs. Want of memory and faults of the shelf say nothing of
+-- them.
 abbrev pub Meets : Report → Result SettledInputs Fault → Type 0
 Meets (report.Released summary) outcome = IsOk outcome
+Meets report.Accepted outcome = ⊥
+Meets (report.Intervals cells) outcome = ⊥
 Meets report.Usage outcome = ⊥
 Meets (report.Refused reason) outcome = outcome ≡ Err reason
 Meets (report.Cannot cell side multipliers) outcome = IsOkAnd outcome (λ settled. IsProtectionFor settled (protection.Cannot cell side multipliers))
-Meets (report.Undecided why repairs shown) outcome = IsOkAnd outcome (λ settled. IsProtectionFor settled (undecided why repairs shown))
+Meets report.NoRounding outcome = IsOkAnd outcome HasNoRounding
+Meets (report.NotAccepted why) outcome = ⊥
+Meets (report.Undecided why repairs shown) outcome = IsOkAnd outcome (λ settled. IsUndecided settled why repairs shown)
 Meets (report.ReadFault file) outcome = Unit {0}
 Meets (report.WriteFault file) outcome = IsOk outcome
 Meets report.Memory outcome = Unit {0}
@@ -41,19 +48,22 @@ Leaves other outcome old new = Unit {0}
 
 -- a report after which the tray is as it was, whatever the shelf tells
 abbrev pub LeavesAll : Report → TrayState → TrayState → Type 0
+LeavesAll report.Accepted old new = new ≡ old
 LeavesAll report.Usage old new = new ≡ old
 LeavesAll (report.Refused reason) old new = new ≡ old
 LeavesAll (report.Cannot cell side multipliers) old new = new ≡ old
+LeavesAll report.NoRounding old new = new ≡ old
+LeavesAll (report.NotAccepted why) old new = new ≡ old
 LeavesAll (report.Undecided why repairs shown) old new = new ≡ old
 LeavesAll (report.ReadFault file) old new = new ≡ old
 LeavesAll other old new = Unit {0}
 
 -- Each refusal has its cause, whatever shelf and tray tell: a file that isn't there was counted as an absence, of one that is too
--- long one byte more than the limit was taken, a file that can't be read or written was counted as a fault, and codes are never
+-- long one byte more than its limit was taken, a file that can't be read or written was counted as a fault, and codes are never
 -- refused for want of memory.
 pub record HasCause (answer : Report) (old new : ShelfState) (before after : TrayState) : Type 0 where
   pub absent : (f : FileRef) → answer ≡ report.Refused (fault.Absent f) → Rose old.absences new.absences
-  pub too_long : (f : FileRef) → answer ≡ report.Refused (fault.TooLong f) → new.taken ≡ limit + 1
+  pub too_long : (f : FileRef) → answer ≡ report.Refused (fault.TooLong f) → new.taken ≡ limit_of f + 1
   pub read_fault : (f : FileRef) → answer ≡ report.ReadFault f → Rose old.faults new.faults
   pub write_fault : (f : FileRef) → answer ≡ report.WriteFault f → Rose before.faults after.faults
   pub tree : (f : FileRef) → answer ≢ report.Refused (fault.Tree f tree.Memory)
@@ -62,10 +72,12 @@ pub record HasCause (answer : Report) (old new : ShelfState) (before after : Tra
 abbrev pub HasComeTo : (FileRef → List ℕ → Type 0) → Report → Files → ShelfState → Type 0
 HasComeTo comes answer files new = (f : FileRef) → answer ≡ report.ReadFault f → (held : List ℕ) × comes f held × (new.last ≡ held_name files held)
 
--- what a run that isn't refused ends with: a release, a cell that can't be protected, a question that stopped short, or no memory
+-- what a run that isn't refused ends with: a release, a cell that can't be protected, that there is no rounding, a question or a search
+-- that stopped short, or no memory
 abbrev pub IsEnd : Report → Type 0
 IsEnd (report.Released summary) = Unit {0}
 IsEnd (report.Cannot cell side multipliers) = Unit {0}
+IsEnd report.NoRounding = Unit {0}
 IsEnd (report.Undecided why repairs shown) = Unit {0}
 IsEnd report.Memory = Unit {0}
 IsEnd other = ⊥
@@ -80,6 +92,7 @@ abbrev pub report_of : Result Summary Stop → Report
 report_of (Ok summary) = report.Released summary
 report_of (Err (stop.Refused reason)) = report.Refused reason
 report_of (Err (stop.Cannot cell side multipliers)) = report.Cannot cell side multipliers
+report_of (Err stop.NoRounding) = report.NoRounding
 report_of (Err (stop.Undecided why repairs shown)) = report.Undecided why repairs shown
 report_of (Err (stop.ReadFault file)) = report.ReadFault file
 report_of (Err (stop.WriteFault file)) = report.WriteFault file

@@ -1,15 +1,18 @@
 -- Why a run of a job stopped, and what that says of its settled inputs (own).
-use Rattle.std.specs.Prelude.{ℕ, List, Result, Ok, Err}
+use Rattle.std.specs.Prelude.{ℕ, List, [], Result, Ok, Err}
 use Rattle.cell_protection.specs.declared.protection.Protection.TheVariants as protection
 use Rattle.interval_audit.specs.declared.answer.AskFault.{AskFault}
 use Rattle.interval_audit.specs.declared.answer.AskFault.TheVariants as ask
 use Rattle.repair.specs.declared.stopped.Stopped.{Stopped}
+use Rattle.rounding.specs.declared.fault.RoundFault.{RoundFault}
+use Rattle.rounding.specs.declared.fault.RoundFault.TheVariants as round
 use Rattle.worlds.specs.declared.refuted.Refuted.{Refuted}
 use Rattle.job_inputs.specs.Settled.{SettledInputs}
 use Rattle.job_inputs.specs.declared.stop.InputStop.{InputStop}
 use Rattle.job_inputs.specs.declared.stop.InputStop.TheVariants as input
-use Rattle.job_run.specs.Faults.{fault_of}
-use Rattle.job_run.specs.Protections.{IsProtectionFor, IsReleaseOf, undecided}
+use Rattle.job_run.specs.Endings.{IsReleaseOf, IsUndecided}
+use Rattle.job_run.specs.Protections.{IsProtectionFor}
+use Rattle.job_run.specs.Roundings.{HasNoRounding}
 use Rattle.job_run.specs.declared.put.Release.{Release}
 use Rattle.job_run.specs.declared.puts.PutStop.{PutStop}
 use Rattle.job_run.specs.declared.puts.PutStop.TheVariants as puts
@@ -19,7 +22,7 @@ use Rattle.job_run.specs.declared.stop.Stop.TheVariants as stop
 
 -- what stopped the reading of inputs, as a stop of the run
 abbrev pub inputs_stop : InputStop → Stop
-inputs_stop (input.Refused reason) = stop.Refused (fault_of reason)
+inputs_stop (input.Refused reason) = stop.Refused reason
 inputs_stop (input.ReadFault file) = stop.ReadFault file
 inputs_stop input.Memory = stop.Memory
 
@@ -39,12 +42,19 @@ question_stop ask.Memory repairs shown = stop.Memory
 abbrev pub stopped_stop : Stopped → Stop
 stopped_stop stopped = question_stop stopped.fault stopped.repairs stopped.shown
 
--- settled inputs come to this release, or to this stop of their protection
+-- what stopped a search for a rounding, which repairs nothing and shows no cells again
+abbrev pub search_stop : RoundFault → Stop
+search_stop round.NoRounding = stop.NoRounding
+search_stop (round.Nodes nodes) = stop.Undecided (stuck.Nodes nodes) [] []
+search_stop round.Memory = stop.Memory
+
+-- settled inputs come to this release, or to this stop of their protection or of the search for a rounding
 abbrev pub Comes : SettledInputs → Result Release Stop → Type 0
 Comes settled (Ok release) = IsReleaseOf settled release
 Comes settled (Err (stop.Refused reason)) = ⊥
 Comes settled (Err (stop.Cannot cell side multipliers)) = IsProtectionFor settled (protection.Cannot cell side multipliers)
-Comes settled (Err (stop.Undecided why repairs shown)) = IsProtectionFor settled (undecided why repairs shown)
+Comes settled (Err stop.NoRounding) = HasNoRounding settled
+Comes settled (Err (stop.Undecided why repairs shown)) = IsUndecided settled why repairs shown
 Comes settled (Err (stop.ReadFault file)) = ⊥
 Comes settled (Err (stop.WriteFault file)) = ⊥
 Comes settled (Err stop.Memory) = Unit {0}

@@ -1,17 +1,25 @@
 //! The top call of argus.
 #![tactic(auto)]
 
-mod kinds;
+mod check_run;
+mod check_texts;
+mod commands;
+mod interval_run;
+mod laws;
+mod numbers;
 mod printing;
 mod put;
 mod puts;
 mod release;
 mod release_texts;
 mod report;
+mod reporting;
+mod rounded;
 mod running;
 mod stop;
 
-pub use job_inputs::FileRef;
+pub use job_inputs::{Fault, FileRef};
+pub use laws::rounded_tables_add_up;
 pub use printing::report_text;
-pub use report::{Fault, Report, Stuck, Summary};
+pub use report::{Report, Stuck, Summary};
 pub use running::run;

@@ -2,8 +2,8 @@ ghost use Rattle.std.specs.Prelude.{◌≡◌, ◌++◌, ◌∷◌, [], IfOk, fl
 ghost use Rattle.job_run.specs.ReportText.{status_of, term_text as spec_term, multipliers_text as spec_multipliers, report_line as line_of, report_text as text_of};
 ghost use Rattle.job_run.specs.declared.report.Report.TheVariants as AnyReport;
 
-use crate::kinds::{JobKind, TreeKind, meta_kind, prior_kind, row_kind};
-use crate::report::{Fault, Report, Stuck, Summary};
+use crate::check_texts::CheckKind;
+use crate::report::{Report, Stuck, Summary};
 use interval_audit::Question;
 use sdc_base::{Memory, Side, Text};
 use std::alloc::Global;
@@ -12,17 +12,21 @@ use std::fmt::Display;
 use worlds::Multipliers;
 
 impl Report {
-    /// The status with which the program ends: 0 for a release, 1 for the usage line, 2 for a refusal, 3 for a cell that can't be
-    /// protected, 4 where a question stopped short, 5 and 6 for a fault in reading and in writing, 7 for want of memory. The
-    /// numbers are argus's own.
+    /// The status with which the program ends: 0 for a release, one that is accepted and intervals, 1 for the usage line, 2 for a
+    /// refusal, 3 for a cell that can't be protected, where there is no rounding and for a release that isn't accepted, 4 where a question or the search for a rounding stopped short, 5 and 6 for a
+    /// fault in reading and in writing, 7 for want of memory. The numbers are argus's own.
     pub fn status(&self) -> u8
         ensures { result ≡ status_of self.now }
     {
         match self {
             Report::Released(_) => 0,
+            Report::Accepted => 0,
+            Report::Intervals(_) => 0,
             Report::Usage => 1,
             Report::Refused(_) => 2,
             Report::Cannot { .. } => 3,
+            Report::NoRounding => 3,
+            Report::NotAccepted(_) => 3,
             Report::Undecided { .. } => 4,
             Report::ReadFault(_) => 5,
             Report::WriteFault(_) => 6,
@@ -45,10 +49,17 @@ pub fn report_text(alloc: Global, report: &Report) -> Result<Text, Memory>
             multipliers,
         } => return cannot_text(alloc, *cell, *side, multipliers),
         Report::Released(summary) => format!(in alloc; "released: {summary}\n")?,
+        Report::Accepted => format!(in alloc; "accepted\n")?,
+        Report::Intervals(cells) => format!(in alloc; "intervals: {cells} cells\n")?,
         Report::Usage => format!(in alloc;
             "usage: argus run JOB | check JOB | intervals JOB OUT | demo SEED RECORDS\n"
         )?,
         Report::Refused(fault) => format!(in alloc; "refused: {fault}\n")?,
+        Report::NoRounding => format!(in alloc; "no rounding\n")?,
+        Report::NotAccepted(why) => {
+            let kind = CheckKind { why: *why };
+            format!(in alloc; "not accepted: {kind}\n")?
+        }
         Report::Undecided { stuck, .. } => format!(in alloc; "undecided: {stuck}\n")?,
         Report::ReadFault(file) => format!(in alloc; "read fault: {file}\n")?,
         Report::WriteFault(file) => format!(in alloc; "write fault: {file}\n")?,
@@ -101,47 +112,6 @@ fn term_text(alloc: Global, term: (u32, i128)) -> Result<String, Memory>
     Ok(format!(in alloc; " {relation}:{number}")?)
 }
 
-impl Display for Fault {
-    ghost use Rattle.std.specs.Prelude.{Some};
-    ghost use Rattle.job_run.specs.ReportText.{fault_text};
-
-    ghost output = { λ fault. Some (fault_text fault) };
-
-    fn fmt<W: fmt::Write>(&self, f: &mut fmt::Formatter<W>) -> fmt::Result {
-        match self {
-            Fault::Absent(file) => write!(f, "{file}: Absent"),
-            Fault::TooLong(file) => write!(f, "{file}: TooLong"),
-            Fault::Job { line, why } => {
-                let kind = JobKind { why: *why };
-                write!(f, "job line {line}: {kind}")
-            }
-            Fault::Meta { line, why } => {
-                let kind = meta_kind(*why);
-                write!(f, "metadata line {line}: {kind}")
-            }
-            Fault::Tree(file, fault) => {
-                let at = TreeKind { fault: *fault };
-                write!(f, "{file} line {at}")
-            }
-            Fault::Row { number, why } => {
-                let kind = row_kind(*why);
-                write!(f, "record {number}: {kind}")
-            }
-            Fault::Cells(table) => {
-                let number = u64::from(*table) + 1;
-                write!(f, "table {number}: TooManyCells")
-            }
-            Fault::Prior { table, line, why } => {
-                let number = u64::from(*table) + 1;
-                let kind = prior_kind(*why);
-                write!(f, "apriori table {number} line {line}: {kind}")
-            }
-            Fault::OutName => write!(f, "out: OutName"),
-            Fault::NotBuilt(file) => write!(f, "{file}: NotBuilt"),
-        }
-    }
-}
-
 impl Display for Summary {
     ghost use Rattle.std.specs.Prelude.{Some};
     ghost use Rattle.job_run.specs.ReportText.{summary_text};
@@ -188,6 +158,7 @@ impl Display for Stuck {
                 let word = side.word();
                 write!(f, "size, cell {cell} {word}, {hidden} hidden")
             }
+            Stuck::Nodes(nodes) => write!(f, "nodes, {nodes}"),
         }
     }
 }

@@ -1,64 +1,73 @@
-ghost use Rattle.std.specs.Prelude.{◌≡◌, ◌+◌, ◌<◌, ◌^◌, IfOk, length, filter, bytes_eq};
-ghost use Rattle.std.specs.List.{list_any};
-ghost use Rattle.sdc_base.specs.Kinds as kinds;
-ghost use Rattle.job_inputs.specs.Settled.{IsReadyJob, IsSettledOf, SettledInputs};
-ghost use Rattle.job_run.specs.Outcome as outcome;
+ghost use Rattle.std.specs.Prelude.{◌≡◌, ◌+◌, ◌≤◌, ◌^◌, None, IfOk, length, pos, ◌≤ℤ◌, ◌*ℤ◌};
+ghost use Rattle.job_lang.specs.JobLimits.{IsMethod};
+ghost use Rattle.job_inputs.specs.Settled.{IsSettledOf, SettledInputs};
+ghost use Rattle.job_run.specs.Books.{CanBeReleased};
+ghost use Rattle.job_run.specs.Roundings as roundings;
 ghost use Rattle.job_run.specs.Stops.{Comes};
 
+use crate::numbers::numbers_of;
 use crate::put::Release;
 use crate::release_texts::puts_for;
-use crate::report::{Fault, Summary};
+use crate::rounded::rounded_release;
 use crate::stop::Stop;
 use cell_protection::{Protection, protect_cells};
-use job_inputs::{FileRef, SettledJob};
-use job_lang::{Job, OutputLine};
+use job_inputs::SettledJob;
 use relations::relations_of;
-use sdc_base::{Cell, Method, Text};
+use release_writer::Shown;
+use sdc_base::Method;
 use std::alloc::Global;
 
-/// Refuses a job whose certificate or outputs would take the name of its own file, and then one that wants what isn't built yet.
-pub(crate) fn check_job(name: &Text, job: &Job) -> Result<(), Fault>
-    ensures { result ≡ outcome.job_fault name.now job.now }
-{
-    if job.certificate.equals(name) || is_output(name, job.outputs.as_slice()) {
-        return Err(Fault::OutName);
-    }
-    if !is_hiding(job.method) {
-        return Err(Fault::NotBuilt(FileRef::Job));
-    }
-    Ok(())
-}
-
-// Whether an output has this name.
-fn is_output(name: &Text, outputs: &[OutputLine]) -> bool
-    ensures { result ≡ list_any (λ output. bytes_eq output.file name.now) outputs.now }
-{
-    outputs.iter().any(|output| output.file.equals(name))
-}
-
-// A method that hides cells.
-fn is_hiding(method: Method) -> bool
-    ensures { result ≡ outcome.is_hiding method }
-{
-    match method {
-        Method::Rnd(_) => false,
-        _ => true,
-    }
-}
-
-/// The release of a job's settled cells: they are protected, and the certificate and the tables are made, with the numbers of
-/// the release. Else why there is none: a cell that can't be protected, a question that stopped short, or want of memory.
+/// The release of a job's settled cells, by its method: the cells are protected or rounded, and the certificate and the tables
+/// are made, with the numbers of the release. Else why there is none: a cell that can't be protected, that there is no rounding,
+/// a question or a search that stopped short, or want of memory.
 pub(crate) fn release_for(alloc: Global, job: SettledJob) -> Result<Release, Stop>
-    requires { IsReadyJob job }
+    requires { CanBeReleased job }
     ensures comes { (settled : SettledInputs) → IsSettledOf settled job → Comes settled result }
     ensures some { IfOk result (λ release. length release.puts ≡ 1 + length job.described.job.tables) }
 {
+    match base_of(job.described.job.method, job.described.bound.decimals) {
+        Some(base) => rounded_release(alloc, job, base),
+        None => suppressed_release(alloc, job),
+    }
+}
+
+// The base to which a method rounds, in units of so many decimals; none where it hides.
+fn base_of(method: Method, decimals: u8) -> Option<i128>
+    requires method { IsMethod method }
+    requires decimals { decimals ≤ 13 }
+    ensures { result ≡ roundings.base_in_units method decimals }
+{
+    match method {
+        Method::Rnd(base) => Some(in_units(base, decimals)),
+        Method::Gh(_) => None,
+        Method::Modular => None,
+    }
+}
+
+// A base in units of so many decimals.
+fn in_units(base: i128, decimals: u8) -> i128
+    requires least { pos 1 ≤ℤ base }
+    requires most { base ≤ℤ pos 1000000000 }
+    requires decimals { decimals ≤ 13 }
+    ensures { result ≡ base *ℤ pos (10 ^ decimals) }
+{
+    let unit = 10u64.pow(u32::from(decimals));
+    base * i128::from(unit)
+}
+
+// The release of a job that hides cells.
+fn suppressed_release(alloc: Global, job: SettledJob) -> Result<Release, Stop>
+    requires can { CanBeReleased job }
+    requires hides { roundings.base_of job.described ≡ None }
+    ensures comes { (settled : SettledInputs) → IsSettledOf settled job → Comes settled result }
+    ensures some { IfOk result (λ release. length release.puts ≡ 1 + length job.described.job.tables) }
+{
+    let mut summary = numbers_of(&job);
     let SettledJob {
         described,
         mut book,
         cells,
-        records,
-        skipped,
+        ..
     } = job;
     let system = relations_of(alloc, &book)?;
     let protection = protect_cells(
@@ -75,15 +84,9 @@ pub(crate) fn release_for(alloc: Global, job: SettledJob) -> Result<Release, Sto
             protected,
             certificate,
         } => {
-            let puts = puts_for(alloc, &described, &book, protected.hidden(), &certificate)?;
-            let summary = Summary {
-                records,
-                skipped,
-                passed_over: described.meta.passed_over,
-                cells: book.cells(),
-                primary: primary_in(cells.as_slice()),
-                hidden: certificate.hidden.as_slice().len() as u32,
-            };
+            let shown = Shown::Hidden(protected.hidden());
+            let puts = puts_for(alloc, &described, &book, shown, &certificate)?;
+            summary.hidden = certificate.hidden.as_slice().len() as u32;
             Ok(Release { puts, summary })
         }
         Protection::Cannot {
@@ -97,12 +100,4 @@ pub(crate) fn release_for(alloc: Global, job: SettledJob) -> Result<Release, Sto
         }),
         Protection::Undecided(stopped) => Err(Stop::from(stopped)),
     }
-}
-
-// How many cells are primary.
-fn primary_in(cells: &[Cell]) -> u32
-    requires { length cells.now < 2 ^ 32 }
-    ensures { result ≡ length (filter (λ cell. kinds.is_primary cell.kind) cells.now) }
-{
-    cells.iter().filter(|cell| cell.kind.is_primary()).count() as u32
 }

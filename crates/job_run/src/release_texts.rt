@@ -2,44 +2,39 @@ ghost use Rattle.std.specs.Prelude.{◌≡◌, ◌<◌, ◌+◌, ◌++◌, [], O
 ghost use Rattle.certificate.specs.Spelling.{IsSpellable};
 ghost use Rattle.certificate.specs.Certificates.{certificate_of};
 ghost use Rattle.certificate.specs.Texts.{text_of};
-ghost use Rattle.job_inputs.specs.Sound.{IsSound};
-ghost use Rattle.job_inputs.specs.Tabulated.{IsBookOf, IsReadyFor};
+ghost use Rattle.job_inputs.specs.Tables.{names_of};
+ghost use Rattle.job_inputs.specs.Tabulated.{IsBookOf};
 ghost use Rattle.job_inputs.specs.declared.inputs.Inputs.{Inputs as AnyInputs};
-ghost use Rattle.job_run.specs.Books.{IsShownBook};
+ghost use Rattle.job_run.specs.Books.{IsShownBook, shown_by};
 ghost use Rattle.job_run.specs.Releases as releases;
 
 use crate::put::Put;
 use certificate::{Certificate, write_certificate};
-use job_inputs::{Described, FileRef};
+use job_inputs::{Described, FileRef, header_for};
 use job_lang::{OutputLine, TableLine};
 use linked_tables::Book;
 use release_writer::{Shown, table_bytes};
-use sdc_base::{Hidden, Items, Memory, Text};
+use sdc_base::{Items, Memory};
 use std::alloc::Global;
 
-/// What a release puts: first its certificate, and then the tables in the order of the job, with these cells hidden.
+/// What a release puts: first its certificate, and then the tables in the order of the job, whose cells show this.
 pub(crate) fn puts_for(
     alloc: Global,
     described: &Described,
     book: &Book,
-    hidden: &Hidden,
+    shown: Shown<'_>,
     certificate: &Certificate,
 ) -> Result<Items<Put>, Memory>
-    requires sound { IsSound described.now }
-    requires ready { IsReadyFor described.now book.now }
+    requires shown { IsShownBook described.now book.now shown }
     requires text { IsSpellable certificate.now }
     ensures puts { IfOk result (λ puts. (inputs : AnyInputs) → inputs.described ≡ described.now → IsBookOf inputs book.now
-        → puts ≡ releases.puts_of inputs hidden.now.flags certificate.now) }
+        → puts ≡ releases.puts_of inputs (shown_by inputs shown.entry) certificate.now) }
     ensures each { IfOk result (λ puts. length puts ≡ 1 + length described.now.job.tables) }
     ensures read_back { IfOk result (λ puts. certificate_of (text_of certificate.now) ≡ Ok certificate.now) }
 {
-    // There is a flag for each cell.
-    if hidden.flags.as_slice().len() != book.marks().len() {
-        return Err(Memory);
-    }
     let mut puts = Items::empty(alloc);
     puts.push(certificate_put(alloc, described, certificate)?)?;
-    add_tables(alloc, described, book, hidden, &mut puts)?;
+    add_tables(alloc, described, book, shown, &mut puts)?;
     Ok(puts)
 }
 
@@ -65,17 +60,17 @@ fn add_tables(
     alloc: Global,
     described: &Described,
     book: &Book,
-    hidden: &Hidden,
+    shown: Shown<'_>,
     puts: &mut Items<Put>,
 ) -> Result<(), Memory>
-    requires shown { IsShownBook described.now book.now hidden.now }
+    requires shown { IsShownBook described.now book.now shown }
     ensures puts { OnOk result ((inputs : AnyInputs) → inputs.described ≡ described.now → IsBookOf inputs book.now
-        → puts.new ≡ puts.old ++ releases.tables_from inputs hidden.now.flags 0 described.now.job.tables described.now.job.outputs) }
+        → puts.new ≡ puts.old ++ releases.tables_from inputs (shown_by inputs shown.entry) 0 described.now.job.tables described.now.job.outputs) }
     ensures each { OnOk result (length puts.new ≡ length puts.old + length described.now.job.tables) }
 {
     let outputs = described.job.outputs.as_slice();
     'tables: for (t, line) in described.job.tables.as_slice().iter().enumerate() {
-        let put = table_put(alloc, described, book, hidden, t as u32, line, &outputs[t])?;
+        let put = table_put(alloc, described, book, shown, t as u32, line, &outputs[t])?;
         puts.push(put)?;
     }
     Ok(())
@@ -86,42 +81,23 @@ fn table_put(
     alloc: Global,
     described: &Described,
     book: &Book,
-    hidden: &Hidden,
+    shown: Shown<'_>,
     t: u32,
     line: &TableLine,
     output: &OutputLine,
 ) -> Result<Put, Memory>
-    requires shown { IsShownBook described.now book.now hidden.now }
+    requires shown { IsShownBook described.now book.now shown }
     requires table { t < length book.now.tables }
     requires header { length line.now.variables ≡ length (slice_index_or book.now.tables t []) }
     ensures { IfOk result (λ put. (inputs : AnyInputs) → inputs.described ≡ described.now → IsBookOf inputs book.now
-        → put ≡ record { file = FileRef.Table t; name = output.now.file; bytes = releases.table_of inputs hidden.now.flags t (releases.names_of line.now) }) }
+        → put ≡ record { file = FileRef.Table t; name = output.now.file; bytes = releases.table_of inputs (shown_by inputs shown.entry) t (names_of line.now) }) }
 {
     let header = header_for(alloc, line)?;
     let decimals = described.bound.decimals;
-    let bytes = table_bytes(
-        alloc,
-        book,
-        t,
-        header.as_slice(),
-        decimals,
-        Shown::Hidden(hidden),
-    )?;
+    let bytes = table_bytes(alloc, book, t, header.as_slice(), decimals, shown)?;
     Ok(Put {
         file: FileRef::Table(t),
         name: output.file.copy(alloc)?,
         bytes: Items::new(bytes),
     })
-}
-
-// The names of a table's first line: those of its variables and of the response.
-fn header_for(alloc: Global, line: &TableLine) -> Result<Items<Text>, Memory>
-    ensures { IfOk result (λ header. header ≡ releases.names_of line.now) }
-{
-    let mut header = Items::empty(alloc);
-    'names: for name in line.variables.as_slice() {
-        header.push(name.copy(alloc)?)?;
-    }
-    header.push(line.response.copy(alloc)?)?;
-    Ok(header)
 }

@@ -1,54 +1,8 @@
-use apriori::PriorWhy;
-use hierarchy::TreeFault;
+use cert_check::CheckFault;
 use interval_audit::{Question, Walk, WidePlace};
-use job_inputs::{FileRef, InputFault};
-use job_lang::JobWhy;
-use microdata::RowWhy;
-use rda_meta::MetaWhy;
+use job_inputs::{Fault, FileRef};
 use sdc_base::{Items, Side};
 use worlds::{Multipliers, Refuted};
-
-/// What is wrong with the inputs: the first fault in the order job, metadata, the job's variables in the metadata, for each
-/// spanning variable in the order of the metadata its code list and then its hierarchy, the microdata,
-/// the number of cells, the a priori files by table, primary cells that are to be always shown, an output that has the job's own
-/// name, and what is not built yet.
-#[derive(Clone, Copy, Debug, PartialEq, Eq)]
-pub enum Fault {
-    /// The file isn't there.
-    Absent(FileRef),
-    /// The file has more than 268,435,456 bytes.
-    TooLong(FileRef),
-    /// A line of the job, from 1, or the job as a whole, 0; also where the metadata lack what it names.
-    Job {
-        line: u32,
-        why: JobWhy,
-    },
-    /// A line of the metadata, from 1.
-    Meta {
-        line: u32,
-        why: MetaWhy,
-    },
-    /// A code list or a hierarchy file, with its line or, for a missing code, the code's number, from 1; never want of
-    /// memory.
-    Tree(FileRef, TreeFault),
-    /// A record of the microdata, from 1.
-    Row {
-        number: u64,
-        why: RowWhy,
-    },
-    /// With this table the distinct cells pass 20,000.
-    Cells(u32),
-    /// A line of a table's a priori file, the table from 0 and the line from 1.
-    Prior {
-        table: u32,
-        line: u32,
-        why: PriorWhy,
-    },
-    /// The certificate or an output would take the name of the job's own file.
-    OutName,
-    /// The job wants what isn't built so far.
-    NotBuilt(FileRef),
-}
 
 /// The numbers of a release.
 #[derive(Clone, Copy, Debug, PartialEq, Eq)]
@@ -63,11 +17,11 @@ pub struct Summary {
     pub cells: u32,
     /// Primary cells.
     pub primary: u32,
-    /// Hidden cells, the primary ones with them.
+    /// Hidden cells, the primary ones with them; 0 where the job rounds.
     pub hidden: u32,
 }
 
-/// Why a question stopped short of an answer.
+/// Why a question, or the search for a rounding, stopped short of an answer.
 #[derive(Drop)]
 pub enum Stuck {
     /// Its walk made as many improvements as the job allows, and goes on from there.
@@ -76,6 +30,9 @@ pub enum Stuck {
     Wide(Walk, WidePlace),
     /// The component of its cell has too many hidden cells.
     Size { question: Question, hidden: u32 },
+    /// The search for a rounding has so many lists of choices or more, which are as many as the job allows, and none of the first
+    /// so many is a rounding.
+    Nodes(u64),
 }
 
 /// What a run of the words comes to.
@@ -83,19 +40,28 @@ pub enum Stuck {
 pub enum Report {
     /// The certificate and the tables were put.
     Released(Summary),
+    /// The certificate and the tables that stand under the job's names are a release of it.
+    Accepted,
+    /// The intervals of so many hidden cells were put.
+    Intervals(u32),
     /// The words are none of the forms that are built.
     Usage,
     /// The inputs have this fault, and nothing was put.
     Refused(Fault),
-    /// No hidden set protects this cell to this side, the first such pair: the multipliers refute it with all cells hidden that may
-    /// be. Cells are numbered from 0. Nothing was put.
+    /// The job hides cells, and no hidden set protects this cell to this side, the first such pair: the multipliers refute it with
+    /// all cells hidden that may be. Cells are numbered from 0. Nothing was put.
     Cannot {
         cell: u32,
         side: Side,
         multipliers: Multipliers,
     },
+    /// The job rounds, and no numbers at all are a rounding of its truths to its base. Nothing was put.
+    NoRounding,
+    /// The certificate and the tables that stand under the job's names have this fault; for intervals, the tables do. Never want of
+    /// memory. Nothing was put.
+    NotAccepted(CheckFault),
     /// A question stopped short, after these repairs and with these cells shown again, ascending, of which the last was being
-    /// tried. Nothing was put.
+    /// tried; or the search for a rounding did, and both lists are empty. Nothing was put.
     Undecided {
         stuck: Stuck,
         repairs: Items<Refuted>,
@@ -107,24 +73,4 @@ pub enum Report {
     WriteFault(FileRef),
     /// There was no memory: some of the files may have been put whole.
     Memory,
-}
-
-impl From<InputFault> for Fault {
-    ghost use Rattle.std.specs.Prelude.{◌≡◌};
-    ghost use Rattle.job_run.specs.Faults.{fault_of};
-
-    ghost from_gives = { λ fault e. e ≡ fault_of fault };
-
-    fn from(fault: InputFault) -> Self {
-        match fault {
-            InputFault::Absent(file) => Fault::Absent(file),
-            InputFault::TooLong(file) => Fault::TooLong(file),
-            InputFault::Job { line, why } => Fault::Job { line, why },
-            InputFault::Meta { line, why } => Fault::Meta { line, why },
-            InputFault::Tree(file, fault) => Fault::Tree(file, fault),
-            InputFault::Row { number, why } => Fault::Row { number, why },
-            InputFault::Cells(table) => Fault::Cells(table),
-            InputFault::Prior { table, line, why } => Fault::Prior { table, line, why },
-        }
-    }
 }

@@ -1,9 +1,14 @@
+ghost use Rattle.std.specs.Prelude.{◌≡◌};
+ghost use Rattle.job_run.specs.Stops.{search_stop as stop_of};
+
 use crate::puts::PutStop;
-use crate::report::{Fault, Stuck};
+use crate::report::Stuck;
 use interval_audit::AskFault;
-use job_inputs::{FileRef, InputStop};
+use job_inputs::{Fault, FileRef, InputStop};
 use repair::Stopped;
+use rounding::RoundFault;
 use sdc_base::{Items, Memory, Side};
+use std::alloc::Global;
 use worlds::{Multipliers, Refuted};
 
 /// Why a run of a job stopped before its end.
@@ -15,6 +20,7 @@ pub(crate) enum Stop {
         side: Side,
         multipliers: Multipliers,
     },
+    NoRounding,
     Undecided {
         stuck: Stuck,
         repairs: Items<Refuted>,
@@ -55,7 +61,7 @@ impl From<InputStop> for Stop {
 
     fn from(stop: InputStop) -> Self {
         match stop {
-            InputStop::Refused(fault) => Stop::Refused(Fault::from(fault)),
+            InputStop::Refused(fault) => Stop::Refused(fault),
             InputStop::ReadFault(file) => Stop::ReadFault(file),
             InputStop::Memory => Stop::Memory,
         }
@@ -99,5 +105,20 @@ impl From<PutStop> for Stop {
             PutStop::WriteFault(file) => Stop::WriteFault(file),
             PutStop::Memory => Stop::Memory,
         }
+    }
+}
+
+/// What stops a run where the search for a rounding gave none: it has made no repairs and shown no cells again.
+pub(crate) fn search_stop(alloc: Global, fault: RoundFault) -> Stop
+    ensures { result ≡ stop_of fault }
+{
+    match fault {
+        RoundFault::NoRounding => Stop::NoRounding,
+        RoundFault::Nodes(nodes) => Stop::Undecided {
+            stuck: Stuck::Nodes(nodes),
+            repairs: Items::empty(alloc),
+            shown: Items::empty(alloc),
+        },
+        RoundFault::Memory => Stop::Memory,
     }
 }

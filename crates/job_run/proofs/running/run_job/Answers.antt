@@ -1,13 +1,12 @@
 use Rattle.std.proofs.Common.{◌≡◌, ◌<◌, ◌+◌, arith, IsErrOf, Err, List, length, ap, refl, subst, sym, ◌∙◌}
 use Rattle.std.proofs.lemmas.Result.{err_from_is_err_and}
 use Rattle.job_inputs.specs.Settled.{IsSettledOf, settled_of}
-use Rattle.job_inputs.specs.declared.described.Described.{Described}
+use Rattle.job_inputs.specs.declared.purpose.Purpose.TheVariants as purpose
 use Rattle.job_inputs.specs.declared.file_ref.FileRef.{FileRef}
-use Rattle.job_run.specs.Outcome.{job_fault}
 use Rattle.job_run.specs.Puts.{AllWhole, OneInPart, SomeWhole}
 use Rattle.job_run.specs.declared.put.Put.{Put}
 use Rattle.job_run.specs.declared.puts.PutStop.TheVariants as stop
-use Rattle.job_run.proofs.Outcomes.{admitted, refused, ok-and, inputs-meet, inputs-leave, inputs-leave-all, inputs-cause, inputs-come, job-cause, stop-meets, stop-leaves, stop-leaves-all, stop-cause, stop-come, puts-meet, puts-leave, puts-leave-all, puts-cause, puts-come, released-cause}
+use Rattle.job_run.proofs.Outcomes.{ok-and, inputs-meet, inputs-leave, inputs-leave-all, inputs-cause, inputs-come, stop-meets, stop-leaves, stop-leaves-all, stop-cause, stop-come, puts-meet, puts-leave, puts-leave-all, puts-cause, puts-come, released-cause}
 use Rattle.job_run.proofs.Settling.{release-is}
 use Rattle.job_run.proofs.running.run_job.Goals as goal
 
@@ -41,36 +40,12 @@ returns-in_err-settled-clause-came_to g c =
     let p = err_from_is_err_and c.from_residual.result c.from_residual.ensures.1 in
     rw (p.1, p.2) (inputs-come c.in_err-settled.field-0.0 _ fs (g.S.Shelf.state c.read_settled.new.shelf) (c.in_err-settled.ensures.came_to fs told))
 
--- ---- what is wrong with the job
+-- ---- the release
 
-pub returns-in_err-check_job-clause-told : goal.returns-in_err-check_job-clause-told
-returns-in_err-check_job-clause-told g c =
-    λ fs told.
-    let p = err_from_is_err_and c.from_residual-in_err-check_job.result c.from_residual-in_err-check_job.ensures.1 in
-    let read = ok-and (λ s. IsSettledOf s c.in_ok-settled.settled) (settled_of fs c.args.name.now) (c.in_ok-settled.ensures.told fs told) in
-    rw (p.1, p.2) (refused fs c.args.name.now read.0 c.in_err-check_job.field-0.0 read.1 (c.in_err-check_job.ensures ∙ ap (λ (d : Described). job_fault c.args.name.now d.job) read.2.described))
-
-pub returns-in_err-check_job-clause-left : goal.returns-in_err-check_job-clause-left
-returns-in_err-check_job-clause-left g c =
-    λ fs told.
-    let p = err_from_is_err_and c.from_residual-in_err-check_job.result c.from_residual-in_err-check_job.ensures.1 in
-    rw (p.1, p.2) tt
-
-pub returns-in_err-check_job-clause-untouched : goal.returns-in_err-check_job-clause-untouched
-returns-in_err-check_job-clause-untouched g c =
-    let p = err_from_is_err_and c.from_residual-in_err-check_job.result c.from_residual-in_err-check_job.ensures.1 in
-    rw (p.1, p.2) refl
-
-pub returns-in_err-check_job-clause-cause : goal.returns-in_err-check_job-clause-cause
-returns-in_err-check_job-clause-cause g c =
-    let p = err_from_is_err_and c.from_residual-in_err-check_job.result c.from_residual-in_err-check_job.ensures.1 in
-    rw (p.1, p.2) (job-cause c.args.name.now c.in_ok-settled.settled.described.job c.in_err-check_job.field-0.0 _ _ _ c.in_err-check_job.ensures)
-
-pub returns-in_err-check_job-clause-came_to : goal.returns-in_err-check_job-clause-came_to
-returns-in_err-check_job-clause-came_to g c =
-    λ fs told.
-    let p = err_from_is_err_and c.from_residual-in_err-check_job.result c.from_residual-in_err-check_job.ensures.1 in
-    rw (p.1, p.2) (λ f is. absurd cc)
+pub release_for-requires : goal.release_for-requires
+release_for-requires g c =
+    let some = c.in_ok-settled.ensures.settled in
+    record { ready = c.in_ok-settled.ensures.ready; inputs = record { settled = some.0; is_of = some.1; sound = some.2 } }
 
 -- ---- what stopped the release
 
@@ -78,9 +53,9 @@ pub returns-in_err-release-clause-told : goal.returns-in_err-release-clause-told
 returns-in_err-release-clause-told g c =
     λ fs told.
     let p = err_from_is_err_and c.from_residual-in_err-release.result c.from_residual-in_err-release.ensures.1 in
-    let read = ok-and (λ s. IsSettledOf s c.in_ok-settled.settled) (settled_of fs c.args.name.now) (c.in_ok-settled.ensures.told fs told) in
+    let read = ok-and (λ s. IsSettledOf s c.in_ok-settled.settled) (settled_of purpose.Release fs c.args.name.now) (c.in_ok-settled.ensures.told fs told) in
     rw (p.1, p.2) (stop-meets c.in_err-release.field-0.0 fs c.args.name.now read.0
-    (admitted fs c.args.name.now read.0 read.1 (c.in_ok-check_job.ensures ∙ ap (λ (d : Described). job_fault c.args.name.now d.job) read.2.described)) (c.in_err-release.ensures.comes read.0 read.2))
+    read.1 (c.in_err-release.ensures.comes read.0 read.2))
 
 pub returns-in_err-release-clause-left : goal.returns-in_err-release-clause-left
 returns-in_err-release-clause-left g c =
@@ -118,16 +93,16 @@ pub returns-in_err-put_files-clause-told : goal.returns-in_err-put_files-clause-
 returns-in_err-put_files-clause-told g c =
     λ fs told.
     let p = err_from_is_err_and c.from_residual-in_err-put_files.result c.from_residual-in_err-put_files.ensures.1 in
-    let read = ok-and (λ s. IsSettledOf s c.in_ok-settled.settled) (settled_of fs c.args.name.now) (c.in_ok-settled.ensures.told fs told) in
-    rw (p.1, p.2) (puts-meet c.in_err-put_files.field-0.0 _ read.0 (admitted fs c.args.name.now read.0 read.1 (c.in_ok-check_job.ensures ∙ ap (λ (d : Described). job_fault c.args.name.now d.job) read.2.described)))
+    let read = ok-and (λ s. IsSettledOf s c.in_ok-settled.settled) (settled_of purpose.Release fs c.args.name.now) (c.in_ok-settled.ensures.told fs told) in
+    rw (p.1, p.2) (puts-meet c.in_err-put_files.field-0.0 _ read.0 read.1)
 
 pub returns-in_err-put_files-clause-left : goal.returns-in_err-put_files-clause-left
 returns-in_err-put_files-clause-left g c =
     λ fs told.
     let p = err_from_is_err_and c.from_residual-in_err-put_files.result c.from_residual-in_err-put_files.ensures.1 in
-    let read = ok-and (λ s. IsSettledOf s c.in_ok-settled.settled) (settled_of fs c.args.name.now) (c.in_ok-settled.ensures.told fs told) in
+    let read = ok-and (λ s. IsSettledOf s c.in_ok-settled.settled) (settled_of purpose.Release fs c.args.name.now) (c.in_ok-settled.ensures.told fs told) in
     rw (p.1, p.2)
-    (puts-leave c.in_err-put_files.field-0.0 _ read.0 c.in_ok-release.release _ _ (admitted fs c.args.name.now read.0 read.1 (c.in_ok-check_job.ensures ∙ ap (λ (d : Described). job_fault c.args.name.now d.job) read.2.described))
+    (puts-leave c.in_err-put_files.field-0.0 _ read.0 c.in_ok-release.release _ _ read.1
     (c.in_ok-release.ensures.comes read.0 read.2)
     (subst (λ (puts : List Put). (f : FileRef) → IsErrOf {T = Unit {0}} (Err c.in_err-put_files.field-0.0) (stop.WriteFault f) → OneInPart puts f (g.T.Tray.state c.args.tray.now) (g.T.Tray.state c.put_files.new.tray)) c.as_slice.ensures c.in_err-put_files.ensures.part)
     (subst (λ (puts : List Put). IsErrOf {T = Unit {0}} (Err c.in_err-put_files.field-0.0) stop.Memory → SomeWhole puts (g.T.Tray.state c.args.tray.now) (g.T.Tray.state c.put_files.new.tray)) c.as_slice.ensures c.in_err-put_files.ensures.memory))
@@ -153,8 +128,8 @@ returns-in_err-put_files-clause-came_to g c =
 pub returns-clause-told : goal.returns-clause-told
 returns-clause-told g c =
     λ fs told.
-    let read = ok-and (λ s. IsSettledOf s c.in_ok-settled.settled) (settled_of fs c.args.name.now) (c.in_ok-settled.ensures.told fs told) in
-    rw (admitted fs c.args.name.now read.0 read.1 (c.in_ok-check_job.ensures ∙ ap (λ (d : Described). job_fault c.args.name.now d.job) read.2.described)) refl
+    let read = ok-and (λ s. IsSettledOf s c.in_ok-settled.settled) (settled_of purpose.Release fs c.args.name.now) (c.in_ok-settled.ensures.told fs told) in
+    rw read.1 refl
 
 pub returns-clause-left : goal.returns-clause-left
 returns-clause-left g c = λ fs told. tt
@@ -174,9 +149,9 @@ returns-clause-some g c =
 pub returns-clause-released : goal.returns-clause-released
 returns-clause-released g c =
     λ fs told.
-    let read = ok-and (λ s. IsSettledOf s c.in_ok-settled.settled) (settled_of fs c.args.name.now) (c.in_ok-settled.ensures.told fs told) in
+    let read = ok-and (λ s. IsSettledOf s c.in_ok-settled.settled) (settled_of purpose.Release fs c.args.name.now) (c.in_ok-settled.ensures.told fs told) in
     let whole = subst (λ (puts : List Put). AllWhole puts (g.T.Tray.state c.args.tray.now) (g.T.Tray.state c.put_files.new.tray)) c.as_slice.ensures c.in_ok-put_files.ensures.whole in
-    release-is fs c.args.name.now read.0 c.in_ok-release.release _ _ (admitted fs c.args.name.now read.0 read.1 (c.in_ok-check_job.ensures ∙ ap (λ (d : Described). job_fault c.args.name.now d.job) read.2.described))
+    release-is fs c.args.name.now read.0 c.in_ok-release.release _ _ read.1
     (c.in_ok-release.ensures.comes read.0 read.2) whole
 
 pub returns-clause-cause : goal.returns-clause-cause

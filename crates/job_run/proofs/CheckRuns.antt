@@ -1,0 +1,79 @@
+-- A check of a release, from how it went on.
+use Rattle.std.proofs.Common.{◌≡◌, ◌≢◌, inl, inr, ℕ, List, Result, Ok, Err, IsOkAnd, refl, ap, sym}
+use Rattle.sdc_base.specs.Answers.{Fails}
+use Rattle.sdc_base.specs.Told.{WhereTold}
+use Rattle.cert_check.specs.declared.faults.CheckFault.{CheckFault}
+use Rattle.office_io.specs.Files.{Files}
+use Rattle.office_io.specs.Shelves.{ShelfState}
+use Rattle.office_io.specs.Trays.{TrayState}
+use Rattle.job_check.specs.Answers.{Comes}
+use Rattle.job_check.specs.Reading.{ComesTo}
+use Rattle.job_check.specs.Released.{Released, released_of}
+use Rattle.job_check.specs.declared.stop.CheckStop.{CheckStop}
+use Rattle.job_check.specs.declared.stop.CheckStop.TheVariants as check
+use Rattle.job_inputs.specs.Reading.{stopped_for, HasCause as HasInputCause, HasComeTo as HasInputComeTo}
+use Rattle.job_inputs.specs.declared.faults.Fault.{Fault}
+use Rattle.job_inputs.specs.declared.file_ref.FileRef.{FileRef}
+use Rattle.job_inputs.specs.declared.stop.InputStop.{InputStop}
+use Rattle.job_inputs.specs.declared.stop.InputStop.TheVariants as input
+use Rattle.job_run.specs.Checks.{MeetsCheck, SettlesCheck, IsCheckOf}
+use Rattle.job_run.specs.Reports.{report_of, HasCause, HasComeTo}
+use Rattle.job_run.specs.Stops.{inputs_stop}
+use Rattle.job_run.specs.declared.report.Report.{Report}
+use Rattle.job_run.specs.declared.report.Report.TheVariants as report
+use Rattle.job_run.proofs.Outcomes.{inputs-cause, inputs-come}
+
+-- the report of a check that went on so
+abbrev pub check_report : Result (Unit {0}) CheckStop → Report
+check_report (Ok fine) = report.Accepted
+check_report (Err (check.Inputs why)) = report_of (Err (inputs_stop why))
+check_report (Err (check.NotAccepted why)) = report.NotAccepted why
+
+inputs-meet-check : (e : InputStop) (outcome : Result Released Fault) → Fails (stopped_for e) outcome → MeetsCheck (report_of (Err (inputs_stop e))) outcome
+inputs-meet-check (input.Refused f) outcome h = h
+inputs-meet-check (input.ReadFault f) outcome h = tt
+inputs-meet-check input.Memory outcome h = tt
+
+meets : (r : Result (Unit {0}) CheckStop) (outcome : Result Released Fault) → Comes outcome r → MeetsCheck (check_report r) outcome
+meets (Ok fine) outcome h = h
+meets (Err (check.Inputs why)) outcome h = inputs-meet-check why outcome h
+meets (Err (check.NotAccepted why)) outcome h = h
+
+settles-check : (answer : Report) (outcome : Result Released Fault) → MeetsCheck answer outcome → ((f : FileRef) → answer ≢ report.ReadFault f) → SettlesCheck answer outcome
+settles-check report.Accepted (Ok released) h no_read = tt
+settles-check report.Accepted (Err f) h no_read = absurd h
+settles-check (report.NotAccepted why) (Ok released) h no_read = tt
+settles-check (report.NotAccepted why) (Err f) h no_read = absurd h
+settles-check (report.Refused f) (Ok released) h no_read = absurd cc
+settles-check (report.Refused f) (Err g) h no_read = inl (let same : g ≡ f = cc in ap report.Refused (sym same))
+settles-check (report.ReadFault f) outcome h no_read = absurd (no_read f refl)
+settles-check report.Memory (Ok released) h no_read = tt
+settles-check report.Memory (Err f) h no_read = inr refl
+settles-check (report.Released s) outcome h no_read = absurd h
+settles-check (report.Intervals n) outcome h no_read = absurd h
+settles-check report.Usage outcome h no_read = absurd h
+settles-check (report.Cannot cell side multipliers) outcome h no_read = absurd h
+settles-check report.NoRounding outcome h no_read = absurd h
+settles-check (report.Undecided why repairs shown) outcome h no_read = absurd h
+settles-check (report.WriteFault f) outcome h no_read = absurd h
+
+pub check-cause : (r : Result (Unit {0}) CheckStop) (old new : ShelfState) (tray : TrayState) → ((e : InputStop) → r ≡ Err (check.Inputs e) → HasInputCause {X = Unit {0}} (Err e) old new) → HasCause (check_report r) old new tray tray
+check-cause (Ok fine) old new tray cause = record { absent = λ f is. absurd cc; too_long = λ f is. absurd cc; read_fault = λ f is. absurd cc; write_fault = λ f is. absurd cc; tree = λ f is. absurd cc }
+check-cause (Err (check.Inputs why)) old new tray cause = inputs-cause why old new tray (cause why refl)
+check-cause (Err (check.NotAccepted why)) old new tray cause = record { absent = λ f is. absurd cc; too_long = λ f is. absurd cc; read_fault = λ f is. absurd cc; write_fault = λ f is. absurd cc; tree = λ f is. absurd cc }
+
+check-come : (r : Result (Unit {0}) CheckStop) (comes : FileRef → List ℕ → Type 0) (files : Files) (new : ShelfState) → ((e : InputStop) → r ≡ Err (check.Inputs e) → HasInputComeTo {X = Unit {0}} comes (Err e) files new) → HasComeTo comes (check_report r) files new
+check-come (Ok fine) comes files new come = λ f is. absurd cc
+check-come (Err (check.Inputs why)) comes files new come = inputs-come why comes files new (come why refl)
+check-come (Err (check.NotAccepted why)) comes files new come = λ f is. absurd cc
+
+-- what holds of how it went on holds of the check
+pub check-run : (name : List ℕ) (r : Result (Unit {0}) CheckStop) (old new : ShelfState) (tray : TrayState) → WhereTold old.files (λ fs. Comes (released_of fs name) r)
+    → WhereTold old.files (λ fs. (e : InputStop) → r ≡ Err (check.Inputs e) → HasInputComeTo {X = Unit {0}} (ComesTo fs name) (Err e) fs new)
+    → ((e : InputStop) → r ≡ Err (check.Inputs e) → HasInputCause {X = Unit {0}} (Err e) old new) → IsCheckOf name (check_report r) old new tray tray
+check-run name r old new tray told come cause = record {
+  told = λ fs held. meets r (released_of fs name) (told fs held);
+  complete = λ fs held no_read. settles-check (check_report r) (released_of fs name) (meets r (released_of fs name) (told fs held)) (λ f is. no_read ((check-cause r old new tray cause).read_fault f is));
+  came_to = λ fs held. check-come r (ComesTo fs name) fs new (come fs held);
+  untouched = refl;
+}

@@ -1,0 +1,231 @@
+-- A run for intervals, from how it went on.
+use Rattle.std.proofs.Common.{◌≡◌, ◌≢◌, inl, inr, ℕ, List, Result, Ok, Err, IsOk, IsOkAnd, refl, ap, sym, subst}
+use Rattle.sdc_base.specs.Answers.{Fails}
+use Rattle.sdc_base.specs.Counts.{Rose}
+use Rattle.sdc_base.specs.Told.{WhereTold}
+use Rattle.cert_check.specs.declared.faults.CheckFault.{CheckFault}
+use Rattle.interval_audit.specs.declared.answer.AskFault.{AskFault}
+use Rattle.interval_audit.specs.declared.answer.AskFault.TheVariants as ask
+use Rattle.office_io.specs.Files.{Files}
+use Rattle.office_io.specs.Shelves.{ShelfState}
+use Rattle.office_io.specs.Trays.{TrayState, HasPut, HasPutInPart}
+use Rattle.job_inputs.specs.Reading.{stopped_for, HasCause as HasInputCause, HasComeTo as HasInputComeTo}
+use Rattle.job_inputs.specs.declared.faults.Fault.{Fault}
+use Rattle.job_inputs.specs.declared.file_ref.FileRef.{FileRef}
+use Rattle.job_inputs.specs.declared.file_ref.FileRef.TheVariants as file
+use Rattle.job_inputs.specs.declared.stop.InputStop.{InputStop}
+use Rattle.job_inputs.specs.declared.stop.InputStop.TheVariants as input
+use Rattle.job_intervals.specs.Finding.{Comes, IsFileOf, IsUndecidedFor}
+use Rattle.job_intervals.specs.Shelved.{ShelvedTables, shelved_of, ComesTo}
+use Rattle.job_intervals.specs.Stops.{HasCause as HasFindingCause, HasComeTo as HasFindingComeTo}
+use Rattle.job_intervals.specs.declared.interval_file.IntervalFile.{IntervalFile}
+use Rattle.job_intervals.specs.declared.stop.IntervalStop.{IntervalStop}
+use Rattle.job_intervals.specs.declared.stop.IntervalStop.TheVariants as stop
+use Rattle.job_run.specs.IntervalRuns.{question_report, IsReportedSo, MeetsIntervals, IsIntervalPut, IsIntervalPart, IntervalsLeave, SettlesIntervals, IsIntervalRunOf}
+use Rattle.job_run.specs.Reports.{report_of, HasCause, HasComeTo, LeavesAll}
+use Rattle.job_run.specs.Stops.{inputs_stop}
+use Rattle.job_run.specs.declared.report.Report.{Report}
+use Rattle.job_run.specs.declared.report.Report.TheVariants as report
+use Rattle.job_run.proofs.Outcomes.{inputs-cause, inputs-come, inputs-leave-all}
+
+-- the report of intervals that weren't found
+abbrev pub stop_report : IntervalStop → Report
+stop_report (stop.Inputs why) = report_of (Err (inputs_stop why))
+stop_report (stop.NotAccepted why) = report.NotAccepted why
+stop_report (stop.Undecided why) = question_report why
+
+-- ---- no intervals were found
+
+inputs-meet : (e : InputStop) (outcome : Result ShelvedTables Fault) → Fails (stopped_for e) outcome → MeetsIntervals (report_of (Err (inputs_stop e))) outcome
+inputs-meet (input.Refused f) outcome h = h
+inputs-meet (input.ReadFault f) outcome h = tt
+inputs-meet input.Memory outcome h = tt
+
+reported : (shelved : ShelvedTables) (why : AskFault) → IsUndecidedFor shelved why → IsReportedSo shelved (question_report why)
+reported shelved why h = record { fault = why; is_report = refl; is_so = h }
+
+question-meets : (why : AskFault) (outcome : Result ShelvedTables Fault) → IsOkAnd outcome (λ one. IsUndecidedFor one why) → MeetsIntervals (question_report why) outcome
+question-meets (ask.Work walk) (Ok shelved) h = reported shelved (ask.Work walk) h
+question-meets (ask.Wide walk place) (Ok shelved) h = reported shelved (ask.Wide walk place) h
+question-meets (ask.Size question hidden) (Ok shelved) h = reported shelved (ask.Size question hidden) h
+question-meets ask.Memory (Ok shelved) h = tt
+question-meets why (Err f) h = absurd h
+
+stop-meets : (e : IntervalStop) (outcome : Result ShelvedTables Fault) → Comes outcome (Err e) → MeetsIntervals (stop_report e) outcome
+stop-meets (stop.Inputs why) outcome h = inputs-meet why outcome h
+stop-meets (stop.NotAccepted why) outcome h = h
+stop-meets (stop.Undecided why) outcome h = question-meets why outcome h
+
+inputs-leave : (e : InputStop) (outcome : Result ShelvedTables Fault) (out : List ℕ) (tray : TrayState) → IntervalsLeave (report_of (Err (inputs_stop e))) outcome out tray tray
+inputs-leave (input.Refused f) outcome out tray = refl
+inputs-leave (input.ReadFault f) outcome out tray = refl
+inputs-leave input.Memory outcome out tray = refl
+
+question-leaves : (why : AskFault) (outcome : Result ShelvedTables Fault) (out : List ℕ) (tray : TrayState) → IntervalsLeave (question_report why) outcome out tray tray
+question-leaves (ask.Work walk) outcome out tray = refl
+question-leaves (ask.Wide walk place) outcome out tray = refl
+question-leaves (ask.Size question hidden) outcome out tray = refl
+question-leaves ask.Memory outcome out tray = refl
+
+stop-leaves : (e : IntervalStop) (outcome : Result ShelvedTables Fault) (out : List ℕ) (tray : TrayState) → IntervalsLeave (stop_report e) outcome out tray tray
+stop-leaves (stop.Inputs why) outcome out tray = inputs-leave why outcome out tray
+stop-leaves (stop.NotAccepted why) outcome out tray = refl
+stop-leaves (stop.Undecided why) outcome out tray = question-leaves why outcome out tray
+
+question-leaves-all : (why : AskFault) (tray : TrayState) → LeavesAll (question_report why) tray tray
+question-leaves-all (ask.Work walk) tray = refl
+question-leaves-all (ask.Wide walk place) tray = refl
+question-leaves-all (ask.Size question hidden) tray = refl
+question-leaves-all ask.Memory tray = tt
+
+pub stop-leaves-all : (e : IntervalStop) (tray : TrayState) → LeavesAll (stop_report e) tray tray
+stop-leaves-all (stop.Inputs why) tray = inputs-leave-all why tray
+stop-leaves-all (stop.NotAccepted why) tray = refl
+stop-leaves-all (stop.Undecided why) tray = question-leaves-all why tray
+
+question-cause : (why : AskFault) (old new : ShelfState) (tray : TrayState) → HasCause (question_report why) old new tray tray
+question-cause (ask.Work walk) old new tray = record { absent = λ f is. absurd cc; too_long = λ f is. absurd cc; read_fault = λ f is. absurd cc; write_fault = λ f is. absurd cc; tree = λ f is. absurd cc }
+question-cause (ask.Wide walk place) old new tray = record { absent = λ f is. absurd cc; too_long = λ f is. absurd cc; read_fault = λ f is. absurd cc; write_fault = λ f is. absurd cc; tree = λ f is. absurd cc }
+question-cause (ask.Size question hidden) old new tray = record { absent = λ f is. absurd cc; too_long = λ f is. absurd cc; read_fault = λ f is. absurd cc; write_fault = λ f is. absurd cc; tree = λ f is. absurd cc }
+question-cause ask.Memory old new tray = record { absent = λ f is. absurd cc; too_long = λ f is. absurd cc; read_fault = λ f is. absurd cc; write_fault = λ f is. absurd cc; tree = λ f is. absurd cc }
+
+pub stop-cause : (e : IntervalStop) (old new : ShelfState) (tray : TrayState) → HasFindingCause (Err e) old new → HasCause (stop_report e) old new tray tray
+stop-cause (stop.Inputs why) old new tray cause = inputs-cause why old new tray (cause why refl)
+stop-cause (stop.NotAccepted why) old new tray cause = record { absent = λ f is. absurd cc; too_long = λ f is. absurd cc; read_fault = λ f is. absurd cc; write_fault = λ f is. absurd cc; tree = λ f is. absurd cc }
+stop-cause (stop.Undecided why) old new tray cause = question-cause why old new tray
+
+question-comes : (why : AskFault) (comes : FileRef → List ℕ → Type 0) (files : Files) (new : ShelfState) → HasComeTo comes (question_report why) files new
+question-comes (ask.Work walk) comes files new = λ f is. absurd cc
+question-comes (ask.Wide walk place) comes files new = λ f is. absurd cc
+question-comes (ask.Size question hidden) comes files new = λ f is. absurd cc
+question-comes ask.Memory comes files new = λ f is. absurd cc
+
+stop-comes : (e : IntervalStop) (comes : FileRef → List ℕ → Type 0) (files : Files) (new : ShelfState) → HasFindingComeTo comes (Err e) files new → HasComeTo comes (stop_report e) files new
+stop-comes (stop.Inputs why) comes files new come = inputs-come why comes files new (come why refl)
+stop-comes (stop.NotAccepted why) comes files new come = λ f is. absurd cc
+stop-comes (stop.Undecided why) comes files new come = question-comes why comes files new
+
+inputs-put-none : (e : InputStop) (n : ℕ) → report_of (Err (inputs_stop e)) ≢ report.Intervals n
+inputs-put-none (input.Refused f) n is = absurd cc
+inputs-put-none (input.ReadFault f) n is = absurd cc
+inputs-put-none input.Memory n is = absurd cc
+
+question-puts-none : (why : AskFault) (n : ℕ) → question_report why ≢ report.Intervals n
+question-puts-none (ask.Work walk) n is = absurd cc
+question-puts-none (ask.Wide walk place) n is = absurd cc
+question-puts-none (ask.Size question hidden) n is = absurd cc
+question-puts-none ask.Memory n is = absurd cc
+
+stop-puts-none : (e : IntervalStop) (n : ℕ) → stop_report e ≢ report.Intervals n
+stop-puts-none (stop.Inputs why) n is = inputs-put-none why n is
+stop-puts-none (stop.NotAccepted why) n is = absurd cc
+stop-puts-none (stop.Undecided why) n is = question-puts-none why n is
+
+inputs-no-usage : (e : InputStop) → report_of (Err (inputs_stop e)) ≢ report.Usage
+inputs-no-usage (input.Refused f) is = absurd cc
+inputs-no-usage (input.ReadFault f) is = absurd cc
+inputs-no-usage input.Memory is = absurd cc
+
+question-no-usage : (why : AskFault) → question_report why ≢ report.Usage
+question-no-usage (ask.Work walk) is = absurd cc
+question-no-usage (ask.Wide walk place) is = absurd cc
+question-no-usage (ask.Size question hidden) is = absurd cc
+question-no-usage ask.Memory is = absurd cc
+
+pub stop-no-usage : (e : IntervalStop) → stop_report e ≢ report.Usage
+stop-no-usage (stop.Inputs why) is = inputs-no-usage why is
+stop-no-usage (stop.NotAccepted why) is = absurd cc
+stop-no-usage (stop.Undecided why) is = question-no-usage why is
+
+-- ---- the answer settles what the files come to
+
+settles : (answer : Report) (outcome : Result ShelvedTables Fault) → MeetsIntervals answer outcome → ((f : FileRef) → answer ≢ report.ReadFault f) → ((f : FileRef) → answer ≢ report.WriteFault f) → SettlesIntervals answer outcome
+settles (report.Intervals n) (Ok shelved) h no_read no_write = tt
+settles (report.Intervals n) (Err f) h no_read no_write = absurd cc
+settles (report.NotAccepted why) (Ok shelved) h no_read no_write = tt
+settles (report.NotAccepted why) (Err f) h no_read no_write = absurd h
+settles (report.Undecided why repairs shown) (Ok shelved) h no_read no_write = tt
+settles (report.Undecided why repairs shown) (Err f) h no_read no_write = absurd h
+settles (report.Refused f) (Ok shelved) h no_read no_write = absurd cc
+settles (report.Refused f) (Err g) h no_read no_write = inl (let same : g ≡ f = cc in ap report.Refused (sym same))
+settles (report.ReadFault f) outcome h no_read no_write = absurd (no_read f refl)
+settles (report.WriteFault f) outcome h no_read no_write = absurd (no_write f refl)
+settles report.Memory (Ok shelved) h no_read no_write = tt
+settles report.Memory (Err f) h no_read no_write = inr refl
+settles report.Accepted outcome h no_read no_write = absurd h
+settles (report.Released s) outcome h no_read no_write = absurd h
+settles report.Usage outcome h no_read no_write = absurd h
+settles (report.Cannot cell side multipliers) outcome h no_read no_write = absurd h
+settles report.NoRounding outcome h no_read no_write = absurd h
+
+-- what holds of how it went on holds of a run that finds no intervals
+pub stopped-run : (name out : List ℕ) (e : IntervalStop) (old new : ShelfState) (tray : TrayState) → WhereTold old.files (λ fs. Comes (shelved_of fs name out) (Err e))
+    → WhereTold old.files (λ fs. HasFindingComeTo (ComesTo fs name out) (Err e) fs new) → HasFindingCause (Err e) old new → IsIntervalRunOf name out (stop_report e) old new tray tray
+stopped-run name out e old new tray told come cause = record {
+  told = λ fs held. stop-meets e (shelved_of fs name out) (told fs held);
+  left = λ fs held. stop-leaves e (shelved_of fs name out) out tray;
+  complete = λ fs held no_read no_write.
+      settles (stop_report e) (shelved_of fs name out) (stop-meets e (shelved_of fs name out) (told fs held)) (λ f is. no_read ((stop-cause e old new tray cause).read_fault f is)) (λ f is. no_write ((stop-cause e old new tray cause).write_fault f is));
+  came_to = λ fs held. stop-comes e (ComesTo fs name out) fs new (come fs held);
+  one_put = λ n is. absurd (stop-puts-none e n is);
+}
+
+-- the same of a run that went on so, and reports it
+pub stopped-run-of : (name out : List ℕ) (r : Result IntervalFile IntervalStop) (e : IntervalStop) (answer : Report) (old new : ShelfState) (tray : TrayState) → r ≡ Err e → answer ≡ stop_report e → WhereTold old.files (λ fs. Comes (shelved_of fs name out) r)
+    → WhereTold old.files (λ fs. HasFindingComeTo (ComesTo fs name out) r fs new) → HasFindingCause r old new → IsIntervalRunOf name out answer old new tray tray
+stopped-run-of name out r e answer old new tray is same told come cause =
+    subst (λ (a : Report). IsIntervalRunOf name out a old new tray tray) (sym same)
+    (stopped-run name out e old new tray (λ fs held. subst (λ (o : Result IntervalFile IntervalStop). Comes (shelved_of fs name out) o) is (told fs held))
+    (λ fs held. subst (λ (o : Result IntervalFile IntervalStop). HasFindingComeTo (ComesTo fs name out) o fs new) is (come fs held)) (subst (λ (o : Result IntervalFile IntervalStop). HasFindingCause o old new) is cause))
+
+pub stopped-cause-of : (r : Result IntervalFile IntervalStop) (e : IntervalStop) (answer : Report) (old new : ShelfState) (tray : TrayState) → r ≡ Err e → answer ≡ stop_report e → HasFindingCause r old new → HasCause answer old new tray tray
+stopped-cause-of r e answer old new tray is same cause =
+    subst (λ (a : Report). HasCause a old new tray tray) (sym same) (stop-cause e old new tray (subst (λ (o : Result IntervalFile IntervalStop). HasFindingCause o old new) is cause))
+
+-- ---- intervals were found
+
+ok-is : (outcome : Result ShelvedTables Fault) (P : ShelvedTables → Type 0) → IsOkAnd outcome P → IsOk outcome
+ok-is (Ok shelved) P h = refl
+ok-is (Err f) P h = absurd h
+
+put-leaves : (outcome : Result ShelvedTables Fault) (intervals : IntervalFile) (out : List ℕ) (before after : TrayState) → IsOkAnd outcome (λ one. IsFileOf one intervals) → HasPut out intervals.bytes before after
+    → IsOkAnd outcome (λ shelved. IsIntervalPut shelved out intervals.cells before after)
+put-leaves (Ok shelved) intervals out before after h whole = record { intervals = intervals; is_file = h; number = refl; put = whole }
+put-leaves (Err f) intervals out before after h whole = absurd h
+
+part-leaves : (outcome : Result ShelvedTables Fault) (intervals : IntervalFile) (out : List ℕ) (before after : TrayState) → IsOkAnd outcome (λ one. IsFileOf one intervals) → HasPutInPart out intervals.bytes before after
+    → IsOkAnd outcome (λ shelved. IsIntervalPart shelved out before after)
+part-leaves (Ok shelved) intervals out before after h part = record { intervals = intervals; is_file = h; put = part }
+part-leaves (Err f) intervals out before after h part = absurd h
+
+-- the file of the intervals was put
+pub put-run : (name out : List ℕ) (intervals : IntervalFile) (old new : ShelfState) (before after : TrayState) → WhereTold old.files (λ fs. Comes (shelved_of fs name out) (Ok intervals)) → HasPut out intervals.bytes before after
+    → IsIntervalRunOf name out (report.Intervals intervals.cells) old new before after
+put-run name out intervals old new before after told whole = record {
+  told = λ fs held. ok-is (shelved_of fs name out) _ (told fs held);
+  left = λ fs held. put-leaves (shelved_of fs name out) intervals out before after (told fs held) whole;
+  complete = λ fs held no_read no_write. settles (report.Intervals intervals.cells) (shelved_of fs name out) (ok-is (shelved_of fs name out) _ (told fs held)) (λ f is. absurd cc) (λ f is. absurd cc);
+  came_to = λ fs held f is. absurd cc;
+  one_put = λ n is. (intervals.bytes, whole);
+}
+
+-- it was put in part
+pub part-run : (name out : List ℕ) (intervals : IntervalFile) (old new : ShelfState) (before after : TrayState) → WhereTold old.files (λ fs. Comes (shelved_of fs name out) (Ok intervals)) → HasPutInPart out intervals.bytes before after
+    → IsIntervalRunOf name out (report.WriteFault file.Out) old new before after
+part-run name out intervals old new before after told part = record {
+  told = λ fs held. ok-is (shelved_of fs name out) _ (told fs held);
+  left = λ fs held. (refl, part-leaves (shelved_of fs name out) intervals out before after (told fs held) part);
+  complete = λ fs held no_read no_write. absurd (no_write part.failed);
+  came_to = λ fs held f is. absurd cc;
+  one_put = λ n is. absurd cc;
+}
+
+-- there was no memory for the put
+pub no-memory-run : (name out : List ℕ) (old new : ShelfState) (tray : TrayState) → IsIntervalRunOf name out report.Memory old new tray tray
+no-memory-run name out old new tray = record {
+  told = λ fs held. tt;
+  left = λ fs held. refl;
+  complete = λ fs held no_read no_write. settles report.Memory (shelved_of fs name out) tt (λ f is. absurd cc) (λ f is. absurd cc);
+  came_to = λ fs held f is. absurd cc;
+  one_put = λ n is. absurd cc;
+}

@@ -1,5 +1,0 @@
-use Rattle.std.proofs.Common.{◌≡◌, take}
-use Rattle.job_run.proofs.release_texts.header_for.Given as goal
-
-abbrev pub invariant-names : goal.invariant-names
-invariant-names l = l.header ≡ take l.name-index l.fn.line.variables

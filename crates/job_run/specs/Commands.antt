@@ -1,0 +1,27 @@
+-- What words ask for (own).
+use Rattle.std.specs.Prelude.{◌≡◌, ℕ, List, [], ◌∷◌, if◌then◌else◌, Option, None, Some, codes}
+use Rattle.std.specs.Str.{bytes_eq}
+
+-- the name of a job, where the words are this verb and a name of one byte or more
+abbrev pub job_behind : List ℕ → List (List ℕ) → Option (List ℕ)
+job_behind verb (word ∷ (b ∷ name) ∷ []) = if bytes_eq word verb then Some (b ∷ name) else None
+job_behind verb words = None
+
+-- `run JOB`
+abbrev pub run_job : List (List ℕ) → Option (List ℕ)
+run_job words = job_behind (codes "run") words
+
+-- `check JOB`
+abbrev pub check_job : List (List ℕ) → Option (List ℕ)
+check_job words = job_behind (codes "check") words
+
+-- `intervals JOB OUT`: the name of the job, and the name under which the intervals are put
+abbrev pub interval_names : List (List ℕ) → Option (List ℕ × List ℕ)
+interval_names (word ∷ (b ∷ name) ∷ (d ∷ out) ∷ []) = if bytes_eq word (codes "intervals") then Some (b ∷ name, d ∷ out) else None
+interval_names words = None
+
+-- the words are none of these
+pub record AreUsage (words : List (List ℕ)) : Type 0 where
+  pub no_run : run_job words ≡ None
+  pub no_check : check_job words ≡ None
+  pub no_intervals : interval_names words ≡ None

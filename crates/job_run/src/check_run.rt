@@ -1,0 +1,30 @@
+ghost use Rattle.std.specs.Prelude.{◌≢◌};
+ghost use Rattle.job_run.specs.Checks.{IsCheckOf};
+ghost use Rattle.job_run.specs.Reports.{HasCause, LeavesAll};
+
+use crate::report::Report;
+use crate::reporting::report;
+use crate::stop::Stop;
+use job_check::{CheckStop, check_release};
+use office_io::{Shelf, Tray};
+use sdc_base::Text;
+use std::alloc::Global;
+
+/// Checks the release of a job; the tray is named for what is said of it alone.
+pub(crate) fn check_job<S: Shelf, T: Tray>(
+    alloc: Global,
+    name: &Text,
+    shelf: &mut S,
+    tray: &mut T,
+) -> Report
+    ensures check { IsCheckOf name.now result (S.state shelf.old) (S.state shelf.new) (T.state tray.old) (T.state tray.new) }
+    ensures untouched { LeavesAll result (T.state tray.old) (T.state tray.new) }
+    ensures cause { HasCause result (S.state shelf.old) (S.state shelf.new) (T.state tray.old) (T.state tray.new) }
+    ensures no_usage { result ≢ Report.Usage }
+{
+    match check_release(alloc, shelf, name) {
+        Ok(()) => Report::Accepted,
+        Err(CheckStop::Inputs(stop)) => report(Err(Stop::from(stop))),
+        Err(CheckStop::NotAccepted(why)) => Report::NotAccepted(why),
+    }
+}

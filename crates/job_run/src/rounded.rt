@@ -1,0 +1,73 @@
+ghost use Rattle.std.specs.Prelude.{◌≡◌, ◌+◌, Some, IfOk, length, map};
+ghost use Rattle.certificate.specs.Laws.{without_hidden_cells};
+ghost use Rattle.job_inputs.specs.Settled.{IsSettledOf, SettledInputs};
+ghost use Rattle.job_run.specs.Books.{CanBeReleased};
+ghost use Rattle.job_run.specs.Roundings as roundings;
+ghost use Rattle.job_run.specs.Stops.{Comes};
+
+use crate::numbers::numbers_of;
+use crate::put::Release;
+use crate::release_texts::puts_for;
+use crate::stop::{Stop, search_stop};
+use certificate::Certificate;
+use job_inputs::SettledJob;
+use relations::relations_of;
+use release_writer::Shown;
+use rounding::round;
+use sdc_base::{Cell, Items, Memory, Method, System};
+use std::alloc::Global;
+
+/// The release of a job that rounds to this base, in units: the cells show a rounding of their truths, and none is hidden.
+pub(crate) fn rounded_release(alloc: Global, job: SettledJob, base: i128) -> Result<Release, Stop>
+    requires can { CanBeReleased job }
+    requires rounds { roundings.base_of job.described ≡ Some base }
+    ensures comes { (settled : SettledInputs) → IsSettledOf settled job → Comes settled result }
+    ensures some { IfOk result (λ release. length release.puts ≡ 1 + length job.described.job.tables) }
+{
+    let summary = numbers_of(&job);
+    let SettledJob {
+        described,
+        book,
+        cells,
+        ..
+    } = job;
+    let system = relations_of(alloc, &book)?;
+    let truths = truths_of(alloc, cells.as_slice())?;
+    let nodes = described.job.nodes;
+    let rounding = match round(alloc, &system, truths.as_slice(), base, nodes) {
+        Ok(rounding) => rounding,
+        Err(fault) => return Err(search_stop(alloc, fault)),
+    };
+    let values = rounding.values();
+    let shown = Shown::Rounded(values);
+    let certificate = empty_certificate(alloc, described.job.method, &system);
+    let puts = puts_for(alloc, &described, &book, shown, &certificate)?;
+    Ok(Release { puts, summary })
+}
+
+// The truth of each cell.
+fn truths_of(alloc: Global, cells: &[Cell]) -> Result<Items<i128>, Memory>
+    ensures { IfOk result (λ truths. truths ≡ map (λ cell. cell.truth) cells.now) }
+{
+    let mut truths = Items::empty(alloc);
+    'cells: for cell in cells {
+        truths.push(cell.truth)?;
+    }
+    Ok(truths)
+}
+
+// The certificate of a release that hides no cell.
+fn empty_certificate(alloc: Global, method: Method, system: &System) -> Certificate
+    ensures { result ≡ without_hidden_cells method system.now.cells (length system.now.relations) }
+{
+    Certificate {
+        method,
+        cells: system.cells,
+        relations: system.relations.as_slice().len() as u32,
+        hidden: Items::empty(alloc),
+        steps: Items::empty(alloc),
+        repairs: Items::empty(alloc),
+        needs: Items::empty(alloc),
+        worlds: Items::empty(alloc),
+    }
+}
