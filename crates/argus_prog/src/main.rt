@@ -8,6 +8,10 @@ mod folder_tray;
 #[cfg(test)]
 mod protected_tests;
 #[cfg(test)]
+mod reading_tests;
+#[cfg(test)]
+mod rounded_tests;
+#[cfg(test)]
 mod test_folder;
 #[cfg(test)]
 mod tests;

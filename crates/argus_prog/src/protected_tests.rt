@@ -3,11 +3,11 @@ use std::rt::HostRuntime;
 use std::test::Fail;
 
 // A job of a two-way table, with an a priori file.
-const TWO_WAY: &str =
+pub(crate) const TWO_WAY: &str =
     "<OPENMICRODATA> \"m.asc\"\n<OPENMETADATA> \"m.rda\"\n<SPECIFYTABLE> \"A\"\"B\"|\"V\"\n<SAFETYRULE> FREQ(3,30)\n<APRIORI> \"p.hst\",1,\",\"\n<SUPPRESS> MOD()\n<WRITETABLE> (1,\"t.csv\")\n<CERTIFICATE> \"t.cert\"\n";
 
 // All margins are always shown.
-const MARGINS: &str = "Total,Total,p\nTotal,b1,p\nTotal,b2,p\na1,Total,p\na2,Total,p\n";
+pub(crate) const MARGINS: &str = "Total,Total,p\nTotal,b1,p\nTotal,b2,p\na1,Total,p\na2,Total,p\n";
 
 const BOUNDED: &str = "a1,b2,b,48,52\n";
 
@@ -125,5 +125,29 @@ fn shown_total(rt: HostRuntime) -> Result<(), Fail> {
     let want = "3 cannot protect cell 1 above\nmultipliers 1 0:1\n";
     let got = ran_alone(rt.alloc(), &files, WHOLE, 0)?;
     assert_eq!(rt; got.as_str(), want);
+    Ok(())
+}
+
+// Two thousand codes of one record each: the component of the first has too many hidden cells for a question.
+#[test]
+fn too_many_hidden_cells(rt: HostRuntime) -> Result<(), Fail> {
+    let alloc = rt.alloc();
+    let job = TWO_WAY.replace(alloc, "\"A\"\"B\"", "\"A\"")?;
+    let mut records = String::new(alloc);
+    for code in 1000_u32..3000 {
+        let line = format!(in alloc; "{code} 10\n")?;
+        records.push_str(line.as_str())?;
+    }
+    let files = [
+        ("r.job", job.as_str()),
+        ("m.rda", "A 1 4\n<RECODEABLE>\nV 5 3\n<NUMERIC>\n"),
+        ("m.asc", records.as_str()),
+        ("p.hst", ""),
+    ];
+    let got = ran_alone(alloc, &files, WHOLE, 0)?;
+    assert_eq!(rt;
+        got.as_str(),
+        "4 undecided: size, cell 1 above, 2000 hidden\n"
+    );
     Ok(())
 }

@@ -18,7 +18,7 @@ const JOB: &str =
 
 pub(crate) const METADATA: &str = "A 1 1\n<RECODEABLE>\nV 2 3\n<NUMERIC>\n";
 
-const SEVEN: &str = "a 10\na 20\na 30\nb 20\nb 20\nb 20\nb 30\n";
+pub(crate) const SEVEN: &str = "a 10\na 20\na 30\nb 20\nb 20\nb 20\nb 30\n";
 
 // What is said of the seven records, and then the certificate and the table.
 const RELEASED: &str =
@@ -83,10 +83,10 @@ fn said(alloc: Global, report: &Report) -> Result<String, Memory> {
     Ok(format!(in alloc; "{status} {line}")?)
 }
 
-// The bytes that the tray holds for the certificate and the two tables.
+// The bytes that the tray holds for the certificate, the two tables and the intervals.
 fn held(alloc: Global, tray: &MemoryTray) -> Result<String, Memory> {
     let mut held = String::new(alloc);
-    for name in ["t.cert", "t.csv", "u.csv"] {
+    for name in ["t.cert", "t.csv", "u.csv", "out.csv"] {
         let name = text(alloc, name)?;
         let bytes = tray.file(&name).unwrap_or(b"");
         held.push_str(str::from_utf8(bytes).unwrap_or("no text"))?;
@@ -95,7 +95,7 @@ fn held(alloc: Global, tray: &MemoryTray) -> Result<String, Memory> {
 }
 
 // What a run of these words says, and then what the tray holds.
-fn ran(
+pub(crate) fn ran(
     alloc: Global,
     words: &[&str],
     files: &[(&str, &str)],
@@ -381,8 +381,6 @@ fn refusals(rt: HostRuntime) -> Result<(), Fail> {
         (plain, method, LISTED, "Nr   1\n", "record 1: NotLeaf"),
         (plain, method, LISTED, "4    1\n", "record 1: UnknownCode"),
         (plain, "RND(5)", METADATA, "a\n", "record 1: Short"),
-        (plain, "RND(5)", METADATA, SEVEN, "job: NotBuilt"),
-        ("P(40)", "RND(5)", METADATA, SEVEN, "job: NotBuilt"),
     ];
     for (rules, method, metadata, microdata, want) in rows {
         let job = changed(rt.alloc(), plain, rules)?;
@@ -456,7 +454,7 @@ fn refusals_of_other_jobs(rt: HostRuntime) -> Result<(), Fail> {
 }
 
 // By the job's method, what the office states of the cells of thirteen records: the first fault, or that no cell is primary any
-// more.
+// more, or that one is and is rounded.
 #[test]
 fn statements(rt: HostRuntime) -> Result<(), Fail> {
     let alloc = rt.alloc();
@@ -465,9 +463,12 @@ fn statements(rt: HostRuntime) -> Result<(), Fail> {
     let released = format!(in alloc;
         "0 released: 13 records, 0 skipped, 0 passed over, 15 cells, 0 primary, 0 hidden\nargus certificate 1\nmethod MOD\ncells 15\nrelations 11\nend\n{BY_B_AND_BY_C}"
     )?;
+    let shown_anyway = format!(in alloc;
+        "0 released: 13 records, 0 skipped, 0 passed over, 15 cells, 1 primary, 0 hidden\nargus certificate 1\nmethod RND 5\ncells 15\nrelations 11\nend\n{BY_B_AND_BY_C}"
+    )?;
     let (plain, rounded) = ("MOD()", "RND(5)");
     let rows = [
-        (rounded, margins, "2 refused: job: NotBuilt\n"),
+        (rounded, margins, shown_anyway.as_str()),
         (plain, "a1,b1,s\n", &released),
         (plain, "\n a1 , b1 , S \r\na1,b1,s", &released),
         (
@@ -664,8 +665,8 @@ fn words(rt: HostRuntime) -> Result<(), Fail> {
         (&["Run", "r.job"], USAGE),
         (&["run ", "r.job"], USAGE),
         (&["r.job", "run"], USAGE),
-        (&["check", "r.job"], USAGE),
-        (&["intervals", "r.job", "t.int"], USAGE),
+        (&["check", "r.job", "t.csv"], USAGE),
+        (&["intervals", "r.job"], USAGE),
         (&["demo", "1", "100"], USAGE),
         (&["run", "r"], "2 refused: job: Absent\n"),
         (&["run", "r.job"], RELEASED),
@@ -773,6 +774,15 @@ fn reports(rt: HostRuntime) -> Result<(), Fail> {
         (
             Report::WriteFault(FileRef::Table(4_294_967_295)),
             "6 write fault: table 4294967296\n",
+        ),
+        (Report::NoRounding, "3 no rounding\n"),
+        (
+            Report::Undecided {
+                stuck: Stuck::Nodes(1_000_000_000_000),
+                repairs: Items::empty(rt.alloc()),
+                shown: Items::empty(rt.alloc()),
+            },
+            "4 undecided: nodes, 1000000000000\n",
         ),
         (Report::Memory, "7 memory\n"),
     ];
