@@ -18,7 +18,8 @@ use Rattle.sdc_base.proofs.TotalLemmas.{sum_below-same}
 use Rattle.sdc_base.proofs.WholeNumbers.{times_up, minus_times}
 use Rattle.rounding.specs.Neighbours.{neighbour}
 use Rattle.rounding.specs.Choices.{by_choices}
-use Rattle.rounding.specs.Extremes.{count_of, extreme_numbers, extreme, change}
+use Rattle.sdc_base.specs.Forms.{count_of}
+use Rattle.rounding.specs.Extremes.{extreme_numbers, extreme, change}
 use Rattle.rounding.specs.Tasks.{IsProper}
 use Rattle.rounding.specs.Fixes.{Fix, with_fix, by_fixes, FixedCells, number_left, IsFree, IsWithin, NoneWithin, can_hold, Untouched, Counts, IsForced, HoldFrom, HoldOf}
 use Rattle.rounding.specs.Namings.{IsNaming}

@@ -4,12 +4,12 @@ use Rattle.std.proofs.lemmas.Int.{ints, by_lt_z}
 use Rattle.std.proofs.lemmas.Bool.Decides.{Decides-eqb}
 use Rattle.sdc_base.specs.declared.relation.Relation.{Relation}
 use Rattle.sdc_base.specs.Totals.{sum_below}
-use Rattle.sdc_base.specs.Forms.{form_times}
+use Rattle.sdc_base.specs.Forms.{form_times, count_of}
 use Rattle.sdc_base.specs.Systems.{Numbers, form, NamesCells}
 use Rattle.sdc_base.proofs.WholeNumbers.{distrib, times_up, times_down}
 use Rattle.sdc_base.proofs.TotalLemmas.{sum_below-add, sum_below-le, sum_below-same, only}
 use Rattle.sdc_base.proofs.WeakDual.{value_of-form_times, by_cells, terms_inside}
-use Rattle.rounding.specs.Extremes.{count_of, extreme_numbers, extreme, change, ExtremesAreBounds}
+use Rattle.rounding.specs.Extremes.{extreme_numbers, extreme, change, ExtremesAreBounds}
 
 -- what a cell adds to a form
 abbrev added : Relation → Numbers → Numbers

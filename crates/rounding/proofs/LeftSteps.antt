@@ -12,7 +12,8 @@ use Rattle.sdc_base.specs.Systems.{NamesCells}
 use Rattle.sdc_base.specs.Roundings.{number_at}
 use Rattle.rounding.specs.Neighbours.{is_multiple, neighbour}
 use Rattle.rounding.specs.Choices.{Choices, unrounded_cells, by_choices}
-use Rattle.rounding.specs.Extremes.{count_of, extreme_numbers, extreme, spans_none, is_open}
+use Rattle.sdc_base.specs.Forms.{count_of}
+use Rattle.rounding.specs.Extremes.{extreme_numbers, extreme, spans_none, is_open}
 use Rattle.rounding.specs.Searches.{Rounds, NoneExtends, unrounded_count}
 use Rattle.rounding.specs.Tasks.{IsProper}
 use Rattle.rounding.specs.Fixes.{Fix, with_fix, by_fixes, FixedCells, number_left, allows, IsWithin, NoneWithin, AllCanHold, IsForced, IsTaken}

@@ -8,7 +8,7 @@ use Rattle.std.proofs.lemmas.Bool.Decides.{Decides-eqb, nat_tests}
 use Rattle.std.proofs.lemmas.Option.{same_Some, slice_get_within}
 use Rattle.sdc_base.specs.declared.relation.Relation.{Relation}
 use Rattle.sdc_base.specs.declared.system.System.{System}
-use Rattle.rounding.specs.Extremes.{count_of}
+use Rattle.sdc_base.specs.Forms.{count_of}
 use Rattle.rounding.specs.Namings.{Lacks, Ascends, IsNamingOf, IsNaming, AreNoted, IsNotedMore, IsNotedWhole}
 use Rattle.rounding.proofs.Counting.{counted_other}
 use Rattle.rounding.proofs.SumSteps.{get_or_any}

@@ -10,7 +10,8 @@ use Rattle.sdc_base.specs.declared.relation.Relation.{Relation}
 use Rattle.sdc_base.specs.Systems.{Numbers, form, HoldOn}
 use Rattle.sdc_base.specs.Roundings.{number_at}
 use Rattle.rounding.specs.Choices.{Choices, by_choices}
-use Rattle.rounding.specs.Extremes.{count_of, extreme_numbers, extreme}
+use Rattle.sdc_base.specs.Forms.{count_of}
+use Rattle.rounding.specs.Extremes.{extreme_numbers, extreme}
 use Rattle.rounding.specs.Tasks.{IsTruth}
 use Rattle.rounding.specs.Sums.{IsNear, AreExtremes, AreSmall}
 use Rattle.rounding.proofs.Nearness.{form_near}

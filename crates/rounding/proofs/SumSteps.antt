@@ -13,7 +13,8 @@ use Rattle.sdc_base.specs.declared.relation.Relation.{Relation}
 use Rattle.sdc_base.specs.Systems.{Numbers, NamesCells}
 use Rattle.sdc_base.proofs.WholeNumbers.{times_up, times_down}
 use Rattle.sdc_base.specs.Roundings.{number_at}
-use Rattle.rounding.specs.Extremes.{count_of, extreme, change}
+use Rattle.sdc_base.specs.Forms.{count_of}
+use Rattle.rounding.specs.Extremes.{extreme, change}
 use Rattle.rounding.specs.Sums.{AreExtremes}
 use Rattle.rounding.specs.Namings.{Lacks, IsNamingOf}
 use Rattle.rounding.proofs.FormLemmas.{Changed, extreme_changed}

@@ -3,14 +3,10 @@ use Rattle.std.specs.Prelude.{◌≡◌, ◌⊎◌, ◌≤ℤ◌, ℕ, ◌&&◌,
 use Rattle.std.specs.List.{list_all}
 use Rattle.sdc_base.specs.declared.relation.Relation.{Relation}
 use Rattle.sdc_base.specs.declared.system.System.{System}
-use Rattle.sdc_base.specs.Forms.{form_times, coefficient}
+use Rattle.sdc_base.specs.Forms.{count_of}
 use Rattle.sdc_base.specs.Systems.{Numbers, NamesCells, form}
 use Rattle.sdc_base.specs.Roundings.{number_at}
 use Rattle.rounding.specs.Choices.{Choices, by_choices}
-
--- how often a relation's form counts a cell: the total once, less once for each time that it is a part
-abbrev pub count_of : Relation → Numbers
-count_of r = coefficient (form_times (pos 1) r)
 
 -- the first numbers for the cells that the form counts above 0 times, the other numbers for the rest
 abbrev pub extreme_numbers : Relation → Numbers → Numbers → Numbers

@@ -6,7 +6,8 @@ use Rattle.sdc_base.specs.Systems.{NamesCells}
 use Rattle.sdc_base.specs.Roundings.{number_at, IsRounding}
 use Rattle.rounding.specs.Neighbours.{is_multiple, neighbour}
 use Rattle.rounding.specs.Choices.{by_choices}
-use Rattle.rounding.specs.Extremes.{count_of, spans_none}
+use Rattle.sdc_base.specs.Forms.{count_of}
+use Rattle.rounding.specs.Extremes.{spans_none}
 use Rattle.rounding.specs.Namings.{IsNamingOf}
 use Rattle.rounding.specs.Sums.{AreExtremes, AreSmall}
 use Rattle.rounding.specs.Tasks.{IsProper}

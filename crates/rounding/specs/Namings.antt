@@ -2,7 +2,7 @@
 use Rattle.std.specs.Prelude.{◌≡◌, ◌≢◌, ℕ, ◌<◌, ◌+◌, List, [], length, slice_get, slice_index, slice_index_or, Some, pos}
 use Rattle.sdc_base.specs.declared.relation.Relation.{Relation}
 use Rattle.sdc_base.specs.declared.system.System.{System}
-use Rattle.rounding.specs.Extremes.{count_of}
+use Rattle.sdc_base.specs.Forms.{count_of}
 
 -- a number isn't in a list
 abbrev pub Lacks : List ℕ → ℕ → Type 0

@@ -1,6 +1,6 @@
 ghost use Rattle.std.specs.Prelude.{◌≡◌, ◌==◌, ◌≤◌, ◌≤ℤ◌, ◌^◌, neg_ℤ, pos, length};
 ghost use Rattle.std.specs.List.{count_by};
-ghost use Rattle.rounding.specs.Extremes.{count_of as times_in_form};
+ghost use Rattle.sdc_base.specs.Forms.{count_of as times_in_form};
 
 use sdc_base::Relation;
 

@@ -21,5 +21,11 @@ pub mod Forest
 pub mod Shortening
 pub mod Numbering
 pub mod Connecting
+pub mod PuttingRows
 pub mod GrowingLists
 pub mod ListReads
+pub mod Counted
+pub mod SignLemmas
+pub mod EndLemmas
+pub mod LinkLemmas
+pub mod Opposing

@@ -45,7 +45,7 @@ by_cells n numbers (term ∷ terms) inside =
 
 -- ---- weighted forms are 0 where the relations hold, and name cells of the system
 
-All-found : {X : Type 0} (P : X → Type 0) (xs : List X) (k : ℕ) (x : X) → All P xs → slice_get xs k ≡ Some x → P x
+pub All-found : {X : Type 0} (P : X → Type 0) (xs : List X) (k : ℕ) (x : X) → All P xs → slice_get xs k ≡ Some x → P x
 All-found P xs k x all found = subst P (get_or_from_slice_get xs k x x found) (All-get_or P xs k x (slice_get_within xs k x found) all)
 
 -- what holds of no terms and of each relation's, so many times, holds of those of one multiplier

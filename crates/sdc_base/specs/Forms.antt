@@ -19,3 +19,7 @@ weighted_forms relations multipliers = flat_map (λ m. option_map_or (form_times
 -- a cell's coefficient: its multiples, added up
 abbrev pub coefficient : List Term → ℕ → ℤ
 coefficient terms cell = sum_of (λ term. if term.0 == cell then term.1 else pos 0) terms
+
+-- how often a relation's form counts a cell: the total once, less once for each time that it is a part
+abbrev pub count_of : Relation → ℕ → ℤ
+count_of r = coefficient (form_times (pos 1) r)

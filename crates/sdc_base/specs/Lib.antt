@@ -26,9 +26,13 @@ pub mod Systems
 pub mod Kinds
 pub mod HiddenSets
 pub mod Components
+pub mod ComponentRows
 pub mod Forests
 pub mod Worlds
 pub mod Forms
+pub mod Signs
+pub mod Ends
+pub mod Links
 pub mod Refutations
 pub mod Grounds
 pub mod Cubes

@@ -254,7 +254,7 @@ fn count_in(sizes: &mut Vec<u32>, number: u32)
 }
 
 // The number of a cell's component, none where it has none so far.
-fn component_at(of: &[Option<u32>], cell: u32) -> Option<u32>
+pub(crate) fn component_at(of: &[Option<u32>], cell: u32) -> Option<u32>
     ensures { result ≡ component of.now cell }
 {
     match of.get(cell as usize) {

@@ -1,6 +1,6 @@
 use Rattle.std.proofs.Common.{◌≡◌, ℕ, ◌<◌, [], Some, slice_get, length, get_or, pos}
 use Rattle.sdc_base.specs.declared.relation.Relation.{Relation}
-use Rattle.rounding.specs.Extremes.{count_of}
+use Rattle.sdc_base.specs.Forms.{count_of}
 use Rattle.rounding.specs.Namings.{Lacks, AreNoted}
 use Rattle.rounding.proofs.naming.naming_of.Given as goal
 
