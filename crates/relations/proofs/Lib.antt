@@ -1,2 +1,5 @@
 pub mod Tables
 pub mod Holding
+pub mod Keyed
+pub mod CellCounts
+pub mod SignedTables

@@ -1,2 +1,3 @@
 pub mod Holding
 pub mod Having
+pub mod TableSigns

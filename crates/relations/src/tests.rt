@@ -1,12 +1,12 @@
 ghost use Rattle.std.specs.Prelude.{◌≡◌, length, IfOk};
 
-use crate::{components, relations_of};
+use crate::{components, relations_of, rows_of, signs};
 use linked_tables::Book;
 use sdc_base::{Hidden, Items, Memory, Relation, System};
 use std::alloc::Global;
 use std::rt::HostRuntime;
 use std::test::Fail;
-use worked::{pairs, places, regions};
+use worked::{pairs, places, regions, tree};
 
 // A relation: the total, and the parts.
 type Sum<'a> = (u32, &'a [u32]);
@@ -47,6 +47,24 @@ fn grouped(
     let set = hidden_of(alloc, system.cells, hidden)?;
     let grouping = components(alloc, system, &set)?;
     Ok((grouping.of.into_vec(), grouping.sizes.into_vec()))
+}
+
+// The relations of each component.
+fn rows(alloc: Global, system: &System, hidden: &[u32]) -> Result<Vec<Vec<u32>>, Memory> {
+    let set = hidden_of(alloc, system.cells, hidden)?;
+    let grouping = components(alloc, system, &set)?;
+    rows_of(alloc, system, &grouping)
+}
+
+// The lists are these, in this order.
+fn are_lists(lists: &[Vec<u32>], wanted: &[&[u32]]) -> bool {
+    if lists.len() != wanted.len() {
+        return false;
+    }
+    lists
+        .iter()
+        .zip(wanted)
+        .all(|(list, one)| list.as_slice() == *one)
 }
 
 #[test]
@@ -158,5 +176,53 @@ fn two_levels(rt: HostRuntime) -> Result<(), Fail> {
     assert_eq!(rt; sizes.as_slice(), [2, 1].as_slice());
     let below: &[Option<u32>] = &[None, None, Some(0), Some(0), None, Some(1)];
     assert_eq!(rt; of.as_slice(), below);
+    Ok(())
+}
+
+#[test]
+fn signs_of_two_flat_variables(rt: HostRuntime) -> Result<(), Fail> {
+    let alloc = rt.alloc();
+    let book = Book::new(alloc, pairs(alloc, 2)?, places(alloc, &[&[0, 1]])?)?;
+    let system = relations_of(alloc, &book)?;
+    let Some(found) = signs(alloc, &system)? else {
+        assert!(rt; false, "no signs");
+        return Ok(());
+    };
+    // the lines of one variable against those of the other
+    assert_eq!(rt;
+        found.as_slice(),
+        [true, false, false, false, true, true].as_slice()
+    );
+    Ok(())
+}
+
+#[test]
+fn odd_cycle_has_no_signs(rt: HostRuntime) -> Result<(), Fail> {
+    let alloc = rt.alloc();
+    let mut trees = pairs(alloc, 2)?;
+    trees.push(tree(alloc, &[b"1", b"2", b"3"])?)?;
+    let book = Book::new(alloc, trees, places(alloc, &[&[0, 1, 2]])?)?;
+    let system = relations_of(alloc, &book)?;
+    assert_eq!(rt; system.relations.as_slice().len(), 33);
+    assert_eq!(rt; signs(alloc, &system)?.is_some(), false);
+    Ok(())
+}
+
+#[test]
+fn rows_of_components(rt: HostRuntime) -> Result<(), Fail> {
+    let alloc = rt.alloc();
+    let book = Book::new(alloc, pairs(alloc, 2)?, places(alloc, &[&[0, 1]])?)?;
+    let system = relations_of(alloc, &book)?;
+    // the four inner cells
+    let inner = rows(alloc, &system, &[4, 5, 7, 8])?;
+    let one: &[&[u32]] = &[&[2, 3, 4, 5]];
+    assert_eq!(rt; are_lists(inner.as_slice(), one), true);
+    // cell 2, and 3, 4 and 7
+    let apart = rows(alloc, &system, &[7, 4, 3, 2])?;
+    let two: &[&[u32]] = &[&[1, 3], &[0, 2, 4, 5]];
+    assert_eq!(rt; are_lists(apart.as_slice(), two), true);
+    // nothing is hidden
+    let none = rows(alloc, &system, &[])?;
+    assert_eq!(rt; none.len(), 0);
     Ok(())
 }

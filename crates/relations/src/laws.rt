@@ -1,0 +1,13 @@
+//! Laws of the definitions, each the contract of a function with an empty body.
+
+ghost use Rattle.relations.specs.TableSigns.{OneVariableHasSigns, TwoFlatVariablesHaveSigns};
+
+/// The relations of one table of one variable have signs, whatever its tree.
+pub fn one_variable_has_signs()
+    ensures { OneVariableHasSigns }
+{}
+
+/// The relations of one table of two flat variables have signs.
+pub fn two_flat_variables_have_signs()
+    ensures { TwoFlatVariablesHaveSigns }
+{}
