@@ -8,3 +8,6 @@ pub mod Fixes
 pub mod Searches
 pub mod PartialLists
 pub mod SearchOrder
+pub mod Arcs
+pub mod Rings
+pub mod Circuits

@@ -18,7 +18,7 @@ pub(crate) fn naming_of(alloc: Global, system: &System) -> Result<Vec<Items<u32>
 }
 
 // So many empty lists.
-fn empty_lists(alloc: Global, count: u32) -> Result<Vec<Items<u32>>, Memory>
+pub(crate) fn empty_lists(alloc: Global, count: u32) -> Result<Vec<Items<u32>>, Memory>
     ensures many { IfOk result (λ lists. length lists.items ≡ count) }
     ensures empty { IfOk result (λ lists. (cell : ℕ) → slice_index_or lists.items cell [] ≡ []) }
 {

@@ -29,6 +29,19 @@ const TWO_BY_TWO: Table<'static> = Table {
     truths: &[15, 9, 6, 7, 3, 4, 8, 6, 2],
 };
 
+// The table 1 1 / 1 1 with its margins.
+const ONES: Table<'static> = Table {
+    relations: &[
+        (0, &[3, 6]),
+        (0, &[1, 2]),
+        (1, &[4, 7]),
+        (2, &[5, 8]),
+        (3, &[4, 5]),
+        (6, &[7, 8]),
+    ],
+    truths: &[4, 2, 2, 2, 1, 1, 2, 1, 1],
+};
+
 // A total of the greatest truth, whose parts are a unit and the rest.
 const GREATEST: Table<'static> = Table {
     relations: &[(0, &[1, 2])],
@@ -240,6 +253,23 @@ fn tables_with_roundings(rt: HostRuntime) -> Result<(), Fail> {
         );
         assert!(rt; base != 1 || values.as_slice() == table.truths);
     }
+    Ok(())
+}
+
+// The first cell that isn't a multiple goes up, and then down, up and down round the other three: no list is looked at.
+#[test]
+fn ones_go_round_once(rt: HostRuntime) -> Result<(), Fail> {
+    let alloc = rt.alloc();
+    let Some(system) = system_of(alloc, ONES)? else {
+        assert!(rt; false, "no system");
+        return Ok(());
+    };
+    let Some(Ok(values)) = values_of(alloc, &system, ONES.truths, 2, 1)? else {
+        assert!(rt; false, "no rounding");
+        return Ok(());
+    };
+    let wanted: [i128; 9] = [4, 2, 2, 2, 2, 0, 2, 0, 2];
+    assert!(rt; values.as_slice() == wanted.as_slice());
     Ok(())
 }
 

@@ -1,0 +1,41 @@
+-- Going round: numbers between the neighbours of the truths move up or down together until a cell more is a multiple (own).
+use Rattle.std.specs.Prelude.{◌≡◌, ◌⊎◌, ℕ, ◌<◌, ◌^◌, true, false, List, All, length, ℤ, pos, negsuc, ◌+ℤ◌, ◌-ℤ◌, ◌*ℤ◌, ◌≤ℤ◌, int_lt, if◌then◌else◌}
+use Rattle.std.specs.Int.RustNames.{int_rem}
+use Rattle.sdc_base.specs.Systems.{Numbers}
+use Rattle.sdc_base.specs.Roundings.{number_at}
+use Rattle.rounding.specs.Neighbours.{is_multiple, down}
+use Rattle.rounding.specs.Tasks.{IsTruth}
+
+-- a number on its way from a truth to one of its neighbours; a truth that is a multiple stays
+pub record IsBeside (base truth number : ℤ) : Type 0 where
+  pub low : down base truth ≤ℤ number
+  pub high : number ≤ℤ (down base truth +ℤ base)
+  pub stays : is_multiple base truth ≡ true → number ≡ truth
+
+-- a number for each truth, beside it
+pub record AreBeside (truths : List ℤ) (base : ℤ) (numbers : List ℤ) : Type 0 where
+  pub from_one : pos 1 ≤ℤ base
+  pub to_most : base ≤ℤ pos (10 ^ 22)
+  pub within : All IsTruth truths
+  pub each : length numbers ≡ length truths
+  pub beside : (cell : ℕ) → cell < length truths → IsBeside base (number_at truths cell) (number_at numbers cell)
+
+-- what was a multiple is one
+abbrev pub KeepMultiples : ℤ → List ℤ → List ℤ → Type 0
+KeepMultiples base before after = (cell : ℕ) → cell < length before → is_multiple base (number_at before cell) ≡ true → is_multiple base (number_at after cell) ≡ true
+
+-- the cells below this one are multiples
+abbrev pub AreWholeBelow : ℤ → List ℤ → ℕ → Type 0
+AreWholeBelow base numbers first = (cell : ℕ) → cell < first → is_multiple base (number_at numbers cell) ≡ true
+
+-- a cell doesn't move, or isn't a multiple and moves up or down
+abbrev pub IsTurn : ℤ → ℤ → ℤ → Type 0
+IsTurn base number turn = (turn ≡ pos 0) ⊎ ((is_multiple base number ≡ false) × ((turn ≡ pos 1) ⊎ (turn ≡ negsuc 0)))
+
+-- how far a cell can go its way to the next multiple
+abbrev pub room : ℤ → ℤ → ℤ → ℤ
+room base number turn = if int_lt (pos 0) turn then base -ℤ int_rem number base else int_rem number base
+
+-- the numbers after so much of the turns
+abbrev pub gone : ℤ → Numbers → Numbers → Numbers
+gone by numbers turns cell = numbers cell +ℤ by *ℤ turns cell
