@@ -3,6 +3,7 @@ mod Counting
 mod CellSums
 mod Caps
 mod RowLists
+mod ComponentLists
 mod Divisors
 mod Listing
 mod Givens
@@ -25,4 +26,5 @@ mod Shares
 mod Furthest
 mod Best
 mod OwnGroup
+mod CutOff
 mod OneAnswer

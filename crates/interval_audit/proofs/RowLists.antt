@@ -1,5 +1,5 @@
 -- Rows put together one cell and one relation at a time.
-use Rattle.std.proofs.Common.{◌≡◌, ℕ, ◌+◌, ◌*◌, ◌<◌, Bool, true, false, subst, List, [], ◌∷◌, ◌++◌, map, length, take, get_or, Some, is_some, slice_get, ℤ, pos, negsuc, ap, sym, ◌∙◌, refl, append_assoc, All, if◌then◌else◌}
+use Rattle.std.proofs.Common.{◌≡◌, ℕ, ◌+◌, ◌*◌, ◌<◌, Bool, true, false, List, [], ◌∷◌, ◌++◌, map, length, take, get_or, Some, is_some, slice_get, ℤ, pos, negsuc, ap, sym, ◌∙◌, refl, append_assoc, All, if◌then◌else◌}
 use Rattle.std.specs.List.{flat_map}
 use Rattle.std.specs.Option.{option_map_or}
 use Rattle.std.proofs.lemmas.Grind.{flat_map-append}
@@ -50,11 +50,8 @@ pub members_below : (group : Group) (n : ℕ) → All (λ c. c < n) (members gro
 members_below group n = All-members group (λ c. c < n) n (λ c below is. below)
 
 -- a relation that is met is one of the relations
-pub met_inside : (group : Group) (relations : List Relation) (list : List ℕ) (i : ℕ) → list ≡ met_relations group relations → i < length list → get_or list i 0 < length relations
-met_inside group relations list i is inside =
-    let all : All (λ number. number < length relations) (met_relations group relations) = members_below (λ number. option_map_or (is_met group) (slice_get relations number) false) (length relations) in
-    let own : All (λ number. number < length relations) list = subst (λ xs. All (λ number. number < length relations) xs) (sym is) all in
-    own i 0 inside
+pub met_below : (group : Group) (relations : List Relation) → All (λ number. number < length relations) (met_relations group relations)
+met_below group relations = members_below (λ number. option_map_or (is_met group) (slice_get relations number) false) (length relations)
 
 -- a problem by its parts
 abbrev pub problem : ℕ → List LinRow → List Term → ℤ → Problem

@@ -10,4 +10,5 @@ pub mod LowestTerms
 pub mod Readings
 pub mod WalkStates
 pub mod Answers
+pub mod WalkLimits
 pub mod Ends

@@ -4,22 +4,23 @@ ghost use Rattle.sdc_base.specs.HiddenSets.{is_hidden};
 ghost use Rattle.interval_audit.specs.Answers.{IsTrueAnswer, IsWalkAnswerIn, IsCauseIn, IsWalkAnswer, IsCauseOf, IsStepOutcome};
 ghost use Rattle.interval_audit.specs.Groups.{Group, IsComponentOf, IsGroup, group_of, members as members_meant};
 ghost use Rattle.interval_audit.specs.Problems.{problem_of as problem_meant};
+ghost use Rattle.interval_audit.specs.WalkLimits.{IsAmple, IsCutBelow, IsNotCutOff};
 
 use crate::answer::{Answer, AskFault, Walk, WidePlace};
 use crate::finish::{finish, read_state};
-use crate::group::members_of;
+use crate::group::{list_of, members_of};
 use crate::inquiry::Inquiry;
-use crate::problem::problem_of;
+use crate::problem::problem_over;
 use crate::question::Question;
-use sdc_base::{Cell, Hidden, Memory, System, components};
+use sdc_base::{Cell, Hidden, Memory, System, components, rows_of};
 use std::alloc::Global;
 use tableau::{Step, Tableau};
 
 /// Whether a hidden cell can lie in some world as far as a target to a side, and else how far it can lie there.
 ///
 /// The target is in units, from 0 to 2^110, and the limit says how many improvements the walk on the question's problem
-/// ([`problem_of`]) may make. There are a cell and a flag for each cell of the system, the asked cell is hidden, and
-/// the limit is 1 or more.
+/// ([`crate::problem_of`]) may make. There are a cell and a flag for each cell of the system, the asked cell is hidden,
+/// and the limit is 1 or more.
 ///
 /// The walk goes step by step from the first table of the problem to the first that is reached or blocked; the world
 /// and the multipliers are read off that one, in lowest terms. Where it is reached the world takes the cell exactly to
@@ -33,7 +34,12 @@ use tableau::{Step, Tableau};
 /// checking the multipliers, with the target as level, needs such a number at that cell. The walk of a fault is one on
 /// the problem of this question. Want of memory may come at any time. What is lent stays as it was.
 ///
-/// It makes the problem and at most so many steps, and takes memory for the problem and for the numbers of its table.
+/// No basis comes twice in a walk, so that `Work` never comes where the limit is 2 to the number of the problem's
+/// columns and rows, the target's among them, or more.
+///
+/// It goes once through all relations and their parts for the components, once more for the relations of each, and
+/// from there on only through the relations of the asked cell's component: it makes the problem and at most so many
+/// steps. It takes memory for the components and their relations, for the problem and for the numbers of its table.
 ///
 /// The question is that of the feasibility interval in Hundepool et al., Statistical Disclosure Control, chapter on
 /// magnitude tables; the order of the steps is own.
@@ -51,6 +57,7 @@ pub fn ask(
     ensures right { IfOk result (λ answer. IsTrueAnswer system.now cells.now hidden.now.flags question answer) }
     ensures read { IfOk result (λ answer. IsWalkAnswer system.now cells.now hidden.now.flags question answer) }
     ensures cause { IfErr result (λ fault. IsCauseOf system.now cells.now hidden.now.flags question limit fault) }
+    ensures short { IsAmple system.now cells.now hidden.now.flags question limit → IfErr result (λ fault. IsNotCutOff fault) }
 {
     let grouping = components(alloc, system, hidden)?;
     let of = grouping.of.as_slice();
@@ -62,11 +69,15 @@ pub fn ask(
             hidden: size as u32,
         });
     }
+    let lists = rows_of(alloc, system, &grouping)?;
+    let rows = lists.as_slice();
+    let met = list_of(rows, of, question.cell);
     let inquiry = Inquiry {
         system,
         cells,
         hidden,
         of,
+        met,
         question,
     };
     walk_on(alloc, &inquiry, limit)
@@ -77,9 +88,17 @@ fn walk_on(alloc: Global, inquiry: &Inquiry<'_>, limit: u64) -> Result<Answer, A
     ensures right { IfOk result (λ answer. IsTrueAnswer inquiry.now.system.now inquiry.now.cells.now inquiry.now.hidden.now.flags inquiry.now.question answer) }
     ensures read { IfOk result (λ answer. IsWalkAnswerIn inquiry.now.system.now inquiry.now.cells.now (group_of inquiry.now.of.now inquiry.now.question.cell) inquiry.now.question answer) }
     ensures cause { IfErr result (λ fault. IsCauseIn inquiry.now.system.now inquiry.now.cells.now inquiry.now.hidden.now.flags (group_of inquiry.now.of.now inquiry.now.question.cell) inquiry.now.question limit fault) }
+    ensures short { IfErr result (λ fault. IsCutBelow inquiry.now.system.now inquiry.now.cells.now (group_of inquiry.now.of.now inquiry.now.question.cell) inquiry.now.question limit fault) }
 {
     let question = inquiry.question;
-    let problem = problem_of(alloc, inquiry.system, inquiry.cells, inquiry.of, question)?;
+    let problem = problem_over(
+        alloc,
+        inquiry.system,
+        inquiry.cells,
+        inquiry.of,
+        inquiry.met,
+        question,
+    )?;
     let mut tableau = Tableau::start(alloc, problem)?;
     'walk: for made in 0..limit {
         let _made = made;

@@ -4,6 +4,7 @@ ghost use Rattle.interval_audit.specs.Points.{number_at};
 ghost use Rattle.tableau.specs.Reads.{values_of};
 ghost use Rattle.tableau.specs.Steps.{IsReached, IsBlocked};
 ghost use Rattle.tableau.specs.Tables.{value};
+ghost use Rattle.tableau.specs.Problems.{numbers_of};
 ghost use Rattle.tableau.specs.Tableaus.{IsTableauWalk};
 ghost use Rattle.interval_audit.specs.WalkStates.{state_of, objective_of, IsAtPoint, IsAtTarget, IsAtOptimum};
 ghost use Rattle.worlds.specs.Listed.{terms_of, given};
@@ -11,10 +12,11 @@ ghost use Rattle.interval_audit.specs.Answers.{HasEnded, IsTrueAnswer, IsReadOff
 ghost use Rattle.interval_audit.specs.Groups.{IsGroup, group_of, members as members_meant};
 ghost use Rattle.interval_audit.specs.Problems.{problem_of as problem_meant};
 ghost use Rattle.interval_audit.specs.Readings.{IsWorldOf, AreMultipliersOf};
+ghost use Rattle.interval_audit.specs.WalkLimits.{IsCutBelow};
 
 use crate::answer::{Answer, AskFault, Fraction, Walk, WidePlace};
 use crate::checking::wide_at;
-use crate::group::{members_of, met_by};
+use crate::group::members_of;
 use crate::inquiry::Inquiry;
 use crate::question::Question;
 use crate::readings::{read_multipliers, read_world};
@@ -34,6 +36,7 @@ pub(crate) fn finish(
     ensures right { IfOk result (λ answer. IsTrueAnswer inquiry.now.system.now inquiry.now.cells.now inquiry.now.hidden.now.flags inquiry.now.question answer) }
     ensures read { IfOk result (λ answer. IsReadOff inquiry.now.system.now inquiry.now.cells.now (group_of inquiry.now.of.now inquiry.now.question.cell) tableau answer) }
     ensures cause { IfErr result (λ fault. (limit : ℕ) → IsCauseIn inquiry.now.system.now inquiry.now.cells.now inquiry.now.hidden.now.flags (group_of inquiry.now.of.now inquiry.now.question.cell) inquiry.now.question limit fault) }
+    ensures short { IfErr result (λ fault. (limit : ℕ) → IsCutBelow inquiry.now.system.now inquiry.now.cells.now (group_of inquiry.now.of.now inquiry.now.question.cell) inquiry.now.question limit fault) }
 {
     read_state(&tableau);
     let world = world_of(alloc, inquiry, &tableau)?;
@@ -47,6 +50,7 @@ pub(crate) fn finish(
 // Reads where a walk stands, so that it is known.
 pub(crate) fn read_state(tableau: &Tableau)
     ensures walked { IsTableauWalk tableau.now }
+    ensures short { tableau.now.improved < 2 ^ numbers_of tableau.now.problem }
     ensures stands { IsAtPoint (state_of tableau.now) }
     ensures reached { IsReached tableau.now.problem tableau.now.table → IsAtTarget (state_of tableau.now) }
     ensures blocked { IsBlocked tableau.now.problem tableau.now.table → IsAtOptimum (state_of tableau.now) }
@@ -127,6 +131,7 @@ fn stop(
     ensures right { IfOk result (λ answer. IsTrueAnswer inquiry.now.system.now inquiry.now.cells.now inquiry.now.hidden.now.flags inquiry.now.question answer) }
     ensures read { IfOk result (λ answer. IsReadOff inquiry.now.system.now inquiry.now.cells.now (group_of inquiry.now.of.now inquiry.now.question.cell) tableau answer) }
     ensures cause { IfErr result (λ fault. (limit : ℕ) → IsCauseIn inquiry.now.system.now inquiry.now.cells.now inquiry.now.hidden.now.flags (group_of inquiry.now.of.now inquiry.now.question.cell) inquiry.now.question limit fault) }
+    ensures short { IfErr result (λ fault. (limit : ℕ) → IsCutBelow inquiry.now.system.now inquiry.now.cells.now (group_of inquiry.now.of.now inquiry.now.question.cell) inquiry.now.question limit fault) }
 {
     let multipliers = multipliers_of(alloc, inquiry, &tableau)?;
     let mut scratch = Vec::from_elem(alloc, 0, inquiry.system.cells as usize)?;
@@ -159,14 +164,9 @@ fn multipliers_of(
     requires stuck { IsAtOptimum (state_of tableau.now) }
     ensures { IfOk result (λ read. (ended : IsAtOptimum (state_of tableau.now)) → AreMultipliersOf inquiry.now.system.now inquiry.now.cells.now (group_of inquiry.now.of.now inquiry.now.question.cell) tableau.now.table.den ended.weights read) }
 {
-    let met = met_by(
-        alloc,
-        inquiry.system.relations.as_slice(),
-        inquiry.of,
-        inquiry.question.cell,
-    )?;
+    let met = inquiry.met;
     let slacks = tableau.slacks();
     let forms = 2 * met.len();
     let caps = slacks.len() - 1 - forms;
-    read_multipliers(alloc, met.as_slice(), slacks, caps, tableau.den())
+    read_multipliers(alloc, met, slacks, caps, tableau.den())
 }

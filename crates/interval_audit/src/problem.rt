@@ -42,13 +42,34 @@ pub fn problem_of(
     requires few { length (members_meant (group_of of.now question.cell) system.now.cells) ≤ 1500 }
     ensures { IfOk result (λ problem. problem ≡ problem_meant system.now cells.now (group_of of.now question.cell) question) }
 {
+    let relations = system.relations.as_slice();
+    let met = met_by(alloc, relations, of, question.cell)?;
+    let list = met.as_slice();
+    problem_over(alloc, system, cells, of, list, question)
+}
+
+// The problem of a question, where the relations are known in which a cell of the asked cell's component stands.
+pub(crate) fn problem_over(
+    alloc: Global,
+    system: &System,
+    cells: &[Cell],
+    of: &[Option<u32>],
+    met: &[u32],
+    question: Question,
+) -> Result<Problem, Memory>
+    requires cells { length cells.now ≡ system.now.cells }
+    requires asked { question.cell < system.now.cells }
+    requires few { length (members_meant (group_of of.now question.cell) system.now.cells) ≤ 1500 }
+    requires met { met.now ≡ met_relations (group_of of.now question.cell) system.now.relations }
+    ensures { IfOk result (λ problem. problem ≡ problem_meant system.now cells.now (group_of of.now question.cell) question) }
+{
     let members = members_of(alloc, of, question.cell, system.cells)?;
     let list = members.as_slice();
     let mut rows = Vec::new(alloc);
     push_all_caps(alloc, &mut rows, list, cells)?;
     let mut scratch = Vec::from_elem(alloc, 0, system.cells as usize)?;
     let numbers = scratch.as_mut_slice();
-    push_all_forms(alloc, &mut rows, list, system, of, question.cell, numbers)?;
+    push_all_forms(alloc, &mut rows, list, system, met, numbers)?;
     let objective = objective_of(alloc, list, question.cell, question.side, numbers)?;
     Ok(Problem {
         columns: 2 * list.len() as u32,
@@ -75,28 +96,26 @@ fn push_all_caps(
     Ok(())
 }
 
-// Puts the forms of the relations in which a cell of the asked cell's component stands at the end of rows.
+// Puts the forms of the relations with these numbers at the end of rows, at the columns of the cells of a component.
 fn push_all_forms(
     alloc: Global,
     rows: &mut Vec<LinRow>,
     members: &[u32],
     system: &System,
-    of: &[Option<u32>],
-    asked: u32,
+    met: &[u32],
     scratch: &mut [i128],
 ) -> Result<(), Memory>
     requires few { length members.now < 2 ^ 31 }
     requires known { All (λ cell. cell < length scratch.old) members.now }
+    requires met { All (λ number. number < length system.now.relations) met.now }
     requires scratch { length scratch.old ≡ system.now.cells }
     requires zeros { AreZeros scratch.old }
     ensures length { length scratch.new ≡ length scratch.old }
     ensures zeros { OnOk result (AreZeros scratch.new) }
-    ensures rows { (cells : List AnyCell) → members.now ≡ members_meant (group_of of.now asked) system.now.cells → OnOk result (rows.new.items ≡ rows.old.items ++ met_rows system.now cells (group_of of.now asked)) }
+    ensures rows { (cells : List AnyCell) (group : Group) → members.now ≡ members_meant group system.now.cells → met.now ≡ met_relations group system.now.relations → OnOk result (rows.new.items ≡ rows.old.items ++ met_rows system.now cells group) }
 {
     let relations = system.relations.as_slice();
-    let met = met_by(alloc, relations, of, asked)?;
-    let list = met.as_slice();
-    'met: for number in list {
+    'numbers: for number in met {
         push_forms(alloc, rows, members, &relations[*number as usize], scratch)?;
     }
     Ok(())

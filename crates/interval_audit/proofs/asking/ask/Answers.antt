@@ -1,14 +1,30 @@
 use Rattle.std.proofs.Common.{◌≡◌, ◌∙◌, ◌≤◌, ℕ, List, Option, length, ap, sym, subst, refl, arith, rules, Fits, w32}
 use Rattle.sdc_base.specs.Components.{AreComponents}
+use Rattle.sdc_base.specs.ComponentRows.{lists_in, rows_of}
 use Rattle.interval_audit.specs.declared.answer.Answer.{Answer}
 use Rattle.interval_audit.specs.Answers.{IsWalkAnswerIn, IsWalkAnswer}
 use Rattle.interval_audit.specs.Groups.{Group, IsComponentOf, group_of, members}
+use Rattle.interval_audit.proofs.ComponentLists.{known_list, many_rows}
+use Rattle.interval_audit.proofs.CutOff.{if_ample}
 use Rattle.interval_audit.proofs.Connected.{components_are_groups}
 use Rattle.interval_audit.proofs.SameGroups.{group_is}
 use Rattle.interval_audit.proofs.QuestionAnswers.{if_ok_more}
 use Rattle.interval_audit.proofs.OwnGroup.{if_caused}
 use Rattle.interval_audit.proofs.Proper.{rank-most}
 use Rattle.interval_audit.proofs.asking.ask.Goals as goal
+
+pub rows_of-requires : goal.rows_of-requires
+rows_of-requires c = record { components = (c.args.hidden.now.flags, c.requires.ground.each_flag, c.in_ok-grouping.ensures) }
+
+pub list_of-met-requires : goal.list_of-met-requires
+list_of-met-requires c =
+    let relations = c.args.system.now.relations in
+    let flags = c.args.hidden.now.flags in
+    let sizes = c.in_ok-grouping.grouping.sizes in
+    let of : List (Option ℕ) = c.as_slice-of.result.now in
+    let are : AreComponents relations flags of sizes = subst (λ (of : List (Option ℕ)). AreComponents relations flags of sizes) (sym c.as_slice-of.ensures) c.in_ok-grouping.ensures in
+    let long : length c.as_slice-rows.result.now ≡ length sizes = many_rows c.as_slice-rows.result.now relations c.in_ok-grouping.grouping.of (length sizes) (ap lists_in c.as_slice-rows.ensures.value ∙ c.in_ok-lists.ensures) in
+    record { known = known_list relations flags of sizes c.args.question.cell are (length c.as_slice-rows.result.now) long }
 
 pub invariant_of-inquiry : goal.invariant_of-inquiry
 invariant_of-inquiry c =
@@ -18,6 +34,8 @@ invariant_of-inquiry c =
     let size : c.len-size.result ≡ length c.in_ok-members.members.items = search rules in
     record {
       one_each = c.requires.ground;
+      met_are = c.list_of-met.ensures c.args.system.now.relations (length c.in_ok-grouping.grouping.sizes)
+          (ap lists_in c.as_slice-rows.ensures.value ∙ c.in_ok-lists.ensures ∙ ap (λ (of : List (Option ℕ)). rows_of c.args.system.now.relations of (length c.in_ok-grouping.grouping.sizes)) (sym c.as_slice-of.ensures));
       few = omega (arith, size, ap (λ (xs : List ℕ). length xs) c.in_ok-members.ensures, c.if-size-gt1500.false);
       group = components_are_groups c.args.system.now c.args.hidden.now.flags of c.in_ok-grouping.grouping.sizes c.args.question.cell c.requires.ground.each_flag are c.requires.hidden;
     }
@@ -57,3 +75,11 @@ returns-clause-cause c =
     subst (λ (of : List (Option ℕ)). AreComponents c.args.system.now.relations c.args.hidden.now.flags of c.in_ok-grouping.grouping.sizes) (sym c.as_slice-of.ensures) c.in_ok-grouping.ensures in
     let own : IsComponentOf c.args.system.now.relations c.args.hidden.now.flags c.args.question.cell (group_of of c.args.question.cell) = group_is c.args.system.now.relations c.args.hidden.now.flags of c.in_ok-grouping.grouping.sizes c.args.question.cell are c.requires.hidden in
     if_caused c.args.system.now c.args.cells.now c.args.hidden.now.flags (group_of of c.args.question.cell) c.args.question c.args.limit c.walk_on.result own c.walk_on.ensures.cause
+
+pub returns-clause-short : goal.returns-clause-short
+returns-clause-short c = λ ample.
+    let of : List (Option ℕ) = c.as_slice-of.result.now in
+    let are : AreComponents c.args.system.now.relations c.args.hidden.now.flags of c.in_ok-grouping.grouping.sizes =
+    subst (λ (of : List (Option ℕ)). AreComponents c.args.system.now.relations c.args.hidden.now.flags of c.in_ok-grouping.grouping.sizes) (sym c.as_slice-of.ensures) c.in_ok-grouping.ensures in
+    let own : IsComponentOf c.args.system.now.relations c.args.hidden.now.flags c.args.question.cell (group_of of c.args.question.cell) = group_is c.args.system.now.relations c.args.hidden.now.flags of c.in_ok-grouping.grouping.sizes c.args.question.cell are c.requires.hidden in
+    if_ample c.args.system.now c.args.cells.now (group_of of c.args.question.cell) c.args.question c.args.limit c.walk_on.result (ample (group_of of c.args.question.cell) own) c.walk_on.ensures.short

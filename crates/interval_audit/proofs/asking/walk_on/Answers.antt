@@ -1,12 +1,16 @@
-use Rattle.std.proofs.Common.{◌≡◌, ◌∙◌, true, false, sym, subst}
+use Rattle.std.proofs.Common.{◌≡◌, ◌∙◌, ◌≤◌, true, false, arith, sym, subst}
 use Rattle.tableau.specs.ProblemForm.{IsWellFormed}
 use Rattle.interval_audit.specs.declared.answer.Answer.{Answer}
 use Rattle.interval_audit.specs.Answers.{IsReadOff, IsWalkAnswerIn}
 use Rattle.interval_audit.specs.Groups.{Group, group_of}
+use Rattle.interval_audit.proofs.CutOff.{limit_below}
 use Rattle.interval_audit.proofs.Proper.{problem_is}
 use Rattle.interval_audit.proofs.ReadStates.{ended_where}
 use Rattle.interval_audit.proofs.QuestionAnswers.{if_ok_more}
 use Rattle.interval_audit.proofs.asking.walk_on.Goals as goal
+
+pub problem_over-requires-clause-met : goal.problem_over-requires-clause-met
+problem_over-requires-clause-met c = c.args.inquiry.now.met_are
 
 pub start-requires : goal.start-requires
 start-requires c =
@@ -22,3 +26,9 @@ returns-clause-read c =
     let group : Group = group_of c.args.inquiry.now.of.now c.args.inquiry.now.question.cell in
     if_ok_more (λ (answer : Answer). IsReadOff c.args.inquiry.now.system.now c.args.inquiry.now.cells.now group c.walk.tableau answer) (λ (answer : Answer). IsWalkAnswerIn c.args.inquiry.now.system.now c.args.inquiry.now.cells.now group c.args.inquiry.now.question answer)
     c.finish-2.result (λ answer own. (c.walk.tableau, c.read_state.ensures.walked, c.walk.invariant.problem, own)) c.finish-2.ensures.read
+
+pub returns-then-can_improve-clause-short : goal.returns-then-can_improve-clause-short
+returns-then-can_improve-clause-short c =
+    let inquiry = c.args.inquiry.now in
+    let past : c.args.limit ≤ c.walk.made = omega (arith, c.walk-test.false) in
+    limit_below inquiry.system.now inquiry.cells.now (group_of inquiry.of.now inquiry.question.cell) inquiry.question c.args.limit c.walk.made c.walk.tableau.improved c.walk.tableau.problem past c.walk.invariant.improved c.walk.invariant.problem c.read_state.ensures.short

@@ -1,4 +1,4 @@
-use Rattle.std.proofs.Common.{◌≡◌, ◌∙◌, ◌<◌, ◌*◌, ◌+◌, ◌-◌, ℕ, List, length, All, pos, ap, sym, subst, rules, arith, ℤ, ◌≤ℤ◌, FitsSigned, IfOk}
+use Rattle.std.proofs.Common.{◌≡◌, ◌<◌, ◌*◌, ◌+◌, ◌-◌, ℕ, List, length, All, pos, ap, sym, subst, rules, arith, ℤ, ◌≤ℤ◌, FitsSigned, IfOk}
 use Rattle.std.specs.Int.{w128}
 use Rattle.std.proofs.lemmas.Int.{to_z-of_z}
 use Rattle.tableau.specs.Reads.{slacks_of}
@@ -17,10 +17,8 @@ overflow_sub-caps-2 c =
     let has : HasSlacks c.args.inquiry.now.system.now c.args.inquiry.now.cells.now group (slacks_of c.args.tableau.now.problem c.args.tableau.now.table) c.requires.stuck.weights = has_slacks c.args.inquiry.now.system.now c.args.inquiry.now.cells.now group c.args.inquiry.now.question (state_of c.args.tableau.now) c.requires.problem c.requires.stuck in
     let long = slacks_long c.args.inquiry.now.system.now c.args.inquiry.now.cells.now group (slacks_of c.args.tableau.now.problem c.args.tableau.now.table) c.requires.stuck.weights has in
     let slacks : c.slacks-slacks.result.now ≡ (slacks_of c.args.tableau.now.problem c.args.tableau.now.table) = c.slacks-slacks.ensures.slacks in
-    let relations : c.as_slice.result.now ≡ c.args.inquiry.now.system.now.relations = c.as_slice.ensures in
-    let list : c.in_ok-met.met.items ≡ met_relations group c.args.inquiry.now.system.now.relations = c.in_ok-met.ensures ∙ ap (met_relations group) relations in
-    let count : c.len-forms.result ≡ length c.in_ok-met.met.items = search rules in
-    omega (arith, long, count, ap (λ (xs : List ℤ). length xs) slacks, ap (λ (xs : List ℕ). length xs) list)
+    let list : c.args.inquiry.now.met.now ≡ met_relations group c.args.inquiry.now.system.now.relations = c.args.inquiry.now.met_are in
+    omega (arith, long, ap (λ (xs : List ℤ). length xs) slacks, ap (λ (xs : List ℕ). length xs) list)
 
 pub read_multipliers-requires-clause-few : goal.read_multipliers-requires-clause-few
 read_multipliers-requires-clause-few c =
@@ -39,28 +37,23 @@ read_multipliers-requires-clause-long c =
     let group : Group = group_of c.args.inquiry.now.of.now c.args.inquiry.now.question.cell in
     let has : HasSlacks c.args.inquiry.now.system.now c.args.inquiry.now.cells.now group (slacks_of c.args.tableau.now.problem c.args.tableau.now.table) c.requires.stuck.weights = has_slacks c.args.inquiry.now.system.now c.args.inquiry.now.cells.now group c.args.inquiry.now.question (state_of c.args.tableau.now) c.requires.problem c.requires.stuck in
     let long = slacks_long c.args.inquiry.now.system.now c.args.inquiry.now.cells.now group (slacks_of c.args.tableau.now.problem c.args.tableau.now.table) c.requires.stuck.weights has in
-    let relations : c.as_slice.result.now ≡ c.args.inquiry.now.system.now.relations = c.as_slice.ensures in
-    let list : c.in_ok-met.met.items ≡ met_relations group c.args.inquiry.now.system.now.relations = c.in_ok-met.ensures ∙ ap (met_relations group) relations in
-    let count : c.len-forms.result ≡ length c.in_ok-met.met.items = search rules in
-    omega (arith, long, count, ap (λ (xs : List ℤ). length xs) c.slacks-slacks.ensures.slacks, ap (λ (xs : List ℕ). length xs) list, ap (λ (xs : List ℕ). length xs) c.as_slice-2.ensures.value)
+    let list : c.args.inquiry.now.met.now ≡ met_relations group c.args.inquiry.now.system.now.relations = c.args.inquiry.now.met_are in
+    omega (arith, long, ap (λ (xs : List ℤ). length xs) c.slacks-slacks.ensures.slacks, ap (λ (xs : List ℕ). length xs) list)
 
 pub returns : goal.returns
 returns c =
     let group : Group = group_of c.args.inquiry.now.of.now c.args.inquiry.now.question.cell in
-    let relations : c.as_slice.result.now ≡ c.args.inquiry.now.system.now.relations = c.as_slice.ensures in
-    let met_list : c.in_ok-met.met.items ≡ met_relations group c.args.inquiry.now.system.now.relations = c.in_ok-met.ensures ∙ ap (met_relations group) relations in
-    let list : c.as_slice-2.result.now ≡ met_relations group c.args.inquiry.now.system.now.relations = c.as_slice-2.ensures.value ∙ met_list in
+    let list : c.args.inquiry.now.met.now ≡ met_relations group c.args.inquiry.now.system.now.relations = c.args.inquiry.now.met_are in
     let slacks : c.slacks-slacks.result.now ≡ (slacks_of c.args.tableau.now.problem c.args.tableau.now.table) = c.slacks-slacks.ensures.slacks in
-    let count : c.len-forms.result ≡ length c.in_ok-met.met.items = search rules in
     let fits : FitsSigned w128 c.den.result = search rules in
     let has : (ended : IsAtOptimum (state_of c.args.tableau.now)) → HasSlacks c.args.inquiry.now.system.now c.args.inquiry.now.cells.now group c.slacks-slacks.result.now ended.weights =
     (λ ended. subst (λ (xs : List ℤ). HasSlacks c.args.inquiry.now.system.now c.args.inquiry.now.cells.now group xs ended.weights) (sym slacks) (has_slacks c.args.inquiry.now.system.now c.args.inquiry.now.cells.now group c.args.inquiry.now.question (state_of c.args.tableau.now) c.requires.problem ended)) in
     let long = slacks_long c.args.inquiry.now.system.now c.args.inquiry.now.cells.now group c.slacks-slacks.result.now c.requires.stuck.weights (has c.requires.stuck) in
-    let whole : length c.slacks-slacks.result.now - 1 - 2 * c.len-forms.result + 2 * length c.as_slice-2.result.now + 1 ≡ length c.slacks-slacks.result.now = omega (arith, long, count, ap (λ (xs : List ℕ). length xs) met_list, ap (λ (xs : List ℕ). length xs) list) in
-    let Read : IsAtOptimum (state_of c.args.tableau.now) → Multipliers → Type 0 = λ ended read. AreLowestTermsOf c.den.result (nonzero_terms (multiplier ended.weights (labels c.args.inquiry.now.system.now.relations c.args.inquiry.now.cells.now group c.args.inquiry.now.system.now.cells)) c.as_slice-2.result.now) read.den read.by_relation in
+    let whole : length c.slacks-slacks.result.now - 1 - 2 * length c.args.inquiry.now.met.now + 2 * length c.args.inquiry.now.met.now + 1 ≡ length c.slacks-slacks.result.now = omega (arith, long, ap (λ (xs : List ℕ). length xs) list) in
+    let Read : IsAtOptimum (state_of c.args.tableau.now) → Multipliers → Type 0 = λ ended read. AreLowestTermsOf c.den.result (nonzero_terms (multiplier ended.weights (labels c.args.inquiry.now.system.now.relations c.args.inquiry.now.cells.now group c.args.inquiry.now.system.now.cells)) c.args.inquiry.now.met.now) read.den read.by_relation in
     let told : (ended : IsAtOptimum (state_of c.args.tableau.now)) → IfOk c.read_multipliers.result (Read ended) =
     (λ ended. (simp to_z-of_z at (c.read_multipliers.ensures (multiplier ended.weights (labels c.args.inquiry.now.system.now.relations c.args.inquiry.now.cells.now group c.args.inquiry.now.system.now.cells))
-    (multipliers_by_place c.args.inquiry.now.system.now c.args.inquiry.now.cells.now group c.slacks-slacks.result.now ended.weights c.as_slice-2.result.now (length c.slacks-slacks.result.now - 1 - 2 * c.len-forms.result) (has ended) list whole)))) in
+    (multipliers_by_place c.args.inquiry.now.system.now c.args.inquiry.now.cells.now group c.slacks-slacks.result.now ended.weights c.args.inquiry.now.met.now (length c.slacks-slacks.result.now - 1 - 2 * length c.args.inquiry.now.met.now) (has ended) list whole)))) in
     all_if_ok (IsAtOptimum (state_of c.args.tableau.now)) Read (λ ended read. AreMultipliersOf c.args.inquiry.now.system.now c.args.inquiry.now.cells.now group c.args.tableau.now.table.den ended.weights read) c.read_multipliers.result
     (λ ended read is. subst (λ d. AreLowestTermsOf d (nonzero_terms (multiplier ended.weights (labels c.args.inquiry.now.system.now.relations c.args.inquiry.now.cells.now group c.args.inquiry.now.system.now.cells)) (met_relations group c.args.inquiry.now.system.now.relations)) read.den read.by_relation) c.den.ensures.den
     (subst (λ xs. AreLowestTermsOf c.den.result (nonzero_terms (multiplier ended.weights (labels c.args.inquiry.now.system.now.relations c.args.inquiry.now.cells.now group c.args.inquiry.now.system.now.cells)) xs) read.den read.by_relation) list is))
