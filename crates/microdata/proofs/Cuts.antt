@@ -1,10 +1,9 @@
 -- What is kept of bytes that come in pieces.
-use Rattle.std.proofs.Common.{◌≡◌, ℕ, ◌+◌, ◌<◌, true, false, List, [], ◌∷◌, ◌++◌, length, None, Some, Result, Ok, Err, refl, ap, sym, ◌∙◌, subst, arith, append_assoc, append-nil, inl, inr, take, drop, get_or}
-use Rattle.std.proofs.lemmas.List.{take_more, take-append-drop}
+use Rattle.std.proofs.Common.{◌≡◌, ℕ, ◌+◌, ◌<◌, true, false, List, [], ◌∷◌, ◌++◌, length, None, Some, Result, Ok, Err, refl, ap, sym, ◌∙◌, subst, arith, append_assoc, append-nil, inl, inr, OnOk}
 use Rattle.std.specs.Result.{IfErr}
 use Rattle.std.specs.Str.Lines.{strip_carriage_return}
-use Rattle.sdc_base.specs.Answers.{Fails}
-use Rattle.sdc_base.specs.Lines.{is_line_feed, HasNoFeed}
+use Rattle.sdc_base.specs.Answers.{Fails, Gives}
+use Rattle.sdc_base.specs.Lines.{HasNoFeed}
 use Rattle.sdc_base.specs.Steps.{◌>>=◌}
 use Rattle.plain_text.proofs.FirstLine.{NoFeeds, lines-open, lines-ended}
 use Rattle.microdata.specs.Feeding.{is_too_long, fed_says, all_says, fed_of, SaysAsFrom, HasFault, IsKeptOf, StopsLong, Reading, HasRead}
@@ -59,6 +58,31 @@ pub kept-any : (m : Measures) (first a b : SoFar) (bytes c d : List ℕ) (e : Ro
 kept-any m first a b bytes c d row_error.Memory one = tt
 kept-any m first a b bytes c d (row_error.At number why) one = one
 
+-- an error of the bytes that are left
+pub kept-rest : (m : Measures) (first so_far : SoFar) (bytes rest a b : List ℕ) (e : RowError) → SaysAsFrom m first bytes so_far rest → IsKeptOf (Some e) m so_far rest so_far a → IsKeptOf (Some e) m first bytes first b
+kept-rest m first so_far bytes rest a b row_error.Memory one two = tt
+kept-rest m first so_far bytes rest a b (row_error.At number why) one two = record {
+  all = λ more. one.all more ∙ two.all more;
+  fed = λ more. one.fed more ∙ two.fed more;
+}
+
+-- the bytes that are left, up to the end of their first line and from there on
+parted : (front line behind rest more : List ℕ) → rest ≡ line ++ 10 ∷ behind → (front ++ rest) ++ more ≡ ((front ++ line) ++ 10 ∷ []) ++ (behind ++ more)
+parted front line behind rest more is =
+    ap (λ r. (front ++ r) ++ more) is
+    ∙ append_assoc front (line ++ 10 ∷ behind) more
+    ∙ ap (λ r. front ++ r) (append_assoc line (10 ∷ behind) more)
+    ∙ sym (append_assoc front line (10 ∷ (behind ++ more)))
+    ∙ sym (append_assoc (front ++ line) (10 ∷ []) (behind ++ more))
+
+-- an error of the first line of the bytes that are left
+pub kept-line : (m : Measures) (first so_far : SoFar) (bytes front line behind rest a b : List ℕ) (e : RowError) → rest ≡ line ++ 10 ∷ behind → SaysAsFrom m first bytes so_far (front ++ rest) → IsKeptOf (Some e) m so_far ((front ++ line) ++ 10 ∷ []) so_far a → IsKeptOf (Some e) m first bytes first b
+kept-line m first so_far bytes front line behind rest a b row_error.Memory is one two = tt
+kept-line m first so_far bytes front line behind rest a b (row_error.At number why) is one two = record {
+  all = λ more. one.all more ∙ ap (all_says m so_far) (parted front line behind rest more is) ∙ two.all (behind ++ more);
+  fed = λ more. one.fed more ∙ ap (fed_says m so_far) (parted front line behind rest more is) ∙ two.fed (behind ++ more);
+}
+
 -- a line ends
 pub line-ends : (m : Measures) (so_far next : SoFar) (line : List ℕ) → HasNoFeed line → line_says m so_far (strip_carriage_return line) ≡ Ok next → SaysAsFrom m so_far (line ++ 10 ∷ []) next []
 unfolding fed_says lines_say
@@ -87,6 +111,15 @@ says-too-long m so_far (b ∷ line) h = rw (is-above 1000 (length (b ∷ line)) 
 pub line-stops : (m : Measures) (so_far : SoFar) (line rest : List ℕ) (e : RowError) → HasNoFeed line → Fails (fault_of e) (line_says m so_far (strip_carriage_return line)) → IsKeptOf (Some e) m so_far (line ++ 10 ∷ []) so_far rest
 line-stops m so_far line rest row_error.Memory plain h = tt
 line-stops m so_far line rest (row_error.At number why) plain h = line-fault m so_far line (number, why) plain h
+
+-- a line that ended, as its taking in answered
+pub ended-says : (m : Measures) (so_far next : SoFar) (line text : List ℕ) (result : Result (Unit {0}) RowError) → HasNoFeed line → text ≡ strip_carriage_return line → Gives fault_of (λ _. next) result (line_says m so_far text) → OnOk result (SaysAsFrom m so_far (line ++ 10 ∷ []) next [])
+ended-says m so_far next line text (Ok done) plain is h = line-ends m so_far next line plain (ap (line_says m so_far) (sym is) ∙ h)
+ended-says m so_far next line text (Err e) plain is h = tt
+
+pub ended-stops : (m : Measures) (so_far next : SoFar) (line text : List ℕ) (result : Result (Unit {0}) RowError) → HasNoFeed line → text ≡ strip_carriage_return line → Gives fault_of (λ _. next) result (line_says m so_far text) → IfErr result (λ e. IsKeptOf (Some e) m so_far (line ++ 10 ∷ []) so_far line)
+ended-stops m so_far next line text (Ok done) plain is h = tt
+ended-stops m so_far next line text (Err e) plain is h = line-stops m so_far line line e plain (subst (λ (t : List ℕ). Fails (fault_of e) (line_says m so_far t)) is h)
 
 tail-all : (m : Measures) (so_far : SoFar) (whole rest : List ℕ) → NoFeeds whole → 1000 < length (strip_carriage_return whole) → all_says m so_far (whole ++ 10 ∷ rest) ≡ Err (so_far.number + 1, TooLong)
 unfolding lines_say
@@ -128,8 +161,9 @@ pub grown-stops : (m : Measures) (so_far : SoFar) (line rest : List ℕ) (e : Ro
 grown-stops m so_far line rest row_error.Memory plain h = tt
 grown-stops m so_far line rest (row_error.At number why) plain h = rw (h.0, h.1) (begun-too-long m so_far line plain h.2)
 
-pub more-plain : (line : List ℕ) (b : ℕ) → HasNoFeed line → is_line_feed b ≡ false → HasNoFeed (line ++ b ∷ [])
-more-plain line b plain other = no-feed (line ++ b ∷ []) (no-feeds-both line (b ∷ []) (no-feeds line plain) (other, tt))
+-- a line without a line feed, and bytes behind it
+pub both-plain : (a b : List ℕ) → HasNoFeed a → HasNoFeed b → HasNoFeed (a ++ b)
+both-plain a b one two = no-feed (a ++ b) (no-feeds-both a b (no-feeds a one) (no-feeds b two))
 
 -- a line that has begun and isn't too long
 pub begun-says : (m : Measures) (so_far : SoFar) (line : List ℕ) → HasNoFeed line → is_too_long line ≡ false → fed_says m so_far line ≡ Ok tt
@@ -191,12 +225,3 @@ all-read r layout bytes none read plain =
 pub said-so : {X : Type 0} (r : Result X RowError) (P Q : RowError → Type 0) → ((e : RowError) → P e → Q e) → IfErr r P → IfErr r Q
 said-so (Ok x) P Q turn h = tt
 said-so (Err e) P Q turn h = turn e h
-
--- the bytes of a piece up to one, and that one
-pub one-more : (before piece : List ℕ) (i : ℕ) → i < length piece → (before ++ take i piece) ++ get_or piece i 0 ∷ [] ≡ before ++ take (i + 1) piece
-one-more before piece i inside = append_assoc before (take i piece) (get_or piece i 0 ∷ []) ∙ ap (λ front. before ++ front) (sym (take_more piece i 0 inside))
-
--- and the rest of the piece
-pub and-rest : (before piece : List ℕ) (i : ℕ) → i < length piece → ((before ++ take i piece) ++ get_or piece i 0 ∷ []) ++ drop (i + 1) piece ≡ before ++ piece
-and-rest before piece i inside =
-    ap (λ front. front ++ drop (i + 1) piece) (one-more before piece i inside) ∙ append_assoc before (take (i + 1) piece) (drop (i + 1) piece) ∙ ap (λ whole. before ++ whole) (take-append-drop (i + 1) piece)

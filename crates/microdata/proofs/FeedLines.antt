@@ -1,6 +1,6 @@
 -- The lines that have ended and the line that has begun, once a line ends.
-use Rattle.std.proofs.Common.{◌≡◌, ℕ, ◌+◌, ◌-◌, ◌<◌, ◌≤◌, ◌==◌, nat_lt, Bool, true, false, cond, ◌||◌, List, [], ◌∷◌, ◌++◌, length, take, length-take, length-append, refl, ap, sym, ◌∙◌, subst, arith, append-nil, ◌⊎◌, inl, inr, slice_index}
-use Rattle.std.specs.List.{list_any}
+use Rattle.std.proofs.Common.{◌≡◌, ℕ, ◌+◌, ◌-◌, ◌<◌, ◌≤◌, ◌==◌, nat_lt, Bool, true, false, cond, ◌||◌, List, [], ◌∷◌, ◌++◌, length, take, drop, suc, length-take, length-append, refl, ap, sym, ◌∙◌, subst, arith, append-nil, ◌⊎◌, inl, inr, slice_index}
+use Rattle.std.specs.List.{list_any, position_or_len, before_first, after_first}
 use Rattle.std.specs.Str.Lines.{strip_carriage_return}
 use Rattle.std.proofs.lemmas.Bool.Decides.{nat_tests, Decides-eqb}
 use Rattle.sdc_base.specs.Lines.{lines, is_line_feed, HasNoFeed}
@@ -82,5 +82,46 @@ long-more line (b ∷ more) h = omega (arith, above _ _ h, strip-few line, strip
 pub long-open : (line more : List ℕ) → is_too_long line ≡ true → 1000 < length (line ++ more)
 long-open line more h = omega (arith, above _ _ h, strip-few line, length-append line more)
 
-pub not-feed : (b : ℕ) → (b ≡ 10 → ⊥) → is_line_feed b ≡ false
-not-feed b other = elim (b == 10) as (λ t. (b == 10) ≡ t → t ≡ false) [ true ↦ λ e. absurd (other ((Decides-eqb b 10).0 e)) | false ↦ λ e. refl ] refl
+-- a byte that is no line feed, in front
+place-behind : (b : ℕ) (bytes : List ℕ) → is_line_feed b ≡ false → position_or_len is_line_feed (b ∷ bytes) ≡ suc (position_or_len is_line_feed bytes)
+place-behind b bytes other = rw other (omega arith)
+
+before-behind : (b : ℕ) (bytes : List ℕ) → is_line_feed b ≡ false → before_first is_line_feed (b ∷ bytes) ≡ b ∷ before_first is_line_feed bytes
+before-behind b bytes other = ap (λ n. take n (b ∷ bytes)) (place-behind b bytes other)
+
+after-behind : (b : ℕ) (bytes : List ℕ) → is_line_feed b ≡ false → after_first is_line_feed (b ∷ bytes) ≡ after_first is_line_feed bytes
+after-behind b bytes other =
+    let next : position_or_len is_line_feed (b ∷ bytes) + 1 ≡ suc (position_or_len is_line_feed bytes + 1) = omega (arith, place-behind b bytes other) in
+    ap (λ n. drop n (b ∷ bytes)) next
+
+-- what stands before the first line feed and behind it
+before-ended : (line rest : List ℕ) → NoFeeds line → before_first is_line_feed (line ++ 10 ∷ rest) ≡ line
+before-ended [] rest h = refl
+before-ended (b ∷ line) rest h = before-behind b (line ++ 10 ∷ rest) h.0 ∙ ap (λ l. b ∷ l) (before-ended line rest h.1)
+
+after-ended : (line rest : List ℕ) → NoFeeds line → after_first is_line_feed (line ++ 10 ∷ rest) ≡ rest
+after-ended [] rest h = refl
+after-ended (b ∷ line) rest h = after-behind b (line ++ 10 ∷ rest) h.0 ∙ after-ended line rest h.1
+
+before-open : (line : List ℕ) → NoFeeds line → before_first is_line_feed line ≡ line
+before-open [] h = refl
+before-open (b ∷ line) h = before-behind b line h.0 ∙ ap (λ l. b ∷ l) (before-open line h.1)
+
+-- all bytes stand before the first line feed: there is none
+pub no-end : (bytes line : List ℕ) → line ≡ before_first is_line_feed bytes → length line ≡ length bytes → HasNoFeed bytes
+no-end bytes line front whole = elim (at-feed bytes) [
+  | inl none ↦ no-feed bytes none
+  | inr found ↦
+      let before = ap length (front ∙ ap (before_first is_line_feed) found.3 ∙ before-ended found.0 found.1 found.2) in
+      absurd (omega (arith, whole, before, ap length found.3, length-append found.0 (10 ∷ found.1)))
+]
+
+-- the first line that has ended has no line feed, and one stands right behind it
+pub first-end : (bytes line behind : List ℕ) → line ≡ before_first is_line_feed bytes → behind ≡ after_first is_line_feed bytes → (length line ≡ length bytes → ⊥) → HasNoFeed line × (bytes ≡ line ++ 10 ∷ behind)
+first-end bytes line behind front rest some = elim (at-feed bytes) [
+  | inl none ↦ absurd (some (ap length (front ∙ before-open bytes none)))
+  | inr found ↦
+      let before : line ≡ found.0 = front ∙ ap (before_first is_line_feed) found.3 ∙ before-ended found.0 found.1 found.2 in
+      let after : behind ≡ found.1 = rest ∙ ap (after_first is_line_feed) found.3 ∙ after-ended found.0 found.1 found.2 in
+      rw (before, after) (no-feed found.0 found.2, found.3)
+]
