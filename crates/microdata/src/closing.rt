@@ -13,7 +13,7 @@ ghost use Rattle.microdata.specs.Microdata.{closed_records};
 use crate::ascending::Ascending;
 use crate::faults::{RecordError, RowError, RowWhy, error_at};
 use crate::layout::Source;
-use crate::record::{Kept, SoFar, Variable};
+use crate::record::{Kept, SoFar, Variable, Variables};
 use crate::records::Records;
 use crate::taking::Seen;
 use arrayvec::ArrayVec;
@@ -50,7 +50,7 @@ pub(crate) fn close(alloc: Global, so_far: SoFar) -> Result<Records, RowError>
 }
 
 // The variables with their trees.
-fn closed_variables(alloc: Global, variables: Items<Variable>) -> Result<Items<Closed>, Memory>
+fn closed_variables(alloc: Global, variables: Variables) -> Result<Items<Closed>, Memory>
     requires variables { All (λ variable. IsSource variable.field.source) variables }
     requires seen { All (λ variable. AreSeen variable.field.source variable.seen) variables }
     ensures { IfOk result (λ closed. closed ≡ map closed_of variables) }

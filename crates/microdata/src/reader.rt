@@ -20,7 +20,7 @@ use crate::codes::Codes;
 use crate::faults::RowError;
 use crate::feeding::take_bytes;
 use crate::layout::{Field, Layout, Measures, Source};
-use crate::record::{SoFar, Variable, take_line};
+use crate::record::{SoFar, Variable, Variables, take_line};
 use crate::records::Records;
 use crate::taking::Seen;
 use sdc_base::{Items, Memory, Text};
@@ -72,7 +72,7 @@ impl Reader {
                 needed: layout.needed,
             },
             so_far: SoFar {
-                variables,
+                variables: Variables::new(variables),
                 rows: Items::empty(alloc),
                 number: 0,
                 skipped: 0,
@@ -159,11 +159,11 @@ fn read_out(
 }
 
 // The variables before the first record.
-fn variables_of(alloc: Global, spanning: Items<Field>) -> Result<Items<Variable>, Memory>
+fn variables_of(alloc: Global, spanning: Items<Field>) -> Result<Vec<Variable>, Memory>
     requires { All (λ field. IsSource field.source) spanning }
-    ensures { IfOk result (λ variables. variables ≡ map (λ field. record { field = field; seen = seen_first field.source }) spanning) }
+    ensures { IfOk result (λ variables. variables.items ≡ map (λ field. record { field = field; seen = seen_first field.source }) spanning) }
 {
-    let mut variables = Items::empty(alloc);
+    let mut variables = Vec::new(alloc);
     'fields: for field in spanning.into_vec() {
         variables.push(variable_of(alloc, field)?)?;
     }

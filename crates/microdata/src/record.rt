@@ -1,4 +1,4 @@
-ghost use Rattle.std.specs.Prelude.{◌≡◌, ◌+◌, ◌<◌, ◌≤◌, ◌^◌, All, length, pos, IfOk, OnOk};
+ghost use Rattle.std.specs.Prelude.{◌≡◌, ◌+◌, ◌<◌, ◌≤◌, ◌^◌, All, length, pos, OnOk};
 ghost use Rattle.sdc_base.specs.Answers.{Gives};
 ghost use Rattle.microdata.specs.Faults.{fault_of, why_of, at_record};
 ghost use Rattle.microdata.specs.Keeping.{IsVariable, IsSound};
@@ -12,7 +12,7 @@ use crate::taking::{Seen, take_code};
 use arrayvec::ArrayVec;
 use sdc_base::{Few, Items, Memory, Place};
 use std::alloc::Global;
-use std::mem;
+use std::marker::Model;
 
 // The most bytes of a record.
 const MOST_BYTES: usize = 1000;
@@ -25,6 +25,49 @@ const MOST_RECORDS: u64 = 1_000_000;
 pub(crate) struct Variable {
     pub field: Field,
     pub seen: Seen,
+}
+
+/// The spanning variables, which contracts see as a list. They are changed where they stand.
+#[derive(Drop)]
+pub(crate) struct Variables {
+    variables: Vec<Variable>,
+}
+
+impl Model for Variables {
+    ghost use Rattle.std.specs.Prelude.{List};
+    ghost use Rattle.microdata.specs.declared.record.Variable.{Variable};
+
+    ghost Value = { List Variable };
+
+    ghost view = { λ s. s.variables.items };
+}
+
+impl Variables {
+    /// The variables of a vector.
+    pub(crate) fn new(variables: Vec<Variable>) -> Variables
+        ensures { result ≡ variables.items }
+    {
+        Variables { variables }
+    }
+
+    /// The vector of the variables.
+    pub(crate) fn into_vec(self) -> Vec<Variable>
+        ensures { result.items ≡ self }
+    {
+        self.variables
+    }
+
+    // Takes in the codes of a record, each at its variable, and says where they stand.
+    fn take_codes(&mut self, alloc: Global, needed: u32, line: &[u8]) -> Result<Place, RecordError>
+        requires variables { All (IsVariable needed) self.old }
+        requires few { length self.old ≤ 8 }
+        requires whole { needed ≤ length line.now }
+        ensures said { Gives why_of (λ places. (self.new, places)) result (variables_say self.old line.now) }
+        ensures sound { OnOk result (All (IsVariable needed) self.new) }
+        ensures few { OnOk result (length self.new ≤ 8) }
+    {
+        take_codes(alloc, &mut self.variables, needed, line)
+    }
 }
 
 /// What is kept of a record: its number from 1, where its codes stand among those of each variable, its value in
@@ -40,7 +83,7 @@ pub(crate) struct Kept {
 /// What the records so far say.
 #[derive(Drop)]
 pub(crate) struct SoFar {
-    pub variables: Items<Variable>,
+    pub variables: Variables,
     pub rows: Items<Kept>,
     pub number: u64,
     pub skipped: u64,
@@ -115,9 +158,7 @@ fn take_response(
 {
     let value = value_of(&measures.response, line)?;
     let weight = weight_of(&measures.weight, line)?;
-    let variables = mem::replace(&mut so_far.variables, Items::empty(alloc));
-    let (variables, places) = take_codes(alloc, variables, measures.needed, line)?;
-    so_far.variables = variables;
+    let places = so_far.variables.take_codes(alloc, measures.needed, line)?;
     so_far.number += 1;
     so_far.rows.push(Kept {
         number: so_far.number,
@@ -131,18 +172,17 @@ fn take_response(
 // Takes in the codes of a record, each at its variable, and says where they stand.
 fn take_codes(
     alloc: Global,
-    variables: Items<Variable>,
+    variables: &mut Vec<Variable>,
     needed: u32,
     line: &[u8],
-) -> Result<(Items<Variable>, Place), RecordError>
-    requires variables { All (IsVariable needed) variables }
-    requires few { length variables ≤ 8 }
+) -> Result<Place, RecordError>
+    requires variables { All (IsVariable needed) variables.old.items }
+    requires few { length variables.old.items ≤ 8 }
     requires whole { needed ≤ length line.now }
-    ensures said { Gives why_of (λ taken. taken) result (variables_say variables line.now) }
-    ensures sound { IfOk result (λ taken. All (IsVariable needed) taken.0) }
-    ensures few { IfOk result (λ taken. length taken.0 ≤ 8) }
+    ensures said { Gives why_of (λ places. (variables.new.items, places)) result (variables_say variables.old.items line.now) }
+    ensures sound { OnOk result (All (IsVariable needed) variables.new.items) }
+    ensures few { OnOk result (length variables.new.items ≤ 8) }
 {
-    let mut variables = variables.into_vec();
     let mut places = ArrayVec::new();
     let mut k = 0;
     'variables: while k < variables.len() {
@@ -150,7 +190,7 @@ fn take_codes(
         places.push(place);
         k += 1;
     }
-    Ok((Items::new(variables), Few::new(places)))
+    Ok(Few::new(places))
 }
 
 // Takes in the code of a record at one variable.

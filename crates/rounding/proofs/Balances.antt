@@ -1,5 +1,5 @@
 -- Relations hold exactly where their arcs are balanced, and so are circuits.
-use Rattle.std.proofs.Common.{◌≡◌, ◌≢◌, ◌⊎◌, inl, inr, ℕ, zero, suc, ◌+◌, ◌<◌, ◌≤◌, ◌==◌, Bool, true, false, List, [], ◌∷◌, length, All, get_or, slice_get, Some, ℤ, pos, negsuc, neg_ℤ, ◌+ℤ◌, ◌-ℤ◌, ◌*ℤ◌, arith, refl, ap, sym, subst, ◌∙◌}
+use Rattle.std.proofs.Common.{◌≡◌, ◌≢◌, ◌⊎◌, inl, inr, ℕ, zero, suc, ◌+◌, ◌<◌, Bool, true, false, List, [], ◌∷◌, length, All, get_or, slice_get, Some, ℤ, pos, negsuc, neg_ℤ, ◌+ℤ◌, ◌-ℤ◌, ◌*ℤ◌, arith, refl, ap, sym, subst, ◌∙◌}
 use Rattle.std.proofs.Math.IntN.{*ℤ_comm}
 use Rattle.std.proofs.lemmas.Int.{ints}
 use Rattle.std.proofs.lemmas.Bool.{cases_lt}
@@ -9,7 +9,7 @@ use Rattle.sdc_base.specs.declared.relation.Relation.{Relation}
 use Rattle.sdc_base.specs.Totals.{sum_of, sum_below}
 use Rattle.sdc_base.specs.Forms.{Term, coefficient, count_of}
 use Rattle.sdc_base.specs.Systems.{Numbers, NamesCells, HoldOn, form}
-use Rattle.sdc_base.specs.Signs.{signed, signed_count}
+use Rattle.sdc_base.specs.Signs.{signed}
 use Rattle.sdc_base.specs.Roundings.{IsMultiple}
 use Rattle.sdc_base.proofs.WholeNumbers.{distrib_right, minus_times, assoc}
 use Rattle.sdc_base.proofs.TotalLemmas.{sum_of-cons, sum_below-add, sum_below-times, sum_below-same, only}
@@ -19,7 +19,7 @@ use Rattle.rounding.specs.declared.steps.Step.{Step}
 use Rattle.rounding.specs.Arcs.{at_point, brought, arc_at, AreArcsOf, IsBalanced}
 use Rattle.rounding.specs.Rings.{gone}
 use Rattle.rounding.specs.Circuits.{IsAlong, Chained, IsWalk, turns_of}
-use Rattle.rounding.proofs.Arcing.{at_own, at_other, item_there, count_is}
+use Rattle.rounding.proofs.Arcing.{item_there, count_is}
 use Rattle.rounding.proofs.FormLemmas.{form_by_cells}
 use Rattle.rounding.proofs.Lone.{lone_weighted}
 

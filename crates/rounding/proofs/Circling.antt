@@ -1,5 +1,5 @@
 -- From a cell that isn't a multiple one can go on over another, and a walk that goes round leaves fewer of them.
-use Rattle.std.proofs.Common.{◌≡◌, ◌≢◌, ◌⊎◌, inl, inr, ℕ, ◌+◌, ◌<◌, ◌≤◌, ◌==◌, Bool, true, false, List, [], length, All, get_or, ℤ, pos, negsuc, ◌≤ℤ◌, arith, refl, ap, sym, subst, ◌∙◌, take, drop, ◌^◌, length-drop, length-take}
+use Rattle.std.proofs.Common.{◌≡◌, ◌≢◌, ◌⊎◌, inl, inr, ℕ, ◌+◌, ◌<◌, ◌≤◌, ◌==◌, Bool, true, false, List, length, All, get_or, ℤ, pos, negsuc, arith, refl, ap, sym, subst, ◌∙◌, take, drop, ◌^◌, length-drop, length-take}
 use Rattle.std.proofs.lemmas.List.{take-append-drop, get_or-take}
 use Rattle.std.specs.List.Sorted.{IsNonDecreasing}
 use Rattle.std.specs.List.{Contains}
@@ -13,7 +13,7 @@ use Rattle.sdc_base.specs.Roundings.{IsMultiple, IsRounding, number_at}
 use Rattle.rounding.specs.declared.arcs.Arc.{Arc}
 use Rattle.rounding.specs.declared.steps.Step.{Step}
 use Rattle.rounding.specs.Neighbours.{is_multiple}
-use Rattle.rounding.specs.Arcs.{brought, arc_at, cells_at, Touches, AreArcsOf, AreTouching, IsNetwork, IsBalanced}
+use Rattle.rounding.specs.Arcs.{brought, arc_at, cells_at, Touches, AreArcsOf, IsNetwork, IsBalanced}
 use Rattle.rounding.specs.Rings.{AreBeside, KeepMultiples}
 use Rattle.rounding.specs.Tasks.{IsTruth, IsProper}
 use Rattle.rounding.specs.Circuits.{IsAlong, IsMove, AreMoves, GoesRound}

@@ -1,10 +1,9 @@
 -- The turns of steps that move each cell once, and what going so far does.
-use Rattle.std.proofs.Common.{◌≡◌, ◌≢◌, ◌⊎◌, inl, inr, ℕ, zero, suc, ◌+◌, ◌*◌, ◌<◌, ◌≤◌, ◌^◌, ◌==◌, Bool, true, false, List, [], ◌∷◌, ◌++◌, length, All, map, take, drop, get_or, ℤ, pos, negsuc, neg_ℤ, ◌+ℤ◌, ◌-ℤ◌, ◌*ℤ◌, ◌≤ℤ◌, arith, refl, ap, sym, subst, ◌∙◌, if◌then◌else◌, FitsSigned}
+use Rattle.std.proofs.Common.{◌≡◌, ◌≢◌, ◌⊎◌, inl, inr, ℕ, zero, suc, ◌+◌, ◌*◌, ◌<◌, ◌≤◌, ◌^◌, ◌==◌, Bool, true, false, List, [], ◌∷◌, ◌++◌, length, All, take, ℤ, pos, negsuc, neg_ℤ, ◌+ℤ◌, ◌*ℤ◌, ◌≤ℤ◌, arith, refl, ap, sym, subst, ◌∙◌, if◌then◌else◌, FitsSigned}
 use Rattle.std.proofs.Math.ListN.{set}
 use Rattle.std.proofs.Math.IntN.{*ℤ_comm}
 use Rattle.std.specs.List.{AllPairs}
 use Rattle.std.specs.Int.{w128}
-use Rattle.std.specs.Int.RustNames.{int_rem}
 use Rattle.std.proofs.lemmas.Int.{ints}
 use Rattle.std.proofs.lemmas.Bool.{cases_lt}
 use Rattle.std.proofs.lemmas.Bool.Decides.{Decides-eqb, nat_tests}
@@ -16,7 +15,7 @@ use Rattle.sdc_base.proofs.TotalLemmas.{sum_of-cons}
 use Rattle.sdc_base.proofs.WholeNumbers.{distrib}
 use Rattle.rounding.specs.declared.arcs.Arc.{Arc}
 use Rattle.rounding.specs.declared.steps.Step.{Step}
-use Rattle.rounding.specs.Neighbours.{is_multiple, down}
+use Rattle.rounding.specs.Neighbours.{is_multiple}
 use Rattle.rounding.specs.Choices.{unrounded_cells}
 use Rattle.rounding.specs.Tasks.{IsTruth}
 use Rattle.rounding.specs.Arcs.{IsBalanced}
@@ -24,9 +23,9 @@ use Rattle.rounding.specs.Rings.{IsBeside, AreBeside, KeepMultiples, IsTurn, roo
 use Rattle.rounding.specs.Circuits.{IsMove, AreMoves, IsWalk, step_at, room_of, turns_of}
 use Rattle.rounding.proofs.Adjacency.{left_within}
 use Rattle.rounding.proofs.FormLemmas.{Changed}
-use Rattle.rounding.proofs.SumSteps.{changed_by_set, get_or_any}
+use Rattle.rounding.proofs.SumSteps.{changed_by_set}
 use Rattle.rounding.proofs.Walking.{Apart}
-use Rattle.rounding.proofs.Rings.{down_from, from_none, up_room, down_room, not_none, moved_beside, multiple_stays_put, one_becomes}
+use Rattle.rounding.proofs.Rings.{from_none, up_room, down_room, not_none, moved_beside, multiple_stays_put, one_becomes}
 use Rattle.rounding.proofs.Fewer.{fewer_from}
 use Rattle.rounding.proofs.Balances.{circuit_balanced, gone_balanced, balanced_same}
 

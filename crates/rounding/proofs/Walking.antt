@@ -1,7 +1,6 @@
 -- Walks from point to point, until one is met again.
-use Rattle.std.proofs.Common.{◌≡◌, ◌≢◌, ◌⊎◌, inl, inr, ℕ, zero, suc, ◌+◌, ◌<◌, ◌≤◌, ◌==◌, Bool, true, false, List, [], ◌∷◌, ◌++◌, length, All, map, drop, get_or, Some, ℤ, pos, negsuc, ◌-ℤ◌, arith, refl, ap, sym, subst, ◌∙◌, eqb, ◌||◌}
-use Rattle.std.specs.List.{AllPairs, Contains, IsDistinct, list_any}
-use Rattle.std.proofs.lemmas.Int.{ints}
+use Rattle.std.proofs.Common.{◌≡◌, ◌≢◌, ◌⊎◌, inl, inr, ℕ, zero, suc, ◌+◌, ◌<◌, ◌≤◌, true, false, List, [], ◌∷◌, ◌++◌, length, All, map, drop, get_or, Some, ℤ, pos, arith, refl, sym, subst, ◌∙◌, eqb, ◌||◌}
+use Rattle.std.specs.List.{AllPairs, IsDistinct, list_any}
 use Rattle.std.proofs.lemmas.Bool.Decides.{Decides-eqb, nat_tests}
 use Rattle.std.proofs.lemmas.List.Elements.{All-head, All-tail, All-cons, All-nil, All-push, All-pop, All-drop, All-weaker, All-get_or, All-map}
 use Rattle.std.proofs.lemmas.List.Quantifiers.{all_pairs_push}
@@ -10,7 +9,7 @@ use Rattle.std.proofs.lemmas.Map.Steps.{length-le_from_distinct_below}
 use Rattle.rounding.specs.declared.arcs.Arc.{Arc}
 use Rattle.rounding.specs.declared.steps.Step.{Step}
 use Rattle.rounding.specs.Arcs.{Touches, arc_at}
-use Rattle.rounding.specs.Circuits.{IsMove, AreMoves, IsAlong, Chained, IsWalk, step_at, start_at, GoesRound}
+use Rattle.rounding.specs.Circuits.{IsMove, AreMoves, IsAlong, Chained, start_at, GoesRound}
 
 abbrev pub Walked : List Arc → Step → Type 0
 Walked arcs step = (step.cell < length arcs) × IsAlong (arc_at arcs step.cell) step

@@ -1,5 +1,5 @@
 -- Walks over cells from point to point, and circuits, which end where they begin (own).
-use Rattle.std.specs.Prelude.{◌≡◌, ◌≢◌, ◌⊎◌, ℕ, ◌<◌, ◌≤◌, false, List, [], ◌∷◌, All, map, drop, length, slice_index_or, ℤ, pos, negsuc}
+use Rattle.std.specs.Prelude.{◌≡◌, ◌≢◌, ◌⊎◌, ℕ, ◌<◌, false, List, [], ◌∷◌, All, map, drop, length, slice_index_or, ℤ, pos, negsuc}
 use Rattle.std.specs.List.{AllPairs}
 use Rattle.sdc_base.specs.Forms.{Term}
 use Rattle.sdc_base.specs.Roundings.{number_at}

@@ -1,4 +1,4 @@
-ghost use Rattle.std.specs.Prelude.{◌≡◌, ◌≢◌, ◌<◌, ◌≤ℤ◌, ◌^◌, ℕ, length, pos, negsuc, neg_ℤ, slice_get, slice_index_or, Some, true, IfOk};
+ghost use Rattle.std.specs.Prelude.{◌≡◌, ◌≢◌, ◌<◌, ◌^◌, length, pos, negsuc, IfOk};
 ghost use Rattle.sdc_base.specs.Forms.{count_of as times_in_form};
 ghost use Rattle.sdc_base.specs.Signs.{AreSigns, signed};
 ghost use Rattle.rounding.specs.Namings.{IsNamingOf};

@@ -1,4 +1,4 @@
-ghost use Rattle.std.specs.Prelude.{◌≡◌, ◌≢◌, ◌<◌, ◌≤◌, ◌+◌, ◌++◌, ◌∷◌, ◌==◌, ◌^◌, [], ℕ, length, slice_index_or, if◌then◌else◌, IfOk, OnOk};
+ghost use Rattle.std.specs.Prelude.{◌≡◌, ◌<◌, ◌+◌, ◌++◌, ◌∷◌, ◌==◌, ◌^◌, [], ℕ, length, if◌then◌else◌, IfOk, OnOk};
 ghost use Rattle.sdc_base.specs.Signs.{AreSigns};
 ghost use Rattle.rounding.specs.Arcs.{AreArcsOf, AreTouching, IsNetwork, arc_at, cells_at};
 

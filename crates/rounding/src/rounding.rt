@@ -51,8 +51,8 @@ impl<'a> Rounding<'a> {
 /// units; `nodes` is how many lists of choices may be looked at where there are no signs, from 1. A truth that is a multiple of
 /// the base stays. Which of several roundings is given is free. `Memory` leaves nothing behind.
 ///
-/// Where the relations have signs, as those of tables of one or two variables have, each cell is an arc between two points, which
-/// are the relations and one more outside. No point has just one cell that isn't a multiple, so from such a cell one can walk on
+/// Where the relations have signs, as those of a table of one variable and of two flat ones have, each cell is an arc between two
+/// points, which are the relations and one more outside. No point has just one cell that isn't a multiple, so from such a cell one can walk on
 /// over others until a point comes again. The cells on the way round go up where they are passed along their arcs and down where
 /// against, by the least amount at which one of them comes to a multiple. The relations still hold, and fewer cells are left. So
 /// there is always a rounding, no list is looked at, and `Memory` is the one refusal. Cells are rounded in ascending number, and

@@ -1,4 +1,4 @@
-ghost use Rattle.std.specs.Prelude.{◌≡◌, ◌≢◌, ◌⊎◌, ◌<◌, ◌≤◌, ◌^◌, ◌≤ℤ◌, ◌*ℤ◌, ℕ, List, All, pos, negsuc, true, false, length, IfOk, OnOk};
+ghost use Rattle.std.specs.Prelude.{◌≡◌, ◌⊎◌, ◌<◌, ◌≤◌, ◌^◌, ◌≤ℤ◌, ◌*ℤ◌, ℕ, List, All, pos, negsuc, length};
 ghost use Rattle.sdc_base.specs.Forms.{coefficient};
 ghost use Rattle.sdc_base.specs.Roundings.{number_at};
 ghost use Rattle.rounding.specs.declared.arcs.Arc.{Arc as AnyArc};
@@ -14,6 +14,7 @@ use crate::steps::Step;
 // Truths, and the base to which they are rounded.
 #[derive(Clone, Copy)]
 pub(crate) struct Task<'a> {
+    // For the proof: what the numbers of the cells are to be near.
     pub(crate) truths: &'a [i128],
     pub(crate) base: i128,
 }

@@ -3,7 +3,7 @@ ghost use Rattle.std.specs.List.{Contains};
 ghost use Rattle.std.specs.List.Sorted.{IsNonDecreasing};
 ghost use Rattle.sdc_base.specs.Roundings.{number_at};
 ghost use Rattle.rounding.specs.Neighbours.{is_multiple as is_multiple_of};
-ghost use Rattle.rounding.specs.Arcs.{IsBalanced, IsNetwork, Touches, arc_at};
+ghost use Rattle.rounding.specs.Arcs.{IsBalanced, IsNetwork, arc_at};
 ghost use Rattle.rounding.specs.Rings.{AreBeside, AreWholeBelow};
 ghost use Rattle.rounding.specs.Circuits.{IsMove, IsAlong, GoesRound};
 
@@ -75,6 +75,7 @@ fn next_step(network: &Network, task: &Task<'_>, numbers: &[i128], first: u32, s
     let cells = network.touching[step.end as usize].as_slice();
     let left = behind(cells, place_from(cells, first));
     let Some(cell) = other_cell(task, numbers, left, step.cell) else {
+        // For the proof: what comes in here goes out, and multiples alone don't make up for one that is none.
         unreachable!()
     };
     step_from(step.end, cell, network.arcs[cell as usize])

@@ -36,4 +36,4 @@ returns-clause-said c =
     let all = take_all c.variables.k c.variables.variables.items (omega (arith, c.len.ensures, c.variables-test.false)) in
     c.variables.invariant.so_far
     ∙ fronts_end (take c.variables.k c.variables.variables.items) c.variables.places.items (drop c.variables.k c.variables.variables.items) c.args.line.now none
-    ∙ rw (all, c.new.ensures, c.new-2.ensures) refl
+    ∙ rw (all, c.new.ensures) refl

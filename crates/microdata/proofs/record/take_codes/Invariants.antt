@@ -6,7 +6,7 @@ use Rattle.microdata.proofs.record.take_codes.Given as goal
 
 abbrev pub invariant-variables : goal.invariant-variables
 invariant-variables l = record {
-  so_far : variables_say l.fn.variables l.line ≡ with_fronts (take l.k l.variables.items) l.places.items (variables_say (drop l.k l.variables.items) l.line);
+  so_far : variables_say l.fn.variables.items l.line ≡ with_fronts (take l.k l.variables.items) l.places.items (variables_say (drop l.k l.variables.items) l.line);
   count : length l.places.items ≡ l.k;
   within : l.k ≤ length l.variables.items;
   few : length l.variables.items ≤ 8;

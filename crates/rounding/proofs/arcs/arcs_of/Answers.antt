@@ -1,4 +1,4 @@
-use Rattle.std.proofs.Common.{◌≡◌, ◌∙◌, ◌++◌, ◌∷◌, [], List, length, length-append, arith, ap}
+use Rattle.std.proofs.Common.{◌∙◌, ◌∷◌, [], List, length, length-append, arith, ap}
 use Rattle.rounding.specs.declared.arcs.Arc.{Arc}
 use Rattle.rounding.proofs.NamingSteps.{listed_at}
 use Rattle.rounding.proofs.Arcing.{one_more_arc, all_arcs}

@@ -1,4 +1,4 @@
-use Rattle.std.proofs.Common.{◌≡◌, ◌∙◌, ◌++◌, drop, List, ℤ, length, arith, rules, ap, sym, subst, take_at, FitsSigned}
+use Rattle.std.proofs.Common.{◌≡◌, ◌∙◌, List, ℤ, length, arith, rules, ap, sym, subst, take_at, FitsSigned}
 use Rattle.std.specs.Int.{w128}
 use Rattle.std.proofs.lemmas.Int.{to_z-of_z}
 use Rattle.sdc_base.specs.Roundings.{number_at}

@@ -1,4 +1,4 @@
-use Rattle.std.proofs.Common.{◌≡◌, ◌<◌, length, arith}
+use Rattle.std.proofs.Common.{◌<◌, length, arith}
 use Rattle.rounding.proofs.Circling.{whole_more}
 use Rattle.rounding.proofs.cycles.round_cells.Goals as goal
 

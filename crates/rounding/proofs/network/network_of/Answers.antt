@@ -1,4 +1,4 @@
-use Rattle.std.proofs.Common.{◌≡◌, ◌∙◌, ◌+◌, ap, arith, List, length}
+use Rattle.std.proofs.Common.{◌∙◌, ◌+◌, ap, arith, List, length}
 use Rattle.sdc_base.specs.declared.relation.Relation.{Relation}
 use Rattle.rounding.proofs.Arcing.{arcs_within}
 use Rattle.rounding.proofs.network.network_of.Goals as goal

@@ -1,4 +1,4 @@
-use Rattle.std.proofs.Common.{◌≡◌, ◌⊎◌, ◌<◌, ◌*ℤ◌, ◌+ℤ◌, ℕ, ℤ, pos, negsuc, length, get_or, arith, rules, refl, ap, FitsSigned}
+use Rattle.std.proofs.Common.{◌≡◌, ◌⊎◌, ◌<◌, ◌*ℤ◌, ◌+ℤ◌, ℤ, pos, negsuc, length, arith, refl, ap, FitsSigned}
 use Rattle.std.specs.Int.{w128}
 use Rattle.std.proofs.lemmas.Int.{ints, to_z-of_z}
 use Rattle.std.proofs.lemmas.List.Elements.{All-get_or}

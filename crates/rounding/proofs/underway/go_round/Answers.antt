@@ -1,4 +1,4 @@
-use Rattle.std.proofs.Common.{◌≡◌, ◌⊎◌, ◌<◌, ℤ, pos, negsuc, length, arith, FitsSigned}
+use Rattle.std.proofs.Common.{◌≡◌, ◌⊎◌, ◌<◌, pos, negsuc, length, arith, FitsSigned}
 use Rattle.std.specs.Int.{w128}
 use Rattle.std.proofs.lemmas.Int.{ints, to_z-of_z}
 use Rattle.std.proofs.lemmas.List.Elements.{All-weaker}

@@ -1,4 +1,4 @@
-use Rattle.std.proofs.Common.{◌≤ℤ◌, All, List, length, arith, subst}
+use Rattle.std.proofs.Common.{◌≤ℤ◌, All, List, subst}
 use Rattle.std.proofs.lemmas.List.{take_all}
 use Rattle.rounding.specs.declared.steps.Step.{Step}
 use Rattle.rounding.specs.Circuits.{room_of, step_at}

@@ -1,4 +1,4 @@
-use Rattle.std.proofs.Common.{◌≡◌, ◌∙◌, ◌<◌, ◌-◌, ◌∷◌, [], List, length, length-append, arith, ap}
+use Rattle.std.proofs.Common.{◌∙◌, ◌<◌, ◌-◌, ◌∷◌, [], List, length, length-append, arith, ap}
 use Rattle.rounding.specs.declared.steps.Step.{Step}
 use Rattle.rounding.specs.Arcs.{arc_at}
 use Rattle.rounding.proofs.Circling.{read_step, from_read}
