@@ -6,6 +6,8 @@ mod answer;
 mod file_shelf;
 mod folder_tray;
 #[cfg(test)]
+mod demo_tests;
+#[cfg(test)]
 mod protected_tests;
 #[cfg(test)]
 mod reading_tests;

@@ -35,7 +35,14 @@ fn roundings(rt: HostRuntime) -> Result<(), Fail> {
             "<SUPPRESS> RND(5)\n",
             TWO,
             "11 3\n12 4\n21 6\n22 2\n",
-            "0 released: 4 records, 0 skipped, 0 passed over, 9 cells, 8 primary, 0 hidden\nargus certificate 1\nmethod RND 5\ncells 9\nrelations 6\nend\nA,B,V\nTotal,Total,15\nTotal,1,5\nTotal,2,10\n1,Total,5\n1,1,0\n1,2,5\n2,Total,10\n2,1,5\n2,2,5\n",
+            "0 released: 4 records, 0 skipped, 0 passed over, 9 cells, 8 primary, 0 hidden\nargus certificate 1\nmethod RND 5\ncells 9\nrelations 6\nend\nA,B,V\nTotal,Total,15\nTotal,1,10\nTotal,2,5\n1,Total,10\n1,1,5\n1,2,5\n2,Total,5\n2,1,5\n2,2,0\n",
+        ),
+        (
+            "\"A\"\"B\"",
+            "<NODES> 1\n<SUPPRESS> RND(2)\n",
+            TWO,
+            "11 1\n12 1\n21 1\n22 1\n",
+            "0 released: 4 records, 0 skipped, 0 passed over, 9 cells, 8 primary, 0 hidden\nargus certificate 1\nmethod RND 2\ncells 9\nrelations 6\nend\nA,B,V\nTotal,Total,4\nTotal,1,2\nTotal,2,2\n1,Total,2\n1,1,2\n1,2,0\n2,Total,2\n2,1,0\n2,2,2\n",
         ),
         (
             "\"A\"",

@@ -2,7 +2,7 @@ use apriori::PriorWhy;
 use hierarchy::TreeFault;
 use interval_audit::Question;
 use job_lang::{Command, JobWhy};
-use job_run::{Fault, FileRef, Report, Stuck, Summary, report_text, run};
+use job_run::{DemoSummary, Fault, FileRef, Report, Stuck, Summary, report_text, run};
 use microdata::RowWhy;
 use office_io::{MemoryShelf, MemoryTray};
 use rda_meta::MetaWhy;
@@ -46,7 +46,7 @@ const LISTED: &str =
 const LEVELS: &str =
     "A 1 2\n<RECODEABLE>\n<HIERARCHICAL>\n<HIERLEVELS> 1 1\n<TOTCODE> T\nV 3 3\n<NUMERIC>\n";
 
-const USAGE: &str = "1 usage: argus run JOB | check JOB | intervals JOB OUT | demo SEED RECORDS\n";
+pub(crate) const USAGE: &str = "1 usage: argus run JOB | check JOB | intervals JOB OUT | demo SEED RECORDS\n";
 
 // The files of a shelf that isn't sound: each of its calls from this one on counts.
 #[derive(Clone, Copy)]
@@ -657,7 +657,7 @@ fn a_tray_with_a_release(rt: HostRuntime) -> Result<(), Fail> {
 #[test]
 fn words(rt: HostRuntime) -> Result<(), Fail> {
     let files = [("r.job", JOB), ("m.rda", METADATA), ("m.asc", SEVEN)];
-    let rows: [(&[&str], &str); 12] = [
+    let rows: [(&[&str], &str); 11] = [
         (&[], USAGE),
         (&["run"], USAGE),
         (&["run", ""], USAGE),
@@ -667,7 +667,6 @@ fn words(rt: HostRuntime) -> Result<(), Fail> {
         (&["r.job", "run"], USAGE),
         (&["check", "r.job", "t.csv"], USAGE),
         (&["intervals", "r.job"], USAGE),
-        (&["demo", "1", "100"], USAGE),
         (&["run", "r"], "2 refused: job: Absent\n"),
         (&["run", "r.job"], RELEASED),
     ];
@@ -770,6 +769,24 @@ fn reports(rt: HostRuntime) -> Result<(), Fail> {
                 shown: Items::empty(rt.alloc()),
             },
             "4 undecided: size, cell 7 above, 2000 hidden\n",
+        ),
+        (
+            Report::Demo(DemoSummary {
+                status: 0,
+                summary: Some(summary),
+                certificate: None,
+                stopped: None,
+            }),
+            "0 demo: status 0, 1000000 records, 12 skipped, 5001 cells, 45 primary, 67 hidden\n",
+        ),
+        (
+            Report::Demo(DemoSummary {
+                status: 4,
+                summary: None,
+                certificate: None,
+                stopped: None,
+            }),
+            "0 demo: status 4\n",
         ),
         (
             Report::WriteFault(FileRef::Table(4_294_967_295)),

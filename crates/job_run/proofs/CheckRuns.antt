@@ -1,8 +1,7 @@
 -- A check of a release, from how it went on.
-use Rattle.std.proofs.Common.{◌≡◌, ◌≢◌, inl, inr, ℕ, List, Result, Ok, Err, IsOkAnd, refl, ap, sym}
+use Rattle.std.proofs.Common.{◌≡◌, ◌≢◌, inl, inr, ℕ, List, Result, Ok, Err, refl, ap, sym}
 use Rattle.sdc_base.specs.Answers.{Fails}
 use Rattle.sdc_base.specs.Told.{WhereTold}
-use Rattle.cert_check.specs.declared.faults.CheckFault.{CheckFault}
 use Rattle.office_io.specs.Files.{Files}
 use Rattle.office_io.specs.Shelves.{ShelfState}
 use Rattle.office_io.specs.Trays.{TrayState}
@@ -16,7 +15,7 @@ use Rattle.job_inputs.specs.declared.faults.Fault.{Fault}
 use Rattle.job_inputs.specs.declared.file_ref.FileRef.{FileRef}
 use Rattle.job_inputs.specs.declared.stop.InputStop.{InputStop}
 use Rattle.job_inputs.specs.declared.stop.InputStop.TheVariants as input
-use Rattle.job_run.specs.Checks.{MeetsCheck, SettlesCheck, IsCheckOf}
+use Rattle.job_run.specs.Checks.{IsCheckAnswer, MeetsCheck, SettlesCheck, IsCheckOf}
 use Rattle.job_run.specs.Reports.{report_of, HasCause, HasComeTo}
 use Rattle.job_run.specs.Stops.{inputs_stop}
 use Rattle.job_run.specs.declared.report.Report.{Report}
@@ -51,6 +50,7 @@ settles-check report.Memory (Ok released) h no_read = tt
 settles-check report.Memory (Err f) h no_read = inr refl
 settles-check (report.Released s) outcome h no_read = absurd h
 settles-check (report.Intervals n) outcome h no_read = absurd h
+settles-check (report.Demo demo) outcome h no_read = absurd h
 settles-check report.Usage outcome h no_read = absurd h
 settles-check (report.Cannot cell side multipliers) outcome h no_read = absurd h
 settles-check report.NoRounding outcome h no_read = absurd h
@@ -67,11 +67,22 @@ check-come (Ok fine) comes files new come = λ f is. absurd cc
 check-come (Err (check.Inputs why)) comes files new come = inputs-come why comes files new (come why refl)
 check-come (Err (check.NotAccepted why)) comes files new come = λ f is. absurd cc
 
+inputs-answer : (e : InputStop) → IsCheckAnswer (report_of (Err (inputs_stop e)))
+inputs-answer (input.Refused f) = tt
+inputs-answer (input.ReadFault f) = tt
+inputs-answer input.Memory = tt
+
+check-answers : (r : Result (Unit {0}) CheckStop) → IsCheckAnswer (check_report r)
+check-answers (Ok fine) = tt
+check-answers (Err (check.Inputs why)) = inputs-answer why
+check-answers (Err (check.NotAccepted why)) = tt
+
 -- what holds of how it went on holds of the check
 pub check-run : (name : List ℕ) (r : Result (Unit {0}) CheckStop) (old new : ShelfState) (tray : TrayState) → WhereTold old.files (λ fs. Comes (released_of fs name) r)
     → WhereTold old.files (λ fs. (e : InputStop) → r ≡ Err (check.Inputs e) → HasInputComeTo {X = Unit {0}} (ComesTo fs name) (Err e) fs new)
     → ((e : InputStop) → r ≡ Err (check.Inputs e) → HasInputCause {X = Unit {0}} (Err e) old new) → IsCheckOf name (check_report r) old new tray tray
 check-run name r old new tray told come cause = record {
+  answers = check-answers r;
   told = λ fs held. meets r (released_of fs name) (told fs held);
   complete = λ fs held no_read. settles-check (check_report r) (released_of fs name) (meets r (released_of fs name) (told fs held)) (λ f is. no_read ((check-cause r old new tray cause).read_fault f is));
   came_to = λ fs held. check-come r (ComesTo fs name) fs new (come fs held);

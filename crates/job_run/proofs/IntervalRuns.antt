@@ -1,15 +1,13 @@
 -- A run for intervals, from how it went on.
 use Rattle.std.proofs.Common.{◌≡◌, ◌≢◌, inl, inr, ℕ, List, Result, Ok, Err, IsOk, IsOkAnd, refl, ap, sym, subst}
 use Rattle.sdc_base.specs.Answers.{Fails}
-use Rattle.sdc_base.specs.Counts.{Rose}
 use Rattle.sdc_base.specs.Told.{WhereTold}
-use Rattle.cert_check.specs.declared.faults.CheckFault.{CheckFault}
 use Rattle.interval_audit.specs.declared.answer.AskFault.{AskFault}
 use Rattle.interval_audit.specs.declared.answer.AskFault.TheVariants as ask
 use Rattle.office_io.specs.Files.{Files}
 use Rattle.office_io.specs.Shelves.{ShelfState}
 use Rattle.office_io.specs.Trays.{TrayState, HasPut, HasPutInPart}
-use Rattle.job_inputs.specs.Reading.{stopped_for, HasCause as HasInputCause, HasComeTo as HasInputComeTo}
+use Rattle.job_inputs.specs.Reading.{stopped_for}
 use Rattle.job_inputs.specs.declared.faults.Fault.{Fault}
 use Rattle.job_inputs.specs.declared.file_ref.FileRef.{FileRef}
 use Rattle.job_inputs.specs.declared.file_ref.FileRef.TheVariants as file
@@ -21,7 +19,7 @@ use Rattle.job_intervals.specs.Stops.{HasCause as HasFindingCause, HasComeTo as 
 use Rattle.job_intervals.specs.declared.interval_file.IntervalFile.{IntervalFile}
 use Rattle.job_intervals.specs.declared.stop.IntervalStop.{IntervalStop}
 use Rattle.job_intervals.specs.declared.stop.IntervalStop.TheVariants as stop
-use Rattle.job_run.specs.IntervalRuns.{question_report, IsReportedSo, MeetsIntervals, IsIntervalPut, IsIntervalPart, IntervalsLeave, SettlesIntervals, IsIntervalRunOf}
+use Rattle.job_run.specs.IntervalRuns.{IsIntervalAnswer, question_report, IsReportedSo, MeetsIntervals, IsIntervalPut, IsIntervalPart, IntervalsLeave, SettlesIntervals, IsIntervalRunOf}
 use Rattle.job_run.specs.Reports.{report_of, HasCause, HasComeTo, LeavesAll}
 use Rattle.job_run.specs.Stops.{inputs_stop}
 use Rattle.job_run.specs.declared.report.Report.{Report}
@@ -121,21 +119,21 @@ stop-puts-none (stop.Inputs why) n is = inputs-put-none why n is
 stop-puts-none (stop.NotAccepted why) n is = absurd cc
 stop-puts-none (stop.Undecided why) n is = question-puts-none why n is
 
-inputs-no-usage : (e : InputStop) → report_of (Err (inputs_stop e)) ≢ report.Usage
-inputs-no-usage (input.Refused f) is = absurd cc
-inputs-no-usage (input.ReadFault f) is = absurd cc
-inputs-no-usage input.Memory is = absurd cc
+inputs-answer : (e : InputStop) → IsIntervalAnswer (report_of (Err (inputs_stop e)))
+inputs-answer (input.Refused f) = tt
+inputs-answer (input.ReadFault f) = tt
+inputs-answer input.Memory = tt
 
-question-no-usage : (why : AskFault) → question_report why ≢ report.Usage
-question-no-usage (ask.Work walk) is = absurd cc
-question-no-usage (ask.Wide walk place) is = absurd cc
-question-no-usage (ask.Size question hidden) is = absurd cc
-question-no-usage ask.Memory is = absurd cc
+question-answers : (why : AskFault) → IsIntervalAnswer (question_report why)
+question-answers (ask.Work walk) = tt
+question-answers (ask.Wide walk place) = tt
+question-answers (ask.Size question hidden) = tt
+question-answers ask.Memory = tt
 
-pub stop-no-usage : (e : IntervalStop) → stop_report e ≢ report.Usage
-stop-no-usage (stop.Inputs why) is = inputs-no-usage why is
-stop-no-usage (stop.NotAccepted why) is = absurd cc
-stop-no-usage (stop.Undecided why) is = question-no-usage why is
+stop-answers : (e : IntervalStop) → IsIntervalAnswer (stop_report e)
+stop-answers (stop.Inputs why) = inputs-answer why
+stop-answers (stop.NotAccepted why) = tt
+stop-answers (stop.Undecided why) = question-answers why
 
 -- ---- the answer settles what the files come to
 
@@ -154,6 +152,7 @@ settles report.Memory (Ok shelved) h no_read no_write = tt
 settles report.Memory (Err f) h no_read no_write = inr refl
 settles report.Accepted outcome h no_read no_write = absurd h
 settles (report.Released s) outcome h no_read no_write = absurd h
+settles (report.Demo demo) outcome h no_read no_write = absurd h
 settles report.Usage outcome h no_read no_write = absurd h
 settles (report.Cannot cell side multipliers) outcome h no_read no_write = absurd h
 settles report.NoRounding outcome h no_read no_write = absurd h
@@ -162,6 +161,7 @@ settles report.NoRounding outcome h no_read no_write = absurd h
 pub stopped-run : (name out : List ℕ) (e : IntervalStop) (old new : ShelfState) (tray : TrayState) → WhereTold old.files (λ fs. Comes (shelved_of fs name out) (Err e))
     → WhereTold old.files (λ fs. HasFindingComeTo (ComesTo fs name out) (Err e) fs new) → HasFindingCause (Err e) old new → IsIntervalRunOf name out (stop_report e) old new tray tray
 stopped-run name out e old new tray told come cause = record {
+  answers = stop-answers e;
   told = λ fs held. stop-meets e (shelved_of fs name out) (told fs held);
   left = λ fs held. stop-leaves e (shelved_of fs name out) out tray;
   complete = λ fs held no_read no_write.
@@ -202,6 +202,7 @@ part-leaves (Err f) intervals out before after h part = absurd h
 pub put-run : (name out : List ℕ) (intervals : IntervalFile) (old new : ShelfState) (before after : TrayState) → WhereTold old.files (λ fs. Comes (shelved_of fs name out) (Ok intervals)) → HasPut out intervals.bytes before after
     → IsIntervalRunOf name out (report.Intervals intervals.cells) old new before after
 put-run name out intervals old new before after told whole = record {
+  answers = tt;
   told = λ fs held. ok-is (shelved_of fs name out) _ (told fs held);
   left = λ fs held. put-leaves (shelved_of fs name out) intervals out before after (told fs held) whole;
   complete = λ fs held no_read no_write. settles (report.Intervals intervals.cells) (shelved_of fs name out) (ok-is (shelved_of fs name out) _ (told fs held)) (λ f is. absurd cc) (λ f is. absurd cc);
@@ -213,6 +214,7 @@ put-run name out intervals old new before after told whole = record {
 pub part-run : (name out : List ℕ) (intervals : IntervalFile) (old new : ShelfState) (before after : TrayState) → WhereTold old.files (λ fs. Comes (shelved_of fs name out) (Ok intervals)) → HasPutInPart out intervals.bytes before after
     → IsIntervalRunOf name out (report.WriteFault file.Out) old new before after
 part-run name out intervals old new before after told part = record {
+  answers = tt;
   told = λ fs held. ok-is (shelved_of fs name out) _ (told fs held);
   left = λ fs held. (refl, part-leaves (shelved_of fs name out) intervals out before after (told fs held) part);
   complete = λ fs held no_read no_write. absurd (no_write part.failed);
@@ -223,6 +225,7 @@ part-run name out intervals old new before after told part = record {
 -- there was no memory for the put
 pub no-memory-run : (name out : List ℕ) (old new : ShelfState) (tray : TrayState) → IsIntervalRunOf name out report.Memory old new tray tray
 no-memory-run name out old new tray = record {
+  answers = tt;
   told = λ fs held. tt;
   left = λ fs held. refl;
   complete = λ fs held no_read no_write. settles report.Memory (shelved_of fs name out) tt (λ f is. absurd cc) (λ f is. absurd cc);

@@ -17,10 +17,9 @@ use Rattle.linked_tables.specs.declared.mark.Mark.{Mark}
 use Rattle.microdata.specs.Leaves.{AreLeaves}
 use Rattle.microdata.specs.Ranges.{IsRow as IsReadRow}
 use Rattle.relations.specs.Holding.{AreTruths, HaveNoChildren, truth_at}
-use Rattle.tabulate.specs.Tabulated.{IsRow}
 use Rattle.job_inputs.proofs.Facts.{cells-are}
 use Rattle.job_inputs.proofs.Filling.{rows-are}
-use Rattle.job_inputs.specs.Cells.{cells, truth_in}
+use Rattle.job_inputs.specs.Cells.{truth_in}
 use Rattle.job_inputs.specs.Sound.{AreSound}
 use Rattle.job_inputs.specs.Tabulated.{IsBookOf}
 use Rattle.job_inputs.specs.declared.inputs.Inputs.{Inputs}

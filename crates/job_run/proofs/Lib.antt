@@ -10,6 +10,9 @@ pub mod ShownLaws
 pub mod Outcomes
 pub mod Settling
 pub mod ReleaseRuns
+pub mod SecondRuns
+pub mod DemoJobs
+pub mod DemoRuns
 pub mod CheckRuns
 pub mod IntervalRuns
 pub mod PutSteps

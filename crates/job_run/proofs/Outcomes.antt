@@ -1,5 +1,5 @@
 -- What a run comes to, from what its inputs came to.
-use Rattle.std.proofs.Common.{◌≡◌, ◌⊎◌, inl, inr, List, ℕ, Bool, true, false, not, Result, Ok, Err, IsErrOf, IsOkAnd, refl, ap}
+use Rattle.std.proofs.Common.{◌≡◌, inl, inr, List, ℕ, Result, Ok, Err, IsErrOf, IsOkAnd, refl, ap}
 use Rattle.sdc_base.specs.Answers.{Fails}
 use Rattle.sdc_base.specs.Counts.{Rose}
 use Rattle.office_io.specs.Files.{Files}
@@ -153,8 +153,8 @@ pub released-cause : (summary : Summary) (old new : ShelfState) (before after : 
 released-cause summary old new before after = record { absent = λ f is. absurd cc; too_long = λ f is. absurd cc; read_fault = λ f is. absurd cc; write_fault = λ f is. absurd cc; tree = λ f is. absurd cc }
 
 -- what holds of a run that released holds where the report says so
-pub report-released : (r : Result Summary Stop) (s : Summary) (P : Summary → Type 0) → report_of r ≡ report.Released s → ((t : Summary) → r ≡ Ok t → P t) → P s
-report-released (Ok t) s P e h = let same : t ≡ s = cc in rw (← same) (h t refl)
+pub report-released : (r : Result Release Stop) (s : Summary) (P : Summary → Type 0) → report_of r ≡ report.Released s → ((release : Release) → r ≡ Ok release → P release.summary) → P s
+report-released (Ok t) s P e h = let same : t.summary ≡ s = cc in rw (← same) (h t refl)
 report-released (Err (stop.Refused g)) s P e h = absurd cc
 report-released (Err (stop.Cannot cell side multipliers)) s P e h = absurd cc
 report-released (Err stop.NoRounding) s P e h = absurd cc

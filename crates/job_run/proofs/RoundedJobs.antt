@@ -1,5 +1,5 @@
 -- What a job that rounds comes to.
-use Rattle.std.proofs.Common.{◌≡◌, ℕ, ◌^◌, ◌≤◌, List, [], ◌∷◌, length, map, slice_get, All, Option, Some, Ok, Err, Bor, ◌<◌, arith, refl, ap, sym, subst, ◌∙◌, ℤ, pos, negsuc, ◌*ℤ◌, ◌≤ℤ◌, ◌<ℤ◌}
+use Rattle.std.proofs.Common.{◌≡◌, ℕ, List, [], ◌∷◌, length, map, All, Option, Some, Ok, Err, Bor, ◌<◌, arith, refl, ap, sym, subst, ◌∙◌, ℤ, pos, negsuc, ◌*ℤ◌, ◌≤ℤ◌, ◌<ℤ◌}
 use Rattle.std.proofs.lemmas.List.{get_or_default, length-map}
 use Rattle.std.proofs.lemmas.List.Elements.{All-nil, All-cons, All-head, All-tail}
 use Rattle.std.proofs.lemmas.Int.{ints, by_lt_z}
@@ -167,10 +167,10 @@ certificate-is settled job system base truths task =
     (sym (length-map system.relations sum_in) ∙ ap length (its-relations settled.inputs system is))
 
 -- a rounding makes a rounded release
-pub rounded-comes : (settled : SettledInputs) (job : SettledJob) (system : System) (base : ℤ) (truths values : List ℤ) (certificate : Certificate) (release : Release) → IsTask settled job system base truths
+pub rounded-comes : (settled : SettledInputs) (job : SettledJob) (system : System) (base : ℤ) (truths values : List ℤ) (certificate : Certificate) (release : Release) → IsTask settled job system base truths → release.certificate ≡ certificate
     → IsRounding system truths base values → certificate ≡ without_hidden_cells job.described.job.method system.cells (length system.relations) → certificate_of (text_of certificate) ≡ Ok certificate
     → release.puts ≡ puts_of settled.inputs (value_in settled.inputs values) certificate → release.summary ≡ summary_of settled 0 → Comes settled (Ok release)
-rounded-comes settled job system base truths values certificate release task rounding is read puts numbers =
+rounded-comes settled job system base truths values certificate release task given rounding is read puts numbers =
     let same : certificate ≡ rounded_certificate settled.inputs = is ∙ certificate-is settled job system base truths task in
     subst (λ (b : Option ℤ). IsReleaseBy b settled release) (sym (its-base settled job system base truths task)) (record {
       values = values;
@@ -182,4 +182,5 @@ rounded-comes settled job system base truths values certificate release task rou
       read_back = subst (λ (one : Certificate). certificate_of (text_of one) ≡ Ok one) same read;
       puts = puts ∙ ap (puts_of settled.inputs (value_in settled.inputs values)) same;
       numbers = numbers;
+      certificate_is = given ∙ same;
     })

@@ -1,5 +1,5 @@
 -- The inputs of a job have one system: what is a rounding for one of it is one for another.
-use Rattle.std.proofs.Common.{◌≡◌, ℕ, List, [], ◌∷◌, length, map, All, arith, ap, sym, subst, ◌∙◌, ℤ, pos, ◌-ℤ◌}
+use Rattle.std.proofs.Common.{◌≡◌, ℕ, List, [], ◌∷◌, length, map, arith, ap, sym, subst, ◌∙◌, ℤ, pos, ◌-ℤ◌}
 use Rattle.std.proofs.lemmas.List.Elements.{All-cons, All-head, All-tail}
 use Rattle.sdc_base.specs.Relations.{Sum, relations_among}
 use Rattle.sdc_base.specs.Roundings.{IsRounding, number_at}
@@ -8,12 +8,9 @@ use Rattle.sdc_base.specs.Totals.{sum_of}
 use Rattle.sdc_base.specs.Trees.{Tree}
 use Rattle.sdc_base.specs.declared.relation.Relation.{Relation}
 use Rattle.sdc_base.specs.declared.system.System.{System}
-use Rattle.linked_tables.specs.Held.{Held}
-use Rattle.linked_tables.specs.Shared.{cells as cells_in}
 use Rattle.relations.specs.Holding.{sum_in}
 use Rattle.job_inputs.proofs.Facts.{cells-are}
 use Rattle.job_inputs.specs.Cells.{cells}
-use Rattle.job_inputs.specs.Tabulated.{IsBookOf}
 use Rattle.job_inputs.specs.declared.inputs.Inputs.{Inputs}
 use Rattle.job_run.specs.Roundings.{IsSystemIn}
 

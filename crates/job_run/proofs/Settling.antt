@@ -7,7 +7,7 @@ use Rattle.job_inputs.specs.Settled.{SettledInputs, settled_of}
 use Rattle.job_inputs.specs.declared.purpose.Purpose.TheVariants as purpose
 use Rattle.job_run.specs.Endings.{IsReleaseOf}
 use Rattle.job_run.specs.Puts.{AllWhole}
-use Rattle.job_run.specs.Released.{Releases}
+use Rattle.job_run.specs.Released.{Releases, HasReleased}
 use Rattle.job_run.specs.Reports.{Meets, Settles}
 use Rattle.job_run.specs.declared.put.Release.{Release}
 use Rattle.job_inputs.specs.declared.faults.Fault.{Fault}
@@ -16,8 +16,12 @@ use Rattle.job_run.specs.declared.report.Report.TheVariants as report
 
 -- a release is what its record says
 pub release-is : (files : Files) (name : List ℕ) (settled : SettledInputs) (release : Release) (old new : TrayState) → settled_of purpose.Release files name ≡ Ok settled → IsReleaseOf settled release → AllWhole release.puts old new
-    → Releases files name release.summary old new
-release-is files name settled release old new read is whole = record { settled = settled; release = release; read = read; is_release = is; numbers = refl; put = whole }
+    → HasReleased files name release old new
+release-is files name settled release old new read is whole = record { settled = settled; read = read; is_release = is; put = whole }
+
+-- the same, by its numbers
+pub releases-by : (files : Files) (name : List ℕ) (release : Release) (old new : TrayState) → HasReleased files name release old new → Releases files name release.summary old new
+releases-by files name release old new has = record { settled = has.settled; release = release; read = has.read; is_release = has.is_release; numbers = refl; put = has.put }
 
 -- without a fault of shelf or tray the first fault is the answer, or the run ends, or there is no memory
 pub settles : (answer : Report) (outcome : Result SettledInputs Fault) → Meets answer outcome → ((f : FileRef) → answer ≢ report.ReadFault f) → ((f : FileRef) → answer ≢ report.WriteFault f) → Settles answer outcome
@@ -25,6 +29,7 @@ settles (report.Released s) (Ok settled) meets no_read no_write = tt
 settles (report.Released s) (Err f) meets no_read no_write = absurd cc
 settles report.Accepted outcome meets no_read no_write = absurd meets
 settles (report.Intervals cells) outcome meets no_read no_write = absurd meets
+settles (report.Demo demo) outcome meets no_read no_write = absurd meets
 settles report.Usage outcome meets no_read no_write = absurd meets
 settles (report.Refused f) (Ok settled) meets no_read no_write = absurd cc
 settles (report.Refused f) (Err g) meets no_read no_write = inl (let same : g ≡ f = cc in ap report.Refused (sym same))

@@ -24,3 +24,7 @@ pub cannot-appended : (cell side reason : List ℕ)
     → codes "cannot protect cell " ++ (cell ++ (32 ∷ (side ++ (10 ∷ (reason ++ 10 ∷ [])))))
     ≡ ((codes "cannot protect " ++ ((codes "cell " ++ (cell ++ (codes " " ++ side))) ++ 10 ∷ [])) ++ reason) ++ 10 ∷ []
 cannot-appended cell side reason = simp (append_assoc, cons-front, nil-front)
+
+-- the line of a demonstration that was released, as one text
+pub demo-appended : (status numbers : List ℕ) → codes "demo: status " ++ (status ++ (44 ∷ (32 ∷ (numbers ++ 10 ∷ [])))) ≡ codes "demo: status " ++ ((status ++ (codes ", " ++ numbers)) ++ 10 ∷ [])
+demo-appended status numbers = simp (append_assoc, cons-front, nil-front)

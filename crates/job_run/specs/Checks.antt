@@ -22,6 +22,15 @@ MeetsCheck (report.ReadFault file) outcome = Unit {0}
 MeetsCheck report.Memory outcome = Unit {0}
 MeetsCheck other outcome = ⊥
 
+-- what a check can answer, whatever the shelf tells
+abbrev pub IsCheckAnswer : Report → Type 0
+IsCheckAnswer report.Accepted = Unit {0}
+IsCheckAnswer (report.NotAccepted why) = Unit {0}
+IsCheckAnswer (report.Refused reason) = Unit {0}
+IsCheckAnswer (report.ReadFault file) = Unit {0}
+IsCheckAnswer report.Memory = Unit {0}
+IsCheckAnswer other = ⊥
+
 -- what a check of a release ends with: it is accepted, or it isn't, or there is no memory
 abbrev pub IsCheckEnd : Report → Type 0
 IsCheckEnd report.Accepted = Unit {0}
@@ -37,6 +46,7 @@ SettlesCheck answer (Err reason) = (answer ≡ report.Refused reason) ⊎ (answe
 -- A check of the job of this name: its answer is what the told files come to, it comes to files in their order, and it puts nothing,
 -- whatever the shelf and the tray tell.
 pub record IsCheckOf (name : List ℕ) (answer : Report) (old new : ShelfState) (before after : TrayState) : Type 0 where
+  pub answers : IsCheckAnswer answer
   pub told : WhereTold old.files (λ fs. MeetsCheck answer (released_of fs name))
   pub complete : WhereTold old.files (λ fs. ¬ Rose old.faults new.faults → SettlesCheck answer (released_of fs name))
   pub came_to : WhereTold old.files (λ fs. HasComeTo (ComesTo fs name) answer fs new)

@@ -1,5 +1,6 @@
 -- What words ask for (own).
-use Rattle.std.specs.Prelude.{◌≡◌, ℕ, List, [], ◌∷◌, if◌then◌else◌, Option, None, Some, codes}
+use Rattle.std.specs.Prelude.{◌≡◌, ℕ, ◌-◌, ◌^◌, List, [], ◌∷◌, if◌then◌else◌, Option, None, Some, option_and_then, option_map, codes}
+use Rattle.certificate.specs.Numerals.{natural_in}
 use Rattle.std.specs.Str.{bytes_eq}
 
 -- the name of a job, where the words are this verb and a name of one byte or more
@@ -20,8 +21,18 @@ abbrev pub interval_names : List (List ℕ) → Option (List ℕ × List ℕ)
 interval_names (word ∷ (b ∷ name) ∷ (d ∷ out) ∷ []) = if bytes_eq word (codes "intervals") then Some (b ∷ name, d ∷ out) else None
 interval_names words = None
 
+-- a seed up to 2^64 - 1 and a number of records from 1 to 1,000,000, where two words spell these, without zeros in front
+abbrev pub seed_and_records : List ℕ → List ℕ → Option (ℕ × ℕ)
+seed_and_records seed records = option_and_then (λ s. option_map (λ n. (s, n)) (natural_in 1 1000000 records)) (natural_in 0 (2 ^ 64 - 1) seed)
+
+-- `demo SEED RECORDS`
+abbrev pub demo_numbers : List (List ℕ) → Option (ℕ × ℕ)
+demo_numbers (word ∷ seed ∷ records ∷ []) = if bytes_eq word (codes "demo") then seed_and_records seed records else None
+demo_numbers words = None
+
 -- the words are none of these
 pub record AreUsage (words : List (List ℕ)) : Type 0 where
   pub no_run : run_job words ≡ None
   pub no_check : check_job words ≡ None
   pub no_intervals : interval_names words ≡ None
+  pub no_demo : demo_numbers words ≡ None

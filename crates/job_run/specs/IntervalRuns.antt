@@ -29,6 +29,17 @@ pub record IsReportedSo (shelved : ShelvedTables) (answer : Report) : Type 0 whe
   pub is_report : answer ≡ question_report fault
   pub is_so : IsUndecidedFor shelved fault
 
+-- what a run for intervals can answer, whatever shelf and tray tell
+abbrev pub IsIntervalAnswer : Report → Type 0
+IsIntervalAnswer (report.Intervals cells) = Unit {0}
+IsIntervalAnswer (report.NotAccepted why) = Unit {0}
+IsIntervalAnswer (report.Undecided why repairs shown) = Unit {0}
+IsIntervalAnswer (report.Refused reason) = Unit {0}
+IsIntervalAnswer (report.ReadFault file) = Unit {0}
+IsIntervalAnswer (report.WriteFault file) = Unit {0}
+IsIntervalAnswer report.Memory = Unit {0}
+IsIntervalAnswer other = ⊥
+
 -- What the report says of the told files, which come to settled inputs with tables or to a first fault: the intervals were found, or the
 -- tables have this fault, or a question stopped short, or a refusal names the files' first fault. Want of memory and faults of the
 -- shelf say nothing of them.
@@ -77,6 +88,7 @@ SettlesIntervals answer (Err reason) = (answer ≡ report.Refused reason) ⊎ (a
 -- A run for the intervals of the job of this name, to be put under the name `out`: its answer is what the told files come to, it comes
 -- to files in their order, and where it says that intervals were found, one put was made, whatever the shelf and the tray tell.
 pub record IsIntervalRunOf (name out : List ℕ) (answer : Report) (old new : ShelfState) (before after : TrayState) : Type 0 where
+  pub answers : IsIntervalAnswer answer
   pub told : WhereTold old.files (λ fs. MeetsIntervals answer (shelved_of fs name out))
   pub left : WhereTold old.files (λ fs. IntervalsLeave answer (shelved_of fs name out) out before after)
   pub complete : WhereTold old.files (λ fs. ¬ Rose old.faults new.faults → ¬ Rose before.faults after.faults → SettlesIntervals answer (shelved_of fs name out))

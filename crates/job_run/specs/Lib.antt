@@ -13,4 +13,7 @@ pub mod ReleaseRuns
 pub mod Checks
 pub mod IntervalRuns
 pub mod CheckTexts
+pub mod Demos
+pub mod Summaries
+pub mod SecondRuns
 pub mod ReportText

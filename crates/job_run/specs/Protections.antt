@@ -39,6 +39,7 @@ pub record IsSuppressedRelease (settled : SettledInputs) (release : Release) : T
   pub read_back : certificate_of (text_of certificate) ≡ Ok certificate
   pub puts : release.puts ≡ puts_of settled.inputs (shown_in settled.inputs hidden_set.hidden.flags) certificate
   pub numbers : release.summary ≡ summary_of settled (length certificate.hidden)
+  pub certificate_is : release.certificate ≡ certificate
 
 -- the protection of settled inputs stops short at a question, with these repairs and these cells shown
 abbrev pub StopsShort : SettledInputs → AskFault → List Refuted → List ℕ → Type 0

@@ -1,5 +1,5 @@
 -- What a run prints of its report, and the status it ends with (own).
-use Rattle.std.specs.Prelude.{ℕ, ◌+◌, List, [], ◌∷◌, ◌++◌, codes, decimal, flat_map}
+use Rattle.std.specs.Prelude.{ℕ, List, [], ◌∷◌, ◌++◌, codes, decimal, flat_map, Option, None, Some}
 use Rattle.std.specs.Fmt.{signed_decimal}
 use Rattle.sdc_base.specs.Forms.{Term}
 use Rattle.sdc_base.specs.Sides.{side_word}
@@ -20,6 +20,7 @@ abbrev pub status_of : Report → ℕ
 status_of (report.Released summary) = 0
 status_of report.Accepted = 0
 status_of (report.Intervals cells) = 0
+status_of (report.Demo demo) = 0
 status_of report.Usage = 1
 status_of (report.Refused reason) = 2
 status_of (report.Cannot cell side multipliers) = 3
@@ -39,6 +40,20 @@ summary_text s =
     ++ (decimal s.cells ++ (codes " cells, "
     ++ (decimal s.primary ++ (codes " primary, "
     ++ (decimal s.hidden ++ codes " hidden"))))))))))
+
+-- the numbers of a demonstration's release
+abbrev pub demo_numbers_text : Summary → List ℕ
+demo_numbers_text s =
+    decimal s.records ++ (codes " records, "
+    ++ (decimal s.skipped ++ (codes " skipped, "
+    ++ (decimal s.cells ++ (codes " cells, "
+    ++ (decimal s.primary ++ (codes " primary, "
+    ++ (decimal s.hidden ++ codes " hidden"))))))))
+
+-- the status of a demonstration, and the numbers of its release
+abbrev pub demo_text : ℕ → Option Summary → List ℕ
+demo_text status None = decimal status
+demo_text status (Some s) = decimal status ++ (codes ", " ++ demo_numbers_text s)
 
 -- a cell and a side
 abbrev pub cell_text : ℕ → Side → List ℕ
@@ -68,6 +83,7 @@ abbrev pub report_line : Report → List ℕ
 report_line (report.Released summary) = codes "released: " ++ summary_text summary
 report_line report.Accepted = codes "accepted"
 report_line (report.Intervals cells) = codes "intervals: " ++ (decimal cells ++ codes " cells")
+report_line (report.Demo demo) = codes "demo: status " ++ demo_text demo.status demo.summary
 report_line report.Usage = codes "usage: argus run JOB | check JOB | intervals JOB OUT | demo SEED RECORDS"
 report_line (report.Refused reason) = codes "refused: " ++ fault_text reason
 report_line (report.Cannot cell side multipliers) = cannot_line cell side ++ multipliers_text multipliers

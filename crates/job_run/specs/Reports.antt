@@ -16,7 +16,6 @@ use Rattle.job_run.specs.Roundings.{HasNoRounding}
 use Rattle.job_run.specs.declared.put.Release.{Release}
 use Rattle.job_inputs.specs.declared.faults.Fault.{Fault}
 use Rattle.job_inputs.specs.declared.faults.Fault.TheVariants as fault
-use Rattle.job_run.specs.declared.report.Summary.{Summary}
 use Rattle.job_run.specs.declared.report.Report.{Report}
 use Rattle.job_run.specs.declared.report.Report.TheVariants as report
 use Rattle.job_run.specs.declared.stop.Stop.{Stop}
@@ -29,6 +28,7 @@ abbrev pub Meets : Report → Result SettledInputs Fault → Type 0
 Meets (report.Released summary) outcome = IsOk outcome
 Meets report.Accepted outcome = ⊥
 Meets (report.Intervals cells) outcome = ⊥
+Meets (report.Demo demo) outcome = ⊥
 Meets report.Usage outcome = ⊥
 Meets (report.Refused reason) outcome = outcome ≡ Err reason
 Meets (report.Cannot cell side multipliers) outcome = IsOkAnd outcome (λ settled. IsProtectionFor settled (protection.Cannot cell side multipliers))
@@ -38,6 +38,16 @@ Meets (report.Undecided why repairs shown) outcome = IsOkAnd outcome (λ settled
 Meets (report.ReadFault file) outcome = Unit {0}
 Meets (report.WriteFault file) outcome = IsOk outcome
 Meets report.Memory outcome = Unit {0}
+
+-- what a run for a release can answer, whatever shelf and tray tell: neither what is said of a check, of intervals or of a
+-- demonstration, nor the usage line
+abbrev pub IsReleaseAnswer : Report → Type 0
+IsReleaseAnswer report.Accepted = ⊥
+IsReleaseAnswer (report.NotAccepted why) = ⊥
+IsReleaseAnswer (report.Intervals cells) = ⊥
+IsReleaseAnswer (report.Demo demo) = ⊥
+IsReleaseAnswer report.Usage = ⊥
+IsReleaseAnswer other = Unit {0}
 
 -- Where not all was put, the tray holds a part of the puts of a release of the told files: after a write fault those before the named
 -- file whole and the first bytes of that one, after want of memory some of them or none. Each was counted once.
@@ -49,6 +59,7 @@ Leaves other outcome old new = Unit {0}
 -- a report after which the tray is as it was, whatever the shelf tells
 abbrev pub LeavesAll : Report → TrayState → TrayState → Type 0
 LeavesAll report.Accepted old new = new ≡ old
+LeavesAll (report.Demo demo) old new = new ≡ old
 LeavesAll report.Usage old new = new ≡ old
 LeavesAll (report.Refused reason) old new = new ≡ old
 LeavesAll (report.Cannot cell side multipliers) old new = new ≡ old
@@ -88,8 +99,8 @@ Settles answer (Ok settled) = IsEnd answer
 Settles answer (Err reason) = (answer ≡ report.Refused reason) ⊎ (answer ≡ report.Memory)
 
 -- the report of how a run went on
-abbrev pub report_of : Result Summary Stop → Report
-report_of (Ok summary) = report.Released summary
+abbrev pub report_of : Result Release Stop → Report
+report_of (Ok release) = report.Released release.summary
 report_of (Err (stop.Refused reason)) = report.Refused reason
 report_of (Err (stop.Cannot cell side multipliers)) = report.Cannot cell side multipliers
 report_of (Err stop.NoRounding) = report.NoRounding

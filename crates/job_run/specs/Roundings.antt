@@ -79,3 +79,4 @@ pub record IsRoundedRelease (settled : SettledInputs) (base : ℤ) (release : Re
   pub read_back : certificate_of (text_of (rounded_certificate settled.inputs)) ≡ Ok (rounded_certificate settled.inputs)
   pub puts : release.puts ≡ puts_of settled.inputs (value_in settled.inputs values) (rounded_certificate settled.inputs)
   pub numbers : release.summary ≡ summary_of settled 0
+  pub certificate_is : release.certificate ≡ rounded_certificate settled.inputs

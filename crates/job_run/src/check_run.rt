@@ -20,7 +20,6 @@ pub(crate) fn check_job<S: Shelf, T: Tray>(
     ensures check { IsCheckOf name.now result (S.state shelf.old) (S.state shelf.new) (T.state tray.old) (T.state tray.new) }
     ensures untouched { LeavesAll result (T.state tray.old) (T.state tray.new) }
     ensures cause { HasCause result (S.state shelf.old) (S.state shelf.new) (T.state tray.old) (T.state tray.new) }
-    ensures no_usage { result ≢ Report.Usage }
 {
     match check_release(alloc, shelf, name) {
         Ok(()) => Report::Accepted,

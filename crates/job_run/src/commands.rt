@@ -1,6 +1,8 @@
-ghost use Rattle.std.specs.Prelude.{◌≡◌, option_map};
+ghost use Rattle.std.specs.Prelude.{◌≡◌, ◌≤◌, ◌^◌, IfSome, option_map};
+ghost use Rattle.certificate.specs.Numerals as numerals;
 ghost use Rattle.job_run.specs.Commands as commands;
 
+use plain_text::wide_number_in;
 use sdc_base::Text;
 
 /// The name of a job, where the words are this verb and a name of one byte or more.
@@ -28,4 +30,40 @@ pub(crate) fn interval_names(words: &[Text]) -> Option<(&Text, &Text)>
     } else {
         None
     }
+}
+
+/// The seed and the number of records, where the words are `demo SEED RECORDS` with plain whole numbers in range.
+pub(crate) fn demo_numbers(words: &[Text]) -> Option<(u64, u32)>
+    ensures { result ≡ commands.demo_numbers words.now }
+{
+    if words.len() == 3 && words[0].as_slice() == b"demo".as_slice() {
+        seed_and_records(words[1].as_slice(), words[2].as_slice())
+    } else {
+        None
+    }
+}
+
+// A seed up to 2^64 - 1, and a number of records from 1 to 1,000,000.
+fn seed_and_records(seed: &[u8], records: &[u8]) -> Option<(u64, u32)>
+    ensures { result ≡ commands.seed_and_records seed.now records.now }
+{
+    let Some(seed) = plain_number(0, u128::from(u64::MAX), seed) else {
+        return None;
+    };
+    let Some(records) = plain_number(1, 1_000_000, records) else {
+        return None;
+    };
+    Some((seed as u64, records as u32))
+}
+
+// The number that a word spells, without zeros in front of other digits.
+fn plain_number(low: u128, high: u128, word: &[u8]) -> Option<u128>
+    requires { high ≤ 2 ^ 127 }
+    ensures value { result ≡ numerals.natural_in low high word.now }
+    ensures within { IfSome result (λ n. (low ≤ n) × (n ≤ high)) }
+{
+    if word.len() > 1 && word[0] == b'0' {
+        return None;
+    }
+    wide_number_in(low, high, word)
 }

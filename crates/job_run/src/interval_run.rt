@@ -23,7 +23,6 @@ pub(crate) fn put_intervals<S: Shelf, T: Tray>(
     ensures intervals { IsIntervalRunOf name.now out.now result (S.state shelf.old) (S.state shelf.new) (T.state tray.old) (T.state tray.new) }
     ensures untouched { LeavesAll result (T.state tray.old) (T.state tray.new) }
     ensures cause { HasCause result (S.state shelf.old) (S.state shelf.new) (T.state tray.old) (T.state tray.new) }
-    ensures no_usage { result ≢ Report.Usage }
 {
     match find_intervals(alloc, shelf, name, out) {
         Ok(file) => match tray.put(out, file.bytes.as_slice()) {

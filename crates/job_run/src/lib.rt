@@ -4,6 +4,7 @@
 mod check_run;
 mod check_texts;
 mod commands;
+mod demo;
 mod interval_run;
 mod laws;
 mod numbers;
@@ -19,7 +20,7 @@ mod running;
 mod stop;
 
 pub use job_inputs::{Fault, FileRef};
-pub use laws::rounded_tables_add_up;
+pub use laws::{rounded_tables_add_up, second_runs_complete};
 pub use printing::report_text;
-pub use report::{Report, Stuck, Summary};
+pub use report::{DemoSummary, Report, Stuck, Summary};
 pub use running::run;

@@ -3,7 +3,7 @@ ghost use Rattle.job_run.specs.ReportText.{status_of, term_text as spec_term, mu
 ghost use Rattle.job_run.specs.declared.report.Report.TheVariants as AnyReport;
 
 use crate::check_texts::CheckKind;
-use crate::report::{Report, Stuck, Summary};
+use crate::report::{DemoSummary, Report, Stuck, Summary};
 use interval_audit::Question;
 use sdc_base::{Memory, Side, Text};
 use std::alloc::Global;
@@ -12,7 +12,7 @@ use std::fmt::Display;
 use worlds::Multipliers;
 
 impl Report {
-    /// The status with which the program ends: 0 for a release, one that is accepted and intervals, 1 for the usage line, 2 for a
+    /// The status with which the program ends: 0 for a release, one that is accepted, intervals and a demonstration, 1 for the usage line, 2 for a
     /// refusal, 3 for a cell that can't be protected, where there is no rounding and for a release that isn't accepted, 4 where a question or the search for a rounding stopped short, 5 and 6 for a
     /// fault in reading and in writing, 7 for want of memory. The numbers are argus's own.
     pub fn status(&self) -> u8
@@ -22,6 +22,7 @@ impl Report {
             Report::Released(_) => 0,
             Report::Accepted => 0,
             Report::Intervals(_) => 0,
+            Report::Demo(_) => 0,
             Report::Usage => 1,
             Report::Refused(_) => 2,
             Report::Cannot { .. } => 3,
@@ -51,6 +52,7 @@ pub fn report_text(alloc: Global, report: &Report) -> Result<Text, Memory>
         Report::Released(summary) => format!(in alloc; "released: {summary}\n")?,
         Report::Accepted => format!(in alloc; "accepted\n")?,
         Report::Intervals(cells) => format!(in alloc; "intervals: {cells} cells\n")?,
+        Report::Demo(demo) => return demo_text(alloc, demo),
         Report::Usage => format!(in alloc;
             "usage: argus run JOB | check JOB | intervals JOB OUT | demo SEED RECORDS\n"
         )?,
@@ -65,6 +67,20 @@ pub fn report_text(alloc: Global, report: &Report) -> Result<Text, Memory>
         Report::WriteFault(file) => format!(in alloc; "write fault: {file}\n")?,
         Report::Memory => format!(in alloc; "memory\n")?,
     };
+    Ok(Text::new(line.into_bytes()))
+}
+
+// The line of a demonstration: its status, and the numbers of its release.
+fn demo_text(alloc: Global, demo: &DemoSummary) -> Result<Text, Memory>
+    ensures { IfOk result (λ text. text ≡ line_of (AnyReport.Demo demo.now) ++ 10 ∷ []) }
+{
+    let status = demo.status;
+    if let Some(summary) = demo.summary {
+        let numbers = DemoNumbers { summary };
+        let line = format!(in alloc; "demo: status {status}, {numbers}\n")?;
+        return Ok(Text::new(line.into_bytes()));
+    }
+    let line = format!(in alloc; "demo: status {status}\n")?;
     Ok(Text::new(line.into_bytes()))
 }
 
@@ -130,6 +146,34 @@ impl Display for Summary {
         write!(
             f,
             "{records} records, {skipped} skipped, {passed_over} passed over, {cells} cells, {primary} primary, {hidden} hidden"
+        )
+    }
+}
+
+/// The numbers of a demonstration's release, as they are printed.
+#[derive(Clone, Copy)]
+struct DemoNumbers {
+    summary: Summary,
+}
+
+impl Display for DemoNumbers {
+    ghost use Rattle.std.specs.Prelude.{Some};
+    ghost use Rattle.job_run.specs.ReportText.{demo_numbers_text};
+
+    ghost output = { λ numbers. Some (demo_numbers_text numbers.summary) };
+
+    fn fmt<W: fmt::Write>(&self, f: &mut fmt::Formatter<W>) -> fmt::Result {
+        let Summary {
+            records,
+            skipped,
+            cells,
+            primary,
+            hidden,
+            ..
+        } = self.summary;
+        write!(
+            f,
+            "{records} records, {skipped} skipped, {cells} cells, {primary} primary, {hidden} hidden"
         )
     }
 }

@@ -1,4 +1,5 @@
 use crate::report::Summary;
+use certificate::Certificate;
 use job_inputs::FileRef;
 use sdc_base::{Items, Text};
 
@@ -10,9 +11,10 @@ pub(crate) struct Put {
     pub bytes: Items<u8>,
 }
 
-/// What a release puts, in this order, and its numbers.
+/// What a release puts, in this order, its numbers, and its certificate.
 #[derive(Drop)]
 pub(crate) struct Release {
     pub puts: Items<Put>,
     pub summary: Summary,
+    pub certificate: Certificate,
 }

@@ -87,7 +87,11 @@ fn suppressed_release(alloc: Global, job: SettledJob) -> Result<Release, Stop>
             let shown = Shown::Hidden(protected.hidden());
             let puts = puts_for(alloc, &described, &book, shown, &certificate)?;
             summary.hidden = certificate.hidden.as_slice().len() as u32;
-            Ok(Release { puts, summary })
+            Ok(Release {
+                puts,
+                summary,
+                certificate,
+            })
         }
         Protection::Cannot {
             cell,

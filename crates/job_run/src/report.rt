@@ -1,6 +1,8 @@
 use cert_check::CheckFault;
+use certificate::Certificate;
 use interval_audit::{Question, Walk, WidePlace};
 use job_inputs::{Fault, FileRef};
+use repair::Stopped;
 use sdc_base::{Items, Side};
 use worlds::{Multipliers, Refuted};
 
@@ -19,6 +21,20 @@ pub struct Summary {
     pub primary: u32,
     /// Hidden cells, the primary ones with them; 0 where the job rounds.
     pub hidden: u32,
+}
+
+/// What came of a demonstration.
+#[derive(Drop)]
+pub struct DemoSummary {
+    /// The status: 0 for a release, 2 for a refusal, 3 for a cell that can't be protected, 4 for a question that stopped short.
+    pub status: u8,
+    /// The numbers of the release, exactly where the status is 0.
+    pub summary: Option<Summary>,
+    /// The certificate of the release, exactly where the status is 0.
+    pub certificate: Option<Certificate>,
+    /// The question that stopped short, exactly where the status is 4, with the repairs and the cells shown again until then. Never
+    /// want of memory.
+    pub stopped: Option<Stopped>,
 }
 
 /// Why a question, or the search for a rounding, stopped short of an answer.
@@ -44,7 +60,9 @@ pub enum Report {
     Accepted,
     /// The intervals of so many hidden cells were put.
     Intervals(u32),
-    /// The words are none of the forms that are built.
+    /// What came of a demonstration.
+    Demo(DemoSummary),
+    /// The words are none of the four forms.
     Usage,
     /// The inputs have this fault, and nothing was put.
     Refused(Fault),

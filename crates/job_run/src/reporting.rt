@@ -1,15 +1,16 @@
 ghost use Rattle.std.specs.Prelude.{◌≡◌};
 ghost use Rattle.job_run.specs.Reports.{report_of};
 
-use crate::report::{Report, Summary};
+use crate::put::Release;
+use crate::report::Report;
 use crate::stop::Stop;
 
 /// The report of how a run of a job went on.
-pub(crate) fn report(outcome: Result<Summary, Stop>) -> Report
+pub(crate) fn report(outcome: Result<Release, Stop>) -> Report
     ensures { result ≡ report_of outcome }
 {
     match outcome {
-        Ok(summary) => Report::Released(summary),
+        Ok(release) => Report::Released(release.summary),
         Err(Stop::Refused(fault)) => Report::Refused(fault),
         Err(
             Stop::Cannot {

@@ -42,7 +42,11 @@ pub(crate) fn rounded_release(alloc: Global, job: SettledJob, base: i128) -> Res
     let shown = Shown::Rounded(values);
     let certificate = empty_certificate(alloc, described.job.method, &system);
     let puts = puts_for(alloc, &described, &book, shown, &certificate)?;
-    Ok(Release { puts, summary })
+    Ok(Release {
+        puts,
+        summary,
+        certificate,
+    })
 }
 
 // The truth of each cell.

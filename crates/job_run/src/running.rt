@@ -6,18 +6,21 @@ ghost use Rattle.job_inputs.specs.Settled.{settled_of};
 ghost use Rattle.job_run.specs.Checks.{IsCheckOf};
 ghost use Rattle.job_run.specs.Commands as commands;
 ghost use Rattle.job_run.specs.Commands.{AreUsage};
+ghost use Rattle.job_run.specs.Demos.{IsDemoRunOf};
 ghost use Rattle.job_run.specs.IntervalRuns.{IsIntervalRunOf};
 ghost use Rattle.job_run.specs.ReleaseRuns.{IsReleaseRunOf};
-ghost use Rattle.job_run.specs.Released.{Releases};
+ghost use Rattle.job_run.specs.Released.{HasReleased};
 ghost use Rattle.job_run.specs.Reports.{Meets, Leaves, LeavesAll, Settles, HasCause, HasComeTo, report_of};
 ghost use Rattle.job_run.specs.declared.report.Summary.{Summary as Numbers};
 
 use crate::check_run::check_job;
-use crate::commands::{interval_names, job_behind};
+use crate::commands::{demo_numbers, interval_names, job_behind};
+use crate::demo::run_demo;
 use crate::interval_run::put_intervals;
 use crate::puts::put_files;
 use crate::release::release_for;
-use crate::report::{Report, Summary};
+use crate::put::Release;
+use crate::report::Report;
 use crate::reporting::report;
 use crate::stop::Stop;
 use job_inputs::{Purpose, read_settled};
@@ -26,7 +29,8 @@ use sdc_base::Text;
 use std::alloc::Global;
 
 /// Does what the words say: `run JOB` puts a release of a job, `check JOB` says whether the release that stands under the job's
-/// names is one, and `intervals JOB OUT` puts what a reader of its tables can find out of each hidden cell.
+/// names is one, `intervals JOB OUT` puts what a reader of its tables can find out of each hidden cell, and `demo SEED RECORDS`
+/// protects a made survey of so many records, 1 to 1,000,000, drawn from a seed.
 ///
 /// Of a job its metadata, the code lists and hierarchies of its spanning variables and its microdata are looked at in this order,
 /// then the number of cells, the a priori files by table, the cells with what is stated of them, and whether a put would take the
@@ -40,7 +44,8 @@ use std::alloc::Global;
 /// Other words are answered with the usage line. Usage, a refusal and a fault of the shelf leave the tray as it was, and so does
 /// each answer without a release or intervals. After a fault of the tray the files put before the one that failed stand whole, and
 /// of that one its first bytes may be there; after want of memory some of the files may have been put whole. No file is put twice,
-/// and `check` puts nothing. It takes any words, any shelf and any tray.
+/// and `check` puts nothing. `demo` makes its files in memory, runs its job there in the same way, and says what came of it; it
+/// looks neither at the shelf nor at the tray. It takes any words, any shelf and any tray.
 ///
 /// Over a shelf that tells nothing, as one over real files, four answers have a cause that counts show: that a file is absent,
 /// that one is too long, a read fault and a write fault. What else is refused, and what is put, is said of told files alone.
@@ -57,6 +62,9 @@ pub fn run<S: Shelf, T: Tray>(alloc: Global, words: &[Text], shelf: &mut S, tray
     ensures check { WhereTold (commands.check_job words.now) (λ name. IsCheckOf name result (S.state shelf.old) (S.state shelf.new) (T.state tray.old) (T.state tray.new)) }
     ensures intervals { WhereTold (commands.interval_names words.now) (λ names. IsIntervalRunOf names.0 names.1 result (S.state shelf.old) (S.state shelf.new) (T.state tray.old) (T.state tray.new)) }
 
+    // What `demo SEED RECORDS` answers, whatever the shelf and the tray tell.
+    ensures demo { WhereTold (commands.demo_numbers words.now) (λ numbers. IsDemoRunOf numbers.0 numbers.1 result (S.state shelf.old) (S.state shelf.new) (T.state tray.old) (T.state tray.new)) }
+
     // That the tray is as it was, and that a file is absent or too long, a read fault and a write fault have their cause, whatever the
     // shelf and the tray tell.
     ensures untouched { LeavesAll result (T.state tray.old) (T.state tray.new) }
@@ -71,6 +79,9 @@ pub fn run<S: Shelf, T: Tray>(alloc: Global, words: &[Text], shelf: &mut S, tray
     if let Some((name, out)) = interval_names(words) {
         return put_intervals(alloc, name, out, shelf, tray);
     }
+    if let Some((seed, records)) = demo_numbers(words) {
+        return run_demo(alloc, seed, records);
+    }
     Report::Usage
 }
 
@@ -79,28 +90,27 @@ fn put_release<S: Shelf, T: Tray>(alloc: Global, name: &Text, shelf: &mut S, tra
     ensures release { IsReleaseRunOf name.now result (S.state shelf.old) (S.state shelf.new) (T.state tray.old) (T.state tray.new) }
     ensures untouched { LeavesAll result (T.state tray.old) (T.state tray.new) }
     ensures cause { HasCause result (S.state shelf.old) (S.state shelf.new) (T.state tray.old) (T.state tray.new) }
-    ensures no_usage { result ≢ Report.Usage }
 {
     report(run_job(alloc, name, shelf, tray))
 }
 
 // The whole run of a job: everything that is put is made before the first put.
-fn run_job<S: Shelf, T: Tray>(
+pub(crate) fn run_job<S: Shelf, T: Tray>(
     alloc: Global,
     name: &Text,
     shelf: &mut S,
     tray: &mut T,
-) -> Result<Summary, Stop>
+) -> Result<Release, Stop>
     ensures told { WhereTold (S.state shelf.old).files (λ fs. Meets (report_of result) (settled_of Purpose.Release fs name.now)) }
     ensures left { WhereTold (S.state shelf.old).files (λ fs. Leaves (report_of result) (settled_of Purpose.Release fs name.now) (T.state tray.old) (T.state tray.new)) }
     ensures untouched { LeavesAll (report_of result) (T.state tray.old) (T.state tray.new) }
     ensures some { OnOk result ((count : ℕ) × (2 ≤ count) × (count ≤ 9) × ((T.state tray.new).puts ≡ counted (T.state tray.old).puts count)) }
-    ensures released { WhereTold (S.state shelf.old).files (λ fs. IfOk result (λ summary. Releases fs name.now summary (T.state tray.old) (T.state tray.new))) }
+    ensures released { WhereTold (S.state shelf.old).files (λ fs. IfOk result (λ release. HasReleased fs name.now release (T.state tray.old) (T.state tray.new))) }
     ensures cause { HasCause (report_of result) (S.state shelf.old) (S.state shelf.new) (T.state tray.old) (T.state tray.new) }
     ensures came_to { WhereTold (S.state shelf.old).files (λ fs. HasComeTo (ComesTo Purpose.Release fs name.now) (report_of result) fs (S.state shelf.new)) }
 {
     let settled = read_settled(alloc, shelf, name, Purpose::Release)?;
     let release = release_for(alloc, settled)?;
     put_files(tray, release.puts.as_slice())?;
-    Ok(release.summary)
+    Ok(release)
 }

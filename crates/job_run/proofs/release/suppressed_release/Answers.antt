@@ -1,4 +1,4 @@
-use Rattle.std.proofs.Common.{◌≡◌, arith, length, Bool, List, ℕ, ap, sym, ◌∙◌}
+use Rattle.std.proofs.Common.{◌≡◌, arith, refl, length, Bool, List, ℕ, ap, sym, ◌∙◌}
 use Rattle.sdc_base.specs.declared.hidden.Hidden.{Hidden}
 use Rattle.cell_protection.specs.declared.protection.Protection.TheVariants as protection
 use Rattle.job_run.specs.Releases.{puts_of, shown_in}
@@ -39,6 +39,7 @@ returns-in-Protected-clause-comes c = λ settled is.
           ∙ ap (λ (flags : List Bool). puts_of settled.inputs (shown_in settled.inputs flags) c.in-Protected.certificate) (ap (λ (hidden : Hidden). hidden.flags) c.hidden.ensures.hidden);
       numbers = with-hidden settled c.numbers_of-summary.result (length c.as_slice-in-Protected.result.now) (length c.in-Protected.certificate.hidden) (c.numbers_of-summary.ensures settled is)
           (ap (λ (numbers : List ℕ). length numbers) c.as_slice-in-Protected.ensures);
+      certificate_is = refl;
     })
 
 pub returns-in-Cannot-clause-comes : goal.returns-in-Cannot-clause-comes

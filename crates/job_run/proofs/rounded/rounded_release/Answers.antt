@@ -1,4 +1,4 @@
-use Rattle.std.proofs.Common.{Err, List, ℤ, map, ap, sym, ◌∙◌, FitsSigned}
+use Rattle.std.proofs.Common.{Err, List, ℤ, map, ap, refl, sym, ◌∙◌, FitsSigned}
 use Rattle.std.specs.Int.{w128}
 use Rattle.std.proofs.lemmas.Int.{to_z-of_z}
 use Rattle.sdc_base.specs.declared.cell.Cell.{Cell}
@@ -55,7 +55,7 @@ returns-clause-comes c = λ settled is.
     } in
     let rounding = c.in-Ok.ensures.rounding in
     let certificate = c.empty_certificate-certificate.result in
-    rounded-comes settled c.args.job c.in_ok-system.system c.args.base c.as_slice-2.result.now c.in-Ok.rounding.values certificate _ task (simp to_z-of_z at rounding)
+    rounded-comes settled c.args.job c.in_ok-system.system c.args.base c.as_slice-2.result.now c.in-Ok.rounding.values certificate _ task refl (simp to_z-of_z at rounding)
     c.empty_certificate-certificate.ensures c.in_ok-puts.ensures.read_back
     (c.in_ok-puts.ensures.puts settled.inputs (sym is.described) is.book
     ∙ ap (λ (values : List ℤ). puts_of settled.inputs (value_in settled.inputs values) certificate) c.values-values.ensures.values)

@@ -1,0 +1,89 @@
+-- A demonstration, from how its run went on.
+use Rattle.std.proofs.Common.{◌≡◌, ◌≤◌, ℕ, List, Result, Ok, Err, Option, None, Some, IfOk, OnOk, IsOkAnd, refl, sym, subst, arith}
+use Rattle.sdc_base.specs.Counts.{Rose, counted}
+use Rattle.sdc_base.specs.Told.{WhereTold}
+use Rattle.sdc_base.specs.declared.memory.Memory.{Memory}
+use Rattle.demo_files.specs.DemoFiles.{demo_files, job_name}
+use Rattle.demo_files.specs.Steady.{shelf_with, empty_tray}
+use Rattle.office_io.specs.Shelves.{ShelfState}
+use Rattle.office_io.specs.Trays.{TrayState}
+use Rattle.worlds.specs.declared.refuted.Refuted.{Refuted}
+use Rattle.job_inputs.specs.Settled.{settled_of}
+use Rattle.job_inputs.specs.declared.purpose.Purpose.TheVariants as purpose
+use Rattle.job_run.specs.Demos.{IsDemoOf, SaysAnswer, SaysStuck}
+use Rattle.job_run.specs.Endings.{IsUndecided}
+use Rattle.job_run.specs.Released.{HasReleased}
+use Rattle.job_inputs.specs.Looks.{ComesTo}
+use Rattle.job_run.specs.Reports.{Meets, Leaves, HasCause, HasComeTo, report_of}
+use Rattle.job_run.specs.Summaries.{demo_of, stuck_demo}
+use Rattle.job_run.specs.declared.put.Release.{Release}
+use Rattle.job_run.specs.declared.report.DemoSummary.{DemoSummary}
+use Rattle.job_run.specs.declared.report.Stuck.{Stuck}
+use Rattle.job_run.specs.declared.report.Stuck.TheVariants as stuck
+use Rattle.job_run.specs.declared.stop.Stop.{Stop}
+use Rattle.job_run.specs.declared.stop.Stop.TheVariants as stop
+use Rattle.job_run.proofs.DemoJobs.{demo-hides}
+use Rattle.job_run.proofs.Outcomes.{ok-and}
+use Rattle.job_run.proofs.ReleaseRuns.{release-run}
+
+ok-is : {A F : Type 0} {a b : A} → ◌≡◌ {A = Result A F} (Ok a) (Ok b) → a ≡ b
+ok-is {A} {F} {a} {b} is = let same : a ≡ b = cc in same
+
+never-rose : (old new : ℕ) → old ≡ 0 → new ≡ 0 → Rose old new → ⊥
+never-rose old new is_old is_new rose = absurd (omega (arith, is_old, is_new, rose))
+
+none-some : {A : Type 0} {a : A} (o : Option A) → o ≡ None → o ≡ Some a → ⊥
+none-some o is_none is_some = absurd cc
+
+-- what stopped short of the job of a demonstration is a question
+says-stuck : (seed records : ℕ) (why : Stuck) (repairs : List Refuted) (shown : List ℕ) → IsOkAnd (settled_of purpose.Release (demo_files seed records) job_name) (λ settled. IsUndecided settled why repairs shown)
+    → SaysStuck why repairs shown (stuck_demo why repairs shown)
+says-stuck seed records (stuck.Work walk) repairs shown meets = refl
+says-stuck seed records (stuck.Wide walk place) repairs shown meets = refl
+says-stuck seed records (stuck.Size question hidden) repairs shown meets = refl
+says-stuck seed records (stuck.Nodes nodes) repairs shown meets =
+    let read = ok-and (λ settled. IsUndecided settled (stuck.Nodes nodes) repairs shown) (settled_of purpose.Release (demo_files seed records) job_name) meets in
+    none-some _ (demo-hides seed records read.0 read.1) read.2.0.rounds
+
+-- it says what its run answered
+says : (seed records : ℕ) (outcome : Result Release Stop) (after : ShelfState) (tray : TrayState) (demo : DemoSummary)
+    → after.faults ≡ 0 → tray.faults ≡ 0 → Meets (report_of outcome) (settled_of purpose.Release (demo_files seed records) job_name)
+    → HasCause (report_of outcome) (shelf_with (demo_files seed records)) after empty_tray tray
+    → IfOk outcome (λ release. HasReleased (demo_files seed records) job_name release empty_tray tray)
+    → demo_of outcome ≡ Ok demo → SaysAnswer (demo_files seed records) (report_of outcome) tray demo
+says seed records (Ok release) after tray demo calm still meets cause released is = (release, released, refl, sym (ok-is is))
+says seed records (Err (stop.Refused reason)) after tray demo calm still meets cause released is = sym (ok-is is)
+says seed records (Err (stop.Cannot cell side multipliers)) after tray demo calm still meets cause released is = sym (ok-is is)
+says seed records (Err stop.NoRounding) after tray demo calm still meets cause released is = sym (ok-is is)
+says seed records (Err (stop.Undecided why repairs shown)) after tray demo calm still meets cause released is = rw (sym (ok-is is)) (says-stuck seed records why repairs shown meets)
+says seed records (Err (stop.ReadFault file)) after tray demo calm still meets cause released is = absurd (never-rose _ _ refl calm (cause.read_fault file refl))
+says seed records (Err (stop.WriteFault file)) after tray demo calm still meets cause released is = absurd (never-rose _ _ refl still (cause.write_fault file refl))
+says seed records (Err stop.Memory) after tray demo calm still meets cause released is = absurd cc
+
+-- all that holds of how a run for a release went on
+pub record WentOn (name : List ℕ) (outcome : Result Release Stop) (old new : ShelfState) (before after : TrayState) : Type 0 where
+  pub told : WhereTold old.files (λ fs. Meets (report_of outcome) (settled_of purpose.Release fs name))
+  pub left : WhereTold old.files (λ fs. Leaves (report_of outcome) (settled_of purpose.Release fs name) before after)
+  pub some : OnOk outcome ((count : ℕ) × (2 ≤ count) × (count ≤ 9) × (after.puts ≡ counted before.puts count))
+  pub released : WhereTold old.files (λ fs. IfOk outcome (λ release. HasReleased fs name release before after))
+  pub cause : HasCause (report_of outcome) old new before after
+  pub come : WhereTold old.files (λ fs. HasComeTo (ComesTo purpose.Release fs name) (report_of outcome) fs new)
+
+from-memory : (seed records : ℕ) (outcome : Result Release Stop) (after : ShelfState) (tray : TrayState) (result : Result DemoSummary Memory) → after.faults ≡ 0 → tray.faults ≡ 0
+    → WentOn job_name outcome (shelf_with (demo_files seed records)) after empty_tray tray → result ≡ demo_of outcome → IfOk result (λ demo. IsDemoOf seed records demo)
+from-memory seed records outcome after tray (Ok demo) calm still went is = record {
+  answer = report_of outcome;
+  after = after;
+  tray = tray;
+  run = release-run job_name outcome _ after empty_tray tray went.told went.left went.some went.released went.cause went.come;
+  says = says seed records outcome after tray demo calm still (went.told (demo_files seed records) refl) went.cause (went.released (demo_files seed records) refl) (sym is);
+}
+from-memory seed records outcome after tray (Err none) calm still went is = tt
+
+-- what holds of how its run went on holds of a demonstration
+pub demo-run : (seed records : ℕ) (name : List ℕ) (outcome : Result Release Stop) (old after : ShelfState) (before tray : TrayState) (result : Result DemoSummary Memory) → name ≡ job_name → old ≡ shelf_with (demo_files seed records) → before ≡ empty_tray
+    → after.faults ≡ 0 → tray.faults ≡ 0 → WentOn name outcome old after before tray → result ≡ demo_of outcome → IfOk result (λ demo. IsDemoOf seed records demo)
+demo-run seed records name outcome old after before tray result is_name is_old is_before calm still went is =
+    from-memory seed records outcome after tray result calm still
+    (subst (λ (n : List ℕ). WentOn n outcome (shelf_with (demo_files seed records)) after empty_tray tray) is_name
+    (subst (λ (o : ShelfState). WentOn name outcome o after empty_tray tray) is_old (subst (λ (t : TrayState). WentOn name outcome old after t tray) is_before went))) is

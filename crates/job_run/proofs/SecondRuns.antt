@@ -1,0 +1,114 @@
+-- A second run completes what the first left in part.
+use Rattle.std.proofs.Common.{◌≡◌, ◌≢◌, ◌∙◌, ℕ, zero, suc, ◌+◌, Bool, true, false, ◌||◌, List, [], ◌∷◌, Option, None, Some, Result, Ok, option_map, if◌then◌else◌, map, take, slice_get, refl, ap, sym, subst, ℤ}
+use Rattle.std.specs.List.{AllByRecursion, list_any}
+use Rattle.std.specs.Str.{bytes_eq}
+use Rattle.std.proofs.lemmas.Slice.Eq.{bytes_eq-Decides}
+use Rattle.certificate.specs.declared.certificate.Certificate.{Certificate}
+use Rattle.job_lang.specs.declared.job.OutputLine.{OutputLine}
+use Rattle.job_lang.specs.declared.job.TableLine.{TableLine}
+use Rattle.office_io.specs.Files.{Files, put, told_file}
+use Rattle.office_io.specs.Trays.{TrayState}
+use Rattle.job_inputs.specs.Settled.{SettledInputs, settled_of}
+use Rattle.job_inputs.specs.declared.file_ref.FileRef.{FileRef}
+use Rattle.job_inputs.specs.declared.inputs.Inputs.{Inputs}
+use Rattle.job_inputs.specs.declared.purpose.Purpose.TheVariants as purpose
+use Rattle.sdc_base.specs.Records.{Name}
+use Rattle.job_run.specs.Endings.{IsReleaseBy}
+use Rattle.job_run.specs.Puts.{put_all, AllWhole, IsInPart, OneInPart}
+use Rattle.job_run.specs.Releases.{tables_from, shown_in, value_in}
+use Rattle.job_run.specs.Roundings.{base_of, rounded_certificate}
+use Rattle.job_run.specs.SecondRuns.{is_put_by, SecondRunsComplete}
+use Rattle.job_run.specs.declared.put.Put.{Put}
+use Rattle.job_run.specs.declared.put.Release.{Release}
+use Rattle.job_run.proofs.Outcomes.{ok-and}
+
+-- none of the puts is of this name
+abbrev OfOthers : List ℕ → List Put → Type 0
+OfOthers other puts = AllByRecursion (λ (p : Put). other ≢ p.name) puts
+
+-- ---- puts of other names
+
+put_other : (files : Files) (name bytes other : List ℕ) → other ≢ name → put files name bytes other ≡ files other
+put_other files name bytes other differs =
+    elim (bytes_eq name other) as (λ same. bytes_eq name other ≡ same → (if same then Some bytes else files other) ≡ files other) [
+      | true ↦ λ is. absurd (differs (sym ((bytes_eq-Decides name other).0 is)))
+      | false ↦ λ _. refl
+    ] refl
+
+all-others : (other : List ℕ) (puts : List Put) (out : Files) → OfOthers other puts → put_all out puts other ≡ out other
+all-others other [] out apart = refl
+all-others other (p ∷ puts) out apart = all-others other puts (put out p.name p.bytes) apart.1 ∙ put_other out p.name p.bytes other apart.0
+
+front-others : (other : List ℕ) (k : ℕ) (puts : List Put) → OfOthers other puts → OfOthers other (take k puts)
+front-others other zero puts apart = tt
+front-others other (suc k) [] apart = tt
+front-others other (suc k) (p ∷ puts) apart = (apart.0, front-others other k puts apart.1)
+
+one-other : (other : List ℕ) (k : ℕ) (puts : List Put) (next : Put) → OfOthers other puts → slice_get puts k ≡ Some next → other ≢ next.name
+one-other other k [] next apart is = absurd cc
+one-other other zero (p ∷ puts) next apart is = let same : p ≡ next = cc in subst (λ (one : Put). other ≢ one.name) same apart.0
+one-other other (suc k) (p ∷ puts) next apart is = one-other other k puts next apart.1 is
+
+whole-others : (other : List ℕ) (puts : List Put) (old new : TrayState) → OfOthers other puts → AllWhole puts old new → told_file new.files other ≡ told_file old.files other
+whole-others other puts old new apart whole = ap (λ (files : Option Files). told_file files other) whole.files ∙ by old.files
+  where
+    by : (o : Option Files) → told_file (option_map (λ out. put_all out puts) o) other ≡ told_file o other
+    by None = refl
+    by (Some out) = ap Some (all-others other puts out apart)
+
+part-others : (other : List ℕ) (puts : List Put) (file : FileRef) (old new : TrayState) → OfOthers other puts → OneInPart puts file old new → told_file new.files other ≡ told_file old.files other
+part-others other puts file old new apart part = ap (λ (files : Option Files). told_file files other) is.files ∙ by old.files
+  where
+    k : ℕ
+    k = part.0
+    n : ℕ
+    n = part.1
+    is : IsInPart puts file k n old new
+    is = part.2
+    by : (o : Option Files) → told_file (option_map (λ out. put (put_all out (take k puts)) is.next.name (take n is.next.bytes)) o) other ≡ told_file o other
+    by None = refl
+    by (Some out) = ap Some (put_other (put_all out (take k puts)) is.next.name (take n is.next.bytes) other (one-other other k puts is.next apart is.is_next) ∙ all-others other (take k puts) out (front-others other k puts apart))
+
+-- ---- a release puts the files of its job
+
+neither : (a b : Bool) → (a || b) ≡ false → (a ≡ false) × (b ≡ false)
+neither true b h = absurd cc
+neither false b h = (refl, h)
+
+apart-name : (name other : List ℕ) → bytes_eq name other ≡ false → other ≢ name
+apart-name name other h same = let yes : bytes_eq name other ≡ true = (bytes_eq-Decides name other).1 (sym same) in absurd cc
+
+tables-others : (other : List ℕ) (inputs : Inputs) (shown : Name → Option ℤ) (t : ℕ) (lines : List TableLine) (outputs : List OutputLine) → list_any (λ file. bytes_eq file other) (map (λ (o : OutputLine). o.file) outputs) ≡ false
+    → OfOthers other (tables_from inputs shown t lines outputs)
+tables-others other inputs shown t [] outputs none = tt
+tables-others other inputs shown t (line ∷ lines) [] none = tt
+tables-others other inputs shown t (line ∷ lines) (output ∷ outputs) none =
+    let both = neither (bytes_eq output.file other) (list_any (λ file. bytes_eq file other) (map (λ (o : OutputLine). o.file) outputs)) none in
+    (apart-name output.file other both.0, tables-others other inputs shown (t + 1) lines outputs both.1)
+
+puts-others : (other : List ℕ) (inputs : Inputs) (shown : Name → Option ℤ) (certificate : Certificate) → is_put_by inputs.described.job other ≡ false → OfOthers other (Rattle.job_run.specs.Releases.puts_of inputs shown certificate)
+puts-others other inputs shown certificate none =
+    let both = neither (bytes_eq inputs.described.job.certificate other) (list_any (λ file. bytes_eq file other) (map (λ (o : OutputLine). o.file) inputs.described.job.outputs)) none in
+    (apart-name inputs.described.job.certificate other both.0, tables-others other inputs shown 0 inputs.described.job.tables inputs.described.job.outputs both.1)
+
+release-others : (other : List ℕ) (settled : SettledInputs) (release : Release) (base : Option ℤ) → is_put_by settled.inputs.described.job other ≡ false → IsReleaseBy base settled release → OfOthers other release.puts
+release-others other settled release None none is = rw is.puts (puts-others other settled.inputs (shown_in settled.inputs is.hidden_set.hidden.flags) is.certificate none)
+release-others other settled release (Some base) none is = rw is.puts (puts-others other settled.inputs (value_in settled.inputs is.values) (rounded_certificate settled.inputs) none)
+
+-- ---- two runs
+
+ok-same : {A F : Type 0} {a b : A} → ◌≡◌ {A = Result A F} (Ok a) (Ok b) → a ≡ b
+ok-same {A} {F} {a} {b} is = let same : a ≡ b = cc in same
+
+pub second_runs_complete : SecondRunsComplete
+second_runs_complete files name summary before between after runs =
+    let released = runs.second.released files runs.second_files summary refl in
+    (released, λ settled other read none.
+    let again : settled_of purpose.Release files name ≡ Ok settled = read in
+    let left = ok-and _ (settled_of purpose.Release files name) (runs.first.left files runs.first_files) in
+    let first-is : left.0 ≡ settled = ok-same (sym left.1 ∙ again) in
+    let second-is : released.settled ≡ settled = ok-same (sym released.read ∙ again) in
+    let none-first = subst (λ (s : SettledInputs). is_put_by s.inputs.described.job other ≡ false) (sym first-is) none in
+    let none-second = subst (λ (s : SettledInputs). is_put_by s.inputs.described.job other ≡ false) (sym second-is) none in
+    whole-others other released.release.puts between after (release-others other released.settled released.release (base_of released.settled.inputs.described) none-second released.is_release) released.put
+    ∙ part-others other left.2.0.puts runs.file before between (release-others other left.0 left.2.0 (base_of left.0.inputs.described) none-first left.2.1) left.2.2)
