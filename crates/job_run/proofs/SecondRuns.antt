@@ -61,10 +61,13 @@ part-others other puts file old new apart part = ap (λ (files : Option Files). 
   where
     k : ℕ
     k = part.0
+
     n : ℕ
     n = part.1
+
     is : IsInPart puts file k n old new
     is = part.2
+
     by : (o : Option Files) → told_file (option_map (λ out. put (put_all out (take k puts)) is.next.name (take n is.next.bytes)) o) other ≡ told_file o other
     by None = refl
     by (Some out) = ap Some (put_other (put_all out (take k puts)) is.next.name (take n is.next.bytes) other (one-other other k puts is.next apart is.is_next) ∙ all-others other (take k puts) out (front-others other k puts apart))
@@ -102,13 +105,15 @@ ok-same {A} {F} {a} {b} is = let same : a ≡ b = cc in same
 
 pub second_runs_complete : SecondRunsComplete
 second_runs_complete files name summary before between after runs =
-    let released = runs.second.released files runs.second_files summary refl in
-    (released, λ settled other read none.
-    let again : settled_of purpose.Release files name ≡ Ok settled = read in
-    let left = ok-and _ (settled_of purpose.Release files name) (runs.first.left files runs.first_files) in
-    let first-is : left.0 ≡ settled = ok-same (sym left.1 ∙ again) in
-    let second-is : released.settled ≡ settled = ok-same (sym released.read ∙ again) in
-    let none-first = subst (λ (s : SettledInputs). is_put_by s.inputs.described.job other ≡ false) (sym first-is) none in
-    let none-second = subst (λ (s : SettledInputs). is_put_by s.inputs.described.job other ≡ false) (sym second-is) none in
-    whole-others other released.release.puts between after (release-others other released.settled released.release (base_of released.settled.inputs.described) none-second released.is_release) released.put
-    ∙ part-others other left.2.0.puts runs.file before between (release-others other left.0 left.2.0 (base_of left.0.inputs.described) none-first left.2.1) left.2.2)
+    let released = runs.second.released files runs.second_files summary refl in (
+      released,
+      λ settled other read none.
+          let again : settled_of purpose.Release files name ≡ Ok settled = read in
+          let left = ok-and _ (settled_of purpose.Release files name) (runs.first.left files runs.first_files) in
+          let first-is : left.0 ≡ settled = ok-same (sym left.1 ∙ again) in
+          let second-is : released.settled ≡ settled = ok-same (sym released.read ∙ again) in
+          let none-first = subst (λ (s : SettledInputs). is_put_by s.inputs.described.job other ≡ false) (sym first-is) none in
+          let none-second = subst (λ (s : SettledInputs). is_put_by s.inputs.described.job other ≡ false) (sym second-is) none in
+          whole-others other released.release.puts between after (release-others other released.settled released.release (base_of released.settled.inputs.described) none-second released.is_release) released.put
+          ∙ part-others other left.2.0.puts runs.file before between (release-others other left.0 left.2.0 (base_of left.0.inputs.described) none-first left.2.1) left.2.2,
+    )

@@ -1,7 +1,8 @@
 -- What a job that rounds asks for, and its release (zero-restricted controlled rounding; own).
-use Rattle.std.specs.Prelude.{◌≡◌, ◌^◌, ℕ, List, length, map, Option, None, Some, Ok, ℤ, pos, ◌*ℤ◌}
+use Rattle.std.specs.Prelude.{◌≡◌, ◌^◌, ℕ, List, [], ◌∷◌, length, map, slice_index_or, Option, None, Some, Ok, ℤ, pos, ◌*ℤ◌}
 use Rattle.sdc_base.specs.Relations.{relations_among}
 use Rattle.sdc_base.specs.Roundings.{IsRounding}
+use Rattle.sdc_base.specs.Trees.{Tree}
 use Rattle.sdc_base.specs.declared.method.Method.{Method}
 use Rattle.sdc_base.specs.declared.method.Method.TheVariants as method
 use Rattle.sdc_base.specs.declared.system.System.{System}
@@ -11,6 +12,7 @@ use Rattle.certificate.specs.Texts.{text_of}
 use Rattle.certificate.specs.declared.certificate.Certificate.{Certificate}
 use Rattle.linked_tables.specs.Held.{Held}
 use Rattle.relations.specs.Holding.{IsSystemOf}
+use Rattle.relations.specs.TableSigns.{IsFlat}
 use Rattle.rounding.specs.Searches.{Stops}
 use Rattle.job_inputs.specs.Cells.{cells, truth_in}
 use Rattle.job_inputs.specs.Settled.{SettledInputs}
@@ -48,14 +50,26 @@ pub record IsRoundingFor (inputs : Inputs) (base : ℤ) (values : List ℤ) : Ty
   pub system_is : IsSystemIn inputs system
   pub rounding : IsRounding system (truths_in inputs) base values
 
--- the job rounds, and no values at all are a rounding for it
+-- The tables are one table of one variable, or of two flat ones: there is always a rounding then. Not: of two of which one has codes
+-- below others.
+abbrev pub IsOneOrTwoWay : List Tree → List (List ℕ) → Type 0
+IsOneOrTwoWay trees ((variable ∷ []) ∷ []) = Unit {0}
+IsOneOrTwoWay trees ((one ∷ other ∷ []) ∷ []) = IsFlat (slice_index_or trees one []) × IsFlat (slice_index_or trees other [])
+IsOneOrTwoWay trees tables = ⊥
+
+-- the job has such tables
+abbrev pub IsAlwaysRounded : Inputs → Type 0
+IsAlwaysRounded inputs = IsOneOrTwoWay inputs.records.trees inputs.described.bound.tables
+
+-- the job rounds, not one or two flat variables alone, and no values at all are a rounding for it
 pub record HasNoRounding (settled : SettledInputs) : Type 0 where
   pub base : ℤ
   pub rounds : base_of settled.inputs.described ≡ Some base
   pub none : (values : List ℤ) → ¬ IsRoundingFor settled.inputs base values
+  pub more : ¬ IsAlwaysRounded settled.inputs
 
--- The job rounds, so many nodes are those that it allows, and the search for a rounding stops there: it has at least so many lists,
--- and none of its first so many is a rounding.
+-- The job rounds, not one or two flat variables alone, so many nodes are those that it allows, and the search for a rounding stops
+-- there: it has at least so many lists, and none of its first so many is a rounding.
 pub record SearchStops (settled : SettledInputs) (nodes : ℕ) : Type 0 where
   pub base : ℤ
   pub system : System
@@ -63,6 +77,7 @@ pub record SearchStops (settled : SettledInputs) (nodes : ℕ) : Type 0 where
   pub system_is : IsSystemIn settled.inputs system
   pub limit : nodes ≡ settled.inputs.described.job.nodes
   pub stops : Stops system (truths_in settled.inputs) base nodes
+  pub more : ¬ IsAlwaysRounded settled.inputs
 
 -- ---- a rounded release
 

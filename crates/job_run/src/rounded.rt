@@ -31,6 +31,8 @@ pub(crate) fn rounded_release(alloc: Global, job: SettledJob, base: i128) -> Res
         cells,
         ..
     } = job;
+    // for the proof: what holds of every book
+    let _known = book.cells();
     let system = relations_of(alloc, &book)?;
     let truths = truths_of(alloc, cells.as_slice())?;
     let nodes = described.job.nodes;

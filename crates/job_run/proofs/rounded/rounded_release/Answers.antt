@@ -27,7 +27,8 @@ returns-in-Err-clause-comes c = λ settled is.
     rw (c.search_stop.ensures)
     (search-comes settled c.args.job c.in_ok-system.system c.args.base c.as_slice-2.result.now c.in-Err.fault task
     (λ is. let none = c.in-Err.ensures.none (ap Err is) in simp to_z-of_z at none)
-    (λ nodes is. let limit = c.in-Err.ensures.limit nodes (ap Err is) in simp to_z-of_z at limit))
+    (λ nodes is. let limit = c.in-Err.ensures.limit nodes (ap Err is) in simp to_z-of_z at limit)
+    c.cells-known.ensures.book (λ signs are. c.in-Err.ensures.signed signs are c.in-Err.fault refl))
 
 pub puts_for-requires-clause-shown : goal.puts_for-requires-clause-shown
 puts_for-requires-clause-shown c =
