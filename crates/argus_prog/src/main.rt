@@ -3,10 +3,10 @@
 #![tactic(auto)]
 
 mod answer;
-mod file_shelf;
-mod folder_tray;
 #[cfg(test)]
 mod demo_tests;
+mod file_shelf;
+mod folder_tray;
 #[cfg(test)]
 mod protected_tests;
 #[cfg(test)]

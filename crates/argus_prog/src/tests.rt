@@ -46,7 +46,8 @@ const LISTED: &str =
 const LEVELS: &str =
     "A 1 2\n<RECODEABLE>\n<HIERARCHICAL>\n<HIERLEVELS> 1 1\n<TOTCODE> T\nV 3 3\n<NUMERIC>\n";
 
-pub(crate) const USAGE: &str = "1 usage: argus run JOB | check JOB | intervals JOB OUT | demo SEED RECORDS\n";
+pub(crate) const USAGE: &str =
+    "1 usage: argus run JOB | check JOB | intervals JOB OUT | demo SEED RECORDS\n";
 
 // The files of a shelf that isn't sound: each of its calls from this one on counts.
 #[derive(Clone, Copy)]

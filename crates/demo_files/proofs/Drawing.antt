@@ -40,8 +40,7 @@ pub more-records : (seed number : ℕ) (text new : List ℕ) (state after : ℕ)
     → (new ≡ survey seed (number + 1)) × (after ≡ state_after ((number + 1) * 6) seed)
 more-records seed number text new state after is_text is_state is_new is_after =
     let six : 6 + number * 6 ≡ (number + 1) * 6 = omega arith in
-    let line : ℕ → List ℕ = λ k. record_line (state_after (k * 6) seed) in
-    (
+    let line : ℕ → List ℕ = λ k. record_line (state_after (k * 6) seed) in (
       is_new ∙ ap (λ (before : List ℕ). before ++ record_line state) is_text ∙ ap (λ s. survey seed number ++ record_line s) is_state ∙ flat_map_more line [] (range_with_len 0 number) number ∙ sym (ap (flat_map line) (numbers-more number)),
       is_after ∙ ap (state_after 6) is_state ∙ more-draws 6 (number * 6) seed ∙ ap (λ n. state_after n seed) six,
     )
