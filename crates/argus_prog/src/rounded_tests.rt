@@ -56,7 +56,7 @@ fn roundings(rt: HostRuntime) -> Result<(), Fail> {
             "<SUPPRESS> RND(1)\n",
             CENTS,
             "a 0.50\na99.25\nb    1\n",
-            "0 released: 3 records, 0 skipped, 0 passed over, 3 cells, 2 primary, 0 hidden\nargus certificate 1\nmethod RND 1\ncells 3\nrelations 1\nend\nA,V\nTotal,100.00\na,99.00\nb,1.00\n",
+            "0 released: 3 records, 0 skipped, 0 passed over, 3 cells, 2 primary, 0 hidden\nargus certificate 1\nmethod RND 1\ncells 3\nrelations 1\nend\nA,V\nTotal,101.00\na,100.00\nb,1.00\n",
         ),
         (
             "\"A\"\"B\"\"C\"",
