@@ -4,20 +4,20 @@ use Rattle.std.specs.Prelude.{All, slice_get, is_some, unwrap_or, pos}
 use Rattle.std.specs.List.{zip}
 use Rattle.std.proofs.lemmas.List.Elements.{All-head, All-tail}
 use Rattle.sdc_base.specs.Records.{Name}
-use Rattle.sdc_base.specs.RuleLevels.{Figures, told, figures_in, level_of, keep_of, manual_of}
+use Rattle.sdc_base.specs.RuleLevels.{Figures, figures_of_facts, figures_in, level_of, keep_of, manual_of}
 use Rattle.sdc_base.specs.Trees.{Tree}
 use Rattle.sdc_base.specs.declared.cell.Kind.TheVariants.{Primary, Fixed, Free}
 use Rattle.sdc_base.specs.declared.facts.Levels.{Levels}
 use Rattle.sdc_base.specs.declared.rows.Row.{Row}
 use Rattle.sdc_base.specs.declared.rule.Rules.{Rules}
 use Rattle.primary_rules.proofs.KeptFigures.{same_levels, facts_agree}
-use Rattle.primary_rules.specs.Kept.{AreFactsOf, AgreeUpTo}
+use Rattle.primary_rules.specs.EnoughForRules.{AreFactsOf, AgreeUpTo}
 use Rattle.linked_tables.specs.declared.mark.Mark.{Mark}
 use Rattle.apriori.specs.declared.prior.Prior.{Prior}
 use Rattle.apriori.specs.declared.prior.Status.{Status}
 use Rattle.apriori.specs.declared.prior.Status.TheVariants.{Unsafe, Safe}
 use Rattle.apriori.specs.Faults.{LineOf}
-use Rattle.apriori.specs.Settling.{Settled, wider, rule_levels, stated_or, settled, clash_of, first_of, low_of, high_of, told_of, figures_of, AreFactsIn, IsReadyFor, settle_of}
+use Rattle.apriori.specs.Settling.{SettledCell, wider_levels, rule_levels, stated_or, settled_cell, clash_of, first_of, low_of, high_of, told_of, figures_of, AreFactsIn, IsReadyFor, settle_of}
 
 -- the cells of two lists agree up to so many of their largest contributions
 abbrev pub AgreeAll : ℕ → List Figures → List Figures → Type 0
@@ -29,12 +29,12 @@ AgreeAll kept (cell ∷ cells) (other ∷ others) = AgreeUpTo kept cell other ×
 same-rules : (rules : Rules) (cell other : Figures) (status : Option Status) → AgreeUpTo (keep_of rules.list) cell other → rule_levels rules cell status ≡ rule_levels rules other status
 same-rules rules cell other (Some Unsafe) agree =
     let named = same_levels (keep_of rules.list) rules.list cell other (omega arith) agree in
-    ap (λ (truth : ℤ). Some (wider (manual_of rules.man truth) (level_of rules.list cell))) agree.truth ∙ ap (λ (levels : Option Levels). Some (wider (manual_of rules.man other.truth) levels)) named
+    ap (λ (truth : ℤ). Some (wider_levels (manual_of rules.man truth) (level_of rules.list cell))) agree.truth ∙ ap (λ (levels : Option Levels). Some (wider_levels (manual_of rules.man other.truth) levels)) named
 same-rules rules cell other (Some Safe) agree = refl
 same-rules rules cell other None agree = same_levels (keep_of rules.list) rules.list cell other (omega arith) agree
 
 -- what a cell is, from its truth, its number of records and its levels by the rules
-settled-with : ℤ → ℕ → Option Levels → Prior → Settled
+settled-with : ℤ → ℕ → Option Levels → Prior → SettledCell
 settled-with truth freq by-rules prior =
     let levels : Option Levels = option_map (stated_or truth prior.levels) by-rules in
     record {
@@ -47,11 +47,11 @@ settled-with truth freq by-rules prior =
       price = prior.price;
     }
 
-settled-is : (rules : Rules) (cell : Figures) (prior : Prior) → settled rules cell prior ≡ settled-with cell.truth cell.freq (rule_levels rules cell prior.status) prior
+settled-is : (rules : Rules) (cell : Figures) (prior : Prior) → settled_cell rules cell prior ≡ settled-with cell.truth cell.freq (rule_levels rules cell prior.status) prior
 unfolding settled-with
 settled-is rules cell prior = refl
 
-same-settled : (rules : Rules) (cell other : Figures) (prior : Prior) → AgreeUpTo (keep_of rules.list) cell other → settled rules cell prior ≡ settled rules other prior
+same-settled : (rules : Rules) (cell other : Figures) (prior : Prior) → AgreeUpTo (keep_of rules.list) cell other → settled_cell rules cell prior ≡ settled_cell rules other prior
 same-settled rules cell other prior agree =
     settled-is rules cell prior
     ∙ ap (λ (truth : ℤ). settled-with truth cell.freq (rule_levels rules cell prior.status) prior) agree.truth
@@ -65,14 +65,14 @@ same-clash rules cell other prior agree =
     ∙ ap (λ (levels : Option Levels). cond (is_some (option_map (stated_or other.truth prior.levels) levels)) prior.keep None) (same-rules rules cell other prior.status agree)
 
 same-cells : (rules : Rules) (cells others : List Figures) (priors : List Prior) → AgreeAll (keep_of rules.list) cells others
-    → map (λ (cell : Figures × Prior). settled rules cell.0 cell.1) (zip cells priors) ≡ map (λ (cell : Figures × Prior). settled rules cell.0 cell.1) (zip others priors)
+    → map (λ (cell : Figures × Prior). settled_cell rules cell.0 cell.1) (zip cells priors) ≡ map (λ (cell : Figures × Prior). settled_cell rules cell.0 cell.1) (zip others priors)
 same-cells rules [] [] priors agree = refl
 same-cells rules [] (other ∷ others) priors agree = absurd agree
 same-cells rules (cell ∷ cells) [] priors agree = absurd agree
 same-cells rules (cell ∷ cells) (other ∷ others) [] agree = refl
 same-cells rules (cell ∷ cells) (other ∷ others) (prior ∷ priors) agree =
-    ap (λ (x : Settled). x ∷ map (λ (pair : Figures × Prior). settled rules pair.0 pair.1) (zip cells priors)) (same-settled rules cell other prior agree.0)
-    ∙ ap (λ (xs : List Settled). settled rules other prior ∷ xs) (same-cells rules cells others priors agree.1)
+    ap (λ (x : SettledCell). x ∷ map (λ (pair : Figures × Prior). settled_cell rules pair.0 pair.1) (zip cells priors)) (same-settled rules cell other prior agree.0)
+    ∙ ap (λ (xs : List SettledCell). settled_cell rules other prior ∷ xs) (same-cells rules cells others priors agree.1)
 
 same-clashes : (rules : Rules) (cells others : List Figures) (priors : List Prior) (first : Option LineOf) → AgreeAll (keep_of rules.list) cells others
     → fold (λ first (cell : Figures × Prior). first_of first (clash_of rules cell.0 cell.1)) first (zip cells priors) ≡ fold (λ first (cell : Figures × Prior). first_of first (clash_of rules cell.0 cell.1)) first (zip others priors)
@@ -102,8 +102,8 @@ told-agrees rules (mark ∷ marks) trees [] rows scale many each ready = absurd 
 told-agrees rules (mark ∷ marks) trees (name ∷ names) rows scale many each ready =
     let here = each 0 name mark refl refl in
     let kept = (All-head (IsReadyFor rules) mark marks ready).kept in
-    let one = less (keep_of rules.list) mark.facts.tops.keep (told mark.facts) (figures_in trees name rows mark.facts.tops.scale) kept (facts_agree mark.facts trees name rows here.0) in (
-      subst (λ (n : ℕ). AgreeUpTo (keep_of rules.list) (told mark.facts) (figures_in trees name rows n)) here.1 one,
+    let one = less (keep_of rules.list) mark.facts.tops.keep (figures_of_facts mark.facts) (figures_in trees name rows mark.facts.tops.scale) kept (facts_agree mark.facts trees name rows here.0) in (
+      subst (λ (n : ℕ). AgreeUpTo (keep_of rules.list) (figures_of_facts mark.facts) (figures_in trees name rows n)) here.1 one,
       told-agrees rules marks trees names rows scale (omega (arith, many)) (λ cell n m at holds. each (suc cell) n m at holds) (All-tail (IsReadyFor rules) mark marks ready),
     )
 

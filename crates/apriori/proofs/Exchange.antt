@@ -14,8 +14,8 @@ use Rattle.apriori.specs.declared.prior.Prior.{Prior}
 use Rattle.apriori.specs.declared.statement.Claim.{Claim}
 use Rattle.apriori.specs.declared.statement.Claim.TheVariants as claim
 use Rattle.apriori.specs.Faults.{LineOf}
-use Rattle.apriori.specs.Priors.{blank}
-use Rattle.apriori.specs.Said.{status_in, line_in, price_in, levels_in, bounds_in, is_other_status, is_other_price, are_other_levels, are_other_bounds, contradicts}
+use Rattle.apriori.specs.Priors.{empty_prior}
+use Rattle.apriori.specs.CellStatements.{status_in, line_in, price_in, levels_in, bounds_in, is_other_status, is_other_price, are_other_levels, are_other_bounds, contradicts}
 use Rattle.apriori.specs.Noting.{with_statement}
 use Rattle.apriori.proofs.Together.{same-prior}
 
@@ -231,7 +231,7 @@ same-both table prior one other fine =
 -- a claim about a cell noted in the priors, without its line; none where it contradicts what is said
 abbrev pub noted_plainly : ℕ → ℕ → Claim → List Prior → Option (List Prior)
 noted_plainly table cell what priors =
-    if contradicts (slice_index_or priors cell blank) what then None else Some (slice_set priors cell (plainly table (slice_index_or priors cell blank) what))
+    if contradicts (slice_index_or priors cell empty_prior) what then None else Some (slice_set priors cell (plainly table (slice_index_or priors cell empty_prior) what))
 
 -- two tests one after another
 two-tests : (first second : Bool) (priors : Option (List Prior)) → cond first None (cond second None priors) ≡ cond (first || second) None priors
@@ -251,20 +251,20 @@ set-apart (a ∷ xs) (suc i) (suc j) x y other = ap (λ (ys : List Prior). a ∷
 
 apart : (table i j : ℕ) (one other : Claim) (priors : List Prior) → (i ≡ j → ⊥)
     → option_and_then (noted_plainly table j other) (noted_plainly table i one priors)
-    ≡ cond (contradicts (slice_index_or priors i blank) one || contradicts (slice_index_or priors j blank) other) None (Some (slice_set (slice_set priors i (plainly table (slice_index_or priors i blank) one)) j (plainly table (slice_index_or priors j blank) other)))
+    ≡ cond (contradicts (slice_index_or priors i empty_prior) one || contradicts (slice_index_or priors j empty_prior) other) None (Some (slice_set (slice_set priors i (plainly table (slice_index_or priors i empty_prior) one)) j (plainly table (slice_index_or priors j empty_prior) other)))
 apart table i j one other priors different =
-    let before = slice_index_or priors i blank in
-    let there = slice_index_or priors j blank in
+    let before = slice_index_or priors i empty_prior in
+    let there = slice_index_or priors j empty_prior in
     let new = plainly table before one in
     then-noted table j other (contradicts before one) (slice_set priors i new)
-    ∙ ap (λ (p : Prior). cond (contradicts before one) None (cond (contradicts p other) None (Some (slice_set (slice_set priors i new) j (plainly table p other))))) (get_or-set_other priors i j new blank (λ e. different (sym e)))
+    ∙ ap (λ (p : Prior). cond (contradicts before one) None (cond (contradicts p other) None (Some (slice_set (slice_set priors i new) j (plainly table p other))))) (get_or-set_other priors i j new empty_prior (λ e. different (sym e)))
     ∙ two-tests (contradicts before one) (contradicts there other) (Some (slice_set (slice_set priors i new) j (plainly table there other)))
 
 commute-apart : (table i j : ℕ) (one other : Claim) (priors : List Prior) → (i ≡ j → ⊥)
     → option_and_then (noted_plainly table j other) (noted_plainly table i one priors) ≡ option_and_then (noted_plainly table i one) (noted_plainly table j other priors)
 commute-apart table i j one other priors different =
-    let here = slice_index_or priors i blank in
-    let there = slice_index_or priors j blank in
+    let here = slice_index_or priors i empty_prior in
+    let there = slice_index_or priors j empty_prior in
     let last : Option (List Prior) = Some (slice_set (slice_set priors i (plainly table here one)) j (plainly table there other)) in
     apart table i j one other priors different
     ∙ ap (λ (t : Bool). cond t None last) (or-comm (contradicts here one) (contradicts there other))
@@ -273,19 +273,19 @@ commute-apart table i j one other priors different =
 
 together : (table i : ℕ) (one other : Claim) (priors : List Prior) → i < length priors
     → option_and_then (noted_plainly table i other) (noted_plainly table i one priors)
-    ≡ cond (either table (slice_index_or priors i blank) one other) None (Some (slice_set priors i (plainly table (plainly table (slice_index_or priors i blank) one) other)))
+    ≡ cond (either table (slice_index_or priors i empty_prior) one other) None (Some (slice_set priors i (plainly table (plainly table (slice_index_or priors i empty_prior) one) other)))
 together table i one other priors inside =
-    let before = slice_index_or priors i blank in
+    let before = slice_index_or priors i empty_prior in
     let new = plainly table before one in
     then-noted table i other (contradicts before one) (slice_set priors i new)
-    ∙ ap (λ (p : Prior). cond (contradicts before one) None (cond (contradicts p other) None (Some (slice_set (slice_set priors i new) i (plainly table p other))))) (get_or-set_same priors i new blank inside)
+    ∙ ap (λ (p : Prior). cond (contradicts before one) None (cond (contradicts p other) None (Some (slice_set (slice_set priors i new) i (plainly table p other))))) (get_or-set_same priors i new empty_prior inside)
     ∙ two-tests (contradicts before one) (contradicts new other) (Some (slice_set (slice_set priors i new) i (plainly table new other)))
     ∙ ap (λ (ps : List Prior). cond (either table before one other) None (Some ps)) (set-set priors i new (plainly table new other))
 
 commute-same : (table i : ℕ) (one other : Claim) (priors : List Prior) → i < length priors
     → option_and_then (noted_plainly table i other) (noted_plainly table i one priors) ≡ option_and_then (noted_plainly table i one) (noted_plainly table i other priors)
 commute-same table i one other priors inside =
-    let before = slice_index_or priors i blank in
+    let before = slice_index_or priors i empty_prior in
     let made : Prior → Option (List Prior) = λ (p : Prior). Some (slice_set priors i p) in
     together table i one other priors inside
     ∙ (elim (either table before one other) as (λ t. either table before one other ≡ t → cond t None (made (plainly table (plainly table before one) other)) ≡ cond t None (made (plainly table (plainly table before other) one))) [
@@ -295,7 +295,7 @@ commute-same table i one other priors inside =
     ∙ ap (λ (t : Bool). cond t None (made (plainly table (plainly table before other) one))) (either-order-all table before one other)
     ∙ sym (together table i other one priors inside)
 
-blank-fine : (what : Claim) → contradicts blank what ≡ false
+blank-fine : (what : Claim) → contradicts empty_prior what ≡ false
 blank-fine (claim.Declared Unsafe) = refl
 blank-fine (claim.Declared Safe) = refl
 blank-fine claim.Shown = refl
@@ -305,9 +305,9 @@ blank-fine (claim.Between bounds) = refl
 
 no-cell : (table i : ℕ) (what : Claim) (priors : List Prior) → length priors ≤ i → noted_plainly table i what priors ≡ Some priors
 no-cell table i what priors past =
-    ap (λ (p : Prior). cond (contradicts p what) None (Some (slice_set priors i (plainly table (slice_index_or priors i blank) what)))) (get_or_past priors i blank past)
-    ∙ ap (λ (t : Bool). cond t None (Some (slice_set priors i (plainly table (slice_index_or priors i blank) what)))) (blank-fine what)
-    ∙ ap (λ (ps : List Prior). Some ps) (set_past priors i (plainly table (slice_index_or priors i blank) what) past)
+    ap (λ (p : Prior). cond (contradicts p what) None (Some (slice_set priors i (plainly table (slice_index_or priors i empty_prior) what)))) (get_or_past priors i empty_prior past)
+    ∙ ap (λ (t : Bool). cond t None (Some (slice_set priors i (plainly table (slice_index_or priors i empty_prior) what)))) (blank-fine what)
+    ∙ ap (λ (ps : List Prior). Some ps) (set_past priors i (plainly table (slice_index_or priors i empty_prior) what) past)
 
 commute-past : (table i : ℕ) (one other : Claim) (priors : List Prior) → length priors ≤ i
     → option_and_then (noted_plainly table i other) (noted_plainly table i one priors) ≡ option_and_then (noted_plainly table i one) (noted_plainly table i other priors)

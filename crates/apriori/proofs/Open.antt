@@ -5,12 +5,12 @@ use Rattle.std.specs.Option.{ForSome}
 use Rattle.sdc_base.specs.declared.facts.Levels.{Levels}
 use Rattle.primary_rules.specs.Ranges.{AreLevels, IsTruth, most_level}
 use Rattle.std.proofs.lemmas.Int.{ints}
-use Rattle.apriori.specs.Settling.{AreOpen, wider}
+use Rattle.apriori.specs.Settling.{AreOpen, wider_levels}
 
 pub open_from : (truth : ℤ) (levels : Levels) → AreLevels truth levels → AreOpen truth levels
 open_from truth levels are = record { unit = are.up.unit; at_most = are.up.at_most; from_zero = are.from_zero; within = are.within }
 
-pub wider_open : (truth : ℤ) (levels : Levels) (others : Option Levels) → AreLevels truth levels → ForSome others (AreLevels truth) → AreOpen truth (wider levels others)
+pub wider_open : (truth : ℤ) (levels : Levels) (others : Option Levels) → AreLevels truth levels → ForSome others (AreLevels truth) → AreOpen truth (wider_levels levels others)
 wider_open truth levels None are all = open_from truth levels are
 wider_open truth levels (Some others) are all = elim (int_lt levels.up others.up) as (λ t. AreOpen truth (cond t others levels)) [
   | true ↦ open_from truth others (all others refl)

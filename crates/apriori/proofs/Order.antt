@@ -15,13 +15,13 @@ use Rattle.apriori.specs.declared.statement.Form.{Form}
 use Rattle.apriori.specs.declared.faults.PriorWhy.{PriorWhy}
 use Rattle.apriori.specs.declared.faults.PriorWhy.TheVariants.{Twice}
 use Rattle.apriori.specs.Faults.{LineOf}
-use Rattle.apriori.specs.Priors.{blank}
+use Rattle.apriori.specs.Priors.{empty_prior}
 use Rattle.apriori.specs.Fields.{fields}
-use Rattle.apriori.specs.Statements.{Basis, keyword_at, cell_of, claim_of, fitting, behind_codes, statement_of}
-use Rattle.apriori.specs.Said.{line_in, contradicts}
+use Rattle.apriori.specs.Statements.{Basis, keyword_at, cell_of, claim_of, fit_of_claim, behind_codes, statement_of}
+use Rattle.apriori.specs.CellStatements.{line_in, contradicts}
 use Rattle.apriori.specs.Applying.{at_line}
-use Rattle.apriori.specs.Noting.{with_statement, noted, line_noted, lines_noted}
-use Rattle.apriori.specs.Laws.{AreReordered, same, exchanged, but_for_line, accepted, OrderChangesNothing}
+use Rattle.apriori.specs.Noting.{with_statement, after_statement, line_noted, lines_noted}
+use Rattle.apriori.specs.Laws.{AreReordered, same, exchanged, but_for_line, priors_if_accepted, OrderChangesNothing}
 use Rattle.apriori.proofs.Together.{same-prior, noted_together}
 use Rattle.apriori.proofs.Exchange.{plainly, noted_plainly, commute}
 
@@ -40,7 +40,7 @@ lineless basis form line text =
     map_bind (relined line) (or_fault _ (slice_get basis.known cell)) _
     ∙ bind_same (or_fault _ (slice_get basis.known cell)) _ _ (λ known.
     map_bind (relined line) (claim_of form.decimals spoken.0 spoken.1) _
-    ∙ bind_same (claim_of form.decimals spoken.0 spoken.1) _ _ (λ what. map_bind (relined line) (fitting known what) _)))))
+    ∙ bind_same (claim_of form.decimals spoken.0 spoken.1) _ _ (λ what. map_bind (relined line) (fit_of_claim known what) _)))))
 
 same-test : (prior : Prior) (what : Claim) → contradicts (but_for_line prior) what ≡ contradicts prior what
 same-test prior (claim.Declared status) = refl
@@ -50,7 +50,7 @@ same-test prior (claim.Open levels) = refl
 same-test prior (claim.Between bounds) = refl
 
 -- what stands at a place, whatever the lines
-bare-at : (priors : List Prior) (cell : ℕ) → slice_index_or (map but_for_line priors) cell blank ≡ but_for_line (slice_index_or priors cell blank)
+bare-at : (priors : List Prior) (cell : ℕ) → slice_index_or (map but_for_line priors) cell empty_prior ≡ but_for_line (slice_index_or priors cell empty_prior)
 bare-at [] cell = refl
 bare-at (prior ∷ priors) zero = refl
 bare-at (prior ∷ priors) (suc cell) = bare-at priors cell
@@ -72,10 +72,10 @@ abbrev plain : Result (List Prior) PriorWhy → Option (List Prior)
 plain (Ok priors) = Some (map but_for_line priors)
 plain (Err why) = None
 
-noted-plain : (table line : ℕ) (priors : List Prior) (said : Statement) → plain (noted table priors (relined line said)) ≡ noted_plainly table said.cell said.claim (map but_for_line priors)
-unfolding noted
+noted-plain : (table line : ℕ) (priors : List Prior) (said : Statement) → plain (after_statement table priors (relined line said)) ≡ noted_plainly table said.cell said.claim (map but_for_line priors)
+unfolding after_statement
 noted-plain table line priors said =
-    let here = slice_index_or priors said.cell blank in
+    let here = slice_index_or priors said.cell empty_prior in
     (elim (contradicts here said.claim)
     as (λ t. plain (cond t (Err Twice) (Ok (tt {0})) >>= λ fresh. Ok (slice_set priors said.cell (with_statement table here (relined line said))))
     ≡ cond t None (Some (slice_set (map but_for_line priors) said.cell (plainly table (but_for_line here) said.claim)))) [
@@ -95,7 +95,7 @@ taken table false (Ok said) priors = noted_plainly table said.cell said.claim pr
 abbrev took : Basis → Form → List ℕ → List Prior → Option (List Prior)
 took basis form text priors = taken form.table (length (trim text) == 0) (statement_of basis form 0 text) priors
 
-read-plain : (table line : ℕ) (priors : List Prior) (read : Result Statement PriorWhy) → plain (map_ok (relined line) read >>= noted table priors) ≡ taken table false read (map but_for_line priors)
+read-plain : (table line : ℕ) (priors : List Prior) (read : Result Statement PriorWhy) → plain (map_ok (relined line) read >>= after_statement table priors) ≡ taken table false read (map but_for_line priors)
 read-plain table line priors (Err why) = refl
 read-plain table line priors (Ok said) = noted-plain table line priors said
 
@@ -103,10 +103,10 @@ line-plain : (basis : Basis) (form : Form) (line : ℕ) (text : List ℕ) (prior
 unfolding line_noted
 line-plain basis form line text priors =
     elim (length (trim text) == 0)
-    as (λ t. plain (cond t (Ok priors) (statement_of basis form line text >>= noted form.table priors)) ≡ taken form.table t (statement_of basis form 0 text) (map but_for_line priors)) [
+    as (λ t. plain (cond t (Ok priors) (statement_of basis form line text >>= after_statement form.table priors)) ≡ taken form.table t (statement_of basis form 0 text) (map but_for_line priors)) [
       | true ↦ refl
       | false ↦
-          ap (λ (read : Result Statement PriorWhy). plain (read >>= noted form.table priors)) (lineless basis form line text)
+          ap (λ (read : Result Statement PriorWhy). plain (read >>= after_statement form.table priors)) (lineless basis form line text)
           ∙ read-plain form.table line priors (statement_of basis form 0 text)
     ]
 
@@ -115,12 +115,12 @@ takes : Basis → Form → List (List ℕ) → List Prior → Option (List Prior
 takes basis form [] priors = Some priors
 takes basis form (text ∷ texts) priors = option_and_then (takes basis form texts) (took basis form text priors)
 
-lines-plain : (basis : Basis) (form : Form) (before : ℕ) (texts : List (List ℕ)) (priors : List Prior) → accepted (lines_noted basis form before texts priors) ≡ takes basis form texts (map but_for_line priors)
+lines-plain : (basis : Basis) (form : Form) (before : ℕ) (texts : List (List ℕ)) (priors : List Prior) → priors_if_accepted (lines_noted basis form before texts priors) ≡ takes basis form texts (map but_for_line priors)
 unfolding lines_noted takes
 lines-plain basis form before [] priors = refl
 lines-plain basis form before (text ∷ texts) priors =
     (elim (line_noted basis form (before + 1) text priors)
-    as (λ read. accepted (at_line form.table (before + 1) read >>= λ next. lines_noted basis form (before + 1) texts next) ≡ option_and_then (takes basis form texts) (plain read)) [
+    as (λ read. priors_if_accepted (at_line form.table (before + 1) read >>= λ next. lines_noted basis form (before + 1) texts next) ≡ option_and_then (takes basis form texts) (plain read)) [
       | Ok next ↦ lines-plain basis form (before + 1) texts next
       | Err why ↦ refl
     ])
@@ -172,8 +172,8 @@ reordered-takes basis form priors _ _ (exchanged front one other rest texts more
 
 pub order_changes_nothing : OrderChangesNothing
 order_changes_nothing basis form priors one other more =
-    ap accepted (noted_together basis form priors one)
+    ap priors_if_accepted (noted_together basis form priors one)
     ∙ lines-plain basis form 0 (lines one) priors
     ∙ reordered-takes basis form (map but_for_line priors) (lines one) (lines other) more
     ∙ sym (lines-plain basis form 0 (lines other) priors)
-    ∙ sym (ap accepted (noted_together basis form priors other))
+    ∙ sym (ap priors_if_accepted (noted_together basis form priors other))

@@ -5,13 +5,13 @@ use Rattle.std.proofs.lemmas.List.{take_more, take_all, map-append, get_or-map, 
 use Rattle.std.proofs.lemmas.List.Sums.{fold_more}
 use Rattle.std.proofs.lemmas.Slice.Zip.{length-zip, get_or-zip}
 use Rattle.std.proofs.lemmas.Option.{slice_get-get_or}
-use Rattle.sdc_base.specs.RuleLevels.{Figures, told}
+use Rattle.sdc_base.specs.RuleLevels.{Figures, figures_of_facts}
 use Rattle.sdc_base.specs.declared.rule.Rules.{Rules}
 use Rattle.sdc_base.specs.declared.cell.Cell.{Cell}
 use Rattle.linked_tables.specs.declared.mark.Mark.{Mark}
 use Rattle.apriori.specs.declared.prior.Prior.{Prior}
 use Rattle.apriori.specs.Priors.{IsPriorOf, ArePriors}
-use Rattle.apriori.specs.Settling.{Settled, seen, told_of, settled, clash_of, first_of, first_clash}
+use Rattle.apriori.specs.Settling.{SettledCell, view_of_cell, told_of, settled_cell, clash_of, first_of, first_clash}
 
 within : (figures : List Figures) (priors : List Prior) (cell : ℕ) → length priors ≡ length figures → cell < length priors → cell < length (zip figures priors)
 within marks priors cell same inside = let e = length-zip marks priors in omega (arith, same, inside, e)
@@ -23,40 +23,40 @@ prior_at marks priors cell d e are inside =
     are.each cell (get_or marks cell d) (get_or priors cell e) (slice_get-get_or marks cell d known) (slice_get-get_or priors cell e inside)
 
 pub clash_more : (rules : Rules) (marks : List Mark) (priors : List Prior) (cell : ℕ) (d : Mark) (e : Prior) → length priors ≡ length marks → cell < length priors
-    → first_clash rules (take (cell + 1) (zip (told_of marks) priors)) ≡ first_of (first_clash rules (take cell (zip (told_of marks) priors))) (clash_of rules (told (get_or marks cell d).facts) (get_or priors cell e))
+    → first_clash rules (take (cell + 1) (zip (told_of marks) priors)) ≡ first_of (first_clash rules (take cell (zip (told_of marks) priors))) (clash_of rules (figures_of_facts (get_or marks cell d).facts) (get_or priors cell e))
 clash_more rules marks priors cell d e same inside =
     let known : cell < length marks = omega (arith, inside, same) in
-    let many = length-map marks (λ (mark : Mark). told mark.facts) in
+    let many = length-map marks (λ (mark : Mark). figures_of_facts mark.facts) in
     let known_told : cell < length (told_of marks) = omega (arith, known, many) in
     let same_told : length priors ≡ length (told_of marks) = omega (arith, same, many) in
-    let one : Figures = told d.facts in
+    let one : Figures = figures_of_facts d.facts in
     fold_more (λ first (pair : Figures × Prior). first_of first (clash_of rules pair.0 pair.1)) None (zip (told_of marks) priors) cell (one, e) (within (told_of marks) priors cell same_told inside)
     ∙ ap (λ (pair : Figures × Prior). first_of (first_clash rules (take cell (zip (told_of marks) priors))) (clash_of rules pair.0 pair.1)) (get_or-zip (told_of marks) priors cell (one, e) known_told inside)
-    ∙ ap (λ (f : Figures). first_of (first_clash rules (take cell (zip (told_of marks) priors))) (clash_of rules f (get_or priors cell e))) (get_or-map (λ (mark : Mark). told mark.facts) marks cell d one known)
+    ∙ ap (λ (f : Figures). first_of (first_clash rules (take cell (zip (told_of marks) priors))) (clash_of rules f (get_or priors cell e))) (get_or-map (λ (mark : Mark). figures_of_facts mark.facts) marks cell d one known)
 
 pub all_pairs : (marks : List Mark) (priors : List Prior) → length priors ≡ length marks → take (length priors) (zip (told_of marks) priors) ≡ zip (told_of marks) priors
 all_pairs marks priors same =
-    let many = length-map marks (λ (mark : Mark). told mark.facts) in
+    let many = length-map marks (λ (mark : Mark). figures_of_facts mark.facts) in
     let e = length-zip (told_of marks) priors in
     let short : length (zip (told_of marks) priors) ≤ length priors = omega (arith, e) in
     take_all (length priors) (zip (told_of marks) priors) short
 
 pub settled_more : (rules : Rules) (marks : List Mark) (priors : List Prior) (i : ℕ) (d : Mark) (e : Prior) (cells : List Cell) (cell : Cell) → length priors ≡ length marks → i < length priors
-    → map seen cells ≡ map (λ (pair : Figures × Prior). settled rules pair.0 pair.1) (take i (zip (told_of marks) priors))
-    → seen cell ≡ settled rules (told (get_or marks i d).facts) (get_or priors i e)
-    → map seen (cells ++ cell ∷ []) ≡ map (λ (pair : Figures × Prior). settled rules pair.0 pair.1) (take (i + 1) (zip (told_of marks) priors))
+    → map view_of_cell cells ≡ map (λ (pair : Figures × Prior). settled_cell rules pair.0 pair.1) (take i (zip (told_of marks) priors))
+    → view_of_cell cell ≡ settled_cell rules (figures_of_facts (get_or marks i d).facts) (get_or priors i e)
+    → map view_of_cell (cells ++ cell ∷ []) ≡ map (λ (pair : Figures × Prior). settled_cell rules pair.0 pair.1) (take (i + 1) (zip (told_of marks) priors))
 settled_more rules marks priors i d e cells cell same inside before here =
     let known : i < length marks = omega (arith, inside, same) in
-    let many = length-map marks (λ (mark : Mark). told mark.facts) in
+    let many = length-map marks (λ (mark : Mark). figures_of_facts mark.facts) in
     let known_told : i < length (told_of marks) = omega (arith, known, many) in
     let same_told : length priors ≡ length (told_of marks) = omega (arith, same, many) in
-    let f : Figures × Prior → Settled = λ (pair : Figures × Prior). settled rules pair.0 pair.1 in
+    let f : Figures × Prior → SettledCell = λ (pair : Figures × Prior). settled_cell rules pair.0 pair.1 in
     let pairs : List (Figures × Prior) = zip (told_of marks) priors in
-    let one : Figures = told d.facts in
-    let there : get_or pairs i (one, e) ≡ (told (get_or marks i d).facts, get_or priors i e) =
-    get_or-zip (told_of marks) priors i (one, e) known_told inside ∙ ap (λ (x : Figures). (x, get_or priors i e)) (get_or-map (λ (mark : Mark). told mark.facts) marks i d one known) in
-    map-append seen cells (cell ∷ [])
-    ∙ ap (λ (xs : List Settled). xs ++ seen cell ∷ []) before
-    ∙ ap (λ (x : Settled). map f (take i pairs) ++ x ∷ []) (here ∙ sym (ap f there))
+    let one : Figures = figures_of_facts d.facts in
+    let there : get_or pairs i (one, e) ≡ (figures_of_facts (get_or marks i d).facts, get_or priors i e) =
+    get_or-zip (told_of marks) priors i (one, e) known_told inside ∙ ap (λ (x : Figures). (x, get_or priors i e)) (get_or-map (λ (mark : Mark). figures_of_facts mark.facts) marks i d one known) in
+    map-append view_of_cell cells (cell ∷ [])
+    ∙ ap (λ (xs : List SettledCell). xs ++ view_of_cell cell ∷ []) before
+    ∙ ap (λ (x : SettledCell). map f (take i pairs) ++ x ∷ []) (here ∙ sym (ap f there))
     ∙ sym (map-append f (take i pairs) (get_or pairs i (one, e) ∷ []))
     ∙ sym (ap (map f) (take_more pairs i (one, e) (within (told_of marks) priors i same_told inside)))

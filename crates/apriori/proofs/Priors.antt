@@ -15,7 +15,7 @@ use Rattle.apriori.specs.declared.statement.Claim.TheVariants as claim
 use Rattle.apriori.specs.declared.statement.Statement.{Statement}
 use Rattle.apriori.specs.Priors.{IsPrice, CanBeLevels, AreBounds, IsPriorOf, ArePriors}
 use Rattle.apriori.specs.Holding.{IsClaimOf, IsStatementOf}
-use Rattle.apriori.specs.Said.{status_in, price_in, levels_in, bounds_in}
+use Rattle.apriori.specs.CellStatements.{status_in, price_in, levels_in, bounds_in}
 use Rattle.apriori.specs.Noting.{with_statement}
 
 for-or : {X : Type 0} (P : X → Type 0) (one other : Option X) → ForSome one P → ForSome other P → ForSome (option_or one other) P

@@ -15,11 +15,11 @@ use Rattle.apriori.specs.declared.statement.Form.{Form}
 use Rattle.apriori.specs.declared.faults.PriorWhy.{PriorWhy}
 use Rattle.apriori.specs.declared.faults.PriorWhy.TheVariants.{Twice}
 use Rattle.apriori.specs.Faults.{LineOf}
-use Rattle.apriori.specs.Priors.{blank}
+use Rattle.apriori.specs.Priors.{empty_prior}
 use Rattle.apriori.specs.Statements.{Basis, statement_of}
-use Rattle.apriori.specs.Said.{status_in, line_in, price_in, levels_in, bounds_in, first_said, about, prior_with, priors_from, contradicts}
+use Rattle.apriori.specs.CellStatements.{status_in, line_in, price_in, levels_in, bounds_in, first_said, statements_about, prior_with, priors_from, contradicts}
 use Rattle.apriori.specs.Applying.{said_of, statement_behind, line_says, lines_say, at_line, apply_of}
-use Rattle.apriori.specs.Noting.{with_statement, noted, line_noted, lines_noted}
+use Rattle.apriori.specs.Noting.{with_statement, after_statement, line_noted, lines_noted}
 
 or-none : {X : Type 0} (one : Option X) → option_or one None ≡ one
 or-none None = refl
@@ -65,41 +65,41 @@ pub priors-blank : (table cell : ℕ) (priors : List Prior) → ◌≡◌ {A = L
 priors-blank table cell [] = refl
 priors-blank table cell (prior ∷ priors) = ap (λ (p : Prior). p ∷ priors_from table (cell + 1) priors []) (prior-blank table prior) ∙ ap (λ (ps : List Prior). prior ∷ ps) (priors-blank table (cell + 1) priors)
 
-about-own : (cell : ℕ) (statements : List Statement) (said : Statement) → said.cell ≡ cell → about cell (statements ++ said ∷ []) ≡ about cell statements ++ said ∷ []
+about-own : (cell : ℕ) (statements : List Statement) (said : Statement) → said.cell ≡ cell → statements_about cell (statements ++ said ∷ []) ≡ statements_about cell statements ++ said ∷ []
 about-own cell statements said is =
     filter-append (λ (s : Statement). s.cell == cell) statements (said ∷ [])
-    ∙ ap (λ (t : Bool). about cell statements ++ cond t (said ∷ []) []) (eq-eqb said.cell cell is)
+    ∙ ap (λ (t : Bool). statements_about cell statements ++ cond t (said ∷ []) []) (eq-eqb said.cell cell is)
 
-about-other : (cell : ℕ) (statements : List Statement) (said : Statement) → (said.cell ≡ cell → ⊥) → about cell (statements ++ said ∷ []) ≡ about cell statements
+about-other : (cell : ℕ) (statements : List Statement) (said : Statement) → (said.cell ≡ cell → ⊥) → statements_about cell (statements ++ said ∷ []) ≡ statements_about cell statements
 about-other cell statements said other =
     filter-append (λ (s : Statement). s.cell == cell) statements (said ∷ [])
-    ∙ ap (λ (t : Bool). about cell statements ++ cond t (said ∷ []) []) (ne_eqb said.cell cell other)
-    ∙ append-nil (about cell statements)
+    ∙ ap (λ (t : Bool). statements_about cell statements ++ cond t (said ∷ []) []) (ne_eqb said.cell cell other)
+    ∙ append-nil (statements_about cell statements)
 
 -- a statement about an earlier cell changes nothing
 later-stay : (table cell : ℕ) (priors : List Prior) (statements : List Statement) (said : Statement) → said.cell < cell → ◌≡◌ {A = List Prior} (priors_from table cell priors statements) (priors_from table cell priors (statements ++ said ∷ []))
 later-stay table cell [] statements said past = refl
 later-stay table cell (prior ∷ priors) statements said past =
     ap (λ (xs : List Statement). prior_with table prior xs ∷ priors_from table (cell + 1) priors statements) (sym (about-other cell statements said (λ is. omega (arith, past, is))))
-    ∙ ap (λ (ps : List Prior). prior_with table prior (about cell (statements ++ said ∷ [])) ∷ ps) (later-stay table (cell + 1) priors statements said (omega (arith, past)))
+    ∙ ap (λ (ps : List Prior). prior_with table prior (statements_about cell (statements ++ said ∷ [])) ∷ ps) (later-stay table (cell + 1) priors statements said (omega (arith, past)))
 
 -- the priors with a statement more are those in which it is noted
 noted-at : (table cell at : ℕ) (priors : List Prior) (statements : List Statement) (said : Statement) → said.cell ≡ cell + at
-    → ◌≡◌ {A = List Prior} (slice_set (priors_from table cell priors statements) at (with_statement table (slice_index_or (priors_from table cell priors statements) at blank) said)) (priors_from table cell priors (statements ++ said ∷ []))
+    → ◌≡◌ {A = List Prior} (slice_set (priors_from table cell priors statements) at (with_statement table (slice_index_or (priors_from table cell priors statements) at empty_prior) said)) (priors_from table cell priors (statements ++ said ∷ []))
 noted-at table cell at [] statements said is = refl
 noted-at table cell zero (prior ∷ priors) statements said is =
     let own : said.cell ≡ cell = omega (arith, is) in
-    ap (λ (p : Prior). p ∷ priors_from table (cell + 1) priors statements) (prior-more table prior (about cell statements) said ∙ ap (prior_with table prior) (sym (about-own cell statements said own)))
-    ∙ ap (λ (ps : List Prior). prior_with table prior (about cell (statements ++ said ∷ [])) ∷ ps) (later-stay table (cell + 1) priors statements said (omega (arith, own)))
+    ap (λ (p : Prior). p ∷ priors_from table (cell + 1) priors statements) (prior-more table prior (statements_about cell statements) said ∙ ap (prior_with table prior) (sym (about-own cell statements said own)))
+    ∙ ap (λ (ps : List Prior). prior_with table prior (statements_about cell (statements ++ said ∷ [])) ∷ ps) (later-stay table (cell + 1) priors statements said (omega (arith, own)))
 noted-at table cell (suc at) (prior ∷ priors) statements said is =
-    ap (λ (xs : List Statement). prior_with table prior xs ∷ slice_set (priors_from table (cell + 1) priors statements) at (with_statement table (slice_index_or (priors_from table (cell + 1) priors statements) at blank) said)) (sym (about-other cell statements said (λ own. omega (arith, is, own))))
-    ∙ ap (λ (ps : List Prior). prior_with table prior (about cell (statements ++ said ∷ [])) ∷ ps) (noted-at table (cell + 1) at priors statements said (omega (arith, is)))
+    ap (λ (xs : List Statement). prior_with table prior xs ∷ slice_set (priors_from table (cell + 1) priors statements) at (with_statement table (slice_index_or (priors_from table (cell + 1) priors statements) at empty_prior) said)) (sym (about-other cell statements said (λ own. omega (arith, is, own))))
+    ∙ ap (λ (ps : List Prior). prior_with table prior (statements_about cell (statements ++ said ∷ [])) ∷ ps) (noted-at table (cell + 1) at priors statements said (omega (arith, is)))
 
 -- what a line says is noted
 said-noted : (basis : Basis) (form : Form) (priors : List Prior) (so_far : List Statement) (line : ℕ) (text : List ℕ) (read : Result Statement PriorWhy)
-    → (read >>= noted form.table (priors_from form.table 0 priors so_far))
+    → (read >>= after_statement form.table (priors_from form.table 0 priors so_far))
     ≡ map_ok (priors_from form.table 0 priors) ((read >>= λ said. refuse Twice (contradicts (said_of form.table priors so_far said.cell) said.claim) >>= λ fresh. Ok said) >>= λ said. Ok (so_far ++ said ∷ []))
-unfolding noted
+unfolding after_statement
 said-noted basis form priors so_far line text (Err why) = refl
 said-noted basis form priors so_far line text (Ok said) =
     elim (contradicts (said_of form.table priors so_far said.cell) said.claim)
@@ -114,7 +114,7 @@ line-noted : (basis : Basis) (form : Form) (priors : List Prior) (so_far : List 
 unfolding line_noted line_says statement_behind
 line-noted basis form priors so_far line text =
     elim (length (trim text) == 0)
-    as (λ t. cond t (Ok (priors_from form.table 0 priors so_far)) (statement_of basis form line text >>= noted form.table (priors_from form.table 0 priors so_far))
+    as (λ t. cond t (Ok (priors_from form.table 0 priors so_far)) (statement_of basis form line text >>= after_statement form.table (priors_from form.table 0 priors so_far))
     ≡ map_ok (priors_from form.table 0 priors) (cond t (Ok so_far) ((statement_of basis form line text >>= λ said. refuse Twice (contradicts (said_of form.table priors so_far said.cell) said.claim) >>= λ fresh. Ok said) >>= λ said. Ok (so_far ++ said ∷ [])))) [
       | true ↦ refl
       | false ↦ said-noted basis form priors so_far line text (statement_of basis form line text)

@@ -9,13 +9,13 @@ use Rattle.apriori.specs.declared.statement.Form.{Form}
 use Rattle.apriori.specs.declared.faults.PriorWhy.{PriorWhy}
 use Rattle.apriori.specs.declared.faults.PriorWhy.TheVariants.{Twice}
 use Rattle.apriori.specs.Faults.{LineOf}
-use Rattle.apriori.specs.Priors.{blank}
+use Rattle.apriori.specs.Priors.{empty_prior}
 use Rattle.apriori.specs.Statements.{Basis, statement_of}
-use Rattle.apriori.specs.Said.{priors_from, contradicts}
+use Rattle.apriori.specs.CellStatements.{priors_from, contradicts}
 
 -- what the earlier priors and the statements so far say of a cell
 abbrev pub said_of : ℕ → List Prior → List Statement → ℕ → Prior
-said_of table priors statements cell = slice_index_or (priors_from table 0 priors statements) cell blank
+said_of table priors statements cell = slice_index_or (priors_from table 0 priors statements) cell empty_prior
 
 -- The statement of a line behind others, which must not contradict what is said of its cell.
 unfoldable pub statement_behind : Basis → Form → List Prior → List Statement → ℕ → List ℕ → Result Statement PriorWhy
@@ -35,7 +35,8 @@ abbrev pub at_line : {A : Type 0} → ℕ → ℕ → Result A PriorWhy → Resu
 at_line table line given = map_fault (λ why. ((table, line), why)) given
 
 -- the statements of lines behind so many others, or the first fault
-unfoldable pub lines_say : Basis → Form → List Prior → List Statement → ℕ → List (List ℕ) → Result (List Statement) (LineOf × PriorWhy)
+unfoldable pub lines_say : Basis → Form → List Prior → List Statement → ℕ → List (List ℕ)
+    → Result (List Statement) (LineOf × PriorWhy)
 lines_say basis form priors so_far before [] = Ok so_far
 lines_say basis form priors so_far before (text ∷ texts) = do
   next ← at_line form.table (before + 1) (line_says basis form priors so_far (before + 1) text)
@@ -49,4 +50,5 @@ apply_of basis form priors bytes = do
 
 -- the same for the file of this table, whose fields this byte separates, with amounts of so many decimals
 abbrev pub file_says : Basis → ℕ → ℕ → ℕ → List Prior → List ℕ → Result (List Prior) (LineOf × PriorWhy)
-file_says basis table separator decimals priors bytes = apply_of basis (record { table = table; separator = separator; decimals = decimals }) priors bytes
+file_says basis table separator decimals priors bytes =
+    apply_of basis (record { table = table; separator = separator; decimals = decimals }) priors bytes

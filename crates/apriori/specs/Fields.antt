@@ -6,7 +6,8 @@ use Rattle.sdc_base.specs.Lines.{with_front}
 -- What stands before the first separator, between two and behind the last one; without one, the whole text.
 abbrev pub pieces : ℕ → List ℕ → List (List ℕ)
 pieces separator [] = [] ∷ []
-pieces separator (b ∷ text) = if b == separator then [] ∷ pieces separator text else with_front b (pieces separator text)
+pieces separator (b ∷ text) = if b == separator then [] ∷ pieces separator text
+    else with_front b (pieces separator text)
 
 -- a field has no blanks at its ends
 abbrev pub fields : ℕ → List ℕ → List (List ℕ)

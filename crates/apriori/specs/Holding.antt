@@ -16,7 +16,8 @@ IsClaim (claim.Price price) = IsPrice price
 IsClaim (claim.Open levels) = CanBeLevels levels
 IsClaim (claim.Between bounds) = (pos 0 ≤ℤ bounds.low) × (bounds.high ≤ℤ pos most_units)
 
--- a claim that goes with these facts: a cell that is declared unsafe has records, and bounds have the truth between them
+-- a claim that goes with these facts: a cell that is declared unsafe has records, and bounds have the truth between
+-- them
 abbrev pub IsClaimOf : CellFacts → Claim → Type 0
 IsClaimOf facts (claim.Declared Unsafe) = 1 ≤ facts.freq
 IsClaimOf facts (claim.Declared Safe) = Unit {0}

@@ -4,7 +4,7 @@ pub mod Settling
 pub mod Fields
 pub mod Keywords
 pub mod Statements
-pub mod Said
+pub mod CellStatements
 pub mod Holding
 pub mod Applying
 pub mod Noting

@@ -9,9 +9,9 @@ use Rattle.apriori.specs.declared.statement.Form.{Form}
 use Rattle.apriori.specs.declared.faults.PriorWhy.{PriorWhy}
 use Rattle.apriori.specs.declared.faults.PriorWhy.TheVariants.{Twice}
 use Rattle.apriori.specs.Faults.{LineOf}
-use Rattle.apriori.specs.Priors.{blank}
+use Rattle.apriori.specs.Priors.{empty_prior}
 use Rattle.apriori.specs.Statements.{Basis, statement_of}
-use Rattle.apriori.specs.Said.{status_in, line_in, price_in, levels_in, bounds_in, contradicts}
+use Rattle.apriori.specs.CellStatements.{status_in, line_in, price_in, levels_in, bounds_in, contradicts}
 use Rattle.apriori.specs.Applying.{at_line}
 
 -- a prior with one statement more
@@ -25,16 +25,16 @@ with_statement table prior said = record {
 }
 
 -- the statement is noted in the prior of its cell, unless it contradicts it
-unfoldable pub noted : ℕ → List Prior → Statement → Result (List Prior) PriorWhy
-noted table priors said = do
-  fresh ← refuse Twice (contradicts (slice_index_or priors said.cell blank) said.claim)
-  Ok (slice_set priors said.cell (with_statement table (slice_index_or priors said.cell blank) said))
+unfoldable pub after_statement : ℕ → List Prior → Statement → Result (List Prior) PriorWhy
+after_statement table priors said = do
+  fresh ← refuse Twice (contradicts (slice_index_or priors said.cell empty_prior) said.claim)
+  Ok (slice_set priors said.cell (with_statement table (slice_index_or priors said.cell empty_prior) said))
 
 -- what a line states is noted, unless the line is blank
 unfoldable pub line_noted : Basis → Form → ℕ → List ℕ → List Prior → Result (List Prior) PriorWhy
 line_noted basis form line text priors = if length (trim text) == 0 then Ok priors else do
   said ← statement_of basis form line text
-  noted form.table priors said
+  after_statement form.table priors said
 
 -- the lines behind so many others, one after another
 unfoldable pub lines_noted : Basis → Form → ℕ → List (List ℕ) → List Prior → Result (List Prior) (LineOf × PriorWhy)

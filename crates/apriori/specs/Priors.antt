@@ -16,14 +16,15 @@ abbrev pub most_units : ℕ
 most_units = 10 ^ 29
 
 -- nothing is stated
-abbrev pub blank : Prior
-blank = record { status = None; keep = None; price = None; levels = None; bounds = None }
+abbrev pub empty_prior : Prior
+empty_prior = record { status = None; keep = None; price = None; levels = None; bounds = None }
 
 -- a price is from 1 to the greatest
 abbrev pub IsPrice : ℕ → Type 0
 IsPrice price = (1 ≤ price) × (price ≤ most_price)
 
--- levels that can be stated: from a unit upwards, and from 0 downwards, each to the greatest. Not: the lower one up to the truth.
+-- levels that can be stated: from a unit upwards, and from 0 downwards, each to the greatest. Not: the lower one up to
+-- the truth.
 pub record CanBeLevels (levels : Levels) : Type 0 where
   pub unit : pos 1 ≤ℤ levels.up
   pub up : levels.up ≤ℤ pos most_units
@@ -47,4 +48,5 @@ pub record IsPriorOf (facts : CellFacts) (prior : Prior) : Type 0 where
 -- one prior for each cell, of which it can be stated
 pub record ArePriors (marks : List Mark) (priors : List Prior) : Type 0 where
   pub one_each : length priors ≡ length marks
-  pub each : (cell : ℕ) (mark : Mark) (prior : Prior) → slice_get marks cell ≡ Some mark → slice_get priors cell ≡ Some prior → IsPriorOf mark.facts prior
+  pub each : (cell : ℕ) (mark : Mark) (prior : Prior) → slice_get marks cell ≡ Some mark
+      → slice_get priors cell ≡ Some prior → IsPriorOf mark.facts prior

@@ -6,8 +6,8 @@ use Rattle.sdc_base.specs.Steps.{◌>>=◌}
 use Rattle.sdc_base.specs.Trees.{Tree}
 use Rattle.sdc_base.specs.Records.{Name}
 use Rattle.sdc_base.specs.declared.rows.Row.{Row}
-use Rattle.primary_rules.specs.Kept.{AreFactsOf}
-use Rattle.sdc_base.specs.RuleLevels.{Figures, told, figures_in, level_of, manual_of, keep_of}
+use Rattle.primary_rules.specs.EnoughForRules.{AreFactsOf}
+use Rattle.sdc_base.specs.RuleLevels.{Figures, figures_of_facts, figures_in, level_of, manual_of, keep_of}
 use Rattle.sdc_base.specs.declared.facts.Levels.{Levels}
 use Rattle.sdc_base.specs.declared.cell.Kind.{Kind}
 use Rattle.sdc_base.specs.declared.cell.Kind.TheVariants.{Primary, Free, Fixed}
@@ -23,7 +23,7 @@ use Rattle.apriori.specs.declared.faults.PriorWhy.TheVariants.{ProtectedPrimary}
 use Rattle.apriori.specs.Faults.{LineOf}
 
 -- what a cell is to its protection, all amounts in units
-pub record Settled : Type 0 where
+pub record SettledCell : Type 0 where
   pub truth : ℤ
   pub low : ℤ
   pub high : Option ℤ
@@ -33,8 +33,17 @@ pub record Settled : Type 0 where
   pub price : Option ℕ
 
 -- a cell's amounts, kind and price
-abbrev pub seen : Cell → Settled
-seen cell = record { truth = cell.truth; low = cell.low; high = cell.high; up = cell.up; down = cell.down; kind = cell.kind; price = cell.price }
+abbrev pub view_of_cell : Cell → SettledCell
+view_of_cell cell =
+    record {
+      truth = cell.truth;
+      low = cell.low;
+      high = cell.high;
+      up = cell.up;
+      down = cell.down;
+      kind = cell.kind;
+      price = cell.price;
+    }
 
 -- a mark has what the rules look at: a truth in range, and as many of the largest contributions
 pub record IsReadyFor (rules : Rules) (mark : Mark) : Type 0 where
@@ -43,16 +52,18 @@ pub record IsReadyFor (rules : Rules) (mark : Mark) : Type 0 where
 
 -- what is told of the cells of marks
 abbrev pub told_of : List Mark → List Figures
-told_of marks = map (λ mark. told mark.facts) marks
+told_of marks = map (λ mark. figures_of_facts mark.facts) marks
 
 -- the figures of named cells over the records
 abbrev pub figures_of : List Tree → List Name → List Row → ℕ → List Figures
 figures_of trees names rows scale = map (λ name. figures_in trees name rows scale) names
 
 -- each mark has the facts of the records in the cell with its name, at one scale
-pub record AreFactsIn (marks : List Mark) (trees : List Tree) (names : List Name) (rows : List Row) (scale : ℕ) : Type 0 where
+pub record AreFactsIn (marks : List Mark) (trees : List Tree) (names : List Name) (rows : List Row)
+    (scale : ℕ) : Type 0 where
   pub one_each : length names ≡ length marks
-  pub each : (cell : ℕ) (name : Name) (mark : Mark) → slice_get names cell ≡ Some name → slice_get marks cell ≡ Some mark → AreFactsOf mark.facts trees name rows × (mark.facts.tops.scale ≡ scale)
+  pub each : (cell : ℕ) (name : Name) (mark : Mark) → slice_get names cell ≡ Some name
+      → slice_get marks cell ≡ Some mark → AreFactsOf mark.facts trees name rows × (mark.facts.tops.scale ≡ scale)
 
 -- levels of a primary cell of this truth: upwards from a unit to the greatest level, downwards from 0 to the truth
 pub record AreOpen (truth : ℤ) (levels : Levels) : Type 0 where
@@ -67,14 +78,14 @@ pub record HasLevelsInRange (cell : Cell) : Type 0 where
   pub down : cell.down ≤ℤ pos most_level
 
 -- the levels with the greater upper one, the first where they are equal
-abbrev pub wider : Levels → Option Levels → Levels
-wider levels None = levels
-wider levels (Some others) = if int_lt levels.up others.up then others else levels
+abbrev pub wider_levels : Levels → Option Levels → Levels
+wider_levels levels None = levels
+wider_levels levels (Some others) = if int_lt levels.up others.up then others else levels
 
--- The levels that a cell has by the rules where it is primary: a cell that is declared unsafe has at least those of MAN; one that
--- is declared safe isn't primary; any other is where a rule names it.
+-- The levels that a cell has by the rules where it is primary: a cell that is declared unsafe has at least those of
+-- MAN; one that is declared safe isn't primary; any other is where a rule names it.
 abbrev pub rule_levels : Rules → Figures → Option Status → Option Levels
-rule_levels rules cell (Some Unsafe) = Some (wider (manual_of rules.man cell.truth) (level_of rules.list cell))
+rule_levels rules cell (Some Unsafe) = Some (wider_levels (manual_of rules.man cell.truth) (level_of rules.list cell))
 rule_levels rules cell (Some Safe) = None
 rule_levels rules cell None = level_of rules.list cell
 
@@ -115,8 +126,8 @@ abbrev pub high_of : Option (ℤ × ℤ) → Option ℤ
 high_of bounds = option_map (λ b. b.1) bounds
 
 -- what the cell with these figures and this prior is to its protection
-abbrev pub settled : Rules → Figures → Prior → Settled
-settled rules cell prior = record {
+abbrev pub settled_cell : Rules → Figures → Prior → SettledCell
+settled_cell rules cell prior = record {
   truth = cell.truth;
   low = low_of prior.bounds;
   high = high_of prior.bounds;
@@ -150,7 +161,7 @@ refuse_line None = Ok tt
 refuse_line (Some line) = Err (line, ProtectedPrimary)
 
 -- the cells with these figures and priors, or the first line by which a primary cell is to be always shown
-unfoldable pub settle_of : Rules → List Figures → List Prior → Result (List Settled) (LineOf × PriorWhy)
+unfoldable pub settle_of : Rules → List Figures → List Prior → Result (List SettledCell) (LineOf × PriorWhy)
 settle_of rules figures priors = do
   fine ← refuse_line (first_clash rules (zip figures priors))
-  Ok (map (λ cell. settled rules cell.0 cell.1) (zip figures priors))
+  Ok (map (λ cell. settled_cell rules cell.0 cell.1) (zip figures priors))

@@ -9,9 +9,9 @@ use Rattle.sdc_base.specs.Cells.{trees_of}
 use Rattle.sdc_base.specs.declared.facts.Levels.{Levels}
 use Rattle.sdc_base.specs.declared.facts.CellFacts.{CellFacts}
 use Rattle.sdc_base.specs.declared.number_fault.NumberFault.{NumberFault}
-use Rattle.linked_tables.specs.Held.{Held}
+use Rattle.linked_tables.specs.BookViews.{BookView}
 use Rattle.linked_tables.specs.declared.mark.Mark.{Mark}
-use Rattle.linked_tables.specs.Shared.{cell_at}
+use Rattle.linked_tables.specs.BookCells.{cell_at}
 use Rattle.apriori.specs.declared.prior.Status.TheVariants.{Unsafe, Safe}
 use Rattle.apriori.specs.declared.keyword.Keyword.{Keyword}
 use Rattle.apriori.specs.declared.keyword.Keyword.TheVariants as keyword
@@ -47,35 +47,37 @@ place_in (tree ∷ trees) [] = None
 place_in (tree ∷ trees) (code ∷ codes) = with_place (find tree code) (place_in trees codes)
 
 -- what is known of a cell: its truth and its number of records
-pub record Known : Type 0 where
+pub record KnownCell : Type 0 where
   pub truth : ℤ
   pub freq : ℕ
 
 -- what the facts of a cell tell of it
-abbrev pub known_of : CellFacts → Known
+abbrev pub known_of : CellFacts → KnownCell
 known_of facts = record { truth = facts.truth; freq = facts.freq }
 
 -- what statements are held against: the trees, the tables, and what is known of each cell by its number
 pub record Basis : Type 0 where
   pub trees : List Tree
   pub tables : List (List ℕ)
-  pub known : List Known
+  pub known : List KnownCell
 
 -- the basis that a book is
-abbrev pub basis_of : Held → Basis
-basis_of book = record { trees = book.trees; tables = book.tables; known = map (λ (mark : Mark). known_of mark.facts) book.marks }
+abbrev pub basis_of : BookView → Basis
+basis_of book =
+    record { trees = book.trees; tables = book.tables; known = map (λ (mark : Mark). known_of mark.facts) book.marks }
 
 -- a book with these trees and tables, whatever its marks
-abbrev pub bare : Basis → Held
-bare basis = record { trees = basis.trees; tables = basis.tables; marks = [] }
+abbrev pub bare_book : Basis → BookView
+bare_book basis = record { trees = basis.trees; tables = basis.tables; marks = [] }
 
 -- the variables that table t spans
-abbrev pub spanned : Basis → ℕ → List ℕ
-spanned basis t = unwrap_or (slice_get basis.tables t) []
+abbrev pub variables_of_table : Basis → ℕ → List ℕ
+variables_of_table basis t = unwrap_or (slice_get basis.tables t) []
 
 -- the cell that the codes of a line of table t name, in the table's order
 abbrev pub cell_of : Basis → ℕ → List (List ℕ) → Option ℕ
-cell_of basis t codes = option_and_then (cell_at (bare basis) t) (place_in (trees_of basis.trees (spanned basis t)) codes)
+cell_of basis t codes =
+    option_and_then (cell_at (bare_book basis) t) (place_in (trees_of basis.trees (variables_of_table basis t)) codes)
 
 -- a price is a whole number from 1 to the greatest
 unfoldable pub price_at : List (List ℕ) → Result ℕ PriorWhy
@@ -124,31 +126,32 @@ claim_of decimals keyword.Bounds further = do
   Ok (claim.Between bounds)
 
 -- a cell without records is declared unsafe
-abbrev pub is_empty_unsafe : Known → Claim → Bool
+abbrev pub is_empty_unsafe : KnownCell → Claim → Bool
 is_empty_unsafe known (claim.Declared Unsafe) = known.freq == 0
 is_empty_unsafe known other = false
 
 -- the truth isn't between the bounds
-abbrev pub is_outside : Known → Claim → Bool
+abbrev pub is_outside : KnownCell → Claim → Bool
 is_outside known (claim.Between bounds) = int_lt known.truth bounds.low || int_lt bounds.high known.truth
 is_outside known other = false
 
 -- nothing, unless the claim doesn't go with what is known of the cell
-unfoldable pub fitting : Known → Claim → Result (Unit {0}) PriorWhy
-fitting known claim = do
+unfoldable pub fit_of_claim : KnownCell → Claim → Result (Unit {0}) PriorWhy
+fit_of_claim known claim = do
   some ← refuse EmptyUnsafe (is_empty_unsafe known claim)
   refuse OutsideTruth (is_outside known claim)
 
 -- the fields behind the codes of a line of table t
 abbrev pub behind_codes : Basis → ℕ → List (List ℕ) → List (List ℕ)
-behind_codes basis t all = drop (length (spanned basis t)) all
+behind_codes basis t all = drop (length (variables_of_table basis t)) all
 
--- What a line of this number states, or its first fault by itself: its shape, its codes, its numbers, and what is known of the cell.
+-- What a line of this number states, or its first fault by itself: its shape, its codes, its numbers, and what is known
+-- of the cell.
 unfoldable pub statement_of : Basis → Form → ℕ → List ℕ → Result Statement PriorWhy
 statement_of basis form line text = do
   spoken ← keyword_at (behind_codes basis form.table (fields form.separator text))
   cell ← or_fault UnknownCode (cell_of basis form.table (fields form.separator text))
   known ← or_fault UnknownCode (slice_get basis.known cell)
   claim ← claim_of form.decimals spoken.0 spoken.1
-  fine ← fitting known claim
+  fine ← fit_of_claim known claim
   Ok (record { line = line; cell = cell; claim = claim })

@@ -3,8 +3,8 @@ ghost use Rattle.std.specs.Prelude.{◌≡◌};
 use sdc_base::Memory;
 use std::alloc::{AllocError, AllocFailed};
 
-/// What is wrong with a statement of an a priori file. All but `ProtectedPrimary` are looked for line by line, and within a
-/// line in this order.
+/// What is wrong with a statement of an a priori file. All but `ProtectedPrimary` are looked for line by line, and
+/// within a line in this order.
 #[derive(Clone, Copy, Debug, PartialEq, Eq)]
 pub enum PriorWhy {
     /// The keyword is none of the table, or the number of fields isn't that of the keyword.
@@ -17,14 +17,15 @@ pub enum PriorWhy {
     EmptyUnsafe,
     /// The truth isn't between the bounds.
     OutsideTruth,
-    /// An earlier statement of the same keyword has other numbers for the cell, or the cell is declared both safe and unsafe.
+    /// An earlier statement of the same keyword has other numbers for the cell, or the cell is declared both safe and
+    /// unsafe.
     Twice,
     /// A cell that is to be always shown is primary. It is looked for when all files are read.
     ProtectedPrimary,
 }
 
-/// Why a priori files can't be followed: the table, from 0, the line of its file, from 1, and what is wrong with it; or want of
-/// memory.
+/// Why a priori files can't be followed: the table, from 0, the line of its file, from 1, and what is wrong with it; or
+/// want of memory.
 #[derive(Clone, Copy, Debug, PartialEq, Eq)]
 pub enum PriorError {
     At {

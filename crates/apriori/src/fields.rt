@@ -1,5 +1,5 @@
 ghost use Rattle.std.specs.Prelude.{◌≡◌, ◌==◌, ◌<◌, ◌^◌, length, drop, [], ◌∷◌, IfNone, IfSome};
-ghost use Rattle.apriori.specs.Fields.{fields as fields_of};
+ghost use Rattle.apriori.specs.Fields as spec;
 
 use plain_text::{cut_at, trim};
 use std::marker::Model;
@@ -26,7 +26,7 @@ impl<'a> Model for Fields<'a> {
 /// The fields of a text, between the bytes that separate them and without blanks at their ends.
 pub(crate) fn fields_in<'a>(separator: u8, text: &'a [u8]) -> Fields<'a>
     requires { length text.now < 2 ^ 32 }
-    ensures { result ≡ fields_of separator text.now }
+    ensures { result ≡ spec.fields separator text.now }
 {
     Fields {
         separator,

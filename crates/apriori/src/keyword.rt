@@ -1,6 +1,6 @@
 ghost use Rattle.std.specs.Prelude.{◌≡◌};
 ghost use Rattle.std.specs.Str.{str_eq_ignore_ascii_case};
-ghost use Rattle.apriori.specs.Keywords.{keyword_of as meant, numbers_of as counted};
+ghost use Rattle.apriori.specs.Keywords as spec;
 
 /// A keyword of a priori files.
 #[derive(Clone, Copy, Debug, PartialEq, Eq)]
@@ -21,7 +21,7 @@ pub(crate) enum Keyword {
 
 /// The keyword that a word is, in letters of any case.
 pub(crate) fn keyword_of(word: &[u8]) -> Option<Keyword>
-    ensures { result ≡ meant word.now }
+    ensures { result ≡ spec.keyword_of word.now }
 {
     if spells(word, b"u") {
         return Some(Keyword::Unsafe);
@@ -46,7 +46,7 @@ pub(crate) fn keyword_of(word: &[u8]) -> Option<Keyword>
 
 /// How many fields stand behind a keyword.
 pub(crate) fn numbers_of(keyword: Keyword) -> usize
-    ensures { result ≡ counted keyword }
+    ensures { result ≡ spec.numbers_of keyword }
 {
     match keyword {
         Keyword::Unsafe => 0,

@@ -5,8 +5,8 @@ ghost use Rattle.apriori.specs.Priors.{ArePriors};
 ghost use Rattle.apriori.specs.Holding.{IsStatementOf};
 ghost use Rattle.apriori.specs.Applying.{at_line};
 ghost use Rattle.apriori.specs.Statements.{basis_of};
-ghost use Rattle.apriori.specs.Said.{status_in as status_meant, line_in as line_meant, price_in as price_meant, levels_in as levels_meant, bounds_in as bounds_meant, is_other_status as other_status, is_other_price as other_price, are_other_levels as other_levels, are_other_bounds as other_bounds, contradicts as contradicting};
-ghost use Rattle.apriori.specs.Noting.{with_statement as with_said, noted as noted_as, line_noted as line_taken};
+ghost use Rattle.apriori.specs.CellStatements as cell_statements;
+ghost use Rattle.apriori.specs.Noting as noting;
 
 use crate::faults::{PriorError, PriorWhy};
 use crate::prior::{Prior, Status};
@@ -28,7 +28,8 @@ pub(crate) fn note_line(
     requires decimals { form.decimals ≤ 13 }
     requires few { length text.now < 2 ^ 32 }
     requires priors { ArePriors book.now.marks priors.old.items }
-    ensures exact { Gives fault_of (λ _. priors.new.items) result (at_line form.table line (line_taken (basis_of book.now) form line text.now priors.old.items)) }
+    ensures exact { Gives fault_of (λ _. priors.new.items) result
+        (at_line form.table line (noting.line_noted (basis_of book.now) form line text.now priors.old.items)) }
     ensures priors { ArePriors book.now.marks priors.new.items }
 {
     match take_line(book, form, line, text, priors) {
@@ -54,7 +55,8 @@ fn take_line(
     requires decimals { form.decimals ≤ 13 }
     requires few { length text.now < 2 ^ 32 }
     requires priors { ArePriors book.now.marks priors.old.items }
-    ensures exact { Gives fault_itself (λ _. priors.new.items) result (line_taken (basis_of book.now) form line text.now priors.old.items) }
+    ensures exact { Gives fault_itself (λ _. priors.new.items) result
+        (noting.line_noted (basis_of book.now) form line text.now priors.old.items) }
     ensures priors { ArePriors book.now.marks priors.new.items }
 {
     if trim(text).is_empty() {
@@ -65,12 +67,13 @@ fn take_line(
 }
 
 // Notes a statement in the prior of its cell, unless it contradicts what is said there.
-#[tactic(auto, unfolding(crate::specs::Noting::noted))]
+#[tactic(auto, unfolding(crate::specs::Noting::after_statement))]
 fn note(book: &Book, table: u32, said: Statement, priors: &mut Vec<Prior>) -> Result<(), PriorWhy>
     requires within { said.cell < length priors.old.items }
     requires fits { IsStatementOf book.now.marks said }
     requires priors { ArePriors book.now.marks priors.old.items }
-    ensures exact { Gives fault_itself (λ _. priors.new.items) result (noted_as table priors.old.items said) }
+    ensures exact { Gives fault_itself (λ _. priors.new.items) result
+        (noting.after_statement table priors.old.items said) }
     ensures priors { ArePriors book.now.marks priors.new.items }
 {
     let cell = said.cell as usize;
@@ -84,7 +87,7 @@ fn note(book: &Book, table: u32, said: Statement, priors: &mut Vec<Prior>) -> Re
 
 // A prior with one statement more.
 fn with_statement(table: u32, prior: &Prior, said: Statement) -> Prior
-    ensures { result ≡ with_said table prior.now said }
+    ensures { result ≡ noting.with_statement table prior.now said }
 {
     Prior {
         status: prior.status.or(status_in(said.claim)),
@@ -97,7 +100,7 @@ fn with_statement(table: u32, prior: &Prior, said: Statement) -> Prior
 
 // The status that a claim declares, where it does.
 fn status_in(claim: Claim) -> Option<Status>
-    ensures { result ≡ status_meant claim }
+    ensures { result ≡ cell_statements.status_in claim }
 {
     match claim {
         Claim::Declared(status) => Some(status),
@@ -107,7 +110,7 @@ fn status_in(claim: Claim) -> Option<Status>
 
 // The line by which the cell is to be always shown, where it is that.
 fn line_in(table: u32, line: u32, claim: Claim) -> Option<(u32, u32)>
-    ensures { result ≡ line_meant table line claim }
+    ensures { result ≡ cell_statements.line_in table line claim }
 {
     match claim {
         Claim::Shown => Some((table, line)),
@@ -117,7 +120,7 @@ fn line_in(table: u32, line: u32, claim: Claim) -> Option<(u32, u32)>
 
 // The price that a claim states, where it does.
 fn price_in(claim: Claim) -> Option<u64>
-    ensures { result ≡ price_meant claim }
+    ensures { result ≡ cell_statements.price_in claim }
 {
     match claim {
         Claim::Price(price) => Some(price),
@@ -127,7 +130,7 @@ fn price_in(claim: Claim) -> Option<u64>
 
 // The levels that a claim states, where it does.
 fn levels_in(claim: Claim) -> Option<Levels>
-    ensures { result ≡ levels_meant claim }
+    ensures { result ≡ cell_statements.levels_in claim }
 {
     match claim {
         Claim::Open(levels) => Some(levels),
@@ -137,7 +140,7 @@ fn levels_in(claim: Claim) -> Option<Levels>
 
 // The bounds that a claim states, where it does.
 fn bounds_in(claim: Claim) -> Option<(i128, i128)>
-    ensures { result ≡ bounds_meant claim }
+    ensures { result ≡ cell_statements.bounds_in claim }
 {
     match claim {
         Claim::Between(bounds) => Some((bounds.low, bounds.high)),
@@ -147,7 +150,7 @@ fn bounds_in(claim: Claim) -> Option<(i128, i128)>
 
 // Whether a claim contradicts what is said of its cell.
 fn contradicts(prior: &Prior, claim: Claim) -> bool
-    ensures { result ≡ contradicting prior.now claim }
+    ensures { result ≡ cell_statements.contradicts prior.now claim }
 {
     match claim {
         Claim::Declared(status) => is_other_status(prior.status, status),
@@ -160,7 +163,7 @@ fn contradicts(prior: &Prior, claim: Claim) -> bool
 
 // Whether the other status is declared already.
 fn is_other_status(earlier: Option<Status>, status: Status) -> bool
-    ensures { result ≡ other_status earlier status }
+    ensures { result ≡ cell_statements.is_other_status earlier status }
 {
     match (earlier, status) {
         (Some(Status::Unsafe), Status::Safe) => true,
@@ -171,7 +174,7 @@ fn is_other_status(earlier: Option<Status>, status: Status) -> bool
 
 // Whether another price is stated already.
 fn is_other_price(earlier: Option<u64>, price: u64) -> bool
-    ensures { result ≡ other_price earlier price }
+    ensures { result ≡ cell_statements.is_other_price earlier price }
 {
     match earlier {
         Some(earlier) => earlier != price,
@@ -181,7 +184,7 @@ fn is_other_price(earlier: Option<u64>, price: u64) -> bool
 
 // Whether other levels are stated already.
 fn are_other_levels(earlier: Option<Levels>, levels: Levels) -> bool
-    ensures { result ≡ other_levels earlier levels }
+    ensures { result ≡ cell_statements.are_other_levels earlier levels }
 {
     match earlier {
         Some(earlier) => !(earlier.up == levels.up && earlier.down == levels.down),
@@ -191,7 +194,7 @@ fn are_other_levels(earlier: Option<Levels>, levels: Levels) -> bool
 
 // Whether other bounds are stated already.
 fn are_other_bounds(earlier: Option<(i128, i128)>, bounds: Bounds) -> bool
-    ensures { result ≡ other_bounds earlier (bounds.low, bounds.high) }
+    ensures { result ≡ cell_statements.are_other_bounds earlier (bounds.low, bounds.high) }
 {
     match earlier {
         Some(earlier) => !(earlier.0 == bounds.low && earlier.1 == bounds.high),

@@ -1,10 +1,10 @@
 ghost use Rattle.std.specs.Prelude.{◌≡◌, ◌<◌, ◌≤◌, ◌^◌, IfOk, Ok, length, pos, ◌≤ℤ◌};
 ghost use Rattle.std.specs.Option.{ForSome};
 ghost use Rattle.sdc_base.specs.Answers.{Gives};
-ghost use Rattle.sdc_base.specs.Numbers.{read_units as read};
+ghost use Rattle.sdc_base.specs.Numbers as numbers;
 ghost use Rattle.apriori.specs.Faults.{fault_itself};
 ghost use Rattle.apriori.specs.Priors.{IsPrice, CanBeLevels, most_units};
-ghost use Rattle.apriori.specs.Statements.{price_at as priced, units_from as units_meant, units_at as measured, levels_at as opened, bounds_at as bounded};
+ghost use Rattle.apriori.specs.Statements as statements;
 
 use crate::faults::PriorWhy;
 use crate::fields::Fields;
@@ -15,7 +15,7 @@ use sdc_base::Levels;
 /// The price in the next field.
 #[tactic(auto, unfolding(crate::specs::Statements::price_at))]
 pub(crate) fn price_at(fields: &mut Fields) -> Result<u64, PriorWhy>
-    ensures exact { Gives fault_itself (λ price. price) result (priced fields.old) }
+    ensures exact { Gives fault_itself (λ price. price) result (statements.price_at fields.old) }
     ensures price { IfOk result IsPrice }
 {
     let Some(field) = fields.next_field() else {
@@ -31,7 +31,7 @@ pub(crate) fn price_at(fields: &mut Fields) -> Result<u64, PriorWhy>
 #[tactic(auto, unfolding(crate::specs::Statements::levels_at))]
 pub(crate) fn levels_at(decimals: u8, fields: &mut Fields) -> Result<Levels, PriorWhy>
     requires { decimals ≤ 13 }
-    ensures exact { Gives fault_itself (λ levels. levels) result (opened decimals fields.old) }
+    ensures exact { Gives fault_itself (λ levels. levels) result (statements.levels_at decimals fields.old) }
     ensures levels { IfOk result CanBeLevels }
 {
     let down = units_at(0, decimals, fields)?;
@@ -43,7 +43,7 @@ pub(crate) fn levels_at(decimals: u8, fields: &mut Fields) -> Result<Levels, Pri
 #[tactic(auto, unfolding(crate::specs::Statements::bounds_at))]
 pub(crate) fn bounds_at(decimals: u8, fields: &mut Fields) -> Result<Bounds, PriorWhy>
     requires { decimals ≤ 13 }
-    ensures exact { Gives fault_itself (λ bounds. bounds) result (bounded decimals fields.old) }
+    ensures exact { Gives fault_itself (λ bounds. bounds) result (statements.bounds_at decimals fields.old) }
     ensures low { IfOk result (λ bounds. pos 0 ≤ℤ bounds.low) }
     ensures high { IfOk result (λ bounds. bounds.high ≤ℤ pos most_units) }
 {
@@ -56,7 +56,8 @@ pub(crate) fn bounds_at(decimals: u8, fields: &mut Fields) -> Result<Bounds, Pri
 #[tactic(auto, unfolding(crate::specs::Statements::units_at))]
 fn units_at(least: i128, decimals: u8, fields: &mut Fields) -> Result<i128, PriorWhy>
     requires { decimals ≤ 13 }
-    ensures exact { Gives fault_itself (λ units. (units, fields.new)) result (measured least decimals fields.old) }
+    ensures exact { Gives fault_itself (λ units. (units, fields.new)) result
+        (statements.units_at least decimals fields.old) }
     ensures low { IfOk result (λ units. least ≤ℤ units) }
     ensures high { IfOk result (λ units. units ≤ℤ pos most_units) }
 {
@@ -73,7 +74,7 @@ fn units_at(least: i128, decimals: u8, fields: &mut Fields) -> Result<i128, Prio
 fn units_from(least: i128, decimals: u8, field: &[u8]) -> Option<i128>
     requires decimals { decimals ≤ 13 }
     requires few { length field.now < 2 ^ 32 }
-    ensures value { result ≡ units_meant least (read field.now decimals) }
+    ensures value { result ≡ statements.units_from least (numbers.read_units field.now decimals) }
     ensures low { ForSome result (λ units. least ≤ℤ units) }
     ensures high { ForSome result (λ units. units ≤ℤ pos most_units) }
 {
@@ -85,7 +86,7 @@ fn units_from(least: i128, decimals: u8, field: &[u8]) -> Option<i128>
 
 // A number of units, unless it is below the least or above the greatest one.
 fn in_range(least: i128, units: i128) -> Option<i128>
-    ensures value { result ≡ units_meant least (Ok units) }
+    ensures value { result ≡ statements.units_from least (Ok units) }
     ensures low { ForSome result (λ units. least ≤ℤ units) }
     ensures high { ForSome result (λ units. units ≤ℤ pos most_units) }
 {

@@ -1,6 +1,7 @@
 ghost use Rattle.std.specs.Prelude.{◌≡◌, List, length, replicate, IfOk};
 ghost use Rattle.linked_tables.specs.declared.mark.Mark.{Mark};
-ghost use Rattle.apriori.specs.Priors.{blank as blank_prior, ArePriors};
+ghost use Rattle.apriori.specs.Priors.{ArePriors};
+ghost use Rattle.apriori.specs.Priors as spec;
 
 use sdc_base::{Levels, Memory};
 use std::alloc::Global;
@@ -19,14 +20,16 @@ pub enum Status {
 pub struct Prior {
     /// Whether the cell is declared unsafe or safe, where it is; only a cell with records is declared unsafe.
     pub status: Option<Status>,
-    /// The table, from 0, and the line, from 1, of the first statement that the cell is always shown, where there is one.
+    /// The table, from 0, and the line, from 1, of the first statement that the cell is always shown, where there is
+    /// one.
     pub keep: Option<(u32, u32)>,
     /// What it costs to hide the cell, from 1 to `2^40`, where that is stated.
     pub price: Option<u64>,
-    /// How far the cell must be open, in units, where that is stated: upwards from 1, downwards from 0, each at most `10^29`.
+    /// How far the cell must be open, in units, where that is stated: upwards from 1, downwards from 0, each at most
+    /// `10^29`.
     pub levels: Option<Levels>,
-    /// What an attacker knows that the cell is at least and at most, in units, where that is stated: from 0 to the truth, and
-    /// from the truth to `10^29`.
+    /// What an attacker knows that the cell is at least and at most, in units, where that is stated: from 0 to the
+    /// truth, and from the truth to `10^29`.
     pub bounds: Option<(i128, i128)>,
 }
 
@@ -34,7 +37,7 @@ pub struct Prior {
 ///
 /// `Memory` is the only refusal. The cost is that of the list.
 pub fn blank_priors(alloc: Global, cells: u32) -> Result<Vec<Prior>, Memory>
-    ensures blank { IfOk result (λ priors. priors.items ≡ replicate cells blank_prior) }
+    ensures blank { IfOk result (λ priors. priors.items ≡ replicate cells spec.empty_prior) }
     ensures fit { IfOk result (λ priors. (marks : List Mark) → length marks ≡ cells → ArePriors marks priors.items) }
 {
     let mut priors = Vec::new(alloc);
@@ -46,7 +49,7 @@ pub fn blank_priors(alloc: Global, cells: u32) -> Result<Vec<Prior>, Memory>
 
 // Nothing is stated.
 fn blank() -> Prior
-    ensures { result ≡ blank_prior }
+    ensures { result ≡ spec.empty_prior }
 {
     Prior {
         status: None,

@@ -4,7 +4,8 @@ ghost use Rattle.sdc_base.specs.Trees.{find};
 ghost use Rattle.sdc_base.specs.Cells.{trees_of};
 ghost use Rattle.apriori.specs.Faults.{fault_itself};
 ghost use Rattle.apriori.specs.Holding.{IsClaimOf, IsClaim, IsStatementOf};
-ghost use Rattle.apriori.specs.Statements.{basis_of, known_of, keyword_at as keyword_meant, place_in as place_meant, cell_of as cell_meant, spanned as spanned_by, claim_of as claim_meant, fitting as fits, behind_codes as behind, statement_of as stated, is_empty_unsafe as empty_unsafe, is_outside as outside};
+ghost use Rattle.apriori.specs.Statements.{basis_of, known_of};
+ghost use Rattle.apriori.specs.Statements as spec;
 
 use crate::faults::PriorWhy;
 use crate::fields::{Fields, fields_in};
@@ -27,7 +28,7 @@ pub(crate) fn statement_of(
     requires table { form.table < length book.now.tables }
     requires decimals { form.decimals ≤ 13 }
     requires few { length text.now < 2 ^ 32 }
-    ensures exact { Gives fault_itself (λ said. said) result (stated (basis_of book.now) form line text.now) }
+    ensures exact { Gives fault_itself (λ said. said) result (spec.statement_of (basis_of book.now) form line text.now) }
     ensures within { IfOk result (λ said. said.cell < length book.now.marks) }
     ensures fits { IfOk result (IsStatementOf book.now.marks) }
 {
@@ -42,13 +43,13 @@ pub(crate) fn statement_of(
         return Err(PriorWhy::UnknownCode);
     };
     let claim = claim_of(form.decimals, keyword, &mut behind)?;
-    fitting(&mark.facts, claim)?;
+    check_claim(&mark.facts, claim)?;
     Ok(Statement { line, cell, claim })
 }
 
 // How many variables a table spans.
 fn width_of(book: &Book, table: u32) -> usize
-    ensures { result ≡ length (spanned_by (basis_of book.now) table) }
+    ensures { result ≡ length (spec.variables_of_table (basis_of book.now) table) }
 {
     match book.spans(table) {
         Some(spanned) => spanned.as_slice().len(),
@@ -59,7 +60,7 @@ fn width_of(book: &Book, table: u32) -> usize
 // The keyword in front, behind which as many fields stand as it has.
 #[tactic(auto, unfolding(crate::specs::Statements::keyword_at))]
 fn keyword_at(fields: &mut Fields) -> Result<Keyword, PriorWhy>
-    ensures { Gives fault_itself (λ keyword. (keyword, fields.new)) result (keyword_meant fields.old) }
+    ensures { Gives fault_itself (λ keyword. (keyword, fields.new)) result (spec.keyword_at fields.old) }
 {
     let Some(word) = fields.next_field() else {
         return Err(PriorWhy::BadShape);
@@ -75,7 +76,7 @@ fn keyword_at(fields: &mut Fields) -> Result<Keyword, PriorWhy>
 
 // The cell that the codes in front name, in the table's order.
 fn cell_of(book: &Book, table: u32, fields: &mut Fields) -> Option<u32>
-    ensures cell { result ≡ cell_meant (basis_of book.now) table fields.old }
+    ensures cell { result ≡ spec.cell_of (basis_of book.now) table fields.old }
     ensures within { IfSome result (λ cell. cell < length book.now.marks) }
 {
     let spanned = book.spans(table)?;
@@ -85,7 +86,8 @@ fn cell_of(book: &Book, table: u32, fields: &mut Fields) -> Option<u32>
 
 // The place that the codes in front write, one for each variable.
 fn place_in(book: &Book, spanned: &Place, fields: &mut Fields) -> Option<ArrayVec<u32, 8>>
-    ensures { option_map (λ place. place.items) result ≡ place_meant (trees_of book.now.trees spanned.now) fields.old }
+    ensures { option_map (λ place. place.items) result
+        ≡ spec.place_in (trees_of book.now.trees spanned.now) fields.old }
 {
     let width = spanned.len();
     let mut place: ArrayVec<u32, 8> = ArrayVec::new();
@@ -109,7 +111,7 @@ fn found_in(book: &Book, variable: u32, code: &[u8]) -> Option<u32>
 #[tactic(auto, unfolding(crate::specs::Statements::claim_of))]
 fn claim_of(decimals: u8, keyword: Keyword, fields: &mut Fields) -> Result<Claim, PriorWhy>
     requires { decimals ≤ 13 }
-    ensures exact { Gives fault_itself (λ claim. claim) result (claim_meant decimals keyword fields.old) }
+    ensures exact { Gives fault_itself (λ claim. claim) result (spec.claim_of decimals keyword fields.old) }
     ensures claim { IfOk result IsClaim }
 {
     match keyword {
@@ -123,10 +125,10 @@ fn claim_of(decimals: u8, keyword: Keyword, fields: &mut Fields) -> Result<Claim
 }
 
 // Refuses a claim that doesn't go with what is known of the cell.
-#[tactic(auto, unfolding(crate::specs::Statements::fitting))]
-fn fitting(facts: &CellFacts, claim: Claim) -> Result<(), PriorWhy>
+#[tactic(auto, unfolding(crate::specs::Statements::fit_of_claim))]
+fn check_claim(facts: &CellFacts, claim: Claim) -> Result<(), PriorWhy>
     requires { IsClaim claim }
-    ensures exact { Gives fault_itself (λ fine. fine) result (fits (known_of facts.now) claim) }
+    ensures exact { Gives fault_itself (λ fine. fine) result (spec.fit_of_claim (known_of facts.now) claim) }
     ensures fits { IfOk result (λ _. IsClaimOf facts.now claim) }
 {
     if is_empty_unsafe(facts, claim) {
@@ -140,7 +142,7 @@ fn fitting(facts: &CellFacts, claim: Claim) -> Result<(), PriorWhy>
 
 // Whether a cell without records is declared unsafe.
 fn is_empty_unsafe(facts: &CellFacts, claim: Claim) -> bool
-    ensures { result ≡ empty_unsafe (known_of facts.now) claim }
+    ensures { result ≡ spec.is_empty_unsafe (known_of facts.now) claim }
 {
     match claim {
         Claim::Declared(Status::Unsafe) => facts.freq == 0,
@@ -150,7 +152,7 @@ fn is_empty_unsafe(facts: &CellFacts, claim: Claim) -> bool
 
 // Whether the truth isn't between bounds that are claimed.
 fn is_outside(facts: &CellFacts, claim: Claim) -> bool
-    ensures { result ≡ outside (known_of facts.now) claim }
+    ensures { result ≡ spec.is_outside (known_of facts.now) claim }
 {
     match claim {
         Claim::Between(bounds) => facts.truth < bounds.low || facts.truth > bounds.high,

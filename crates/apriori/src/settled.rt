@@ -1,22 +1,23 @@
 ghost use Rattle.std.specs.Prelude.{◌≡◌, ◌≢◌, ◌≤◌, pos, ◌≤ℤ◌};
 ghost use Rattle.std.specs.Option.{ForSome};
-ghost use Rattle.sdc_base.specs.RuleLevels.{told, keep_of};
+ghost use Rattle.sdc_base.specs.RuleLevels.{figures_of_facts, keep_of};
 ghost use Rattle.sdc_base.specs.declared.cell.Kind.TheVariants.{Primary};
 ghost use Rattle.primary_rules.specs.Ranges.{AreInRange, IsTruth};
 ghost use Rattle.apriori.specs.Priors.{CanBeLevels, AreBounds, IsPriorOf};
-ghost use Rattle.apriori.specs.Settling.{seen, wider as wider_of, rule_levels as levels_by_rules, cut_at as cut_levels, stated_or as stated_levels, primary_levels as levels_meant, other_kind as kind_meant, low_of as low_meant, high_of as high_meant, settled as settled_as, clash_of as clash_meant, AreOpen, HasLevelsInRange};
+ghost use Rattle.apriori.specs.Settling.{view_of_cell, AreOpen, HasLevelsInRange};
+ghost use Rattle.apriori.specs.Settling as spec;
 
 use crate::prior::{Prior, Status};
 use primary_rules::{level, manual};
 use sdc_base::{Cell, CellFacts, Kind, Levels, Rules};
 
 /// What a cell is to its protection.
-pub(crate) fn settled(rules: &Rules, facts: &CellFacts, prior: &Prior) -> Cell
+pub(crate) fn settled_cell(rules: &Rules, facts: &CellFacts, prior: &Prior) -> Cell
     requires in_range { AreInRange rules.now }
     requires truth { IsTruth facts.now.truth }
     requires kept { keep_of rules.now.list ≤ facts.now.tops.keep }
     requires prior { IsPriorOf facts.now prior.now }
-    ensures seen { seen result ≡ settled_as rules.now (told facts.now) prior.now }
+    ensures seen { view_of_cell result ≡ spec.settled_cell rules.now (figures_of_facts facts.now) prior.now }
     ensures levels { HasLevelsInRange result }
 {
     let low = low_of(facts.truth, prior.bounds);
@@ -49,7 +50,7 @@ pub(crate) fn clash_of(rules: &Rules, facts: &CellFacts, prior: &Prior) -> Optio
     requires truth { IsTruth facts.now.truth }
     requires kept { keep_of rules.now.list ≤ facts.now.tops.keep }
     requires prior { IsPriorOf facts.now prior.now }
-    ensures { result ≡ clash_meant rules.now (told facts.now) prior.now }
+    ensures { result ≡ spec.clash_of rules.now (figures_of_facts facts.now) prior.now }
 {
     if primary_levels(rules, facts, prior).is_some() {
         prior.keep
@@ -60,7 +61,7 @@ pub(crate) fn clash_of(rules: &Rules, facts: &CellFacts, prior: &Prior) -> Optio
 
 // What isn't primary is fixed where it has no records or is stated to be always shown, and else free.
 fn other_kind(facts: &CellFacts, prior: &Prior) -> Kind
-    ensures kind { result ≡ kind_meant (told facts.now) prior.now }
+    ensures kind { result ≡ spec.other_kind (figures_of_facts facts.now) prior.now }
     ensures other { result ≢ Primary }
 {
     if facts.freq == 0 || prior.keep.is_some() {
@@ -76,7 +77,7 @@ fn primary_levels(rules: &Rules, facts: &CellFacts, prior: &Prior) -> Option<Lev
     requires truth { IsTruth facts.now.truth }
     requires kept { keep_of rules.now.list ≤ facts.now.tops.keep }
     requires prior { IsPriorOf facts.now prior.now }
-    ensures value { result ≡ levels_meant rules.now (told facts.now) prior.now }
+    ensures value { result ≡ spec.primary_levels rules.now (figures_of_facts facts.now) prior.now }
     ensures open { ForSome result (AreOpen facts.now.truth) }
 {
     let levels = rule_levels(rules, facts, prior.status)?;
@@ -88,19 +89,19 @@ fn rule_levels(rules: &Rules, facts: &CellFacts, status: Option<Status>) -> Opti
     requires in_range { AreInRange rules.now }
     requires truth { IsTruth facts.now.truth }
     requires kept { keep_of rules.now.list ≤ facts.now.tops.keep }
-    ensures value { result ≡ levels_by_rules rules.now (told facts.now) status }
+    ensures value { result ≡ spec.rule_levels rules.now (figures_of_facts facts.now) status }
     ensures open { ForSome result (AreOpen facts.now.truth) }
 {
     match status {
-        Some(Status::Unsafe) => Some(wider(manual(rules, facts.truth), level(rules, facts))),
+        Some(Status::Unsafe) => Some(wider_levels(manual(rules, facts.truth), level(rules, facts))),
         Some(Status::Safe) => None,
         None => level(rules, facts),
     }
 }
 
 // The levels with the greater upper one.
-fn wider(levels: Levels, others: Option<Levels>) -> Levels
-    ensures { result ≡ wider_of levels others }
+fn wider_levels(levels: Levels, others: Option<Levels>) -> Levels
+    ensures { result ≡ spec.wider_levels levels others }
 {
     match others {
         Some(others) if levels.up < others.up => others,
@@ -113,7 +114,7 @@ fn stated_or(truth: i128, stated: Option<Levels>, levels: Levels) -> Levels
     requires truth { IsTruth truth }
     requires stated { ForSome stated CanBeLevels }
     requires levels { AreOpen truth levels }
-    ensures value { result ≡ stated_levels truth stated levels }
+    ensures value { result ≡ spec.stated_or truth stated levels }
     ensures open { AreOpen truth result }
 {
     match stated {
@@ -126,7 +127,7 @@ fn stated_or(truth: i128, stated: Option<Levels>, levels: Levels) -> Levels
 fn cut_at(truth: i128, levels: Levels) -> Levels
     requires truth { IsTruth truth }
     requires levels { CanBeLevels levels }
-    ensures value { result ≡ cut_levels truth levels }
+    ensures value { result ≡ spec.cut_at truth levels }
     ensures open { AreOpen truth result }
 {
     Levels {
@@ -143,7 +144,7 @@ fn cut_at(truth: i128, levels: Levels) -> Levels
 fn low_of(truth: i128, bounds: Option<(i128, i128)>) -> i128
     requires truth { IsTruth truth }
     requires bounds { ForSome bounds (AreBounds truth) }
-    ensures value { result ≡ low_meant bounds }
+    ensures value { result ≡ spec.low_of bounds }
     ensures from_zero { pos 0 ≤ℤ result }
     ensures within { result ≤ℤ truth }
 {
@@ -156,7 +157,7 @@ fn low_of(truth: i128, bounds: Option<(i128, i128)>) -> i128
 // What an attacker knows that a cell is at most, where anything is known.
 fn high_of(truth: i128, bounds: Option<(i128, i128)>) -> Option<i128>
     requires bounds { ForSome bounds (AreBounds truth) }
-    ensures value { result ≡ high_meant bounds }
+    ensures value { result ≡ spec.high_of bounds }
     ensures beyond { ForSome result (λ high. truth ≤ℤ high) }
 {
     match bounds {

@@ -7,27 +7,30 @@ ghost use Rattle.sdc_base.specs.declared.rows.Row.{Row};
 ghost use Rattle.primary_rules.specs.Ranges.{AreInRange};
 ghost use Rattle.apriori.specs.Faults.{fault_of};
 ghost use Rattle.apriori.specs.Priors.{ArePriors};
-ghost use Rattle.apriori.specs.Settling.{seen, told_of, figures_of, IsReadyFor, AreFactsIn, settled as settled_as, is_before as before, first_of, first_clash as first_meant, settle_of, HasLevelsInRange};
+ghost use Rattle.apriori.specs.Settling.{view_of_cell, told_of, figures_of, IsReadyFor, AreFactsIn, first_of, settle_of, HasLevelsInRange};
+ghost use Rattle.apriori.specs.Settling as spec;
 
 use crate::faults::{PriorError, PriorWhy};
 use crate::prior::Prior;
-use crate::settled::{clash_of, settled};
+use crate::settled::{clash_of, settled_cell};
 use linked_tables::{Book, Mark};
 use sdc_base::{Cell, Rules};
 use std::alloc::Global;
 
 /// What each cell of a book is to its protection, in the order of the cells' numbers, with all amounts in units.
 ///
-/// A cell is primary where it is declared unsafe, or where a rule names it and it isn't declared safe. Its levels are those
-/// that are stated of it, the lower one cut at the truth, else the greatest of the rules that name it and, where it is declared
-/// unsafe, of `MAN`. Any other cell is fixed where it has no records or is stated to be always shown, and else free. The bounds
-/// are those that are stated, else 0 and none; the price is the one that is stated, if any.
+/// A cell is primary where it is declared unsafe, or where a rule names it and it isn't declared safe. Its levels are
+/// those that are stated of it, the lower one cut at the truth, else the greatest of the rules that name it and, where
+/// it is declared unsafe, of `MAN`. Any other cell is fixed where it has no records or is stated to be always shown,
+/// and else free. The bounds are those that are stated, else 0 and none; the price is the one that is stated, if any.
 ///
-/// It takes one prior for each cell, as [`blank_priors`](crate::blank_priors) and [`apply`](crate::apply) make them; rules in
-/// their ranges; and marks with a truth from 0 to `10^29` that keep as many contributions as the rules look at. `ProtectedPrimary` is given where a primary cell is stated to be always shown, for the
-/// first such line by table and line; want of memory is `Memory`. It looks at each cell twice, and at each rule each time.
+/// It takes one prior for each cell, as [`blank_priors`](crate::blank_priors) and [`apply`](crate::apply) make them;
+/// rules in their ranges; and marks with a truth from 0 to `10^29` that keep as many contributions as the rules look
+/// at. `ProtectedPrimary` is given where a primary cell is stated to be always shown, for the first such line by table
+/// and line; want of memory is `Memory`. It looks at each cell twice, and at each rule each time.
 ///
-/// Rules and levels are the handbook's (sensitivity rules and protection levels); what is stated beforehand is argus's own.
+/// Rules and levels are the handbook's (sensitivity rules and protection levels); what is stated beforehand is argus's
+/// own.
 pub fn settle(
     alloc: Global,
     book: &Book,
@@ -37,9 +40,11 @@ pub fn settle(
     requires in_range { AreInRange rules.now }
     requires ready { All (IsReadyFor rules.now) book.now.marks }
     requires priors { ArePriors book.now.marks priors.now }
-    ensures exact { Gives fault_of (λ cells. map seen cells.items) result (settle_of rules.now (told_of book.now.marks) priors.now) }
-    ensures over_records { (trees : List Tree) (names : List Name) (rows : List Row) (scale : ℕ) → AreFactsIn book.now.marks trees names rows scale
-        → Gives fault_of (λ cells. map seen cells.items) result (settle_of rules.now (figures_of trees names rows scale) priors.now) }
+    ensures exact { Gives fault_of (λ cells. map view_of_cell cells.items) result
+        (settle_of rules.now (told_of book.now.marks) priors.now) }
+    ensures over_records { (trees : List Tree) (names : List Name) (rows : List Row) (scale : ℕ)
+        → AreFactsIn book.now.marks trees names rows scale
+        → Gives fault_of (λ cells. map view_of_cell cells.items) result (settle_of rules.now (figures_of trees names rows scale) priors.now) }
     ensures one_each { IfOk result (λ cells. length cells.items ≡ length book.now.marks) }
     ensures levels { IfOk result (λ cells. All HasLevelsInRange cells.items) }
 {
@@ -57,7 +62,8 @@ fn settle_cells(
     requires in_range { AreInRange rules.now }
     requires ready { All (IsReadyFor rules.now) marks.now }
     requires priors { ArePriors marks.now priors.now }
-    ensures exact { Gives fault_of (λ cells. map seen cells.items) result (settle_of rules.now (told_of marks.now) priors.now) }
+    ensures exact { Gives fault_of (λ cells. map view_of_cell cells.items) result
+        (settle_of rules.now (told_of marks.now) priors.now) }
     ensures one_each { IfOk result (λ cells. length cells.items ≡ length marks.now) }
     ensures levels { IfOk result (λ cells. All HasLevelsInRange cells.items) }
 {
@@ -76,7 +82,7 @@ fn first_clash(marks: &[Mark], rules: &Rules, priors: &[Prior]) -> Option<(u32, 
     requires in_range { AreInRange rules.now }
     requires ready { All (IsReadyFor rules.now) marks.now }
     requires priors { ArePriors marks.now priors.now }
-    ensures { result ≡ first_meant rules.now (zip (told_of marks.now) priors.now) }
+    ensures { result ≡ spec.first_clash rules.now (zip (told_of marks.now) priors.now) }
 {
     let mut first = None;
     'cells: for (cell, prior) in priors.iter().enumerate() {
@@ -96,13 +102,14 @@ fn cells_of(
     requires in_range { AreInRange rules.now }
     requires ready { All (IsReadyFor rules.now) marks.now }
     requires priors { ArePriors marks.now priors.now }
-    ensures exact { Gives fault_of (λ cells. map seen cells.items) result (Ok (map (λ cell. settled_as rules.now cell.0 cell.1) (zip (told_of marks.now) priors.now))) }
+    ensures exact { Gives fault_of (λ cells. map view_of_cell cells.items) result
+        (Ok (map (λ cell. spec.settled_cell rules.now cell.0 cell.1) (zip (told_of marks.now) priors.now))) }
     ensures one_each { IfOk result (λ cells. length cells.items ≡ length marks.now) }
     ensures levels { IfOk result (λ cells. All HasLevelsInRange cells.items) }
 {
     let mut cells = Vec::new(alloc);
     'cells: for (cell, prior) in priors.iter().enumerate() {
-        cells.push(settled(rules, &marks[cell].facts, prior))?;
+        cells.push(settled_cell(rules, &marks[cell].facts, prior))?;
     }
     Ok(cells)
 }
@@ -118,7 +125,7 @@ fn first_line(one: Option<(u32, u32)>, other: Option<(u32, u32)>) -> Option<(u32
 
 // Whether a line comes before another: by table, and then by line.
 fn is_before(one: (u32, u32), other: (u32, u32)) -> bool
-    ensures { result ≡ before one other }
+    ensures { result ≡ spec.is_before one other }
 {
     one.0 < other.0 || (one.0 == other.0 && one.1 < other.1)
 }

@@ -1,7 +1,8 @@
 use crate::prior::Status;
 use sdc_base::Levels;
 
-/// What is the same for all lines of a table's file: the table, the byte between fields, and how many decimals a unit has.
+/// What is the same for all lines of a table's file: the table, the byte between fields, and how many decimals a unit
+/// has.
 #[derive(Clone, Copy)]
 pub(crate) struct Form {
     pub(crate) table: u32,

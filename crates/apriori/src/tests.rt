@@ -162,8 +162,8 @@ fn added(
     }
 }
 
-// The line and the kind of the first fault of a file of the first table over no statements. None where it changes the priors
-// for all that.
+// The line and the kind of the first fault of a file of the first table over no statements. None where it changes the
+// priors for all that.
 fn answer(
     alloc: Global,
     book: &Book,
@@ -295,8 +295,8 @@ fn separators_and_decimals(rt: HostRuntime) -> Result<(), Fail> {
     Ok(())
 }
 
-// The first fault of a file of the second table behind one of the first, which must be accepted. None where it changes the
-// priors for all that.
+// The first fault of a file of the second table behind one of the first, which must be accepted. None where it changes
+// the priors for all that.
 fn answer_behind(
     alloc: Global,
     book: &Book,

@@ -1,5 +1,5 @@
 ghost use Rattle.std.specs.Prelude.{◌≡◌, ◌^◌, ◌≤◌, ◌<◌};
-ghost use Rattle.sdc_base.specs.Counts.{Rose};
+ghost use Rattle.sdc_base.specs.Counts.{HasRisen};
 
 use office_io::{BeginFault, Failed, Shelf};
 use sdc_base::Text;
@@ -44,7 +44,7 @@ impl<'a, R: Files> FileShelf<'a, R> {
     }
 
     fn count_fault(&mut self)
-        ensures rose { Rose self.old.faults self.new.faults }
+        ensures rose { HasRisen self.old.faults self.new.faults }
         ensures stays { self.old.faults ≤ self.new.faults }
         ensures end { self.new.faults < 2 ^ 64 }
         ensures rest { self.new ≡ record self.old { faults = self.new.faults } }

@@ -83,8 +83,8 @@ fn checks_of_roundings(rt: HostRuntime) -> Result<(), Fail> {
     Ok(())
 }
 
-// The interval of each cell that the table hides; a table that no choice of hidden cells gives; a cell that is always to be
-// shown; and a job that rounds.
+// The interval of each cell that the table hides; a table that no choice of hidden cells gives; a cell that is always
+// to be shown; and a job that rounds.
 #[test]
 fn intervals(rt: HostRuntime) -> Result<(), Fail> {
     let alloc = rt.alloc();

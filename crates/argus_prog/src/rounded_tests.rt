@@ -25,8 +25,9 @@ fn job_by(alloc: Global, variables: &str, method: &str) -> Result<String, Memory
     Ok(format!(in alloc; "{FILES}{variables}{BEHIND}{method}")?)
 }
 
-// By the variables of the table and the method, and by the metadata and the records: every cell at a multiple of the base
-// next to its truth, and margins that add up; or that there are no such numbers, or that the search for them stopped.
+// By the variables of the table and the method, and by the metadata and the records: every cell at a multiple of the
+// base next to its truth, and margins that add up; or that there are no such numbers, or that the search for them
+// stopped.
 #[test]
 fn roundings(rt: HostRuntime) -> Result<(), Fail> {
     let rows = [

@@ -404,8 +404,8 @@ fn refusals(rt: HostRuntime) -> Result<(), Fail> {
     Ok(())
 }
 
-// The job lacks a command, would overwrite its own file, names an a priori file that isn't there, or is of linked tables with a
-// file that isn't there or a record that is a byte short.
+// The job lacks a command, would overwrite its own file, names an a priori file that isn't there, or is of linked
+// tables with a file that isn't there or a record that is a byte short.
 #[test]
 fn refusals_of_other_jobs(rt: HostRuntime) -> Result<(), Fail> {
     let alloc = rt.alloc();
@@ -454,8 +454,8 @@ fn refusals_of_other_jobs(rt: HostRuntime) -> Result<(), Fail> {
     Ok(())
 }
 
-// By the job's method, what the office states of the cells of thirteen records: the first fault, or that no cell is primary any
-// more, or that one is and is rounded.
+// By the job's method, what the office states of the cells of thirteen records: the first fault, or that no cell is
+// primary any more, or that one is and is rounded.
 #[test]
 fn statements(rt: HostRuntime) -> Result<(), Fail> {
     let alloc = rt.alloc();

@@ -15,13 +15,13 @@ use Rattle.sdc_base.specs.Forms.{coefficient}
 use Rattle.sdc_base.specs.Refutations.{bound_sum}
 use Rattle.sdc_base.specs.Systems.{form, Numbers}
 use Rattle.sdc_base.specs.Totals.{sum_of}
-use Rattle.sdc_base.specs.Worlds.{IsWorld, toward}
+use Rattle.sdc_base.specs.Worlds.{IsWorld, amount_toward}
 use Rattle.sdc_base.proofs.WholeNumbers.{assoc, below_from_times, swap_times, times_more}
 use Rattle.sdc_base.proofs.TotalLemmas.{sum_of-cons}
 use Rattle.worlds.specs.declared.multipliers.Multipliers.{Multipliers}
 use Rattle.worlds.specs.declared.world.World.{World}
-use Rattle.worlds.specs.Listed.{terms_of, given}
-use Rattle.worlds.specs.RefutationFaults.{added}
+use Rattle.worlds.specs.NumberLists.{terms_of, number_given}
+use Rattle.worlds.specs.RefutationFaults.{terms_added}
 use Rattle.interval_audit.specs.declared.answer.Fraction.{Fraction}
 use Rattle.interval_audit.specs.declared.question.Question.{Question}
 use Rattle.interval_audit.specs.Answers.{ReachesTarget, StopsShort}
@@ -72,7 +72,7 @@ best_from_zero system cells flags number side num den best =
     let far = best.furthest (pos 1) (λ _. pos 0) (truths_are_world system cells flags) in
     omega (arith, ints, far, still side, *ℤ_comm num (pos 1))
   where
-    still : (side : Side) → toward side (pos 0) *ℤ den ≡ pos 0
+    still : (side : Side) → amount_toward side (pos 0) *ℤ den ≡ pos 0
     still Above = omega (arith, ints)
     still Below = omega (arith, ints)
 
@@ -88,11 +88,11 @@ best_lowered system cells flags number side num den by n d up num_is den_is best
       attained_den = best.attained_den;
       attained_moves = best.attained_moves;
       attained_world = best.attained_world;
-      attained = cancel_same (pos by) (toward side (best.attained_moves number) *ℤ pos d) (pos n *ℤ best.attained_den) up_z
-          (sym (left (toward side (best.attained_moves number))) ∙ best.attained ∙ right best.attained_den);
+      attained = cancel_same (pos by) (amount_toward side (best.attained_moves number) *ℤ pos d) (pos n *ℤ best.attained_den) up_z
+          (sym (left (amount_toward side (best.attained_moves number))) ∙ best.attained ∙ right best.attained_den);
       furthest = λ other moves world.
           let far = best.furthest other moves world in
-          cancel_le (pos by) (toward side (moves number) *ℤ pos d) (pos n *ℤ other) up_z (omega (arith, ints, far, left (toward side (moves number)), right other));
+          cancel_le (pos by) (amount_toward side (moves number) *ℤ pos d) (pos n *ℤ other) up_z (omega (arith, ints, far, left (amount_toward side (moves number)), right other));
     }
 
 -- ---- widths of multipliers
@@ -131,7 +131,7 @@ stops_far system cells flags number side question best world multipliers num den
     let whole : IsBest system cells flags number side (pos num) (pos den) = subst (λ z. IsBest system cells flags number side (pos num) z) den_is (subst (λ z. IsBest system cells flags number side z best.den) num_is own) in
     let target : best.num <ℤ (best.den *ℤ pos (2 ^ 110)) = subst (λ z. best.num <ℤ (best.den *ℤ z)) asks.target_is stops.below in
     let below : pos num <ℤ (pos den *ℤ pos (2 ^ 110)) = subst (λ z. pos num <ℤ (z *ℤ pos (2 ^ 110))) den_is (subst (λ z. z <ℤ (best.den *ℤ pos (2 ^ 110))) num_is target) in
-    let sum : ℤ = bound_sum cells flags (coefficient (added system question.cell question.side multipliers)) in
+    let sum : ℤ = bound_sum cells flags (coefficient (terms_added system question.cell question.side multipliers)) in
     let equal : sum *ℤ pos den ≡ multipliers.den *ℤ pos num = ap (λ z. sum *ℤ z) (sym den_is) ∙ stops.equal ∙ ap (λ z. multipliers.den *ℤ z) num_is in
     record {
       is_best = best_lowered system cells flags number side num den lowered.0 far.num far.den lowered.1 lowered.2 lowered.3 whole;
@@ -142,6 +142,6 @@ stops_far system cells flags number side question best world multipliers num den
 -- a question that reaches its target
 pub reaches_far : (system : System) (cells : List Cell) (flags : List Bool) (number : ℕ) (side : Side) (question : Question) (world : World) → IsEndQuestion number side question → ReachesTarget system cells flags question world → IsOpenTo system cells flags number side
 reaches_far system cells flags number side question world asks reaches =
-    let moves : Numbers = given (terms_of world.moves) in
-    let own : toward side (moves number) ≡ world.den *ℤ question.target = subst (λ s. toward s (moves number) ≡ world.den *ℤ question.target) asks.side_is (subst (λ c. toward question.side (moves c) ≡ world.den *ℤ question.target) asks.cell_is reaches.exactly) in
+    let moves : Numbers = number_given (terms_of world.moves) in
+    let own : amount_toward side (moves number) ≡ world.den *ℤ question.target = subst (λ s. amount_toward s (moves number) ≡ world.den *ℤ question.target) asks.side_is (subst (λ c. amount_toward question.side (moves c) ≡ world.den *ℤ question.target) asks.cell_is reaches.exactly) in
     (world.den, moves, reaches.is_world.is_world, own ∙ ap (λ z. world.den *ℤ z) asks.target_is)

@@ -26,7 +26,8 @@ pub record HasSmallComponent (system : System) (flags : List Bool) (cell : ℕ) 
   pub few : length (members group system.cells) ≤ 1500
 
 -- the fault is one of this hidden cell's two questions, and those of all hidden cells before it have ended with answers
-pub record IsFaultAt (system : System) (cells : List Cell) (flags : List Bool) (limit : ℕ) (fault : AskFault) (cell : ℕ) : Type 0 where
+pub record IsFaultAt (system : System) (cells : List Cell) (flags : List Bool) (limit : ℕ) (fault : AskFault)
+    (cell : ℕ) : Type 0 where
   pub hidden : is_hidden flags cell ≡ true
   pub earlier : (other : ℕ) → other < cell → is_hidden flags other ≡ true → HasBothEnds system cells flags other
   pub cause : IsIntervalCause system cells flags cell limit fault
@@ -34,6 +35,9 @@ pub record IsFaultAt (system : System) (cells : List Cell) (flags : List Bool) (
 -- why there are no intervals: the fault of the first question that has no answer; want of memory is free
 abbrev pub IsFaultOf : System → List Cell → List Bool → ℕ → AskFault → Type 0
 IsFaultOf system cells flags limit fault.Memory = Unit {0}
-IsFaultOf system cells flags limit (fault.Work walk) = (cell : ℕ) × IsFaultAt system cells flags limit (fault.Work walk) cell
-IsFaultOf system cells flags limit (fault.Wide walk place) = (cell : ℕ) × IsFaultAt system cells flags limit (fault.Wide walk place) cell
-IsFaultOf system cells flags limit (fault.Size asked hidden) = (cell : ℕ) × IsFaultAt system cells flags limit (fault.Size asked hidden) cell
+IsFaultOf system cells flags limit (fault.Work walk) = (cell : ℕ)
+    × IsFaultAt system cells flags limit (fault.Work walk) cell
+IsFaultOf system cells flags limit (fault.Wide walk place) = (cell : ℕ)
+    × IsFaultAt system cells flags limit (fault.Wide walk place) cell
+IsFaultOf system cells flags limit (fault.Size asked hidden) = (cell : ℕ)
+    × IsFaultAt system cells flags limit (fault.Size asked hidden) cell

@@ -20,7 +20,8 @@ upper_text Open = codes "open"
 
 -- the line of an interval: the cell's number and the two ends, with commas between them, ended by LF
 abbrev pub line_text : CellInterval → List ℕ
-line_text interval = decimal interval.cell ++ codes "," ++ ratio_text interval.low ++ codes "," ++ upper_text interval.high ++ codes "\n"
+line_text interval =
+    decimal interval.cell ++ codes "," ++ ratio_text interval.low ++ codes "," ++ upper_text interval.high ++ codes "\n"
 
 -- the file: the headings, and then each interval's line
 abbrev pub interval_text : List CellInterval → List ℕ

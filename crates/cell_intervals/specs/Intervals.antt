@@ -15,31 +15,39 @@ use Rattle.cell_intervals.specs.declared.interval.UpperEnd.TheVariants.{At, Open
 -- some world for the hidden set gives the cell exactly this value
 abbrev pub IsAttained : System → List Cell → List Bool → ℕ → Cell → Ratio → Type 0
 IsAttained system cells flags number cell value =
-    (den : ℤ) × (moves : Numbers) × IsWorld system cells flags den moves × (value_over den cell (moves number) *ℤ pos value.den ≡ pos value.num *ℤ den)
+    (den : ℤ) × (moves : Numbers) × IsWorld system cells flags den moves
+    × (value_over den cell (moves number) *ℤ pos value.den ≡ pos value.num *ℤ den)
 
 -- the least value that a world gives the cell: one does, and none of any denominator gives it less
-pub record IsLeastValue (system : System) (cells : List Cell) (flags : List Bool) (number : ℕ) (cell : Cell) (low : Ratio) : Type 0 where
+pub record IsLeastValue (system : System) (cells : List Cell) (flags : List Bool) (number : ℕ) (cell : Cell)
+    (low : Ratio) : Type 0 where
   pub attained : IsAttained system cells flags number cell low
-  pub least : (den : ℤ) (moves : Numbers) → IsWorld system cells flags den moves → (pos low.num *ℤ den) ≤ℤ (value_over den cell (moves number) *ℤ pos low.den)
+  pub least : (den : ℤ) (moves : Numbers) → IsWorld system cells flags den moves
+      → (pos low.num *ℤ den) ≤ℤ (value_over den cell (moves number) *ℤ pos low.den)
 
 -- the greatest value that a world gives the cell: one does, and none of any denominator gives it more
-pub record IsGreatestValue (system : System) (cells : List Cell) (flags : List Bool) (number : ℕ) (cell : Cell) (high : Ratio) : Type 0 where
+pub record IsGreatestValue (system : System) (cells : List Cell) (flags : List Bool) (number : ℕ) (cell : Cell)
+    (high : Ratio) : Type 0 where
   pub attained : IsAttained system cells flags number cell high
-  pub greatest : (den : ℤ) (moves : Numbers) → IsWorld system cells flags den moves → (value_over den cell (moves number) *ℤ pos high.den) ≤ℤ (pos high.num *ℤ den)
+  pub greatest : (den : ℤ) (moves : Numbers) → IsWorld system cells flags den moves
+      → (value_over den cell (moves number) *ℤ pos high.den) ≤ℤ (pos high.num *ℤ den)
 
 -- a value is less than 2^110 above the cell's truth
 abbrev pub IsBelowOpen : Cell → Ratio → Type 0
 IsBelowOpen cell value = pos value.num <ℤ (pos value.den *ℤ (cell.truth +ℤ pos (2 ^ 110)))
 
--- The upper end of the cell's interval: the greatest value, where that is less than 2^110 above its truth, and open where some world
--- gives the cell 2^110 more than its truth.
+-- The upper end of the cell's interval: the greatest value, where that is less than 2^110 above its truth, and open
+-- where some world gives the cell 2^110 more than its truth.
 abbrev pub IsUpperEnd : System → List Cell → List Bool → ℕ → Cell → UpperEnd → Type 0
-IsUpperEnd system cells flags number cell (At high) = IsGreatestValue system cells flags number cell high × IsBelowOpen cell high
+IsUpperEnd system cells flags number cell (At high) = IsGreatestValue system cells flags number cell high
+    × IsBelowOpen cell high
 IsUpperEnd system cells flags number cell Open =
-    (den : ℤ) × (moves : Numbers) × IsWorld system cells flags den moves × (value_over den cell (moves number) ≡ den *ℤ (cell.truth +ℤ pos (2 ^ 110)))
+    (den : ℤ) × (moves : Numbers) × IsWorld system cells flags den moves
+    × (value_over den cell (moves number) ≡ den *ℤ (cell.truth +ℤ pos (2 ^ 110)))
 
 -- the interval of a cell: from the least value that a world gives it to the upper end
-pub record IsIntervalOf (system : System) (cells : List Cell) (flags : List Bool) (interval : CellInterval) : Type 0 where
+pub record IsIntervalOf (system : System) (cells : List Cell) (flags : List Bool)
+    (interval : CellInterval) : Type 0 where
   pub cell : Cell
   pub known : slice_get cells interval.cell ≡ Some cell
   pub low : IsLeastValue system cells flags interval.cell cell interval.low
@@ -50,6 +58,7 @@ abbrev pub hidden_cells : List Bool → List ℕ
 hidden_cells flags = filter (is_hidden flags) (range_with_len 0 (length flags))
 
 -- the intervals of the hidden cells: one for each, ascending, and none for a shown cell
-pub record AreIntervals (system : System) (cells : List Cell) (flags : List Bool) (intervals : List CellInterval) : Type 0 where
+pub record AreIntervals (system : System) (cells : List Cell) (flags : List Bool)
+    (intervals : List CellInterval) : Type 0 where
   pub numbers : map (λ interval. interval.cell) intervals ≡ hidden_cells flags
   pub each : All (IsIntervalOf system cells flags) intervals

@@ -13,16 +13,18 @@ use Rattle.cell_intervals.specs.IntervalTexts.{interval_text}
 abbrev pub FileIsOne : Type 0
 FileIsOne =
     (system : System) (cells : List Cell) (flags : List Bool) (one other : List CellInterval)
-    → AreIntervals system cells flags one → AreIntervals system cells flags other → interval_text one ≡ interval_text other
+    → AreIntervals system cells flags one → AreIntervals system cells flags other
+    → interval_text one ≡ interval_text other
 
 -- the fault is that a component is too large
 abbrev pub IsSize : AskFault → Type 0
 IsSize (fault.Size asked hidden) = Unit {0}
 IsSize other = ⊥
 
--- The fault at a hidden cell, where all earlier questions have ended, is that its component is too large exactly where the component
--- has more than 1,500 hidden cells; want of memory aside.
+-- The fault at a hidden cell, where all earlier questions have ended, is that its component is too large exactly where
+-- the component has more than 1,500 hidden cells; want of memory aside.
 abbrev pub SizeIsLarge : Type 0
 SizeIsLarge =
     (system : System) (cells : List Cell) (flags : List Bool) (limit cell : ℕ) (why : AskFault)
-    → why ≢ fault.Memory → IsFaultAt system cells flags limit why cell → IsSize why ↔ (¬ HasSmallComponent system flags cell)
+    → why ≢ fault.Memory → IsFaultAt system cells flags limit why cell
+    → IsSize why ↔ (¬ HasSmallComponent system flags cell)

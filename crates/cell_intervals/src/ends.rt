@@ -33,13 +33,15 @@ pub(crate) fn interval_from(
     CellInterval { cell, low, high }
 }
 
-// The lower end of a cell's interval. No world takes a cell as far below its truth as is asked, since a truth is less than that.
+// The lower end of a cell's interval. No world takes a cell as far below its truth as is asked, since a truth is less
+// than that.
 fn low_end(system: &System, cells: &[Cell], hidden: &Hidden, cell: u32, below: &Answer) -> Ratio
     requires ground { IsGround system.now cells.now hidden.now.flags }
     requires truths { All (λ cell. cell.truth ≤ℤ pos (10 ^ 29)) cells.now }
     requires hidden { is_hidden hidden.now.flags cell ≡ true }
     requires below { IsTrueEnd system.now cells.now hidden.now.flags cell Below below.now }
-    ensures { (known : AnyCell) → slice_get cells.now cell ≡ Some known → IsLeastValue system.now cells.now hidden.now.flags cell known result }
+    ensures { (known : AnyCell) → slice_get cells.now cell ≡ Some known
+        → IsLeastValue system.now cells.now hidden.now.flags cell known result }
 {
     let truth = cells[cell as usize].truth.unsigned_abs();
     let Some(far) = farthest(system, cells, hidden, cell, Side::Below, below) else {
@@ -54,7 +56,8 @@ fn high_end(system: &System, cells: &[Cell], hidden: &Hidden, cell: u32, above: 
     requires truths { All (λ cell. cell.truth ≤ℤ pos (10 ^ 29)) cells.now }
     requires hidden { is_hidden hidden.now.flags cell ≡ true }
     requires above { IsTrueEnd system.now cells.now hidden.now.flags cell Above above.now }
-    ensures { (known : AnyCell) → slice_get cells.now cell ≡ Some known → IsUpperEnd system.now cells.now hidden.now.flags cell known result }
+    ensures { (known : AnyCell) → slice_get cells.now cell ≡ Some known
+        → IsUpperEnd system.now cells.now hidden.now.flags cell known result }
 {
     let truth = cells[cell as usize].truth.unsigned_abs();
     let Some(far) = farthest(system, cells, hidden, cell, Side::Above, above) else {
@@ -63,7 +66,8 @@ fn high_end(system: &System, cells: &[Cell], hidden: &Hidden, cell: u32, above: 
     UpperEnd::At(plus(truth, far))
 }
 
-// How far worlds take a cell to a side, in lowest terms, by the answer of its question; none where one takes it 2^110 there.
+// How far worlds take a cell to a side, in lowest terms, by the answer of its question; none where one takes it 2^110
+// there.
 fn farthest(
     system: &System,
     cells: &[Cell],

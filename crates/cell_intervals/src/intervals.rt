@@ -11,21 +11,21 @@ use interval_audit::{AskFault, interval};
 use sdc_base::{Cell, Hidden, Items, System};
 use std::alloc::Global;
 
-/// What a reader of the tables can find out of each hidden cell, in ascending order of the cells' numbers: the least and the
-/// greatest value that a complete table gives it, of all that agree with the shown cells, the relations and the bounds. The
-/// upper end is open where some complete table gives the cell 2^110 units more than its truth.
+/// What a reader of the tables can find out of each hidden cell, in ascending order of the cells' numbers: the least
+/// and the greatest value that a complete table gives it, of all that agree with the shown cells, the relations and the
+/// bounds. The upper end is open where some complete table gives the cell 2^110 units more than its truth.
 ///
-/// There are a cell and a flag for each cell of the system, no truth is above 10^29 units, and `limit`, 1 or more, says how
-/// many improvements each question may make.
+/// There are a cell and a flag for each cell of the system, no truth is above 10^29 units, and `limit`, 1 or more, says
+/// how many improvements each question may make.
 ///
-/// For each hidden cell two questions are asked, below first ([`interval`]). The refusals are those of the first question that
-/// has no answer: `Size` where the component of its cell has more than 1,500 hidden cells, `Work` and `Wide` where its walk
-/// stops short. Want of memory may come at any time. What is lent stays as it was.
+/// For each hidden cell two questions are asked, below first ([`interval`]). The refusals are those of the first
+/// question that has no answer: `Size` where the component of its cell has more than 1,500 hidden cells, `Work` and
+/// `Wide` where its walk stops short. Want of memory may come at any time. What is lent stays as it was.
 ///
 /// It costs as much as two questions for each hidden cell.
 ///
-/// The interval is the feasibility interval in Hundepool et al., Statistical Disclosure Control, chapter on magnitude tables;
-/// that an end is open from 2^110 on is own.
+/// The interval is the feasibility interval in Hundepool et al., Statistical Disclosure Control, chapter on magnitude
+/// tables; that an end is open from 2^110 on is own.
 pub fn intervals_of(
     alloc: Global,
     system: &System,
@@ -37,7 +37,8 @@ pub fn intervals_of(
     requires truths { All (λ cell. cell.truth ≤ℤ pos (10 ^ 29)) cells.now }
     requires limit { 1 ≤ limit }
     ensures intervals { IfOk result (AreIntervals system.now cells.now hidden.now.flags) }
-    ensures small { IfOk result (λ _. (cell : ℕ) → sets.is_hidden hidden.now.flags cell ≡ true → HasSmallComponent system.now hidden.now.flags cell) }
+    ensures small { IfOk result (λ _. (cell : ℕ) → sets.is_hidden hidden.now.flags cell ≡ true
+        → HasSmallComponent system.now hidden.now.flags cell) }
     ensures cause { IfErr result (IsFaultOf system.now cells.now hidden.now.flags limit) }
 {
     let mut intervals = Items::empty(alloc);

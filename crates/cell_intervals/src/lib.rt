@@ -1,4 +1,5 @@
-//! What a reader of released tables can find out of each hidden cell: the interval of its values, and the file of all intervals.
+//! What a reader of released tables can find out of each hidden cell: the interval of its values, and the file of all
+//! intervals.
 #![tactic(auto)]
 
 mod ends;

@@ -14,8 +14,8 @@ pub struct Ratio {
     ghost lowest: { IsGcd num den 1 },
 }
 
-/// A fraction brought to lowest terms. So many times the fraction is whole only where its denominator divides that number
-/// of times.
+/// A fraction brought to lowest terms. So many times the fraction is whole only where its denominator divides that
+/// number of times.
 pub(crate) fn lowest_terms_of(num: u128, den: u128) -> Ratio
     requires { 1 ≤ den }
     ensures same { IsLoweredTo num den result.num result.den }

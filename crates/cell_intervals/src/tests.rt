@@ -182,8 +182,8 @@ fn has_text(alloc: Global, case: Option<Case>, wanted: &[u8]) -> Result<bool, Fa
     Ok(text.as_slice() == wanted)
 }
 
-// A table of two variables with two codes each: the total, the codes of the first variable's total, and so on. Four inner
-// cells are hidden.
+// A table of two variables with two codes each: the total, the codes of the first variable's total, and so on. Four
+// inner cells are hidden.
 fn two_by_two(alloc: Global) -> Result<Option<Case>, Fail> {
     let relations = [
         (0, [3, 6].as_slice()),
@@ -217,7 +217,8 @@ fn cell_without_upper_bound_is_open(rt: HostRuntime) -> Result<(), Fail> {
 }
 
 // Cells 3, 4 and 5 in a ring: 3 and 4, and 4 and 5, have shown sums, so 4 moves against 3, and 5 moves with it; cell 2,
-// the sum of 3 and 5, moves by twice as much, and it may rise by 1 and fall by 2. So 3 and 5 fall by 1 and rise by a half.
+// the sum of 3 and 5, moves by twice as much, and it may rise by 1 and fall by 2. So 3 and 5 fall by 1 and rise by a
+// half.
 #[test]
 fn ring_of_three_ends_at_halves(rt: HostRuntime) -> Result<(), Fail> {
     let alloc = rt.alloc();

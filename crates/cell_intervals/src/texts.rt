@@ -6,11 +6,12 @@ use crate::ratio::Ratio;
 use sdc_base::{Items, Memory};
 use std::alloc::Global;
 
-/// The text of the interval file: the line `cell,low,high`, and then for each interval a line with the number of its cell, its
-/// lower and its upper end, ended by LF. The ends are in units: a whole number, or `n/d` in lowest terms, or `open`.
+/// The text of the interval file: the line `cell,low,high`, and then for each interval a line with the number of its
+/// cell, its lower and its upper end, ended by LF. The ends are in units: a whole number, or `n/d` in lowest terms, or
+/// `open`.
 ///
-/// The intervals are written in the order in which they stand. `Memory` is the only refusal. The cost is the length of the
-/// text. The format is argus's own.
+/// The intervals are written in the order in which they stand. `Memory` is the only refusal. The cost is the length of
+/// the text. The format is argus's own.
 pub fn interval_text(alloc: Global, intervals: &[CellInterval]) -> Result<Items<u8>, Memory>
     ensures { IfOk result (λ text. text ≡ meant.interval_text intervals.now) }
 {

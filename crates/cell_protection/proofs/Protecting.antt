@@ -11,7 +11,7 @@ use Rattle.sdc_base.specs.declared.trail.PlanStep.{PlanStep}
 use Rattle.sdc_base.specs.declared.method.Method.{Method}
 use Rattle.cost_rule.specs.Costs.{price_of}
 use Rattle.cost_rule.specs.declared.kind.CostKind.{CostKind}
-use Rattle.linked_tables.specs.Held.{Held}
+use Rattle.linked_tables.specs.BookViews.{BookView}
 use Rattle.linked_tables.specs.declared.mark.Mark.{Mark}
 use Rattle.hypercube.proofs.AllOf.{all-flat, all-more}
 use Rattle.modular_plan.specs.Plans.{trail_of}
@@ -47,7 +47,7 @@ by-place P (x ∷ xs) all zero d within = all.0
 by-place P (x ∷ xs) all (suc k) d within = by-place P xs all.1 k d (omega (arith, within))
 
 -- the corners of whole steps may be hidden
-pub corners-may : (book : Held) (cells : List Cell) (steps : List PlanStep) → AllByRecursion (IsWholeStep book cells) steps → All (MayHide cells) (corners_of steps)
+pub corners-may : (book : BookView) (cells : List Cell) (steps : List PlanStep) → AllByRecursion (IsWholeStep book cells) steps → All (MayHide cells) (corners_of steps)
 corners-may book cells steps all =
     by-place (MayHide cells) (corners_of steps)
     (all-flat (MayHide cells) (λ step. step.corners) steps
@@ -61,20 +61,20 @@ outcome-by c prices method steps limit (verdict.Protected protected repairs need
 outcome-by c prices method steps limit (verdict.Cannot cell side multipliers) is = is
 
 -- that certificate has a text
-pub text-by : (book : Held) (system : System) (cells : List Cell) (prices : List ℕ) (method : Method) (steps : List PlanStep) (one : Verdict) → AreNarrow book.tables → AllByRecursion (IsWholeStep book cells) steps
+pub text-by : (book : BookView) (system : System) (cells : List Cell) (prices : List ℕ) (method : Method) (steps : List PlanStep) (one : Verdict) → AreNarrow book.tables → AllByRecursion (IsWholeStep book cells) steps
     → IsVerdict (case system cells) prices (planned_from (case system cells) steps) one → HasText (protection_by method (case system cells) steps one)
 text-by book system cells prices method steps (verdict.Protected protected repairs needs) narrow whole is =
     spellable book method system cells prices (planned_from (case system cells) steps) (hide_subjects (planned_from (case system cells) steps) repairs) protected steps repairs needs narrow.few narrow.each whole is.0 is.1
 text-by book system cells prices method steps (verdict.Cannot cell side multipliers) narrow whole is = tt
 
 -- the steps and the prices are those by a job's own kind of costs, before the plan marked any cell
-moved-steps : (book : Held) (cells : List Cell) (kind cost : CostKind) (passes other : ℕ) (steps : List PlanStep) → kind ≡ cost → passes ≡ other → steps ≡ trail_of book cells kind passes → steps ≡ trail_of book cells cost other
+moved-steps : (book : BookView) (cells : List Cell) (kind cost : CostKind) (passes other : ℕ) (steps : List PlanStep) → kind ≡ cost → passes ≡ other → steps ≡ trail_of book cells kind passes → steps ≡ trail_of book cells cost other
 moved-steps book cells kind cost passes other steps same by is = is ∙ ap₂ (λ (one : CostKind) (n : ℕ). trail_of book cells one n) same by
 
 moved-prices : (cells : List Cell) (kind cost : CostKind) (old new marks : List Mark) → kind ≡ cost → marks ≡ new → map (λ mark. mark.facts) new ≡ map (λ mark. mark.facts) old → prices_of kind cells marks ≡ prices_of cost cells old
 moved-prices cells kind cost old new marks same are facts = ap (λ (one : CostKind). prices_of one cells marks) same ∙ ap (λ (ms : List Mark). prices_of cost cells ms) are ∙ same-prices cost cells old new facts
 
-pub outcome-moves : (system : System) (cells : List Cell) (kind cost : CostKind) (book : Held) (new marks : List Mark) (method : Method) (passes limit : ℕ) (steps : List PlanStep) (one : Verdict) → kind ≡ cost → marks ≡ new → map (λ mark. mark.facts) new ≡ map (λ mark. mark.facts) book.marks
+pub outcome-moves : (system : System) (cells : List Cell) (kind cost : CostKind) (book : BookView) (new marks : List Mark) (method : Method) (passes limit : ℕ) (steps : List PlanStep) (one : Verdict) → kind ≡ cost → marks ≡ new → map (λ mark. mark.facts) new ≡ map (λ mark. mark.facts) book.marks
     → passes ≡ passes_of method → steps ≡ trail_of book cells kind passes → IsVerdict (case system cells) (prices_of kind cells marks) (planned_set cells (corners_of steps)) one
     → IsProtectionOf (case system cells) (prices_of cost cells book.marks) method (trail_of book cells cost (passes_of method)) limit (protection_by method (case system cells) steps one)
 outcome-moves system cells kind cost book new marks method passes limit steps one same are facts by made is =
@@ -83,7 +83,7 @@ outcome-moves system cells kind cost book new marks method passes limit steps on
     (outcome-by (case system cells) prices method steps limit one
     (subst (λ (all : List ℕ). IsVerdict (case system cells) all (planned_set cells (corners_of steps)) one) (moved-prices cells kind cost book.marks new marks same are facts) is))
 
-pub stop-moves : (system : System) (cells : List Cell) (kind cost : CostKind) (book : Held) (new marks : List Mark) (method : Method) (passes limit : ℕ) (steps : List PlanStep) (stopped : Stopped) → kind ≡ cost → marks ≡ new → map (λ mark. mark.facts) new ≡ map (λ mark. mark.facts) book.marks
+pub stop-moves : (system : System) (cells : List Cell) (kind cost : CostKind) (book : BookView) (new marks : List Mark) (method : Method) (passes limit : ℕ) (steps : List PlanStep) (stopped : Stopped) → kind ≡ cost → marks ≡ new → map (λ mark. mark.facts) new ≡ map (λ mark. mark.facts) book.marks
     → passes ≡ passes_of method → steps ≡ trail_of book cells kind passes → StopsFor (case system cells) (prices_of kind cells marks) (planned_set cells (corners_of steps)) limit stopped.fault stopped.repairs stopped.shown
     → StopsFor (case system cells) (prices_of cost cells book.marks) (planned_set cells (corners_of (trail_of book cells cost (passes_of method)))) limit stopped.fault stopped.repairs stopped.shown
 stop-moves system cells kind cost book new marks method passes limit steps stopped same are facts by made is =

@@ -13,8 +13,8 @@ use Rattle.sdc_base.specs.declared.method.Method.{Method}
 use Rattle.sdc_base.specs.declared.side.Side.{Side}
 use Rattle.sdc_base.specs.declared.system.System.{System}
 use Rattle.sdc_base.specs.declared.trail.PlanStep.{PlanStep}
-use Rattle.linked_tables.specs.Held.{Held}
-use Rattle.worlds.specs.Listed.{Ascend, given, terms_of}
+use Rattle.linked_tables.specs.BookViews.{BookView}
+use Rattle.worlds.specs.NumberLists.{Ascend, number_given, terms_of}
 use Rattle.worlds.specs.ProtectFaults.{asked_of}
 use Rattle.worlds.specs.Protection.{Protection}
 use Rattle.worlds.specs.RefutationFaults.{IsGivenRefutation}
@@ -120,7 +120,7 @@ listed-hidden system cells flags den moves (one ∷ listed) world inside counts 
 
 world-hidden : (system : System) (cells : List Cell) (flags : List Bool) (world : World) → IsGivenWorld system cells flags world → AllByRecursion (λ one. (one.cell < system.cells) × (is_hidden flags one.cell ≡ true)) world.moves
 world-hidden system cells flags world is =
-    listed-hidden system cells flags world.den (given (terms_of world.moves)) world.moves is.is_world is.listed.named is.listed.counting (each_given 0 (terms_of world.moves) is.listed.ascending)
+    listed-hidden system cells flags world.den (number_given (terms_of world.moves)) world.moves is.is_world is.listed.named is.listed.counting (each_given 0 (terms_of world.moves) is.listed.ascending)
 
 -- no listed move is by 0
 moves-move : (listed : List Move) → All (λ (t : Term). t.1 ≢ pos 0) (terms_of listed) → AllByRecursion (λ one. one.by ≢ pos 0) listed
@@ -148,7 +148,7 @@ get-at P [] k x is all = absurd cc
 get-at P (y ∷ xs) zero x is all = let same : y ≡ x = cc in (omega arith, subst P same (All-head P y xs all))
 get-at P (y ∷ xs) (suc k) x is all = let rest = get-at P xs k x is (All-tail P y xs all) in (omega (arith, rest.0), rest.1)
 
-step-spelled : (book : Held) (cells : List Cell) (step : PlanStep) → length book.tables ≤ 8 → All (λ table. (1 ≤ length table) × (length table ≤ 8)) book.tables → IsWholeStep book cells step → IsStepSpellable step
+step-spelled : (book : BookView) (cells : List Cell) (step : PlanStep) → length book.tables ≤ 8 → All (λ table. (1 ≤ length table) × (length table ≤ 8)) book.tables → IsWholeStep book cells step → IsStepSpellable step
 step-spelled book cells step few narrow whole =
     let at = get-at (λ table. (1 ≤ length table) × (length table ≤ 8)) book.tables step.table whole.variables whole.table narrow in
     let corners : 1 ≤ length step.corners = subst (λ n. 1 ≤ n) (sym whole.all) (one-le-pow (length whole.variables) 2 (omega arith)) in
@@ -160,7 +160,7 @@ step-spelled book cells step few narrow whole =
       ascending = rising-ascends 0 step.corners whole.ascending (λ some. omega arith);
     }
 
-steps-spelled : (book : Held) (cells : List Cell) (steps : List PlanStep) → length book.tables ≤ 8 → All (λ table. (1 ≤ length table) × (length table ≤ 8)) book.tables → AllByRecursion (IsWholeStep book cells) steps → AllByRecursion IsStepSpellable steps
+steps-spelled : (book : BookView) (cells : List Cell) (steps : List PlanStep) → length book.tables ≤ 8 → All (λ table. (1 ≤ length table) × (length table ≤ 8)) book.tables → AllByRecursion (IsWholeStep book cells) steps → AllByRecursion IsStepSpellable steps
 steps-spelled book cells [] few narrow whole = tt
 steps-spelled book cells (step ∷ steps) few narrow whole = (step-spelled book cells step few narrow whole.0, steps-spelled book cells steps few narrow whole.1)
 
@@ -178,7 +178,7 @@ worlds-spelled c flags (one ∷ asked) (world ∷ worlds) served = (
 )
 
 -- the certificate of a hidden set that protects has a text
-pub spellable : (book : Held) (method : Method) (system : System) (cells : List Cell) (prices : List ℕ) (planned larger : List Bool) (protected : Protection) (steps : List PlanStep) (repairs needs : List Refuted)
+pub spellable : (book : BookView) (method : Method) (system : System) (cells : List Cell) (prices : List ℕ) (planned larger : List Bool) (protected : Protection) (steps : List PlanStep) (repairs needs : List Refuted)
     → length book.tables ≤ 8 → All (λ table. (1 ≤ length table) × (length table ≤ 8)) book.tables → AllByRecursion (IsWholeStep book cells) steps
     → IsProtected (case system cells) prices planned protected repairs → AreNeeds (case system cells) protected.hidden.flags larger needs → IsSpellable (certificate_made method system cells protected steps repairs needs)
 spellable book method system cells prices planned larger protected steps repairs needs few narrow whole is are = record {

@@ -29,7 +29,8 @@ world_lines (asked ∷ more) [] = []
 world_lines (asked ∷ more) (world ∷ worlds) = world_line asked world ∷ world_lines more worlds
 
 -- the certificate of a hidden set with its worlds, made by this method with these steps, repairs and needs
-abbrev pub certificate_made : Method → System → List Cell → Protection → List PlanStep → List Refuted → List Refuted → Certificate
+abbrev pub certificate_made : Method → System → List Cell → Protection → List PlanStep → List Refuted → List Refuted
+    → Certificate
 certificate_made method system cells protected steps repairs needs = record {
   method = method;
   cells = system.cells;

@@ -8,8 +8,8 @@ use sdc_base::{Cell, Items, Memory, Method, Side, System, Trail};
 use std::alloc::Global;
 use worlds::{Protected, Refuted, World};
 
-/// The certificate of a hidden set: the method, how many cells and relations there are, the hidden cells, the steps of the trail, the
-/// repairs and needs, and the complete tables that show each primary cell open to both sides.
+/// The certificate of a hidden set: the method, how many cells and relations there are, the hidden cells, the steps of
+/// the trail, the repairs and needs, and the complete tables that show each primary cell open to both sides.
 pub(crate) fn certificate_for(
     alloc: Global,
     method: Method,
@@ -21,7 +21,8 @@ pub(crate) fn certificate_for(
     needs: Items<Refuted>,
 ) -> Result<Certificate, Memory>
     requires one_each { length cells.now ≡ system.now.cells }
-    ensures { IfOk result (λ certificate. certificate ≡ certificate_made method system.now cells.now protected.now trail.steps repairs needs) }
+    ensures { IfOk result (λ certificate. certificate
+        ≡ certificate_made method system.now cells.now protected.now trail.steps repairs needs) }
 {
     let count = system.cells;
     let hidden = numbers_of(alloc, count, protected.hidden().flags.as_slice())?;
@@ -52,7 +53,8 @@ fn numbers_of(alloc: Global, count: u32, flags: &[bool]) -> Result<Items<u32>, M
 
 // Adds the number of a cell, where it is hidden.
 fn add_hidden(numbers: &mut Items<u32>, flags: &[bool], cell: u32) -> Result<(), Memory>
-    ensures { OnOk result (numbers.new ≡ (if sets.is_hidden flags.now cell then numbers.old ++ cell ∷ [] else numbers.old)) }
+    ensures { OnOk result (numbers.new ≡
+        (if sets.is_hidden flags.now cell then numbers.old ++ cell ∷ [] else numbers.old)) }
 {
     if is_hidden(flags, cell) {
         numbers.push(cell)?;

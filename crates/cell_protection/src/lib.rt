@@ -1,4 +1,5 @@
-//! What becomes of settled cells: a hidden set that protects the primary ones, with its certificate, or why there is none.
+//! What becomes of settled cells: a hidden set that protects the primary ones, with its certificate, or why there is
+//! none.
 #![tactic(auto)]
 
 mod certifying;

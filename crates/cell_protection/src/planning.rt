@@ -12,10 +12,10 @@ use std::alloc::Global;
 
 /// The trail of cells by a method: the steps by which it hides cells beside the primary ones, none where it rounds.
 ///
-/// There is one cell for each mark of the book, whose truths and frequencies are within the limits of a job. The costs are those
-/// of the kind that a job names, but for a cell's own price. Each corner of a step is a cell that may be hidden. Afterwards the
-/// marks of the book say which cells the trail hides; all else of the book stays. Its one refusal is want of memory, which leaves
-/// the marks as `plan` says.
+/// There is one cell for each mark of the book, whose truths and frequencies are within the limits of a job. The costs
+/// are those of the kind that a job names, but for a cell's own price. Each corner of a step is a cell that may be
+/// hidden. Afterwards the marks of the book say which cells the trail hides; all else of the book stays. Its one
+/// refusal is want of memory, which leaves the marks as `plan` says.
 ///
 /// The cost is that of the plan. The method is the handbook's, the order of the steps argus's own.
 pub fn trail_for(

@@ -24,7 +24,8 @@ pub enum Protection<'a> {
         protected: Protected<'a>,
         certificate: Certificate,
     },
-    /// No hidden set protects this cell to this side: the multipliers refute it for the set with all cells hidden that may be.
+    /// No hidden set protects this cell to this side: the multipliers refute it for the set with all cells hidden that
+    /// may be.
     Cannot {
         cell: u32,
         side: Side,
@@ -34,14 +35,14 @@ pub enum Protection<'a> {
     Undecided(Stopped),
 }
 
-/// Plans which cells are hidden beside the primary ones, by a method and its passes, and protects all primary cells from there
-/// on: with a hidden set and its certificate, or with the first cell and side that no set protects.
+/// Plans which cells are hidden beside the primary ones, by a method and its passes, and protects all primary cells
+/// from there on: with a hidden set and its certificate, or with the first cell and side that no set protects.
 ///
-/// There is one cell for each cell of the system and for each mark of the book, which has at most eight tables of one to eight
-/// variables; truths, frequencies and levels are within the limits of a job. The costs are those of the kind that a job names,
-/// but for a cell's own price; a question takes at most `limit` improvements, 1 or more. Afterwards the marks of the book say
-/// which cells the plan hid, and what the release hides is in the answer alone. Its one refusal is want of memory, which leaves
-/// the marks as `plan` says.
+/// There is one cell for each cell of the system and for each mark of the book, which has at most eight tables of one
+/// to eight variables; truths, frequencies and levels are within the limits of a job. The costs are those of the kind
+/// that a job names, but for a cell's own price; a question takes at most `limit` improvements, 1 or more. Afterwards
+/// the marks of the book say which cells the plan hid, and what the release hides is in the answer alone. Its one
+/// refusal is want of memory, which leaves the marks as `plan` says.
 ///
 /// The cost is that of the plan and of the questions. The method is the handbook's, repairs and needs are argus's own.
 pub fn protect_cells<'a>(
@@ -59,7 +60,8 @@ pub fn protect_cells<'a>(
     requires costed { All (λ mark. AreCosted mark.facts) book.old.marks }
     requires levels { All HasLevelsInRange cells.now }
     requires limit { 1 ≤ limit }
-    ensures outcome { IfOk result (IsProtectionOf (case system.now cells.now) (prices_of cost cells.now book.old.marks) method (trail_of book.old cells.now cost (passes_of method)) limit) }
+    ensures outcome { IfOk result (IsProtectionOf (case system.now cells.now) (prices_of cost cells.now book.old.marks)
+        method (trail_of book.old cells.now cost (passes_of method)) limit) }
     ensures text { IfOk result HasText }
     ensures same { IsSameButHidden book.old book.new }
 {
@@ -85,7 +87,8 @@ fn protect_by<'a, F: TellsCosts + Drop>(
     requires costed { All (λ mark. AreCosted mark.facts) book.old.marks }
     requires levels { All HasLevelsInRange cells.now }
     requires limit { 1 ≤ limit }
-    ensures outcome { IfOk result (IsProtectionOf (case system.now cells.now) (prices_of cost cells.now book.old.marks) method (trail_of book.old cells.now cost (passes_of method)) limit) }
+    ensures outcome { IfOk result (IsProtectionOf (case system.now cells.now) (prices_of cost cells.now book.old.marks)
+        method (trail_of book.old cells.now cost (passes_of method)) limit) }
     ensures text { IfOk result HasText }
     ensures same { IsSameButHidden book.old book.new }
 {
@@ -93,13 +96,13 @@ fn protect_by<'a, F: TellsCosts + Drop>(
     let trail = plan(alloc, book, cells, &rule, passes_in(method))?;
     let outcome = protect(alloc, system, cells, book.marks(), &rule, &trail, limit);
     match outcome {
-        Ok(verdict) => certified(alloc, method, system, cells, trail, verdict),
+        Ok(verdict) => certificate_of(alloc, method, system, cells, trail, verdict),
         Err(stopped) => Ok(Protection::Undecided(stopped)),
     }
 }
 
 // A verdict with the certificate of its hidden set, where there is one.
-fn certified<'a>(
+fn certificate_of<'a>(
     alloc: Global,
     method: Method,
     system: &'a System,

@@ -20,15 +20,15 @@ use Rattle.sdc_base.specs.Forms.{coefficient}
 use Rattle.sdc_base.specs.HiddenSets.{is_hidden}
 use Rattle.sdc_base.specs.Kinds.{is_free}
 use Rattle.sdc_base.specs.Systems.{Numbers}
-use Rattle.sdc_base.specs.Worlds.{level, level_at, toward}
+use Rattle.sdc_base.specs.Worlds.{level, level_at, amount_toward}
 use Rattle.sdc_base.specs.Refutations.{share, share_at}
 use Rattle.worlds.specs.declared.refuted.Refuted.{Refuted}
 use Rattle.worlds.specs.declared.multipliers.Multipliers.{Multipliers}
 use Rattle.worlds.specs.declared.world.World.{World}
-use Rattle.worlds.specs.Listed.{terms_of, given}
+use Rattle.worlds.specs.NumberLists.{terms_of, number_given}
 use Rattle.worlds.specs.WorldFaults.{world_fault}
 use Rattle.worlds.specs.ProtectFaults.{line_number, primary_shown, fixed_hidden, asked_of, is_reaching, lines_fault as worlds_lines, IsProtecting}
-use Rattle.worlds.specs.RefutationFaults.{added, refutation_fault, IsGivenRefutation}
+use Rattle.worlds.specs.RefutationFaults.{terms_added, refutation_fault, IsGivenRefutation}
 use Rattle.worlds.proofs.Bounds.{decides_le}
 use Rattle.worlds.proofs.TrueTests.{and_true, not_true}
 use Rattle.worlds.proofs.WorldLaws.{not_refused, none_refused, world_law}
@@ -47,8 +47,8 @@ use Rattle.cert_check.specs.WorldList.{same_side, is_for, line_fault, lines_faul
 use Rattle.cert_check.specs.NeedList.{need_fault, each_need_fault}
 use Rattle.cert_check.specs.Counts.{names_cells}
 use Rattle.cert_check.specs.Acceptance.{IsWorldFor, EachWorld, IsNeeded}
-use Rattle.linked_tables.specs.Held.{Held}
-use Rattle.release_writer.specs.Shown.{open_truth}
+use Rattle.linked_tables.specs.BookViews.{BookView}
+use Rattle.release_writer.specs.ShownCells.{open_truth}
 use Rattle.release_writer.specs.ReadingLaws.{AreTexts}
 
 -- ---- steps
@@ -91,7 +91,7 @@ world_for system cells flags one line each good =
       of_cell = (Decides-eqb line.cell one.0).0 both.0;
       of_side = side_is line.side one.1 both.1;
       is_world = (world_law system cells flags line.world each).0 good.no_fault;
-      reaches = (decides_le (line.world.den *ℤ level_at cells one.1 one.0) (toward one.1 (given (terms_of line.world.moves) one.0))).0 good.reaching;
+      reaches = (decides_le (line.world.den *ℤ level_at cells one.1 one.0) (amount_toward one.1 (number_given (terms_of line.world.moves) one.0))).0 good.reaching;
     }
 
 pub each_world : (system : System) (cells : List Cell) (flags : List Bool) (k : ℕ) (asked : List (ℕ × Side)) (lines : List WorldLine) → length cells ≡ system.cells → lines_fault system cells flags k asked lines ≡ Ok tt → EachWorld system cells flags asked lines
@@ -155,7 +155,7 @@ primary_or Fixed h = h (λ is. absurd cc)
 pub refuted_primary : (system : System) (cells : List Cell) (flags : List Bool) (number : ℕ) (side : Side) (m : Multipliers) → number < length cells → IsGivenRefutation system cells flags number side m → IsOfKind cells number Primary
 refuted_primary system cells flags number side m inside is =
     let found : (cell : Cell) × (slice_get cells number ≡ Some cell) = there cells number inside in
-    let k : Numbers = coefficient (added system number side m) in
+    let k : Numbers = coefficient (terms_added system number side m) in
     let sum : pos 0 ≤ℤ sum_below (length cells) (share_at cells flags k) = sum_from_zero (length cells) (share_at cells flags k) (at_from_zero cells flags k) in
     record {
       cell = found.0;
@@ -277,7 +277,7 @@ texts_same line (x ∷ xs) (y ∷ ys) none =
       | false ↦ λ is bad. absurd cc
     ] refl none
 
-pub tables_good : (book : Held) (flags : List Bool) (decimals t : ℕ) (tables : List (List ℕ)) (names : List (List (List ℕ))) (files : List (List ℕ)) → length names ≡ length tables → length files ≡ length tables → tables_fault book flags decimals t tables names files ≡ Ok tt → AreTexts book decimals (open_truth book.marks flags) tables names files
+pub tables_good : (book : BookView) (flags : List Bool) (decimals t : ℕ) (tables : List (List ℕ)) (names : List (List (List ℕ))) (files : List (List ℕ)) → length names ≡ length tables → length files ≡ length tables → tables_fault book flags decimals t tables names files ≡ Ok tt → AreTexts book decimals (open_truth book.marks flags) tables names files
 tables_good book flags decimals t [] names files named written ok = tt
 tables_good book flags decimals t (table ∷ tables) [] files named written ok = absurd (omega (arith, named))
 tables_good book flags decimals t (table ∷ tables) (own ∷ names) [] named written ok = absurd (omega (arith, written))

@@ -21,7 +21,7 @@ use Rattle.cert_check.specs.declared.faults.CheckFault.{CheckFault}
 use Rattle.cert_check.specs.declared.faults.CheckFault.TheVariants as fault
 use Rattle.cert_check.specs.declared.case.Case.{Case}
 use Rattle.cert_check.specs.Counts.{is_cell_number, names_cells, stands_for_cell, counts_fit, counts_fault}
-use Rattle.cert_check.specs.Methods.{same_method, lists_nothing, method_fault, rounds}
+use Rattle.cert_check.specs.Methods.{same_method, lists_nothing, method_fault, rounds_cells}
 use Rattle.cert_check.specs.Cases.{IsCase}
 use Rattle.cert_check.specs.HiddenSet.{hidden_set, permitted_fault}
 use Rattle.cert_check.specs.ReleaseLines.{tables_fault}
@@ -34,7 +34,7 @@ use Rattle.cert_check.specs.NeedList.{needs_fault}
 use Rattle.cert_check.specs.RoundedRelease.{at_line, values_fault, rounded_fault}
 use Rattle.cert_check.specs.FirstFault.{fault_of, open_set, hiding_fault, suppressed_fault, first_fault}
 use Rattle.cert_check.specs.Acceptance.{IsShown, IsAccepted, IsOfCase, IsRoundedRelease}
-use Rattle.linked_tables.specs.Shared.{IsBook}
+use Rattle.linked_tables.specs.BookCells.{IsBook}
 use Rattle.release_writer.specs.ReleaseReading.{rounded_read}
 use Rattle.cert_check.proofs.Roundings.{have_texts, read_ok, is_rounding, truths_each}
 use Rattle.cert_check.proofs.SameMethods.{method_same, same_where, bare_where, nothing_listed}
@@ -130,13 +130,13 @@ not_false false is = absurd cc
 -- what is left of a good certificate behind its counts and its method
 record IsBegun (case : Case) (release : List (List ℕ)) (c : Certificate) : Type 0 where
   counted : counts_fit case.system.now c ≡ true
-  method : (not (same_method case.method c.method) || (rounds case.method && not (lists_nothing c))) ≡ false
-  rest : (if rounds case.method then rounded_fault case release else suppressed_fault case release (hidden_set case.system.now.cells c.hidden) c) ≡ Ok tt
+  method : (not (same_method case.method c.method) || (rounds_cells case.method && not (lists_nothing c))) ≡ false
+  rest : (if rounds_cells case.method then rounded_fault case release else suppressed_fault case release (hidden_set case.system.now.cells c.hidden) c) ≡ Ok tt
 
 begun : (case : Case) (release : List (List ℕ)) (c : Certificate) → first_fault case release c ≡ Ok tt → IsBegun case release c
 begun case release c ok =
-    let last : Result (Unit {0}) CheckFault = if rounds case.method then rounded_fault case release else suppressed_fault case release (hidden_set case.system.now.cells c.hidden) c in
-    let wrong : Bool = not (same_method case.method c.method) || (rounds case.method && not (lists_nothing c)) in
+    let last : Result (Unit {0}) CheckFault = if rounds_cells case.method then rounded_fault case release else suppressed_fault case release (hidden_set case.system.now.cells c.hidden) c in
+    let wrong : Bool = not (same_method case.method c.method) || (rounds_cells case.method && not (lists_nothing c)) in
     let one = bind_ok (counts_fault case.system.now c) (λ _. method_fault case.method c >>= λ _. last) tt ok in
     let two = bind_ok (method_fault case.method c) (λ _. last) tt one.2 in
     record {
@@ -146,7 +146,7 @@ begun case release c ok =
     }
 
 -- where there is no fault, and the method hides cells, the certificate is accepted
-pub accepted_where : (case : Case) (release : List (List ℕ)) (c : Certificate) → IsCase case release → rounds case.method ≡ false → first_fault case release c ≡ Ok tt → IsAccepted case release c
+pub accepted_where : (case : Case) (release : List (List ℕ)) (c : Certificate) → IsCase case release → rounds_cells case.method ≡ false → first_fault case release c ≡ Ok tt → IsAccepted case release c
 accepted_where case release c is_case hides ok =
     let flags : List Bool = hidden_set case.system.now.cells c.hidden in
     let is : IsBegun case release c = begun case release c ok in
@@ -154,11 +154,11 @@ accepted_where case release c is_case hides ok =
     shown_where case release c flags is_case is.counted own
 
 -- and where the method rounds, the tables show a rounding
-pub rounded_where : (case : Case) (release : List (List ℕ)) (c : Certificate) → IsBook case.book.now → IsCase case release → rounds case.method ≡ true → first_fault case release c ≡ Ok tt → IsRoundedRelease case release c
+pub rounded_where : (case : Case) (release : List (List ℕ)) (c : Certificate) → IsBook case.book.now → IsCase case release → rounds_cells case.method ≡ true → first_fault case release c ≡ Ok tt → IsRoundedRelease case release c
 rounded_where case release c book is_case rounded ok =
     let is : IsBegun case release c = begun case release c ok in
     let own : rounded_fault case release ≡ Ok tt = sym (ap (λ b. if b then rounded_fault case release else suppressed_fault case release (hidden_set case.system.now.cells c.hidden) c) rounded) ∙ is.rest in
-    let bare : lists_nothing c ≡ true = bare_where (same_method case.method c.method) (rounds case.method) (lists_nothing c) rounded is.method in
+    let bare : lists_nothing c ≡ true = bare_where (same_method case.method c.method) (rounds_cells case.method) (lists_nothing c) rounded is.method in
     let values = bind_ok (map_fault at_line (rounded_read case.book.now case.names.now case.decimals release)) (λ values. values_fault case.system.now case.cells.now case.base values) tt own in
     let told = have_texts case.book.now case.names.now case.decimals release values.0 book.one_each is_case.names.lists is_case.tables (read_ok (rounded_read case.book.now case.names.now case.decimals release) values.0 values.1) in
     record {
@@ -178,7 +178,7 @@ of_case_where case release c ok =
     let a = and_true (c.cells == n) ((c.relations == length case.system.now.relations) && three) is.counted in
     let b = and_true (c.relations == length case.system.now.relations) three a.1 in
     record {
-      same_method = sym (method_same case.method c.method (same_where (same_method case.method c.method) (rounds case.method && not (lists_nothing c)) is.method));
+      same_method = sym (method_same case.method c.method (same_where (same_method case.method c.method) (rounds_cells case.method && not (lists_nothing c)) is.method));
       same_cells = (Decides-eqb c.cells n).0 a.0;
       same_relations = (Decides-eqb c.relations (length case.system.now.relations)).0 b.0;
     }

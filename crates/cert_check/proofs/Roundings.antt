@@ -16,8 +16,8 @@ use Rattle.sdc_base.specs.declared.system.System.{System}
 use Rattle.sdc_base.specs.Systems.{Numbers, form, HoldOn}
 use Rattle.sdc_base.specs.Roundings.{number_at, IsAdjacent, IsRounding}
 use Rattle.linked_tables.specs.declared.mark.Mark.{Mark}
-use Rattle.linked_tables.specs.Held.{Held}
-use Rattle.linked_tables.specs.Shared.{cells as cells_in}
+use Rattle.linked_tables.specs.BookViews.{BookView}
+use Rattle.linked_tables.specs.BookCells.{cells as cells_in}
 use Rattle.release_writer.specs.ReleaseReading.{LinePlace, rounded_read}
 use Rattle.release_writer.specs.ReadingLaws.{AreTexts, IsReleased}
 use Rattle.release_writer.specs.Sheets.{fault_of as line_of}
@@ -46,12 +46,12 @@ read_stops release.Memory made meant is told = rw is tt
 pub read_goes : (values : List ℤ) (meant : Result (List ℤ) LinePlace) → meant ≡ Ok values → map_fault at_line meant ≡ Ok values
 read_goes values meant is = rw is refl
 
-pub record HaveTexts (book : Held) (names : List (List (List ℕ))) (decimals : ℕ) (files : List (List ℕ)) (numbers : List ℤ) : Type 0 where
+pub record HaveTexts (book : BookView) (names : List (List (List ℕ))) (decimals : ℕ) (files : List (List ℕ)) (numbers : List ℤ) : Type 0 where
   pub each : length numbers ≡ length book.marks
   pub released : IsReleased numbers
   pub texts : AreTexts book decimals (slice_get numbers) book.tables names files
 
-pub have_texts : (book : Held) (names : List (List (List ℕ))) (decimals : ℕ) (files : List (List ℕ)) (numbers : List ℤ) → length book.marks ≡ length (cells_in book) → length names ≡ length book.tables → length files ≡ length book.tables → rounded_read book names decimals files ≡ Ok numbers → HaveTexts book names decimals files numbers
+pub have_texts : (book : BookView) (names : List (List (List ℕ))) (decimals : ℕ) (files : List (List ℕ)) (numbers : List ℤ) → length book.marks ≡ length (cells_in book) → length names ≡ length book.tables → length files ≡ length book.tables → rounded_read book names decimals files ≡ Ok numbers → HaveTexts book names decimals files numbers
 have_texts book names decimals files numbers each named written read =
     let told = rounded_have_texts book names decimals files numbers each named written read in
     record { each = told.0; released = told.1; texts = told.2 }

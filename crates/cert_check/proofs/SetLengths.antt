@@ -4,7 +4,7 @@ use Rattle.std.proofs.lemmas.Int.{ints}
 use Rattle.std.proofs.lemmas.List.Elements.{All-nil, All-cons}
 use Rattle.sdc_base.specs.declared.cell.Cell.{Cell}
 use Rattle.linked_tables.specs.declared.mark.Mark.{Mark}
-use Rattle.linked_tables.specs.Held.{Held}
+use Rattle.linked_tables.specs.BookViews.{BookView}
 use Rattle.release_writer.specs.Sheets.{HasTruthsFromZero}
 use Rattle.worlds.specs.declared.refuted.Refuted.{Refuted}
 use Rattle.repair.specs.HidingOrder.{hide, hide_subjects}

@@ -21,9 +21,9 @@ use Rattle.sdc_base.specs.declared.system.System.{System}
 use Rattle.sdc_base.specs.declared.trail.PlanStep.{PlanStep}
 use Rattle.sdc_base.specs.declared.method.Method.{Method}
 use Rattle.sdc_base.specs.declared.method.Method.TheVariants as method
-use Rattle.linked_tables.specs.Held.{Held}
+use Rattle.linked_tables.specs.BookViews.{BookView}
 use Rattle.release_writer.specs.ReadingLaws.{AreTexts}
-use Rattle.release_writer.specs.Shown.{open_truth}
+use Rattle.release_writer.specs.ShownCells.{open_truth}
 use Rattle.worlds.specs.declared.refuted.Refuted.{Refuted}
 use Rattle.worlds.specs.declared.world.World.{World}
 use Rattle.worlds.specs.WorldFaults.{refuse_at, world_fault}
@@ -135,7 +135,7 @@ pub text_itself : (line : ℕ) (text : List ℕ) → differing_line line text te
 text_itself line [] = refl
 text_itself line (b ∷ text) = ap (λ t. if t then differing_line (line_after b line) text text else Some line) ((Decides-eqb b b).1 refl) ∙ text_itself (line_after b line) text
 
-pub texts_pass : (book : Held) (flags : List Bool) (decimals t : ℕ) (tables : List (List ℕ)) (names : List (List (List ℕ))) (files : List (List ℕ)) → AreTexts book decimals (open_truth book.marks flags) tables names files → tables_fault book flags decimals t tables names files ≡ Ok tt
+pub texts_pass : (book : BookView) (flags : List Bool) (decimals t : ℕ) (tables : List (List ℕ)) (names : List (List (List ℕ))) (files : List (List ℕ)) → AreTexts book decimals (open_truth book.marks flags) tables names files → tables_fault book flags decimals t tables names files ≡ Ok tt
 texts_pass book flags decimals t [] names files are = refl
 texts_pass book flags decimals t (table ∷ tables) [] files are = refl
 texts_pass book flags decimals t (table ∷ tables) (own ∷ names) [] are = refl

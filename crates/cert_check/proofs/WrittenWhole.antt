@@ -20,7 +20,7 @@ use Rattle.worlds.proofs.TrueTests.{both_true}
 use Rattle.worlds.proofs.WorldLaws.{then_ok, passes, passes_none, none_refused}
 use Rattle.certificate.specs.declared.certificate.Certificate.{Certificate}
 use Rattle.release_writer.specs.ReadingLaws.{AreTexts}
-use Rattle.release_writer.specs.Shown.{open_truth}
+use Rattle.release_writer.specs.ShownCells.{open_truth}
 use Rattle.repair.specs.HidingOrder.{Case as HidingCase, case as protected_case, corners_of, planned_set, hide_subjects}
 use Rattle.repair.specs.KeptWorlds.{AreServed}
 use Rattle.repair.specs.Needs.{others_hidden}
@@ -34,7 +34,7 @@ use Rattle.cert_check.specs.Counts.{is_cell_number, names_cells, stands_for_cell
 use Rattle.cert_check.specs.FirstDifference.{first_difference}
 use Rattle.cert_check.specs.FirstFault.{open_set, hiding_fault, suppressed_fault, first_fault}
 use Rattle.cert_check.specs.HiddenSet.{hidden_set, permitted_fault}
-use Rattle.cert_check.specs.Methods.{same_method, rounds, lists_nothing, method_fault}
+use Rattle.cert_check.specs.Methods.{same_method, rounds_cells, lists_nothing, method_fault}
 use Rattle.cert_check.specs.NeedList.{each_need_fault, needs_fault}
 use Rattle.cert_check.specs.OutsidePlan.{first_outside, outside_fault}
 use Rattle.cert_check.specs.ReleaseLines.{tables_fault}
@@ -82,10 +82,10 @@ counts_pass case prices planned protected c each is protects needs =
     (both_true (list_all (is_cell_number n) c.hidden) four d
     (both_true (list_all (names_cells n) c.repairs) five e (both_true (list_all (names_cells n) c.needs) (list_all (stands_for_cell n) c.worlds) f g))))
 
-method_passes : (one : Method) (c : Certificate) → c.method ≡ one → rounds one ≡ false → method_fault one c ≡ Ok tt
+method_passes : (one : Method) (c : Certificate) → c.method ≡ one → rounds_cells one ≡ false → method_fault one c ≡ Ok tt
 method_passes one c same hides =
     let right : same_method one c.method ≡ true = ap (same_method one) same ∙ method_itself one in
-    passes fault.Method (not (same_method one c.method) || (rounds one && not (lists_nothing c))) (rw (right, hides) refl)
+    passes fault.Method (not (same_method one c.method) || (rounds_cells one && not (lists_nothing c))) (rw (right, hides) refl)
 
 hiding_passes : (case : Case) (prices : List ℕ) (protected : Protection) (c : Certificate) → length case.cells.now ≡ case.system.now.cells → c.steps ≡ case.trail.now.steps
     → IsProtected (protected_case case.system.now case.cells.now) prices (planned_set case.cells.now (corners_of case.trail.now.steps)) protected c.repairs → hiding_fault case protected.hidden.flags c ≡ Ok tt
@@ -135,7 +135,7 @@ protected_is_accepted case release prices protected c is_case hides protects spe
     let planned : List Bool = planned_set case.cells.now (corners_of case.trail.now.steps) in
     let counts : counts_fit case.system.now c ≡ true = counts_pass case prices planned protected c each speaks protects.0 protects.1 in
     let good : suppressed_fault case release protected.hidden.flags c ≡ Ok tt = suppressed_passes case release prices protected c each speaks protects.0 protects.1 texts in
-    let last : Result (Unit {0}) CheckFault = if rounds case.method then rounded_fault case release else suppressed_fault case release (hidden_set case.system.now.cells c.hidden) c in
+    let last : Result (Unit {0}) CheckFault = if rounds_cells case.method then rounded_fault case release else suppressed_fault case release (hidden_set case.system.now.cells c.hidden) c in
     let own : last ≡ Ok tt = ap (λ b. if b then rounded_fault case release else suppressed_fault case release (hidden_set case.system.now.cells c.hidden) c) hides ∙ ap (λ (flags : List Bool). suppressed_fault case release flags c) speaks.hidden ∙ good in
     then_ok (counts_fault case.system.now c) (λ _. method_fault case.method c >>= λ _. last) tt tt (passes fault.Counts (not (counts_fit case.system.now c)) (ap not counts))
     (then_ok (method_fault case.method c) (λ _. last) tt tt (method_passes case.method c speaks.of_case.same_method hides) own)

@@ -21,7 +21,8 @@ names_cells cells refuted = nat_lt refuted.subject cells && nat_lt refuted.cell 
 abbrev pub stands_for_cell : ℕ → WorldLine → Bool
 stands_for_cell cells line = nat_lt line.cell cells
 
--- The counts are those of the system, and each number that stands for a cell names one. The moves of worlds aren't looked at.
+-- The counts are those of the system, and each number that stands for a cell names one. The moves of worlds aren't
+-- looked at.
 abbrev pub counts_fit : System → Certificate → Bool
 counts_fit system c =
     (c.cells == system.cells) && ((c.relations == length system.relations)

@@ -7,7 +7,7 @@ use Rattle.cert_check.specs.declared.case.Case.{Case}
 use Rattle.cert_check.specs.declared.faults.CheckFault.{CheckFault}
 use Rattle.cert_check.specs.declared.faults.CheckFault.TheVariants as fault
 use Rattle.cert_check.specs.Counts.{counts_fault}
-use Rattle.cert_check.specs.Methods.{method_fault, rounds}
+use Rattle.cert_check.specs.Methods.{method_fault, rounds_cells}
 use Rattle.cert_check.specs.HiddenSet.{hidden_set, permitted_fault}
 use Rattle.cert_check.specs.ReleaseLines.{tables_fault}
 use Rattle.cert_check.specs.TrailSteps.{steps_fault}
@@ -45,7 +45,8 @@ open_set case c = hide_subjects (planned_set case.cells.now (corners_of case.tra
 abbrev pub hiding_fault : Case → List Bool → Certificate → Result (Unit {0}) CheckFault
 hiding_fault case flags c =
     steps_fault case.trail.now.steps c.steps >>= λ _.
-    repairs_fault case.system.now case.cells.now (planned_set case.cells.now (corners_of case.trail.now.steps)) 0 c.repairs >>= λ _.
+    repairs_fault case.system.now case.cells.now (planned_set case.cells.now (corners_of case.trail.now.steps)) 0
+    c.repairs >>= λ _.
     outside_fault (open_set case c) flags
 
 -- the first fault of a suppressed release, for this hidden set
@@ -62,4 +63,5 @@ abbrev pub first_fault : Case → List (List ℕ) → Certificate → Result (Un
 first_fault case release c =
     counts_fault case.system.now c >>= λ _.
     method_fault case.method c >>= λ _.
-    if rounds case.method then rounded_fault case release else suppressed_fault case release (hidden_set case.system.now.cells c.hidden) c
+    if rounds_cells case.method then rounded_fault case release
+    else suppressed_fault case release (hidden_set case.system.now.cells c.hidden) c

@@ -21,14 +21,16 @@ same_method (method.Rnd a) (method.Gh m) = false
 same_method (method.Rnd a) (method.Rnd b) = int_eq a b
 
 -- the method rounds
-abbrev pub rounds : Method → Bool
-rounds method.Modular = false
-rounds (method.Gh n) = false
-rounds (method.Rnd b) = true
+abbrev pub rounds_cells : Method → Bool
+rounds_cells method.Modular = false
+rounds_cells (method.Gh n) = false
+rounds_cells (method.Rnd b) = true
 
 -- no cell is hidden, and there is no step, repair, need or world
 abbrev pub lists_nothing : Certificate → Bool
-lists_nothing c = (length c.hidden == 0) && ((length c.steps == 0) && ((length c.repairs == 0) && ((length c.needs == 0) && (length c.worlds == 0))))
+lists_nothing c =
+    (length c.hidden == 0) && ((length c.steps == 0)
+    && ((length c.repairs == 0) && ((length c.needs == 0) && (length c.worlds == 0))))
 
 -- the same, list by list
 pub record ListsNothing (c : Certificate) : Type 0 where
@@ -40,4 +42,5 @@ pub record ListsNothing (c : Certificate) : Type 0 where
 
 -- a certificate of another method is refused, and one of a rounding that lists something
 abbrev pub method_fault : Method → Certificate → Result (Unit {0}) CheckFault
-method_fault method c = refuse fault.Method (not (same_method method c.method) || (rounds method && not (lists_nothing c)))
+method_fault method c =
+    refuse fault.Method (not (same_method method c.method) || (rounds_cells method && not (lists_nothing c)))

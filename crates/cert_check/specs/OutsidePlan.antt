@@ -8,7 +8,8 @@ use Rattle.cert_check.specs.declared.faults.CheckFault.TheVariants as fault
 -- the first cell, from this number on, that is hidden in the set of the flags and shown in the other
 abbrev pub first_outside : List Bool → ℕ → List Bool → Option ℕ
 first_outside larger number [] = None
-first_outside larger number (hidden ∷ flags) = if hidden && not (is_hidden larger number) then Some number else first_outside larger (number + 1) flags
+first_outside larger number (hidden ∷ flags) = if hidden && not (is_hidden larger number) then Some number
+    else first_outside larger (number + 1) flags
 
 -- it is refused
 abbrev pub outside_fault : List Bool → List Bool → Result (Unit {0}) CheckFault

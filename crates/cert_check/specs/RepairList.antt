@@ -17,11 +17,13 @@ use Rattle.cert_check.specs.declared.faults.CheckFault.TheVariants as fault
 
 -- the cell may be the subject of a repair of this set: it is free, and shown
 abbrev pub may_repair : List Cell → List Bool → ℕ → Bool
-may_repair cells flags number = option_map_or (λ cell. is_free cell.kind) (slice_get cells number) false && not (is_hidden flags number)
+may_repair cells flags number =
+    option_map_or (λ cell. is_free cell.kind) (slice_get cells number) false && not (is_hidden flags number)
 
 -- the subject counts among the forms that the repair's multipliers add up
 abbrev pub subject_counts : System → Refuted → Bool
-subject_counts system repair = not (int_eq (coefficients_for system (cell_and_side repair) repair.multipliers repair.subject) (pos 0))
+subject_counts system repair =
+    not (int_eq (coefficients_for system (cell_and_side repair) repair.multipliers repair.subject) (pos 0))
 
 -- the fault of the repair with this number: of its subject, then of its refutation, then that its subject doesn't count
 abbrev pub repair_fault : System → List Cell → List Bool → ℕ → Refuted → Result (Unit {0}) CheckFault
@@ -34,4 +36,5 @@ repair_fault system cells flags k repair =
 abbrev pub repairs_fault : System → List Cell → List Bool → ℕ → List Refuted → Result (Unit {0}) CheckFault
 repairs_fault system cells flags k [] = Ok tt
 repairs_fault system cells flags k (repair ∷ repairs) =
-    repair_fault system cells flags (line_number k) repair >>= λ _. repairs_fault system cells (hide flags repair.subject) (k + 1) repairs
+    repair_fault system cells flags (line_number k) repair
+    >>= λ _. repairs_fault system cells (hide flags repair.subject) (k + 1) repairs

@@ -18,18 +18,21 @@ use Rattle.cert_check.specs.declared.faults.CheckFault.TheVariants as fault
 
 -- whether a value is a multiple of the base, less than one base from the truth
 abbrev pub is_adjacent : ℤ → ℤ → ℤ → Bool
-is_adjacent base truth value = int_eq (int_rem value base) (pos 0) && (int_lt (truth -ℤ base) value && int_lt value (truth +ℤ base))
+is_adjacent base truth value =
+    int_eq (int_rem value base) (pos 0) && (int_lt (truth -ℤ base) value && int_lt value (truth +ℤ base))
 
 -- the first cell, from this number on, whose value isn't so
 abbrev pub first_unrounded : ℤ → Numbers → ℕ → List Cell → Option ℕ
 first_unrounded base numbers number [] = None
 first_unrounded base numbers number (cell ∷ cells) =
-    if is_adjacent base cell.truth (numbers number) then first_unrounded base numbers (number + 1) cells else Some number
+    if is_adjacent base cell.truth (numbers number) then first_unrounded base numbers (number + 1) cells
+    else Some number
 
 -- the first relation, from this number on, whose form isn't 0 on the values
 abbrev pub first_broken : Numbers → ℕ → List Relation → Option ℕ
 first_broken numbers number [] = None
-first_broken numbers number (r ∷ relations) = if int_eq (form numbers r) (pos 0) then first_broken numbers (number + 1) relations else Some number
+first_broken numbers number (r ∷ relations) = if int_eq (form numbers r) (pos 0)
+    then first_broken numbers (number + 1) relations else Some number
 
 -- the first cell that isn't rounded to the base, then the first relation that doesn't hold
 abbrev pub values_fault : System → List Cell → ℤ → List ℤ → Result (Unit {0}) CheckFault

@@ -9,7 +9,9 @@ use Rattle.cert_check.specs.declared.faults.CheckFault.TheVariants as fault
 
 -- both steps are one: table, parents, cell and corners are the same
 abbrev pub same_step : PlanStep → PlanStep → Bool
-same_step one other = (one.table == other.table) && ((one.cell == other.cell) && (same_numbers one.parents other.parents && same_numbers one.corners other.corners))
+same_step one other =
+    (one.table == other.table) && ((one.cell == other.cell)
+    && (same_numbers one.parents other.parents && same_numbers one.corners other.corners))
 
 -- the first step that isn't the trail's is refused
 abbrev pub steps_fault : List PlanStep → List PlanStep → Result (Unit {0}) CheckFault

@@ -4,7 +4,7 @@ use Rattle.std.specs.List.{range_with_len}
 use Rattle.sdc_base.specs.HiddenSets.{is_hidden}
 use Rattle.certificate.specs.declared.certificate.Certificate.{Certificate}
 use Rattle.release_writer.specs.ReadingLaws.{AreTexts}
-use Rattle.release_writer.specs.Shown.{open_truth}
+use Rattle.release_writer.specs.ShownCells.{open_truth}
 use Rattle.repair.specs.HidingOrder.{case as protected_case, corners_of, planned_set}
 use Rattle.repair.specs.Verdicts.{IsVerdict}
 use Rattle.repair.specs.declared.verdict.Verdict.TheVariants as verdict
@@ -15,10 +15,10 @@ use Rattle.cert_check.specs.Acceptance.{IsOfCase}
 use Rattle.cert_check.specs.Cases.{IsCase}
 use Rattle.cert_check.specs.FirstFault.{first_fault}
 use Rattle.cert_check.specs.HiddenSet.{hidden_set}
-use Rattle.cert_check.specs.Methods.{rounds}
+use Rattle.cert_check.specs.Methods.{rounds_cells}
 
--- A certificate speaks of a hidden set with its worlds, for a case: it names the set's cells, has the trail's steps, and each world in its
--- order with the primary cell and the side for which it stands.
+-- A certificate speaks of a hidden set with its worlds, for a case: it names the set's cells, has the trail's steps,
+-- and each world in its order with the primary cell and the side for which it stands.
 pub record SpeaksOf (case : Case) (protected : Protection) (c : Certificate) : Type 0 where
   pub of_case : IsOfCase case c
   pub hidden_cells : All (λ number. number < case.system.now.cells) c.hidden
@@ -27,17 +27,20 @@ pub record SpeaksOf (case : Case) (protected : Protection) (c : Certificate) : T
   pub questions : map (λ line. (line.cell, line.side)) c.worlds ≡ asked_of 0 case.cells.now
   pub worlds : map (λ line. line.world) c.worlds ≡ protected.worlds
 
--- a certificate that speaks of a hidden set that protects from the case's trail on, with its repairs and needs, has no fault with the
--- texts of the set
+-- a certificate that speaks of a hidden set that protects from the case's trail on, with its repairs and needs, has no
+-- fault with the texts of the set
 abbrev pub ProtectedIsAccepted : Type 0
 ProtectedIsAccepted =
     (case : Case) (release : List (List ℕ)) (prices : List ℕ) (protected : Protection) (c : Certificate)
-    → IsCase case release → rounds case.method ≡ false
-    → IsVerdict (protected_case case.system.now case.cells.now) prices (planned_set case.cells.now (corners_of case.trail.now.steps)) (verdict.Protected protected c.repairs c.needs)
+    → IsCase case release → rounds_cells case.method ≡ false
+    → IsVerdict (protected_case case.system.now case.cells.now) prices
+    (planned_set case.cells.now (corners_of case.trail.now.steps)) (verdict.Protected protected c.repairs c.needs)
     → SpeaksOf case protected c
-    → AreTexts case.book.now case.decimals (open_truth case.book.now.marks protected.hidden.flags) case.book.now.tables case.names.now release
+    → AreTexts case.book.now case.decimals (open_truth case.book.now.marks protected.hidden.flags) case.book.now.tables
+    case.names.now release
     → first_fault case release c ≡ Ok tt
 
 -- the numbers of the cells of a set, one flag for each cell, give the set
 abbrev pub NumbersGiveTheSet : Type 0
-NumbersGiveTheSet = (flags : List Bool) → hidden_set (length flags) (filter (is_hidden flags) (range_with_len 0 (length flags))) ≡ flags
+NumbersGiveTheSet =
+    (flags : List Bool) → hidden_set (length flags) (filter (is_hidden flags) (range_with_len 0 (length flags))) ≡ flags

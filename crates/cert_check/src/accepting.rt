@@ -4,7 +4,7 @@ ghost use Rattle.sdc_base.specs.Answers.{Gives};
 ghost use Rattle.sdc_base.specs.Grounds.{IsGround};
 ghost use Rattle.cert_check.specs.Cases.{IsCase};
 ghost use Rattle.cert_check.specs.Counts.{counts_fit};
-ghost use Rattle.cert_check.specs.Methods.{rounds};
+ghost use Rattle.cert_check.specs.Methods.{rounds_cells};
 ghost use Rattle.cert_check.specs.Acceptance.{IsAccepted, IsOfCase, IsRoundedRelease};
 ghost use Rattle.cert_check.specs.FirstFault.{fault_of, first_fault, suppressed_fault, hiding_fault};
 
@@ -32,17 +32,19 @@ use std::alloc::Global;
 /// of names for each table, and decimals are at most 13; a base by which is rounded is 1 or more. Any certificate and any bytes may
 /// be given.
 ///
-/// The fault is the first in the order of [`CheckFault`]: the counts and numbers of the certificate and its method. Of a suppressed
-/// release then its hidden set, its tables line by line, the steps, repair by repair, the hidden cells outside plan and repairs,
-/// world by world, and need by need. Of a rounded release then its tables, cell by cell that it is a multiple of the base less than
-/// one base from its truth, and relation by relation. Want of memory is `Memory`. Nothing that was lent changes.
+/// The fault is the first in the order of [`CheckFault`]: the counts and numbers of the certificate and its method. Of
+/// a suppressed release then its hidden set, its tables line by line, the steps, repair by repair, the hidden cells
+/// outside plan and repairs, world by world, and need by need. Of a rounded release then its tables, cell by cell that
+/// it is a multiple of the base less than one base from its truth, and relation by relation. Want of memory is
+/// `Memory`. Nothing that was lent changes.
 ///
-/// It writes each table of a suppressed release once, and reads each of a rounded one once, with at most two lines for each place. It
-/// goes once through the moves of each world and the parts of all relations, and for each repair and need through the parts of the
-/// relations that have a multiplier and through all cells.
+/// It writes each table of a suppressed release once, and reads each of a rounded one once, with at most two lines for
+/// each place. It goes once through the moves of each world and the parts of all relations, and for each repair and
+/// need through the parts of the relations that have a multiplier and through all cells.
 ///
-/// Worlds are those of the feasibility interval in Hundepool et al., Statistical Disclosure Control, chapter on magnitude tables,
-/// refutations those of linear duality, roundings those of zero-restricted controlled rounding; certificates are argus's own.
+/// Worlds are those of the feasibility interval in Hundepool et al., Statistical Disclosure Control, chapter on
+/// magnitude tables, refutations those of linear duality, roundings those of zero-restricted controlled rounding;
+/// certificates are argus's own.
 pub fn accept(
     alloc: Global,
     case: &Case<'_>,
@@ -52,8 +54,10 @@ pub fn accept(
     requires { IsCase case.now release.now }
     ensures exact { Gives fault_of (λ u. u) result (first_fault case.now release.now certificate.now) }
     ensures of_case { result ≡ Ok tt → IsOfCase case.now certificate.now }
-    ensures suppressed { result ≡ Ok tt → rounds case.now.method ≡ false → IsAccepted case.now release.now certificate.now }
-    ensures rounded { result ≡ Ok tt → rounds case.now.method ≡ true → IsRoundedRelease case.now release.now certificate.now }
+    ensures suppressed { result ≡ Ok tt → rounds_cells case.now.method ≡ false
+        → IsAccepted case.now release.now certificate.now }
+    ensures rounded { result ≡ Ok tt → rounds_cells case.now.method ≡ true
+        → IsRoundedRelease case.now release.now certificate.now }
 {
     // for the proof: read, so that what holds of every book is known.
     let _cells = case.book.cells();

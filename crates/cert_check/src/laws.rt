@@ -16,8 +16,8 @@ pub fn rounding_is_judged()
     ensures { RoundingIsJudged }
 {}
 
-/// A certificate that speaks of a hidden set that protects is accepted with the texts of that set; and the numbers of the set's cells give
-/// the set.
+/// A certificate that speaks of a hidden set that protects is accepted with the texts of that set; and the numbers of
+/// the set's cells give the set.
 pub fn protected_is_accepted()
     ensures accepted { ProtectedIsAccepted }
     ensures numbers { NumbersGiveTheSet }

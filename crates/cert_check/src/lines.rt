@@ -69,7 +69,8 @@ fn check_place(
     requires ground { IsGround system.now cells.now hidden.now.flags }
     requires scratch { length scratch.old ≡ system.now.cells }
     requires asked { All (λ one. one.0 < system.now.cells) asked.now }
-    ensures exact { result ≡ meant.place_fault system.now cells.now hidden.now.flags place (slice_get asked.now place) line.now }
+    ensures exact { result ≡ meant.place_fault system.now cells.now hidden.now.flags place (slice_get asked.now place)
+        line.now }
     ensures length { length scratch.new ≡ length scratch.old }
 {
     match asked.get(place) {

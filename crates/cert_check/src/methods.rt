@@ -40,7 +40,7 @@ fn is_same(one: &Method, other: &Method) -> bool
 
 /// Whether the method rounds.
 pub(crate) fn is_rounding(method: &Method) -> bool
-    ensures { result ≡ meant.rounds method.now }
+    ensures { result ≡ meant.rounds_cells method.now }
 {
     match *method {
         Method::Modular => false,

@@ -103,7 +103,8 @@ fn check_place(
     requires scratch { length scratch.old ≡ system.now.cells }
     requires subjects { subjects.now ≡ others_hidden hidden.old.flags 0 cells.now }
     requires asked { need.now.cell < system.now.cells }
-    ensures exact { result ≡ place_fault system.now cells.now hidden.old.flags place (slice_get subjects.now place) need.now }
+    ensures exact { result ≡ place_fault system.now cells.now hidden.old.flags place (slice_get subjects.now place)
+        need.now }
     ensures hidden { OnOk result (hidden.new.flags ≡ hidden.old.flags) }
     ensures length { length scratch.new ≡ length scratch.old }
 {

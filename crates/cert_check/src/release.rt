@@ -26,7 +26,8 @@ pub(crate) fn check_release(
     requires decimals { decimals ≤ 13 }
     requires names { HaveNames names.now book.now.tables }
     requires release { length release.now ≡ length book.now.tables }
-    ensures { Gives fault_of (λ u. u) result (meant.tables_fault book.now hidden.now.flags decimals 0 book.now.tables names.now release.now) }
+    ensures { Gives fault_of (λ u. u) result
+        (meant.tables_fault book.now hidden.now.flags decimals 0 book.now.tables names.now release.now) }
 {
     let tables = book.tables();
     'tables: for t in 0..tables {
@@ -58,7 +59,9 @@ fn check_table(
     requires decimals { decimals ≤ 13 }
     requires table { t < length book.now.tables }
     requires names { length names.now ≡ length (slice_index_or book.now.tables t []) + 1 }
-    ensures { Gives fault_of (λ u. u) result (meant.table_fault book.now hidden.now.flags decimals t (slice_index_or book.now.tables t []) names.now bytes.now) }
+    ensures { Gives fault_of (λ u. u) result
+        (meant.table_fault book.now hidden.now.flags decimals t (slice_index_or book.now.tables t []) names.now
+        bytes.now) }
 {
     let Ok(text) = table_bytes(alloc, book, t, names, decimals, Shown::Hidden(hidden)) else {
         return Err(CheckFault::Memory);

@@ -8,7 +8,7 @@ ghost use Rattle.sdc_base.specs.Roundings.{number_at};
 ghost use Rattle.release_writer.specs.ReleaseReading.{rounded_read};
 ghost use Rattle.cert_check.specs.Cases.{IsCase};
 ghost use Rattle.cert_check.specs.FirstFault.{fault_of};
-ghost use Rattle.cert_check.specs.Methods.{rounds};
+ghost use Rattle.cert_check.specs.Methods.{rounds_cells};
 ghost use Rattle.cert_check.specs.RoundedRelease as meant;
 
 use crate::case::Case;
@@ -24,7 +24,7 @@ pub(crate) fn check_rounded(
     release: &[Text],
 ) -> Result<(), CheckFault>
     requires case { IsCase case.now release.now }
-    requires rounds { rounds case.now.method ≡ true }
+    requires rounds { rounds_cells case.now.method ≡ true }
     ensures { Gives fault_of (λ u. u) result (meant.rounded_fault case.now release.now) }
 {
     let values = read_values(alloc, case, release)?;
@@ -34,7 +34,8 @@ pub(crate) fn check_rounded(
 // The numbers that the tables show.
 fn read_values(alloc: Global, case: &Case<'_>, release: &[Text]) -> Result<Items<i128>, CheckFault>
     requires case { IsCase case.now release.now }
-    ensures exact { Gives fault_of (λ values. values) result (map_fault meant.at_line (rounded_read case.now.book.now case.now.names.now case.now.decimals release.now)) }
+    ensures exact { Gives fault_of (λ values. values) result
+        (map_fault meant.at_line (rounded_read case.now.book.now case.now.names.now case.now.decimals release.now)) }
     ensures each { IfOk result (λ values. length values ≡ length case.now.cells.now) }
     ensures from_zero { IfOk result (λ values. All (λ value. pos 0 ≤ℤ value) values) }
 {

@@ -168,7 +168,8 @@ fn are_below(numbers: &[u32], cells: usize) -> bool
 // Whether each table has its names.
 fn are_named(book: &Book, names: &[Items<Text>]) -> bool
     requires { length names.now ≡ length book.now.tables }
-    ensures { result ≡ true → (t : ℕ) → t < length book.now.tables → length (slice_index_or names.now t []) ≡ length (slice_index_or book.now.tables t []) + 1 }
+    ensures { result ≡ true → (t : ℕ) → t < length book.now.tables
+        → length (slice_index_or names.now t []) ≡ length (slice_index_or book.now.tables t []) + 1 }
 {
     let tables = book.tables();
     'tables: for t in 0..tables {
@@ -204,7 +205,8 @@ fn is_case(case: &Case<'_>, release: &[Text]) -> bool
         && are_named(case.book, case.names)
 }
 
-// The first fault of a release of a table of two variables, and of its certificate, by a method and with a trail of one step or none.
+// The first fault of a release of a table of two variables, and of its certificate, by a method and with a trail of one
+// step or none.
 fn fault_of(
     rt: &impl Abort,
     alloc: Global,

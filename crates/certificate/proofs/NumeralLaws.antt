@@ -14,7 +14,7 @@ use Rattle.sdc_base.specs.Steps.{or_fault}
 use Rattle.sdc_base.specs.Tokens.{is_number}
 use Rattle.certificate.specs.declared.faults.CertWhy.TheVariants.{Number}
 use Rattle.certificate.specs.Pieces.{begins_with}
-use Rattle.certificate.specs.Numerals.{is_padded, natural_in, most, integer_in, denominator_in, natural_of, integer_of, denominator_of}
+use Rattle.certificate.specs.Numerals.{is_padded, natural_in, greatest_number, integer_in, denominator_in, natural_of, integer_of, denominator_of}
 use Rattle.certificate.specs.Spelling.{FitsIn128Bits, FitsIn32Bits}
 
 -- ---- from a number to its digits
@@ -197,10 +197,10 @@ or-some None x h = absurd cc
 or-some (Some y) x h = cc
 
 pub natural_again : (low n : ℕ) → low ≤ n → FitsIn32Bits n → natural_of low (decimal n) ≡ Ok n
-natural_again low n above short = rw (natural_spelled low most n above short (omega arith)) refl
+natural_again low n above short = rw (natural_spelled low greatest_number n above short (omega arith)) refl
 
 pub natural_text : (low : ℕ) (token : List ℕ) (n : ℕ) → natural_of low token ≡ Ok n → (token ≡ decimal n) × (low ≤ n) × FitsIn32Bits n
-natural_text low token n h = natural_read low most token n (omega arith) (or-some (natural_in low most token) n h)
+natural_text low token n h = natural_read low greatest_number token n (omega arith) (or-some (natural_in low greatest_number token) n h)
 
 pub integer_again : (z : ℤ) → FitsIn128Bits z → integer_of (signed_decimal z) ≡ Ok z
 integer_again z wide = rw (integer_spelled z wide) refl

@@ -33,22 +33,26 @@ is_next word [] = false
 is_next word (line ∷ lines) = begins_with_word word line
 
 -- what the next line says, which is to be one by this word
-unfoldable pub item_at : {A : Type 0} → List ℕ → (List (List ℕ) → Result A CertWhy) → Remainder → Result (A × Remainder) (ℕ × CertWhy)
+unfoldable pub item_at : {A : Type 0} → List ℕ → (List (List ℕ) → Result A CertWhy) → Remainder
+    → Result (A × Remainder) (ℕ × CertWhy)
 item_at word read left = do
   line ← next_line left.given left.lines
   item ← at_line (left.given + 1) (item_of word read line.0)
   Ok (item, line.1)
 
 -- what the lines by this word say, as many as stand next
-unfoldable pub items_from : {A : Type 0} → List ℕ → (List (List ℕ) → Result A CertWhy) → ℕ → List (List ℕ) → Result (List A × Remainder) (ℕ × CertWhy)
+unfoldable pub items_from : {A : Type 0} → List ℕ → (List (List ℕ) → Result A CertWhy) → ℕ → List (List ℕ)
+    → Result (List A × Remainder) (ℕ × CertWhy)
 items_from word read given [] = Ok ([], record { given = given; lines = [] })
 items_from word read given (line ∷ lines) =
     if begins_with_word word line then
-    (item_at word read (record { given = given; lines = line ∷ lines }) >>= λ item. items_from word read (given + 1) lines >>= λ items. Ok (item.0 ∷ items.0, items.1))
+    (item_at word read (record { given = given; lines = line ∷ lines })
+    >>= λ item. items_from word read (given + 1) lines >>= λ items. Ok (item.0 ∷ items.0, items.1))
     else Ok ([], record { given = given; lines = line ∷ lines })
 
 -- the same, from what is left
-abbrev pub items_at : {A : Type 0} → List ℕ → (List (List ℕ) → Result A CertWhy) → Remainder → Result (List A × Remainder) (ℕ × CertWhy)
+abbrev pub items_at : {A : Type 0} → List ℕ → (List (List ℕ) → Result A CertWhy) → Remainder
+    → Result (List A × Remainder) (ℕ × CertWhy)
 items_at word read left = items_from word read left.given left.lines
 
 -- the line of this version

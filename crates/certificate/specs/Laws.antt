@@ -8,13 +8,26 @@ use Rattle.certificate.specs.Spelling.{IsSpellable, IsWithinTypes}
 
 -- the text of a certificate that has one is read as that certificate
 abbrev pub IsReadBack : Type 0
-IsReadBack = (certificate : Certificate) → IsSpellable certificate → IsWithinTypes certificate → certificate_of (text_of certificate) ≡ Ok certificate
+IsReadBack =
+    (certificate : Certificate) → IsSpellable certificate → IsWithinTypes certificate
+    → certificate_of (text_of certificate) ≡ Ok certificate
 
 -- Bytes that are read as a certificate are the text of it, and it has a text.
 abbrev pub HasOneSpelling : Type 0
-HasOneSpelling = (bytes : List ℕ) (certificate : Certificate) → certificate_of bytes ≡ Ok certificate → IsSpellable certificate × IsWithinTypes certificate × (bytes ≡ text_of certificate)
+HasOneSpelling =
+    (bytes : List ℕ) (certificate : Certificate) → certificate_of bytes ≡ Ok certificate
+    → IsSpellable certificate × IsWithinTypes certificate × (bytes ≡ text_of certificate)
 
 -- the certificate of a release of which nothing is hidden
 abbrev pub without_hidden_cells : Method → ℕ → ℕ → Certificate
 without_hidden_cells method cells relations =
-    record { method = method; cells = cells; relations = relations; hidden = []; steps = []; repairs = []; needs = []; worlds = [] }
+    record {
+      method = method;
+      cells = cells;
+      relations = relations;
+      hidden = [];
+      steps = [];
+      repairs = [];
+      needs = [];
+      worlds = [];
+    }

@@ -105,7 +105,12 @@ refutation_by subject cell side den pairs = do
   divisor ← denominator_of den
   terms ← terms_of pairs
   order ← refuse Order (not (ascends (map (λ term. term.0) terms)))
-  Ok (record { subject = hidden; cell = primary; side = at; multipliers = record { den = divisor; by_relation = terms } })
+  Ok (record {
+    subject = hidden;
+    cell = primary;
+    side = at;
+    multipliers = record { den = divisor; by_relation = terms };
+  })
 
 -- a refutation
 unfoldable pub refutation_of : List (List ℕ) → Result Refuted CertWhy

@@ -8,11 +8,11 @@ use Rattle.sdc_base.specs.declared.trail.PlanStep.{PlanStep}
 use Rattle.worlds.specs.declared.refuted.Refuted.{Refuted}
 use Rattle.certificate.specs.declared.certificate.Certificate.{Certificate}
 use Rattle.certificate.specs.declared.certificate.WorldLine.{WorldLine}
-use Rattle.certificate.specs.Numerals.{most, ascends}
+use Rattle.certificate.specs.Numerals.{greatest_number, ascends}
 
 -- a step has 1 to 8 parents and a corner, its corners ascend, and the number of its table, from 1, isn't too great
 pub record IsStepSpellable (step : PlanStep) : Type 0 where
-  pub table : step.table < most
+  pub table : step.table < greatest_number
   pub some_parent : 0 < length step.parents
   pub few : length step.parents ≤ 8
   pub some_corner : 0 < length step.corners
@@ -52,7 +52,7 @@ FitsIn128Bits (negsuc n) = n < 2 ^ 127
 
 -- the number of a cell, a relation or a place
 abbrev pub FitsIn32Bits : ℕ → Type 0
-FitsIn32Bits n = n ≤ most
+FitsIn32Bits n = n ≤ greatest_number
 
 -- a method's number
 abbrev pub IsMethodWithinTypes : Method → Type 0

@@ -35,7 +35,8 @@ comma_list numbers = join_with_byte comma (map decimal numbers)
 
 -- what a step says, its table counted from 1
 abbrev pub step_arguments : PlanStep → List (List ℕ)
-step_arguments step = decimal (step.table + 1) ∷ comma_list step.parents ∷ decimal step.cell ∷ comma_list step.corners ∷ []
+step_arguments step =
+    decimal (step.table + 1) ∷ comma_list step.parents ∷ decimal step.cell ∷ comma_list step.corners ∷ []
 
 -- the tokens of a step's line
 abbrev pub step_tokens : PlanStep → List (List ℕ)
@@ -68,7 +69,8 @@ moves_in_turn (cell ∷ cells) moves = (next_move cell moves).0 ∷ moves_in_tur
 -- what a complete table says, with one token for the move of each hidden cell
 abbrev pub world_arguments : List ℕ → WorldLine → List (List ℕ)
 world_arguments hidden line =
-    decimal line.cell ∷ side_word line.side ∷ signed_decimal line.world.den ∷ map signed_decimal (moves_in_turn hidden line.world.moves)
+    decimal line.cell ∷ side_word line.side ∷ signed_decimal line.world.den
+    ∷ map signed_decimal (moves_in_turn hidden line.world.moves)
 
 -- the tokens of the line of a complete table
 abbrev pub world_tokens : List ℕ → WorldLine → List (List ℕ)
@@ -77,7 +79,8 @@ world_tokens hidden line = codes "world" ∷ world_arguments hidden line
 -- the tokens of the first four lines; the version's line stands here as one token
 abbrev pub head_tokens : Method → ℕ → ℕ → List (List (List ℕ))
 head_tokens method cells relations =
-    (first_line ∷ []) ∷ method_tokens method ∷ (codes "cells" ∷ decimal cells ∷ []) ∷ (codes "relations" ∷ decimal relations ∷ []) ∷ []
+    (first_line ∷ []) ∷ method_tokens method ∷ (codes "cells" ∷ decimal cells ∷ [])
+    ∷ (codes "relations" ∷ decimal relations ∷ []) ∷ []
 
 -- the tokens of all lines
 abbrev pub token_lines : Certificate → List (List (List ℕ))

@@ -111,7 +111,8 @@ pub(crate) fn add_moves(
     requires hidden { ascends hidden.now ≡ true }
     requires moves { ascends (map (λ one. one.cell) moves.now) ≡ true }
     requires among { AllByRecursion (λ one. IsAmong hidden.now one.cell) moves.now }
-    ensures text { OnOk result (text.new ≡ text.old ++ flat_map (λ number. space ∷ signed_decimal number) (moves_in_turn hidden.now moves.now)) }
+    ensures text { OnOk result (text.new
+        ≡ text.old ++ flat_map (λ number. space ∷ signed_decimal number) (moves_in_turn hidden.now moves.now)) }
     ensures wide { OnOk result (AllByRecursion (λ one. FitsIn128Bits one.by) moves.now) }
 {
     let mut rest = moves;

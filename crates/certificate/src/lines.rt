@@ -61,7 +61,8 @@ fn method_by(word: &[u8], tokens: &mut Pieces<'_>) -> Result<Method, CertWhy>
 /// The method of a line.
 #[tactic(auto, unfolding(crate::specs::LineReadings::item_of, crate::specs::LineReadings::method_of))]
 pub(crate) fn method_in(line: &[u8]) -> Result<Method, CertWhy>
-    ensures { Gives fault_itself (λ method. method) result (line_readings.item_of (codes "method") line_readings.method_of line.now) }
+    ensures { Gives fault_itself (λ method. method) result
+        (line_readings.item_of (codes "method") line_readings.method_of line.now) }
 {
     let mut tokens = behind_word(b"method", line)?;
     let word = tokens.first()?;
@@ -71,7 +72,8 @@ pub(crate) fn method_in(line: &[u8]) -> Result<Method, CertWhy>
 /// The count of a line by a word.
 #[tactic(auto, unfolding(crate::specs::LineReadings::item_of, crate::specs::LineReadings::count_of))]
 pub(crate) fn count_in(word: &[u8], line: &[u8]) -> Result<u32, CertWhy>
-    ensures { Gives fault_itself (λ count. count) result (line_readings.item_of word.now line_readings.count_of line.now) }
+    ensures { Gives fault_itself (λ count. count) result
+        (line_readings.item_of word.now line_readings.count_of line.now) }
 {
     let mut tokens = behind_word(word, line)?;
     let token = tokens.only()?;
@@ -81,7 +83,8 @@ pub(crate) fn count_in(word: &[u8], line: &[u8]) -> Result<u32, CertWhy>
 /// The hidden cells of a line.
 #[tactic(auto, unfolding(crate::specs::LineReadings::item_of, crate::specs::LineReadings::hidden_of))]
 pub(crate) fn hidden_in(alloc: Global, line: &[u8]) -> Result<Items<u32>, LineError>
-    ensures { Gives why_of (λ cells. cells) result (line_readings.item_of (codes "hidden") line_readings.hidden_of line.now) }
+    ensures { Gives why_of (λ cells. cells) result
+        (line_readings.item_of (codes "hidden") line_readings.hidden_of line.now) }
 {
     let mut tokens = behind_word(b"hidden", line)?;
     if tokens.is_count(0) {
@@ -167,7 +170,8 @@ fn refutation_by(
     den: &[u8],
     pairs: &mut Pieces<'_>,
 ) -> Result<Refuted, LineError>
-    ensures { Gives why_of (λ refuted. refuted) result (line_readings.refutation_by subject.now cell.now side.now den.now pairs.old) }
+    ensures { Gives why_of (λ refuted. refuted) result
+        (line_readings.refutation_by subject.now cell.now side.now den.now pairs.old) }
 {
     let side = side_of(side)?;
     if !all_pairs(pairs) {
@@ -191,7 +195,8 @@ fn refutation_by(
 /// The refutation of a line by a word.
 #[tactic(auto, unfolding(crate::specs::LineReadings::item_of, crate::specs::LineReadings::refutation_of))]
 pub(crate) fn refutation_in(alloc: Global, word: &[u8], line: &[u8]) -> Result<Refuted, LineError>
-    ensures { Gives why_of (λ refuted. refuted) result (line_readings.item_of word.now line_readings.refutation_of line.now) }
+    ensures { Gives why_of (λ refuted. refuted) result
+        (line_readings.item_of word.now line_readings.refutation_of line.now) }
 {
     let mut tokens = behind_word(word, line)?;
     let subject = tokens.first()?;
@@ -211,7 +216,8 @@ fn world_by(
     den: &[u8],
     numbers: &mut Pieces<'_>,
 ) -> Result<WorldLine, LineError>
-    ensures { Gives why_of (λ world. world) result (line_readings.world_by hidden.now cell.now side.now den.now numbers.old) }
+    ensures { Gives why_of (λ world. world) result
+        (line_readings.world_by hidden.now cell.now side.now den.now numbers.old) }
 {
     let side = side_of(side)?;
     if !numbers.is_count(hidden.len()) {
@@ -230,7 +236,8 @@ fn world_by(
 /// The complete table of a line, for these hidden cells.
 #[tactic(auto, unfolding(crate::specs::LineReadings::item_of, crate::specs::LineReadings::world_of))]
 pub(crate) fn world_in(alloc: Global, hidden: &[u32], line: &[u8]) -> Result<WorldLine, LineError>
-    ensures { Gives why_of (λ line. line) result (line_readings.item_of (codes "world") (line_readings.world_of hidden.now) line.now) }
+    ensures { Gives why_of (λ line. line) result
+        (line_readings.item_of (codes "world") (line_readings.world_of hidden.now) line.now) }
 {
     let mut tokens = behind_word(b"world", line)?;
     let cell = tokens.first()?;

@@ -91,7 +91,8 @@ impl<'a> Reader<'a> {
     /// The next line, which LF must end.
     #[tactic(auto, using(crate::proofs::LineSteps::line_open, crate::proofs::LineSteps::line_first))]
     pub(crate) fn next_line(&mut self) -> Result<Line<'a>, CertError>
-        ensures exact { Gives fault_of (λ line. (line.text.now, self.new)) result (certificates.next_line self.old.given self.old.lines) }
+        ensures exact { Gives fault_of (λ line. (line.text.now, self.new)) result
+            (certificates.next_line self.old.given self.old.lines) }
         ensures number { IfOk result (λ line. line.number ≡ self.old.given + 1) }
     {
         let bytes = self.rest;

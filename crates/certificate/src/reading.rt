@@ -197,7 +197,8 @@ fn world_line(
     hidden: &[u32],
     reader: &mut Reader<'_>,
 ) -> Result<WorldLine, CertError>
-    ensures { Gives fault_of (λ world. (world, reader.new)) result (item_at (codes "world") (world_of hidden.now) reader.old) }
+    ensures { Gives fault_of (λ world. (world, reader.new)) result
+        (item_at (codes "world") (world_of hidden.now) reader.old) }
 {
     let line = reader.next_line()?;
     match world_in(alloc, hidden, line.text) {
@@ -212,7 +213,8 @@ fn world_lines(
     hidden: &[u32],
     reader: &mut Reader<'_>,
 ) -> Result<Items<WorldLine>, CertError>
-    ensures { Gives fault_of (λ worlds. (worlds, reader.new)) result (items_at (codes "world") (world_of hidden.now) reader.old) }
+    ensures { Gives fault_of (λ worlds. (worlds, reader.new)) result
+        (items_at (codes "world") (world_of hidden.now) reader.old) }
 {
     let mut worlds = Items::empty(alloc);
     'lines: while reader.is_next(b"world") {

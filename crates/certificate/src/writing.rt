@@ -163,7 +163,8 @@ fn add_refutations(
     word: &[u8],
     all: &[Refuted],
 ) -> Result<(), Memory>
-    ensures text { OnOk result (text.new ≡ text.old ++ flat_map (λ refuted. line_text (refutation_tokens word.now refuted)) all.now) }
+    ensures text { OnOk result (text.new
+        ≡ text.old ++ flat_map (λ refuted. line_text (refutation_tokens word.now refuted)) all.now) }
     ensures wide { OnOk result (AllByRecursion IsRefutationWithinTypes all.now) }
 {
     'all: for refuted in all {
@@ -203,7 +204,8 @@ fn add_worlds(
 ) -> Result<(), Memory>
     requires hidden { ascends hidden.now ≡ true }
     requires worlds { AllByRecursion (IsWorldSpellable hidden.now) worlds.now }
-    ensures text { OnOk result (text.new ≡ text.old ++ flat_map (λ line. line_text (world_tokens hidden.now line)) worlds.now) }
+    ensures text { OnOk result (text.new
+        ≡ text.old ++ flat_map (λ line. line_text (world_tokens hidden.now line)) worlds.now) }
     ensures wide { OnOk result (AllByRecursion IsWorldWithinTypes worlds.now) }
 {
     'worlds: for line in worlds {

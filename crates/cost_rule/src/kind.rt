@@ -18,11 +18,12 @@ pub enum CostKind {
 }
 
 impl CostKind {
-    /// What hiding a cell with these facts costs by this kind: a number without a unit, from 1 to `2^40`. Of the facts it
-    /// looks at the truth, in units, or at the frequency; a truth below 0, which no cell has, costs as its amount does.
+    /// What hiding a cell with these facts costs by this kind: a number without a unit, from 1 to `2^40`. Of the facts
+    /// it looks at the truth, in units, or at the frequency; a truth below 0, which no cell has, costs as its amount
+    /// does.
     ///
-    /// A closure that calls it is a cost rule of this kind. All facts may be asked about, and nothing is refused. It takes
-    /// the same time for all facts, and no memory.
+    /// A closure that calls it is a cost rule of this kind. All facts may be asked about, and nothing is refused. It
+    /// takes the same time for all facts, and no memory.
     ///
     /// The kinds are those of the tau-ARGUS manual; the added one and the bound are this project's own.
     pub fn cost(self, facts: &CellFacts) -> u64

@@ -9,7 +9,8 @@ use std::marker::Model;
 /// A cost rule: a closure, kept beside the fact that it may be asked about all facts of cells and tells the costs of a
 /// kind. Contracts see the kind.
 ///
-/// The costs are those of the tau-ARGUS manual, one added so that none is 0; the bound of the value is this project's own.
+/// The costs are those of the tau-ARGUS manual, one added so that none is 0; the bound of the value is this project's
+/// own.
 #[derive(Drop)]
 pub struct CostRule<F: TellsCosts> {
     kind: CostKind,
@@ -41,8 +42,8 @@ impl<F: TellsCosts> CostRule<F> {
 
     /// What hiding a cell with these facts costs, from 1 to `2^40`.
     ///
-    /// The truth must be from 0, in units, and the records at most 1,000,000. Nothing is refused. `f` is asked once; beside
-    /// that it takes no memory.
+    /// The truth must be from 0, in units, and the records at most 1,000,000. Nothing is refused. `f` is asked once;
+    /// beside that it takes no memory.
     pub fn cost(&self, facts: &CellFacts) -> u64
         requires costed { AreCosted facts.now }
         ensures value { result ≡ cost_of self.now facts.now }
@@ -54,8 +55,9 @@ impl<F: TellsCosts> CostRule<F> {
 
     /// The price of a cell with these facts: its own where it has one, whatever that is, else what its facts cost.
     ///
-    /// The truth must be from 0, in units, and the records at most 1,000,000, also where the cell has a price of its own.
-    /// Nothing is refused. `f` is asked once, or not at all where the cell has a price; beside that it takes no memory.
+    /// The truth must be from 0, in units, and the records at most 1,000,000, also where the cell has a price of its
+    /// own. Nothing is refused. `f` is asked once, or not at all where the cell has a price; beside that it takes no
+    /// memory.
     ///
     /// That a price may be given for a cell is this project's own.
     pub fn price(&self, cell: &Cell, facts: &CellFacts) -> u64

@@ -5,8 +5,8 @@ use Rattle.std.proofs.Math.Utf8.{encode}
 use Rattle.std.proofs.lemmas.Str.{encode_ascii}
 use Rattle.std.proofs.lemmas.List.{flat_map_more, map-id}
 use Rattle.std.proofs.lemmas.List.FromFn.{map-range_with_len_more}
-use Rattle.demo_files.specs.Draws.{next_state, state_after, below}
-use Rattle.demo_files.specs.Surveys.{filled, turnover, record_line, survey}
+use Rattle.demo_files.specs.Draws.{next_state, state_after, draw_below}
+use Rattle.demo_files.specs.Surveys.{filled_number, turnover, record_line, survey}
 
 -- six draws
 pub six-draws : (s a b c d e f : ℕ) → a ≡ next_state s → b ≡ next_state a → c ≡ next_state b → d ≡ next_state c → e ≡ next_state d → f ≡ next_state e → f ≡ state_after 6 s
@@ -25,7 +25,7 @@ parts region industry branch size places = codes "R" ++ (region ++ (industry ∷
 
 -- a line whose parts are those of a record
 pub line-is : (line region places : List ℕ) (letter branch size r i b n a t s : ℕ) → line ≡ codes "R" ++ (region ++ (encode letter ++ (decimal branch ++ (codes "S" ++ (decimal size ++ (places ++ 10 ∷ []))))))
-    → region ≡ filled 48 2 (1 + below 12 r) → letter ≡ 65 + below 4 i → letter < 128 → branch ≡ 1 + below 5 b → size ≡ 1 + below 4 n → places ≡ filled 32 7 (turnover (below 10000 a) (below 20 t))
+    → region ≡ filled_number 48 2 (1 + draw_below 12 r) → letter ≡ 65 + draw_below 4 i → letter < 128 → branch ≡ 1 + draw_below 5 b → size ≡ 1 + draw_below 4 n → places ≡ filled_number 32 7 (turnover (draw_below 10000 a) (draw_below 20 t))
     → r ≡ state_after 1 s → i ≡ state_after 2 s → b ≡ state_after 3 s → n ≡ state_after 4 s → a ≡ state_after 5 s → t ≡ state_after 6 s
     → line ≡ record_line s
 line-is line region places letter branch size r i b n a t s is is_region is_letter ascii is_branch is_size is_places r_is i_is b_is n_is a_is t_is =

@@ -11,5 +11,5 @@ state_after zero state = state
 state_after (suc draws) state = next_state (state_after draws state)
 
 -- the number from 0, below `most`, that a state gives: its upper 31 bits, less whole times `most`
-abbrev pub below : ℕ → ℕ → ℕ
-below most state = (state / 2 ^ 33) % most
+abbrev pub draw_below : ℕ → ℕ → ℕ
+draw_below most state = (state / 2 ^ 33) % most

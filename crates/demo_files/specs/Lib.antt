@@ -1,4 +1,4 @@
 pub mod Draws
 pub mod Surveys
 pub mod DemoFiles
-pub mod Steady
+pub mod SteadyFiles

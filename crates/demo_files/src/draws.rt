@@ -1,5 +1,5 @@
 ghost use Rattle.std.specs.Prelude.{◌≡◌, ◌<◌};
-ghost use Rattle.demo_files.specs.Draws.{below, next_state};
+ghost use Rattle.demo_files.specs.Draws.{draw_below, next_state};
 
 // The state after another one.
 fn next(state: u64) -> u64
@@ -13,7 +13,7 @@ fn next(state: u64) -> u64
 pub(crate) fn draw(state: &mut u64, most: u64) -> u64
     requires { 0 < most }
     ensures state { state.new ≡ next_state state.old }
-    ensures number { result ≡ below most state.new }
+    ensures number { result ≡ draw_below most state.new }
     ensures below { result < most }
 {
     *state = next(*state);

@@ -54,12 +54,12 @@ P3
 @R12
 ";
 
-/// The files of a survey of so many records, drawn from a seed: the job `demo.job`, its metadata `demo.rda`, the hierarchy `region.hrc`
-/// and the microdata `demo.asc`, each with its name. The same seed gives the same files.
+/// The files of a survey of so many records, drawn from a seed: the job `demo.job`, its metadata `demo.rda`, the
+/// hierarchy `region.hrc` and the microdata `demo.asc`, each with its name. The same seed gives the same files.
 ///
-/// A record of 14 bytes has a region of three provinces, an industry by letter and digit, a size, and a turnover from 1 to 10,000, of
-/// which one in twenty is 50 times as great. Each is drawn by a linear congruential generator of 64 bits with Knuth's constants, six
-/// draws a record. The files are argus's own.
+/// A record of 14 bytes has a region of three provinces, an industry by letter and digit, a size, and a turnover from 1
+/// to 10,000, of which one in twenty is 50 times as great. Each is drawn by a linear congruential generator of 64 bits
+/// with Knuth's constants, six draws a record. The files are argus's own.
 ///
 /// The cost is that of the records; `Memory` is the only refusal.
 pub fn demo_files(alloc: Global, seed: u64, records: u32) -> Result<Vec<(Text, Vec<u8>)>, Memory>
@@ -69,7 +69,10 @@ pub fn demo_files(alloc: Global, seed: u64, records: u32) -> Result<Vec<(Text, V
     files.push(file(alloc, "demo.job", JOB)?)?;
     files.push(file(alloc, "demo.rda", METADATA)?)?;
     files.push(file(alloc, "region.hrc", REGIONS)?)?;
-    files.push((named(alloc, "demo.asc")?, survey(alloc, seed, records)?))?;
+    files.push((
+        text_named(alloc, "demo.asc")?,
+        survey(alloc, seed, records)?,
+    ))?;
     Ok(files)
 }
 
@@ -79,11 +82,11 @@ fn file(alloc: Global, name: &str, text: &str) -> Result<(Text, Vec<u8>), Memory
     ensures text { IfOk result (λ file. file.1.items ≡ text.now) }
 {
     let bytes = Vec::from_slice(alloc, text.as_bytes())?;
-    Ok((named(alloc, name)?, bytes))
+    Ok((text_named(alloc, name)?, bytes))
 }
 
 // A name as a text.
-fn named(alloc: Global, name: &str) -> Result<Text, Memory>
+fn text_named(alloc: Global, name: &str) -> Result<Text, Memory>
     ensures { IfOk result (λ text. text ≡ name.now) }
 {
     Ok(Text::new(Vec::from_slice(alloc, name.as_bytes())?))

@@ -1,7 +1,7 @@
 ghost use Rattle.std.specs.Prelude.{◌≡◌, []};
 ghost use Rattle.office_io.specs.Files.{file_of};
 ghost use Rattle.office_io.specs.Memory.{shelf_failing, tray_failing};
-ghost use Rattle.demo_files.specs.Steady.{shelf_with, empty_tray};
+ghost use Rattle.demo_files.specs.SteadyFiles.{shelf_with, empty_tray};
 
 use office_io::{BeginFault, Failed, MemoryShelf, MemoryTray, PutFault, Shelf, Tray};
 use sdc_base::Text;

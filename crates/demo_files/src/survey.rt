@@ -50,14 +50,14 @@ fn turnover_of(amount: u64, rare: u64) -> u64
 
 // A number in two places, a zero before one digit.
 fn two_digits(alloc: Global, number: u64) -> Result<String, Memory>
-    ensures { IfOk result (λ text. text.bytes.items ≡ surveys.filled 48 2 number) }
+    ensures { IfOk result (λ text. text.bytes.items ≡ surveys.filled_number 48 2 number) }
 {
     Ok(format!(in alloc; "{number:02}")?)
 }
 
 // A number in seven places, blanks before its digits.
 fn seven_places(alloc: Global, number: u64) -> Result<String, Memory>
-    ensures { IfOk result (λ text. text.bytes.items ≡ surveys.filled 32 7 number) }
+    ensures { IfOk result (λ text. text.bytes.items ≡ surveys.filled_number 32 7 number) }
 {
     Ok(format!(in alloc; "{number:7}")?)
 }

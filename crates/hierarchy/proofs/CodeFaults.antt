@@ -4,7 +4,7 @@ use Rattle.std.specs.List.{list_any}
 use Rattle.std.specs.Str.{bytes_eq}
 use Rattle.std.proofs.lemmas.Bool.Decides.{nat_tests}
 use Rattle.sdc_base.specs.Trees.{Tree, codes, find}
-use Rattle.hierarchy.specs.Faults.{code_fault, known_fault, Tells}
+use Rattle.hierarchy.specs.Faults.{code_fault, known_fault, AnswersFault}
 use Rattle.hierarchy.specs.declared.tree_fault.TreeFault.{TreeFault}
 use Rattle.hierarchy.specs.declared.tree_fault.TreeFault.TheVariants as fault
 use Rattle.hierarchy.proofs.Growth.{any-from_find, none_after}
@@ -65,5 +65,5 @@ fault-many (node ∷ tree) code n some h many =
           rw (any-from_find tree code (none_after _ e), above) refl
     ] h
 
-pub tells-known : (place n : ℕ) (told : Option TreeFault) → told ≡ Some (known_fault place n) → Tells {X = Unit {0}} (Err (known_fault place n)) told
-tells-known place n told = elim (place == 0) as (λ b. told ≡ Some (cond b (fault.IsTotal n) (fault.Twice n)) → Tells {X = Unit {0}} (Err (cond b (fault.IsTotal n) (fault.Twice n))) told) [ true ↦ λ h. h | false ↦ λ h. h ]
+pub tells-known : (place n : ℕ) (told : Option TreeFault) → told ≡ Some (known_fault place n) → AnswersFault {X = Unit {0}} (Err (known_fault place n)) told
+tells-known place n told = elim (place == 0) as (λ b. told ≡ Some (cond b (fault.IsTotal n) (fault.Twice n)) → AnswersFault {X = Unit {0}} (Err (cond b (fault.IsTotal n) (fault.Twice n))) told) [ true ↦ λ h. h | false ↦ λ h. h ]

@@ -1,13 +1,13 @@
 -- The codes of a flat tree stand in the given order.
 use Rattle.std.proofs.Common.{◌≡◌, ℕ, suc, zero, ◌+◌, List, [], ◌∷◌, map, slice_get, Option, None, Some, Ok, refl, ap, subst, add-one}
 use Rattle.sdc_base.specs.Trees.{Tree}
-use Rattle.hierarchy.specs.Faults.{first_fault, unless}
-use Rattle.hierarchy.specs.Flat.{flat_tree}
+use Rattle.hierarchy.specs.Faults.{first_fault, tree_unless}
+use Rattle.hierarchy.specs.FlatForm.{flat_tree}
 use Rattle.hierarchy.specs.Laws.{FlatIsInOrder}
 use Rattle.hierarchy.specs.declared.tree_fault.TreeFault.{TreeFault}
 
 -- a tree that is given in spite of faults is that tree
-pub unless-ok : (told : Option TreeFault) (tree given : Tree) → unless told tree ≡ Ok given → tree ≡ given
+pub unless-ok : (told : Option TreeFault) (tree given : Tree) → tree_unless told tree ≡ Ok given → tree ≡ given
 unless-ok None tree given h = cc
 unless-ok (Some one) tree given h = cc
 

@@ -3,10 +3,10 @@ use Rattle.std.proofs.Common.{◌≡◌, ℕ, suc, ◌+◌, ◌<◌, List, [], �
 use Rattle.std.proofs.lemmas.List.{take_more, map-append}
 use Rattle.std.proofs.lemmas.Option.{slice_get_within, get_or_from_slice_get}
 use Rattle.sdc_base.specs.Trees.{Tree, codes}
-use Rattle.hierarchy.specs.Growing.{grown}
-use Rattle.hierarchy.specs.Faults.{code_fault, first_fault, fault_of, or_else, unless, Names}
+use Rattle.hierarchy.specs.Growing.{tree_with_node}
+use Rattle.hierarchy.specs.Faults.{code_fault, first_fault, fault_of, or_else, tree_unless, Names}
 use Rattle.sdc_base.specs.Answers.{Fails}
-use Rattle.hierarchy.specs.Flat.{flat_tree, flat_of}
+use Rattle.hierarchy.specs.FlatForm.{flat_tree, flat_of}
 use Rattle.hierarchy.specs.declared.tree_fault.TreeFault.{TreeFault}
 use Rattle.hierarchy.specs.declared.tree_fault.TreeFault.TheVariants as fault
 
@@ -18,7 +18,7 @@ drop-at xs i x at =
 pub take-at : {A : Type 0} (xs : List A) (i : ℕ) (x : A) → slice_get xs i ≡ Some x → take (i + 1) xs ≡ take i xs ++ x ∷ []
 take-at xs i x at = take_more xs i x (slice_get_within xs i x at) ∙ ap (λ y. take i xs ++ y ∷ []) (get_or_from_slice_get xs i x x at)
 
-pub flat-grown : (total : List ℕ) (before : List (List ℕ)) (code : List ℕ) → grown (flat_tree total before) code 0 ≡ flat_tree total (before ++ code ∷ [])
+pub flat-grown : (total : List ℕ) (before : List (List ℕ)) (code : List ℕ) → tree_with_node (flat_tree total before) code 0 ≡ flat_tree total (before ++ code ∷ [])
 flat-grown total [] code = refl
 flat-grown total (first ∷ before) code = ap (λ rest. (total, None) ∷ (first, Some 0) ∷ rest) (sym (map-append (λ code. (code, Some 0)) before (code ∷ [])))
 
@@ -42,7 +42,7 @@ flat-next total all i code at none =
     ∙ ap (λ before. first_fault (i + 1 + 1) (total ∷ before) (drop (i + 1) all)) (sym (take-at all i code at))
 
 -- a fault that a step names is the first
-pub names-stop : (one : TreeFault) (told rest : Option TreeFault) (tree : Tree) → Names one told → Fails (fault_of one) (unless (or_else told rest) tree)
+pub names-stop : (one : TreeFault) (told rest : Option TreeFault) (tree : Tree) → Names one told → Fails (fault_of one) (tree_unless (or_else told rest) tree)
 names-stop (fault.NoCode n) told rest tree h = rw h refl
 names-stop (fault.Jump n) told rest tree h = rw h refl
 names-stop (fault.TooDeep n) told rest tree h = rw h refl
@@ -56,5 +56,5 @@ pub flat-stop : (total : List ℕ) (all : List (List ℕ)) (i : ℕ) (code : Lis
     → first_fault 1 (total ∷ []) all ≡ first_fault (i + 1) (total ∷ take i all) (drop i all) → Names one (code_fault (total ∷ take i all) code (i + 1))
     → Fails (fault_of one) (flat_of total all)
 flat-stop total all i code one at so_far named =
-    subst (λ told. Fails (fault_of one) (unless told (flat_tree total all))) (sym (so_far ∙ first-step (i + 1) i all (total ∷ take i all) code at))
+    subst (λ told. Fails (fault_of one) (tree_unless told (flat_tree total all))) (sym (so_far ∙ first-step (i + 1) i all (total ∷ take i all) code at))
     (names-stop one (code_fault (total ∷ take i all) code (i + 1)) _ (flat_tree total all) named)

@@ -13,7 +13,7 @@ use Rattle.hierarchy.proofs.CodeFaults.{found-any, is-le}
 use Rattle.std.specs.Cmp.Lexicographic.{slice_cmp}
 use Rattle.std.specs.Ordering.{nat_cmp, ordering_then, match_ordering}
 use Rattle.std.specs.declared.cmp.Ordering.TheVariants.{Less, Equal, Greater}
-use Rattle.hierarchy.specs.Levels.{level, prefixes, IsAscending, IsClosed, with_prefixes, gathered, boundaries, level_fault}
+use Rattle.hierarchy.specs.Levels.{level, prefixes, IsAscending, IsClosed, with_prefixes, codes_with_prefixes, boundaries, level_fault}
 use Rattle.hierarchy.specs.Among.{IsIn}
 use Rattle.hierarchy.proofs.Prefixes.{equal_numbers, not_le, yes_le}
 
@@ -121,7 +121,7 @@ closed-with from bounds kept code up closed x bound h inside short =
     ]
 
 -- the gathered codes have their prefixes
-pub closed-gathered : (from : ℕ) (bounds : List ℕ) (codes kept : List (List ℕ)) → IsAscending from bounds → IsClosed bounds kept → IsClosed bounds (gathered bounds kept codes)
+pub closed-gathered : (from : ℕ) (bounds : List ℕ) (codes kept : List (List ℕ)) → IsAscending from bounds → IsClosed bounds kept → IsClosed bounds (codes_with_prefixes bounds kept codes)
 closed-gathered from bounds [] kept up closed = closed
 closed-gathered from bounds (code ∷ codes) kept up closed = closed-gathered from bounds codes (with_prefixes bounds kept code) up (closed-with from bounds kept code up closed)
 
@@ -161,7 +161,7 @@ short-with n bounds kept code old here x h =
       | inr new ↦ elim (what-prefix bounds code x new) [ inl whole ↦ omega (arith, ap length whole, here) | inr part ↦ omega (arith, ap length part.2, length-take part.0 code, part.1, here) ]
     ]
 
-pub gathered-short : (n : ℕ) (bounds : List ℕ) (codes kept : List (List ℕ)) → ((x : List ℕ) → IsIn x kept → length x ≤ n) → ((x : List ℕ) → IsIn x codes → length x ≤ n) → (x : List ℕ) → IsIn x (gathered bounds kept codes) → length x ≤ n
+pub gathered-short : (n : ℕ) (bounds : List ℕ) (codes kept : List (List ℕ)) → ((x : List ℕ) → IsIn x kept → length x ≤ n) → ((x : List ℕ) → IsIn x codes → length x ≤ n) → (x : List ℕ) → IsIn x (codes_with_prefixes bounds kept codes) → length x ≤ n
 gathered-short n bounds [] kept old new x h = old x h
 gathered-short n bounds (code ∷ codes) kept old new x h =
     gathered-short n bounds codes (with_prefixes bounds kept code) (short-with n bounds kept code old (new code (inl refl))) (λ y inside. new y (inr inside)) x h

@@ -2,8 +2,8 @@
 use Rattle.std.proofs.Common.{◌≡◌, ℕ, ◌+◌, ◌<◌, nat_le, Bool, true, false, cond, List, [], ◌∷◌, length, Option, None, Some, option_map, Result, Ok, Err, IfErr, refl, subst, arith}
 use Rattle.std.specs.Str.{bytes_eq}
 use Rattle.sdc_base.specs.Trees.{Tree, codes, find}
-use Rattle.hierarchy.specs.Faults.{code_fault, Names, Tells}
-use Rattle.hierarchy.specs.Missing.{has_code, missing_fault, with_code, IsMissingFault}
+use Rattle.hierarchy.specs.Faults.{code_fault, Names, AnswersFault}
+use Rattle.hierarchy.specs.MissingCodes.{has_code, missing_fault, with_code, IsMissingFault}
 use Rattle.hierarchy.specs.declared.tree_fault.TreeFault.{TreeFault}
 use Rattle.hierarchy.specs.declared.tree_fault.TreeFault.TheVariants as fault
 use Rattle.hierarchy.proofs.Growth.{any-from_find, none_after}
@@ -68,6 +68,6 @@ names-kind (fault.Twice m) known code n h = missing-kind known code n _ h
 names-kind (fault.TooMany m) known code n h = tt
 names-kind fault.Memory known code n h = tt
 
-pub tells-kind : (r : Result (Unit {0}) TreeFault) (known : List (List ℕ)) (code : List ℕ) (n : ℕ) → Tells r (missing_fault known code n) → IfErr r IsMissingFault
+pub tells-kind : (r : Result (Unit {0}) TreeFault) (known : List (List ℕ)) (code : List ℕ) (n : ℕ) → AnswersFault r (missing_fault known code n) → IfErr r IsMissingFault
 tells-kind (Ok x) known code n h = tt
 tells-kind (Err one) known code n h = names-kind one known code n h

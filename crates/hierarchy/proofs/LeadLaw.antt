@@ -9,8 +9,8 @@ use Rattle.std.proofs.lemmas.Map.Keys.{IsDistinct-head, IsDistinct-tail}
 use Rattle.std.proofs.lemmas.Option.{option_and_then_some}
 use Rattle.sdc_base.specs.Lines.{HasNoFeed}
 use Rattle.sdc_base.specs.Trees.{Tree, codes, find, parent_at, climb, code_in, IsCodeTree, HasDistinctCodes}
-use Rattle.hierarchy.specs.Growing.{grown}
-use Rattle.hierarchy.specs.Faults.{unless, code_fault}
+use Rattle.hierarchy.specs.Growing.{tree_with_node}
+use Rattle.hierarchy.specs.Faults.{tree_unless, code_fault}
 use Rattle.hierarchy.specs.Lead.{LeadLine, line_fault, first_line_fault, lead_lines, lead_tree, lead_of}
 use Rattle.hierarchy.specs.Path.{IsPath, next_path, read_on}
 use Rattle.hierarchy.specs.LeadText.{depth_of, lead_text, IsWritable, LeadTextIsRead}
@@ -134,7 +134,7 @@ nodes-on tree lead is [] front path place whole count some at can = ap (λ (t : 
 nodes-on tree lead is ((code, parent) ∷ rest) front path place whole count some at can =
     let line : LeadLine = record { number = length front; leads = depth_of tree (length front) - 1; code = code } in
     let next = next-is tree front code parent rest path is whole some at can.0.some in
-    let node : Tree = grown front code (slice_index path line.leads) in
+    let node : Tree = tree_with_node front code (slice_index path line.leads) in
     let longer : length node ≡ length front + 1 = length-append front ((code, Some (slice_index path line.leads)) ∷ []) in
     let one : tree ≡ node ++ rest = whole ∙ ap (λ (up : Option ℕ). front ++ (code, up) ∷ rest) next.above ∙ sym (append_assoc front ((code, Some (slice_index path line.leads)) ∷ []) rest) in
     ap (λ (n : ℕ). read_on front path (record { number = n; leads = depth_of tree n - 1; code = code } ∷ read_nodes tree (n + 1) rest)) count
@@ -153,7 +153,7 @@ from-total lead ((total, parent) ∷ rest) some h is can =
     ∙ nodes-on tree lead is rest ((total, None) ∷ []) (0 ∷ []) 1 whole refl (omega arith) (path-total total) can
   where
     start : List ℕ → List LeadLine → Result Tree TreeFault
-    start total read = unless (first_line_fault 0 (total ∷ []) read) (lead_tree total read)
+    start total read = tree_unless (first_line_fault 0 (total ∷ []) read) (lead_tree total read)
 
     unless-of : Tree → List ℕ → List ℕ → List (List ℕ) → Result Tree TreeFault
     unless-of tree lead total texts = start total (lead_lines lead 1 texts)

@@ -8,7 +8,7 @@ use Rattle.std.proofs.lemmas.List.Folds.{list_any-append}
 use Rattle.std.proofs.Math.Seq.{take-append_seam, drop-append_seam}
 use Rattle.plain_text.proofs.FirstLine.{strip-cons}
 use Rattle.plain_text.proofs.Joined.{read_again}
-use Rattle.sdc_base.specs.Lines.{lines, joined, is_line_feed, IsLine, HasNoFeed}
+use Rattle.sdc_base.specs.Lines.{lines, text_of_lines, is_line_feed, IsLine, HasNoFeed}
 use Rattle.sdc_base.specs.Trees.{Tree, codes}
 use Rattle.hierarchy.specs.Lead.{LeadLine, begins_with, one_more, leads_within, leads_of, lead_line, lead_lines}
 use Rattle.hierarchy.specs.LeadText.{depth_of, leads_text, node_line, node_lines, IsWritable}
@@ -85,5 +85,5 @@ lines-are lead tree place (node ∷ nodes) h can =
     )
 
 -- the lines of the text of nodes
-pub text-lines : (lead : List ℕ) (tree : Tree) (place : ℕ) (nodes : Tree) → HasNoFeed lead → AllByRecursion (IsWritable lead) (codes nodes) → lines (joined (node_lines lead tree place nodes)) ≡ node_lines lead tree place nodes
+pub text-lines : (lead : List ℕ) (tree : Tree) (place : ℕ) (nodes : Tree) → HasNoFeed lead → AllByRecursion (IsWritable lead) (codes nodes) → lines (text_of_lines (node_lines lead tree place nodes)) ≡ node_lines lead tree place nodes
 text-lines lead tree place nodes h can = read_again (node_lines lead tree place nodes) (lines-are lead tree place nodes h can)

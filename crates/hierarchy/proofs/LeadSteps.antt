@@ -2,8 +2,8 @@
 use Rattle.std.proofs.Common.{◌≡◌, ◌≢◌, ℕ, ◌==◌, false, suc, zero, ◌+◌, ◌-◌, ◌<◌, true, List, [], ◌∷◌, ◌++◌, length, drop, slice_index, Option, None, Result, Ok, Err, OnOk, refl, ap, sym, ◌∙◌, arith}
 use Rattle.sdc_base.specs.Blanks.{trim}
 use Rattle.sdc_base.specs.Trees.{Tree, codes}
-use Rattle.hierarchy.specs.Growing.{grown}
-use Rattle.hierarchy.specs.Faults.{or_else, unless, Tells}
+use Rattle.hierarchy.specs.Growing.{tree_with_node}
+use Rattle.hierarchy.specs.Faults.{or_else, tree_unless, AnswersFault}
 use Rattle.hierarchy.specs.Lead.{LeadLine, line_fault, first_line_fault, lead_line, leads_of, unless_blank, leads_within, begins_with, one_more}
 use Rattle.hierarchy.specs.Path.{next_path, tree_by_path, read_on}
 use Rattle.hierarchy.specs.declared.tree_fault.TreeFault.{TreeFault}
@@ -17,19 +17,19 @@ leads-next (suc most) n lead bytes e h = let same : most ≡ n = omega arith in 
 
 -- a line without fault is one node more
 pub read-step : (tree : Tree) (path : List ℕ) (line : LeadLine) (lines : List LeadLine) → 0 < length path → line_fault (length path - 1) (codes tree) line ≡ None
-    → read_on tree path (line ∷ lines) ≡ read_on (grown tree line.code (slice_index path line.leads)) (next_path path line.leads (length tree)) lines
+    → read_on tree path (line ∷ lines) ≡ read_on (tree_with_node tree line.code (slice_index path line.leads)) (next_path path line.leads (length tree)) lines
 read-step tree path line lines some none =
     let h : line.leads < length path = omega (arith, some, within-path (length path - 1) (codes tree) line none) in
     let last : line.leads + 1 ≡ length (next_path path line.leads (length tree)) - 1 = omega (arith, length-next path line.leads (length tree) h) in
-    let next : Tree = grown tree line.code (slice_index path line.leads) in
+    let next : Tree = tree_with_node tree line.code (slice_index path line.leads) in
     let rest : Tree = tree_by_path next (next_path path line.leads (length tree)) lines in
-    ap (λ (told : Option TreeFault). unless (or_else told (first_line_fault (line.leads + 1) (codes tree ++ line.code ∷ []) lines)) rest) none
-    ∙ ap (λ (known : List (List ℕ)). unless (first_line_fault (line.leads + 1) known lines) rest) (sym (codes-grown tree line.code (slice_index path line.leads)))
-    ∙ ap (λ (deep : ℕ). unless (first_line_fault deep (codes next) lines) rest) last
+    ap (λ (told : Option TreeFault). tree_unless (or_else told (first_line_fault (line.leads + 1) (codes tree ++ line.code ∷ []) lines)) rest) none
+    ∙ ap (λ (known : List (List ℕ)). tree_unless (first_line_fault (line.leads + 1) known lines) rest) (sym (codes-grown tree line.code (slice_index path line.leads)))
+    ∙ ap (λ (deep : ℕ). tree_unless (first_line_fault deep (codes next) lines) rest) last
 
 -- the line that a step added
 pub read-ok : (r : Result (Unit {0}) TreeFault) (tree new : Tree) (path next : List ℕ) (line : LeadLine) (here : List LeadLine) → here ≡ line ∷ [] → 0 < length path
-    → Tells r (line_fault (length path - 1) (codes tree) line) → OnOk r (new ≡ grown tree line.code (slice_index path line.leads)) → OnOk r (next ≡ next_path path line.leads (length tree))
+    → AnswersFault r (line_fault (length path - 1) (codes tree) line) → OnOk r (new ≡ tree_with_node tree line.code (slice_index path line.leads)) → OnOk r (next ≡ next_path path line.leads (length tree))
     → OnOk r ((lines : List LeadLine) → read_on tree path (here ++ lines) ≡ read_on new next lines)
 read-ok (Err one) tree new path next line here same some told grows after = tt
 read-ok (Ok x) tree new path next line here same some told grows after = λ lines.

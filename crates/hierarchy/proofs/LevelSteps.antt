@@ -10,9 +10,9 @@ use Rattle.std.proofs.lemmas.Map.Keys.{Less-from_sorted, IsDistinct-head, IsDist
 use Rattle.std.proofs.lemmas.Slice.Eq.{bytes_eq-Decides}
 use Rattle.sdc_base.specs.Trees.{Tree, codes, find, HasDistinctCodes}
 use Rattle.hierarchy.specs.Children.{code_at}
-use Rattle.hierarchy.specs.Growing.{grown}
+use Rattle.hierarchy.specs.Growing.{tree_with_node}
 use Rattle.hierarchy.specs.Path.{next_path}
-use Rattle.hierarchy.specs.Levels.{level, prefixes, chain, above, IsAscending, IsClosed}
+use Rattle.hierarchy.specs.Levels.{level, prefixes, chain, code_above, IsAscending, IsClosed}
 use Rattle.hierarchy.specs.Among.{IsIn}
 use Rattle.hierarchy.specs.Chains.{last_chain, IsHeld}
 use Rattle.hierarchy.proofs.Paths.{length-next, next-below, next-last}
@@ -80,7 +80,7 @@ code_at-grown [] more k code h = cc
 code_at-grown (node ∷ tree) more zero code h = h
 code_at-grown (node ∷ tree) more (suc k) code h = code_at-grown tree more k code h
 
-code_at-last : (tree : Tree) (code : List ℕ) (parent : ℕ) → code_at (grown tree code parent) (length tree) ≡ Some code
+code_at-last : (tree : Tree) (code : List ℕ) (parent : ℕ) → code_at (tree_with_node tree code parent) (length tree) ≡ Some code
 code_at-last [] code parent = refl
 code_at-last (node ∷ tree) code parent = code_at-last tree code parent
 
@@ -110,7 +110,7 @@ last_or_below k n h = grind arith
 
 -- the path after the next code
 pub held-next : (tree : Tree) (path : List ℕ) (held : List (List ℕ)) (total bounds code : List ℕ) (parent : ℕ) → IsHeld tree path held → IsNext held total bounds code
-    → IsHeld (grown tree code parent) (next_path path (level bounds code) (length tree)) (chain total bounds code)
+    → IsHeld (tree_with_node tree code parent) (next_path path (level bounds code) (length tree)) (chain total bounds code)
 held-next tree path held total bounds code parent is next = record {
   each = omega (arith, len, length-prefixes bounds code);
   code = λ depth short. elim (last_or_below depth (level bounds code + 1) (omega (arith, len, short))) [
@@ -130,6 +130,6 @@ held-next tree path held total bounds code parent is next = record {
 
 -- the parent of the next code
 pub parent-next : (tree : Tree) (path : List ℕ) (held : List (List ℕ)) (total bounds code : List ℕ) → HasDistinctCodes tree → IsHeld tree path held → IsNext held total bounds code
-    → find tree (above total bounds code) ≡ Some (slice_index path (level bounds code))
+    → find tree (code_above total bounds code) ≡ Some (slice_index path (level bounds code))
 parent-next tree path held total bounds code distinct is next =
-    find-at tree distinct (slice_index path (level bounds code)) (above total bounds code) (is.code (level bounds code) (omega (arith, is.each, next.within)) ∙ ap Some (next.same (level bounds code) (omega arith)))
+    find-at tree distinct (slice_index path (level bounds code)) (code_above total bounds code) (is.code (level bounds code) (omega (arith, is.each, next.within)) ∙ ap Some (next.same (level bounds code) (omega arith)))

@@ -8,8 +8,8 @@ use Rattle.std.proofs.lemmas.Map.Keys.{IsDistinct-push}
 use Rattle.std.proofs.lemmas.Slice.Eq.{bytes_eq-Decides}
 use Rattle.sdc_base.specs.Lines.{lines}
 use Rattle.hierarchy.specs.Among.{IsIn}
-use Rattle.hierarchy.specs.CodeList.{listed, is_passed_over, codes_listed}
-use Rattle.hierarchy.specs.Missing.{has_code}
+use Rattle.hierarchy.specs.CodeList.{code_of_line, is_passed_over, codes_listed}
+use Rattle.hierarchy.specs.MissingCodes.{has_code}
 use Rattle.hierarchy.specs.Laws.{AreTheListed, ListGivesItsCodes}
 use Rattle.hierarchy.specs.declared.tree_fault.TreeFault.TheVariants as fault
 use Rattle.hierarchy.proofs.Among.{any-known, last-in, same-bytes}
@@ -58,7 +58,7 @@ fresh-is total kept code h =
     ] refl h
 
 abbrev IsSpoken : List ℕ → List (List ℕ) → List ℕ → Type 0
-IsSpoken total kept line = (listed line ≡ []) ⊎ ((listed line ≡ total) ⊎ IsIn (listed line) kept)
+IsSpoken total kept line = (code_of_line line ≡ []) ⊎ ((code_of_line line ≡ total) ⊎ IsIn (code_of_line line) kept)
 
 with-passed : (total : List ℕ) (before kept : List (List ℕ)) (line : List ℕ) → IsSpoken total kept line → AreTheListed total before kept → AreTheListed total (before ++ line ∷ []) kept
 with-passed total before kept line spoken so = record {
@@ -68,18 +68,18 @@ with-passed total before kept line spoken so = record {
   few = so.few;
 }
 
-with-kept : (total : List ℕ) (before kept : List (List ℕ)) (line : List ℕ) → IsFresh total kept (listed line) → length kept < 5000 → AreTheListed total before kept → AreTheListed total (before ++ line ∷ []) (kept ++ listed line ∷ [])
+with-kept : (total : List ℕ) (before kept : List (List ℕ)) (line : List ℕ) → IsFresh total kept (code_of_line line) → length kept < 5000 → AreTheListed total before kept → AreTheListed total (before ++ line ∷ []) (kept ++ code_of_line line ∷ [])
 with-kept total before kept line fresh room so = record {
-  each = λ code inside. elim (last-in kept (listed line) code inside) [
+  each = λ code inside. elim (last-in kept (code_of_line line) code inside) [
     | inl old ↦ let e = so.each code old in ((e.0.0, in-front before (line ∷ []) e.0.0 e.0.1, e.0.2), e.1, e.2)
     | inr here ↦ ((line, in-behind before (line ∷ []) line (inl refl), sym here), (λ empty. fresh.some (sym here ∙ empty)), (λ whole. fresh.own (sym here ∙ whole)))
   ];
   all = λ other inside. elim (last-in before line other inside) [
-    | inl old ↦ elim (so.all other old) [ inl empty ↦ inl empty | inr known ↦ inr (elim known [ inl whole ↦ inl whole | inr there ↦ inr (in-front kept (listed line ∷ []) (listed other) there) ]) ]
-    | inr here ↦ inr (inr (subst (λ (l : List ℕ). IsIn (listed l) (kept ++ listed line ∷ [])) (sym here) (in-behind kept (listed line ∷ []) (listed line) (inl refl))))
+    | inl old ↦ elim (so.all other old) [ inl empty ↦ inl empty | inr known ↦ inr (elim known [ inl whole ↦ inl whole | inr there ↦ inr (in-front kept (code_of_line line ∷ []) (code_of_line other) there) ]) ]
+    | inr here ↦ inr (inr (subst (λ (l : List ℕ). IsIn (code_of_line l) (kept ++ code_of_line line ∷ [])) (sym here) (in-behind kept (code_of_line line ∷ []) (code_of_line line) (inl refl))))
   ];
-  once = IsDistinct-push nat_list_eq_equiv kept (listed line) so.once fresh.new;
-  few = omega (arith, room, length-append kept (listed line ∷ []));
+  once = IsDistinct-push nat_list_eq_equiv kept (code_of_line line) so.once fresh.new;
+  few = omega (arith, room, length-append kept (code_of_line line ∷ []));
 }
 
 not-full : (n : ℕ) → nat_le 5000 n ≡ false → n < 5000
@@ -90,12 +90,12 @@ listed-on total n [] before kept given so h =
     let same : kept ≡ given = cc in subst (AreTheListed total (before ++ [])) same (subst (λ (b : List (List ℕ)). AreTheListed total b kept) (sym (append-nil before)) so)
 listed-on total n (line ∷ texts) before kept given so h =
     subst (λ (all : List (List ℕ)). AreTheListed total all given) (append_assoc before (line ∷ []) texts)
-    (elim (is_passed_over total kept (listed line)) as (λ b. is_passed_over total kept (listed line) ≡ b → cond b (codes_listed total (n + 1) kept texts) (cond (nat_le 5000 (length kept)) (Err (fault.TooMany n)) (codes_listed total (n + 1) (kept ++ listed line ∷ []) texts)) ≡ Ok given → AreTheListed total ((before ++ line ∷ []) ++ texts) given) [
-      | true ↦ λ e f. listed-on total (n + 1) texts (before ++ line ∷ []) kept given (with-passed total before kept line (passed-is total kept (listed line) e) so) f
+    (elim (is_passed_over total kept (code_of_line line)) as (λ b. is_passed_over total kept (code_of_line line) ≡ b → cond b (codes_listed total (n + 1) kept texts) (cond (nat_le 5000 (length kept)) (Err (fault.TooMany n)) (codes_listed total (n + 1) (kept ++ code_of_line line ∷ []) texts)) ≡ Ok given → AreTheListed total ((before ++ line ∷ []) ++ texts) given) [
+      | true ↦ λ e f. listed-on total (n + 1) texts (before ++ line ∷ []) kept given (with-passed total before kept line (passed-is total kept (code_of_line line) e) so) f
       | false ↦ λ e f.
-          elim (nat_le 5000 (length kept)) as (λ b. nat_le 5000 (length kept) ≡ b → cond b (Err (fault.TooMany n)) (codes_listed total (n + 1) (kept ++ listed line ∷ []) texts) ≡ Ok given → AreTheListed total ((before ++ line ∷ []) ++ texts) given) [
+          elim (nat_le 5000 (length kept)) as (λ b. nat_le 5000 (length kept) ≡ b → cond b (Err (fault.TooMany n)) (codes_listed total (n + 1) (kept ++ code_of_line line ∷ []) texts) ≡ Ok given → AreTheListed total ((before ++ line ∷ []) ++ texts) given) [
             | true ↦ λ d g. cc
-            | false ↦ λ d g. listed-on total (n + 1) texts (before ++ line ∷ []) (kept ++ listed line ∷ []) given (with-kept total before kept line (fresh-is total kept (listed line) e) (not-full (length kept) d) so) g
+            | false ↦ λ d g. listed-on total (n + 1) texts (before ++ line ∷ []) (kept ++ code_of_line line ∷ []) given (with-kept total before kept line (fresh-is total kept (code_of_line line) e) (not-full (length kept) d) so) g
           ] refl f
     ] refl h)
 

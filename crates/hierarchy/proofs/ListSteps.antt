@@ -4,7 +4,7 @@ use Rattle.std.specs.List.{list_any}
 use Rattle.std.specs.Str.{bytes_eq}
 use Rattle.std.proofs.lemmas.Bool.Decides.{nat_tests}
 use Rattle.sdc_base.specs.Trees.{Tree, codes, find}
-use Rattle.hierarchy.specs.Missing.{has_code}
+use Rattle.hierarchy.specs.MissingCodes.{has_code}
 use Rattle.hierarchy.specs.CodeList.{is_passed_over, codes_listed, kept_on}
 use Rattle.hierarchy.specs.declared.tree_fault.TreeFault.TheVariants as fault
 use Rattle.hierarchy.proofs.Growth.{any-from_find}

@@ -2,8 +2,8 @@
 use Rattle.std.proofs.Common.{◌≡◌, ℕ, ◌+◌, true, false, cond, List, [], ◌∷◌, ◌++◌, Option, None, Some, Result, Ok, refl, ap, sym, ◌∙◌, subst, inl, inr, append_assoc, append-nil}
 use Rattle.sdc_base.specs.Trees.{Tree, codes}
 use Rattle.hierarchy.specs.Among.{IsIn}
-use Rattle.hierarchy.specs.Growing.{grown}
-use Rattle.hierarchy.specs.Missing.{has_code, missing_fault, with_code, with_codes, unless_read}
+use Rattle.hierarchy.specs.Growing.{tree_with_node}
+use Rattle.hierarchy.specs.MissingCodes.{has_code, missing_fault, with_code, with_codes, unless_read}
 use Rattle.hierarchy.specs.Laws.{IsCompleted, MissingStandLast}
 use Rattle.hierarchy.specs.declared.tree_fault.TreeFault.{TreeFault}
 use Rattle.hierarchy.proofs.Among.{any-known}
@@ -32,9 +32,9 @@ completed n [] tree whole h =
     record { more = []; stays = (let same : tree ≡ whole = cc in sym same) ∙ sym (append-nil tree); under_total = tt; wanted = λ x none. none; there = λ x none. absurd none }
 completed n (code ∷ missing) tree whole h =
     let rest = no-fault (missing_fault (codes tree) code n) (with_codes (n + 1) (with_code tree code) missing) whole h in
-    elim (has_code (codes tree) code) as (λ b. has_code (codes tree) code ≡ b → with_codes (n + 1) (cond b tree (grown tree code 0)) missing ≡ Ok whole → IsCompleted tree whole (code ∷ missing)) [
+    elim (has_code (codes tree) code) as (λ b. has_code (codes tree) code ≡ b → with_codes (n + 1) (cond b tree (tree_with_node tree code 0)) missing ≡ Ok whole → IsCompleted tree whole (code ∷ missing)) [
       | true ↦ λ known later. old (any-known code (codes tree) known) (completed (n + 1) missing tree whole later)
-      | false ↦ λ new later. one-more (completed (n + 1) missing (grown tree code 0) whole later)
+      | false ↦ λ new later. one-more (completed (n + 1) missing (tree_with_node tree code 0) whole later)
     ] refl rest
   where
     old : IsIn code (codes tree) → IsCompleted tree whole missing → IsCompleted tree whole (code ∷ missing)
@@ -49,7 +49,7 @@ completed n (code ∷ missing) tree whole h =
       ];
     }
 
-    one-more : IsCompleted (grown tree code 0) whole missing → IsCompleted tree whole (code ∷ missing)
+    one-more : IsCompleted (tree_with_node tree code 0) whole missing → IsCompleted tree whole (code ∷ missing)
     one-more r = record {
       more = (code, Some 0) ∷ r.more;
       stays = r.stays ∙ append_assoc tree ((code, Some 0) ∷ []) r.more;
@@ -58,7 +58,7 @@ completed n (code ∷ missing) tree whole h =
       there = λ x inside. elim inside [
         | inl here ↦
             let known : IsIn code (codes (tree ++ (code, Some 0) ∷ [])) = subst (IsIn code) (sym (codes-append tree ((code, Some 0) ∷ []))) (in-behind (codes tree) (code ∷ []) code (inl refl)) in
-            subst (λ (w : Tree). IsIn x (codes w)) (sym r.stays) (stays-there (grown tree code 0) r.more x (subst (λ y. IsIn y (codes (grown tree code 0))) (sym here) known))
+            subst (λ (w : Tree). IsIn x (codes w)) (sym r.stays) (stays-there (tree_with_node tree code 0) r.more x (subst (λ y. IsIn y (codes (tree_with_node tree code 0))) (sym here) known))
         | inr later ↦ r.there x later
       ];
     }

@@ -5,8 +5,8 @@ use Rattle.std.proofs.lemmas.Bool.Decides.{nat_tests}
 use Rattle.std.proofs.lemmas.List.{get_or_append_left}
 use Rattle.std.proofs.Math.Seq.{get_or-append_seam}
 use Rattle.sdc_base.specs.Trees.{Tree, parent_at, climb}
-use Rattle.hierarchy.specs.Growing.{grown}
-use Rattle.hierarchy.specs.Faults.{code_fault, or_else, unless}
+use Rattle.hierarchy.specs.Growing.{tree_with_node}
+use Rattle.hierarchy.specs.Faults.{code_fault, or_else, tree_unless}
 use Rattle.hierarchy.specs.Lead.{LeadLine, line_fault, first_line_fault, last_at, place_or, tree_below}
 use Rattle.hierarchy.specs.Path.{IsPath, next_path, tree_by_path, read_on}
 use Rattle.hierarchy.specs.declared.tree_fault.TreeFault.TheVariants as fault
@@ -38,26 +38,26 @@ last_or_below : (k n : ℕ) → k < n + 1 → (k < n) ⊎ (k ≡ n)
 last_or_below k n h = grind arith
 
 -- the path after one more node
-pub path-next : (tree : Tree) → 0 < length tree → (path : List ℕ) → IsPath tree path → (code : List ℕ) (leads : ℕ) → leads < length path → IsPath (grown tree code (slice_index path leads)) (next_path path leads (length tree))
+pub path-next : (tree : Tree) → 0 < length tree → (path : List ℕ) → IsPath tree path → (code : List ℕ) (leads : ℕ) → leads < length path → IsPath (tree_with_node tree code (slice_index path leads)) (next_path path leads (length tree))
 path-next tree some path is code leads h = record {
   some = omega (arith, len);
   above = λ depth below. elim (last_or_below depth (leads + 1) (omega (arith, len, below))) [
     | inl old ↦
         let steps : length (next_path path leads (length tree)) - 1 - depth ≡ suc (leads - depth) = omega (arith, len, old) in
-        let at : length (grown tree code parent) - 1 ≡ length tree = omega (arith, longer) in
+        let at : length (tree_with_node tree code parent) - 1 ≡ length tree = omega (arith, longer) in
         let whole : length path - 1 - leads + (leads - depth) ≡ length path - 1 - depth = omega (arith, h, old) in
         let between : climb tree (leads - depth) parent ≡ Some (slice_index path depth) =
         climb-between tree (length path - 1 - leads) (leads - depth) (length tree - 1) parent (slice_index path depth) (is.above leads h) (subst (λ n. climb tree n (length tree - 1) ≡ Some (slice_index path depth)) (sym whole) (is.above depth (omega (arith, h, old)))) in
         rw (steps, at, parent-last tree code parent, next-below path leads (length tree) depth h old) (climb-grown tree _ (leads - depth) parent (slice_index path depth) between)
     | inr last ↦
         let steps : length (next_path path leads (length tree)) - 1 - depth ≡ 0 = omega (arith, len, last) in
-        let at : length (grown tree code parent) - 1 ≡ length tree = omega (arith, longer) in
+        let at : length (tree_with_node tree code parent) - 1 ≡ length tree = omega (arith, longer) in
         rw (steps, at, last, next-last path leads (length tree) h) refl
   ];
   deep = λ depth below. elim (last_or_below depth (leads + 1) (omega (arith, len, below))) [
     | inl old ↦ rw (next-below path leads (length tree) depth h old) (climb-grown tree _ depth (slice_index path depth) 0 (is.deep depth (omega (arith, h, old))))
     | inr last ↦
-        let step : climb (grown tree code parent) (suc leads) (length tree) ≡ Some 0 = rw (parent-last tree code parent) (climb-grown tree _ leads parent 0 (is.deep leads h)) in
+        let step : climb (tree_with_node tree code parent) (suc leads) (length tree) ≡ Some 0 = rw (parent-last tree code parent) (climb-grown tree _ leads parent 0 (is.deep leads h)) in
         rw (last, next-last path leads (length tree) h, add-one) step
   ];
 }
@@ -68,7 +68,7 @@ path-next tree some path is code leads h = record {
     len : length (next_path path leads (length tree)) ≡ leads + 2
     len = length-next path leads (length tree) h
 
-    longer : length (grown tree code (slice_index path leads)) ≡ length tree + 1
+    longer : length (tree_with_node tree code (slice_index path leads)) ≡ length tree + 1
     longer = length-append tree ((code, Some (slice_index path leads)) ∷ [])
 
 -- the path of the total alone
@@ -125,23 +125,23 @@ within-path last before line h =
 
 -- where no line has a fault, the tree by the path is the tree by the depths
 pub same-tree : (lines : List LeadLine) (tree : Tree) (depths path : List ℕ) (before : List (List ℕ)) → IsDepthPath depths path (length tree) → 0 < length path
-    → unless (first_line_fault (length path - 1) before lines) (tree_below tree depths lines) ≡ unless (first_line_fault (length path - 1) before lines) (tree_by_path tree path lines)
+    → tree_unless (first_line_fault (length path - 1) before lines) (tree_below tree depths lines) ≡ tree_unless (first_line_fault (length path - 1) before lines) (tree_by_path tree path lines)
 same-tree [] tree depths path before is some = refl
 same-tree (line ∷ lines) tree depths path before is some =
     let rest = first_line_fault (line.leads + 1) (before ++ line.code ∷ []) lines in
-    elim (line_fault (length path - 1) before line) as (λ o. line_fault (length path - 1) before line ≡ o → unless (or_else o rest) (tree_below tree depths (line ∷ lines)) ≡ unless (or_else o rest) (tree_by_path tree path (line ∷ lines))) [
+    elim (line_fault (length path - 1) before line) as (λ o. line_fault (length path - 1) before line ≡ o → tree_unless (or_else o rest) (tree_below tree depths (line ∷ lines)) ≡ tree_unless (or_else o rest) (tree_by_path tree path (line ∷ lines))) [
       | Some one ↦ λ e. refl
       | None ↦ λ e.
           let h : line.leads < length path = omega (arith, some, within-path (length path - 1) before line e) in
           let next = next_path path line.leads (length tree) in
           let last : length next - 1 ≡ line.leads + 1 = omega (arith, length-next path line.leads (length tree) h) in
-          let longer : length tree + 1 ≡ length (grown tree line.code (slice_index path line.leads)) = omega (arith, length-append tree ((line.code, Some (slice_index path line.leads)) ∷ [])) in
-          let later = same-tree lines (grown tree line.code (slice_index path line.leads)) (depths ++ (line.leads + 1) ∷ []) next (before ++ line.code ∷ []) (subst (IsDepthPath (depths ++ (line.leads + 1) ∷ []) next) longer (next-depths depths path (length tree) line.leads is h)) (omega (arith, length-next path line.leads (length tree) h)) in
-          ap (λ (parent : Option ℕ). unless rest (tree_below (tree ++ (line.code, parent) ∷ []) (depths ++ (line.leads + 1) ∷ []) lines)) (is.held line.leads h)
-          ∙ subst (λ n. unless (first_line_fault n (before ++ line.code ∷ []) lines) (tree_below (grown tree line.code (slice_index path line.leads)) (depths ++ (line.leads + 1) ∷ []) lines) ≡ unless (first_line_fault n (before ++ line.code ∷ []) lines) (tree_by_path (grown tree line.code (slice_index path line.leads)) next lines)) last later
+          let longer : length tree + 1 ≡ length (tree_with_node tree line.code (slice_index path line.leads)) = omega (arith, length-append tree ((line.code, Some (slice_index path line.leads)) ∷ [])) in
+          let later = same-tree lines (tree_with_node tree line.code (slice_index path line.leads)) (depths ++ (line.leads + 1) ∷ []) next (before ++ line.code ∷ []) (subst (IsDepthPath (depths ++ (line.leads + 1) ∷ []) next) longer (next-depths depths path (length tree) line.leads is h)) (omega (arith, length-next path line.leads (length tree) h)) in
+          ap (λ (parent : Option ℕ). tree_unless rest (tree_below (tree ++ (line.code, parent) ∷ []) (depths ++ (line.leads + 1) ∷ []) lines)) (is.held line.leads h)
+          ∙ subst (λ n. tree_unless (first_line_fault n (before ++ line.code ∷ []) lines) (tree_below (tree_with_node tree line.code (slice_index path line.leads)) (depths ++ (line.leads + 1) ∷ []) lines) ≡ tree_unless (first_line_fault n (before ++ line.code ∷ []) lines) (tree_by_path (tree_with_node tree line.code (slice_index path line.leads)) next lines)) last later
     ] refl
 
 -- at the start
 pub same-start : (total : List ℕ) (lines : List LeadLine)
-    → unless (first_line_fault 0 (total ∷ []) lines) (tree_below ((total, None) ∷ []) (0 ∷ []) lines) ≡ read_on ((total, None) ∷ []) (0 ∷ []) lines
+    → tree_unless (first_line_fault 0 (total ∷ []) lines) (tree_below ((total, None) ∷ []) (0 ∷ []) lines) ≡ read_on ((total, None) ∷ []) (0 ∷ []) lines
 same-start total lines = same-tree lines ((total, None) ∷ []) (0 ∷ []) (0 ∷ []) (total ∷ []) (record { each = refl; held = λ depth below. let zeroth : depth ≡ 0 = omega arith in rw zeroth refl }) (omega arith)

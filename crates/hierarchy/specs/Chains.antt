@@ -12,4 +12,5 @@ last_chain total bounds codes (suc n) = chain total bounds (slice_index_or codes
 -- the places of the path are those of these codes
 pub record IsHeld (tree : Tree) (path : List ℕ) (held : List (List ℕ)) : Type 0 where
   pub each : length path ≡ length held
-  pub code : (depth : ℕ) → depth < length path → code_at tree (slice_index path depth) ≡ Some (slice_index_or held depth [])
+  pub code : (depth : ℕ) → depth < length path
+      → code_at tree (slice_index path depth) ≡ Some (slice_index_or held depth [])

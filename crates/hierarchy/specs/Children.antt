@@ -23,4 +23,5 @@ first_child tree place = child_from 0 place tree
 
 -- the first later place with the same parent
 abbrev pub next_sibling : Tree → ℕ → Option ℕ
-next_sibling tree place = option_and_then (λ parent. child_from (place + 1) parent (drop (place + 1) tree)) (parent_at tree place)
+next_sibling tree place =
+    option_and_then (λ parent. child_from (place + 1) parent (drop (place + 1) tree)) (parent_at tree place)

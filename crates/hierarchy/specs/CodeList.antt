@@ -4,7 +4,7 @@ use Rattle.std.specs.List.{before_first}
 use Rattle.std.specs.Str.{bytes_eq}
 use Rattle.sdc_base.specs.Lines.{lines as lines_of}
 use Rattle.sdc_base.specs.Blanks.{trim}
-use Rattle.hierarchy.specs.Missing.{has_code}
+use Rattle.hierarchy.specs.MissingCodes.{has_code}
 use Rattle.hierarchy.specs.declared.tree_fault.TreeFault.{TreeFault}
 use Rattle.hierarchy.specs.declared.tree_fault.TreeFault.TheVariants as fault
 
@@ -17,19 +17,21 @@ abbrev pub is_quoted : List ℕ → Bool
 is_quoted bytes = nat_le 2 (length bytes) && (slice_index bytes 0 == 34) && (slice_index bytes (length bytes - 1) == 34)
 
 -- without one pair of double quotes round it
-abbrev pub unquoted : List ℕ → List ℕ
-unquoted bytes = if is_quoted bytes then take (length bytes - 2) (drop 1 bytes) else bytes
+abbrev pub text_without_quotes : List ℕ → List ℕ
+text_without_quotes bytes = if is_quoted bytes then take (length bytes - 2) (drop 1 bytes) else bytes
 
--- the code of a line: what stands before the first comma, or the whole line, without blanks at both ends and then without a pair of quotes; blanks inside the quotes stay
-abbrev pub listed : List ℕ → List ℕ
-listed line = unquoted (trim (before_first is_comma line))
+-- the code of a line: what stands before the first comma, or the whole line, without blanks at both ends and then
+-- without a pair of quotes; blanks inside the quotes stay
+abbrev pub code_of_line : List ℕ → List ℕ
+code_of_line line = text_without_quotes (trim (before_first is_comma line))
 
 -- an empty code, the total, and a code that was there before are passed over
 abbrev pub is_passed_over : List ℕ → List (List ℕ) → List ℕ → Bool
 is_passed_over total kept code = (length code == 0) || (bytes_eq code total || has_code kept code)
 
 -- what the code of line n and the lines after it give, where `next` is what these give after the codes that are kept
-abbrev pub after_code : List ℕ → ℕ → List (List ℕ) → List ℕ → (List (List ℕ) → Result (List (List ℕ)) TreeFault) → Result (List (List ℕ)) TreeFault
+abbrev pub after_code : List ℕ → ℕ → List (List ℕ) → List ℕ → (List (List ℕ) → Result (List (List ℕ)) TreeFault)
+    → Result (List (List ℕ)) TreeFault
 after_code total n kept code next =
     if is_passed_over total kept code then next kept
     else if nat_le 5000 (length kept) then Err (fault.TooMany n)
@@ -38,7 +40,8 @@ after_code total n kept code next =
 -- the codes of the lines, which are numbered from n, after those that are kept
 abbrev pub codes_listed : List ℕ → ℕ → List (List ℕ) → List (List ℕ) → Result (List (List ℕ)) TreeFault
 codes_listed total n kept [] = Ok kept
-codes_listed total n kept (line ∷ lines) = after_code total n kept (listed line) (λ next. codes_listed total (n + 1) next lines)
+codes_listed total n kept (line ∷ lines) = after_code total n kept (code_of_line line)
+    (λ next. codes_listed total (n + 1) next lines)
 
 -- what the code of line n and the lines after it give, after the codes that are kept
 abbrev pub kept_on : List ℕ → ℕ → List (List ℕ) → List ℕ → List (List ℕ) → Result (List (List ℕ)) TreeFault

@@ -6,7 +6,8 @@ use Rattle.sdc_base.specs.Trees.{Tree}
 use Rattle.hierarchy.specs.declared.tree_fault.TreeFault.{TreeFault}
 use Rattle.hierarchy.specs.declared.tree_fault.TreeFault.TheVariants as fault
 
--- the fault of a code, as entry n, after these codes, of which the first is the total: it is the total, stands already, or is the 5,001st
+-- the fault of a code, as entry n, after these codes, of which the first is the total: it is the total, stands already,
+-- or is the 5,001st
 abbrev pub code_fault : List (List ℕ) → List ℕ → ℕ → Option TreeFault
 code_fault [] code n = None
 code_fault (total ∷ earlier) code n =
@@ -23,12 +24,13 @@ or_else (Some one) other = Some one
 -- the first fault of codes, which are numbered from n and come after those before
 abbrev pub first_fault : ℕ → List (List ℕ) → List (List ℕ) → Option TreeFault
 first_fault n before [] = None
-first_fault n before (code ∷ codes) = or_else (code_fault before code n) (first_fault (n + 1) (before ++ code ∷ []) codes)
+first_fault n before (code ∷ codes) = or_else (code_fault before code n)
+    (first_fault (n + 1) (before ++ code ∷ []) codes)
 
 -- a value, unless there is a fault
-abbrev pub unless : Option TreeFault → Tree → Result Tree TreeFault
-unless None tree = Ok tree
-unless (Some one) tree = Err one
+abbrev pub tree_unless : Option TreeFault → Tree → Result Tree TreeFault
+tree_unless None tree = Ok tree
+tree_unless (Some one) tree = Err one
 
 -- the fault that an answer names; want of memory is none
 abbrev pub fault_of : TreeFault → Option TreeFault
@@ -41,9 +43,9 @@ Names fault.Memory told = Unit {0}
 Names one told = told ≡ Some one
 
 -- What a step answered is the fault, or that there is none, unless memory ran out.
-abbrev pub Tells : {X : Type 0} → Result X TreeFault → Option TreeFault → Type 0
-Tells (Ok x) told = told ≡ None
-Tells (Err one) told = Names one told
+abbrev pub AnswersFault : {X : Type 0} → Result X TreeFault → Option TreeFault → Type 0
+AnswersFault (Ok x) told = told ≡ None
+AnswersFault (Err one) told = Names one told
 
 -- what a code alone can be refused for
 abbrev pub IsCodeFault : TreeFault → Type 0

@@ -3,8 +3,8 @@ use Rattle.std.specs.Prelude.{◌≡◌, ℕ, ◌≤◌, List, [], ◌∷◌, �
 use Rattle.sdc_base.specs.Trees.{Tree, climb}
 
 -- one node more, with this code, right below this parent
-abbrev pub grown : Tree → List ℕ → ℕ → Tree
-grown tree code parent = tree ++ (code, Some parent) ∷ []
+abbrev pub tree_with_node : Tree → List ℕ → ℕ → Tree
+tree_with_node tree code parent = tree ++ (code, Some parent) ∷ []
 
 -- a node right below this place is at most nine steps from the total
 abbrev pub HasRoomBelow : Tree → ℕ → Type 0

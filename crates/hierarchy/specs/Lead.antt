@@ -4,7 +4,7 @@ use Rattle.std.specs.Str.{bytes_eq}
 use Rattle.sdc_base.specs.Lines.{lines as lines_of}
 use Rattle.sdc_base.specs.Blanks.{trim}
 use Rattle.sdc_base.specs.Trees.{Tree}
-use Rattle.hierarchy.specs.Faults.{code_fault, or_else, unless}
+use Rattle.hierarchy.specs.Faults.{code_fault, or_else, tree_unless}
 use Rattle.hierarchy.specs.declared.tree_fault.TreeFault.{TreeFault}
 use Rattle.hierarchy.specs.declared.tree_fault.TreeFault.TheVariants as fault
 
@@ -19,7 +19,8 @@ one_more found = (found.0 + 1, found.1)
 -- how many leads stand at the front, at most so many, and what follows them
 abbrev pub leads_within : ℕ → List ℕ → List ℕ → ℕ × List ℕ
 leads_within zero lead bytes = (0, bytes)
-leads_within (suc most) lead bytes = if begins_with lead bytes then one_more (leads_within most lead (drop (length lead) bytes)) else (0, bytes)
+leads_within (suc most) lead bytes = if begins_with lead bytes
+    then one_more (leads_within most lead (drop (length lead) bytes)) else (0, bytes)
 
 -- how many leads stand at the front of a line, and what follows them
 abbrev pub leads_of : List ℕ → List ℕ → ℕ × List ℕ
@@ -57,7 +58,8 @@ line_fault last before line =
 -- the first fault of the lines; a line's depth is one more than its leads
 abbrev pub first_line_fault : ℕ → List (List ℕ) → List LeadLine → Option TreeFault
 first_line_fault last before [] = None
-first_line_fault last before (line ∷ lines) = or_else (line_fault last before line) (first_line_fault (line.leads + 1) (before ++ line.code ∷ []) lines)
+first_line_fault last before (line ∷ lines) = or_else (line_fault last before line)
+    (first_line_fault (line.leads + 1) (before ++ line.code ∷ []) lines)
 
 -- the place, or else the other
 abbrev pub place_or : Option ℕ → Option ℕ → Option ℕ
@@ -67,13 +69,15 @@ place_or (Some place) other = Some place
 -- the last place of this depth
 abbrev pub last_at : ℕ → List ℕ → Option ℕ
 last_at depth [] = None
-last_at depth (d ∷ depths) = place_or (option_map (λ k. k + 1) (last_at depth depths)) (if d == depth then Some 0 else None)
+last_at depth (d ∷ depths) = place_or (option_map (λ k. k + 1) (last_at depth depths))
+    (if d == depth then Some 0 else None)
 
 -- Each line is a node, in order. Its parent is the last place before it that is one level higher: a line with d leads
 -- is at depth d + 1, and the total at depth 0. `depths` are those of the nodes so far.
 abbrev pub tree_below : Tree → List ℕ → List LeadLine → Tree
 tree_below tree depths [] = tree
-tree_below tree depths (line ∷ lines) = tree_below (tree ++ (line.code, last_at line.leads depths) ∷ []) (depths ++ (line.leads + 1) ∷ []) lines
+tree_below tree depths (line ∷ lines) = tree_below (tree ++ (line.code, last_at line.leads depths) ∷ [])
+    (depths ++ (line.leads + 1) ∷ []) lines
 
 -- the tree of lines below the total
 abbrev pub lead_tree : List ℕ → List LeadLine → Tree
@@ -83,7 +87,7 @@ lead_tree total lines = tree_below ((total, None) ∷ []) (0 ∷ []) lines
 abbrev pub lead_of : List ℕ → List ℕ → List ℕ → Result Tree TreeFault
 lead_of lead total bytes =
     let lines = lead_lines lead 1 (lines_of bytes) in
-    unless (first_line_fault 0 (total ∷ []) lines) (lead_tree total lines)
+    tree_unless (first_line_fault 0 (total ∷ []) lines) (lead_tree total lines)
 
 -- what the lead form can be refused for: all but a blank inside a code
 abbrev pub IsLeadFault : TreeFault → Type 0

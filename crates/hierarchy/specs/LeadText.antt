@@ -2,13 +2,13 @@
 use Rattle.std.specs.Prelude.{◌≡◌, ◌≢◌, ℕ, zero, suc, ◌+◌, ◌-◌, ◌<◌, false, List, [], ◌∷◌, ◌++◌, length, drop, Ok}
 use Rattle.std.specs.List.{AllByRecursion}
 use Rattle.sdc_base.specs.Blanks.{trim}
-use Rattle.sdc_base.specs.Lines.{IsLine, HasNoFeed, joined}
-use Rattle.sdc_base.specs.Trees.{Tree, codes, code_in, upward, IsCodeTree}
+use Rattle.sdc_base.specs.Lines.{IsLine, HasNoFeed, text_of_lines}
+use Rattle.sdc_base.specs.Trees.{Tree, codes, code_in, places_upward, IsCodeTree}
 use Rattle.hierarchy.specs.Lead.{begins_with, lead_of}
 
 -- how many levels a place is below the total: as many places as are met above it
 abbrev pub depth_of : Tree → ℕ → ℕ
-depth_of tree place = length (upward tree place) - 1
+depth_of tree place = length (places_upward tree place) - 1
 
 -- so many leads, one after another
 abbrev pub leads_text : List ℕ → ℕ → List ℕ
@@ -26,7 +26,7 @@ node_lines lead tree place (node ∷ nodes) = node_line lead tree place node.0 �
 
 -- the text of a tree: a line for each node but the total, each ended by LF
 abbrev pub lead_text : List ℕ → Tree → List ℕ
-lead_text lead tree = joined (node_lines lead tree 1 (drop 1 tree))
+lead_text lead tree = text_of_lines (node_lines lead tree 1 (drop 1 tree))
 
 -- A code that the lead form can write: it has a byte, doesn't begin with the lead, has no blank at its ends,
 -- no LF in it and no CR at its end.
@@ -38,5 +38,7 @@ pub record IsWritable (lead code : List ℕ) : Type 0 where
 
 -- the text of a tree is read as that tree
 abbrev pub LeadTextIsRead : Type 0
-LeadTextIsRead = (lead : List ℕ) (tree : Tree) → 0 < length lead → HasNoFeed lead → IsCodeTree tree → AllByRecursion (IsWritable lead) (codes (drop 1 tree)) →
+LeadTextIsRead =
+    (lead : List ℕ) (tree : Tree) → 0 < length lead → HasNoFeed lead → IsCodeTree tree
+    → AllByRecursion (IsWritable lead) (codes (drop 1 tree)) →
     lead_of lead (code_in tree 0) (lead_text lead tree) ≡ Ok tree

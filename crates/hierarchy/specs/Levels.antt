@@ -7,7 +7,7 @@ use Rattle.std.specs.Ordering.{nat_cmp}
 use Rattle.std.specs.Str.{bytes_eq}
 use Rattle.sdc_base.specs.Blanks.{is_blank}
 use Rattle.hierarchy.specs.Among.{IsIn}
-use Rattle.hierarchy.specs.Faults.{or_else, unless}
+use Rattle.hierarchy.specs.Faults.{or_else, tree_unless}
 use Rattle.hierarchy.specs.declared.tree_fault.TreeFault.{TreeFault}
 use Rattle.hierarchy.specs.declared.tree_fault.TreeFault.TheVariants as fault
 use Rattle.sdc_base.specs.Trees.{Tree, find}
@@ -24,20 +24,22 @@ level bounds code = position_or_len (λ bound. nat_le (length code) bound) bound
 -- the prefixes of a code at the boundaries inside it, shortest first, and the code itself
 abbrev pub prefixes : List ℕ → List ℕ → List (List ℕ)
 prefixes [] code = code ∷ []
-prefixes (bound ∷ bounds) code = if nat_le (length code) bound then code ∷ [] else take bound code ∷ prefixes bounds code
+prefixes (bound ∷ bounds) code = if nat_le (length code) bound then code ∷ []
+    else take bound code ∷ prefixes bounds code
 
 -- the total, and the prefixes of a code
 abbrev pub chain : List ℕ → List ℕ → List ℕ → List (List ℕ)
 chain total bounds code = total ∷ prefixes bounds code
 
 -- the longest proper prefix of a code at a boundary, or else the total
-abbrev pub above : List ℕ → List ℕ → List ℕ → List ℕ
-above total bounds code = slice_index_or (chain total bounds code) (level bounds code) []
+abbrev pub code_above : List ℕ → List ℕ → List ℕ → List ℕ
+code_above total bounds code = slice_index_or (chain total bounds code) (level bounds code) []
 
 -- Each code is a node, in order, below its longest proper prefix at a boundary, or else below the total.
 abbrev pub tree_of_codes : List ℕ → List ℕ → Tree → List (List ℕ) → Tree
 tree_of_codes total bounds tree [] = tree
-tree_of_codes total bounds tree (code ∷ codes) = tree_of_codes total bounds (tree ++ (code, find tree (above total bounds code)) ∷ []) codes
+tree_of_codes total bounds tree (code ∷ codes) = tree_of_codes total bounds
+    (tree ++ (code, find tree (code_above total bounds code)) ∷ []) codes
 
 -- each boundary is beyond the one before
 abbrev pub IsAscending : ℕ → List ℕ → Type 0
@@ -46,16 +48,18 @@ IsAscending from (bound ∷ bounds) = (from < bound) × IsAscending bound bounds
 
 -- the prefixes of a code are codes too
 abbrev pub IsClosed : List ℕ → List (List ℕ) → Type 0
-IsClosed bounds codes = (code : List ℕ) (bound : ℕ) → IsIn code codes → IsIn bound bounds → bound < length code → IsIn (take bound code) codes
+IsClosed bounds codes =
+    (code : List ℕ) (bound : ℕ) → IsIn code codes → IsIn bound bounds → bound < length code
+    → IsIn (take bound code) codes
 
 -- the codes that are kept, in ascending order of bytes, with a code more and its prefixes
 abbrev pub with_prefixes : List ℕ → List (List ℕ) → List ℕ → List (List ℕ)
 with_prefixes bounds kept code = fold (insert_key (slice_cmp nat_cmp)) kept (prefixes bounds code)
 
 -- the kept codes, and the codes with their prefixes, each once, in ascending order of bytes
-abbrev pub gathered : List ℕ → List (List ℕ) → List (List ℕ) → List (List ℕ)
-gathered bounds kept [] = kept
-gathered bounds kept (code ∷ codes) = gathered bounds (with_prefixes bounds kept code) codes
+abbrev pub codes_with_prefixes : List ℕ → List (List ℕ) → List (List ℕ) → List (List ℕ)
+codes_with_prefixes bounds kept [] = kept
+codes_with_prefixes bounds kept (code ∷ codes) = codes_with_prefixes bounds (with_prefixes bounds kept code) codes
 
 -- The fault of a code, as entry n, after these codes, which are kept with their prefixes: a blank inside, it or a
 -- prefix of it is the total, an earlier entry is the same, or there are more than 5,000 with its prefixes.
@@ -71,13 +75,15 @@ level_fault total bounds earlier kept code n =
 abbrev pub first_level_fault : List ℕ → List ℕ → ℕ → List (List ℕ) → List (List ℕ) → List (List ℕ) → Option TreeFault
 first_level_fault total bounds n earlier kept [] = None
 first_level_fault total bounds n earlier kept (code ∷ codes) =
-    or_else (level_fault total bounds earlier kept code n) (first_level_fault total bounds (n + 1) (earlier ++ code ∷ []) (with_prefixes bounds kept code) codes)
+    or_else (level_fault total bounds earlier kept code n)
+    (first_level_fault total bounds (n + 1) (earlier ++ code ∷ []) (with_prefixes bounds kept code) codes)
 
 -- the tree of codes by widths, or the first fault
 abbrev pub levels_of : List ℕ → List ℕ → List (List ℕ) → Result Tree TreeFault
 levels_of total widths codes =
     let bounds = boundaries 0 widths in
-    unless (first_level_fault total bounds 1 [] [] codes) (tree_of_codes total bounds ((total, None) ∷ []) (gathered bounds [] codes))
+    tree_unless (first_level_fault total bounds 1 [] [] codes)
+    (tree_of_codes total bounds ((total, None) ∷ []) (codes_with_prefixes bounds [] codes))
 
 -- what the level form can be refused for
 abbrev pub IsLevelFault : TreeFault → Type 0

@@ -4,11 +4,11 @@ pub mod Among
 pub mod Entries
 pub mod Links
 pub mod Faults
-pub mod Flat
+pub mod FlatForm
 pub mod Lead
 pub mod LeadText
 pub mod Path
-pub mod Missing
+pub mod MissingCodes
 pub mod CodeList
 pub mod Levels
 pub mod LevelNodes

@@ -3,7 +3,7 @@ ghost use Rattle.std.specs.List.{before_first, position_or_len};
 ghost use Rattle.sdc_base.specs.Trees.{codes};
 ghost use Rattle.sdc_base.specs.Answers.{Fails, Gives};
 ghost use Rattle.hierarchy.specs.Faults.{fault_of};
-ghost use Rattle.hierarchy.specs.CodeList.{is_comma, is_quoted, unquoted, listed, codes_listed, kept_on, codes_of, IsListFault};
+ghost use Rattle.hierarchy.specs.CodeList.{is_comma, is_quoted, text_without_quotes, code_of_line, codes_listed, kept_on, codes_of, IsListFault};
 
 use crate::entries::Nodes;
 use crate::tree_fault::TreeFault;
@@ -52,10 +52,13 @@ fn keep(
     number: u32,
 ) -> Result<(), TreeFault>
     requires { (total : List ℕ) × (codes known.old ≡ total ∷ kept.old.items) }
-    ensures known { OnOk result ((total : List ℕ) → codes known.old ≡ total ∷ kept.old.items → codes known.new ≡ total ∷ kept.new.items) }
+    ensures known { OnOk result ((total : List ℕ) → codes known.old ≡ total ∷ kept.old.items
+        → codes known.new ≡ total ∷ kept.new.items) }
     ensures kind { IfErr result IsListFault }
-    ensures ok { OnOk result ((total : List ℕ) → codes known.old ≡ total ∷ kept.old.items → (lines : List (List ℕ)) → kept_on total number kept.old.items code.now lines ≡ codes_listed total (number + 1) kept.new.items lines) }
-    ensures err { IfErr result (λ fault. (total : List ℕ) → codes known.old ≡ total ∷ kept.old.items → (lines : List (List ℕ)) → Fails (fault_of fault) (kept_on total number kept.old.items code.now lines)) }
+    ensures ok { OnOk result ((total : List ℕ) → codes known.old ≡ total ∷ kept.old.items → (lines : List (List ℕ))
+        → kept_on total number kept.old.items code.now lines ≡ codes_listed total (number + 1) kept.new.items lines) }
+    ensures err { IfErr result (λ fault. (total : List ℕ) → codes known.old ≡ total ∷ kept.old.items
+        → (lines : List (List ℕ)) → Fails (fault_of fault) (kept_on total number kept.old.items code.now lines)) }
 {
     if code.is_empty() {
         return Ok(());
@@ -74,7 +77,7 @@ fn keep(
 
 // The code of a line.
 fn listed_code(line: &[u8]) -> &[u8]
-    ensures { result.now ≡ listed line.now }
+    ensures { result.now ≡ code_of_line line.now }
 {
     without_quotes(trim(before_comma(line)))
 }
@@ -101,16 +104,16 @@ fn comma_of(line: &[u8]) -> usize
 
 // Without one pair of double quotes round it.
 fn without_quotes(bytes: &[u8]) -> &[u8]
-    ensures { result.now ≡ unquoted bytes.now }
+    ensures { result.now ≡ text_without_quotes bytes.now }
 {
-    if quoted(bytes) {
+    if is_quoted(bytes) {
         return &bytes[1..bytes.len() - 1];
     }
     bytes
 }
 
 // Whether it begins and ends with a double quote, of which there are two.
-fn quoted(bytes: &[u8]) -> bool
+fn is_quoted(bytes: &[u8]) -> bool
     ensures quoted { result ≡ is_quoted bytes.now }
     ensures long { IsTrue result → 2 ≤ length bytes.now }
 {

@@ -1,7 +1,7 @@
 ghost use Rattle.std.specs.Prelude.{◌≡◌, IfErr};
 ghost use Rattle.sdc_base.specs.Answers.{Gives};
 ghost use Rattle.hierarchy.specs.Faults.{fault_of, IsCodeFault};
-ghost use Rattle.hierarchy.specs.Flat.{flat_of};
+ghost use Rattle.hierarchy.specs.FlatForm.{flat_of};
 
 use crate::code_tree::CodeTree;
 use crate::growing::{add, total_alone};

@@ -1,7 +1,7 @@
 ghost use Rattle.std.specs.Prelude.{◌≡◌, ◌-◌, ◌<◌, length, None, Some, [], ◌∷◌, IfOk, IfErr, OnOk};
 ghost use Rattle.sdc_base.specs.Trees.{codes, find, IsCodeTree, IsUnder};
-ghost use Rattle.hierarchy.specs.Growing.{grown, HasRoomBelow};
-ghost use Rattle.hierarchy.specs.Faults.{code_fault, known_fault, Tells, IsCodeFault};
+ghost use Rattle.hierarchy.specs.Growing.{tree_with_node, HasRoomBelow};
+ghost use Rattle.hierarchy.specs.Faults.{code_fault, known_fault, AnswersFault, IsCodeFault};
 
 use crate::entries::Nodes;
 use crate::tree_fault::TreeFault;
@@ -33,13 +33,13 @@ pub(crate) fn add(
     requires tree { IsCodeTree nodes.old }
     requires under { IsUnder nodes.old (length nodes.old - 1) parent }
     requires room { HasRoomBelow nodes.old parent }
-    ensures told { Tells result (code_fault (codes nodes.old) code.now number) }
+    ensures told { AnswersFault result (code_fault (codes nodes.old) code.now number) }
     ensures kind { IfErr result IsCodeFault }
-    ensures grows { OnOk result (nodes.new ≡ grown nodes.old code.now parent) }
+    ensures grows { OnOk result (nodes.new ≡ tree_with_node nodes.old code.now parent) }
     ensures tree { OnOk result (IsCodeTree nodes.new) }
 {
     if let Some(place) = nodes.place_of(code) {
-        return Err(known(place, number));
+        return Err(known_code(place, number));
     }
     if nodes.len() > MOST {
         return Err(TreeFault::TooMany(number));
@@ -49,7 +49,7 @@ pub(crate) fn add(
 }
 
 // The fault of a code that is at this place already.
-fn known(place: usize, number: u32) -> TreeFault
+fn known_code(place: usize, number: u32) -> TreeFault
     ensures fault { result ≡ known_fault place number }
     ensures kind { IsCodeFault result }
 {

@@ -1,9 +1,9 @@
 ghost use Rattle.std.specs.Prelude.{◌≡◌, ◌+◌, ◌-◌, ◌^◌, List, ◌<◌, ◌≤◌, ◌++◌, length, slice_index, IfErr, OnOk};
-ghost use Rattle.sdc_base.specs.Blanks.{trim as trimmed};
+ghost use Rattle.sdc_base.specs.Blanks as spec;
 ghost use Rattle.sdc_base.specs.Trees.{codes, IsCodeTree};
 ghost use Rattle.sdc_base.specs.Answers.{Fails, Gives};
-ghost use Rattle.hierarchy.specs.Growing.{grown};
-ghost use Rattle.hierarchy.specs.Faults.{fault_of, Tells};
+ghost use Rattle.hierarchy.specs.Growing.{tree_with_node};
+ghost use Rattle.hierarchy.specs.Faults.{fault_of, AnswersFault};
 ghost use Rattle.hierarchy.specs.Lead.{leads_of, line_fault, lead_line, lead_of, LeadLine, IsLeadFault};
 ghost use Rattle.hierarchy.specs.Path.{IsPath, next_path, read_on};
 
@@ -68,8 +68,11 @@ fn read_line(
     requires tree { IsCodeTree nodes.old }
     requires path { IsPath nodes.old path.old.items }
     requires lead { 0 < length lead.now }
-    ensures ok { OnOk result ((lines : List LeadLine) → read_on nodes.old path.old.items (lead_line lead.now number line.now ++ lines) ≡ read_on nodes.new path.new.items lines) }
-    ensures err { IfErr result (λ fault. (lines : List LeadLine) → Fails (fault_of fault) (read_on nodes.old path.old.items (lead_line lead.now number line.now ++ lines))) }
+    ensures ok { OnOk result ((lines : List LeadLine)
+        → read_on nodes.old path.old.items (lead_line lead.now number line.now ++ lines)
+        ≡ read_on nodes.new path.new.items lines) }
+    ensures err { IfErr result (λ fault. (lines : List LeadLine)
+        → Fails (fault_of fault) (read_on nodes.old path.old.items (lead_line lead.now number line.now ++ lines))) }
     ensures kind { IfErr result IsLeadFault }
     ensures tree { OnOk result (IsCodeTree nodes.new) }
     ensures path { OnOk result (IsPath nodes.new path.new.items) }
@@ -93,9 +96,10 @@ fn add_line(
 ) -> Result<(), TreeFault>
     requires tree { IsCodeTree nodes.old }
     requires path { IsPath nodes.old path.old.items }
-    ensures told { Tells result (line_fault (length path.old.items - 1) (codes nodes.old) (record { number = number; leads = leads; code = code.now })) }
+    ensures told { AnswersFault result (line_fault (length path.old.items - 1) (codes nodes.old)
+        (record { number = number; leads = leads; code = code.now })) }
     ensures kind { IfErr result IsLeadFault }
-    ensures grows { OnOk result (nodes.new ≡ grown nodes.old code.now (slice_index path.old.items leads)) }
+    ensures grows { OnOk result (nodes.new ≡ tree_with_node nodes.old code.now (slice_index path.old.items leads)) }
     ensures next { OnOk result (path.new.items ≡ next_path path.old.items leads (length nodes.old)) }
     ensures tree { OnOk result (IsCodeTree nodes.new) }
     ensures path { OnOk result (IsPath nodes.new path.new.items) }

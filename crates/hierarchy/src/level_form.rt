@@ -4,13 +4,14 @@ ghost use Rattle.std.specs.List.{list_any};
 ghost use Rattle.std.specs.List.Sorted.{IsStrictlySortedBy};
 ghost use Rattle.std.specs.Ordering.{nat_cmp};
 ghost use Rattle.std.specs.Str.{bytes_eq};
-ghost use Rattle.sdc_base.specs.Trees.{codes as codes_of, find, IsCodeTree};
+ghost use Rattle.sdc_base.specs.Trees.{find, IsCodeTree};
+ghost use Rattle.sdc_base.specs.Trees as spec;
 ghost use Rattle.sdc_base.specs.Answers.{Gives};
-ghost use Rattle.hierarchy.specs.Growing.{grown};
+ghost use Rattle.hierarchy.specs.Growing.{tree_with_node};
 ghost use Rattle.std.specs.BTreeSet.{insert_key};
 ghost use Rattle.sdc_base.specs.Blanks.{is_blank};
-ghost use Rattle.hierarchy.specs.Faults.{fault_of, Tells};
-ghost use Rattle.hierarchy.specs.Levels.{level, boundaries, prefixes, with_prefixes, gathered, level_fault, first_level_fault, levels_of, tree_of_codes, IsAscending, IsClosed, IsLevelFault};
+ghost use Rattle.hierarchy.specs.Faults.{fault_of, AnswersFault};
+ghost use Rattle.hierarchy.specs.Levels.{level, boundaries, prefixes, with_prefixes, codes_with_prefixes, level_fault, first_level_fault, levels_of, tree_of_codes, IsAscending, IsClosed, IsLevelFault};
 ghost use Rattle.hierarchy.specs.Among.{IsIn, AreAmong};
 ghost use Rattle.hierarchy.specs.LevelNodes.{AreLevelNodes};
 ghost use Rattle.hierarchy.specs.Path.{IsPath, next_path};
@@ -48,7 +49,7 @@ pub fn from_levels(
     requires short { All (λ code. length code ≤ sum widths.now) codes.now }
     ensures exact { Gives fault_of (λ tree. tree) result (levels_of total.now widths.now codes.now) }
     ensures kind { IfErr result IsLevelFault }
-    ensures nodes { IfOk result (λ tree. AreLevelNodes (boundaries 0 widths.now) codes.now (drop 1 (codes_of tree))) }
+    ensures nodes { IfOk result (λ tree. AreLevelNodes (boundaries 0 widths.now) codes.now (drop 1 (spec.codes tree))) }
 {
     let bounds = boundaries_of(alloc, widths)?;
     let kept = gather(alloc, codes, &bounds, total.as_slice())?;
@@ -78,9 +79,9 @@ fn gather(
     bounds: &[usize],
     total: &[u8],
 ) -> Result<Vec<Text>, TreeFault>
-    ensures told { Tells result (first_level_fault total.now bounds.now 1 [] [] codes.now) }
+    ensures told { AnswersFault result (first_level_fault total.now bounds.now 1 [] [] codes.now) }
     ensures kind { IfErr result IsLevelFault }
-    ensures kept { IfOk result (λ kept. kept.items ≡ gathered bounds.now [] codes.now) }
+    ensures kept { IfOk result (λ kept. kept.items ≡ codes_with_prefixes bounds.now [] codes.now) }
     ensures sorted { IfOk result (λ kept. IsStrictlySortedBy (slice_cmp nat_cmp) kept.items) }
     ensures few { IfOk result (λ kept. length kept.items ≤ 5000) }
     ensures apart { IfOk result (λ kept. list_any (bytes_eq total.now) kept.items ≡ false) }
@@ -105,7 +106,7 @@ fn gather(
 
 // The number of the next code: one more than were seen, which are no more than those that are kept.
 fn next_number(seen: &Nodes, kept: &BTreeSet<Text>) -> u32
-    requires among { AreAmong (codes_of seen.now) kept.now.keys }
+    requires among { AreAmong (spec.codes seen.now) kept.now.keys }
     requires few { length kept.now.keys ≤ 5000 }
     ensures { result ≡ length seen.now + 1 }
 {
@@ -123,11 +124,13 @@ fn take_code(
     number: u32,
 ) -> Result<(), TreeFault>
     requires { list_any (bytes_eq total.now) kept.old.keys ≡ false }
-    ensures told { Tells result (level_fault total.now bounds.now (codes_of seen.old) kept.old.keys code.now number) }
+    ensures told { AnswersFault result (level_fault total.now bounds.now (spec.codes seen.old) kept.old.keys code.now
+        number) }
     ensures kind { IfErr result IsLevelFault }
     ensures kept { OnOk result (kept.new.keys ≡ with_prefixes bounds.now kept.old.keys code.now) }
-    ensures seen { OnOk result (codes_of seen.new ≡ codes_of seen.old ++ code.now ∷ []) }
-    ensures among { OnOk result (AreAmong (codes_of seen.old) kept.old.keys → AreAmong (codes_of seen.new) kept.new.keys) }
+    ensures seen { OnOk result (spec.codes seen.new ≡ spec.codes seen.old ++ code.now ∷ []) }
+    ensures among { OnOk result (AreAmong (spec.codes seen.old) kept.old.keys
+        → AreAmong (spec.codes seen.new) kept.new.keys) }
     ensures count { OnOk result (length seen.new ≡ length seen.old + 1) }
     ensures few { OnOk result (length kept.new.keys ≤ 5000) }
     ensures apart { OnOk result (list_any (bytes_eq total.now) kept.new.keys ≡ false) }
@@ -255,7 +258,7 @@ fn place_code(
     requires within { depth < length path.old.items }
     requires shallow { depth ≤ 8 }
     ensures told { IfErr result (λ fault. fault ≡ TreeFault.Memory) }
-    ensures grows { OnOk result (nodes.new ≡ grown nodes.old code.now (slice_index path.old.items depth)) }
+    ensures grows { OnOk result (nodes.new ≡ tree_with_node nodes.old code.now (slice_index path.old.items depth)) }
     ensures next { OnOk result (path.new.items ≡ next_path path.old.items depth (length nodes.old)) }
     ensures tree { OnOk result (IsCodeTree nodes.new) }
     ensures path { OnOk result (IsPath nodes.new path.new.items) }

@@ -1,8 +1,8 @@
 ghost use Rattle.std.specs.Prelude.{◌≡◌, ◌<◌, ◌^◌, length, IfErr, OnOk};
 ghost use Rattle.sdc_base.specs.Trees.{codes, IsCodeTree};
 ghost use Rattle.sdc_base.specs.Answers.{Gives};
-ghost use Rattle.hierarchy.specs.Faults.{fault_of, Tells};
-ghost use Rattle.hierarchy.specs.Missing.{missing_fault, with_code, with_codes, IsMissingFault};
+ghost use Rattle.hierarchy.specs.Faults.{fault_of, AnswersFault};
+ghost use Rattle.hierarchy.specs.MissingCodes.{missing_fault, with_code, with_codes, IsMissingFault};
 
 use crate::code_tree::CodeTree;
 use crate::entries::Nodes;
@@ -34,7 +34,7 @@ pub fn with_missing(alloc: Global, tree: CodeTree, missing: &[Text]) -> Result<C
 // Adds a code right below the total, unless it is there.
 fn add_missing(alloc: Global, nodes: &mut Nodes, code: &[u8], number: u32) -> Result<(), TreeFault>
     requires { IsCodeTree nodes.old }
-    ensures told { Tells result (missing_fault (codes nodes.old) code.now number) }
+    ensures told { AnswersFault result (missing_fault (codes nodes.old) code.now number) }
     ensures kind { IfErr result IsMissingFault }
     ensures grows { OnOk result (nodes.new ≡ with_code nodes.old code.now) }
     ensures tree { OnOk result (IsCodeTree nodes.new) }

@@ -7,7 +7,7 @@ use Rattle.std.proofs.lemmas.List.{append-nil, drop_all}
 use Rattle.sdc_base.specs.Cubes.{Offer, better, choices, comes_before, corners_of, is_lower, offer_of, serve}
 use Rattle.sdc_base.specs.declared.cube.Corner.{Corner}
 use Rattle.sdc_base.specs.declared.cube.Edge.{Edge}
-use Rattle.hypercube.specs.Branches.{Setting, begin_at, best_beyond, cell_in, completed, costs_more, offers_of, price_of, shared_corners}
+use Rattle.hypercube.specs.Branches.{Setting, begin_at, best_beyond, cell_in, number_with_codes, costs_more, offers_of, price_of, shared_corners}
 use Rattle.hypercube.specs.LeastCubes.{is_marked, price_in}
 use Rattle.hypercube.proofs.AllOf.{all-map, all-more}
 use Rattle.hypercube.proofs.SharedCorners.{begin-behind, choices-begin, codes_of, shared-serve, shared-sum}
@@ -65,10 +65,10 @@ dearer-more (Some one) price more h dear = grind (arith, nat_tests, h, dear)
 no-better : (setting : Setting) (best : Option Offer) (chosen more : List Edge) → codes_of more ≡ drop (length chosen) setting.codes
     → (serve setting.cells setting.levels (shared_corners setting chosen) ≡ false) ⊎ (costs_more best (price_of setting (shared_corners setting chosen)) ≡ true) → IsNoBetter setting best (chosen ++ more)
 no-better setting best chosen more same (inl h) =
-    inl (to-false (serve setting.cells setting.levels (corners_in setting (chosen ++ more))) (λ served. differ (subst (λ (codes : List ℕ). serve setting.cells setting.levels (corners_of (completed (cell_in setting) codes) chosen) ≡ true) same (shared-serve (cell_in setting) setting.cells setting.levels chosen more served)) h))
+    inl (to-false (serve setting.cells setting.levels (corners_in setting (chosen ++ more))) (λ served. differ (subst (λ (codes : List ℕ). serve setting.cells setting.levels (corners_of (number_with_codes (cell_in setting) codes) chosen) ≡ true) same (shared-serve (cell_in setting) setting.cells setting.levels chosen more served)) h))
 no-better setting best chosen more same (inr h) =
     inr (dearer-more best (price_of setting (shared_corners setting chosen)) (price_of setting (corners_in setting (chosen ++ more)))
-    (subst (λ (codes : List ℕ). price_of setting (corners_of (completed (cell_in setting) codes) chosen) ≤ price_of setting (corners_in setting (chosen ++ more))) same
+    (subst (λ (codes : List ℕ). price_of setting (corners_of (number_with_codes (cell_in setting) codes) chosen) ≤ price_of setting (corners_in setting (chosen ++ more))) same
     (shared-sum (cell_in setting) (λ corner. if is_marked setting.book corner.cell then 0 else price_in setting.book setting.cells setting.cost corner.cell) chosen more)) h)
 
 -- all cubes that begin with these edges are left out
@@ -98,7 +98,7 @@ as-long (code ∷ codes) (edges ∷ lists) h = ap (λ n. suc n) (as-long codes l
 all-chosen : (setting : Setting) (chosen : List Edge) → length setting.lists ≤ length chosen → begin_at setting.codes setting.lists ≡ true → shared_corners setting chosen ≡ corners_in setting chosen
 all-chosen setting chosen past begun =
     let long = as-long setting.codes setting.lists begun in
-    ap (λ (codes : List ℕ). corners_of (completed (cell_in setting) codes) chosen) (drop_all (length chosen) setting.codes (omega (arith, long, past)))
+    ap (λ (codes : List ℕ). corners_of (number_with_codes (cell_in setting) codes) chosen) (drop_all (length chosen) setting.codes (omega (arith, long, past)))
     ∙ ap (λ (number : List ℕ → Option ℕ). corners_of number chosen) (fun_ext (λ place. ap (cell_in setting) (append-nil place)))
 
 one-offer : (setting : Setting) (best : Option Offer) (cube : List Edge) → serve setting.cells setting.levels (corners_in setting cube) ≡ true

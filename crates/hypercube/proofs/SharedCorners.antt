@@ -9,7 +9,7 @@ use Rattle.sdc_base.specs.declared.cell.Cell.{Cell}
 use Rattle.sdc_base.specs.declared.cube.Corner.{Corner}
 use Rattle.sdc_base.specs.declared.cube.Edge.{Edge}
 use Rattle.sdc_base.specs.declared.facts.Levels.{Levels}
-use Rattle.hypercube.specs.Branches.{begin_at, completed}
+use Rattle.hypercube.specs.Branches.{begin_at, number_with_codes}
 use Rattle.hypercube.proofs.AllOf.{all-flat, all-map, all-more}
 
 -- ---- a sum over corners
@@ -90,9 +90,9 @@ begun-sum g (edge ∷ chosen) more =
     omega (arith, own, other, few, all)
 
 -- a sum over the shared corners is at most that over all
-pub shared-sum : (number : List ℕ → Option ℕ) (f : Corner → ℕ) (chosen more : List Edge) → sum_by f (corners_of (completed number (codes_of more)) chosen) ≤ sum_by f (corners_of number (chosen ++ more))
+pub shared-sum : (number : List ℕ → Option ℕ) (f : Corner → ℕ) (chosen more : List Edge) → sum_by f (corners_of (number_with_codes number (codes_of more)) chosen) ≤ sum_by f (corners_of number (chosen ++ more))
 shared-sum number f chosen more =
-    let few = corners-sum (completed number (codes_of more)) f chosen in
+    let few = corners-sum (number_with_codes number (codes_of more)) f chosen in
     let all = corners-sum number f (chosen ++ more) in
     let less = begun-sum (counted number f) chosen more in
     omega (arith, few, all, less)
@@ -124,11 +124,11 @@ bears_at cells levels corner = option_map_or (bears levels corner.plus) (slice_g
 
 -- where a cube serves, the shared corners do
 pub shared-serve : (number : List ℕ → Option ℕ) (cells : List Cell) (levels : Levels) (chosen more : List Edge)
-    → serve cells levels (corners_of number (chosen ++ more)) ≡ true → serve cells levels (corners_of (completed number (codes_of more)) chosen) ≡ true
+    → serve cells levels (corners_of number (chosen ++ more)) ≡ true → serve cells levels (corners_of (number_with_codes number (codes_of more)) chosen) ≡ true
 shared-serve number cells levels chosen more served =
     let few = shared-sum number (failure (bears_at cells levels)) chosen more in
     let all = none-fails (bears_at cells levels) (corners_of number (chosen ++ more)) served in
-    all-pass (bears_at cells levels) (corners_of (completed number (codes_of more)) chosen) (omega (arith, few, all))
+    all-pass (bears_at cells levels) (corners_of (number_with_codes number (codes_of more)) chosen) (omega (arith, few, all))
 
 -- ---- the cubes that go on
 

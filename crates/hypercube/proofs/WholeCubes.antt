@@ -13,8 +13,8 @@ use Rattle.sdc_base.specs.CellOrder.{is_place_in}
 use Rattle.sdc_base.specs.Cubes.{choices, corner_at, corner_places, corners_of, cubes_at, edge_to, edges_at, edges_from, edges_to, other_end, own_end, with_corner}
 use Rattle.sdc_base.specs.declared.cube.Corner.{Corner}
 use Rattle.sdc_base.specs.declared.cube.Edge.{Edge}
-use Rattle.linked_tables.specs.Held.{Held}
-use Rattle.linked_tables.specs.Shared.{IsTable, cell_at, is_in, named}
+use Rattle.linked_tables.specs.BookViews.{BookView}
+use Rattle.linked_tables.specs.BookCells.{IsTable, cell_at, is_in, name_in_table}
 use Rattle.linked_tables.specs.Tables.{has_twice}
 use Rattle.linked_tables.proofs.Numbers.{numbers_are_names}
 use Rattle.linked_tables.proofs.Sharing.{known-below, name-codes}
@@ -112,7 +112,7 @@ puts-length corners [] = omega arith
 puts-length corners (new ∷ more) = let rest = puts-length (with_corner corners new) more in let one = put-length corners new in omega (arith, rest, one)
 
 -- a place of a table has a cell
-cell-there : (book : Held) (t : ℕ) (table place : List ℕ) → slice_get book.tables t ≡ Some table → is_place_in (trees_of book.trees table) place ≡ true → is_some (cell_at book t place) ≡ true
+cell-there : (book : BookView) (t : ℕ) (table place : List ℕ) → slice_get book.tables t ≡ Some table → is_place_in (trees_of book.trees table) place ≡ true → is_some (cell_at book t place) ≡ true
 cell-there book t table place at h = cell-found book t place ∙ ap (λ (found : Option (List ℕ)). option_map_or (λ spanned. is_in book spanned place) found false) at ∙ h
 
 -- ---- how many
@@ -220,12 +220,12 @@ place-long trees (variable ∷ table) (code ∷ place) h = ap suc (place-long tr
     later false b h = absurd cc
 
 -- two places of one table with one cell are the same
-same-cell : (book : Held) (t : ℕ) (table one other : List ℕ) (cell : ℕ) → IsTable (length book.trees) table → slice_get book.tables t ≡ Some table
+same-cell : (book : BookView) (t : ℕ) (table one other : List ℕ) (cell : ℕ) → IsTable (length book.trees) table → slice_get book.tables t ≡ Some table
     → is_place_in (trees_of book.trees table) one ≡ true → is_place_in (trees_of book.trees table) other ≡ true
     → cell_at book t one ≡ Some cell → cell_at book t other ≡ Some cell → one ≡ other
 same-cell book t table one other cell fits at inside within here there =
     let name : name_of (length book.trees) table one ≡ name_of (length book.trees) table other =
-    subst (λ (found : Option (List ℕ)). option_map_or (λ spanned. named book spanned one) found [] ≡ option_map_or (λ spanned. named book spanned other) found []) at
+    subst (λ (found : Option (List ℕ)). option_map_or (λ spanned. name_in_table book spanned one) found [] ≡ option_map_or (λ spanned. name_in_table book spanned other) found []) at
     ((numbers_are_names book t t one other (ap (λ (found : Option (List ℕ)). option_map_or (λ spanned. is_in book spanned one) found false) at ∙ inside) (ap (λ (found : Option (List ℕ)). option_map_or (λ spanned. is_in book spanned other) found false) at ∙ within)).0 (here ∙ sym there))
     in
     same-places table one other fits.once (place-long book.trees table one inside) (place-long book.trees table other within)

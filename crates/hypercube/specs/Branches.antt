@@ -10,8 +10,8 @@ use Rattle.sdc_base.specs.declared.cube.Edge.{Edge}
 use Rattle.sdc_base.specs.declared.facts.Levels.{Levels}
 use Rattle.cost_rule.specs.Costs.{AreCosted}
 use Rattle.cost_rule.specs.declared.kind.CostKind.{CostKind}
-use Rattle.linked_tables.specs.Held.{Held}
-use Rattle.linked_tables.specs.Shared.{cell_at}
+use Rattle.linked_tables.specs.BookViews.{BookView}
+use Rattle.linked_tables.specs.BookCells.{cell_at}
 use Rattle.hypercube.specs.LeastCubes.{is_marked, price_in}
 
 -- ---- corners
@@ -21,16 +21,17 @@ abbrev pub product : Bool → Bool → Bool
 product one other = if one then other else not other
 
 -- a corner's place and sign, behind a place with a sign
-abbrev pub begun : List ℕ → Bool → List ℕ × Bool → List ℕ × Bool
-begun place plus corner = (place ++ corner.0, product plus corner.1)
+abbrev pub corner_behind : List ℕ → Bool → List ℕ × Bool → List ℕ × Bool
+corner_behind place plus corner = (place ++ corner.0, product plus corner.1)
 
 -- the corners at the places that begin so, with this sign, and go on along these edges
 abbrev pub corners_beyond : (List ℕ → Option ℕ) → List ℕ → Bool → List Edge → List Corner
-corners_beyond number place plus edges = filter_map (corner_at number) (map (begun place plus) (corner_places edges))
+corners_beyond number place plus edges =
+    filter_map (corner_at number) (map (corner_behind place plus) (corner_places edges))
 
 -- the number at a place that these codes complete
-abbrev pub completed : (List ℕ → Option ℕ) → List ℕ → List ℕ → Option ℕ
-completed number codes place = number (place ++ codes)
+abbrev pub number_with_codes : (List ℕ → Option ℕ) → List ℕ → List ℕ → Option ℕ
+number_with_codes number codes place = number (place ++ codes)
 
 -- ---- the search
 
@@ -47,10 +48,10 @@ begin_at [] (edges ∷ lists) = false
 begin_at (code ∷ codes) [] = false
 begin_at (code ∷ codes) (edges ∷ lists) = list_all (λ edge. edge.code == code) edges && begin_at codes lists
 
--- what a search goes by: a book with its cells, the costs, a table, the levels that a cube has to serve, and for each variable
--- of the table the cell's code with the edges from it
+-- what a search goes by: a book with its cells, the costs, a table, the levels that a cube has to serve, and for each
+-- variable of the table the cell's code with the edges from it
 pub record Setting : Type 0 where
-  pub book : Held
+  pub book : BookView
   pub cells : List Cell
   pub cost : CostKind
   pub table : ℕ
@@ -72,15 +73,20 @@ cell_in setting place = cell_at setting.book setting.table place
 
 -- the price of the corners that aren't hidden yet
 abbrev pub price_of : Setting → List Corner → ℕ
-price_of setting corners = price_of_hiding (is_marked setting.book) (price_in setting.book setting.cells setting.cost) corners
+price_of setting corners =
+    price_of_hiding (is_marked setting.book) (price_in setting.book setting.cells setting.cost) corners
 
--- the corners that each cube has which begins with these edges: those with the cell's own code for each further variable
+-- the corners that each cube has which begins with these edges: those with the cell's own code for each further
+-- variable
 abbrev pub shared_corners : Setting → List Edge → List Corner
-shared_corners setting chosen = corners_of (completed (cell_in setting) (drop (length chosen) setting.codes)) chosen
+shared_corners setting chosen =
+    corners_of (number_with_codes (cell_in setting) (drop (length chosen) setting.codes)) chosen
 
 -- the offers of those cubes that serve
 abbrev pub offers_of : Setting → List (List Edge) → List Offer
-offers_of setting cubes = offers (cell_in setting) (is_marked setting.book) (price_in setting.book setting.cells setting.cost) setting.cells setting.levels cubes
+offers_of setting cubes =
+    offers (cell_in setting) (is_marked setting.book) (price_in setting.book setting.cells setting.cost) setting.cells
+    setting.levels cubes
 
 -- a price is above that of the best offer so far
 abbrev pub costs_more : Option Offer → ℕ → Bool
@@ -88,4 +94,5 @@ costs_more best price = option_map_or (λ offer. nat_lt offer.0 price) best fals
 
 -- the best of an offer and those of the cubes that have these edges and go on with one of each list
 abbrev pub best_beyond : Setting → Option Offer → List Edge → List (List Edge) → Option Offer
-best_beyond setting best chosen rest = fold (better comes_before) best (offers_of setting (map (λ more. chosen ++ more) (choices rest)))
+best_beyond setting best chosen rest =
+    fold (better comes_before) best (offers_of setting (map (λ more. chosen ++ more) (choices rest)))

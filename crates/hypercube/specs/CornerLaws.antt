@@ -6,8 +6,8 @@ use Rattle.sdc_base.specs.Trees.{Tree}
 use Rattle.sdc_base.specs.Records.{Name}
 use Rattle.sdc_base.specs.Cubes.{corners_of, cubes_at}
 use Rattle.sdc_base.specs.declared.cube.Corner.{Corner}
-use Rattle.linked_tables.specs.Held.{Held}
-use Rattle.linked_tables.specs.Shared.{IsBook, cell_at}
+use Rattle.linked_tables.specs.BookViews.{BookView}
+use Rattle.linked_tables.specs.BookCells.{IsBook, cell_at}
 
 -- variable by variable of a table, the parent and the name's code are in the variable's tree
 abbrev pub AreInTrees : List Tree → Name → List ℕ → List ℕ → Type 0
@@ -15,9 +15,11 @@ AreInTrees trees name [] [] = Unit {0}
 AreInTrees trees name [] (parent ∷ parents) = ⊥
 AreInTrees trees name (variable ∷ table) [] = ⊥
 AreInTrees trees name (variable ∷ table) (parent ∷ parents) =
-    (parent < length (slice_index_or trees variable [])) × (slice_index name variable < length (slice_index_or trees variable [])) × AreInTrees trees name table parents
+    (parent < length (slice_index_or trees variable []))
+    × (slice_index name variable < length (slice_index_or trees variable [])) × AreInTrees trees name table parents
 
--- the corners of a cube over so many variables: 2 to this number of them, and each has a higher number than the one before
+-- the corners of a cube over so many variables: 2 to this number of them, and each has a higher number than the one
+-- before
 pub record AreWhole (variables : ℕ) (corners : List Corner) : Type 0 where
   pub all : length corners ≡ 2 ^ variables
   pub ascending : IsStrictlyIncreasing (map (λ corner. corner.cell) corners)
@@ -25,5 +27,7 @@ pub record AreWhole (variables : ℕ) (corners : List Corner) : Type 0 where
 -- each cube of a cell in a subtable of a book has all its corners, by their numbers upwards
 abbrev pub CubesAreWhole : Type 0
 CubesAreWhole =
-    (book : Held) (t : ℕ) (table : List ℕ) (name : Name) (parents : List ℕ) → IsBook book → slice_get book.tables t ≡ Some table → AreInTrees book.trees name table parents
-    → AllByRecursion (λ cube. AreWhole (length table) (corners_of (cell_at book t) cube)) (cubes_at book.trees name table parents)
+    (book : BookView) (t : ℕ) (table : List ℕ) (name : Name) (parents : List ℕ) → IsBook book
+    → slice_get book.tables t ≡ Some table → AreInTrees book.trees name table parents
+    → AllByRecursion (λ cube. AreWhole (length table) (corners_of (cell_at book t) cube))
+    (cubes_at book.trees name table parents)

@@ -1,7 +1,7 @@
 ghost use Rattle.std.specs.Prelude.{◌≡◌, ◌<◌, ◌≤◌, ◌+◌, ◌++◌, [], true, fold, length, drop, insert, option_to_list, IfOk, OnOk};
 ghost use Rattle.sdc_base.specs.Cubes as spec;
-ghost use Rattle.linked_tables.specs.Shared.{cell_at};
-ghost use Rattle.hypercube.specs.Branches.{completed, corners_beyond};
+ghost use Rattle.linked_tables.specs.BookCells.{cell_at};
+ghost use Rattle.hypercube.specs.Branches.{number_with_codes, corners_beyond};
 
 use arrayvec::ArrayVec;
 use linked_tables::Book;
@@ -19,7 +19,8 @@ pub(crate) fn corners_of(
 ) -> Result<Items<Corner>, Memory>
     requires few { length edges.now ≤ 8 }
     requires fewer { length codes.now ≤ 8 }
-    ensures { IfOk result (λ corners. corners ≡ spec.corners_of (completed (cell_at book.now t) codes.now) edges.now) }
+    ensures { IfOk result (λ corners. corners
+        ≡ spec.corners_of (number_with_codes (cell_at book.now t) codes.now) edges.now) }
 {
     let mut corners = Vec::new(alloc);
     add_corners(book, t, edges, codes, &Few::empty(), true, &mut corners)?;
@@ -38,7 +39,10 @@ fn add_corners(
 ) -> Result<(), Memory>
     requires few { length edges.now ≤ 8 }
     requires fewer { length codes.now ≤ 8 }
-    ensures { OnOk result (corners.new.items ≡ fold spec.with_corner corners.old.items (corners_beyond (completed (cell_at book.now t) codes.now) place.now plus (drop (length place.now) edges.now))) }
+    ensures { OnOk result (corners.new.items
+        ≡ fold spec.with_corner corners.old.items
+        (corners_beyond (number_with_codes (cell_at book.now t) codes.now) place.now plus
+        (drop (length place.now) edges.now))) }
 {
     let k = place.len();
     if k >= edges.len() {
@@ -69,7 +73,9 @@ fn add_corner(
     corners: &mut Vec<Corner>,
 ) -> Result<(), Memory>
     requires fewer { length codes.now ≤ 8 }
-    ensures { OnOk result (corners.new.items ≡ fold spec.with_corner corners.old.items (option_to_list (spec.corner_at (completed (cell_at book.now t) codes.now) (place.now, plus)))) }
+    ensures { OnOk result (corners.new.items
+        ≡ fold spec.with_corner corners.old.items
+        (option_to_list (spec.corner_at (number_with_codes (cell_at book.now t) codes.now) (place.now, plus)))) }
 {
     let whole = place_with(place, codes);
     if let Some(cell) = book.id(t, whole.as_slice()) {

@@ -86,7 +86,8 @@ fn edges_from(
 
 // Adds the edge to another code, unless it is the same.
 fn add_edge(parent: u32, code: u32, other: u32, edges: &mut Vec<Edge>) -> Result<(), Memory>
-    ensures { OnOk result (edges.new.items ≡ (if not (other == code) then edges.old.items ++ spec.edge_to parent code other ∷ [] else edges.old.items)) }
+    ensures { OnOk result (edges.new.items
+        ≡ (if not (other == code) then edges.old.items ++ spec.edge_to parent code other ∷ [] else edges.old.items)) }
 {
     if other != code {
         edges.push(Edge {

@@ -2,7 +2,7 @@ ghost use Rattle.std.specs.Prelude.{◌≡◌, ◌<◌, ◌≤◌, ◌++◌, ◌
 ghost use Rattle.cost_rule.specs.Costs.{AreCosted};
 ghost use Rattle.std.specs.Option.{ForSome};
 ghost use Rattle.sdc_base.specs.Cubes as spec;
-ghost use Rattle.linked_tables.specs.Shared as shared;
+ghost use Rattle.linked_tables.specs.BookCells as shared;
 ghost use Rattle.hypercube.specs.Branches.{best_beyond, shared_corners};
 ghost use Rattle.hypercube.specs.LeastCubes.{least_cube};
 
@@ -46,7 +46,8 @@ pub fn cheapest<F: TellsCosts>(
     requires costed { All (λ mark. AreCosted mark.facts) book.now.marks }
     requires up { pos 0 ≤ℤ levels.up }
     requires down { pos 0 ≤ℤ levels.down }
-    ensures least { IfOk result (λ cube. option_map (λ one. one.corners) cube ≡ least_cube book.now cells.now rule.now subtable.now cell levels) }
+    ensures least { IfOk result (λ cube. option_map (λ one. one.corners) cube
+        ≡ least_cube book.now cells.now rule.now subtable.now cell levels) }
     ensures serves { IfOk result (λ cube. ForSome cube (λ one. spec.serve cells.now levels one.corners ≡ true)) }
 {
     let name = name_of(book, cell);
@@ -129,7 +130,8 @@ impl<'a, F: TellsCosts> Search<'a, F> {
         chosen: &Few<Edge, 8>,
         best: Option<Offer>,
     ) -> Result<Option<Offer>, Memory>
-        ensures { IfOk result (λ found. found ≡ best_beyond self.now best chosen.now (drop (length chosen.now) self.now.lists)) }
+        ensures { IfOk result (λ found. found
+            ≡ best_beyond self.now best chosen.now (drop (length chosen.now) self.now.lists)) }
     {
         let k = chosen.len();
         let corners = self.shared_corners(alloc, chosen)?;

@@ -49,7 +49,8 @@ fn bears(levels: Levels, plus: bool, cell: &Cell) -> bool
 fn has_room(cell: &Cell, up: i128, down: i128) -> bool
     requires up { pos 0 ≤ℤ up }
     requires down { pos 0 ≤ℤ down }
-    ensures { result ≡ (spec.is_within cell.now (cell.now.truth +ℤ up) && spec.is_within cell.now (cell.now.truth +ℤ neg_ℤ down)) }
+    ensures { result ≡ (spec.is_within cell.now (cell.now.truth +ℤ up)
+        && spec.is_within cell.now (cell.now.truth +ℤ neg_ℤ down)) }
 {
     has_room_above(cell, up) && has_room_below(cell, down)
 }

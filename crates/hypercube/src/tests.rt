@@ -238,7 +238,8 @@ fn is_linked(
     Ok(are(&corners, meant))
 }
 
-// Whether the least cube of the cell 1, 1, 1 of the three-way table has these corners, where these cells are always shown.
+// Whether the least cube of the cell 1, 1, 1 of the three-way table has these corners, where these cells are always
+// shown.
 fn is_cubic(
     alloc: Global,
     fixed: &[u32],

@@ -17,7 +17,7 @@ use Rattle.sdc_base.specs.Refutations.{rise}
 use Rattle.sdc_base.specs.Components.{names}
 use Rattle.sdc_base.specs.Systems.{Numbers, NamesCells, form}
 use Rattle.sdc_base.proofs.WholeNumbers.{times_up}
-use Rattle.sdc_base.specs.Worlds.{IsWorld, IsWithinBounds, toward}
+use Rattle.sdc_base.specs.Worlds.{IsWorld, IsWithinBounds, amount_toward}
 use Rattle.sdc_base.proofs.TotalLemmas.{sum_of-cons}
 use Rattle.sdc_base.proofs.WeakDual.{lessened, there}
 use Rattle.tableau.specs.declared.problem.LinRow.{LinRow}
@@ -250,5 +250,5 @@ worlds_are_points system cells flags group question den moves each is world = (
     from_zero = λ column inside. amounts_from group system.cells moves column;
     within = All-map (λ (row : LinRow). comes_to (amounts_of group system.cells moves) row.entries ≤ℤ (den *ℤ row.bound)) (row_of system cells group) (labels system.relations cells group system.cells) (all_kept system cells flags group question.cell den moves each is world);
   },
-  ap (toward question.side) (sym (made_in group system.cells moves question.cell is.asked_known is.asked_inside)) ∙ sym (objective_comes_to group system.cells question.cell question.side (amounts_of group system.cells moves) is.asked_known),
+  ap (amount_toward question.side) (sym (made_in group system.cells moves question.cell is.asked_known is.asked_inside)) ∙ sym (objective_comes_to group system.cells question.cell question.side (amounts_of group system.cells moves) is.asked_known),
 )

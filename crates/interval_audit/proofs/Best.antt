@@ -5,7 +5,7 @@ use Rattle.std.proofs.lemmas.Int.{ints, by_lt_z}
 use Rattle.sdc_base.specs.Forms.{coefficient}
 use Rattle.sdc_base.specs.Refutations.{bound_sum}
 use Rattle.sdc_base.specs.Systems.{Numbers}
-use Rattle.sdc_base.specs.Worlds.{IsWorld, toward}
+use Rattle.sdc_base.specs.Worlds.{IsWorld, amount_toward}
 use Rattle.sdc_base.proofs.WholeNumbers.{times_up, times_more, swap_times}
 use Rattle.interval_audit.specs.Points.{comes_to}
 use Rattle.interval_audit.specs.Columns.{moves_of}
@@ -48,7 +48,7 @@ attained_is_best system cells flags group question den amounts q weights each is
     let sum : ℤ = bound_sum cells flags (coefficient (refuting_by system cells group question q weights)) in
     let made = points_are_worlds system cells flags group question den amounts each is point in
     let dual = duals_bound system cells flags group question q weights each is duals in
-    let far : (other : ℤ) (moves : Numbers) → IsWorld system cells flags other moves → (q *ℤ toward question.side (moves question.cell)) ≤ℤ (other *ℤ sum) =
+    let far : (other : ℤ) (moves : Numbers) → IsWorld system cells flags other moves → (q *ℤ amount_toward question.side (moves question.cell)) ≤ℤ (other *ℤ sum) =
     (λ other moves world. furthest system cells flags question.cell question.side q (relation_terms weights (labels system.relations cells group system.cells)) each is.asked_known dual.0 other moves world) in
     let least : (q *ℤ best) ≤ℤ (den *ℤ sum) = subst (λ z. (q *ℤ z) ≤ℤ (den *ℤ sum)) made.1 (far den (moves_of group amounts) made.0) in
     let same : sum ≡ value = squeezed q den best sum value point.positive attained dual.1 least in (
@@ -57,7 +57,7 @@ attained_is_best system cells flags group question den amounts q weights each is
         attained_moves = moves_of group amounts;
         attained_world = made.0;
         attained = ap (λ z. z *ℤ den) made.1;
-        furthest = λ other moves world. no_further q den best value other (toward question.side (moves question.cell)) duals.positive point.positive attained (subst (λ z. (q *ℤ toward question.side (moves question.cell)) ≤ℤ (other *ℤ z)) same (far other moves world));
+        furthest = λ other moves world. no_further q den best value other (amount_toward question.side (moves question.cell)) duals.positive point.positive attained (subst (λ z. (q *ℤ amount_toward question.side (moves question.cell)) ≤ℤ (other *ℤ z)) same (far other moves world));
       },
       ap (λ z. z *ℤ den) same ∙ *ℤ_comm value den ∙ sym attained,
     )

@@ -10,7 +10,7 @@ use Rattle.std.proofs.lemmas.List.{append-nil}
 use Rattle.std.proofs.lemmas.List.Elements.{All-nil, All-cons, All-head, All-tail, All-append, All-weaker}
 use Rattle.sdc_base.specs.Forms.{Term}
 use Rattle.sdc_base.specs.Systems.{Numbers}
-use Rattle.worlds.specs.Listed.{Ascend, IsListed, given}
+use Rattle.worlds.specs.NumberLists.{Ascend, IsListed, number_given}
 use Rattle.interval_audit.specs.Groups.{Group, members}
 use Rattle.interval_audit.specs.LowestTerms.{times_each}
 use Rattle.interval_audit.specs.Readings.{nonzero_terms}
@@ -37,29 +37,29 @@ fold_more c a [] ys = refl
 fold_more c a (x ∷ xs) ys = fold_more c (if x.0 == c then x.1 else a) xs ys
 
 -- a number listed behind others
-given_one : (numbers : Numbers) (terms : List Term) (n c : ℕ) → given (terms ++ one_listed numbers n) c ≡ (if n == c then (if int_eq (numbers n) (pos 0) then given terms c else numbers n) else given terms c)
+given_one : (numbers : Numbers) (terms : List Term) (n c : ℕ) → number_given (terms ++ one_listed numbers n) c ≡ (if n == c then (if int_eq (numbers n) (pos 0) then number_given terms c else numbers n) else number_given terms c)
 given_one numbers terms n c =
     fold_more c (pos 0) terms (one_listed numbers n)
-    ∙ elim (int_eq (numbers n) (pos 0)) as (λ b. fold (λ number (t : Term). if t.0 == c then t.1 else number) (given terms c) (if b then [] else (n, numbers n) ∷ []) ≡ (if n == c then (if b then given terms c else numbers n) else given terms c)) [
-      | true ↦ elim (n == c) as (λ b. given terms c ≡ (if b then given terms c else given terms c)) [ true ↦ refl | false ↦ refl ]
+    ∙ elim (int_eq (numbers n) (pos 0)) as (λ b. fold (λ number (t : Term). if t.0 == c then t.1 else number) (number_given terms c) (if b then [] else (n, numbers n) ∷ []) ≡ (if n == c then (if b then number_given terms c else numbers n) else number_given terms c)) [
+      | true ↦ elim (n == c) as (λ b. number_given terms c ≡ (if b then number_given terms c else number_given terms c)) [ true ↦ refl | false ↦ refl ]
       | false ↦ refl
     ]
 
-given_other : (group : Group) (numbers : Numbers) (n c : ℕ) (b : Bool) → group n ≡ b → (b ≡ true → (n == c) ≡ false) → given (nonzero_terms numbers (members group (suc n))) c ≡ given (nonzero_terms numbers (members group n)) c
+given_other : (group : Group) (numbers : Numbers) (n c : ℕ) (b : Bool) → group n ≡ b → (b ≡ true → (n == c) ≡ false) → number_given (nonzero_terms numbers (members group (suc n))) c ≡ number_given (nonzero_terms numbers (members group n)) c
 given_other group numbers n c true is apart =
-    ap (λ ts. given ts c) (nonzero_terms-more group numbers n ∙ ap (λ b. nonzero_terms numbers (members group n) ++ (if b then one_listed numbers n else [])) is)
+    ap (λ ts. number_given ts c) (nonzero_terms-more group numbers n ∙ ap (λ b. nonzero_terms numbers (members group n) ++ (if b then one_listed numbers n else [])) is)
     ∙ given_one numbers (nonzero_terms numbers (members group n)) n c
-    ∙ ap (λ b. if b then (if int_eq (numbers n) (pos 0) then given (nonzero_terms numbers (members group n)) c else numbers n) else given (nonzero_terms numbers (members group n)) c) (apart refl)
+    ∙ ap (λ b. if b then (if int_eq (numbers n) (pos 0) then number_given (nonzero_terms numbers (members group n)) c else numbers n) else number_given (nonzero_terms numbers (members group n)) c) (apart refl)
 given_other group numbers n c false is apart =
-    ap (λ ts. given ts c) (nonzero_terms-more group numbers n ∙ ap (λ b. nonzero_terms numbers (members group n) ++ (if b then one_listed numbers n else [])) is ∙ append-nil (nonzero_terms numbers (members group n)))
+    ap (λ ts. number_given ts c) (nonzero_terms-more group numbers n ∙ ap (λ b. nonzero_terms numbers (members group n) ++ (if b then one_listed numbers n else [])) is ∙ append-nil (nonzero_terms numbers (members group n)))
 
 -- nothing is given for a number that isn't below n, or not in the group
-pub given_past : (group : Group) (numbers : Numbers) (n c : ℕ) → n ≤ c → given (nonzero_terms numbers (members group n)) c ≡ pos 0
+pub given_past : (group : Group) (numbers : Numbers) (n c : ℕ) → n ≤ c → number_given (nonzero_terms numbers (members group n)) c ≡ pos 0
 given_past group numbers zero c h = refl
 given_past group numbers (suc n) c h =
     given_other group numbers n c (group n) refl (λ own. grind (arith, nat_tests, h)) ∙ given_past group numbers n c (omega (arith, h))
 
-pub given_out : (group : Group) (numbers : Numbers) (n c : ℕ) → group c ≡ false → given (nonzero_terms numbers (members group n)) c ≡ pos 0
+pub given_out : (group : Group) (numbers : Numbers) (n c : ℕ) → group c ≡ false → number_given (nonzero_terms numbers (members group n)) c ≡ pos 0
 given_out group numbers zero c out = refl
 given_out group numbers (suc n) c out =
     given_other group numbers n c (group n) refl (λ own. apart (n == c) refl own) ∙ given_out group numbers n c out
@@ -69,24 +69,24 @@ given_out group numbers (suc n) c out =
     apart true is own = absurd (let same : n ≡ c = (Decides-eqb n c).0 is in let no : true ≡ false = sym own ∙ ap group same ∙ out in cc)
 
 -- for a number of the group below n its own is given
-pub given_in : (group : Group) (numbers : Numbers) (n c : ℕ) → c < n → group c ≡ true → given (nonzero_terms numbers (members group n)) c ≡ numbers c
+pub given_in : (group : Group) (numbers : Numbers) (n c : ℕ) → c < n → group c ≡ true → number_given (nonzero_terms numbers (members group n)) c ≡ numbers c
 given_in group numbers zero c below own = absurd (omega (arith, below))
 given_in group numbers (suc n) c below own = by (n == c) refl (λ less. given_in group numbers n c less own)
   where
-    by : (b : Bool) → (n == c) ≡ b → (c < n → given (nonzero_terms numbers (members group n)) c ≡ numbers c) → given (nonzero_terms numbers (members group (suc n))) c ≡ numbers c
+    by : (b : Bool) → (n == c) ≡ b → (c < n → number_given (nonzero_terms numbers (members group n)) c ≡ numbers c) → number_given (nonzero_terms numbers (members group (suc n))) c ≡ numbers c
     by false is before = given_other group numbers n c (group n) refl (λ _. is) ∙ before (grind (arith, nat_tests, is, below))
     by true is before =
         let same : n ≡ c = (Decides-eqb n c).0 is in
         let here : group n ≡ true = ap group same ∙ own in
-        let none : given (nonzero_terms numbers (members group n)) c ≡ pos 0 = given_past group numbers n c (omega (arith, same)) in
-        let value : (if int_eq (numbers n) (pos 0) then given (nonzero_terms numbers (members group n)) c else numbers n) ≡ numbers c =
-        elim (int_eq (numbers n) (pos 0)) as (λ b. int_eq (numbers n) (pos 0) ≡ b → (if b then given (nonzero_terms numbers (members group n)) c else numbers n) ≡ numbers c) [
+        let none : number_given (nonzero_terms numbers (members group n)) c ≡ pos 0 = given_past group numbers n c (omega (arith, same)) in
+        let value : (if int_eq (numbers n) (pos 0) then number_given (nonzero_terms numbers (members group n)) c else numbers n) ≡ numbers c =
+        elim (int_eq (numbers n) (pos 0)) as (λ b. int_eq (numbers n) (pos 0) ≡ b → (if b then number_given (nonzero_terms numbers (members group n)) c else numbers n) ≡ numbers c) [
           | true ↦ λ test. none ∙ sym ((Decides-int_eq (numbers n) (pos 0)).0 test) ∙ ap numbers same
           | false ↦ λ test. ap numbers same
         ] refl in
-        ap (λ ts. given ts c) (nonzero_terms-more group numbers n ∙ ap (λ b. nonzero_terms numbers (members group n) ++ (if b then one_listed numbers n else [])) here)
+        ap (λ ts. number_given ts c) (nonzero_terms-more group numbers n ∙ ap (λ b. nonzero_terms numbers (members group n) ++ (if b then one_listed numbers n else [])) here)
         ∙ given_one numbers (nonzero_terms numbers (members group n)) n c
-        ∙ ap (λ b. if b then (if int_eq (numbers n) (pos 0) then given (nonzero_terms numbers (members group n)) c else numbers n) else given (nonzero_terms numbers (members group n)) c) is
+        ∙ ap (λ b. if b then (if int_eq (numbers n) (pos 0) then number_given (nonzero_terms numbers (members group n)) c else numbers n) else number_given (nonzero_terms numbers (members group n)) c) is
         ∙ value
 
 -- of numbers so many times, so many times as much is given
@@ -99,7 +99,7 @@ given_times_from by (t ∷ less) c a =
     either true = refl
     either false = refl
 
-pub given_times : (by : ℤ) (less : List Term) (c : ℕ) → given (times_each by less) c ≡ by *ℤ given less c
+pub given_times : (by : ℤ) (less : List Term) (c : ℕ) → number_given (times_each by less) c ≡ by *ℤ number_given less c
 given_times by less c =
     let none : pos 0 ≡ by *ℤ pos 0 = omega (arith, ints, *ℤ_comm by (pos 0)) in
     ap (λ z. fold (λ number (t : Term). if t.0 == c then t.1 else number) z (times_each by less)) none ∙ given_times_from by less c (pos 0)

@@ -10,11 +10,11 @@ use Rattle.sdc_base.specs.declared.side.Side.TheVariants.{Above, Below}
 use Rattle.sdc_base.specs.declared.system.System.{System}
 use Rattle.sdc_base.specs.Totals.{sum_of}
 use Rattle.sdc_base.specs.Systems.{Numbers, form}
-use Rattle.sdc_base.specs.Worlds.{IsWorld, IsWithinBounds, toward}
+use Rattle.sdc_base.specs.Worlds.{IsWorld, IsWithinBounds, amount_toward}
 use Rattle.sdc_base.proofs.WholeNumbers.{distrib, assoc}
 use Rattle.sdc_base.proofs.TotalLemmas.{times_sum}
 use Rattle.worlds.specs.declared.world.World.{World}
-use Rattle.worlds.specs.Listed.{IsListed, terms_of, given}
+use Rattle.worlds.specs.NumberLists.{IsListed, terms_of, number_given}
 use Rattle.worlds.specs.WorldFaults.{IsGivenWorld}
 use Rattle.interval_audit.specs.Groups.{Group, members}
 use Rattle.interval_audit.specs.Columns.{moves_of}
@@ -59,12 +59,12 @@ world_lower system cells flags by lower whole moves less each by_positive positi
         none_from_times by (form less r) by_positive (sym (form_times_all by less r) ∙ sym same ∙ is)
 
 -- what a world that is read gives
-pub read_moves : (system : System) (group : Group) (den : ℤ) (amounts : Numbers) (world : World) (read : IsWorldOf system group den amounts world) → (c : ℕ) → c < system.cells → moves_of group amounts c ≡ read.by *ℤ given (terms_of world.moves) c
+pub read_moves : (system : System) (group : Group) (den : ℤ) (amounts : Numbers) (world : World) (read : IsWorldOf system group den amounts world) → (c : ℕ) → c < system.cells → moves_of group amounts c ≡ read.by *ℤ number_given (terms_of world.moves) c
 read_moves system group den amounts world read c inside =
-    let told : given (nonzero_terms (moves_of group amounts) (members group system.cells)) c ≡ read.by *ℤ given (terms_of world.moves) c = ap (λ ts. given ts c) read.each_same ∙ given_times read.by (terms_of world.moves) c in
+    let told : number_given (nonzero_terms (moves_of group amounts) (members group system.cells)) c ≡ read.by *ℤ number_given (terms_of world.moves) c = ap (λ ts. number_given ts c) read.each_same ∙ given_times read.by (terms_of world.moves) c in
     by (group c) refl ∙ told
   where
-    by : (b : Bool) → group c ≡ b → moves_of group amounts c ≡ given (nonzero_terms (moves_of group amounts) (members group system.cells)) c
+    by : (b : Bool) → group c ≡ b → moves_of group amounts c ≡ number_given (nonzero_terms (moves_of group amounts) (members group system.cells)) c
     by true is = sym (given_in group (moves_of group amounts) system.cells c inside is)
     by false is = moves_out group amounts c is ∙ sym (given_out group (moves_of group amounts) system.cells c is)
 
@@ -72,9 +72,9 @@ read_moves system group den amounts world read c inside =
 pub read_is_world : (system : System) (cells : List Cell) (flags : List Bool) (group : Group) (den : ℤ) (amounts : Numbers) (world : World) → length cells ≡ system.cells → IsWorld system cells flags den (moves_of group amounts) → IsWorldOf system group den amounts world → IsGivenWorld system cells flags world
 read_is_world system cells flags group den amounts world each is read = record {
   listed = listed_less read.by system.cells (terms_of world.moves) (subst (IsListed system.cells) read.each_same (listed_is group (moves_of group amounts) system.cells));
-  is_world = world_lower system cells flags read.by world.den den (moves_of group amounts) (given (terms_of world.moves)) each read.by_positive read.lowest.positive read.den_same (read_moves system group den amounts world read) is;
+  is_world = world_lower system cells flags read.by world.den den (moves_of group amounts) (number_given (terms_of world.moves)) each read.by_positive read.lowest.positive read.den_same (read_moves system group den amounts world read) is;
 }
 
-pub toward_times_by : (side : Side) (by z : ℤ) → toward side (by *ℤ z) ≡ by *ℤ toward side z
+pub toward_times_by : (side : Side) (by z : ℤ) → amount_toward side (by *ℤ z) ≡ by *ℤ amount_toward side z
 toward_times_by Above by z = refl
 toward_times_by Below by z = sym (times_minus by z)

@@ -13,7 +13,7 @@ use Rattle.sdc_base.specs.declared.system.System.{System}
 use Rattle.sdc_base.specs.Totals.{sum_of}
 use Rattle.sdc_base.specs.Forms.{Term, form_times}
 use Rattle.sdc_base.specs.Systems.{Numbers, NamesCells, form}
-use Rattle.sdc_base.specs.Worlds.{toward}
+use Rattle.sdc_base.specs.Worlds.{amount_toward}
 use Rattle.sdc_base.proofs.WholeNumbers.{distrib, minus_times}
 use Rattle.sdc_base.proofs.TotalLemmas.{sum_of-cons, sum_of-map, times_sum}
 use Rattle.sdc_base.proofs.WeakDual.{value_of}
@@ -46,15 +46,15 @@ form_comes_to system group amounts times number r found =
     ∙ entries_are_value group system.cells amounts (form_times times r) (terms_inside system.cells times r (found_inside system number r found))
     ∙ value_of-form_times (moves_of group amounts) times r
 
-toward_one : (side : Side) (m : ℤ) → toward side (pos 1) *ℤ m ≡ toward side m
+toward_one : (side : Side) (m : ℤ) → amount_toward side (pos 1) *ℤ m ≡ amount_toward side m
 toward_one Above m = omega (arith, ints)
 toward_one Below m = omega (arith, ints, minus_times (pos 1) m)
 
 -- the objective comes to the asked cell's move to its side
-pub objective_comes_to : (group : Group) (n asked : ℕ) (side : Side) (amounts : Numbers) → asked < n → comes_to amounts (entries_of group n (asked_move asked side)) ≡ toward side (moves_of group amounts asked)
+pub objective_comes_to : (group : Group) (n asked : ℕ) (side : Side) (amounts : Numbers) → asked < n → comes_to amounts (entries_of group n (asked_move asked side)) ≡ amount_toward side (moves_of group amounts asked)
 objective_comes_to group n asked side amounts inside =
-    entries_are_value group n amounts (asked_move asked side) (All-cons (λ (t : Term). t.0 < n) (asked, toward side (pos 1)) [] inside (All-nil (λ (t : Term). t.0 < n)))
-    ∙ sum_of-cons (λ (t : Term). t.1 *ℤ moves_of group amounts t.0) (asked, toward side (pos 1)) []
+    entries_are_value group n amounts (asked_move asked side) (All-cons (λ (t : Term). t.0 < n) (asked, amount_toward side (pos 1)) [] inside (All-nil (λ (t : Term). t.0 < n)))
+    ∙ sum_of-cons (λ (t : Term). t.1 *ℤ moves_of group amounts t.0) (asked, amount_toward side (pos 1)) []
     ∙ omega (arith, ints, toward_one side (moves_of group amounts asked))
 
 -- a cap's one entry comes to the amount of its column

@@ -10,7 +10,7 @@ use Rattle.sdc_base.specs.declared.system.System.{System}
 use Rattle.sdc_base.specs.Forms.{Term}
 use Rattle.tableau.specs.declared.problem.Problem.{Problem}
 use Rattle.tableau.specs.Tables.{Table}
-use Rattle.tableau.specs.Reads.{values_of, slacks_of}
+use Rattle.tableau.specs.Readings.{values_of, slacks_of}
 use Rattle.tableau.specs.Steps.{CanImprove, IsReached, IsBlocked}
 use Rattle.tableau.specs.Tableaus.{TableauWalk}
 use Rattle.tableau.specs.Walks.{IsWalk}
@@ -20,7 +20,7 @@ use Rattle.tableau.proofs.SomeStep.{IsCommon, common_of}
 use Rattle.worlds.specs.declared.world.Move.{Move}
 use Rattle.worlds.specs.declared.world.World.{World}
 use Rattle.worlds.specs.declared.multipliers.Multipliers.{Multipliers}
-use Rattle.worlds.specs.Listed.{terms_of}
+use Rattle.worlds.specs.NumberLists.{terms_of}
 use Rattle.interval_audit.specs.declared.question.Question.{Question}
 use Rattle.interval_audit.specs.declared.answer.Fraction.{Fraction}
 use Rattle.interval_audit.specs.declared.answer.Answer.{Answer}

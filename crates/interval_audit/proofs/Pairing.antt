@@ -19,7 +19,7 @@ use Rattle.sdc_base.proofs.WholeNumbers.{minus_times}
 use Rattle.interval_audit.specs.Points.{number_at}
 use Rattle.interval_audit.specs.Groups.{Group, members}
 use Rattle.interval_audit.specs.Columns.{rank}
-use Rattle.interval_audit.specs.Labels.{Label, CapAbove, CapBelow, caps_for, forms_for, met_relations, labels, counts, relation_terms, multiplier}
+use Rattle.interval_audit.specs.Labels.{Label, CapAbove, CapBelow, caps_for, forms_for, met_relations, labels, terms_of_label, relation_terms, multiplier}
 use Rattle.interval_audit.specs.Readings.{nonzero_terms}
 use Rattle.interval_audit.proofs.Ranks.{members-more, sum_members}
 use Rattle.interval_audit.proofs.Points.{meets}
@@ -34,7 +34,7 @@ zip-append (w ∷ ws) [] ys = refl
 zip-append (w ∷ ws) (x ∷ xs) ys = ap (λ t. (w, x) ∷ t) (zip-append ws xs ys)
 
 relation_terms-append : (weights : List ℤ) (xs ys : List Label) → relation_terms weights (xs ++ ys) ≡ relation_terms weights xs ++ relation_terms (drop (length xs) weights) ys
-relation_terms-append weights xs ys = ap (flat_map (λ (w : ℤ × Label). counts w.0 w.1)) (zip-append weights xs ys) ∙ flat_map-append (λ (w : ℤ × Label). counts w.0 w.1) (zip weights xs) (zip (drop (length xs) weights) ys)
+relation_terms-append weights xs ys = ap (flat_map (λ (w : ℤ × Label). terms_of_label w.0 w.1)) (zip-append weights xs ys) ∙ flat_map-append (λ (w : ℤ × Label). terms_of_label w.0 w.1) (zip weights xs) (zip (drop (length xs) weights) ys)
 
 -- caps count for no relation
 cap_counts : (weights : List ℤ) (c : ℕ) (b : Bool) → relation_terms weights (if b then CapAbove c ∷ CapBelow c ∷ [] else CapBelow c ∷ []) ≡ []

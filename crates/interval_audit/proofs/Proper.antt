@@ -14,7 +14,7 @@ use Rattle.sdc_base.specs.declared.side.Side.TheVariants.{Above, Below}
 use Rattle.sdc_base.specs.declared.system.System.{System}
 use Rattle.sdc_base.specs.Forms.{Term, form_times, coefficient}
 use Rattle.sdc_base.specs.Refutations.{rise}
-use Rattle.sdc_base.specs.Worlds.{toward}
+use Rattle.sdc_base.specs.Worlds.{amount_toward}
 use Rattle.sdc_base.proofs.TotalLemmas.{sum_of-cons}
 use Rattle.tableau.specs.declared.problem.LinRow.{LinRow}
 use Rattle.tableau.specs.ProblemForm.{AscendFrom, AreEntries, IsWellFormed}
@@ -184,7 +184,7 @@ rows_long system cells group =
     ∙ length-append (flat_map (caps_for cells) (members group system.cells)) (flat_map forms_for (met_relations group system.relations))
     ∙ omega (arith, forms_few (met_relations group system.relations))
 
-one_is : (side : Side) → IsFormSign (toward side (pos 1))
+one_is : (side : Side) → IsFormSign (amount_toward side (pos 1))
 one_is Above = record { low = omega (arith, ints); high = omega (arith, ints) }
 one_is Below = record { low = omega (arith, ints); high = omega (arith, ints) }
 
@@ -194,7 +194,7 @@ problem_is system cells group question few = record {
       (All-weaker (IsLabel system cells group) (λ label. AreEntries (2 * length (members group system.cells)) (row_of system cells group label).entries) (entries_of_row system cells group) (labels system.relations cells group system.cells) (labels_are system cells group));
   bounds = All-map (λ (row : LinRow). pos 0 ≤ℤ row.bound) (row_of system cells group) (labels system.relations cells group system.cells)
       (All-weaker (IsLabel system cells group) (λ label. pos 0 ≤ℤ (row_of system cells group label).bound) (λ label is. bound_of_row system cells group label) (labels system.relations cells group system.cells) (labels_are system cells group));
-  objective = entries_are group (asked_move question.cell question.side) system.cells (All-cons (λ (t : Term). IsFormSign t.1) (question.cell, toward question.side (pos 1)) [] (one_is question.side) (All-nil (λ (t : Term). IsFormSign t.1))) (omega arith);
+  objective = entries_are group (asked_move question.cell question.side) system.cells (All-cons (λ (t : Term). IsFormSign t.1) (question.cell, amount_toward question.side (pos 1)) [] (one_is question.side) (All-nil (λ (t : Term). IsFormSign t.1))) (omega arith);
   target = question.target_from_zero;
   few = omega (arith, few, rows_long system cells group, caps_few cells (members group system.cells), rank-most (meets group system.relations) (length system.relations), system.few);
 }

@@ -12,23 +12,23 @@ use Rattle.sdc_base.specs.declared.side.Side.{Side}
 use Rattle.sdc_base.specs.declared.system.System.{System}
 use Rattle.sdc_base.specs.Forms.{Term, coefficient}
 use Rattle.sdc_base.specs.Refutations.{bound_sum, AreBounded}
-use Rattle.sdc_base.specs.Worlds.{toward}
+use Rattle.sdc_base.specs.Worlds.{amount_toward}
 use Rattle.sdc_base.proofs.WholeNumbers.{assoc, swap_times, times_more, below_from_times}
 use Rattle.tableau.specs.declared.problem.Problem.{Problem}
 use Rattle.interval_audit.specs.Points.{IsPoint, AreDualWeights, comes_to, number_at, weighed_bounds}
 use Rattle.interval_audit.specs.WalkStates.{WalkState, IsAtPoint, IsAtTarget, IsAtOptimum, IsAtEnd, objective_of}
 use Rattle.worlds.specs.declared.world.World.{World}
 use Rattle.worlds.specs.declared.multipliers.Multipliers.{Multipliers}
-use Rattle.worlds.specs.Listed.{terms_of, given}
+use Rattle.worlds.specs.NumberLists.{terms_of, number_given}
 use Rattle.worlds.specs.WorldFaults.{IsGivenWorld}
-use Rattle.worlds.specs.RefutationFaults.{IsGivenSum, added}
+use Rattle.worlds.specs.RefutationFaults.{IsGivenSum, terms_added}
 use Rattle.interval_audit.specs.declared.question.Question.{Question}
 use Rattle.interval_audit.specs.declared.answer.Fraction.{Fraction}
 use Rattle.interval_audit.specs.Answers.{asked_move_in, StopsShort}
 use Rattle.interval_audit.specs.QuestionLaws.{IsBest, refuting_by, dual_value}
 use Rattle.interval_audit.specs.Columns.{rank, down_column, moves_of}
 use Rattle.interval_audit.specs.Groups.{Group, IsGroup, members}
-use Rattle.interval_audit.specs.Labels.{Label, caps_for, met_relations, labels, multiplier, counts, relation_terms}
+use Rattle.interval_audit.specs.Labels.{Label, caps_for, met_relations, labels, multiplier, terms_of_label, relation_terms}
 use Rattle.interval_audit.specs.LowestTerms.{AreLowestTermsOf}
 use Rattle.interval_audit.specs.Problems.{problem_of, row_of}
 use Rattle.interval_audit.specs.Readings.{nonzero_terms, IsWorldOf, AreMultipliersOf}
@@ -105,7 +105,7 @@ pub slacks_read : (system : System) (cells : List Cell) (group : Group) (den : �
 slacks_read system cells group den slacks weights m has read =
     let rows : List Label = labels system.relations cells group system.cells in
     let long : length rows ≤ length weights = omega (arith, has.long, rows_long system cells group, length-map rows (row_of system cells group)) in
-    let same : relation_terms slacks rows ≡ relation_terms weights rows = ap (λ ws. relation_terms ws rows) has.slacks_are ∙ ap (flat_map (λ (w : ℤ × Label). counts w.0 w.1)) (zip_longer weights (pos 0 ∷ []) rows long) in
+    let same : relation_terms slacks rows ≡ relation_terms weights rows = ap (λ ws. relation_terms ws rows) has.slacks_are ∙ ap (flat_map (λ (w : ℤ × Label). terms_of_label w.0 w.1)) (zip_longer weights (pos 0 ∷ []) rows long) in
     subst (λ ts. AreLowestTermsOf den (nonzero_terms (coefficient ts) (met_relations group system.relations)) m.den m.by_relation) (sym same) read
 
 -- a fact of what is read, whatever it is
@@ -136,13 +136,13 @@ pub read_off : (system : System) (cells : List Cell) (flags : List Bool) (group 
 read_off system cells flags group question walk world each is problem stands read =
     let point : IsPoint (problem_of system cells group question) walk.den (number_at walk.values) = subst (λ p. IsPoint p walk.den (number_at walk.values)) problem stands.point in
     let made = points_are_worlds system cells flags group question walk.den (number_at walk.values) each is point in
-    let moved : moves_of group (number_at walk.values) question.cell ≡ read.by *ℤ given (terms_of world.moves) question.cell = read_moves system group walk.den (number_at walk.values) world read question.cell is.asked_known in
+    let moved : moves_of group (number_at walk.values) question.cell ≡ read.by *ℤ number_given (terms_of world.moves) question.cell = read_moves system group walk.den (number_at walk.values) world read question.cell is.asked_known in
     record {
       is_world = read_is_world system cells flags group walk.den (number_at walk.values) world each made.0 read;
       by = read.by;
       positive = read.by_positive;
       den = read.den_same;
-      objective = ap (λ (p : Problem). comes_to (number_at walk.values) p.objective) problem ∙ sym made.1 ∙ ap (toward question.side) moved ∙ toward_times_by question.side read.by (given (terms_of world.moves) question.cell);
+      objective = ap (λ (p : Problem). comes_to (number_at walk.values) p.objective) problem ∙ sym made.1 ∙ ap (amount_toward question.side) moved ∙ toward_times_by question.side read.by (number_given (terms_of world.moves) question.cell);
     }
 
 -- den times the target, by the world's den
@@ -166,11 +166,11 @@ blocked_where system cells flags group question walk world problem read (inl rea
 
 -- the multipliers that are read can be checked
 pub read_bounded : (system : System) (cells : List Cell) (flags : List Bool) (group : Group) (question : Question) (walk : WalkState) (multipliers : Multipliers) → length cells ≡ system.cells → IsGroup system flags group question.cell → walk.problem ≡ problem_of system cells group question → (blocked : IsAtOptimum walk) → AreMultipliersOf system cells group walk.den blocked.weights multipliers
-    → AreBounded cells flags (coefficient (added system question.cell question.side multipliers))
+    → AreBounded cells flags (coefficient (terms_added system question.cell question.side multipliers))
 read_bounded system cells flags group question walk multipliers each is problem blocked read =
     let duals : AreDualWeights (problem_of system cells group question) walk.den blocked.weights = subst (λ p. AreDualWeights p walk.den blocked.weights) problem blocked.duals in
     let long : AreLong system cells group blocked.weights = omega (arith, (has_slacks system cells group question walk problem blocked).long) in
-    bounded_less cells flags read.by (coefficient (refuting_by system cells group question walk.den blocked.weights)) (coefficient (added system question.cell question.side multipliers)) read.by_positive
+    bounded_less cells flags read.by (coefficient (refuting_by system cells group question walk.den blocked.weights)) (coefficient (terms_added system question.cell question.side multipliers)) read.by_positive
     (scaled system cells group question walk.den blocked.weights multipliers read long) (duals_bound system cells flags group question walk.den blocked.weights each is duals).0
 
 -- the best value over the walk's den is that over the world's
@@ -180,11 +180,11 @@ best_lower system cells flags asked side by num den less lower positive num_is d
   attained_moves = best.attained_moves;
   attained_world = best.attained_world;
   attained =
-      let t : ℤ = toward side (best.attained_moves asked) in
+      let t : ℤ = amount_toward side (best.attained_moves asked) in
       cancel_same by (t *ℤ lower) (less *ℤ best.attained_den) positive
       (sym (swap_times t by lower) ∙ ap (λ z. t *ℤ z) (sym den_is) ∙ best.attained ∙ ap (λ z. z *ℤ best.attained_den) num_is ∙ assoc by less best.attained_den);
   furthest = λ other moves world.
-      let t : ℤ = toward side (moves asked) in
+      let t : ℤ = amount_toward side (moves asked) in
       let left : t *ℤ den ≡ by *ℤ (t *ℤ lower) = ap (λ z. t *ℤ z) den_is ∙ swap_times t by lower in
       let right : num *ℤ other ≡ by *ℤ (less *ℤ other) = ap (λ z. z *ℤ other) num_is ∙ assoc by less other in
       cancel_le by (t *ℤ lower) (less *ℤ other) positive (omega (arith, ints, best.furthest other moves world, left, right));
@@ -215,14 +215,14 @@ does_stop system cells flags group question walk world multipliers best each is 
     let both = attained_is_best system cells flags group question walk.den (number_at walk.values) walk.den blocked.weights each is point duals (ap (λ z. walk.den *ℤ z) value) in
     let num : comes_to (number_at walk.values) (problem_of system cells group question).objective ≡ given_world.by *ℤ asked_move_in question world = sym objective ∙ given_world.objective in
     let long : AreLong system cells group blocked.weights = omega (arith, (has_slacks system cells group question walk problem blocked).long) in
-    let sums : bound_sum cells flags (coefficient (refuting_by system cells group question walk.den blocked.weights)) ≡ read.by *ℤ bound_sum cells flags (coefficient (added system question.cell question.side multipliers)) =
-    sum_times cells flags read.by (coefficient (refuting_by system cells group question walk.den blocked.weights)) (coefficient (added system question.cell question.side multipliers)) read.by_positive (scaled system cells group question walk.den blocked.weights multipliers read long) in
+    let sums : bound_sum cells flags (coefficient (refuting_by system cells group question walk.den blocked.weights)) ≡ read.by *ℤ bound_sum cells flags (coefficient (terms_added system question.cell question.side multipliers)) =
+    sum_times cells flags read.by (coefficient (refuting_by system cells group question walk.den blocked.weights)) (coefficient (terms_added system question.cell question.side multipliers)) read.by_positive (scaled system cells group question walk.den blocked.weights multipliers read long) in
     let lower : IsBest system cells flags question.cell question.side (asked_move_in question world) world.den =
     best_lower system cells flags question.cell question.side given_world.by (comes_to (number_at walk.values) (problem_of system cells group question).objective) walk.den (asked_move_in question world) world.den given_world.positive num given_world.den both.0 in
     let short : asked_move_in question world <ℤ (world.den *ℤ question.target) =
     below_from_times given_world.by (asked_move_in question world) (world.den *ℤ question.target) given_world.positive (omega (arith, ints, blocked.short, given_world.objective, at_target system cells group question walk world given_world.by problem given_world.den)) in
-    let equal : bound_sum cells flags (coefficient (added system question.cell question.side multipliers)) *ℤ world.den ≡ multipliers.den *ℤ asked_move_in question world =
-    sums_lower read.by given_world.by (bound_sum cells flags (coefficient (refuting_by system cells group question walk.den blocked.weights))) (bound_sum cells flags (coefficient (added system question.cell question.side multipliers))) walk.den multipliers.den walk.den world.den (comes_to (number_at walk.values) (problem_of system cells group question).objective) (asked_move_in question world)
+    let equal : bound_sum cells flags (coefficient (terms_added system question.cell question.side multipliers)) *ℤ world.den ≡ multipliers.den *ℤ asked_move_in question world =
+    sums_lower read.by given_world.by (bound_sum cells flags (coefficient (refuting_by system cells group question walk.den blocked.weights))) (bound_sum cells flags (coefficient (terms_added system question.cell question.side multipliers))) walk.den multipliers.den walk.den world.den (comes_to (number_at walk.values) (problem_of system cells group question).objective) (asked_move_in question world)
     read.by_positive given_world.positive sums read.den_same given_world.den num both.1 in
     record {
       is_world = given_world.is_world;
@@ -231,13 +231,13 @@ does_stop system cells flags group question walk world multipliers best each is 
       below = subst (λ z. best.num <ℤ (z *ℤ question.target)) (sym den_is) (subst (λ z. z <ℤ (world.den *ℤ question.target)) (sym num_is) short);
       is_best = subst (λ z. IsBest system cells flags question.cell question.side best.num z) (sym den_is) (subst (λ z. IsBest system cells flags question.cell question.side z world.den) (sym num_is) lower);
       is_sum = sum;
-      equal = ap (λ z. bound_sum cells flags (coefficient (added system question.cell question.side multipliers)) *ℤ z) den_is ∙ equal ∙ ap (λ z. multipliers.den *ℤ z) (sym num_is);
+      equal = ap (λ z. bound_sum cells flags (coefficient (terms_added system question.cell question.side multipliers)) *ℤ z) den_is ∙ equal ∙ ap (λ z. multipliers.den *ℤ z) (sym num_is);
       product_held = held;
-      refutes = record { q_positive = sum.positive; bounded = sum.bounded; below = sum_below_target (bound_sum cells flags (coefficient (added system question.cell question.side multipliers))) world.den multipliers.den (asked_move_in question world) question.target given_world.is_world.is_world.positive sum.positive equal short };
+      refutes = record { q_positive = sum.positive; bounded = sum.bounded; below = sum_below_target (bound_sum cells flags (coefficient (terms_added system question.cell question.side multipliers))) world.den multipliers.den (asked_move_in question world) question.target given_world.is_world.is_world.positive sum.positive equal short };
     }
 
 -- what is given of numbers above -2^127 is so itself
-pub given_held : (terms : List Term) (c : ℕ) (most : ℤ) → pos 1 ≤ℤ most → All (λ (t : Term). neg_ℤ most <ℤ t.1) terms → neg_ℤ most <ℤ given terms c
+pub given_held : (terms : List Term) (c : ℕ) (most : ℤ) → pos 1 ≤ℤ most → All (λ (t : Term). neg_ℤ most <ℤ t.1) terms → neg_ℤ most <ℤ number_given terms c
 given_held terms c most positive all = from terms (pos 0) (omega (arith, ints, positive)) all
   where
     from : (terms : List Term) (a : ℤ) → neg_ℤ most <ℤ a → All (λ (t : Term). neg_ℤ most <ℤ t.1) terms → neg_ℤ most <ℤ fold (λ number (t : Term). if t.0 == c then t.1 else number) a terms

@@ -17,7 +17,7 @@ use Rattle.tableau.specs.declared.problem.LinRow.{LinRow}
 use Rattle.tableau.specs.declared.problem.Problem.{Problem}
 use Rattle.tableau.specs.ProblemForm.{IsWellFormed}
 use Rattle.tableau.specs.Problems.{rows_of, row_at, target_row, no_row, number_for, AreDuals}
-use Rattle.tableau.specs.Reads.{value_for, values_of, slacks_of}
+use Rattle.tableau.specs.Readings.{value_for, values_of, slacks_of}
 use Rattle.tableau.specs.Solutions.{AreFeasible}
 use Rattle.tableau.specs.Steps.{IsReached, IsBlocked}
 use Rattle.tableau.specs.Tableaus.{TableauWalk}

@@ -14,8 +14,8 @@ use Rattle.sdc_base.proofs.WholeNumbers.{distrib, assoc, times_more, times_up}
 use Rattle.sdc_base.proofs.TotalLemmas.{sum_of-cons, sum_below-same, sum_below-times}
 use Rattle.sdc_base.proofs.WeakDual.{value_of}
 use Rattle.worlds.specs.declared.multipliers.Multipliers.{Multipliers}
-use Rattle.worlds.specs.Listed.{IsListed}
-use Rattle.worlds.specs.RefutationFaults.{added}
+use Rattle.worlds.specs.NumberLists.{IsListed}
+use Rattle.worlds.specs.RefutationFaults.{terms_added}
 use Rattle.interval_audit.specs.declared.question.Question.{Question}
 use Rattle.interval_audit.specs.Groups.{Group, members}
 use Rattle.interval_audit.specs.Labels.{caps_for, labels, met_relations, relation_terms, multiplier}
@@ -40,7 +40,7 @@ AreLong system cells group weights = length (flat_map (caps_for cells) (members 
 
 -- the coefficients are so many times those of the multipliers that are read
 pub scaled : (system : System) (cells : List Cell) (group : Group) (question : Question) (q : ℤ) (weights : List ℤ) (read : Multipliers) (is : AreMultipliersOf system cells group q weights read) → AreLong system cells group weights → (c : ℕ)
-    → coefficient (refuting_by system cells group question q weights) c ≡ is.by *ℤ coefficient (added system question.cell question.side read) c
+    → coefficient (refuting_by system cells group question q weights) c ≡ is.by *ℤ coefficient (terms_added system question.cell question.side read) c
 scaled system cells group question q weights read is long c =
     let F : Numbers = has_at system.relations c in
     let move : ℤ = coefficient (asked_move question.cell question.side) c in
@@ -48,7 +48,7 @@ scaled system cells group question q weights read is long c =
     let value : value_of F counts ≡ is.by *ℤ value_of F read.by_relation =
     counted_value F system.relations cells group system.cells weights long ∙ ap (value_of F) is.each_same ∙ value_times F is.by read.by_relation in
     let asked : q *ℤ move ≡ is.by *ℤ (read.den *ℤ move) = ap (λ z. z *ℤ move) is.den_same ∙ assoc is.by read.den move in
-    let own : coefficient (added system question.cell question.side read) c ≡ read.den *ℤ move +ℤ value_of F read.by_relation = refuting_at system.relations question.cell question.side read.den read.by_relation c in
+    let own : coefficient (terms_added system question.cell question.side read) c ≡ read.den *ℤ move +ℤ value_of F read.by_relation = refuting_at system.relations question.cell question.side read.den read.by_relation c in
     refuting_at system.relations question.cell question.side q counts c
     ∙ omega (arith, ints, value, asked, distrib is.by (read.den *ℤ move) (value_of F read.by_relation))
     ∙ ap (λ z. is.by *ℤ z) (sym own)

@@ -24,7 +24,7 @@ use Rattle.interval_audit.specs.Points.{AreDualWeights, weighed_at}
 use Rattle.interval_audit.specs.declared.question.Question.{Question}
 use Rattle.interval_audit.specs.Groups.{Group, IsGroup}
 use Rattle.interval_audit.specs.Columns.{rank, up_column, down_column, entries_of}
-use Rattle.interval_audit.specs.Labels.{Label, CapAbove, CapBelow, Form, Negated, is_met, labels, rise_at, fall, fall_at, counts, relation_terms}
+use Rattle.interval_audit.specs.Labels.{Label, CapAbove, CapBelow, Form, Negated, is_met, labels, rise_at, fall, fall_at, terms_of_label, relation_terms}
 use Rattle.interval_audit.specs.Problems.{row_of, rows_of, problem_of, asked_move}
 use Rattle.interval_audit.specs.QuestionLaws.{refuting_by, dual_value, DualsBound}
 use Rattle.interval_audit.proofs.Ranks.{rank-less}
@@ -154,7 +154,7 @@ multiples_out system cells flags group asked c (w ∷ rows) is hides out all =
     F : Numbers
     F = has_at system.relations c
 
-    by : (weight : ℤ) (label : Label) → IsLabel system cells group label → value_of F (multiples rows) ≡ pos 0 → value_of F (counts weight label ++ multiples rows) ≡ pos 0
+    by : (weight : ℤ) (label : Label) → IsLabel system cells group label → value_of F (multiples rows) ≡ pos 0 → value_of F (terms_of_label weight label ++ multiples rows) ≡ pos 0
     by weight (CapAbove d) own rest = rest
     by weight (CapBelow d) own rest = rest
     by weight (Form k) own rest = sum_of-cons (λ (t : Term). t.1 *ℤ F t.0) (k, neg_ℤ weight) (multiples rows) ∙ omega (arith, ints, rest, times_none (neg_ℤ weight) (F k) (unnamed_out system cells flags group asked c k is hides out own))

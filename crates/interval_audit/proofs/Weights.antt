@@ -15,7 +15,7 @@ use Rattle.sdc_base.proofs.TotalLemmas.{sum_of-cons, sum_of-append}
 use Rattle.sdc_base.proofs.WeakDual.{value_of}
 use Rattle.interval_audit.specs.Groups.{Group, members}
 use Rattle.interval_audit.specs.Columns.{up_column, down_column}
-use Rattle.interval_audit.specs.Labels.{Label, CapAbove, CapBelow, Form, Negated, caps_for, forms_for, met_relations, labels, form_at, rise_at, fall_at, counts}
+use Rattle.interval_audit.specs.Labels.{Label, CapAbove, CapBelow, Form, Negated, caps_for, forms_for, met_relations, labels, form_at, rise_at, fall_at, terms_of_label}
 use Rattle.interval_audit.specs.Problems.{row_of}
 use Rattle.interval_audit.proofs.Ranks.{All-members}
 use Rattle.interval_audit.proofs.Members.{All-flat}
@@ -47,7 +47,7 @@ abbrev pub belows : List Weighed → List Term
 belows rows = flat_map (λ w. belows_for w.0 w.1) rows
 
 abbrev pub multiples : List Weighed → List Term
-multiples rows = flat_map (λ w. counts w.0 w.1) rows
+multiples rows = flat_map (λ w. terms_of_label w.0 w.1) rows
 
 -- whether a cell has an upper bound
 abbrev pub is_bounded : List Cell → ℕ → Bool
@@ -105,7 +105,7 @@ same_column column own b weight is =
     ap (λ z. weight *ℤ z) (one_term column own (pos 1) ∙ ap (λ t. if t then pos 1 else pos 0) is) ∙ sym (chosen b weight)
 
 at_up : (system : System) (cells : List Cell) (group : Group) (c : ℕ) (weight : ℤ) (label : Label) → c < system.cells → group c ≡ true → IsLabel system cells group label
-    → weight *ℤ coefficient (row_of system cells group label).entries (up_column group c) ≡ coefficient (aboves_for weight label) c -ℤ value_of (has_at system.relations c) (counts weight label)
+    → weight *ℤ coefficient (row_of system cells group label).entries (up_column group c) ≡ coefficient (aboves_for weight label) c -ℤ value_of (has_at system.relations c) (terms_of_label weight label)
 at_up system cells group c weight (CapAbove d) below own is =
     same_column (up_column group c) (up_column group d) (d == c) weight (up_up group d c is.1 own) ∙ omega (arith, ints, one_term c d weight)
 at_up system cells group c weight (CapBelow d) below own is =
@@ -121,7 +121,7 @@ at_up system cells group c weight (Negated number) below own is =
     one_times z = omega (arith, ints)
 
 at_down : (system : System) (cells : List Cell) (group : Group) (c : ℕ) (weight : ℤ) (label : Label) → c < system.cells → group c ≡ true → IsLabel system cells group label
-    → weight *ℤ coefficient (row_of system cells group label).entries (down_column group c) ≡ coefficient (belows_for weight label) c +ℤ value_of (has_at system.relations c) (counts weight label)
+    → weight *ℤ coefficient (row_of system cells group label).entries (down_column group c) ≡ coefficient (belows_for weight label) c +ℤ value_of (has_at system.relations c) (terms_of_label weight label)
 at_down system cells group c weight (CapAbove d) below own is =
     same_column (down_column group c) (up_column group d) false weight (up_down group d c) ∙ omega (arith, ints)
 at_down system cells group c weight (CapBelow d) below own is =
@@ -155,14 +155,14 @@ pub all_up : (system : System) (cells : List Cell) (group : Group) (c : ℕ) (ro
 all_up system cells group c [] below own all = refl
 all_up system cells group c (w ∷ rows) below own all =
     sum_of-cons (λ (w : Weighed). w.0 *ℤ coefficient (row_of system cells group w.1).entries (up_column group c)) w rows
-    ∙ omega (arith, ints, at_up system cells group c w.0 w.1 below own (All-head (λ (w : Weighed). IsLabel system cells group w.1) w rows all), all_up system cells group c rows below own (All-tail (λ (w : Weighed). IsLabel system cells group w.1) w rows all), coefficient-append (aboves_for w.0 w.1) (aboves rows) c, value-append (has_at system.relations c) (counts w.0 w.1) (multiples rows))
+    ∙ omega (arith, ints, at_up system cells group c w.0 w.1 below own (All-head (λ (w : Weighed). IsLabel system cells group w.1) w rows all), all_up system cells group c rows below own (All-tail (λ (w : Weighed). IsLabel system cells group w.1) w rows all), coefficient-append (aboves_for w.0 w.1) (aboves rows) c, value-append (has_at system.relations c) (terms_of_label w.0 w.1) (multiples rows))
 
 pub all_down : (system : System) (cells : List Cell) (group : Group) (c : ℕ) (rows : List Weighed) → c < system.cells → group c ≡ true → All (λ (w : Weighed). IsLabel system cells group w.1) rows
     → sum_of (λ (w : Weighed). w.0 *ℤ coefficient (row_of system cells group w.1).entries (down_column group c)) rows ≡ coefficient (belows rows) c +ℤ value_of (has_at system.relations c) (multiples rows)
 all_down system cells group c [] below own all = refl
 all_down system cells group c (w ∷ rows) below own all =
     sum_of-cons (λ (w : Weighed). w.0 *ℤ coefficient (row_of system cells group w.1).entries (down_column group c)) w rows
-    ∙ omega (arith, ints, at_down system cells group c w.0 w.1 below own (All-head (λ (w : Weighed). IsLabel system cells group w.1) w rows all), all_down system cells group c rows below own (All-tail (λ (w : Weighed). IsLabel system cells group w.1) w rows all), coefficient-append (belows_for w.0 w.1) (belows rows) c, value-append (has_at system.relations c) (counts w.0 w.1) (multiples rows))
+    ∙ omega (arith, ints, at_down system cells group c w.0 w.1 below own (All-head (λ (w : Weighed). IsLabel system cells group w.1) w rows all), all_down system cells group c rows below own (All-tail (λ (w : Weighed). IsLabel system cells group w.1) w rows all), coefficient-append (belows_for w.0 w.1) (belows rows) c, value-append (has_at system.relations c) (terms_of_label w.0 w.1) (multiples rows))
 
 pub all_bounds : (system : System) (cells : List Cell) (group : Group) (rows : List Weighed) → sum_of (λ (w : Weighed). w.0 *ℤ (row_of system cells group w.1).bound) rows ≡ value_of (rise_at cells) (aboves rows) +ℤ value_of (fall_at cells) (belows rows)
 all_bounds system cells group [] = refl

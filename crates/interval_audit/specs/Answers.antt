@@ -5,9 +5,9 @@ use Rattle.sdc_base.specs.declared.cell.Cell.{Cell}
 use Rattle.sdc_base.specs.declared.system.System.{System}
 use Rattle.sdc_base.specs.Forms.{coefficient}
 use Rattle.sdc_base.specs.Refutations.{bound_sum, IsRefutation}
-use Rattle.sdc_base.specs.Worlds.{toward}
+use Rattle.sdc_base.specs.Worlds.{amount_toward}
 use Rattle.interval_audit.specs.Points.{number_at}
-use Rattle.tableau.specs.Reads.{values_of, slacks_of}
+use Rattle.tableau.specs.Readings.{values_of, slacks_of}
 use Rattle.tableau.specs.Steps.{IsReached, IsBlocked}
 use Rattle.tableau.specs.Tableaus.{TableauWalk, IsTableauWalk}
 use Rattle.tableau.specs.Widths.{IsWideStep}
@@ -16,9 +16,9 @@ use Rattle.tableau.specs.declared.step.Step.TheVariants.{Improved, Reached, Bloc
 use Rattle.worlds.specs.declared.faults.RefutationFault.TheVariants as refutation
 use Rattle.worlds.specs.declared.world.World.{World}
 use Rattle.worlds.specs.declared.multipliers.Multipliers.{Multipliers}
-use Rattle.worlds.specs.Listed.{terms_of, given}
+use Rattle.worlds.specs.NumberLists.{terms_of, number_given}
 use Rattle.worlds.specs.WorldFaults.{IsGivenWorld}
-use Rattle.worlds.specs.RefutationFaults.{IsGivenSum, added, summed}
+use Rattle.worlds.specs.RefutationFaults.{IsGivenSum, terms_added, sum_of_bounds}
 use Rattle.interval_audit.specs.declared.question.Question.{Question}
 use Rattle.interval_audit.specs.declared.answer.Fraction.{Fraction}
 use Rattle.interval_audit.specs.declared.answer.Answer.{Answer}
@@ -34,31 +34,36 @@ use Rattle.interval_audit.specs.Readings.{IsWorldOf, AreMultipliersOf}
 
 -- how far the asked cell moves to its side in a world that is given, over its denominator
 abbrev pub asked_move_in : Question → World → ℤ
-asked_move_in question world = toward question.side (given (terms_of world.moves) question.cell)
+asked_move_in question world = amount_toward question.side (number_given (terms_of world.moves) question.cell)
 
 -- the world takes the asked cell exactly to the target
-pub record ReachesTarget (system : System) (cells : List Cell) (flags : List Bool) (question : Question) (world : World) : Type 0 where
+pub record ReachesTarget (system : System) (cells : List Cell) (flags : List Bool) (question : Question)
+    (world : World) : Type 0 where
   pub is_world : IsGivenWorld system cells flags world
   pub exactly : asked_move_in question world ≡ world.den *ℤ question.target
 
--- The asked cell stops at the best value, below the target: the world takes it there, no world takes it further, and what the
--- multipliers bound is exactly that, with no number on the way wider than 128 bits, the target times their denominator included. So
--- they refute the target.
-pub record StopsShort (system : System) (cells : List Cell) (flags : List Bool) (question : Question) (best : Fraction) (world : World) (multipliers : Multipliers) : Type 0 where
+-- The asked cell stops at the best value, below the target: the world takes it there, no world takes it further, and
+-- what the multipliers bound is exactly that, with no number on the way wider than 128 bits, the target times their
+-- denominator included. So they refute the target.
+pub record StopsShort (system : System) (cells : List Cell) (flags : List Bool) (question : Question) (best : Fraction)
+    (world : World) (multipliers : Multipliers) : Type 0 where
   pub is_world : IsGivenWorld system cells flags world
   pub den : best.den ≡ world.den
   pub num : best.num ≡ asked_move_in question world
   pub below : best.num <ℤ (best.den *ℤ question.target)
   pub is_best : IsBest system cells flags question.cell question.side best.num best.den
   pub is_sum : IsGivenSum system cells flags question.cell question.side multipliers
-  pub equal : bound_sum cells flags (coefficient (added system question.cell question.side multipliers)) *ℤ best.den ≡ multipliers.den *ℤ best.num
+  pub equal : bound_sum cells flags (coefficient (terms_added system question.cell question.side multipliers)) *ℤ
+      best.den ≡ multipliers.den *ℤ best.num
   pub product_held : FitsSigned w128 (multipliers.den *ℤ question.target)
-  pub refutes : IsRefutation system cells flags question.cell question.side question.target multipliers.den multipliers.by_relation
+  pub refutes : IsRefutation system cells flags question.cell question.side question.target multipliers.den
+      multipliers.by_relation
 
 -- the answer is right
 abbrev pub IsTrueAnswer : System → List Cell → List Bool → Question → Answer → Type 0
 IsTrueAnswer system cells flags question (Reaches world) = ReachesTarget system cells flags question world
-IsTrueAnswer system cells flags question (Stops best world multipliers) = StopsShort system cells flags question best world multipliers
+IsTrueAnswer system cells flags question (Stops best world multipliers) = StopsShort system cells flags question best
+    world multipliers
 
 -- the walk has come to its end: it is reached or blocked
 abbrev pub HasEnded : TableauWalk → Type 0
@@ -73,47 +78,67 @@ IsStepOutcome before after (Wide row column) = (after ≡ before) × IsWideStep 
 
 -- the answer is read off where a walk has ended
 abbrev pub IsReadOff : System → List Cell → Group → TableauWalk → Answer → Type 0
-IsReadOff system cells group walk (Reaches world) = IsReached walk.problem walk.table × IsWorldOf system group walk.table.den (number_at (values_of walk.problem walk.table)) world
+IsReadOff system cells group walk (Reaches world) = IsReached walk.problem walk.table
+    × IsWorldOf system group walk.table.den (number_at (values_of walk.problem walk.table)) world
 IsReadOff system cells group walk (Stops best world multipliers) =
-    IsBlocked walk.problem walk.table × IsWorldOf system group walk.table.den (number_at (values_of walk.problem walk.table)) world × AreMultipliersOf system cells group walk.table.den (slacks_of walk.problem walk.table) multipliers
+    IsBlocked walk.problem walk.table × IsWorldOf system group walk.table.den
+    (number_at (values_of walk.problem walk.table)) world
+    × AreMultipliersOf system cells group walk.table.den (slacks_of walk.problem walk.table) multipliers
 
 -- the answer is read off the end of a walk on the problem of the question
 abbrev pub IsWalkAnswerIn : System → List Cell → Group → Question → Answer → Type 0
-IsWalkAnswerIn system cells group question answer = (walk : TableauWalk) × IsTableauWalk walk × (walk.problem ≡ problem_of system cells group question) × IsReadOff system cells group walk answer
+IsWalkAnswerIn system cells group question answer =
+    (walk : TableauWalk) × IsTableauWalk walk × (walk.problem ≡ problem_of system cells group question)
+    × IsReadOff system cells group walk answer
 
--- the check of multipliers needs at a cell a number wider than 128 bits: for their sum, or, at the asked cell, for the target times
--- their denominator
+-- the check of multipliers needs at a cell a number wider than 128 bits: for their sum, or, at the asked cell, for the
+-- target times their denominator
 abbrev pub NeedsWideNumber : System → List Cell → List Bool → Question → Multipliers → ℕ → Type 0
 NeedsWideNumber system cells flags question multipliers cell =
-    (summed system cells flags question.cell question.side multipliers ≡ Err (refutation.Wide cell))
-    ⊎ ((cell ≡ question.cell) × IsGivenSum system cells flags question.cell question.side multipliers × (¬ FitsSigned w128 (multipliers.den *ℤ question.target)))
+    (sum_of_bounds system cells flags question.cell question.side multipliers ≡ Err (refutation.Wide cell))
+    ⊎ ((cell ≡ question.cell) × IsGivenSum system cells flags question.cell question.side multipliers
+    × (¬ FitsSigned w128 (multipliers.den *ℤ question.target)))
 
 -- a number wider than 128 bits is needed at this place of a walk
 abbrev pub NeedsWideAt : System → List Cell → List Bool → Group → Question → TableauWalk → WidePlace → Type 0
 NeedsWideAt system cells flags group question walk (Pivot row column) = IsWideStep walk.problem walk.table row column
 NeedsWideAt system cells flags group question walk (Refutation cell) =
-    IsBlocked walk.problem walk.table × (multipliers : Multipliers) × AreMultipliersOf system cells group walk.table.den (slacks_of walk.problem walk.table) multipliers × NeedsWideNumber system cells flags question multipliers cell
+    IsBlocked walk.problem walk.table × (multipliers : Multipliers)
+    × AreMultipliersOf system cells group walk.table.den (slacks_of walk.problem walk.table) multipliers
+    × NeedsWideNumber system cells flags question multipliers cell
 
--- Why there is no answer. A component of more than 1,500 cells is looked for first, so every other cause but want of memory, which
--- is free, comes only where there are at most so many.
+-- Why there is no answer. A component of more than 1,500 cells is looked for first, so every other cause but want of
+-- memory, which is free, comes only where there are at most so many.
 abbrev pub IsCauseIn : System → List Cell → List Bool → Group → Question → ℕ → AskFault → Type 0
 IsCauseIn system cells flags group question limit (fault.Work walk) =
-    (walk.question ≡ question) × (walk.tableau.problem ≡ problem_of system cells group question) × (walk.tableau.improved ≡ limit) × (¬ HasEnded walk.tableau) × (length (members group system.cells) ≤ 1500)
+    (walk.question ≡ question) × (walk.tableau.problem ≡ problem_of system cells group question)
+    × (walk.tableau.improved ≡ limit) × (¬ HasEnded walk.tableau) × (length (members group system.cells) ≤ 1500)
 IsCauseIn system cells flags group question limit (fault.Wide walk place) =
-    (walk.question ≡ question) × (walk.tableau.problem ≡ problem_of system cells group question) × NeedsWideAt system cells flags group question walk.tableau place × (length (members group system.cells) ≤ 1500)
-IsCauseIn system cells flags group question limit (fault.Size asked hidden) = (asked ≡ question) × (hidden ≡ length (members group system.cells)) × (1500 < hidden)
+    (walk.question ≡ question) × (walk.tableau.problem ≡ problem_of system cells group question)
+    × NeedsWideAt system cells flags group question walk.tableau place
+    × (length (members group system.cells) ≤ 1500)
+IsCauseIn system cells flags group question limit (fault.Size asked hidden) = (asked ≡ question)
+    × (hidden ≡ length (members group system.cells)) × (1500 < hidden)
 IsCauseIn system cells flags group question limit fault.Memory = Unit {0}
 
 -- the answer is read off the end of the walk of the question in its component
 abbrev pub IsWalkAnswer : System → List Cell → List Bool → Question → Answer → Type 0
-IsWalkAnswer system cells flags question answer = (group : Group) × IsComponentOf system.relations flags question.cell group × (length (members group system.cells) ≤ 1500) × IsWalkAnswerIn system cells group question answer
+IsWalkAnswer system cells flags question answer =
+    (group : Group) × IsComponentOf system.relations flags question.cell group
+    × (length (members group system.cells) ≤ 1500) × IsWalkAnswerIn system cells group question answer
 
 -- why the question has no answer; want of memory is free
 abbrev pub IsCauseOf : System → List Cell → List Bool → Question → ℕ → AskFault → Type 0
 IsCauseOf system cells flags question limit fault.Memory = Unit {0}
-IsCauseOf system cells flags question limit (fault.Work walk) = (group : Group) × IsComponentOf system.relations flags question.cell group × IsCauseIn system cells flags group question limit (fault.Work walk)
-IsCauseOf system cells flags question limit (fault.Wide walk place) = (group : Group) × IsComponentOf system.relations flags question.cell group × IsCauseIn system cells flags group question limit (fault.Wide walk place)
-IsCauseOf system cells flags question limit (fault.Size asked hidden) = (group : Group) × IsComponentOf system.relations flags question.cell group × IsCauseIn system cells flags group question limit (fault.Size asked hidden)
+IsCauseOf system cells flags question limit (fault.Work walk) = (group : Group)
+    × IsComponentOf system.relations flags question.cell group
+    × IsCauseIn system cells flags group question limit (fault.Work walk)
+IsCauseOf system cells flags question limit (fault.Wide walk place) = (group : Group)
+    × IsComponentOf system.relations flags question.cell group
+    × IsCauseIn system cells flags group question limit (fault.Wide walk place)
+IsCauseOf system cells flags question limit (fault.Size asked hidden) = (group : Group)
+    × IsComponentOf system.relations flags question.cell group
+    × IsCauseIn system cells flags group question limit (fault.Size asked hidden)
 
 -- what a question is answered with is one: its walk has one end, and what is read there in lowest terms is one
 abbrev pub AnswerIsOne : Type 0

@@ -20,11 +20,13 @@ down_column group cell = 2 * rank group cell + 1
 
 -- the moves of cells: up less down, and 0 outside of the group
 abbrev pub moves_of : Group → Numbers → Numbers
-moves_of group amounts cell = if group cell then amounts (up_column group cell) -ℤ amounts (down_column group cell) else pos 0
+moves_of group amounts cell =
+    if group cell then amounts (up_column group cell) -ℤ amounts (down_column group cell) else pos 0
 
 -- a multiple of a cell's move: so much of its up, and as much less of its down; no entries where it is 0
 abbrev pub entries_for : Group → ℕ → ℤ → List Term
-entries_for group cell k = if int_eq k (pos 0) then [] else (up_column group cell, k) ∷ (down_column group cell, neg_ℤ k) ∷ []
+entries_for group cell k =
+    if int_eq k (pos 0) then [] else (up_column group cell, k) ∷ (down_column group cell, neg_ℤ k) ∷ []
 
 -- multiples of cells, at the columns of the cells of the group, ascending
 abbrev pub entries_of : Group → ℕ → List Term → List Term

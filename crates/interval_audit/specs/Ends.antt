@@ -17,18 +17,22 @@ pub record IsEndQuestion (cell : ℕ) (side : Side) (question : Question) : Type
 
 -- the answer of such a question is right
 abbrev pub IsTrueEnd : System → List Cell → List Bool → ℕ → Side → Answer → Type 0
-IsTrueEnd system cells flags cell side answer = (question : Question) × IsEndQuestion cell side question × IsTrueAnswer system cells flags question answer
+IsTrueEnd system cells flags cell side answer =
+    (question : Question) × IsEndQuestion cell side question × IsTrueAnswer system cells flags question answer
 
 -- the answer of such a question is read off the end of the walk in its component
 abbrev pub IsWalkEnd : System → List Cell → List Bool → ℕ → Side → Answer → Type 0
-IsWalkEnd system cells flags cell side answer = (question : Question) × IsEndQuestion cell side question × IsWalkAnswer system cells flags question answer
+IsWalkEnd system cells flags cell side answer =
+    (question : Question) × IsEndQuestion cell side question × IsWalkAnswer system cells flags question answer
 
 -- such a question has no answer for this cause
 abbrev pub IsEndCause : System → List Cell → List Bool → ℕ → Side → ℕ → AskFault → Type 0
-IsEndCause system cells flags cell side limit fault = (question : Question) × IsEndQuestion cell side question × IsCauseOf system cells flags question limit fault
+IsEndCause system cells flags cell side limit fault =
+    (question : Question) × IsEndQuestion cell side question × IsCauseOf system cells flags question limit fault
 
 -- The fault is one of the question below, or one of the question above where that below has an answer.
 abbrev pub IsIntervalCause : System → List Cell → List Bool → ℕ → ℕ → AskFault → Type 0
 IsIntervalCause system cells flags cell limit fault =
     IsEndCause system cells flags cell Below limit fault
-    ⊎ ((answer : Answer) × IsTrueEnd system cells flags cell Below answer × IsWalkEnd system cells flags cell Below answer × IsEndCause system cells flags cell Above limit fault)
+    ⊎ ((answer : Answer) × IsTrueEnd system cells flags cell Below answer
+    × IsWalkEnd system cells flags cell Below answer × IsEndCause system cells flags cell Above limit fault)

@@ -9,8 +9,8 @@ use Rattle.sdc_base.specs.Refutations.{rise}
 use Rattle.sdc_base.specs.Systems.{Numbers}
 use Rattle.interval_audit.specs.Groups.{Group, members}
 
--- what a row keeps: a cell goes up at most as far as its upper bound, or down at most as far as its lower one; a relation's form is
--- at most 0, or its negated form is
+-- what a row keeps: a cell goes up at most as far as its upper bound, or down at most as far as its lower one; a
+-- relation's form is at most 0, or its negated form is
 pub data Label : Type 0 where
   CapAbove : (cell : ℕ) → Label
   CapBelow : (cell : ℕ) → Label
@@ -20,7 +20,8 @@ pub data Label : Type 0 where
 -- the caps of a cell: above where there is an upper bound, and below
 abbrev pub caps_for : List Cell → ℕ → List Label
 caps_for cells number =
-    if option_map_or (λ cell. is_some cell.high) (slice_get cells number) false then CapAbove number ∷ CapBelow number ∷ [] else CapBelow number ∷ []
+    if option_map_or (λ cell. is_some cell.high) (slice_get cells number) false
+    then CapAbove number ∷ CapBelow number ∷ [] else CapBelow number ∷ []
 
 -- a cell of the group stands in the relation
 abbrev pub is_met : Group → Relation → Bool
@@ -28,7 +29,9 @@ is_met group r = group r.total || list_any group r.parts
 
 -- the relations in which a cell of the group stands, ascending
 abbrev pub met_relations : Group → List Relation → List ℕ
-met_relations group relations = filter (λ number. option_map_or (is_met group) (slice_get relations number) false) (range_with_len 0 (length relations))
+met_relations group relations =
+    filter (λ number. option_map_or (is_met group) (slice_get relations number) false)
+    (range_with_len 0 (length relations))
 
 -- a relation's form, and its negated form
 abbrev pub forms_for : ℕ → List Label
@@ -36,7 +39,8 @@ forms_for number = Form number ∷ Negated number ∷ []
 
 -- the rows in their order: the caps of each cell of the group, then the forms of each relation that is met
 abbrev pub labels : List Relation → List Cell → Group → ℕ → List Label
-labels relations cells group n = flat_map (caps_for cells) (members group n) ++ flat_map forms_for (met_relations group relations)
+labels relations cells group n =
+    flat_map (caps_for cells) (members group n) ++ flat_map forms_for (met_relations group relations)
 
 -- a relation's form so many times, as multiples of cells
 abbrev pub form_at : List Relation → ℤ → ℕ → List Term
@@ -55,15 +59,15 @@ abbrev pub fall_at : List Cell → Numbers
 fall_at cells number = option_map_or fall (slice_get cells number) (pos 0)
 
 -- what a weight at a row counts as a multiplier of a relation: at its negated form so much, at its form as much less
-abbrev pub counts : ℤ → Label → List Term
-counts weight (CapAbove cell) = []
-counts weight (CapBelow cell) = []
-counts weight (Form number) = (number, neg_ℤ weight) ∷ []
-counts weight (Negated number) = (number, weight) ∷ []
+abbrev pub terms_of_label : ℤ → Label → List Term
+terms_of_label weight (CapAbove cell) = []
+terms_of_label weight (CapBelow cell) = []
+terms_of_label weight (Form number) = (number, neg_ℤ weight) ∷ []
+terms_of_label weight (Negated number) = (number, weight) ∷ []
 
 -- what weights of rows count as multipliers of relations
 abbrev pub relation_terms : List ℤ → List Label → List Term
-relation_terms weights rows = flat_map (λ w. counts w.0 w.1) (zip weights rows)
+relation_terms weights rows = flat_map (λ w. terms_of_label w.0 w.1) (zip weights rows)
 
 -- the multiplier of a relation: the weight at its negated form, less that at its form
 abbrev pub multiplier : List ℤ → List Label → Numbers

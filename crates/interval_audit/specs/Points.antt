@@ -11,8 +11,8 @@ use Rattle.tableau.specs.declared.problem.Problem.{Problem}
 abbrev pub comes_to : Numbers → List Term → ℤ
 comes_to amounts entries = sum_of (λ entry. entry.1 *ℤ amounts entry.0) entries
 
--- A point of a problem without its target: amounts of the columns over a denominator, none below 0, and every row at most its
--- bound.
+-- A point of a problem without its target: amounts of the columns over a denominator, none below 0, and every row at
+-- most its bound.
 pub record IsPoint (problem : Problem) (den : ℤ) (amounts : Numbers) : Type 0 where
   pub positive : pos 1 ≤ℤ den
   pub from_zero : (column : ℕ) → column < problem.columns → pos 0 ≤ℤ amounts column
@@ -35,10 +35,11 @@ weighed_at weighed column = sum_of (λ w. w.0 *ℤ coefficient w.1.entries colum
 abbrev pub weighed_bounds : List (ℤ × LinRow) → ℤ
 weighed_bounds weighed = sum_of (λ w. w.0 *ℤ w.1.bound) weighed
 
--- Dual multipliers of a problem over q, the target's row not weighed: a weight from 0 for each row, by which the rows have at each
--- column at least q times what the objective has there.
+-- Dual multipliers of a problem over q, the target's row not weighed: a weight from 0 for each row, by which the rows
+-- have at each column at least q times what the objective has there.
 pub record AreDualWeights (problem : Problem) (q : ℤ) (weights : List ℤ) : Type 0 where
   pub positive : pos 1 ≤ℤ q
   pub each : length weights ≡ length problem.rows
   pub from_zero : All (λ weight. pos 0 ≤ℤ weight) weights
-  pub enough : (column : ℕ) → column < problem.columns → (q *ℤ coefficient problem.objective column) ≤ℤ weighed_at (zip weights problem.rows) column
+  pub enough : (column : ℕ) → column < problem.columns
+      → (q *ℤ coefficient problem.objective column) ≤ℤ weighed_at (zip weights problem.rows) column

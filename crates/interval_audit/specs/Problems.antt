@@ -7,7 +7,7 @@ use Rattle.sdc_base.specs.declared.system.System.{System}
 use Rattle.sdc_base.specs.declared.relation.Relation.{Relation}
 use Rattle.sdc_base.specs.Forms.{Term, form_times}
 use Rattle.sdc_base.specs.Refutations.{rise}
-use Rattle.sdc_base.specs.Worlds.{toward}
+use Rattle.sdc_base.specs.Worlds.{amount_toward}
 use Rattle.tableau.specs.declared.problem.LinRow.{LinRow}
 use Rattle.tableau.specs.declared.problem.Problem.{Problem}
 use Rattle.interval_audit.specs.declared.question.Question.{Question}
@@ -21,26 +21,33 @@ row entries bound = record { entries = entries; bound = bound }
 
 -- the rows of a cell's caps at its two columns: above where there is an upper bound, and below
 abbrev pub cap_rows : ℕ → ℕ → Cell → List LinRow
-cap_rows up down cell = if is_some cell.high then row ((up, pos 1) ∷ []) (rise cell) ∷ row ((down, pos 1) ∷ []) (fall cell) ∷ [] else row ((down, pos 1) ∷ []) (fall cell) ∷ []
+cap_rows up down cell =
+    if is_some cell.high then row ((up, pos 1) ∷ []) (rise cell) ∷ row ((down, pos 1) ∷ []) (fall cell) ∷ []
+    else row ((down, pos 1) ∷ []) (fall cell) ∷ []
 
 -- the two rows of a relation: its form, and its negated form, at most 0
 abbrev pub form_rows : Group → ℕ → Relation → List LinRow
-form_rows group n r = row (entries_of group n (form_times (pos 1) r)) (pos 0) ∷ row (entries_of group n (form_times (negsuc 0) r)) (pos 0) ∷ []
+form_rows group n r =
+    row (entries_of group n (form_times (pos 1) r)) (pos 0) ∷ row (entries_of group n (form_times (negsuc 0) r)) (pos 0)
+    ∷ []
 
 -- the row with a label
 abbrev pub row_of : System → List Cell → Group → Label → LinRow
 row_of system cells group (CapAbove cell) = row ((up_column group cell, pos 1) ∷ []) (rise_at cells cell)
 row_of system cells group (CapBelow cell) = row ((down_column group cell, pos 1) ∷ []) (fall_at cells cell)
-row_of system cells group (Form number) = row (entries_of group system.cells (form_at system.relations (pos 1) number)) (pos 0)
-row_of system cells group (Negated number) = row (entries_of group system.cells (form_at system.relations (negsuc 0) number)) (pos 0)
+row_of system cells group (Form number) = row (entries_of group system.cells (form_at system.relations (pos 1) number))
+    (pos 0)
+row_of system cells group (Negated number) = row
+    (entries_of group system.cells (form_at system.relations (negsuc 0) number)) (pos 0)
 
 -- the asked cell's move to a side, as a multiple of cells
 abbrev pub asked_move : ℕ → Side → List Term
-asked_move asked side = (asked, toward side (pos 1)) ∷ []
+asked_move asked side = (asked, amount_toward side (pos 1)) ∷ []
 
 -- the rows of the relations that are met
 abbrev pub met_rows : System → List Cell → Group → List LinRow
-met_rows system cells group = map (row_of system cells group) (flat_map forms_for (met_relations group system.relations))
+met_rows system cells group =
+    map (row_of system cells group) (flat_map forms_for (met_relations group system.relations))
 
 -- the rows of a question's problem
 abbrev pub rows_of : System → List Cell → Group → List LinRow

@@ -9,13 +9,16 @@ use Rattle.interval_audit.specs.declared.answer.AskFault.TheVariants as fault
 use Rattle.interval_audit.specs.Groups.{Group, IsComponentOf}
 use Rattle.interval_audit.specs.Problems.{problem_of}
 
--- how many sets of columns and slacks the question's problem has; no basis comes twice in a walk, so it makes fewer steps
+-- how many sets of columns and slacks the question's problem has; no basis comes twice in a walk, so it makes fewer
+-- steps
 abbrev pub walk_bound : System → List Cell → Group → Question → ℕ
 walk_bound system cells group question = 2 ^ numbers_of (problem_of system cells group question)
 
 -- the limit is at least this bound, in the asked cell's component
 abbrev pub IsAmple : System → List Cell → List Bool → Question → ℕ → Type 0
-IsAmple system cells flags question limit = (group : Group) → IsComponentOf system.relations flags question.cell group → walk_bound system cells group question ≤ limit
+IsAmple system cells flags question limit =
+    (group : Group) → IsComponentOf system.relations flags question.cell group
+    → walk_bound system cells group question ≤ limit
 
 -- the fault is no walk that was cut off at its limit
 abbrev pub IsNotCutOff : AskFault → Type 0

@@ -2,11 +2,12 @@
 use Rattle.std.specs.Prelude.{◌≡◌, ℕ, List, [], ◌∷◌, ◌++◌, length, ℤ, pos, ◌*ℤ◌, ◌<ℤ◌, ◌⊎◌}
 use Rattle.std.specs.List.{zip}
 use Rattle.tableau.specs.declared.problem.Problem.{Problem}
-use Rattle.tableau.specs.Reads.{values_of, slacks_of}
+use Rattle.tableau.specs.Readings.{values_of, slacks_of}
 use Rattle.tableau.specs.Tableaus.{TableauWalk}
 use Rattle.interval_audit.specs.Points.{IsPoint, AreDualWeights, comes_to, number_at, weighed_bounds}
 
--- what is read where a walk on a problem stands: the denominator, the columns' values and the objective's numbers at the slacks
+-- what is read where a walk on a problem stands: the denominator, the columns' values and the objective's numbers at
+-- the slacks
 pub record WalkState : Type 0 where
   pub problem : Problem
   pub improved : ℕ

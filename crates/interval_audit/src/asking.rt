@@ -2,8 +2,9 @@ ghost use Rattle.std.specs.Prelude.{◌≡◌, ◌≤◌, ◌<◌, ◌^◌, ◌-
 ghost use Rattle.sdc_base.specs.Grounds.{IsGround};
 ghost use Rattle.sdc_base.specs.HiddenSets.{is_hidden};
 ghost use Rattle.interval_audit.specs.Answers.{IsTrueAnswer, IsWalkAnswerIn, IsCauseIn, IsWalkAnswer, IsCauseOf, IsStepOutcome};
-ghost use Rattle.interval_audit.specs.Groups.{Group, IsComponentOf, IsGroup, group_of, members as members_meant};
-ghost use Rattle.interval_audit.specs.Problems.{problem_of as problem_meant};
+ghost use Rattle.interval_audit.specs.Groups.{Group, IsComponentOf, IsGroup, group_of};
+ghost use Rattle.interval_audit.specs.Groups as groups;
+ghost use Rattle.interval_audit.specs.Problems as problems;
 ghost use Rattle.interval_audit.specs.WalkLimits.{IsAmple, IsCutBelow, IsNotCutOff};
 
 use crate::answer::{Answer, AskFault, Walk, WidePlace};
@@ -57,7 +58,8 @@ pub fn ask(
     ensures right { IfOk result (λ answer. IsTrueAnswer system.now cells.now hidden.now.flags question answer) }
     ensures read { IfOk result (λ answer. IsWalkAnswer system.now cells.now hidden.now.flags question answer) }
     ensures cause { IfErr result (λ fault. IsCauseOf system.now cells.now hidden.now.flags question limit fault) }
-    ensures short { IsAmple system.now cells.now hidden.now.flags question limit → IfErr result (λ fault. IsNotCutOff fault) }
+    ensures short { IsAmple system.now cells.now hidden.now.flags question limit
+        → IfErr result (λ fault. IsNotCutOff fault) }
 {
     let grouping = components(alloc, system, hidden)?;
     let of = grouping.of.as_slice();
@@ -85,10 +87,15 @@ pub fn ask(
 
 // The answer of a walk of at most so many improvements.
 fn walk_on(alloc: Global, inquiry: &Inquiry<'_>, limit: u64) -> Result<Answer, AskFault>
-    ensures right { IfOk result (λ answer. IsTrueAnswer inquiry.now.system.now inquiry.now.cells.now inquiry.now.hidden.now.flags inquiry.now.question answer) }
-    ensures read { IfOk result (λ answer. IsWalkAnswerIn inquiry.now.system.now inquiry.now.cells.now (group_of inquiry.now.of.now inquiry.now.question.cell) inquiry.now.question answer) }
-    ensures cause { IfErr result (λ fault. IsCauseIn inquiry.now.system.now inquiry.now.cells.now inquiry.now.hidden.now.flags (group_of inquiry.now.of.now inquiry.now.question.cell) inquiry.now.question limit fault) }
-    ensures short { IfErr result (λ fault. IsCutBelow inquiry.now.system.now inquiry.now.cells.now (group_of inquiry.now.of.now inquiry.now.question.cell) inquiry.now.question limit fault) }
+    ensures right { IfOk result (λ answer. IsTrueAnswer inquiry.now.system.now inquiry.now.cells.now
+        inquiry.now.hidden.now.flags inquiry.now.question answer) }
+    ensures read { IfOk result (λ answer. IsWalkAnswerIn inquiry.now.system.now inquiry.now.cells.now
+        (group_of inquiry.now.of.now inquiry.now.question.cell) inquiry.now.question answer) }
+    ensures cause { IfErr result (λ fault. IsCauseIn inquiry.now.system.now inquiry.now.cells.now
+        inquiry.now.hidden.now.flags (group_of inquiry.now.of.now inquiry.now.question.cell) inquiry.now.question limit
+        fault) }
+    ensures short { IfErr result (λ fault. IsCutBelow inquiry.now.system.now inquiry.now.cells.now
+        (group_of inquiry.now.of.now inquiry.now.question.cell) inquiry.now.question limit fault) }
 {
     let question = inquiry.question;
     let problem = problem_over(

@@ -2,8 +2,8 @@ ghost use Rattle.std.specs.Prelude.{◌≡◌, ◌<◌, ◌≤ℤ◌, ◌*ℤ◌
 ghost use Rattle.std.specs.Int.{w128};
 ghost use Rattle.sdc_base.specs.Forms.{coefficient};
 ghost use Rattle.sdc_base.specs.Refutations.{AreBounded};
-ghost use Rattle.worlds.specs.Listed.{IsListed};
-ghost use Rattle.worlds.specs.RefutationFaults.{IsGivenSum, IsWideFault, added};
+ghost use Rattle.worlds.specs.NumberLists.{IsListed};
+ghost use Rattle.worlds.specs.RefutationFaults.{IsGivenSum, IsWideFault, terms_added};
 ghost use Rattle.worlds.specs.declared.faults.RefutationFault.TheVariants as refutation;
 ghost use Rattle.interval_audit.specs.Answers.{NeedsWideNumber};
 
@@ -20,10 +20,14 @@ pub(crate) fn wide_at(
     requires scratch { length scratch.old ≡ inquiry.now.system.now.cells }
     requires positive { pos 1 ≤ℤ multipliers.now.den }
     requires listed { IsListed (length inquiry.now.system.now.relations) multipliers.now.by_relation }
-    requires bounded { AreBounded inquiry.now.cells.now inquiry.now.hidden.now.flags (coefficient (added inquiry.now.system.now inquiry.now.question.cell inquiry.now.question.side multipliers.now)) }
-    ensures sum { result ≡ None → IsGivenSum inquiry.now.system.now inquiry.now.cells.now inquiry.now.hidden.now.flags inquiry.now.question.cell inquiry.now.question.side multipliers.now }
+    requires bounded { AreBounded inquiry.now.cells.now inquiry.now.hidden.now.flags
+        (coefficient (terms_added inquiry.now.system.now inquiry.now.question.cell inquiry.now.question.side
+        multipliers.now)) }
+    ensures sum { result ≡ None → IsGivenSum inquiry.now.system.now inquiry.now.cells.now inquiry.now.hidden.now.flags
+        inquiry.now.question.cell inquiry.now.question.side multipliers.now }
     ensures product { result ≡ None → FitsSigned w128 (multipliers.now.den *ℤ inquiry.now.question.target) }
-    ensures wide { IfSome result (λ cell. NeedsWideNumber inquiry.now.system.now inquiry.now.cells.now inquiry.now.hidden.now.flags inquiry.now.question multipliers.now cell) }
+    ensures wide { IfSome result (λ cell. NeedsWideNumber inquiry.now.system.now inquiry.now.cells.now
+        inquiry.now.hidden.now.flags inquiry.now.question multipliers.now cell) }
 {
     let question = inquiry.question;
     let found = bound_sum(

@@ -2,9 +2,10 @@ ghost use Rattle.std.specs.Prelude.{◌≡◌, ◌≤◌, ◌<◌, ◌+◌, ◌^
 ghost use Rattle.std.specs.Ordering.{int_eq};
 ghost use Rattle.sdc_base.specs.Forms.{Term};
 ghost use Rattle.interval_audit.specs.CellNumbers.{AreZeros, AreCoefficients, AreWithin};
-ghost use Rattle.interval_audit.specs.Columns.{entries_of as entries_meant};
+ghost use Rattle.interval_audit.specs.Columns as columns_specs;
 ghost use Rattle.interval_audit.specs.FormSigns.{IsFormSign};
-ghost use Rattle.interval_audit.specs.Groups.{Group, members as members_meant};
+ghost use Rattle.interval_audit.specs.Groups.{Group};
+ghost use Rattle.interval_audit.specs.Groups as groups;
 
 use crate::terms::{add_terms, take_terms};
 use sdc_base::Memory;
@@ -26,7 +27,8 @@ pub(crate) fn entries_of(
     requires zeros { AreZeros scratch.old }
     ensures length { length scratch.new ≡ length scratch.old }
     ensures zeros { OnOk result (AreZeros scratch.new) }
-    ensures entries { (group : Group) (n : ℕ) → members.now ≡ members_meant group n → IfOk result (λ entries. entries.items ≡ entries_meant group n terms.now) }
+    ensures entries { (group : Group) (n : ℕ) → members.now ≡ groups.members group n
+        → IfOk result (λ entries. entries.items ≡ columns_specs.entries_of group n terms.now) }
 {
     add_terms(scratch, terms);
     let entries = entries_at(alloc, members, scratch)?;
@@ -39,7 +41,9 @@ fn entries_at(alloc: Global, members: &[u32], numbers: &[i128]) -> Result<Vec<(u
     requires few { length members.now < 2 ^ 31 }
     requires known { All (λ cell. cell < length numbers.now) members.now }
     requires within { AreWithin (pos (2 ^ 32)) numbers.now }
-    ensures { (group : Group) (n : ℕ) (terms : List Term) → members.now ≡ members_meant group n → AreCoefficients numbers.now terms → IfOk result (λ entries. entries.items ≡ entries_meant group n terms) }
+    ensures { (group : Group) (n : ℕ) (terms : List Term) → members.now ≡ groups.members group n
+        → AreCoefficients numbers.now terms
+        → IfOk result (λ entries. entries.items ≡ columns_specs.entries_of group n terms) }
 {
     let mut entries = Vec::new(alloc);
     'members: for (place, cell) in members.iter().enumerate() {
@@ -54,7 +58,9 @@ fn push_entries(entries: &mut Vec<(u32, i128)>, column: u32, multiple: i128) -> 
     requires column { column + 1 < 2 ^ 32 }
     requires low { neg_ℤ (pos (2 ^ 32)) ≤ℤ multiple }
     requires high { multiple ≤ℤ pos (2 ^ 32) }
-    ensures { OnOk result (entries.new.items ≡ entries.old.items ++ (if int_eq multiple (pos 0) then [] else (column, multiple) ∷ (column + 1, neg_ℤ multiple) ∷ [])) }
+    ensures { OnOk result (entries.new.items
+        ≡ entries.old.items ++ (if int_eq multiple (pos 0) then []
+        else (column, multiple) ∷ (column + 1, neg_ℤ multiple) ∷ [])) }
 {
     if multiple == 0 {
         return Ok(());

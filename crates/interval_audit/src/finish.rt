@@ -1,16 +1,17 @@
 ghost use Rattle.std.specs.Prelude.{◌≡◌, ◌<◌, ◌≤◌, ◌*◌, ◌^◌, ◌*ℤ◌, ◌<ℤ◌, ◌≤ℤ◌, ℕ, All, length, neg_ℤ, pos, IfOk, IfErr, true};
-ghost use Rattle.sdc_base.specs.Worlds.{toward};
+ghost use Rattle.sdc_base.specs.Worlds.{amount_toward};
 ghost use Rattle.interval_audit.specs.Points.{number_at};
-ghost use Rattle.tableau.specs.Reads.{values_of};
+ghost use Rattle.tableau.specs.Readings.{values_of};
 ghost use Rattle.tableau.specs.Steps.{IsReached, IsBlocked};
 ghost use Rattle.tableau.specs.Tables.{value};
 ghost use Rattle.tableau.specs.Problems.{numbers_of};
 ghost use Rattle.tableau.specs.Tableaus.{IsTableauWalk};
 ghost use Rattle.interval_audit.specs.WalkStates.{state_of, objective_of, IsAtPoint, IsAtTarget, IsAtOptimum};
-ghost use Rattle.worlds.specs.Listed.{terms_of, given};
+ghost use Rattle.worlds.specs.NumberLists.{terms_of, number_given};
 ghost use Rattle.interval_audit.specs.Answers.{HasEnded, IsTrueAnswer, IsReadOff, IsCauseIn, asked_move_in};
-ghost use Rattle.interval_audit.specs.Groups.{IsGroup, group_of, members as members_meant};
-ghost use Rattle.interval_audit.specs.Problems.{problem_of as problem_meant};
+ghost use Rattle.interval_audit.specs.Groups.{IsGroup, group_of};
+ghost use Rattle.interval_audit.specs.Groups as groups;
+ghost use Rattle.interval_audit.specs.Problems as problems;
 ghost use Rattle.interval_audit.specs.Readings.{IsWorldOf, AreMultipliersOf};
 ghost use Rattle.interval_audit.specs.WalkLimits.{IsCutBelow};
 
@@ -31,12 +32,19 @@ pub(crate) fn finish(
     inquiry: &Inquiry<'_>,
     tableau: Tableau,
 ) -> Result<Answer, AskFault>
-    requires problem { tableau.problem ≡ problem_meant inquiry.now.system.now inquiry.now.cells.now (group_of inquiry.now.of.now inquiry.now.question.cell) inquiry.now.question }
+    requires problem { tableau.problem ≡ problems.problem_of inquiry.now.system.now inquiry.now.cells.now
+        (group_of inquiry.now.of.now inquiry.now.question.cell) inquiry.now.question }
     requires ended { HasEnded tableau }
-    ensures right { IfOk result (λ answer. IsTrueAnswer inquiry.now.system.now inquiry.now.cells.now inquiry.now.hidden.now.flags inquiry.now.question answer) }
-    ensures read { IfOk result (λ answer. IsReadOff inquiry.now.system.now inquiry.now.cells.now (group_of inquiry.now.of.now inquiry.now.question.cell) tableau answer) }
-    ensures cause { IfErr result (λ fault. (limit : ℕ) → IsCauseIn inquiry.now.system.now inquiry.now.cells.now inquiry.now.hidden.now.flags (group_of inquiry.now.of.now inquiry.now.question.cell) inquiry.now.question limit fault) }
-    ensures short { IfErr result (λ fault. (limit : ℕ) → IsCutBelow inquiry.now.system.now inquiry.now.cells.now (group_of inquiry.now.of.now inquiry.now.question.cell) inquiry.now.question limit fault) }
+    ensures right { IfOk result (λ answer. IsTrueAnswer inquiry.now.system.now inquiry.now.cells.now
+        inquiry.now.hidden.now.flags inquiry.now.question answer) }
+    ensures read { IfOk result (λ answer. IsReadOff inquiry.now.system.now inquiry.now.cells.now
+        (group_of inquiry.now.of.now inquiry.now.question.cell) tableau answer) }
+    ensures cause { IfErr result (λ fault. (limit : ℕ)
+        → IsCauseIn inquiry.now.system.now inquiry.now.cells.now inquiry.now.hidden.now.flags
+        (group_of inquiry.now.of.now inquiry.now.question.cell) inquiry.now.question limit fault) }
+    ensures short { IfErr result (λ fault. (limit : ℕ)
+        → IsCutBelow inquiry.now.system.now inquiry.now.cells.now
+        (group_of inquiry.now.of.now inquiry.now.question.cell) inquiry.now.question limit fault) }
 {
     read_state(&tableau);
     let world = world_of(alloc, inquiry, &tableau)?;
@@ -65,9 +73,13 @@ pub(crate) fn read_state(tableau: &Tableau)
 
 // The world that a walk gives, in lowest terms.
 fn world_of(alloc: Global, inquiry: &Inquiry<'_>, tableau: &Tableau) -> Result<World, Memory>
-    requires problem { tableau.now.problem ≡ problem_meant inquiry.now.system.now inquiry.now.cells.now (group_of inquiry.now.of.now inquiry.now.question.cell) inquiry.now.question }
+    requires problem { tableau.now.problem
+        ≡ problems.problem_of inquiry.now.system.now inquiry.now.cells.now
+        (group_of inquiry.now.of.now inquiry.now.question.cell) inquiry.now.question }
     requires stands { IsAtPoint (state_of tableau.now) }
-    ensures world { IfOk result (λ world. IsWorldOf inquiry.now.system.now (group_of inquiry.now.of.now inquiry.now.question.cell) tableau.now.table.den (number_at (values_of tableau.now.problem tableau.now.table)) world) }
+    ensures world { IfOk result (λ world. IsWorldOf inquiry.now.system.now
+        (group_of inquiry.now.of.now inquiry.now.question.cell) tableau.now.table.den
+        (number_at (values_of tableau.now.problem tableau.now.table)) world) }
     ensures held { IfOk result (λ world. All (λ term. neg_ℤ (pos (2 ^ 127)) <ℤ term.1) (terms_of world.moves)) }
 {
     let members = members_of(
@@ -93,7 +105,7 @@ fn asked_in(question: Question, world: &World) -> i128
 
 // What moves give for a cell.
 fn move_of(moves: &[Move], cell: u32) -> i128
-    ensures { result ≡ given (terms_of moves.now) cell }
+    ensures { result ≡ number_given (terms_of moves.now) cell }
 {
     let mut by = 0;
     'moves: for one in moves {
@@ -123,15 +135,23 @@ fn stop(
     world: World,
     num: i128,
 ) -> Result<Answer, AskFault>
-    requires problem { tableau.problem ≡ problem_meant inquiry.now.system.now inquiry.now.cells.now (group_of inquiry.now.of.now inquiry.now.question.cell) inquiry.now.question }
+    requires problem { tableau.problem ≡ problems.problem_of inquiry.now.system.now inquiry.now.cells.now
+        (group_of inquiry.now.of.now inquiry.now.question.cell) inquiry.now.question }
     requires blocked { IsBlocked tableau.problem tableau.table }
     requires stuck { IsAtOptimum (state_of tableau) }
-    requires world { IsWorldOf inquiry.now.system.now (group_of inquiry.now.of.now inquiry.now.question.cell) tableau.table.den (number_at (values_of tableau.problem tableau.table)) world }
+    requires world { IsWorldOf inquiry.now.system.now (group_of inquiry.now.of.now inquiry.now.question.cell)
+        tableau.table.den (number_at (values_of tableau.problem tableau.table)) world }
     requires num { num ≡ asked_move_in inquiry.now.question world }
-    ensures right { IfOk result (λ answer. IsTrueAnswer inquiry.now.system.now inquiry.now.cells.now inquiry.now.hidden.now.flags inquiry.now.question answer) }
-    ensures read { IfOk result (λ answer. IsReadOff inquiry.now.system.now inquiry.now.cells.now (group_of inquiry.now.of.now inquiry.now.question.cell) tableau answer) }
-    ensures cause { IfErr result (λ fault. (limit : ℕ) → IsCauseIn inquiry.now.system.now inquiry.now.cells.now inquiry.now.hidden.now.flags (group_of inquiry.now.of.now inquiry.now.question.cell) inquiry.now.question limit fault) }
-    ensures short { IfErr result (λ fault. (limit : ℕ) → IsCutBelow inquiry.now.system.now inquiry.now.cells.now (group_of inquiry.now.of.now inquiry.now.question.cell) inquiry.now.question limit fault) }
+    ensures right { IfOk result (λ answer. IsTrueAnswer inquiry.now.system.now inquiry.now.cells.now
+        inquiry.now.hidden.now.flags inquiry.now.question answer) }
+    ensures read { IfOk result (λ answer. IsReadOff inquiry.now.system.now inquiry.now.cells.now
+        (group_of inquiry.now.of.now inquiry.now.question.cell) tableau answer) }
+    ensures cause { IfErr result (λ fault. (limit : ℕ)
+        → IsCauseIn inquiry.now.system.now inquiry.now.cells.now inquiry.now.hidden.now.flags
+        (group_of inquiry.now.of.now inquiry.now.question.cell) inquiry.now.question limit fault) }
+    ensures short { IfErr result (λ fault. (limit : ℕ)
+        → IsCutBelow inquiry.now.system.now inquiry.now.cells.now
+        (group_of inquiry.now.of.now inquiry.now.question.cell) inquiry.now.question limit fault) }
 {
     let multipliers = multipliers_of(alloc, inquiry, &tableau)?;
     let mut scratch = Vec::from_elem(alloc, 0, inquiry.system.cells as usize)?;
@@ -160,9 +180,13 @@ fn multipliers_of(
     inquiry: &Inquiry<'_>,
     tableau: &Tableau,
 ) -> Result<Multipliers, Memory>
-    requires problem { tableau.now.problem ≡ problem_meant inquiry.now.system.now inquiry.now.cells.now (group_of inquiry.now.of.now inquiry.now.question.cell) inquiry.now.question }
+    requires problem { tableau.now.problem
+        ≡ problems.problem_of inquiry.now.system.now inquiry.now.cells.now
+        (group_of inquiry.now.of.now inquiry.now.question.cell) inquiry.now.question }
     requires stuck { IsAtOptimum (state_of tableau.now) }
-    ensures { IfOk result (λ read. (ended : IsAtOptimum (state_of tableau.now)) → AreMultipliersOf inquiry.now.system.now inquiry.now.cells.now (group_of inquiry.now.of.now inquiry.now.question.cell) tableau.now.table.den ended.weights read) }
+    ensures { IfOk result (λ read. (ended : IsAtOptimum (state_of tableau.now))
+        → AreMultipliersOf inquiry.now.system.now inquiry.now.cells.now
+        (group_of inquiry.now.of.now inquiry.now.question.cell) tableau.now.table.den ended.weights read) }
 {
     let met = inquiry.met;
     let slacks = tableau.slacks();

@@ -1,7 +1,8 @@
 ghost use Rattle.std.specs.Prelude.{◌≡◌, ◌<◌, ◌^◌, ◌++◌, ◌∷◌, [], ℕ, List, length, if◌then◌else◌, IfOk, IfSome, OnOk};
 ghost use Rattle.sdc_base.specs.declared.relation.Relation.{Relation as AnyRelation};
 ghost use Rattle.sdc_base.specs.Components.{component};
-ghost use Rattle.sdc_base.specs.ComponentRows.{lists_in, rows_of as rows_meant};
+ghost use Rattle.sdc_base.specs.ComponentRows.{lists_in};
+ghost use Rattle.sdc_base.specs.ComponentRows as spec;
 ghost use Rattle.interval_audit.specs.Groups.{group_of, members};
 ghost use Rattle.interval_audit.specs.Labels.{is_met, met_relations};
 
@@ -46,7 +47,9 @@ pub(crate) fn met_by(
 // Of lists with the relations of each component, that of the asked cell's component; none where it is shown.
 pub(crate) fn list_of<'a>(lists: &'a [Vec<u32>], of: &[Option<u32>], asked: u32) -> &'a [u32]
     requires known { IfSome (component of.now asked) (λ number. number < length lists.now) }
-    ensures { (relations : List AnyRelation) (components : ℕ) → lists_in lists.now ≡ rows_meant relations of.now components → result.now ≡ met_relations (group_of of.now asked) relations }
+    ensures { (relations : List AnyRelation) (components : ℕ)
+        → lists_in lists.now ≡ spec.rows_of relations of.now components
+        → result.now ≡ met_relations (group_of of.now asked) relations }
 {
     let Some(number) = component_at(of, asked) else {
         return &[];

@@ -25,7 +25,7 @@ pub(crate) fn lowest_terms_of(
     ensures held { IfOk result (λ lower. All (λ term. neg_ℤ (pos (2 ^ 127)) <ℤ term.1) lower.terms.items) }
 {
     let by = divisor_of(den, terms);
-    let lower = divided(den, by);
+    let lower = quotient_of(den, by);
     let less = divided_all(alloc, terms, by)?;
     Ok(LowestTerms {
         den: lower,
@@ -72,14 +72,14 @@ fn divided_all(alloc: Global, terms: &[(u32, i128)], by: u128) -> Result<Vec<(u3
 {
     let mut less = Vec::new(alloc);
     'terms: for term in terms {
-        let part = divided(term.1, by);
+        let part = quotient_of(term.1, by);
         less.push((term.0, part))?;
     }
     Ok(less)
 }
 
 // A number divided by one that divides it.
-fn divided(number: i128, by: u128) -> i128
+fn quotient_of(number: i128, by: u128) -> i128
     requires positive { 1 ≤ by }
     requires divides { by ∣ unsigned_abs number }
     requires held { neg_ℤ (pos (2 ^ 127)) <ℤ number }

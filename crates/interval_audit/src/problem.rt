@@ -2,13 +2,15 @@ ghost use Rattle.std.specs.Prelude.{◌≡◌, ◌≤◌, ◌<◌, ◌^◌, ◌+
 ghost use Rattle.std.specs.List.{flat_map};
 ghost use Rattle.sdc_base.specs.declared.cell.Cell.{Cell as AnyCell};
 ghost use Rattle.sdc_base.specs.declared.system.System.{System as AnySystem};
-ghost use Rattle.sdc_base.specs.Worlds.{toward};
-ghost use Rattle.interval_audit.specs.Groups.{Group, group_of, members as members_meant};
-ghost use Rattle.interval_audit.specs.Columns.{entries_of as entries_meant};
+ghost use Rattle.sdc_base.specs.Worlds.{amount_toward};
+ghost use Rattle.interval_audit.specs.Groups.{Group, group_of};
+ghost use Rattle.interval_audit.specs.Groups as groups;
+ghost use Rattle.interval_audit.specs.Columns as columns_specs;
 ghost use Rattle.interval_audit.specs.Labels.{caps_for, forms_for, met_relations};
 ghost use Rattle.interval_audit.specs.FormSigns.{IsFormSign};
 ghost use Rattle.interval_audit.specs.CellNumbers.{AreZeros};
-ghost use Rattle.interval_audit.specs.Problems.{asked_move, row_of, met_rows, problem_of as problem_meant};
+ghost use Rattle.interval_audit.specs.Problems.{asked_move, row_of, met_rows};
+ghost use Rattle.interval_audit.specs.Problems as problems;
 
 use crate::entries::entries_of;
 use crate::group::{members_of, met_by};
@@ -39,8 +41,9 @@ pub fn problem_of(
 ) -> Result<Problem, Memory>
     requires cells { length cells.now ≡ system.now.cells }
     requires asked { question.cell < system.now.cells }
-    requires few { length (members_meant (group_of of.now question.cell) system.now.cells) ≤ 1500 }
-    ensures { IfOk result (λ problem. problem ≡ problem_meant system.now cells.now (group_of of.now question.cell) question) }
+    requires few { length (groups.members (group_of of.now question.cell) system.now.cells) ≤ 1500 }
+    ensures { IfOk result (λ problem. problem
+        ≡ problems.problem_of system.now cells.now (group_of of.now question.cell) question) }
 {
     let relations = system.relations.as_slice();
     let met = met_by(alloc, relations, of, question.cell)?;
@@ -59,9 +62,10 @@ pub(crate) fn problem_over(
 ) -> Result<Problem, Memory>
     requires cells { length cells.now ≡ system.now.cells }
     requires asked { question.cell < system.now.cells }
-    requires few { length (members_meant (group_of of.now question.cell) system.now.cells) ≤ 1500 }
+    requires few { length (groups.members (group_of of.now question.cell) system.now.cells) ≤ 1500 }
     requires met { met.now ≡ met_relations (group_of of.now question.cell) system.now.relations }
-    ensures { IfOk result (λ problem. problem ≡ problem_meant system.now cells.now (group_of of.now question.cell) question) }
+    ensures { IfOk result (λ problem. problem
+        ≡ problems.problem_of system.now cells.now (group_of of.now question.cell) question) }
 {
     let members = members_of(alloc, of, question.cell, system.cells)?;
     let list = members.as_slice();
@@ -88,7 +92,9 @@ fn push_all_caps(
 ) -> Result<(), Memory>
     requires few { length members.now < 2 ^ 31 }
     requires known { All (λ cell. cell < length cells.now) members.now }
-    ensures { (system : AnySystem) (group : Group) (n : ℕ) → members.now ≡ members_meant group n → OnOk result (rows.new.items ≡ rows.old.items ++ map (row_of system cells.now group) (flat_map (caps_for cells.now) members.now)) }
+    ensures { (system : AnySystem) (group : Group) (n : ℕ) → members.now ≡ groups.members group n
+        → OnOk result (rows.new.items ≡ rows.old.items
+        ++ map (row_of system cells.now group) (flat_map (caps_for cells.now) members.now)) }
 {
     'members: for (place, number) in members.iter().enumerate() {
         push_caps(alloc, rows, 2 * place as u32, &cells[*number as usize])?;
@@ -112,7 +118,9 @@ fn push_all_forms(
     requires zeros { AreZeros scratch.old }
     ensures length { length scratch.new ≡ length scratch.old }
     ensures zeros { OnOk result (AreZeros scratch.new) }
-    ensures rows { (cells : List AnyCell) (group : Group) → members.now ≡ members_meant group system.now.cells → met.now ≡ met_relations group system.now.relations → OnOk result (rows.new.items ≡ rows.old.items ++ met_rows system.now cells group) }
+    ensures rows { (cells : List AnyCell) (group : Group) → members.now ≡ groups.members group system.now.cells
+        → met.now ≡ met_relations group system.now.relations
+        → OnOk result (rows.new.items ≡ rows.old.items ++ met_rows system.now cells group) }
 {
     let relations = system.relations.as_slice();
     'numbers: for number in met {
@@ -133,7 +141,8 @@ fn objective_of(
     requires known { All (λ cell. cell < length scratch.old) members.now }
     requires asked { asked < length scratch.old }
     requires zeros { AreZeros scratch.old }
-    ensures { (group : Group) (n : ℕ) → members.now ≡ members_meant group n → IfOk result (λ entries. entries.items ≡ entries_meant group n (asked_move asked side)) }
+    ensures { (group : Group) (n : ℕ) → members.now ≡ groups.members group n
+        → IfOk result (λ entries. entries.items ≡ columns_specs.entries_of group n (asked_move asked side)) }
 {
     let terms = [(asked, one_toward(side))];
     entries_of(alloc, members, &terms, scratch)
@@ -141,7 +150,7 @@ fn objective_of(
 
 // One toward a side.
 fn one_toward(side: Side) -> i128
-    ensures value { result ≡ toward side (pos 1) }
+    ensures value { result ≡ amount_toward side (pos 1) }
     ensures one { IsFormSign result }
 {
     match side {

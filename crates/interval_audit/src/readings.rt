@@ -1,7 +1,7 @@
 ghost use Rattle.std.specs.Prelude.{◌≡◌, ◌<◌, ◌≤◌, ◌+◌, ◌*◌, ◌^◌, ◌++◌, ◌∷◌, [], ℕ, length, slice_index, All, IfOk, OnOk, if◌then◌else◌, pos, neg_ℤ, ◌-ℤ◌, ◌≤ℤ◌, ◌<ℤ◌};
 ghost use Rattle.std.specs.Ordering.{int_eq};
 ghost use Rattle.sdc_base.specs.Systems.{Numbers};
-ghost use Rattle.worlds.specs.Listed.{terms_of};
+ghost use Rattle.worlds.specs.NumberLists.{terms_of};
 ghost use Rattle.interval_audit.specs.LowestTerms.{AreLowestTermsOf};
 ghost use Rattle.interval_audit.specs.Readings.{AreDifferences, nonzero_terms};
 
@@ -22,7 +22,8 @@ pub(crate) fn read_world(
     requires long { length values.now ≡ 2 * length members.now }
     requires from_zero { All (λ value. pos 0 ≤ℤ value) values.now }
     requires positive { pos 1 ≤ℤ den }
-    ensures read { (moves : Numbers) → AreDifferences members.now values.now 0 1 moves → IfOk result (λ world. AreLowestTermsOf den (nonzero_terms moves members.now) world.den (terms_of world.moves)) }
+    ensures read { (moves : Numbers) → AreDifferences members.now values.now 0 1 moves
+        → IfOk result (λ world. AreLowestTermsOf den (nonzero_terms moves members.now) world.den (terms_of world.moves)) }
     ensures held { IfOk result (λ world. All (λ term. neg_ℤ (pos (2 ^ 127)) <ℤ term.1) (terms_of world.moves)) }
 {
     let terms = differences(alloc, members, values, 0, 1)?;
@@ -47,7 +48,8 @@ pub(crate) fn read_multipliers(
     requires long { caps + 2 * length met.now ≤ length slacks.now }
     requires from_zero { All (λ slack. pos 0 ≤ℤ slack) slacks.now }
     requires positive { pos 1 ≤ℤ den }
-    ensures { (multipliers : Numbers) → AreDifferences met.now slacks.now (caps + 1) caps multipliers → IfOk result (λ read. AreLowestTermsOf den (nonzero_terms multipliers met.now) read.den read.by_relation) }
+    ensures { (multipliers : Numbers) → AreDifferences met.now slacks.now (caps + 1) caps multipliers
+        → IfOk result (λ read. AreLowestTermsOf den (nonzero_terms multipliers met.now) read.den read.by_relation) }
 {
     let terms = differences(alloc, met, slacks, caps + 1, caps)?;
     let lower = lowest_terms_of(alloc, den, terms.as_slice())?;
@@ -69,7 +71,8 @@ fn differences(
     requires plus_within { plus + 2 * length list.now ≤ length numbers.now + 1 }
     requires minus_within { minus + 2 * length list.now ≤ length numbers.now + 1 }
     requires from_zero { All (λ number. pos 0 ≤ℤ number) numbers.now }
-    ensures terms { (given : Numbers) → AreDifferences list.now numbers.now plus minus given → IfOk result (λ terms. terms.items ≡ nonzero_terms given list.now) }
+    ensures terms { (given : Numbers) → AreDifferences list.now numbers.now plus minus given
+        → IfOk result (λ terms. terms.items ≡ nonzero_terms given list.now) }
     ensures held { IfOk result (λ terms. All (λ term. neg_ℤ (pos (2 ^ 127)) <ℤ term.1) terms.items) }
 {
     let mut terms = Vec::new(alloc);
@@ -83,7 +86,8 @@ fn differences(
 
 // Puts a number of one at the end of terms, where it isn't 0.
 fn push_term(terms: &mut Vec<(u32, i128)>, one: u32, number: i128) -> Result<(), Memory>
-    ensures { OnOk result (terms.new.items ≡ terms.old.items ++ (if int_eq number (pos 0) then [] else (one, number) ∷ [])) }
+    ensures { OnOk result (terms.new.items
+        ≡ terms.old.items ++ (if int_eq number (pos 0) then [] else (one, number) ∷ [])) }
 {
     if number == 0 {
         return Ok(());

@@ -2,8 +2,9 @@ ghost use Rattle.std.specs.Prelude.{◌≡◌, ◌≤◌, ◌<◌, ◌+◌, ◌^
 ghost use Rattle.sdc_base.specs.Forms.{form_times};
 ghost use Rattle.sdc_base.specs.Systems.{NamesCells};
 ghost use Rattle.interval_audit.specs.CellNumbers.{AreZeros};
-ghost use Rattle.interval_audit.specs.Groups.{Group, members as members_meant};
-ghost use Rattle.interval_audit.specs.Columns.{entries_of as entries_meant};
+ghost use Rattle.interval_audit.specs.Groups.{Group};
+ghost use Rattle.interval_audit.specs.Groups as groups;
+ghost use Rattle.interval_audit.specs.Columns as columns;
 ghost use Rattle.interval_audit.specs.FormSigns.{IsFormSign};
 ghost use Rattle.interval_audit.specs.Problems.{row, cap_rows, form_rows};
 
@@ -67,7 +68,8 @@ pub(crate) fn push_forms(
     requires zeros { AreZeros scratch.old }
     ensures length { length scratch.new ≡ length scratch.old }
     ensures zeros { OnOk result (AreZeros scratch.new) }
-    ensures rows { (group : Group) (n : ℕ) → members.now ≡ members_meant group n → OnOk result (rows.new.items ≡ rows.old.items ++ form_rows group n relation.now) }
+    ensures rows { (group : Group) (n : ℕ) → members.now ≡ groups.members group n
+        → OnOk result (rows.new.items ≡ rows.old.items ++ form_rows group n relation.now) }
 {
     let form = form_row(alloc, members, relation, 1, scratch)?;
     rows.push(form)?;
@@ -91,7 +93,8 @@ fn form_row(
     requires zeros { AreZeros scratch.old }
     ensures length { length scratch.new ≡ length scratch.old }
     ensures zeros { OnOk result (AreZeros scratch.new) }
-    ensures row { (group : Group) (n : ℕ) → members.now ≡ members_meant group n → IfOk result (λ one. one ≡ row (entries_meant group n (form_times times relation.now)) (pos 0)) }
+    ensures row { (group : Group) (n : ℕ) → members.now ≡ groups.members group n
+        → IfOk result (λ one. one ≡ row (columns.entries_of group n (form_times times relation.now)) (pos 0)) }
 {
     let terms = form_terms(alloc, relation, times)?;
     let entries = entries_of(alloc, members, terms.as_slice(), scratch)?;

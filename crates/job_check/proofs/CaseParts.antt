@@ -8,14 +8,14 @@ use Rattle.sdc_base.specs.declared.facts.CellFacts.{CellFacts}
 use Rattle.sdc_base.specs.declared.system.System.{System}
 use Rattle.cert_check.specs.Cases.{IsCase}
 use Rattle.cert_check.specs.declared.case.Case.{Case}
-use Rattle.linked_tables.specs.Held.{Held}
-use Rattle.linked_tables.specs.Shared.{cells as cells_in}
+use Rattle.linked_tables.specs.BookViews.{BookView}
+use Rattle.linked_tables.specs.BookCells.{cells as cells_in}
 use Rattle.linked_tables.specs.declared.mark.Mark.{Mark}
 use Rattle.modular_plan.specs.Plans.{IsSameButHidden}
 use Rattle.release_writer.specs.Sheets.{HaveNames}
 use Rattle.repair.specs.HidingOrder.{MayHide, corners_of}
 use Rattle.job_lang.specs.declared.job.TableLine.{TableLine}
-use Rattle.job_inputs.specs.Settled.{IsReadyJob}
+use Rattle.job_inputs.specs.SettledJobs.{IsReadyJob}
 use Rattle.job_inputs.specs.Tables.{names_of}
 use Rattle.job_inputs.specs.declared.settled.SettledJob.{SettledJob}
 use Rattle.job_check.specs.Reading.{IsReadyRelease}
@@ -31,7 +31,7 @@ by-facts [] = refl
 by-facts (mark ∷ marks) = ap (λ (truths : List ℤ). mark.facts.truth ∷ truths) (by-facts marks)
 
 -- the truths are those of the marks, whichever are hidden
-same-truths : (job : SettledJob) (book : Held) (cells : List Cell) → IsReadyJob job → cells ≡ job.cells → IsSameButHidden job.book book → map (λ mark. mark.facts.truth) book.marks ≡ map (λ cell. cell.truth) cells
+same-truths : (job : SettledJob) (book : BookView) (cells : List Cell) → IsReadyJob job → cells ≡ job.cells → IsSameButHidden job.book book → map (λ mark. mark.facts.truth) book.marks ≡ map (λ cell. cell.truth) cells
 same-truths job book cells ready same hidden =
     by-facts book.marks
     ∙ ap (map (λ (facts : CellFacts). facts.truth)) hidden.facts
@@ -67,10 +67,10 @@ as-many : (tables : List (List ℕ)) (lines : List TableLine) → map (λ (place
 as-many tables lines same = sym (length-map (λ (places : List ℕ). length places) tables) ∙ ap length same ∙ length-map (λ (line : TableLine). length line.variables) lines
 
 -- the tables of a job's book are those of its lines
-tables-are : (job : SettledJob) (book : Held) → IsReadyJob job → IsSameButHidden job.book book → book.tables ≡ job.described.bound.tables
+tables-are : (job : SettledJob) (book : BookView) → IsReadyJob job → IsSameButHidden job.book book → book.tables ≡ job.described.bound.tables
 tables-are job book ready hidden = hidden.tables ∙ ready.book.tables
 
-have-names : (job : SettledJob) (book : Held) (names : List (List (List ℕ))) → IsReadyJob job → IsSameButHidden job.book book → names ≡ map names_of job.described.job.tables → HaveNames names book.tables
+have-names : (job : SettledJob) (book : BookView) (names : List (List (List ℕ))) → IsReadyJob job → IsSameButHidden job.book book → names ≡ map names_of job.described.job.tables → HaveNames names book.tables
 have-names job book names ready hidden are =
     let tables : List (List ℕ) = job.described.bound.tables in
     let lines : List TableLine = job.described.job.tables in
@@ -81,7 +81,7 @@ have-names job book names ready hidden are =
     })
 
 -- there are the bytes of each table
-each-table : (read : ReadRelease) (book : Held) (tables : List (List ℕ)) → IsReadyRelease read → IsSameButHidden read.job.book book → tables ≡ read.tables → length tables ≡ length book.tables
+each-table : (read : ReadRelease) (book : BookView) (tables : List (List ℕ)) → IsReadyRelease read → IsSameButHidden read.job.book book → tables ≡ read.tables → length tables ≡ length book.tables
 each-table read book tables ready hidden same =
     ap length same
     ∙ ready.each

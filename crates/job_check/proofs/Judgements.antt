@@ -7,22 +7,22 @@ use Rattle.office_io.specs.Shelves.{ShelfState}
 use Rattle.cert_check.specs.Acceptance.{IsAccepted, IsOfCase, IsRoundedRelease}
 use Rattle.cert_check.specs.Cases.{IsCase}
 use Rattle.cert_check.specs.FirstFault.{fault_of, first_fault}
-use Rattle.cert_check.specs.Methods.{rounds}
+use Rattle.cert_check.specs.Methods.{rounds_cells}
 use Rattle.cert_check.specs.declared.case.Case.{Case}
 use Rattle.cert_check.specs.declared.faults.CheckFault.{CheckFault}
 use Rattle.cert_check.specs.declared.faults.CheckFault.TheVariants as fault
 use Rattle.job_inputs.specs.Reading.{HasCause, HasComeTo}
-use Rattle.job_inputs.specs.Settled.{SettledInputs}
+use Rattle.job_inputs.specs.SettledJobs.{SettledInputs}
 use Rattle.job_inputs.specs.declared.file_ref.FileRef.{FileRef}
 use Rattle.job_inputs.specs.declared.stop.InputStop.{InputStop}
 use Rattle.job_inputs.specs.declared.stop.InputStop.TheVariants as input
-use Rattle.job_check.specs.Answers.{Comes, IsJudgedSo, stop_for}
+use Rattle.job_check.specs.Answers.{AnswersRelease, IsJudgedSo, stop_for}
 use Rattle.job_check.specs.Cases.{IsCaseOf}
-use Rattle.job_check.specs.Released.{Released}
+use Rattle.job_check.specs.ReleaseFiles.{ReleasedFiles}
 use Rattle.job_check.specs.declared.stop.CheckStop.TheVariants as stop
 
 -- a fault of a release is the answer, but for want of memory
-pub fault-comes : (released : Released) (why : CheckFault) → IsJudgedSo released (Err why) → Comes (Ok released) (Err (stop_for why))
+pub fault-comes : (released : ReleasedFiles) (why : CheckFault) → IsJudgedSo released (Err why) → AnswersRelease (Ok released) (Err (stop_for why))
 fault-comes released fault.Counts h = h _ refl
 fault-comes released fault.Method h = h _ refl
 fault-comes released (fault.PrimaryShown cell) h = h _ refl
@@ -92,8 +92,8 @@ names-no-memory (fault.Rounded cell) named is memory = absurd cc
 names-no-memory (fault.Relation number) named is memory = absurd cc
 names-no-memory fault.Memory named is memory = absurd cc
 
-judged-here : (case : Case) (released : Released) (result : Result (Unit {0}) CheckFault) → (result ≡ Ok tt → IsOfCase case released.certificate) → (result ≡ Ok tt → rounds case.method ≡ false → IsAccepted case released.tables released.certificate)
-    → (result ≡ Ok tt → rounds case.method ≡ true → IsRoundedRelease case released.tables released.certificate) → Gives fault_of (λ u. u) result (first_fault case released.tables released.certificate)
+judged-here : (case : Case) (released : ReleasedFiles) (result : Result (Unit {0}) CheckFault) → (result ≡ Ok tt → IsOfCase case released.certificate) → (result ≡ Ok tt → rounds_cells case.method ≡ false → IsAccepted case released.tables released.certificate)
+    → (result ≡ Ok tt → rounds_cells case.method ≡ true → IsRoundedRelease case released.tables released.certificate) → Gives fault_of (λ u. u) result (first_fault case released.tables released.certificate)
     → IsCaseOf released.settled case → IsCase case released.tables → IsJudgedSo released result
 judged-here case released (Ok tt) of_case suppressed rounded exact is fits =
     record { case = case; is_case = is; fits = fits; no_fault = exact; of_case = of_case refl; suppressed = suppressed refl; rounded = rounded refl }
@@ -107,7 +107,7 @@ judged-here case released (Err why) of_case suppressed rounded exact is fits = �
 
 -- the judgement of what was read is that of the release
 pub judged-so : {case : Case} {tables : List (List ℕ)} {certificate : Certificate} {result : Result (Unit {0}) CheckFault} → (result ≡ Ok tt → IsOfCase case certificate)
-    → (result ≡ Ok tt → rounds case.method ≡ false → IsAccepted case tables certificate) → (result ≡ Ok tt → rounds case.method ≡ true → IsRoundedRelease case tables certificate)
+    → (result ≡ Ok tt → rounds_cells case.method ≡ false → IsAccepted case tables certificate) → (result ≡ Ok tt → rounds_cells case.method ≡ true → IsRoundedRelease case tables certificate)
     → Gives fault_of (λ u. u) result (first_fault case tables certificate) → (settled : SettledInputs) (signed : Certificate) (put : List (List ℕ)) → IsCaseOf settled case → IsCase case tables → certificate ≡ signed → tables ≡ put
     → IsJudgedSo (record { settled = settled; certificate = signed; tables = put }) result
 judged-so {case} {tables} {certificate} {result} of_case suppressed rounded exact settled signed put is fits same are =

@@ -12,7 +12,7 @@ use Rattle.cert_check.specs.Cases.{IsCase}
 use Rattle.cert_check.specs.Counts.{counts_fault}
 use Rattle.cert_check.specs.FirstFault.{first_fault}
 use Rattle.cert_check.specs.HiddenSet.{hidden_set, permitted_fault}
-use Rattle.cert_check.specs.Methods.{method_fault, rounds}
+use Rattle.cert_check.specs.Methods.{method_fault, rounds_cells}
 use Rattle.cert_check.specs.NeedList.{needs_fault}
 use Rattle.cert_check.specs.OutsidePlan.{outside_fault}
 use Rattle.cert_check.specs.ReleaseLines.{tables_fault}
@@ -25,7 +25,7 @@ use Rattle.cert_check.specs.declared.faults.CheckFault.{CheckFault}
 use Rattle.modular_plan.specs.Plans.{trail_of}
 use Rattle.release_writer.specs.ReleaseReading.{LinePlace, rounded_read}
 use Rattle.repair.specs.HidingOrder.{case as protected_case, corners_of, hide_subjects, planned_set}
-use Rattle.job_inputs.specs.Settled.{SettledInputs, IsSettledOf}
+use Rattle.job_inputs.specs.SettledJobs.{SettledInputs, IsSettledOf}
 use Rattle.job_inputs.specs.Tables.{names_of}
 use Rattle.job_inputs.specs.declared.described.Described.{Described}
 use Rattle.job_inputs.specs.declared.settled.SettledJob.{SettledJob}
@@ -50,7 +50,7 @@ abbrev fault_by : System → List Cell → List PlanStep → Method → ℤ → 
 fault_by system cells steps method base values texts c =
     counts_fault system c >>= λ _.
     method_fault method c >>= λ _.
-    if rounds method then (map_fault at_line values >>= λ numbers. values_fault system cells base numbers)
+    if rounds_cells method then (map_fault at_line values >>= λ numbers. values_fault system cells base numbers)
     else suppressed_by system cells steps (texts (hidden_set system.cells c.hidden)) (hidden_set system.cells c.hidden) c
 
 by-parts : (case : Case) (tables : List (List ℕ)) (c : Certificate)

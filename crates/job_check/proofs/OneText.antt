@@ -7,11 +7,11 @@ use Rattle.sdc_base.specs.Cells.{places, trees_of}
 use Rattle.sdc_base.specs.Steps.{◌>>=◌, map_ok, or_fault, refuse}
 use Rattle.sdc_base.specs.TableText.{line_text, table_text}
 use Rattle.sdc_base.specs.Trees.{Tree}
-use Rattle.linked_tables.specs.Held.{Held}
-use Rattle.linked_tables.specs.Shared.{named, number_of}
+use Rattle.linked_tables.specs.BookViews.{BookView}
+use Rattle.linked_tables.specs.BookCells.{name_in_table, number_of}
 use Rattle.linked_tables.specs.declared.mark.Mark.{Mark}
-use Rattle.release_writer.specs.ReleaseReading.{Template, Reading, LinePlace, is_left, numbers_of, read_place, read_places, read_table, read_tables, reading_after, rest_behind, rounded_read, value_there}
-use Rattle.release_writer.specs.Shown.{open_truth}
+use Rattle.release_writer.specs.ReleaseReading.{Template, ReleaseSoFar, LinePlace, is_left, numbers_of, read_place, read_places, read_table, read_tables, reading_after, rest_behind, rounded_read, value_there}
+use Rattle.release_writer.specs.ShownCells.{open_truth}
 use Rattle.worlds.specs.ProtectFaults.{line_number}
 use Rattle.worlds.specs.WorldFaults.{refuse_at}
 use Rattle.cert_check.specs.ReleaseLines.{differing_line, hiding_text, tables_fault}
@@ -19,7 +19,7 @@ use Rattle.cert_check.specs.declared.faults.CheckFault.{CheckFault}
 use Rattle.cert_check.specs.declared.faults.CheckFault.TheVariants as fault
 
 -- both books have the same trees, the same tables and the same truths
-pub record AreAlike (one other : Held) : Type 0 where
+pub record AreAlike (one other : BookView) : Type 0 where
   pub trees : one.trees ≡ other.trees
   pub tables : one.tables ≡ other.tables
   pub truths : map (λ mark. mark.facts.truth) one.marks ≡ map (λ mark. mark.facts.truth) other.marks
@@ -35,12 +35,12 @@ shown-same one other flags same = fun_ext (λ cell.
     ap (λ (o : Option ℤ). if slice_index_or flags cell Bool.false then None else o)
     (sym (slice_get-map (λ (mark : Mark). mark.facts.truth) one cell) ∙ ap (λ (truths : List ℤ). slice_get truths cell) same ∙ slice_get-map (λ (mark : Mark). mark.facts.truth) other cell))
 
-text-same : (one other : Held) (flags : List Bool) (decimals : ℕ) (table : List ℕ) (names : List (List ℕ)) → AreAlike one other → hiding_text one flags decimals table names ≡ hiding_text other flags decimals table names
+text-same : (one other : BookView) (flags : List Bool) (decimals : ℕ) (table : List ℕ) (names : List (List ℕ)) → AreAlike one other → hiding_text one flags decimals table names ≡ hiding_text other flags decimals table names
 text-same one other flags decimals table names alike =
     ap (λ (shown : ℕ → Option ℤ). table_text one.trees table names decimals (λ name. option_and_then shown (number_of one name))) (shown-same one.marks other.marks flags alike.truths)
     ∙ ap₂ (λ (trees : List Tree) (tables : List (List ℕ)). table_text trees table names decimals (λ name. option_and_then (open_truth other.marks flags) (number_of (record { trees = trees; tables = tables; marks = other.marks }) name))) alike.trees alike.tables
 
-pub tables-same : (one other : Held) (flags : List Bool) (decimals t : ℕ) (tables : List (List ℕ)) (names : List (List (List ℕ))) (files : List (List ℕ)) → AreAlike one other
+pub tables-same : (one other : BookView) (flags : List Bool) (decimals t : ℕ) (tables : List (List ℕ)) (names : List (List (List ℕ))) (files : List (List ℕ)) → AreAlike one other
     → tables_fault one flags decimals t tables names files ≡ tables_fault other flags decimals t tables names files
 tables-same one other flags decimals t [] names files alike = refl
 tables-same one other flags decimals t (table ∷ tables) [] files alike = refl
@@ -53,7 +53,7 @@ tables-same one other flags decimals t (table ∷ tables) (own ∷ names) (bytes
 -- ---- how tables are read as numbers
 
 -- a book of these trees and tables with these marks
-abbrev held : List Tree → List (List ℕ) → List Mark → Held
+abbrev held : List Tree → List (List ℕ) → List Mark → BookView
 held trees tables marks = record { trees = trees; tables = tables; marks = marks }
 
 -- a table of it, to be read as numbers
@@ -65,19 +65,19 @@ value-same : (trees : List Tree) (tables : List (List ℕ)) (t : ℕ) (table : L
 value-same trees tables t table decimals one other place bytes cell None = refl
 value-same trees tables t table decimals one other place bytes cell (Some value) = refl
 
-place-same : (trees : List Tree) (tables : List (List ℕ)) (t : ℕ) (table : List ℕ) (decimals : ℕ) (one other : List Mark) (reading : Reading) (place : List ℕ)
+place-same : (trees : List Tree) (tables : List (List ℕ)) (t : ℕ) (table : List ℕ) (decimals : ℕ) (one other : List Mark) (reading : ReleaseSoFar) (place : List ℕ)
     → read_place (form trees tables t table decimals one) reading place ≡ read_place (form trees tables t table decimals other) reading place
 unfolding read_place
 place-same trees tables t table decimals one other reading place =
-    ap (λ (next : ℕ → Result Reading LinePlace). or_fault (t, reading.line) (number_of (held trees tables one) (named (held trees tables one) table place)) >>= next)
+    ap (λ (next : ℕ → Result ReleaseSoFar LinePlace). or_fault (t, reading.line) (number_of (held trees tables one) (name_in_table (held trees tables one) table place)) >>= next)
     (fun_ext (λ cell. ap (λ (found : Option (Option ℤ × List ℕ)). or_fault (t, reading.line) found >>= λ it. reading_after reading cell it)
     (value-same trees tables t table decimals one other place reading.rest cell (slice_get reading.shown cell))))
 
-places-same : (trees : List Tree) (tables : List (List ℕ)) (t : ℕ) (table : List ℕ) (decimals : ℕ) (one other : List Mark) (reading : Reading) (rest : List (List ℕ))
+places-same : (trees : List Tree) (tables : List (List ℕ)) (t : ℕ) (table : List ℕ) (decimals : ℕ) (one other : List Mark) (reading : ReleaseSoFar) (rest : List (List ℕ))
     → read_places (form trees tables t table decimals one) reading rest ≡ read_places (form trees tables t table decimals other) reading rest
 places-same trees tables t table decimals one other reading [] = refl
 places-same trees tables t table decimals one other reading (place ∷ rest) =
-    ap₂ (λ (first : Result Reading LinePlace) (next : Reading → Result Reading LinePlace). first >>= next)
+    ap₂ (λ (first : Result ReleaseSoFar LinePlace) (next : ReleaseSoFar → Result ReleaseSoFar LinePlace). first >>= next)
     (place-same trees tables t table decimals one other reading place)
     (fun_ext (λ next. places-same trees tables t table decimals one other next rest))
 
@@ -86,7 +86,7 @@ table-same : (trees : List Tree) (tables : List (List ℕ)) (t : ℕ) (table : L
 unfolding read_table
 table-same trees tables t table decimals one other names bytes shown =
     ap (λ (next : List ℕ → Result (List (Option ℤ)) LinePlace). or_fault (t, 1) (rest_behind (line_text names) bytes) >>= next)
-    (fun_ext (λ rest. ap (λ (all : Result Reading LinePlace). all >>= λ it. refuse (t, it.line) (is_left it.rest) >>= λ _. Result.Ok it.shown)
+    (fun_ext (λ rest. ap (λ (all : Result ReleaseSoFar LinePlace). all >>= λ it. refuse (t, it.line) (is_left it.rest) >>= λ _. Result.Ok it.shown)
     (places-same trees tables t table decimals one other (record { shown = shown; rest = rest; line = 2 }) (places (trees_of trees table)))))
 
 all-same : (trees : List Tree) (tables : List (List ℕ)) (t : ℕ) (decimals : ℕ) (one other : List Mark) (left : List (List ℕ)) (names : List (List (List ℕ))) (files : List (List ℕ)) (shown : List (Option ℤ))
@@ -100,7 +100,7 @@ all-same trees tables t decimals one other (table ∷ left) (own ∷ names) (byt
     (table-same trees tables t table decimals one other own bytes shown)
     (fun_ext (λ next. all-same trees tables (t + 1) decimals one other left names files next))
 
-pub rounded-same : (one other : Held) (names : List (List (List ℕ))) (decimals : ℕ) (files : List (List ℕ)) → AreAlike one other → rounded_read one names decimals files ≡ rounded_read other names decimals files
+pub rounded-same : (one other : BookView) (names : List (List (List ℕ))) (decimals : ℕ) (files : List (List ℕ)) → AreAlike one other → rounded_read one names decimals files ≡ rounded_read other names decimals files
 rounded-same one other names decimals files alike =
     ap (map_ok numbers_of) (all-same one.trees one.tables 0 decimals one.marks other.marks one.tables names files [])
     ∙ ap₂ (λ (trees : List Tree) (tables : List (List ℕ)). rounded_read (held trees tables other.marks) names decimals files) alike.trees alike.tables

@@ -19,22 +19,22 @@ use Rattle.cost_rule.specs.Costs.{cost_of, price_of}
 use Rattle.cost_rule.specs.declared.kind.CostKind.{CostKind}
 use Rattle.cost_rule.specs.declared.kind.CostKind.TheVariants as kind
 use Rattle.hypercube.specs.LeastCubes.{cubes_in, price_in}
-use Rattle.linked_tables.specs.Held.{Held}
-use Rattle.linked_tables.specs.Shared.{cells as cells_in, cell_at}
+use Rattle.linked_tables.specs.BookViews.{BookView}
+use Rattle.linked_tables.specs.BookCells.{cells as cells_in, cell_at}
 use Rattle.linked_tables.specs.declared.mark.Mark.{Mark}
 use Rattle.modular_plan.specs.Plans.{hidden_in, in_passes, trail_of}
-use Rattle.primary_rules.specs.Kept.{AreFactsOf}
+use Rattle.primary_rules.specs.EnoughForRules.{AreFactsOf}
 use Rattle.relations.specs.Holding.{sum_in, IsSystemOf}
 use Rattle.job_inputs.proofs.Facts.{facts-in}
 use Rattle.job_inputs.specs.Cells.{cells}
-use Rattle.job_inputs.specs.Tabulated.{IsBookOf}
+use Rattle.job_inputs.specs.TabulatedBooks.{IsBookOf}
 use Rattle.job_inputs.specs.declared.inputs.Inputs.{Inputs}
 use Rattle.job_check.proofs.SameValues.{same-systems}
 
 -- ---- the system
 
 -- books of the same trees and tables have the same system
-pub same-system : (book next : Held) (one other : System) → book.trees ≡ next.trees → book.tables ≡ next.tables → IsSystemOf book one → IsSystemOf next other → one ≡ other
+pub same-system : (book next : BookView) (one other : System) → book.trees ≡ next.trees → book.tables ≡ next.tables → IsSystemOf book one → IsSystemOf next other → one ≡ other
 same-system book next one other trees tables is are =
     let named : cells_in book ≡ cells_in next = ap₂ (λ (ts : List Tree) (all : List (List ℕ)). cells_in (record { trees = ts; tables = all; marks = book.marks })) trees tables in
     let cells : one.cells ≡ other.cells = is.cells ∙ ap length named ∙ sym are.cells in
@@ -91,7 +91,7 @@ alike-at trees rows (name ∷ names) (m ∷ one) (n ∷ other) (suc cell) each a
     alike-at trees rows names one other cell (omega (arith, each)) (omega (arith, all)) (λ k called mark at is. facts (suc k) called mark at is) (λ k called mark at is. others (suc k) called mark at is)
 
 -- books of the same inputs have the same prices
-same-prices : (inputs : Inputs) (one other : Held) (all : List Cell) (cost : CostKind) → IsBookOf inputs one → IsBookOf inputs other → price_in one all cost ≡ price_in other all cost
+same-prices : (inputs : Inputs) (one other : BookView) (all : List Cell) (cost : CostKind) → IsBookOf inputs one → IsBookOf inputs other → price_in one all cost ≡ price_in other all cost
 same-prices inputs one other all cost is are =
     let facts = facts-in inputs one is in
     let others = facts-in inputs other are in
@@ -99,7 +99,7 @@ same-prices inputs one other all cost is are =
     (alike-at inputs.records.trees inputs.records.rows (cells inputs) one.marks other.marks cell facts.one_each others.one_each (λ k name mark at there. (facts.each k name mark at there).0) (λ k name mark at there. (others.each k name mark at there).0)))
 
 -- the trail by trees and tables, and by the price of each cell
-abbrev trail_by : Held → (ℕ → ℕ) → List Cell → ℕ → List PlanStep
+abbrev trail_by : BookView → (ℕ → ℕ) → List Cell → ℕ → List PlanStep
 trail_by book price all passes =
     fold
     (λ (steps : List PlanStep) (subtable : Subtable).
@@ -109,15 +109,15 @@ trail_by book price all passes =
     steps (hidden_in book (hidden_after all steps) subtable))
     [] (in_passes (ordered_subtables book.trees book.tables) (range_with_len 0 passes))
 
-trail-by : (book : Held) (all : List Cell) (cost : CostKind) (passes : ℕ) → trail_of book all cost passes ≡ trail_by book (price_in book all cost) all passes
+trail-by : (book : BookView) (all : List Cell) (cost : CostKind) (passes : ℕ) → trail_of book all cost passes ≡ trail_by book (price_in book all cost) all passes
 trail-by book all cost passes = refl
 
 -- it doesn't rest on the marks otherwise
-trail-frame : (one other : Held) (price : ℕ → ℕ) (all : List Cell) (passes : ℕ) → one.trees ≡ other.trees → one.tables ≡ other.tables → trail_by one price all passes ≡ trail_by other price all passes
+trail-frame : (one other : BookView) (price : ℕ → ℕ) (all : List Cell) (passes : ℕ) → one.trees ≡ other.trees → one.tables ≡ other.tables → trail_by one price all passes ≡ trail_by other price all passes
 trail-frame one other price all passes trees tables = ap₂ (λ (ts : List Tree) (each : List (List ℕ)). trail_by (record { trees = ts; tables = each; marks = one.marks }) price all passes) trees tables
 
 -- books of the same inputs have the same trail
-pub same-trail : (inputs : Inputs) (one other : Held) (all : List Cell) (cost : CostKind) (passes : ℕ) → IsBookOf inputs one → IsBookOf inputs other → trail_of one all cost passes ≡ trail_of other all cost passes
+pub same-trail : (inputs : Inputs) (one other : BookView) (all : List Cell) (cost : CostKind) (passes : ℕ) → IsBookOf inputs one → IsBookOf inputs other → trail_of one all cost passes ≡ trail_of other all cost passes
 same-trail inputs one other all cost passes is are =
     trail-by one all cost passes
     ∙ ap (λ (price : ℕ → ℕ). trail_by one price all passes) (same-prices inputs one other all cost is are)

@@ -6,7 +6,7 @@ use Rattle.office_io.specs.Files.{Files}
 use Rattle.job_inputs.proofs.Refusing.{fails-on}
 use Rattle.job_inputs.specs.CertificateFile.{certificate_in}
 use Rattle.job_inputs.specs.Looks.{IsFile, ComesTo as InputsComeTo}
-use Rattle.job_inputs.specs.Settled.{SettledInputs, settled_of, IsSettledOf}
+use Rattle.job_inputs.specs.SettledJobs.{SettledInputs, settled_of, IsSettledOf}
 use Rattle.job_inputs.specs.Tables.{tables_of, ComesToTables, TablesComeTo}
 use Rattle.job_inputs.specs.declared.described.Described.{Described}
 use Rattle.job_inputs.specs.declared.faults.Fault.{Fault}
@@ -15,7 +15,7 @@ use Rattle.job_inputs.specs.declared.file_ref.FileRef.TheVariants as file
 use Rattle.job_inputs.specs.declared.purpose.Purpose.TheVariants as purpose
 use Rattle.job_inputs.specs.declared.settled.SettledJob.{SettledJob}
 use Rattle.job_check.specs.Reading.{IsReleasedOf, ComesTo}
-use Rattle.job_check.specs.Released.{released_of}
+use Rattle.job_check.specs.ReleaseFiles.{released_of}
 use Rattle.job_check.specs.declared.reading.ReadRelease.{ReadRelease}
 
 -- a value that has a property, where there is one

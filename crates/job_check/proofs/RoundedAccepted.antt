@@ -23,12 +23,12 @@ use Rattle.cert_check.proofs.Written.{method_itself}
 use Rattle.cert_check.specs.Counts.{counts_fault, counts_fit}
 use Rattle.cert_check.specs.FirstFault.{suppressed_fault}
 use Rattle.cert_check.specs.HiddenSet.{hidden_set}
-use Rattle.cert_check.specs.Methods.{lists_nothing, method_fault, rounds, same_method, ListsNothing}
+use Rattle.cert_check.specs.Methods.{lists_nothing, method_fault, rounds_cells, same_method, ListsNothing}
 use Rattle.cert_check.specs.RoundedRelease.{at_line, rounded_fault, values_fault}
 use Rattle.cert_check.specs.declared.faults.CheckFault.{CheckFault}
 use Rattle.cert_check.specs.declared.faults.CheckFault.TheVariants as fault
-use Rattle.linked_tables.specs.Held.{Held}
-use Rattle.linked_tables.specs.Shared.{cells as cells_in}
+use Rattle.linked_tables.specs.BookViews.{BookView}
+use Rattle.linked_tables.specs.BookCells.{cells as cells_in}
 use Rattle.linked_tables.specs.declared.mark.Mark.{Mark}
 use Rattle.relations.specs.Holding.{sum_in}
 use Rattle.release_writer.specs.ReadingLaws.{IsReleased}
@@ -37,7 +37,7 @@ use Rattle.worlds.proofs.WorldLaws.{passes, then_ok}
 use Rattle.job_lang.specs.JobLimits.{IsMethod}
 use Rattle.job_inputs.proofs.Facts.{cells-are, facts-in}
 use Rattle.job_inputs.specs.Cells.{cells, truth_in}
-use Rattle.job_inputs.specs.Tabulated.{IsBookOf}
+use Rattle.job_inputs.specs.TabulatedBooks.{IsBookOf}
 use Rattle.job_inputs.specs.declared.described.Described.{Described}
 use Rattle.job_inputs.specs.declared.inputs.Inputs.{Inputs}
 use Rattle.job_check.proofs.CaseParts.{by-facts, length-map}
@@ -61,7 +61,7 @@ nothing-listed c lists = rw (lists.hidden, lists.steps, lists.repairs, lists.nee
 method-passes : (one : Method) (c : Certificate) → c.method ≡ one → ListsNothing c → method_fault one c ≡ Ok tt
 method-passes one c same lists =
     let right : same_method one c.method ≡ true = ap (same_method one) same ∙ method_itself one in
-    passes fault.Method (not (same_method one c.method) || (rounds one && not (lists_nothing c))) (tested (same_method one c.method) (rounds one) (lists_nothing c) right (nothing-listed c lists))
+    passes fault.Method (not (same_method one c.method) || (rounds_cells one && not (lists_nothing c))) (tested (same_method one c.method) (rounds_cells one) (lists_nothing c) right (nothing-listed c lists))
   where
     tested : (a b d : Bool) → a ≡ true → d ≡ true → (not a || (b && not d)) ≡ false
     tested true true true first last = refl
@@ -82,7 +82,7 @@ rounding-is-accepted case tables values c fits rounding one_each of_case lists r
     let judged : values_fault system case.cells.now case.base values ≡ Ok tt = (rounding_is_judged system case.cells.now case.base values (fits.base rounding) fits.each_cell is.each).1 is in
     let shown : rounded_fault case tables ≡ Ok tt =
     ap (λ (r : Result (List ℤ) LinePlace). map_fault at_line r >>= λ numbers. values_fault system case.cells.now case.base numbers) read ∙ judged in
-    let last : Result (Unit {0}) CheckFault = if rounds case.method then rounded_fault case tables else suppressed_fault case tables (hidden_set system.cells c.hidden) c in
+    let last : Result (Unit {0}) CheckFault = if rounds_cells case.method then rounded_fault case tables else suppressed_fault case tables (hidden_set system.cells c.hidden) c in
     let own : last ≡ Ok tt = ap (λ b. if b then rounded_fault case tables else suppressed_fault case tables (hidden_set system.cells c.hidden) c) rounding ∙ shown in
     then_ok (counts_fault system c) (λ _. method_fault case.method c >>= λ _. last) tt tt
     (passes fault.Counts (not (counts_fit system c)) (ap not (counts-pass system c of_case.same_cells of_case.same_relations lists)))
@@ -111,7 +111,7 @@ released-by (value ∷ values) each =
     (natural value first.0 first.1, released-by values (λ k within. each (suc k) (omega (arith, within))))
 
 -- each truth is from 0 and at most 10^29
-truths-within : (inputs : Inputs) (book : Held) → IsBookOf inputs book → (k : ℕ) → k < length book.marks → (pos 0 ≤ℤ number_at (map (λ mark. mark.facts.truth) book.marks) k) × (number_at (map (λ mark. mark.facts.truth) book.marks) k ≤ℤ pos (10 ^ 29))
+truths-within : (inputs : Inputs) (book : BookView) → IsBookOf inputs book → (k : ℕ) → k < length book.marks → (pos 0 ≤ℤ number_at (map (λ mark. mark.facts.truth) book.marks) k) × (number_at (map (λ mark. mark.facts.truth) book.marks) k ≤ℤ pos (10 ^ 29))
 truths-within inputs book is k within = at book.marks (cells_in book) k within is.one_each (λ cell name mark named there. (is.told cell name mark named there).within)
   where
     at : (marks : List Mark) (names : List Name) (k : ℕ) → k < length marks → length marks ≡ length names
@@ -123,7 +123,7 @@ truths-within inputs book is k within = at book.marks (cells_in book) k within i
     at (mark ∷ marks) (name ∷ names) (suc k) within many tells = at marks names k (omega (arith, within)) (omega (arith, many)) (λ cell one other named there. tells (suc cell) one other named there)
 
 -- the truths of the marks are those of the records
-truths-are : (inputs : Inputs) (book : Held) → IsBookOf inputs book → map (λ mark. mark.facts.truth) book.marks ≡ map (truth_in inputs) (cells inputs)
+truths-are : (inputs : Inputs) (book : BookView) → IsBookOf inputs book → map (λ mark. mark.facts.truth) book.marks ≡ map (truth_in inputs) (cells inputs)
 truths-are inputs book is =
     let facts = facts-in inputs book is in
     by (cells inputs) book.marks facts.one_each (λ k name mark named there. (facts.each k name mark named there).0.truth)
@@ -154,18 +154,18 @@ rounded-released system truths values base positive most within is = released-by
     (from-zero base (number_at truths k) (number_at values k) positive truth.0 adjacent, omega (arith, ints, adjacent.not_above, truth.1, most)))
 
 -- the truths of marks with the same facts
-own-truths : (own held : Held) → map (λ mark. mark.facts) held.marks ≡ map (λ mark. mark.facts) own.marks → map (λ mark. mark.facts.truth) own.marks ≡ map (λ mark. mark.facts.truth) held.marks
+own-truths : (own held : BookView) → map (λ mark. mark.facts) held.marks ≡ map (λ mark. mark.facts) own.marks → map (λ mark. mark.facts.truth) own.marks ≡ map (λ mark. mark.facts.truth) held.marks
 own-truths own held same = by-facts own.marks ∙ ap (map (λ (facts : CellFacts). facts.truth)) (sym same) ∙ sym (by-facts held.marks)
 
 pub written-rounding-is-accepted : WrittenRoundingIsAccepted
 written-rounding-is-accepted settled book system values case tables sound book_is system_is rounds_so is fits rounding texts =
     let inputs : Inputs = settled.inputs in
-    let own : Held = is.job.book in
+    let own : BookView = is.job.book in
     let its : IsBookOf inputs own = is.job_is.book in
     let trees : book.trees ≡ own.trees = book_is.trees ∙ sym its.trees in
     let all : book.tables ≡ own.tables = book_is.tables ∙ sym its.tables in
     let same : system ≡ case.system.now = same-system book own system case.system.now trees all system_is is.system in
-    let held : Held = case.book.now in
+    let held : BookView = case.book.now in
     let truths : map (truth_in inputs) (cells inputs) ≡ map (λ (cell : Cell). cell.truth) case.cells.now =
     sym (truths-are inputs own its) ∙ own-truths own held is.book.facts ∙ fits.truths in
     let here : IsRounding case.system.now (map (λ (cell : Cell). cell.truth) case.cells.now) case.base values =

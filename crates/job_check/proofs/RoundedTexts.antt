@@ -11,12 +11,12 @@ use Rattle.std.proofs.lemmas.List.{length-replicate}
 use Rattle.std.proofs.lemmas.Nat.{mod_below}
 use Rattle.sdc_base.specs.Cells.{trees_of}
 use Rattle.sdc_base.specs.Lines.{is_line_feed}
-use Rattle.sdc_base.specs.Numbers.{is_point, padded, read_units, stray, too_wide, units_of_parts, units_text, unless_stray, whole, fraction}
+use Rattle.sdc_base.specs.Numbers.{is_point, padded_digits, read_units, place_of_stray_byte, too_wide, units_of_parts, units_text, unless_stray, whole_digits, fraction}
 use Rattle.sdc_base.specs.Steps.{map_ok}
 use Rattle.sdc_base.specs.TableText.{codes_of_place, field_text, is_special}
 use Rattle.sdc_base.specs.declared.number_fault.NumberFault.{NumberFault}
-use Rattle.linked_tables.specs.Held.{Held}
-use Rattle.linked_tables.specs.Shared.{cells as cells_in}
+use Rattle.linked_tables.specs.BookViews.{BookView}
+use Rattle.linked_tables.specs.BookCells.{cells as cells_in}
 use Rattle.plain_text.proofs.ReadBack.{printed_read}
 use Rattle.release_writer.proofs.Behind.{behind-self, fields_before, line-last}
 use Rattle.release_writer.proofs.ReadBack.{ReadsNew, release-read}
@@ -41,14 +41,14 @@ both-plain : (a b : Bool) → a ≡ false → b ≡ false → (a || b) ≡ false
 both-plain a b first second = rw (first, second) refl
 
 -- bytes of which none is stray have no special one
-unstray-plain : (seen : Bool) (bytes : List ℕ) → stray seen bytes ≡ None → list_any is_special bytes ≡ false
+unstray-plain : (seen : Bool) (bytes : List ℕ) → place_of_stray_byte seen bytes ≡ None → list_any is_special bytes ≡ false
 unstray-plain seen [] h = refl
 unstray-plain seen (b ∷ bytes) h =
-    elim (is_ascii_digit b) as (λ d. is_ascii_digit b ≡ d → (if d then option_map (λ k. k + 1) (stray seen bytes) else if is_point b && not seen then option_map (λ k. k + 1) (stray true bytes) else Some 0) ≡ None → (is_special b || list_any is_special bytes) ≡ false) [
-      | true ↦ λ is h. both-plain (is_special b) (list_any is_special bytes) (digit-plain b is) (unstray-plain seen bytes (none-before (stray seen bytes) h))
+    elim (is_ascii_digit b) as (λ d. is_ascii_digit b ≡ d → (if d then option_map (λ k. k + 1) (place_of_stray_byte seen bytes) else if is_point b && not seen then option_map (λ k. k + 1) (place_of_stray_byte true bytes) else Some 0) ≡ None → (is_special b || list_any is_special bytes) ≡ false) [
+      | true ↦ λ is h. both-plain (is_special b) (list_any is_special bytes) (digit-plain b is) (unstray-plain seen bytes (none-before (place_of_stray_byte seen bytes) h))
       | false ↦ λ is h.
-          elim (is_point b && not seen) as (λ p. (is_point b && not seen) ≡ p → (if p then option_map (λ k. k + 1) (stray true bytes) else Some 0) ≡ None → (is_special b || list_any is_special bytes) ≡ false) [
-            | true ↦ λ point h. both-plain (is_special b) (list_any is_special bytes) (point-plain b seen point) (unstray-plain true bytes (none-before (stray true bytes) h))
+          elim (is_point b && not seen) as (λ p. (is_point b && not seen) ≡ p → (if p then option_map (λ k. k + 1) (place_of_stray_byte true bytes) else Some 0) ≡ None → (is_special b || list_any is_special bytes) ≡ false) [
+            | true ↦ λ point h. both-plain (is_special b) (list_any is_special bytes) (point-plain b seen point) (unstray-plain true bytes (none-before (place_of_stray_byte true bytes) h))
             | false ↦ λ point h. absurd cc
           ] refl h
     ] refl h
@@ -61,13 +61,13 @@ read-unstray (Some place) read z h = absurd cc
 printed-plain : (n decimals : ℕ) → n < too_wide → list_any is_special (units_text n decimals) ≡ false
 printed-plain n decimals narrow =
     let text = units_text n decimals in
-    unstray-plain false text (read-unstray (stray false text) (units_of_parts (whole text) (fraction text) decimals) (pos n) (printed_read n decimals narrow))
+    unstray-plain false text (read-unstray (place_of_stray_byte false text) (units_of_parts (whole_digits text) (fraction text) decimals) (pos n) (printed_read n decimals narrow))
 
 -- so it stands in a table as it is
 printed-field : (n decimals : ℕ) → n < too_wide → field_text (units_text n decimals) ≡ units_text n decimals
 printed-field n decimals narrow = rw (printed-plain n decimals narrow) refl
 
-short-back : (n decimals : ℕ) → 0 < decimals → decimals ≤ 13 → length (padded decimals (n % 10 ^ decimals)) ≤ 13
+short-back : (n decimals : ℕ) → 0 < decimals → decimals ≤ 13 → length (padded_digits decimals (n % 10 ^ decimals)) ≤ 13
 short-back n decimals some few =
     let rest = n % 10 ^ decimals in
     let below : rest < 10 ^ decimals = mod_below n (10 ^ decimals) (one-le-pow decimals 10 (omega arith)) in
@@ -78,14 +78,14 @@ short-back n decimals some few =
 -- it is short
 printed-short : (n decimals : ℕ) → n < too_wide → decimals ≤ 13 → length (units_text n decimals) < 60
 printed-short n decimals narrow few =
-    elim (decimals == 0) as (λ b. (decimals == 0) ≡ b → length (if b then decimal n else decimal (n / 10 ^ decimals) ++ 46 ∷ padded decimals (n % 10 ^ decimals)) < 60) [
+    elim (decimals == 0) as (λ b. (decimals == 0) ≡ b → length (if b then decimal n else decimal (n / 10 ^ decimals) ++ 46 ∷ padded_digits decimals (n % 10 ^ decimals)) < 60) [
       | true ↦ λ is. let one : length (decimal n) ≤ 37 = length-decimal-le_wide 37 n (omega arith) narrow (omega (arith, narrow)) in omega (arith, one)
       | false ↦ λ is.
           let some : 0 < decimals = grind (arith, is) in
           let front = n / 10 ^ decimals in
           let below : front ≤ n = div-le_self n (10 ^ decimals) in
           let one : length (decimal front) ≤ 37 = length-decimal-le_wide 37 front (omega arith) (omega (arith, below, narrow)) (omega (arith, below, narrow)) in
-          omega (arith, one, short-back n decimals some few, length-append (decimal front) (46 ∷ padded decimals (n % 10 ^ decimals)))
+          omega (arith, one, short-back n decimals some few, length-append (decimal front) (46 ∷ padded_digits decimals (n % 10 ^ decimals)))
     ] refl
 
 no-feed : (b : ℕ) (rest : Bool) → (is_special b || rest) ≡ false → is_line_feed b ≡ false
@@ -147,7 +147,7 @@ released-at (number ∷ numbers) zero released within = (released.0.0, ap Some r
 released-at (number ∷ numbers) (suc cell) released within = released-at numbers cell released.1 (omega (arith, within))
 
 -- a new cell's number is read
-numbers-new : (book : Held) (decimals : ℕ) (numbers : List ℤ) → decimals ≤ 13 → IsReleased numbers → length numbers ≡ length (cells_in book) → ReadsNew book decimals true (slice_get numbers)
+numbers-new : (book : BookView) (decimals : ℕ) (numbers : List ℤ) → decimals ≤ 13 → IsReleased numbers → length numbers ≡ length (cells_in book) → ReadsNew book decimals true (slice_get numbers)
 numbers-new book decimals numbers few released many t table place rest cell within =
     let form : Template = record { book = book; t = t; table = table; decimals = decimals; rounded = true } in
     let it = released-at numbers cell released (omega (arith, within, many)) in
@@ -162,8 +162,8 @@ each-number f (number ∷ numbers) a same =
     ∙ ap (λ (rest : List ℤ). number ∷ rest) (each-number f numbers (a + 1) (λ k within. ap f (omega arith) ∙ same (suc k) (omega (arith, within))))
 
 pub rounded-are-read-back : RoundedAreReadBack
-rounded-are-read-back book names decimals files numbers one_each whole few released texts =
-    let many : length numbers ≡ length (cells_in book) = whole ∙ one_each in
+rounded-are-read-back book names decimals files numbers one_each whole_digits few released texts =
+    let many : length numbers ≡ length (cells_in book) = whole_digits ∙ one_each in
     ap (map_ok numbers_of) (release-read book decimals true (slice_get numbers) names files (numbers-new book decimals numbers few released many) texts)
     ∙ ap (λ (n : ℕ). Ok (numbers_of (first_shown (slice_get numbers) n))) (sym many)
     ∙ ap Ok (each-number (slice_get numbers) numbers 0 (λ k within. ap (slice_get numbers) (omega arith)))

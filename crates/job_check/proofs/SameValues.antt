@@ -8,7 +8,7 @@ use Rattle.sdc_base.specs.declared.cell.Cell.{Cell}
 use Rattle.sdc_base.specs.declared.cell.Kind.TheVariants.{Primary}
 use Rattle.sdc_base.specs.declared.relation.Relation.{Relation}
 use Rattle.sdc_base.specs.declared.system.System.{System}
-use Rattle.apriori.specs.Settling.{Settled, seen}
+use Rattle.apriori.specs.Settling.{SettledCell, view_of_cell}
 use Rattle.relations.specs.Holding.{sum_in}
 
 -- values that are made of the same, with a proof of a fact that has one
@@ -18,7 +18,7 @@ same-made Fact once make one other p q same = subst (λ x. (r : Fact x) → make
 -- ---- cells
 
 -- what holds of the amounts of a cell
-record IsBounded (s : Settled) : Type 0 where
+record IsBounded (s : SettledCell) : Type 0 where
   low_from_zero : pos 0 ≤ℤ s.low
   low_within : s.low ≤ℤ s.truth
   high_beyond : ForSome s.high (λ bound. s.truth ≤ℤ bound)
@@ -28,11 +28,11 @@ record IsBounded (s : Settled) : Type 0 where
   other_up : s.kind ≢ Primary → s.up ≡ pos 0
   other_down : s.kind ≢ Primary → s.down ≡ pos 0
 
-bounded-once : (s : Settled) → IsProp (IsBounded s)
+bounded-once : (s : SettledCell) → IsProp (IsBounded s)
 bounded-once s = Prim.hlevel props
 
 -- the cell with these amounts
-cell-of : (s : Settled) → IsBounded s → Cell
+cell-of : (s : SettledCell) → IsBounded s → Cell
 cell-of s is = record {
   truth = s.truth;
   low = s.low;
@@ -51,7 +51,7 @@ cell-of s is = record {
   other_down = is.other_down;
 }
 
-bounds-of : (cell : Cell) → IsBounded (seen cell)
+bounds-of : (cell : Cell) → IsBounded (view_of_cell cell)
 bounds-of cell = record {
   low_from_zero = cell.low_from_zero;
   low_within = cell.low_within;
@@ -63,18 +63,18 @@ bounds-of cell = record {
   other_down = cell.other_down;
 }
 
-same-cell : (one other : Cell) → seen one ≡ seen other → one ≡ other
+same-cell : (one other : Cell) → view_of_cell one ≡ view_of_cell other → one ≡ other
 unfolding cell-of bounds-of
-same-cell one other same = same-made IsBounded bounded-once cell-of (seen one) (seen other) (bounds-of one) (bounds-of other) same
+same-cell one other same = same-made IsBounded bounded-once cell-of (view_of_cell one) (view_of_cell other) (bounds-of one) (bounds-of other) same
 
 -- cells that are seen alike are the same
-pub same-cells : (one other : List Cell) → map seen one ≡ map seen other → one ≡ other
+pub same-cells : (one other : List Cell) → map view_of_cell one ≡ map view_of_cell other → one ≡ other
 same-cells [] [] same = refl
 same-cells [] (cell ∷ other) same = absurd cc
 same-cells (cell ∷ one) [] same = absurd cc
 same-cells (first ∷ one) (second ∷ other) same =
-    let heads : seen first ≡ seen second = cc in
-    let tails : map seen one ≡ map seen other = cc in
+    let heads : view_of_cell first ≡ view_of_cell second = cc in
+    let tails : map view_of_cell one ≡ map view_of_cell other = cc in
     ap₂ (λ (cell : Cell) (cells : List Cell). cell ∷ cells) (same-cell first second heads) (same-cells one other tails)
 
 -- ---- relations

@@ -6,7 +6,7 @@ use Rattle.cell_protection.specs.Protections.{passes_of}
 use Rattle.cert_check.specs.declared.case.Case.{Case}
 use Rattle.modular_plan.specs.Plans.{trail_of, IsSameButHidden}
 use Rattle.relations.specs.Holding.{IsSystemOf}
-use Rattle.job_inputs.specs.Settled.{SettledInputs, IsSettledOf}
+use Rattle.job_inputs.specs.SettledJobs.{SettledInputs, IsSettledOf}
 use Rattle.job_inputs.specs.Tables.{names_of}
 use Rattle.job_inputs.specs.declared.settled.SettledJob.{SettledJob}
 
@@ -16,15 +16,17 @@ base_of (method.Rnd base) decimals = base *ℤ pos (10 ^ decimals)
 base_of (method.Gh passes) decimals = pos 1
 base_of method.Modular decimals = pos 1
 
--- The case of settled inputs: their tables with the truths of their cells, whichever cells are marked as hidden, the system of the
--- relations between these, the cells, and the trail, the base, the names and the decimals that the job makes.
+-- The case of settled inputs: their tables with the truths of their cells, whichever cells are marked as hidden, the
+-- system of the relations between these, the cells, and the trail, the base, the names and the decimals that the job
+-- makes.
 pub record IsCaseOf (settled : SettledInputs) (case : Case) : Type 0 where
   pub job : SettledJob
   pub job_is : IsSettledOf settled job
   pub book : IsSameButHidden job.book case.book.now
   pub system : IsSystemOf job.book case.system.now
   pub cells : case.cells.now ≡ job.cells
-  pub trail : case.trail.now.steps ≡ trail_of job.book job.cells job.described.job.cost (passes_of job.described.job.method)
+  pub trail : case.trail.now.steps ≡ trail_of job.book job.cells job.described.job.cost
+      (passes_of job.described.job.method)
   pub method : case.method ≡ job.described.job.method
   pub base : case.base ≡ base_of job.described.job.method job.described.bound.decimals
   pub names : case.names.now ≡ map names_of job.described.job.tables

@@ -1,4 +1,4 @@
-pub mod Released
+pub mod ReleaseFiles
 pub mod Cases
 pub mod Reading
 pub mod Answers

@@ -5,24 +5,24 @@ use Rattle.office_io.specs.Files.{Files}
 use Rattle.job_inputs.specs.CertificateFile.{certificate_in}
 use Rattle.job_inputs.specs.Looks.{ComesTo as InputsComeTo}
 use Rattle.job_inputs.specs.Reading.{stopped_for}
-use Rattle.job_inputs.specs.Settled.{SettledInputs, settled_of, IsReadyJob, IsSettledOf}
+use Rattle.job_inputs.specs.SettledJobs.{SettledInputs, settled_of, IsReadyJob, IsSettledOf}
 use Rattle.job_inputs.specs.Tables.{TablesComeTo}
 use Rattle.job_inputs.specs.declared.faults.Fault.{Fault}
 use Rattle.job_inputs.specs.declared.file_ref.FileRef.{FileRef}
 use Rattle.job_inputs.specs.declared.file_ref.FileRef.TheVariants as file
 use Rattle.job_inputs.specs.declared.purpose.Purpose.TheVariants as purpose
 use Rattle.job_inputs.specs.declared.stop.InputStop.{InputStop}
-use Rattle.job_check.specs.Released.{Released}
+use Rattle.job_check.specs.ReleaseFiles.{ReleasedFiles}
 use Rattle.job_check.specs.declared.reading.ReadRelease.{ReadRelease}
 
 -- the job that was read has these settled inputs, and the certificate and the tables are these
-pub record IsReleasedOf (released : Released) (read : ReadRelease) : Type 0 where
+pub record IsReleasedOf (released : ReleasedFiles) (read : ReadRelease) : Type 0 where
   pub settled : IsSettledOf released.settled read.job
   pub certificate : read.certificate ≡ released.certificate
   pub tables : read.tables ≡ released.tables
 
 -- the answer is a release that was read, or the first fault, want of memory and faults of the shelf aside
-abbrev pub AreReleased : Result ReadRelease InputStop → Result Released Fault → Type 0
+abbrev pub AreReleased : Result ReadRelease InputStop → Result ReleasedFiles Fault → Type 0
 AreReleased (Ok read) meant = IsOkAnd meant (λ released. IsReleasedOf released read)
 AreReleased (Err stop) meant = Fails (stopped_for stop) meant
 
@@ -31,10 +31,14 @@ pub record IsReadyRelease (read : ReadRelease) : Type 0 where
   pub job : IsReadyJob read.job
   pub each : length read.tables ≡ length read.job.described.job.outputs
 
--- The check comes to this file, which has this name, and nothing before it has a fault: a file of the inputs, then the certificate,
--- then the tables in the order of the job.
+-- The check comes to this file, which has this name, and nothing before it has a fault: a file of the inputs, then the
+-- certificate, then the tables in the order of the job.
 abbrev pub ComesTo : Files → List ℕ → FileRef → List ℕ → Type 0
-ComesTo files name file.Certificate held = (settled : SettledInputs) × (settled_of purpose.Release files name ≡ Ok settled) × (held ≡ settled.inputs.described.job.certificate)
+ComesTo files name file.Certificate held =
+    (settled : SettledInputs) × (settled_of purpose.Release files name ≡ Ok settled)
+    × (held ≡ settled.inputs.described.job.certificate)
 ComesTo files name (file.Table t) held =
-    (settled : SettledInputs) × (settled_of purpose.Release files name ≡ Ok settled) × IsOk (certificate_in files settled.inputs.described.job) × TablesComeTo files settled.inputs.described.job t held
+    (settled : SettledInputs) × (settled_of purpose.Release files name ≡ Ok settled)
+    × IsOk (certificate_in files settled.inputs.described.job)
+    × TablesComeTo files settled.inputs.described.job t held
 ComesTo files name other held = InputsComeTo purpose.Release files name other held

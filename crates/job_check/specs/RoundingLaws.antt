@@ -8,24 +8,25 @@ use Rattle.certificate.specs.declared.certificate.Certificate.{Certificate}
 use Rattle.cert_check.specs.Acceptance.{IsOfCase}
 use Rattle.cert_check.specs.Cases.{IsCase}
 use Rattle.cert_check.specs.FirstFault.{first_fault}
-use Rattle.cert_check.specs.Methods.{rounds, ListsNothing}
+use Rattle.cert_check.specs.Methods.{rounds_cells, ListsNothing}
 use Rattle.cert_check.specs.declared.case.Case.{Case}
-use Rattle.linked_tables.specs.Held.{Held}
-use Rattle.linked_tables.specs.Shared.{cells as cells_in}
+use Rattle.linked_tables.specs.BookViews.{BookView}
+use Rattle.linked_tables.specs.BookCells.{cells as cells_in}
 use Rattle.relations.specs.Holding.{IsSystemOf}
 use Rattle.release_writer.specs.ReadingLaws.{AreTexts, IsReleased}
 use Rattle.release_writer.specs.ReleaseReading.{rounded_read}
 use Rattle.job_inputs.specs.Cells.{cells, truth_in}
-use Rattle.job_inputs.specs.Settled.{SettledInputs}
-use Rattle.job_inputs.specs.Sound.{IsSound}
-use Rattle.job_inputs.specs.Tabulated.{IsBookOf}
+use Rattle.job_inputs.specs.SettledJobs.{SettledInputs}
+use Rattle.job_inputs.specs.SoundJobs.{IsSound}
+use Rattle.job_inputs.specs.TabulatedBooks.{IsBookOf}
 use Rattle.job_check.specs.Cases.{IsCaseOf}
 
 -- texts that were written for numbers, each from 0 and not too wide, are read as these numbers
 abbrev pub RoundedAreReadBack : Type 0
 RoundedAreReadBack =
-    (book : Held) (names : List (List (List ℕ))) (decimals : ℕ) (files : List (List ℕ)) (numbers : List ℤ)
-    → length book.marks ≡ length (cells_in book) → length numbers ≡ length book.marks → decimals ≤ 13 → IsReleased numbers
+    (book : BookView) (names : List (List (List ℕ))) (decimals : ℕ) (files : List (List ℕ)) (numbers : List ℤ)
+    → length book.marks ≡ length (cells_in book) → length numbers ≡ length book.marks → decimals ≤ 13
+    → IsReleased numbers
     → AreTexts book decimals (slice_get numbers) book.tables names files
     → rounded_read book names decimals files ≡ Ok numbers
 
@@ -33,22 +34,25 @@ RoundedAreReadBack =
 abbrev pub RoundingIsAccepted : Type 0
 RoundingIsAccepted =
     (case : Case) (tables : List (List ℕ)) (values : List ℤ) (certificate : Certificate)
-    → IsCase case tables → rounds case.method ≡ true → length case.book.now.marks ≡ length (cells_in case.book.now)
+    → IsCase case tables → rounds_cells case.method ≡ true
+    → length case.book.now.marks ≡ length (cells_in case.book.now)
     → IsOfCase case certificate → ListsNothing certificate → IsReleased values
     → IsRounding case.system.now (map (λ cell. cell.truth) case.cells.now) case.base values
     → AreTexts case.book.now case.decimals (slice_get values) case.book.now.tables case.names.now tables
     → first_fault case tables certificate ≡ Ok tt
 
--- Where values are a rounding for settled inputs of a job within its limits, to the base of their case, a certificate that counts the cells and the relations and lists
--- nothing has no fault for that case, with the tables that show the values: so a check accepts what a run that rounds has put, with
--- the same inputs.
+-- Where values are a rounding for settled inputs of a job within its limits, to the base of their case, a certificate
+-- that counts the cells and the relations and lists nothing has no fault for that case, with the tables that show the
+-- values: so a check accepts what a run that rounds has put, with the same inputs.
 abbrev pub WrittenRoundingIsAccepted : Type 0
 WrittenRoundingIsAccepted =
-    (settled : SettledInputs) (book : Held) (system : System) (values : List ℤ) (case : Case) (tables : List (List ℕ))
+    (settled : SettledInputs) (book : BookView) (system : System) (values : List ℤ) (case : Case)
+    (tables : List (List ℕ))
     → IsSound settled.inputs.described → IsBookOf settled.inputs book → IsSystemOf book system
     → IsRounding system (map (truth_in settled.inputs) (cells settled.inputs)) case.base values
-    → IsCaseOf settled case → IsCase case tables → rounds case.method ≡ true
+    → IsCaseOf settled case → IsCase case tables → rounds_cells case.method ≡ true
     → AreTexts case.book.now case.decimals (slice_get values) case.book.now.tables case.names.now tables
     → first_fault case tables
-    (without_hidden_cells settled.inputs.described.job.method (length (cells settled.inputs)) (length (relations_among settled.inputs.records.trees settled.inputs.described.bound.tables)))
+    (without_hidden_cells settled.inputs.described.job.method (length (cells settled.inputs))
+    (length (relations_among settled.inputs.records.trees settled.inputs.described.bound.tables)))
     ≡ Ok tt

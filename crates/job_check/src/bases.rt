@@ -5,11 +5,11 @@ ghost use Rattle.job_check.specs.Cases.{base_of};
 
 use sdc_base::Method;
 
-/// The base to which a method rounds, in units of so many decimals: as many as the job says, of the response's whole numbers.
-/// Of a method that doesn't round it is 1, and nothing is to be made of it.
+/// The base to which a method rounds, in units of so many decimals: as many as the job says, of the response's whole
+/// numbers. Of a method that doesn't round it is 1, and nothing is to be made of it.
 ///
-/// The method is one of a job, and decimals are at most 13; so a base is at most `10^22`. Nothing is refused. That a job's base
-/// counts whole numbers of the response is argus's own.
+/// The method is one of a job, and decimals are at most 13; so a base is at most `10^22`. Nothing is refused. That a
+/// job's base counts whole numbers of the response is argus's own.
 pub fn base_in_units(method: Method, decimals: u8) -> i128
     requires method { IsMethod method }
     requires decimals { decimals ≤ 13 }

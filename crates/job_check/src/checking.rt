@@ -1,11 +1,11 @@
 ghost use Rattle.std.specs.Prelude.{◌≡◌, Err};
-ghost use Rattle.sdc_base.specs.Told.{WhereTold};
+ghost use Rattle.sdc_base.specs.WhereTold.{WhereTold};
 ghost use Rattle.office_io.specs.Shelves.{HasOnlyRead};
 ghost use Rattle.job_inputs.specs.Reading.{HasCause, HasComeTo};
 ghost use Rattle.job_inputs.specs.declared.stop.InputStop.{InputStop as AnyStop};
-ghost use Rattle.job_check.specs.Answers.{Comes};
+ghost use Rattle.job_check.specs.Answers.{AnswersRelease};
 ghost use Rattle.job_check.specs.Reading.{ComesTo};
-ghost use Rattle.job_check.specs.Released.{released_of};
+ghost use Rattle.job_check.specs.ReleaseFiles.{released_of};
 
 use crate::judging::judge;
 use crate::reading::read_release;
@@ -14,30 +14,31 @@ use office_io::Shelf;
 use sdc_base::Text;
 use std::alloc::Global;
 
-/// Whether the certificate and the tables that stand on the shelf under the names of a job are a release of the job, whoever made
-/// them.
+/// Whether the certificate and the tables that stand on the shelf under the names of a job are a release of the job,
+/// whoever made them.
 ///
-/// The inputs of the job of this name are read up to its settled cells, as for a release, then the certificate, and then the
-/// tables in the order of the job; the first fault is the answer. Then the certificate and the tables are judged by the relations
-/// between the cells, by the cells, and by the trail that the job's method makes: the first fault that `cert_check` names in its
-/// order is `NotAccepted`. Where there is none, `Ok` says that the cells which the tables hide are protected, as the certificate
-/// shows, or that the tables are a rounding to the job's base. Want of memory is `Inputs`. Nothing is written, and no question is
-/// asked.
+/// The inputs of the job of this name are read up to its settled cells, as for a release, then the certificate, and
+/// then the tables in the order of the job; the first fault is the answer. Then the certificate and the tables are
+/// judged by the relations between the cells, by the cells, and by the trail that the job's method makes: the first
+/// fault that `cert_check` names in its order is `NotAccepted`. Where there is none, `Ok` says that the cells which the
+/// tables hide are protected, as the certificate shows, or that the tables are a rounding to the job's base. Want of
+/// memory is `Inputs`. Nothing is written, and no question is asked.
 ///
-/// Over a shelf that tells nothing, as one over real files, three answers have a cause that counts show: that a file is absent,
-/// that one is too long, and that the shelf failed.
+/// Over a shelf that tells nothing, as one over real files, three answers have a cause that counts show: that a file is
+/// absent, that one is too long, and that the shelf failed.
 ///
-/// The cost is that of reading each file once, with the records, the certificate and the tables kept in memory, that of the plan,
-/// and that of judging, which goes once through each list of the certificate. The order is argus's own.
+/// The cost is that of reading each file once, with the records, the certificate and the tables kept in memory, that of
+/// the plan, and that of judging, which goes once through each list of the certificate. The order is argus's own.
 pub fn check_release<S: Shelf>(alloc: Global, shelf: &mut S, name: &Text) -> Result<(), CheckStop>
     // The answer is what the told files come to.
-    ensures told { WhereTold (S.state shelf.old).files (λ fs. Comes (released_of fs name.now) result) }
+    ensures told { WhereTold (S.state shelf.old).files (λ fs. AnswersRelease (released_of fs name.now) result) }
 
     // Where the shelf failed at a file, it is one to which the check came with no fault before it.
     ensures came_to { WhereTold (S.state shelf.old).files (λ fs. (e : AnyStop) → result ≡ Err (CheckStop.Inputs e)
         → HasComeTo {X = Unit {0}} (ComesTo fs name.now) (Err e) fs (S.state shelf.new)) }
     ensures only_read { HasOnlyRead (S.state shelf.old) (S.state shelf.new) }
-    ensures cause { (e : AnyStop) → result ≡ Err (CheckStop.Inputs e) → HasCause {X = Unit {0}} (Err e) (S.state shelf.old) (S.state shelf.new) }
+    ensures cause { (e : AnyStop) → result ≡ Err (CheckStop.Inputs e)
+        → HasCause {X = Unit {0}} (Err e) (S.state shelf.old) (S.state shelf.new) }
 {
     let read = read_release(alloc, shelf, name)?;
     judge(alloc, read)?;

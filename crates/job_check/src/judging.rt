@@ -1,6 +1,6 @@
 ghost use Rattle.job_check.specs.Answers.{IsJudgedSo};
 ghost use Rattle.job_check.specs.Reading.{IsReadyRelease, IsReleasedOf};
-ghost use Rattle.job_check.specs.Released.{Released as AnyReleased};
+ghost use Rattle.job_check.specs.ReleaseFiles.{ReleasedFiles as AnyReleased};
 
 use crate::bases::base_in_units;
 use crate::reading::ReadRelease;
@@ -10,8 +10,8 @@ use job_inputs::{SettledJob, table_names};
 use relations::relations_of;
 use std::alloc::Global;
 
-/// Whether the certificate of a release shows that its tables are protected, or rounded, as the job wants: its first fault, if
-/// it has one, for the case of the job's settled cells.
+/// Whether the certificate of a release shows that its tables are protected, or rounded, as the job wants: its first
+/// fault, if it has one, for the case of the job's settled cells.
 pub(crate) fn judge(alloc: Global, read: ReadRelease) -> Result<(), CheckFault>
     requires { IsReadyRelease read }
     ensures { (released : AnyReleased) → IsReleasedOf released read → IsJudgedSo released result }

@@ -1,9 +1,9 @@
 ghost use Rattle.std.specs.Prelude.{IfOk};
-ghost use Rattle.sdc_base.specs.Told.{WhereTold};
+ghost use Rattle.sdc_base.specs.WhereTold.{WhereTold};
 ghost use Rattle.office_io.specs.Shelves.{HasOnlyRead};
 ghost use Rattle.job_inputs.specs.Reading.{HasCause, HasComeTo};
 ghost use Rattle.job_check.specs.Reading.{AreReleased, ComesTo, IsReadyRelease};
-ghost use Rattle.job_check.specs.Released.{released_of};
+ghost use Rattle.job_check.specs.ReleaseFiles.{released_of};
 
 use certificate::Certificate;
 use job_inputs::{
@@ -29,7 +29,8 @@ pub(crate) fn read_release<S: Shelf>(
 ) -> Result<ReadRelease, InputStop>
     ensures told { WhereTold (S.state shelf.old).files (λ fs. AreReleased result (released_of fs name.now)) }
     ensures ready { IfOk result IsReadyRelease }
-    ensures came_to { WhereTold (S.state shelf.old).files (λ fs. HasComeTo (ComesTo fs name.now) result fs (S.state shelf.new)) }
+    ensures came_to { WhereTold (S.state shelf.old).files
+        (λ fs. HasComeTo (ComesTo fs name.now) result fs (S.state shelf.new)) }
     ensures only_read { HasOnlyRead (S.state shelf.old) (S.state shelf.new) }
     ensures cause { HasCause result (S.state shelf.old) (S.state shelf.new) }
 {

@@ -11,7 +11,7 @@ use Rattle.linked_tables.specs.declared.book_fault.BookFault.TheVariants as book
 use Rattle.sdc_base.specs.Answers.{Fails}
 use Rattle.job_inputs.specs.Laws.{OnlyCellsAreTooMany}
 use Rattle.job_inputs.specs.Refusals.{IsForCells}
-use Rattle.job_inputs.specs.Sound.{IsSound}
+use Rattle.job_inputs.specs.SoundJobs.{IsSound}
 use Rattle.job_inputs.specs.declared.described.Described.{Described}
 
 abbrev IsTooMany : BookFault → Type 0

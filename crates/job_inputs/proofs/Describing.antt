@@ -10,7 +10,7 @@ use Rattle.job_lang.specs.Jobs.{job_of}
 use Rattle.job_lang.specs.declared.faults.JobWhy.TheVariants.{BadValue}
 use Rattle.job_lang.specs.declared.bound.Bound.{Bound}
 use Rattle.job_lang.specs.declared.job.Job.{Job}
-use Rattle.job_inputs.specs.Inputs.{look, job_fault, job_for, meta_fault, described_of}
+use Rattle.job_inputs.specs.Inputs.{bytes_of_file, job_fault, job_for, meta_fault, described_of}
 use Rattle.job_inputs.specs.Looks.{job_read, IsFile, ComesFirstTo}
 use Rattle.job_inputs.specs.Purposes.{is_unfit}
 use Rattle.job_inputs.specs.declared.faults.Fault.TheVariants as fault
@@ -34,36 +34,36 @@ pub job-unfit : (purpose : Purpose) (bytes : List ℕ) (job : Job) → job_of by
 unfolding job_for
 job-unfit purpose bytes job read unfit = rw (read, unfit) refl
 
-pub job-was-read : (purpose : Purpose) (files : Files) (name bytes : List ℕ) (job : Job) → look files name file.Job ≡ Ok bytes → job_for purpose bytes ≡ Ok job → job_read purpose files name ≡ Ok job
+pub job-was-read : (purpose : Purpose) (files : Files) (name bytes : List ℕ) (job : Job) → bytes_of_file files name file.Job ≡ Ok bytes → job_for purpose bytes ≡ Ok job → job_read purpose files name ≡ Ok job
 unfolding job_read
 job-was-read purpose files name bytes job found read = rw (found, read) refl
 
-pub described-is : (purpose : Purpose) (files : Files) (name bytes text : List ℕ) (job : Job) (meta : Meta) (bound : Bound) → look files name file.Job ≡ Ok bytes → job_for purpose bytes ≡ Ok job
-    → look files job.meta file.Metadata ≡ Ok text → map_fault meta_fault (meta_of text) ≡ Ok meta → map_fault job_fault (bound_of job meta) ≡ Ok bound
+pub described-is : (purpose : Purpose) (files : Files) (name bytes text : List ℕ) (job : Job) (meta : Meta) (bound : Bound) → bytes_of_file files name file.Job ≡ Ok bytes → job_for purpose bytes ≡ Ok job
+    → bytes_of_file files job.meta file.Metadata ≡ Ok text → map_fault meta_fault (meta_of text) ≡ Ok meta → map_fault job_fault (bound_of job meta) ≡ Ok bound
     → described_of purpose files name ≡ Ok (record { job = job; meta = meta; bound = bound })
 unfolding described_of
 described-is purpose files name bytes text job meta bound found read told said looked = rw (found, read, told, said, looked) refl
 
 -- what stops the job's file stops all, and so do what it says, the metadata's file, what they say, and what they don't have
-pub job-file-stops : (purpose : Purpose) (files : Files) (name : List ℕ) (o : Option Fault) → Fails o (look files name file.Job) → Fails o (described_of purpose files name)
+pub job-file-stops : (purpose : Purpose) (files : Files) (name : List ℕ) (o : Option Fault) → Fails o (bytes_of_file files name file.Job) → Fails o (described_of purpose files name)
 unfolding described_of
-job-file-stops purpose files name o h = fails-on o (look files name file.Job) _ h
+job-file-stops purpose files name o h = fails-on o (bytes_of_file files name file.Job) _ h
 
-pub job-stops : (purpose : Purpose) (files : Files) (name bytes : List ℕ) (o : Option Fault) → look files name file.Job ≡ Ok bytes → Fails o (job_for purpose bytes) → Fails o (described_of purpose files name)
+pub job-stops : (purpose : Purpose) (files : Files) (name bytes : List ℕ) (o : Option Fault) → bytes_of_file files name file.Job ≡ Ok bytes → Fails o (job_for purpose bytes) → Fails o (described_of purpose files name)
 unfolding described_of
 job-stops purpose files name bytes o found h = rw found (fails-on o (job_for purpose bytes) _ h)
 
-pub meta-file-stops : (purpose : Purpose) (files : Files) (name bytes : List ℕ) (job : Job) (o : Option Fault) → look files name file.Job ≡ Ok bytes → job_for purpose bytes ≡ Ok job → Fails o (look files job.meta file.Metadata) → Fails o (described_of purpose files name)
+pub meta-file-stops : (purpose : Purpose) (files : Files) (name bytes : List ℕ) (job : Job) (o : Option Fault) → bytes_of_file files name file.Job ≡ Ok bytes → job_for purpose bytes ≡ Ok job → Fails o (bytes_of_file files job.meta file.Metadata) → Fails o (described_of purpose files name)
 unfolding described_of
-meta-file-stops purpose files name bytes job o found read h = rw (found, read) (fails-on o (look files job.meta file.Metadata) _ h)
+meta-file-stops purpose files name bytes job o found read h = rw (found, read) (fails-on o (bytes_of_file files job.meta file.Metadata) _ h)
 
-pub meta-stops : (purpose : Purpose) (files : Files) (name bytes text : List ℕ) (job : Job) (o : Option Fault) → look files name file.Job ≡ Ok bytes → job_for purpose bytes ≡ Ok job → look files job.meta file.Metadata ≡ Ok text
+pub meta-stops : (purpose : Purpose) (files : Files) (name bytes text : List ℕ) (job : Job) (o : Option Fault) → bytes_of_file files name file.Job ≡ Ok bytes → job_for purpose bytes ≡ Ok job → bytes_of_file files job.meta file.Metadata ≡ Ok text
     → Fails o (map_fault meta_fault (meta_of text)) → Fails o (described_of purpose files name)
 unfolding described_of
 meta-stops purpose files name bytes text job o found read told h = rw (found, read, told) (fails-on o (map_fault meta_fault (meta_of text)) _ h)
 
-pub bound-stops : (purpose : Purpose) (files : Files) (name bytes text : List ℕ) (job : Job) (meta : Meta) (o : Option Fault) → look files name file.Job ≡ Ok bytes → job_for purpose bytes ≡ Ok job
-    → look files job.meta file.Metadata ≡ Ok text → map_fault meta_fault (meta_of text) ≡ Ok meta → Fails o (map_fault job_fault (bound_of job meta)) → Fails o (described_of purpose files name)
+pub bound-stops : (purpose : Purpose) (files : Files) (name bytes text : List ℕ) (job : Job) (meta : Meta) (o : Option Fault) → bytes_of_file files name file.Job ≡ Ok bytes → job_for purpose bytes ≡ Ok job
+    → bytes_of_file files job.meta file.Metadata ≡ Ok text → map_fault meta_fault (meta_of text) ≡ Ok meta → Fails o (map_fault job_fault (bound_of job meta)) → Fails o (described_of purpose files name)
 unfolding described_of
 bound-stops purpose files name bytes text job meta o found read told said h = rw (found, read, told, said) (fails-on o (map_fault job_fault (bound_of job meta)) _ h)
 

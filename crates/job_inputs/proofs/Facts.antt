@@ -9,22 +9,22 @@ use Rattle.cost_rule.specs.Costs.{AreCosted}
 use Rattle.sdc_base.specs.RuleLevels.{keep_of}
 use Rattle.sdc_base.specs.Trees.{Tree}
 use Rattle.sdc_base.specs.declared.rows.Row.{Row}
-use Rattle.linked_tables.specs.Held.{Held}
-use Rattle.linked_tables.specs.Shared.{cells as cells_in}
+use Rattle.linked_tables.specs.BookViews.{BookView}
+use Rattle.linked_tables.specs.BookCells.{cells as cells_in}
 use Rattle.linked_tables.specs.declared.mark.Mark.{Mark}
-use Rattle.primary_rules.specs.Kept.{AreFactsOf}
+use Rattle.primary_rules.specs.EnoughForRules.{AreFactsOf}
 use Rattle.tabulate.proofs.Finish.{read-within}
 use Rattle.sdc_base.specs.Cells.{cells_of}
-use Rattle.apriori.specs.Statements.{Known, known_of, Basis, basis_of}
+use Rattle.apriori.specs.Statements.{KnownCell, known_of, Basis, basis_of}
 use Rattle.apriori.specs.Settling.{AreFactsIn, IsReadyFor as IsReadyMark}
 use Rattle.sdc_base.specs.Sums.{truth, freq}
 use Rattle.job_inputs.specs.Cells.{cells, truth_in}
-use Rattle.job_inputs.specs.Stated.{known_in, basis_in}
+use Rattle.job_inputs.specs.PriorStatements.{known_in, basis_in}
 use Rattle.sdc_base.specs.declared.rule.Rules.{Rules}
-use Rattle.job_inputs.specs.Tabulated.{IsBookOf, IsReadyFor}
+use Rattle.job_inputs.specs.TabulatedBooks.{IsBookOf, IsReadyFor}
 use Rattle.job_inputs.specs.declared.inputs.Inputs.{Inputs}
 use Rattle.job_inputs.proofs.Placing.{get-within}
-use Rattle.tabulate.specs.Tabulated.{AreTabulated, TellsOf}
+use Rattle.tabulate.specs.TabulatedMarks.{AreTabulated, TellsOf}
 
 -- ---- the facts of cells
 
@@ -44,11 +44,11 @@ facts-of trees rows keep scale name mark h = record { truth = h.truth_is; freq =
 -- ---- a book of the inputs
 
 -- the book has as many cells as the inputs
-pub cells-are : (inputs : Inputs) (book : Held) → IsBookOf inputs book → cells_in book ≡ cells_of inputs.records.trees inputs.described.bound.tables
+pub cells-are : (inputs : Inputs) (book : BookView) → IsBookOf inputs book → cells_in book ≡ cells_of inputs.records.trees inputs.described.bound.tables
 cells-are inputs book is = ap (λ (trees : List Tree). cells_of trees book.tables) is.trees ∙ ap (λ (tables : List (List ℕ)). cells_of inputs.records.trees tables) is.tables
 
 -- the marks have the facts of the records in their cells
-pub facts-in : (inputs : Inputs) (book : Held) → IsBookOf inputs book → AreFactsIn book.marks inputs.records.trees (cells inputs) inputs.records.rows inputs.described.bound.scale
+pub facts-in : (inputs : Inputs) (book : BookView) → IsBookOf inputs book → AreFactsIn book.marks inputs.records.trees (cells inputs) inputs.records.rows inputs.described.bound.scale
 facts-in inputs book is = record {
   one_each = sym (is.one_each ∙ ap length (cells-are inputs book is));
   each = λ cell name mark at holds.
@@ -60,21 +60,21 @@ facts-in inputs book is = record {
       );
 }
 
-known-same : (one : Known) (truth : ℤ) (freq : ℕ) → one.truth ≡ truth → one.freq ≡ freq → one ≡ (record { truth = truth; freq = freq })
+known-same : (one : KnownCell) (truth : ℤ) (freq : ℕ) → one.truth ≡ truth → one.freq ≡ freq → one ≡ (record { truth = truth; freq = freq })
 known-same one truth freq a b = rw (← a, ← b) refl
 
 -- what the marks tell is what is known of the cells
-known-is : (inputs : Inputs) (book : Held) → IsBookOf inputs book → map (λ (mark : Mark). known_of mark.facts) book.marks ≡ known_in inputs
+known-is : (inputs : Inputs) (book : BookView) → IsBookOf inputs book → map (λ (mark : Mark). known_of mark.facts) book.marks ≡ known_in inputs
 known-is inputs book is =
     let facts = facts-in inputs book is in
     same-maps (λ (mark : Mark). known_of mark.facts) (λ name. record { truth = truth_in inputs name; freq = freq inputs.records.trees name inputs.records.rows }) (cells inputs) book.marks facts.one_each
     (λ k name mark at holds. known-same (known_of mark.facts) (truth_in inputs name) (freq inputs.records.trees name inputs.records.rows) (facts.each k name mark at holds).0.truth (facts.each k name mark at holds).0.freq)
 
-basis-same : (one : Basis) (trees : List Tree) (tables : List (List ℕ)) (known : List Known) → one.trees ≡ trees → one.tables ≡ tables → one.known ≡ known → one ≡ (record { trees = trees; tables = tables; known = known })
+basis-same : (one : Basis) (trees : List Tree) (tables : List (List ℕ)) (known : List KnownCell) → one.trees ≡ trees → one.tables ≡ tables → one.known ≡ known → one ≡ (record { trees = trees; tables = tables; known = known })
 basis-same one trees tables known a b c = rw (← a, ← b, ← c) refl
 
 -- so is what statements are held against
-pub basis-is : (inputs : Inputs) (book : Held) → IsBookOf inputs book → basis_of book ≡ basis_in inputs
+pub basis-is : (inputs : Inputs) (book : BookView) → IsBookOf inputs book → basis_of book ≡ basis_in inputs
 basis-is inputs book is = basis-same (basis_of book) inputs.records.trees inputs.described.bound.tables (known_in inputs) is.trees is.tables (known-is inputs book is)
 
 -- ---- what holds of each mark
@@ -84,7 +84,7 @@ all-at P [] h = All-nil P
 all-at P (x ∷ xs) h = All-cons P x xs (h 0 x refl) (all-at P xs (λ k y is. h (suc k) y is))
 
 -- each mark of a tabulated book tells of a cell
-told-of : (book : Held) (rows : List Row) (keep scale k : ℕ) (mark : Mark) → AreTabulated book rows keep scale → length book.marks ≡ length (cells_in book) → slice_get book.marks k ≡ Some mark → (name : Name) × TellsOf book.trees rows keep scale name mark
+told-of : (book : BookView) (rows : List Row) (keep scale k : ℕ) (mark : Mark) → AreTabulated book rows keep scale → length book.marks ≡ length (cells_in book) → slice_get book.marks k ≡ Some mark → (name : Name) × TellsOf book.trees rows keep scale name mark
 told-of book rows keep scale k mark told many at =
     let name = read-within (cells_in book) k (omega (arith, many, get-within book.marks k mark at)) in
     (name.0, told k name.0 mark name.1 at)
@@ -98,7 +98,7 @@ no-more test (x ∷ xs) = elim (test x) as (λ b. length (cond b (x ∷ filter t
 ]
 
 -- a tabulated book of a job is ready for its rules and texts
-pub is-ready : (described : Described) (book : Held) (rows : List Row) → AreTabulated book rows (keep_of described.job.rules.list) described.bound.scale → length rows ≤ 1000000 → length book.marks ≡ length (cells_in book) → book.tables ≡ described.bound.tables
+pub is-ready : (described : Described) (book : BookView) (rows : List Row) → AreTabulated book rows (keep_of described.job.rules.list) described.bound.scale → length rows ≤ 1000000 → length book.marks ≡ length (cells_in book) → book.tables ≡ described.bound.tables
     → IsReadyFor described book
 is-ready described book rows told few many tables =
     let keep = keep_of described.job.rules.list in

@@ -4,8 +4,8 @@ use Rattle.std.proofs.lemmas.List.{take-append-drop}
 use Rattle.std.proofs.lemmas.Bool.Decides.{nat_tests}
 use Rattle.sdc_base.specs.Answers.{Fails}
 use Rattle.sdc_base.specs.Steps.{map_fault}
-use Rattle.sdc_base.specs.Told.{WhereTold}
-use Rattle.microdata.specs.Feeding.{Reading, HasRead, fed_of}
+use Rattle.sdc_base.specs.WhereTold.{WhereTold}
+use Rattle.microdata.specs.Feeding.{ReaderView, HasRead, fed_of}
 use Rattle.microdata.specs.Laws.{FaultsStand}
 use Rattle.microdata.specs.Microdata.{records_of}
 use Rattle.microdata.specs.declared.faults.RowWhy.{RowWhy}
@@ -17,7 +17,7 @@ use Rattle.job_inputs.specs.declared.faults.Fault.{Fault}
 use Rattle.job_inputs.specs.declared.faults.Fault.TheVariants as fault
 
 -- so many bytes of the file were fed, and the others are left
-pub record IsFed (layout : Layout) (bytes : List ℕ) (reader : Reading) (left : Option (List ℕ)) (taken : ℕ) : Type 0 where
+pub record IsFed (layout : Layout) (bytes : List ℕ) (reader : ReaderView) (left : Option (List ℕ)) (taken : ℕ) : Type 0 where
   pub got : List ℕ
   pub rest : List ℕ
   pub is_left : left ≡ Some rest
@@ -25,7 +25,7 @@ pub record IsFed (layout : Layout) (bytes : List ℕ) (reader : Reading) (left :
   pub read : HasRead reader layout got
   pub count : length got ≡ taken
 
-pub fed-start : (layout : Layout) (bytes : List ℕ) (reader : Reading) (left : Option (List ℕ)) → left ≡ Some bytes → HasRead reader layout [] → IsFed layout bytes reader left 0
+pub fed-start : (layout : Layout) (bytes : List ℕ) (reader : ReaderView) (left : Option (List ℕ)) → left ≡ Some bytes → HasRead reader layout [] → IsFed layout bytes reader left 0
 fed-start layout bytes reader left is read = record { got = []; rest = bytes; is_left = is; whole = refl; read = read; count = refl }
 
 -- the rest, after the front of what was read
@@ -35,7 +35,7 @@ cut-rest rest buffer n same = sym (take-append-drop n rest) ∙ ap (λ (xs : Lis
 whole-cut : (got rest front behind bytes : List ℕ) → bytes ≡ got ++ rest → rest ≡ front ++ behind → bytes ≡ (got ++ front) ++ behind
 whole-cut got rest front behind bytes whole cut = whole ∙ ap (λ (xs : List ℕ). got ++ xs) cut ∙ sym (append_assoc got front behind)
 
-pub fed-more : (layout : Layout) (bytes : List ℕ) (old new : Reading) (left : Option (List ℕ)) (taken n : ℕ) (buffer : List ℕ) → IsFed layout bytes old left taken
+pub fed-more : (layout : Layout) (bytes : List ℕ) (old new : ReaderView) (left : Option (List ℕ)) (taken n : ℕ) (buffer : List ℕ) → IsFed layout bytes old left taken
     → WhereTold left (λ rest. n ≤ length rest) → WhereTold left (λ rest. take n buffer ≡ take n rest)
     → ((got : List ℕ) → HasRead old layout got → HasRead new layout (got ++ take n buffer)) → IsFed layout bytes new (option_map (drop n) left) (taken + n)
 fed-more layout bytes old new left taken n buffer fed within given goes =
@@ -51,7 +51,7 @@ fed-more layout bytes old new left taken n buffer fed within given goes =
       count = length-append fed.got (take n buffer) ∙ omega (arith, fed.count, long);
     }
 
-pub fed-end : (layout : Layout) (bytes : List ℕ) (reader : Reading) (left : Option (List ℕ)) (taken n : ℕ) → IsFed layout bytes reader left taken → n ≡ 0 → WhereTold left (λ rest. (n ≡ 0) ↔ (rest ≡ []))
+pub fed-end : (layout : Layout) (bytes : List ℕ) (reader : ReaderView) (left : Option (List ℕ)) (taken n : ℕ) → IsFed layout bytes reader left taken → n ≡ 0 → WhereTold left (λ rest. (n ≡ 0) ↔ (rest ≡ []))
     → HasRead reader layout bytes × (length bytes ≡ taken)
 fed-end layout bytes reader left taken n fed none end =
     let nothing : fed.rest ≡ [] = (end fed.rest fed.is_left).0 none in
@@ -100,7 +100,7 @@ is-fine : (told : Result (Unit {0}) (ℕ × RowWhy)) → map_fault row_fault tol
 is-fine (Ok x) h = refl
 is-fine (Err at) h = absurd cc
 
-pub fed-faulty : FaultsStand → (layout : Layout) (bytes : List ℕ) (reader : Reading) (left : Option (List ℕ)) (taken n m : ℕ) (buffer : List ℕ) (o : Option Fault) → IsFed layout bytes reader left taken
+pub fed-faulty : FaultsStand → (layout : Layout) (bytes : List ℕ) (reader : ReaderView) (left : Option (List ℕ)) (taken n m : ℕ) (buffer : List ℕ) (o : Option Fault) → IsFed layout bytes reader left taken
     → WhereTold left (λ rest. n ≤ length rest) → WhereTold left (λ rest. take n buffer ≡ take n rest) → m ≤ n → taken + m ≤ limit
     → ((got : List ℕ) → HasRead reader layout got → Fails o (map_fault row_fault (fed_of layout (got ++ take m buffer)))) → Fails o (records_in layout (Some bytes))
 fed-faulty law layout bytes reader left taken n m buffer o fed within given less short fails =
@@ -115,7 +115,7 @@ fed-faulty law layout bytes reader left taken n m buffer o fed within given less
 
 -- ---- a file that is too long
 
-pub fed-long : (layout : Layout) (bytes : List ℕ) (reader : Reading) (left : Option (List ℕ)) (taken n : ℕ) (buffer : List ℕ) → IsFed layout bytes reader left taken
+pub fed-long : (layout : Layout) (bytes : List ℕ) (reader : ReaderView) (left : Option (List ℕ)) (taken n : ℕ) (buffer : List ℕ) → IsFed layout bytes reader left taken
     → WhereTold left (λ rest. n ≤ length rest) → WhereTold left (λ rest. take n buffer ≡ take n rest) → limit - taken < n → taken ≤ limit
     → ((got : List ℕ) → HasRead reader layout got → map_fault row_fault (fed_of layout (got ++ take (limit - taken) buffer)) ≡ Ok tt) → records_in layout (Some bytes) ≡ Err (fault.TooLong file.Microdata)
 fed-long layout bytes reader left taken n buffer fed within given more short fine =

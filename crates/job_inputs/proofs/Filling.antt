@@ -9,16 +9,16 @@ use Rattle.sdc_base.specs.declared.rule.Rule.{Rule}
 use Rattle.sdc_base.specs.declared.rule.Rule.TheVariants as rule
 use Rattle.sdc_base.specs.declared.rule.Rules.{Rules}
 use Rattle.job_lang.specs.JobLimits.{AreInRange as AreJobRules, IsInRange as IsJobRule}
-use Rattle.linked_tables.specs.Blank.{IsBlank}
+use Rattle.linked_tables.specs.BlankMarks.{IsBlank}
 use Rattle.linked_tables.specs.Tables.{book_of, first_fault, unless_fault}
 use Rattle.linked_tables.specs.declared.book_fault.BookFault.{BookFault}
 use Rattle.linked_tables.specs.declared.mark.Mark.{Mark}
 use Rattle.microdata.specs.Ranges.{AreInTrees, IsRow as IsReadRow}
 use Rattle.primary_rules.specs.Ranges.{AreInRange, IsInRange}
-use Rattle.tabulate.specs.Tabulated.{IsRow, HasNone}
+use Rattle.tabulate.specs.TabulatedMarks.{IsRow, HasNone}
 use Rattle.job_lang.specs.Binding.{weight_decimals}
 use Rattle.std.specs.Prelude.{◌^◌}
-use Rattle.job_inputs.specs.Sound.{IsSound}
+use Rattle.job_inputs.specs.SoundJobs.{IsSound}
 use Rattle.job_inputs.specs.declared.described.Described.{Described}
 
 -- ---- rules

@@ -16,8 +16,8 @@ use Rattle.rda_meta.specs.declared.meta.Variable.{Variable}
 use Rattle.microdata.specs.declared.layout.Source.{Source}
 use Rattle.microdata.specs.declared.layout.Source.TheVariants as source
 use Rattle.job_inputs.proofs.Refusing.{fails-on}
-use Rattle.job_inputs.specs.Inputs.{look, codes_in, tree_in, listed_tree, source_of}
-use Rattle.job_inputs.specs.Listed.{AreListed}
+use Rattle.job_inputs.specs.Inputs.{bytes_of_file, codes_in, tree_in, listed_tree, source_of}
+use Rattle.job_inputs.specs.ListedCodes.{AreListed}
 use Rattle.job_inputs.specs.declared.faults.Fault.{Fault}
 use Rattle.job_inputs.specs.declared.faults.Fault.TheVariants as fault
 use Rattle.job_inputs.specs.declared.file_ref.FileRef.TheVariants as file
@@ -52,30 +52,30 @@ are-listed law total bytes kept read =
 
 -- ---- a code list
 
-pub list-file-stops : (files : Files) (place : ℕ) (total name : List ℕ) (o : Option Fault) → Fails o (look files name (file.CodeList place)) → Fails o (codes_in files place total (Some name))
+pub list-file-stops : (files : Files) (place : ℕ) (total name : List ℕ) (o : Option Fault) → Fails o (bytes_of_file files name (file.CodeList place)) → Fails o (codes_in files place total (Some name))
 unfolding codes_in
-list-file-stops files place total name o h = fails-on o (look files name (file.CodeList place)) _ h
+list-file-stops files place total name o h = fails-on o (bytes_of_file files name (file.CodeList place)) _ h
 
-pub list-contents-stop : (files : Files) (place : ℕ) (total name bytes : List ℕ) (o : Option Fault) → look files name (file.CodeList place) ≡ Ok bytes → Fails o (map_fault (fault.Tree (file.CodeList place)) (codes_of total bytes)) → Fails o (codes_in files place total (Some name))
+pub list-contents-stop : (files : Files) (place : ℕ) (total name bytes : List ℕ) (o : Option Fault) → bytes_of_file files name (file.CodeList place) ≡ Ok bytes → Fails o (map_fault (fault.Tree (file.CodeList place)) (codes_of total bytes)) → Fails o (codes_in files place total (Some name))
 unfolding codes_in
 list-contents-stop files place total name bytes o read h = rw read h
 
-pub list-is : (files : Files) (place : ℕ) (total name bytes : List ℕ) (kept : List (List ℕ)) → look files name (file.CodeList place) ≡ Ok bytes → map_fault (fault.Tree (file.CodeList place)) (codes_of total bytes) ≡ Ok kept
+pub list-is : (files : Files) (place : ℕ) (total name bytes : List ℕ) (kept : List (List ℕ)) → bytes_of_file files name (file.CodeList place) ≡ Ok bytes → map_fault (fault.Tree (file.CodeList place)) (codes_of total bytes) ≡ Ok kept
     → codes_in files place total (Some name) ≡ Ok kept
 unfolding codes_in
 list-is files place total name bytes kept read h = rw read h
 
 -- ---- a hierarchy
 
-pub tree-file-stops : (files : Files) (place : ℕ) (v : Variable) (name lead : List ℕ) (o : Option Fault) → Fails o (look files name (file.Hierarchy place)) → Fails o (listed_tree files place v name lead)
+pub tree-file-stops : (files : Files) (place : ℕ) (v : Variable) (name lead : List ℕ) (o : Option Fault) → Fails o (bytes_of_file files name (file.Hierarchy place)) → Fails o (listed_tree files place v name lead)
 unfolding listed_tree
-tree-file-stops files place v name lead o h = fails-on o (look files name (file.Hierarchy place)) _ h
+tree-file-stops files place v name lead o h = fails-on o (bytes_of_file files name (file.Hierarchy place)) _ h
 
-pub tree-contents-stop : (files : Files) (place : ℕ) (v : Variable) (name lead bytes : List ℕ) (o : Option Fault) → look files name (file.Hierarchy place) ≡ Ok bytes → Fails o (tree_in (file.Hierarchy place) v lead bytes) → Fails o (listed_tree files place v name lead)
+pub tree-contents-stop : (files : Files) (place : ℕ) (v : Variable) (name lead bytes : List ℕ) (o : Option Fault) → bytes_of_file files name (file.Hierarchy place) ≡ Ok bytes → Fails o (tree_in (file.Hierarchy place) v lead bytes) → Fails o (listed_tree files place v name lead)
 unfolding listed_tree
 tree-contents-stop files place v name lead bytes o read h = rw read h
 
-pub tree-is : (files : Files) (place : ℕ) (v : Variable) (name lead bytes : List ℕ) (tree : Tree) → look files name (file.Hierarchy place) ≡ Ok bytes → tree_in (file.Hierarchy place) v lead bytes ≡ Ok tree → listed_tree files place v name lead ≡ Ok tree
+pub tree-is : (files : Files) (place : ℕ) (v : Variable) (name lead bytes : List ℕ) (tree : Tree) → bytes_of_file files name (file.Hierarchy place) ≡ Ok bytes → tree_in (file.Hierarchy place) v lead bytes ≡ Ok tree → listed_tree files place v name lead ≡ Ok tree
 unfolding listed_tree
 tree-is files place v name lead bytes tree read h = rw read h
 

@@ -23,8 +23,8 @@ use Rattle.microdata.specs.declared.layout.Layout.{Layout}
 use Rattle.microdata.specs.declared.records.Records.{Records}
 use Rattle.microdata.specs.declared.layout.NumberField.{NumberField}
 use Rattle.job_inputs.specs.Layouts.{number_field, no_number, number_at, weight_in, last_position, up_to_field, up_to_number, layout_of}
-use Rattle.job_inputs.specs.Placed.{IsPlaced, IsPlacedField, IsPlacedNumber}
-use Rattle.job_inputs.specs.Sound.{IsSound, AreAtLeaves, AreRecords}
+use Rattle.job_inputs.specs.PlacedFields.{IsPlaced, IsPlacedField, IsPlacedNumber}
+use Rattle.job_inputs.specs.SoundJobs.{IsSound, AreAtLeaves, AreRecords}
 use Rattle.job_inputs.specs.declared.described.Described.{Described}
 use Rattle.microdata.specs.declared.layout.Source.TheVariants as source
 

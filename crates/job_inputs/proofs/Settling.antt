@@ -3,15 +3,15 @@ use Rattle.std.proofs.Common.{◌≡◌, ℕ, List, Option, Some, Result, Ok, Er
 use Rattle.sdc_base.specs.Answers.{Fails}
 use Rattle.sdc_base.specs.Steps.{map_fault, refuse}
 use Rattle.sdc_base.specs.Trees.{Tree}
-use Rattle.apriori.specs.Settling.{Settled, settle_of}
+use Rattle.apriori.specs.Settling.{SettledCell, settle_of}
 use Rattle.apriori.specs.declared.prior.Prior.{Prior}
 use Rattle.linked_tables.specs.Tables.{book_of}
 use Rattle.office_io.specs.Files.{Files}
 use Rattle.job_inputs.proofs.Refusing.{fails-on}
 use Rattle.job_inputs.specs.Cells.{figures, cells_fault, prior_fault}
 use Rattle.job_inputs.specs.Inputs.{inputs_of}
-use Rattle.job_inputs.specs.Settled.{settled_of, overwrites_job, SettledInputs}
-use Rattle.job_inputs.specs.Stated.{priors_of}
+use Rattle.job_inputs.specs.SettledJobs.{settled_of, overwrites_job, SettledInputs}
+use Rattle.job_inputs.specs.PriorStatements.{priors_of}
 use Rattle.job_inputs.specs.declared.faults.Fault.{Fault}
 use Rattle.job_inputs.specs.declared.faults.Fault.TheVariants as fault
 use Rattle.job_inputs.specs.declared.purpose.Purpose.{Purpose}
@@ -41,7 +41,7 @@ unfolding settled_of
 cells-fail purpose files name inputs given priors o read linked stated h = rw (read, linked, stated) (fails-on o (map_fault prior_fault (settle_of inputs.described.job.rules (figures inputs) priors)) _ h)
 
 -- and a job that would overwrite itself
-pub outputs-fail : (purpose : Purpose) (files : Files) (name : List ℕ) (inputs : Inputs) (given : List Tree × List (List ℕ)) (priors : List Prior) (cells : List Settled) (reason : Fault) → inputs_of purpose files name ≡ Ok inputs
+pub outputs-fail : (purpose : Purpose) (files : Files) (name : List ℕ) (inputs : Inputs) (given : List Tree × List (List ℕ)) (priors : List Prior) (cells : List SettledCell) (reason : Fault) → inputs_of purpose files name ≡ Ok inputs
     → map_fault cells_fault (book_of inputs.records.trees inputs.described.bound.tables) ≡ Ok given → priors_of files inputs ≡ Ok priors
     → map_fault prior_fault (settle_of inputs.described.job.rules (figures inputs) priors) ≡ Ok cells → refuse fault.OutName (overwrites_job name inputs.described.job) ≡ Err reason
     → settled_of purpose files name ≡ Err reason
@@ -49,7 +49,7 @@ unfolding settled_of
 outputs-fail purpose files name inputs given priors cells reason read linked stated settled wrong = rw (read, linked, stated, settled, wrong) refl
 
 -- inputs, book, statements, cells and outputs are all that there is
-pub settled-is : (purpose : Purpose) (files : Files) (name : List ℕ) (inputs : Inputs) (given : List Tree × List (List ℕ)) (priors : List Prior) (cells : List Settled) → inputs_of purpose files name ≡ Ok inputs
+pub settled-is : (purpose : Purpose) (files : Files) (name : List ℕ) (inputs : Inputs) (given : List Tree × List (List ℕ)) (priors : List Prior) (cells : List SettledCell) → inputs_of purpose files name ≡ Ok inputs
     → map_fault cells_fault (book_of inputs.records.trees inputs.described.bound.tables) ≡ Ok given → priors_of files inputs ≡ Ok priors
     → map_fault prior_fault (settle_of inputs.described.job.rules (figures inputs) priors) ≡ Ok cells → refuse fault.OutName (overwrites_job name inputs.described.job) ≡ Ok tt
     → settled_of purpose files name ≡ Ok (record { inputs = inputs; priors = priors; cells = cells })

@@ -6,24 +6,24 @@ use Rattle.apriori.specs.declared.prior.Prior.{Prior}
 use Rattle.apriori.specs.Applying.{file_says}
 use Rattle.apriori.specs.Statements.{Basis, basis_of}
 use Rattle.std.specs.Prelude.{replicate}
-use Rattle.apriori.specs.Priors.{blank}
+use Rattle.apriori.specs.Priors.{empty_prior}
 use Rattle.job_inputs.specs.Cells.{cells, prior_fault}
 use Rattle.job_inputs.proofs.Facts.{basis-is}
 use Rattle.job_lang.specs.declared.job.PriorLine.{PriorLine}
-use Rattle.job_inputs.specs.Counted.{IsCountedOf}
+use Rattle.job_inputs.specs.CountedRecords.{IsCountedOf}
 use Rattle.job_inputs.specs.Looks.{StatementsComeTo}
 use Rattle.sdc_base.specs.Steps.{map_fault}
 use Rattle.job_inputs.proofs.Refusing.{fails-on}
-use Rattle.job_inputs.specs.Inputs.{look}
+use Rattle.job_inputs.specs.Inputs.{bytes_of_file}
 use Rattle.job_inputs.specs.declared.file_ref.FileRef.TheVariants as file
-use Rattle.job_inputs.specs.Stated.{basis_in, prior_line, with_file, with_files}
+use Rattle.job_inputs.specs.PriorStatements.{basis_in, prior_line, with_file, with_files}
 use Rattle.job_inputs.specs.declared.counted.Counted.{Counted}
 use Rattle.job_inputs.specs.declared.described.Described.{Described}
 use Rattle.job_inputs.specs.declared.inputs.Inputs.{Inputs}
 use Rattle.job_inputs.specs.declared.faults.Fault.{Fault}
 
 -- before the first table nothing is stated
-pub files-none : (files : Files) (inputs : Inputs) (priors : List Prior) (n : ℕ) → priors ≡ replicate n blank → n ≡ length (cells inputs) → with_files files inputs 0 ≡ Ok priors
+pub files-none : (files : Files) (inputs : Inputs) (priors : List Prior) (n : ℕ) → priors ≡ replicate n empty_prior → n ≡ length (cells inputs) → with_files files inputs 0 ≡ Ok priors
 unfolding with_files
 files-none files inputs priors n blanks many = rw (blanks, many) refl
 
@@ -82,16 +82,16 @@ pub prior-file-none : (files : Files) (inputs : Inputs) (t : ℕ) (line : Option
 unfolding with_file
 prior-file-none files inputs t line stated none = rw none refl
 
-pub prior-file-stops : (files : Files) (inputs : Inputs) (t : ℕ) (told : Option PriorLine) (line : PriorLine) (stated : List Prior) (o : Option Fault) → told ≡ Some line → Fails o (look files line.file (file.Apriori t)) → Fails o (with_file files inputs t told stated)
+pub prior-file-stops : (files : Files) (inputs : Inputs) (t : ℕ) (told : Option PriorLine) (line : PriorLine) (stated : List Prior) (o : Option Fault) → told ≡ Some line → Fails o (bytes_of_file files line.file (file.Apriori t)) → Fails o (with_file files inputs t told stated)
 unfolding with_file
-prior-file-stops files inputs t told line stated o is h = rw is (fails-on o (look files line.file (file.Apriori t)) _ h)
+prior-file-stops files inputs t told line stated o is h = rw is (fails-on o (bytes_of_file files line.file (file.Apriori t)) _ h)
 
-pub prior-contents-stop : (files : Files) (inputs : Inputs) (t : ℕ) (told : Option PriorLine) (line : PriorLine) (bytes : List ℕ) (stated : List Prior) (o : Option Fault) → told ≡ Some line → look files line.file (file.Apriori t) ≡ Ok bytes
+pub prior-contents-stop : (files : Files) (inputs : Inputs) (t : ℕ) (told : Option PriorLine) (line : PriorLine) (bytes : List ℕ) (stated : List Prior) (o : Option Fault) → told ≡ Some line → bytes_of_file files line.file (file.Apriori t) ≡ Ok bytes
     → Fails o (map_fault prior_fault (file_says (basis_in inputs) t line.separator inputs.described.bound.decimals stated bytes)) → Fails o (with_file files inputs t told stated)
 unfolding with_file
 prior-contents-stop files inputs t told line bytes stated o is read h = rw (is, read) h
 
-pub prior-file-is : (files : Files) (inputs : Inputs) (t : ℕ) (told : Option PriorLine) (line : PriorLine) (bytes : List ℕ) (stated next : List Prior) → told ≡ Some line → look files line.file (file.Apriori t) ≡ Ok bytes
+pub prior-file-is : (files : Files) (inputs : Inputs) (t : ℕ) (told : Option PriorLine) (line : PriorLine) (bytes : List ℕ) (stated next : List Prior) → told ≡ Some line → bytes_of_file files line.file (file.Apriori t) ≡ Ok bytes
     → map_fault prior_fault (file_says (basis_in inputs) t line.separator inputs.described.bound.decimals stated bytes) ≡ Ok next → with_file files inputs t told stated ≡ Ok next
 unfolding with_file
 prior-file-is files inputs t told line bytes stated next is read h = rw (is, read) h

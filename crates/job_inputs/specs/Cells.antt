@@ -25,7 +25,8 @@ figures inputs = figures_of inputs.records.trees (cells inputs) inputs.records.r
 abbrev pub truth_in : Inputs → Name → ℤ
 truth_in inputs name = truth inputs.records.trees name inputs.records.rows
 
--- too many cells, as a fault of the inputs; by a law of their own, tables of a bound job make a book or have too many cells
+-- too many cells, as a fault of the inputs; by a law of their own, tables of a bound job make a book or have too many
+-- cells
 abbrev pub cells_fault : BookFault → Fault
 cells_fault (book.NoSuchVariable t) = fault.Cells t
 cells_fault (book.TwiceInTable t) = fault.Cells t

@@ -8,7 +8,7 @@ use Rattle.certificate.specs.declared.certificate.Certificate.{Certificate}
 use Rattle.certificate.specs.declared.faults.CertError.{CertError}
 use Rattle.certificate.specs.declared.faults.CertError.TheVariants as error
 use Rattle.certificate.specs.declared.faults.CertWhy.{CertWhy}
-use Rattle.job_inputs.specs.Inputs.{look}
+use Rattle.job_inputs.specs.Inputs.{bytes_of_file}
 use Rattle.job_inputs.specs.declared.file_ref.FileRef.TheVariants as file
 use Rattle.job_inputs.specs.declared.faults.Fault.{Fault}
 use Rattle.job_inputs.specs.declared.faults.Fault.TheVariants as fault
@@ -22,7 +22,7 @@ certificate_fault at = fault.Certificate at.0 at.1
 -- the certificate of a job, or the first fault of its file: Absent, TooLong, then that of its first bad line
 unfoldable pub certificate_in : Files → Job → Result Certificate Fault
 certificate_in files job = do
-  bytes ← look files job.certificate file.Certificate
+  bytes ← bytes_of_file files job.certificate file.Certificate
   map_fault certificate_fault (certificate_of bytes)
 
 -- an error of the certificate as a refusal

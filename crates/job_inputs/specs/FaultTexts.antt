@@ -104,6 +104,8 @@ fault_text (fault.Meta line why) = codes "metadata line " ++ (decimal line ++ (c
 fault_text (fault.Tree f one) = file_text f ++ (codes " line " ++ tree_text one)
 fault_text (fault.Row number why) = codes "record " ++ (decimal number ++ (codes ": " ++ row_text why))
 fault_text (fault.Cells t) = codes "table " ++ (decimal (t + 1) ++ codes ": TooManyCells")
-fault_text (fault.Prior t line why) = codes "apriori table " ++ (decimal (t + 1) ++ (codes " line " ++ (decimal line ++ (codes ": " ++ prior_text why))))
-fault_text (fault.Certificate line why) = codes "certificate line " ++ (decimal line ++ (codes ": " ++ certificate_text why))
+fault_text (fault.Prior t line why) = codes "apriori table "
+    ++ (decimal (t + 1) ++ (codes " line " ++ (decimal line ++ (codes ": " ++ prior_text why))))
+fault_text (fault.Certificate line why) = codes "certificate line "
+    ++ (decimal line ++ (codes ": " ++ certificate_text why))
 fault_text fault.OutName = codes "out: OutName"

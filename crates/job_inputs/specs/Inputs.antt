@@ -10,7 +10,7 @@ use Rattle.rda_meta.specs.declared.meta.Shape.TheVariants as shape
 use Rattle.rda_meta.specs.declared.meta.Variable.{Variable}
 use Rattle.hierarchy.specs.CodeList.{codes_of}
 use Rattle.hierarchy.specs.Lead.{lead_of}
-use Rattle.hierarchy.specs.Missing.{with_codes}
+use Rattle.hierarchy.specs.MissingCodes.{with_codes}
 use Rattle.job_lang.specs.Jobs.{job_of}
 use Rattle.job_lang.specs.Binding.{bound_of}
 use Rattle.job_lang.specs.declared.faults.JobWhy.{JobWhy}
@@ -52,8 +52,8 @@ whole_file f None = Err (fault.Absent f)
 whole_file f (Some bytes) = if nat_lt (limit_of f) (length bytes) then Err (fault.TooLong f) else Ok bytes
 
 -- the bytes of a named file, or its own fault
-abbrev pub look : Files → List ℕ → FileRef → Result (List ℕ) Fault
-look files name f = whole_file f (files name)
+abbrev pub bytes_of_file : Files → List ℕ → FileRef → Result (List ℕ) Fault
+bytes_of_file files name f = whole_file f (files name)
 
 -- what is wrong with a job, as a fault of the run
 abbrev pub job_fault : ℕ × JobWhy → Fault
@@ -76,13 +76,13 @@ job_for purpose bytes = do
   fit ← refuse (fault.Job 0 BadValue) (is_unfit purpose job.method)
   Ok job
 
--- The job, its metadata, and the job's variables looked up in these, or the first fault: the job's file, what it says for this
--- purpose, the metadata's file, what they say, and then what of the job they don't have.
+-- The job, its metadata, and the job's variables looked up in these, or the first fault: the job's file, what it says
+-- for this purpose, the metadata's file, what they say, and then what of the job they don't have.
 unfoldable pub described_of : Purpose → Files → List ℕ → Result Described Fault
 described_of purpose files name = do
-  bytes ← look files name file.Job
+  bytes ← bytes_of_file files name file.Job
   job ← job_for purpose bytes
-  text ← look files job.meta file.Metadata
+  text ← bytes_of_file files job.meta file.Metadata
   meta ← map_fault meta_fault (meta_of text)
   bound ← map_fault job_fault (bound_of job meta)
   Ok (record { job = job; meta = meta; bound = bound })
@@ -93,7 +93,7 @@ described_of purpose files name = do
 unfoldable pub codes_in : Files → ℕ → List ℕ → Option (List ℕ) → Result (List (List ℕ)) Fault
 codes_in files place total None = Ok []
 codes_in files place total (Some name) = do
-  bytes ← look files name (file.CodeList place)
+  bytes ← bytes_of_file files name (file.CodeList place)
   map_fault (fault.Tree (file.CodeList place)) (codes_of total bytes)
 
 -- the tree that the bytes of a hierarchy file give, with the missing codes that it lacks, or what is wrong with them
@@ -105,7 +105,7 @@ tree_in f variable lead bytes = do
 -- the tree of a named hierarchy file, or what is wrong with it
 unfoldable pub listed_tree : Files → ℕ → Variable → List ℕ → List ℕ → Result Tree Fault
 listed_tree files place variable name lead = do
-  bytes ← look files name (file.Hierarchy place)
+  bytes ← bytes_of_file files name (file.Hierarchy place)
   tree_in (file.Hierarchy place) variable lead bytes
 
 -- where the codes of a variable come from; those of a list count where the variable is flat alone
@@ -132,8 +132,8 @@ fields_of files (one ∷ more) = do
   Ok (field ∷ fields)
 
 -- the variables that span a job's tables, each with its place in the metadata
-abbrev pub spanning : Described → List (ℕ × Variable)
-spanning described = variables_at described.meta.variables described.bound.spanning
+abbrev pub spanning_variables : Described → List (ℕ × Variable)
+spanning_variables described = variables_at described.meta.variables described.bound.spanning
 
 -- ---- microdata
 
@@ -155,11 +155,11 @@ look_at_records files name layout = records_in layout (files name)
 
 -- ---- all inputs
 
--- All that the input files of a job hold, or the first fault: the job and its metadata, for each spanning variable in the order
--- of the metadata its code list and then its hierarchy, and the microdata.
+-- All that the input files of a job hold, or the first fault: the job and its metadata, for each spanning variable in
+-- the order of the metadata its code list and then its hierarchy, and the microdata.
 unfoldable pub inputs_of : Purpose → Files → List ℕ → Result Inputs Fault
 inputs_of purpose files name = do
   described ← described_of purpose files name
-  fields ← fields_of files (spanning described)
+  fields ← fields_of files (spanning_variables described)
   records ← look_at_records files described.job.micro (layout_of described.meta.variables described.bound fields)
   Ok (record { described = described; records = records })

@@ -4,10 +4,12 @@ use Rattle.sdc_base.specs.Trees.{Tree}
 use Rattle.linked_tables.specs.Tables.{book_of}
 use Rattle.linked_tables.specs.declared.book_fault.BookFault.{BookFault}
 use Rattle.linked_tables.specs.declared.book_fault.BookFault.TheVariants as book
-use Rattle.job_inputs.specs.Sound.{IsSound}
+use Rattle.job_inputs.specs.SoundJobs.{IsSound}
 use Rattle.job_inputs.specs.declared.described.Described.{Described}
 
 -- tables of a bound job, over a tree for each of its spanning variables, have no fault but too many cells
 abbrev pub OnlyCellsAreTooMany : Type 0
-OnlyCellsAreTooMany = (described : Described) (trees : List Tree) (one : BookFault) → IsSound described → length trees ≡ length described.bound.spanning
+OnlyCellsAreTooMany =
+    (described : Described) (trees : List Tree) (one : BookFault) → IsSound described
+    → length trees ≡ length described.bound.spanning
     → book_of trees described.bound.tables ≡ Err one → (t : ℕ) × (one ≡ book.TooManyCells t)

@@ -15,11 +15,13 @@ with_variable place (Some variable) rest = (place, variable) ∷ rest
 -- the variables at these places of the metadata, each with its place
 abbrev pub variables_at : List Variable → List ℕ → List (ℕ × Variable)
 variables_at variables [] = []
-variables_at variables (place ∷ places) = with_variable place (slice_get variables place) (variables_at variables places)
+variables_at variables (place ∷ places) = with_variable place (slice_get variables place)
+    (variables_at variables places)
 
 -- the field of a variable that is a number
 abbrev pub number_field : Variable → NumberField
-number_field variable = record { first = variable.first; width = variable.width; decimals = variable.decimals; missing = variable.missing }
+number_field variable =
+    record { first = variable.first; width = variable.width; decimals = variable.decimals; missing = variable.missing }
 
 -- a number in the first byte, where there is no variable; no bound job has such a place
 abbrev pub no_number : NumberField

@@ -8,8 +8,8 @@ use Rattle.rda_meta.specs.declared.meta.Variable.{Variable}
 use Rattle.job_lang.specs.declared.job.Job.{Job}
 use Rattle.job_lang.specs.declared.job.PriorLine.{PriorLine}
 use Rattle.linked_tables.specs.Tables.{book_of}
-use Rattle.job_inputs.specs.Inputs.{look, job_for, described_of, codes_in, fields_of, spanning, inputs_of}
-use Rattle.job_inputs.specs.Stated.{prior_line, with_files}
+use Rattle.job_inputs.specs.Inputs.{bytes_of_file, job_for, described_of, codes_in, fields_of, spanning_variables, inputs_of}
+use Rattle.job_inputs.specs.PriorStatements.{prior_line, with_files}
 use Rattle.job_inputs.specs.declared.described.Described.{Described}
 use Rattle.job_inputs.specs.declared.inputs.Inputs.{Inputs}
 use Rattle.job_inputs.specs.declared.file_ref.FileRef.{FileRef}
@@ -25,13 +25,15 @@ pub record IsFile (wanted : FileRef) (name : List ℕ) (f : FileRef) (held : Lis
 -- the job of the named file, or the first fault on the way to it
 unfoldable pub job_read : Purpose → Files → List ℕ → Result Job Fault
 job_read purpose files name = do
-  bytes ← look files name file.Job
+  bytes ← bytes_of_file files name file.Job
   job_for purpose bytes
 
--- Reading job and metadata comes to this file, which has this name: to the job; or to the metadata of a job without fault.
+-- Reading job and metadata comes to this file, which has this name: to the job; or to the metadata of a job without
+-- fault.
 abbrev pub ComesFirstTo : Purpose → Files → List ℕ → FileRef → List ℕ → Type 0
 ComesFirstTo purpose files name file.Job held = held ≡ name
-ComesFirstTo purpose files name file.Metadata held = (job : Job) × (job_read purpose files name ≡ Ok job) × (held ≡ job.meta)
+ComesFirstTo purpose files name file.Metadata held =
+    (job : Job) × (job_read purpose files name ≡ Ok job) × (held ≡ job.meta)
 ComesFirstTo purpose files name other held = ⊥
 
 -- the variable has its codes from this hierarchy file
@@ -49,10 +51,12 @@ pub record IsCodeListOf (place : ℕ) (variable : Variable) (f : FileRef) (held 
   pub is_file : f ≡ file.CodeList place
   pub is_name : variable.codes ≡ Some held
 
--- The files of a variable are read up to this one, which has this name: its code list; or its hierarchy, where its list has no fault.
+-- The files of a variable are read up to this one, which has this name: its code list; or its hierarchy, where its list
+-- has no fault.
 abbrev pub FieldComesTo : Files → ℕ → Variable → FileRef → List ℕ → Type 0
 FieldComesTo files place variable (file.CodeList at) held = (at ≡ place) × (variable.codes ≡ Some held)
-FieldComesTo files place variable (file.Hierarchy at) held = (at ≡ place) × IsOk (codes_in files place variable.total variable.codes) × IsListedIn held variable.shape
+FieldComesTo files place variable (file.Hierarchy at) held = (at ≡ place)
+    × IsOk (codes_in files place variable.total variable.codes) × IsListedIn held variable.shape
 FieldComesTo files place variable other held = ⊥
 
 -- the files of these variables are read up to this one, and those of the variables before it have no fault
@@ -77,15 +81,22 @@ ComesToStatements files inputs f held = (t : ℕ) × (f ≡ file.Apriori t) × S
 
 -- the a priori file of table t, by the name on its line of the job
 abbrev pub IsPriorFileOf : ℕ → List PriorLine → FileRef → List ℕ → Type 0
-IsPriorFileOf t lines f held = (line : PriorLine) × (prior_line t lines ≡ Some line) × (f ≡ file.Apriori t) × (held ≡ line.file)
+IsPriorFileOf t lines f held =
+    (line : PriorLine) × (prior_line t lines ≡ Some line) × (f ≡ file.Apriori t) × (held ≡ line.file)
 
 -- the run comes to this file, which has this name, and nothing before it has a fault
 abbrev pub ComesTo : Purpose → Files → List ℕ → FileRef → List ℕ → Type 0
 ComesTo purpose files name file.Job held = ComesFirstTo purpose files name file.Job held
 ComesTo purpose files name file.Metadata held = ComesFirstTo purpose files name file.Metadata held
-ComesTo purpose files name (file.CodeList at) held = (described : Described) × (described_of purpose files name ≡ Ok described) × FieldsComeTo files (spanning described) (file.CodeList at) held
-ComesTo purpose files name (file.Hierarchy at) held = (described : Described) × (described_of purpose files name ≡ Ok described) × FieldsComeTo files (spanning described) (file.Hierarchy at) held
+ComesTo purpose files name (file.CodeList at) held = (described : Described)
+    × (described_of purpose files name ≡ Ok described)
+    × FieldsComeTo files (spanning_variables described) (file.CodeList at) held
+ComesTo purpose files name (file.Hierarchy at) held = (described : Described)
+    × (described_of purpose files name ≡ Ok described)
+    × FieldsComeTo files (spanning_variables described) (file.Hierarchy at) held
 ComesTo purpose files name file.Microdata held =
-    (described : Described) × (described_of purpose files name ≡ Ok described) × IsOk (fields_of files (spanning described)) × (held ≡ described.job.micro)
-ComesTo purpose files name (file.Apriori t) held = (inputs : Inputs) × (inputs_of purpose files name ≡ Ok inputs) × IsOk (book_of inputs.records.trees inputs.described.bound.tables) × StatementsComeTo files inputs t held
+    (described : Described) × (described_of purpose files name ≡ Ok described)
+    × IsOk (fields_of files (spanning_variables described)) × (held ≡ described.job.micro)
+ComesTo purpose files name (file.Apriori t) held = (inputs : Inputs) × (inputs_of purpose files name ≡ Ok inputs)
+    × IsOk (book_of inputs.records.trees inputs.described.bound.tables) × StatementsComeTo files inputs t held
 ComesTo purpose files name other held = ⊥

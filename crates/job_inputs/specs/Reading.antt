@@ -1,8 +1,8 @@
 -- What it is to read inputs from a shelf: what is told, to which file it comes, what the shelf does, and the cause of each refusal (own).
 use Rattle.std.specs.Prelude.{◌≡◌, ◌≢◌, ℕ, ◌+◌, List, Option, None, Some, Result, Err, IsErrOf}
 use Rattle.sdc_base.specs.Answers.{Gives}
-use Rattle.sdc_base.specs.Counts.{Rose}
-use Rattle.sdc_base.specs.Told.{WhereTold}
+use Rattle.sdc_base.specs.Counts.{HasRisen}
+use Rattle.sdc_base.specs.WhereTold.{WhereTold}
 use Rattle.hierarchy.specs.declared.tree_fault.TreeFault.TheVariants as tree
 use Rattle.office_io.specs.Files.{Files, held_name}
 use Rattle.office_io.specs.Shelves.{ShelfState, HasOnlyRead}
@@ -26,22 +26,24 @@ stopped_for (stop.Refused fault) = Some fault
 stopped_for (stop.ReadFault file) = None
 stopped_for stop.Memory = None
 
--- Each refusal has its cause, whatever the shelf tells: a file that isn't there was counted as an absence, of one that is too long
--- one byte more than the limit was taken, a file that can't be read was counted as a fault, and codes are never refused for
--- want of memory.
+-- Each refusal has its cause, whatever the shelf tells: a file that isn't there was counted as an absence, of one that
+-- is too long one byte more than the limit was taken, a file that can't be read was counted as a fault, and codes are
+-- never refused for want of memory.
 pub record HasCause {X : Type 0} (result : Result X InputStop) (old new : ShelfState) : Type 0 where
-  pub absent : (f : FileRef) → IsErrOf result (stop.Refused (fault.Absent f)) → Rose old.absences new.absences
+  pub absent : (f : FileRef) → IsErrOf result (stop.Refused (fault.Absent f)) → HasRisen old.absences new.absences
   pub too_long : (f : FileRef) → IsErrOf result (stop.Refused (fault.TooLong f)) → new.taken ≡ limit_of f + 1
-  pub read_fault : (f : FileRef) → IsErrOf result (stop.ReadFault f) → Rose old.faults new.faults
+  pub read_fault : (f : FileRef) → IsErrOf result (stop.ReadFault f) → HasRisen old.faults new.faults
   pub tree : (f : FileRef) → result ≢ Err (stop.Refused (fault.Tree f tree.Memory))
 
 -- where the shelf fails at a file, it is one that reading came to by its name, and was the last one looked for
 abbrev pub HasComeTo : {X : Type 0} → (FileRef → List ℕ → Type 0) → Result X InputStop → Files → ShelfState → Type 0
 HasComeTo comes result files new =
-    (f : FileRef) → IsErrOf result (stop.ReadFault f) → (held : List ℕ) × comes f held × (new.last ≡ held_name files held)
+    (f : FileRef) → IsErrOf result (stop.ReadFault f)
+    → (held : List ℕ) × comes f held × (new.last ≡ held_name files held)
 
 -- the answer to a look at files of a shelf: what they hold or their first fault, as far as they are told
-pub record IsReadFrom {X Y : Type 0} (view : X → Y) (meant : Files → Result Y Fault) (comes : Files → FileRef → List ℕ → Type 0) (result : Result X InputStop) (old new : ShelfState) : Type 0 where
+pub record IsReadFrom {X Y : Type 0} (view : X → Y) (meant : Files → Result Y Fault)
+    (comes : Files → FileRef → List ℕ → Type 0) (result : Result X InputStop) (old new : ShelfState) : Type 0 where
   pub told : WhereTold old.files (λ fs. Gives stopped_for view result (meant fs))
   pub came_to : WhereTold old.files (λ fs. HasComeTo (comes fs) result fs new)
   pub only_read : HasOnlyRead old new

@@ -5,7 +5,7 @@ use Rattle.office_io.specs.Files.{Files}
 use Rattle.job_lang.specs.declared.job.Job.{Job}
 use Rattle.job_lang.specs.declared.job.OutputLine.{OutputLine}
 use Rattle.job_lang.specs.declared.job.TableLine.{TableLine}
-use Rattle.job_inputs.specs.Inputs.{look}
+use Rattle.job_inputs.specs.Inputs.{bytes_of_file}
 use Rattle.job_inputs.specs.declared.file_ref.FileRef.{FileRef}
 use Rattle.job_inputs.specs.declared.file_ref.FileRef.TheVariants as file
 use Rattle.job_inputs.specs.declared.faults.Fault.{Fault}
@@ -18,7 +18,7 @@ names_of line = line.variables ++ line.response ∷ []
 unfoldable pub tables_from : Files → ℕ → List OutputLine → Result (List (List ℕ)) Fault
 tables_from files t [] = Ok []
 tables_from files t (output ∷ outputs) = do
-  bytes ← look files output.file (file.Table t)
+  bytes ← bytes_of_file files output.file (file.Table t)
   tables ← tables_from files (t + 1) outputs
   Ok (bytes ∷ tables)
 

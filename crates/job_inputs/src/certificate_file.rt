@@ -3,7 +3,8 @@ ghost use Rattle.sdc_base.specs.Answers.{Gives};
 ghost use Rattle.sdc_base.specs.Steps.{map_fault};
 ghost use Rattle.certificate.specs.Certificates.{certificate_of};
 ghost use Rattle.certificate.specs.Spelling.{IsSpellable, IsWithinTypes};
-ghost use Rattle.job_inputs.specs.CertificateFile.{certificate_fault, certificate_in, certificate_refusal as refusal_for};
+ghost use Rattle.job_inputs.specs.CertificateFile.{certificate_fault, certificate_in};
+ghost use Rattle.job_inputs.specs.CertificateFile as spec;
 ghost use Rattle.job_inputs.specs.Looks.{IsFile};
 ghost use Rattle.job_inputs.specs.Reading.{IsReadFrom};
 ghost use Rattle.job_inputs.specs.Refusals.{refused_for, IsForContents};
@@ -20,19 +21,20 @@ use std::alloc::Global;
 
 /// The certificate of a job, from the shelf.
 ///
-/// The file is the one that the job names. It is looked at for Absent, then for TooLong, which is more than `2^60` bytes, and
-/// then for what it says; the first fault is the answer, of what it says with the number of the line, from 1. Whether it is a
-/// certificate of this job is not looked at.
+/// The file is the one that the job names. It is looked at for Absent, then for TooLong, which is more than `2^60`
+/// bytes, and then for what it says; the first fault is the answer, of what it says with the number of the line, from
+/// 1. Whether it is a certificate of this job is not looked at.
 ///
-/// The file is read whole and kept in memory until the certificate is made, and the cost is that of its bytes. The format is
-/// argus's own.
+/// The file is read whole and kept in memory until the certificate is made, and the cost is that of its bytes. The
+/// format is argus's own.
 #[tactic(auto, unfolding(crate::specs::CertificateFile::certificate_in))]
 pub fn read_certificate_file<S: Shelf>(
     alloc: Global,
     shelf: &mut S,
     job: &Job,
 ) -> Result<Certificate, InputStop>
-    ensures reads { IsReadFrom (λ certificate. certificate) (λ fs. certificate_in fs job.now) (λ fs. IsFile FileRef.Certificate job.now.certificate) result (S.state shelf.old) (S.state shelf.new) }
+    ensures reads { IsReadFrom (λ certificate. certificate) (λ fs. certificate_in fs job.now)
+        (λ fs. IsFile FileRef.Certificate job.now.certificate) result (S.state shelf.old) (S.state shelf.new) }
     ensures spellable { IfOk result IsSpellable }
     ensures within { IfOk result IsWithinTypes }
 {
@@ -44,7 +46,8 @@ pub fn read_certificate_file<S: Shelf>(
 // The certificate of which bytes are the text.
 #[tactic(auto, using(crate::proofs::CertificateFiles::certificate_refuses, crate::proofs::CertificateFiles::certificate_is_for_contents))]
 fn certificate_by(alloc: Global, bytes: &[u8]) -> Result<Certificate, Refusal>
-    ensures told { Gives refused_for (λ certificate. certificate) result (map_fault certificate_fault (certificate_of bytes.now)) }
+    ensures told { Gives refused_for (λ certificate. certificate) result
+        (map_fault certificate_fault (certificate_of bytes.now)) }
     ensures spellable { IfOk result IsSpellable }
     ensures within { IfOk result IsWithinTypes }
     ensures contents { IfErr result IsForContents }
@@ -57,7 +60,7 @@ fn certificate_by(alloc: Global, bytes: &[u8]) -> Result<Certificate, Refusal>
 
 // An error of a certificate, as a refusal.
 fn certificate_refusal(error: CertError) -> Refusal
-    ensures { result ≡ refusal_for error }
+    ensures { result ≡ spec.certificate_refusal error }
 {
     match error {
         CertError::At { line, why } => Refusal::Refused(Fault::Certificate { line, why }),

@@ -4,10 +4,11 @@ ghost use Rattle.sdc_base.specs.Steps.{map_fault};
 ghost use Rattle.hierarchy.specs.CodeList.{codes_of};
 ghost use Rattle.hierarchy.specs.Lead.{lead_of};
 ghost use Rattle.job_inputs.specs.Inputs.{codes_in, listed_tree, tree_in};
-ghost use Rattle.job_inputs.specs.Listed.{AreListed};
+ghost use Rattle.job_inputs.specs.ListedCodes.{AreListed};
 ghost use Rattle.job_inputs.specs.Looks.{IsCodeListOf, IsFile};
 ghost use Rattle.job_inputs.specs.Reading.{IsReadFrom};
-ghost use Rattle.job_inputs.specs.Refusals.{refused_for, tree_refusal as tree_refused, IsForContents};
+ghost use Rattle.job_inputs.specs.Refusals.{refused_for, IsForContents};
+ghost use Rattle.job_inputs.specs.Refusals as spec;
 
 use crate::faults::Fault;
 use crate::file_ref::FileRef;
@@ -28,7 +29,8 @@ pub(crate) fn read_list<S: Shelf>(
     place: u32,
     variable: &Variable,
 ) -> Result<Vec<Text>, InputStop>
-    ensures reads { IsReadFrom (λ codes. codes.items) (λ fs. codes_in fs place variable.now.total variable.now.codes) (λ fs. IsCodeListOf place variable.now) result (S.state shelf.old) (S.state shelf.new) }
+    ensures reads { IsReadFrom (λ codes. codes.items) (λ fs. codes_in fs place variable.now.total variable.now.codes)
+        (λ fs. IsCodeListOf place variable.now) result (S.state shelf.old) (S.state shelf.new) }
     ensures listed { IfOk result (λ codes. AreListed variable.now.total codes.items) }
 {
     match &variable.codes {
@@ -46,7 +48,8 @@ fn load_list<S: Shelf>(
     total: &Text,
     name: &Text,
 ) -> Result<Vec<Text>, InputStop>
-    ensures reads { IsReadFrom (λ codes. codes.items) (λ fs. codes_in fs place total.now (Some name.now)) (λ fs. IsFile (FileRef.CodeList place) name.now) result (S.state shelf.old) (S.state shelf.new) }
+    ensures reads { IsReadFrom (λ codes. codes.items) (λ fs. codes_in fs place total.now (Some name.now))
+        (λ fs. IsFile (FileRef.CodeList place) name.now) result (S.state shelf.old) (S.state shelf.new) }
     ensures listed { IfOk result (λ codes. AreListed total.now codes.items) }
 {
     let file = FileRef::CodeList(place);
@@ -59,7 +62,8 @@ fn load_list<S: Shelf>(
 #[tactic(auto, using(crate::proofs::Refusing::tree_refuses, crate::proofs::Refusing::tree_is_for_contents))]
 fn codes_by(alloc: Global, file: FileRef, bytes: &[u8], total: &Text) -> Result<Vec<Text>, Refusal>
     requires { length bytes.now < 2 ^ 32 }
-    ensures told { Gives refused_for (λ codes. codes.items) result (map_fault (Fault.Tree file) (codes_of total.now bytes.now)) }
+    ensures told { Gives refused_for (λ codes. codes.items) result
+        (map_fault (Fault.Tree file) (codes_of total.now bytes.now)) }
     ensures listed { IfOk result (λ codes. AreListed total.now codes.items) }
     ensures contents { IfErr result IsForContents }
 {
@@ -82,7 +86,8 @@ pub(crate) fn read_tree<S: Shelf>(
 ) -> Result<CodeTree, InputStop>
     requires lead { 0 < length lead.now }
     requires missing { length variable.now.missing ≤ 2 }
-    ensures { IsReadFrom (λ tree. tree) (λ fs. listed_tree fs place variable.now name.now lead.now) (λ fs. IsFile (FileRef.Hierarchy place) name.now) result (S.state shelf.old) (S.state shelf.new) }
+    ensures { IsReadFrom (λ tree. tree) (λ fs. listed_tree fs place variable.now name.now lead.now)
+        (λ fs. IsFile (FileRef.Hierarchy place) name.now) result (S.state shelf.old) (S.state shelf.new) }
 {
     let file = FileRef::Hierarchy(place);
     let bytes = load(alloc, shelf, name, file)?;
@@ -123,7 +128,8 @@ fn lead_tree(
 ) -> Result<CodeTree, Refusal>
     requires few { length bytes.now < 2 ^ 32 }
     requires lead { 0 < length lead.now }
-    ensures told { Gives refused_for (λ tree. tree) result (map_fault (Fault.Tree file) (lead_of lead.now total.now bytes.now)) }
+    ensures told { Gives refused_for (λ tree. tree) result
+        (map_fault (Fault.Tree file) (lead_of lead.now total.now bytes.now)) }
     ensures contents { IfErr result IsForContents }
 {
     match from_lead(alloc, bytes, lead, total) {
@@ -134,7 +140,7 @@ fn lead_tree(
 
 // What is wrong with a file of codes, as a refusal.
 fn tree_refusal(file: FileRef, fault: TreeFault) -> Refusal
-    ensures { result ≡ tree_refused file fault }
+    ensures { result ≡ spec.tree_refusal file fault }
 {
     match fault {
         TreeFault::Memory => Refusal::Memory,

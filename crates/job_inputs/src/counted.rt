@@ -2,13 +2,13 @@ ghost use Rattle.std.specs.Prelude.{◌≡◌, IfOk, length};
 ghost use Rattle.sdc_base.specs.Answers.{Gives};
 ghost use Rattle.sdc_base.specs.Steps.{map_fault};
 ghost use Rattle.linked_tables.specs.Tables.{book_of};
-ghost use Rattle.job_inputs.specs.Counted.{IsCountedOf, IsReady};
+ghost use Rattle.job_inputs.specs.CountedRecords.{IsCountedOf, IsReady};
 ghost use Rattle.job_inputs.specs.Refusals.{refused_for};
 ghost use Rattle.job_inputs.specs.Cells.{cells_fault};
-ghost use Rattle.job_inputs.specs.Sound.{AreSound};
+ghost use Rattle.job_inputs.specs.SoundJobs.{AreSound};
 
 use crate::described::Described;
-use crate::filled::{filled, linked};
+use crate::filled::{filled, linked_book};
 use crate::inputs::Inputs;
 use crate::refusal::Refusal;
 use linked_tables::Book;
@@ -29,7 +29,8 @@ pub(crate) struct Counted {
 /// It is refused with the first table up to which there are too many cells.
 pub(crate) fn count_records(alloc: Global, inputs: Inputs) -> Result<Counted, Refusal>
     requires { AreSound inputs }
-    ensures told { Gives refused_for (λ counted. (counted.book.trees, counted.book.tables)) result (map_fault cells_fault (book_of inputs.records.trees inputs.described.bound.tables)) }
+    ensures told { Gives refused_for (λ counted. (counted.book.trees, counted.book.tables)) result
+        (map_fault cells_fault (book_of inputs.records.trees inputs.described.bound.tables)) }
     ensures counted { IfOk result (IsCountedOf inputs) }
     ensures ready { IfOk result IsReady }
 {
@@ -39,7 +40,7 @@ pub(crate) fn count_records(alloc: Global, inputs: Inputs) -> Result<Counted, Re
         rows,
         skipped,
     } = records;
-    let book = linked(alloc, &described, trees)?;
+    let book = linked_book(alloc, &described, trees)?;
     let book = filled(book, &described, rows.as_slice());
     let records = rows.as_slice().len() as u64;
     Ok(Counted {

@@ -10,7 +10,7 @@ ghost use Rattle.job_inputs.specs.Inputs.{described_of, job_fault, job_for, meta
 ghost use Rattle.job_inputs.specs.Looks.{ComesFirstTo};
 ghost use Rattle.job_inputs.specs.Reading.{IsReadFrom};
 ghost use Rattle.job_inputs.specs.Refusals.{refused_for, IsForContents};
-ghost use Rattle.job_inputs.specs.Sound.{IsSound};
+ghost use Rattle.job_inputs.specs.SoundJobs.{IsSound};
 
 use crate::faults::Fault;
 use crate::file_ref::FileRef;
@@ -34,9 +34,9 @@ pub struct Described {
 
 /// The job of this name, read for a purpose, with its metadata.
 ///
-/// The files are looked at in the order job, metadata, each for Absent, then TooLong, then what it says, and at last the
-/// job's variables are looked for in the metadata; the first of these faults is the answer. Of a job whose method is unfit for
-/// the purpose nothing more is read.
+/// The files are looked at in the order job, metadata, each for Absent, then TooLong, then what it says, and at last
+/// the job's variables are looked for in the metadata; the first of these faults is the answer. Of a job whose method
+/// is unfit for the purpose nothing more is read.
 #[tactic(auto, unfolding(crate::specs::Inputs::described_of))]
 pub(crate) fn read_described<S: Shelf>(
     alloc: Global,
@@ -44,7 +44,8 @@ pub(crate) fn read_described<S: Shelf>(
     name: &Text,
     purpose: Purpose,
 ) -> Result<Described, InputStop>
-    ensures reads { IsReadFrom (λ read. read) (λ fs. described_of purpose fs name.now) (λ fs. ComesFirstTo purpose fs name.now) result (S.state shelf.old) (S.state shelf.new) }
+    ensures reads { IsReadFrom (λ read. read) (λ fs. described_of purpose fs name.now)
+        (λ fs. ComesFirstTo purpose fs name.now) result (S.state shelf.old) (S.state shelf.new) }
     ensures sound { IfOk result IsSound }
 {
     let bytes = load(alloc, shelf, name, FileRef::Job)?;

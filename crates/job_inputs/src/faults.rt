@@ -9,10 +9,10 @@ use rda_meta::MetaWhy;
 use std::fmt;
 use std::fmt::Display;
 
-/// What is wrong with the files of a job: the first fault in the order job, metadata, the job's variables in the metadata,
-/// for each spanning variable in the order of the metadata its code list and then its hierarchy, the microdata, the number of
-/// cells, the a priori files by table, primary cells that are to be always shown, an output that has the name of an input, and
-/// then, where they are read, the certificate and the tables that were put.
+/// What is wrong with the files of a job: the first fault in the order job, metadata, the job's variables in the
+/// metadata, for each spanning variable in the order of the metadata its code list and then its hierarchy, the
+/// microdata, the number of cells, the a priori files by table, primary cells that are to be always shown, an output
+/// that has the name of an input, and then, where they are read, the certificate and the tables that were put.
 #[derive(Clone, Copy, Debug, PartialEq, Eq)]
 pub enum Fault {
     /// The file isn't there.

@@ -2,12 +2,12 @@ ghost use Rattle.std.specs.Prelude.{◌≡◌, ◌<◌, IfOk, Some, length, slic
 ghost use Rattle.std.specs.List.{AllByRecursion};
 ghost use Rattle.rda_meta.specs.Limits.{IsVariable};
 ghost use Rattle.microdata.specs.Layouts.{IsSource};
-ghost use Rattle.job_inputs.specs.Inputs.{source_of, field_of, fields_of, spanning};
-ghost use Rattle.job_inputs.specs.Listed.{AreListed};
+ghost use Rattle.job_inputs.specs.Inputs.{source_of, field_of, fields_of, spanning_variables};
+ghost use Rattle.job_inputs.specs.ListedCodes.{AreListed};
 ghost use Rattle.job_inputs.specs.Looks.{IsHierarchyOf, FieldComesTo, FieldsComeTo};
-ghost use Rattle.job_inputs.specs.Placed.{IsPlacedField};
+ghost use Rattle.job_inputs.specs.PlacedFields.{IsPlacedField};
 ghost use Rattle.job_inputs.specs.Reading.{IsReadFrom};
-ghost use Rattle.job_inputs.specs.Sound.{IsSound};
+ghost use Rattle.job_inputs.specs.SoundJobs.{IsSound};
 
 use crate::codes::{read_list, read_tree};
 use crate::described::Described;
@@ -20,15 +20,16 @@ use std::alloc::Global;
 
 /// The fields of the variables that span a job's tables, in the order of the metadata.
 ///
-/// For each variable its code list is looked at and then its hierarchy file, each for Absent, then TooLong, then what it
-/// says; the first fault is the answer.
+/// For each variable its code list is looked at and then its hierarchy file, each for Absent, then TooLong, then what
+/// it says; the first fault is the answer.
 pub(crate) fn read_fields<S: Shelf>(
     alloc: Global,
     shelf: &mut S,
     described: &Described,
 ) -> Result<Items<Field>, InputStop>
     requires { IsSound described.now }
-    ensures reads { IsReadFrom (λ fields. fields) (λ fs. fields_of fs (spanning described.now)) (λ fs. FieldsComeTo fs (spanning described.now)) result (S.state shelf.old) (S.state shelf.new) }
+    ensures reads { IsReadFrom (λ fields. fields) (λ fs. fields_of fs (spanning_variables described.now))
+        (λ fs. FieldsComeTo fs (spanning_variables described.now)) result (S.state shelf.old) (S.state shelf.new) }
     ensures placed { IfOk result (λ fields. AllByRecursion IsPlacedField fields) }
     ensures as_many { IfOk result (λ fields. length fields ≡ length described.now.bound.spanning) }
 {
@@ -59,7 +60,8 @@ fn read_field<S: Shelf>(
     variable: &Variable,
 ) -> Result<Field, InputStop>
     requires { IsVariable variable.now }
-    ensures reads { IsReadFrom (λ field. field) (λ fs. field_of fs place variable.now) (λ fs. FieldComesTo fs place variable.now) result (S.state shelf.old) (S.state shelf.new) }
+    ensures reads { IsReadFrom (λ field. field) (λ fs. field_of fs place variable.now)
+        (λ fs. FieldComesTo fs place variable.now) result (S.state shelf.old) (S.state shelf.new) }
     ensures placed { IfOk result IsPlacedField }
 {
     let codes = read_list(alloc, shelf, place, variable)?;
@@ -82,7 +84,8 @@ fn read_source<S: Shelf>(
 ) -> Result<Source, InputStop>
     requires variable { IsVariable variable.now }
     requires listed { AreListed variable.now.total codes.items }
-    ensures reads { IsReadFrom (λ source. source) (λ fs. source_of fs place variable.now codes.items variable.now.shape) (λ fs. IsHierarchyOf place variable.now.shape) result (S.state shelf.old) (S.state shelf.new) }
+    ensures reads { IsReadFrom (λ source. source) (λ fs. source_of fs place variable.now codes.items variable.now.shape)
+        (λ fs. IsHierarchyOf place variable.now.shape) result (S.state shelf.old) (S.state shelf.new) }
     ensures source { IfOk result IsSource }
 {
     match &variable.shape {

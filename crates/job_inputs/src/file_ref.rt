@@ -1,8 +1,8 @@
 use std::fmt;
 use std::fmt::Display;
 
-/// A file of a job, or the one that is to be put under a name of its own. A variable is numbered by its place in the metadata,
-/// from 0, and a table from 0.
+/// A file of a job, or the one that is to be put under a name of its own. A variable is numbered by its place in the
+/// metadata, from 0, and a table from 0.
 #[derive(Clone, Copy, Debug, PartialEq, Eq)]
 pub enum FileRef {
     Job,

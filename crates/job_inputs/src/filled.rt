@@ -2,13 +2,14 @@ ghost use Rattle.std.specs.Prelude.{◌≡◌, ◌≤◌, ◌<◌, ◌^◌, All,
 ghost use Rattle.sdc_base.specs.Answers.{Gives};
 ghost use Rattle.sdc_base.specs.RuleLevels.{keep_of};
 ghost use Rattle.sdc_base.specs.Steps.{map_fault};
-ghost use Rattle.linked_tables.specs.Blank.{IsBlank};
-ghost use Rattle.linked_tables.specs.Shared.{cells as cells_in};
+ghost use Rattle.linked_tables.specs.BlankMarks.{IsBlank};
+ghost use Rattle.linked_tables.specs.BookCells as book_cells;
 ghost use Rattle.linked_tables.specs.Tables.{book_of};
-ghost use Rattle.tabulate.specs.Tabulated.{AreTabulated};
-ghost use Rattle.job_inputs.specs.Refusals.{refused_for, cells_refusal as refusal_for_cells, IsForCells};
+ghost use Rattle.tabulate.specs.TabulatedMarks.{AreTabulated};
+ghost use Rattle.job_inputs.specs.Refusals.{refused_for, IsForCells};
+ghost use Rattle.job_inputs.specs.Refusals as refusals;
 ghost use Rattle.job_inputs.specs.Cells.{cells_fault};
-ghost use Rattle.job_inputs.specs.Sound.{IsSound, AreRows};
+ghost use Rattle.job_inputs.specs.SoundJobs.{IsSound, AreRows};
 
 use crate::described::Described;
 use crate::faults::Fault;
@@ -24,14 +25,15 @@ use tabulate::tabulate;
 ///
 /// It is refused with the first table up to which there are too many cells.
 #[tactic(auto, using(crate::proofs::Refusing::cells_refuse))]
-pub(crate) fn linked(
+pub(crate) fn linked_book(
     alloc: Global,
     described: &Described,
     trees: Items<CodeTree>,
 ) -> Result<Book, Refusal>
     requires sound { IsSound described.now }
     requires as_many { length trees ≡ length described.now.bound.spanning }
-    ensures told { Gives refused_for (λ book. (book.trees, book.tables)) result (map_fault cells_fault (book_of trees described.now.bound.tables)) }
+    ensures told { Gives refused_for (λ book. (book.trees, book.tables)) result
+        (map_fault cells_fault (book_of trees described.now.bound.tables)) }
     ensures trees { IfOk result (λ book. book.trees ≡ trees) }
     ensures tables { IfOk result (λ book. book.tables ≡ described.now.bound.tables) }
     ensures blank { IfOk result (λ book. All IsBlank book.marks) }
@@ -57,7 +59,7 @@ fn copy_tables(alloc: Global, tables: &[Place]) -> Result<Vec<Place>, Memory>
 // That there are too many cells, as a refusal; a bound job's tables have no other fault.
 fn cells_refusal(fault: BookFault) -> Refusal
     requires { IsForCells fault }
-    ensures { result ≡ refusal_for_cells fault }
+    ensures { result ≡ refusals.cells_refusal fault }
 {
     match fault {
         BookFault::TooManyCells(t) => Refusal::Refused(Fault::Cells(t)),
@@ -75,7 +77,7 @@ pub(crate) fn filled(book: Book, described: &Described, rows: &[Row]) -> Book
     ensures trees { result.trees ≡ book.trees }
     ensures tables { result.tables ≡ book.tables }
     ensures told { AreTabulated result rows.now (keep_of described.now.job.rules.list) described.now.bound.scale }
-    ensures one_each { length result.marks ≡ length (cells_in result) }
+    ensures one_each { length result.marks ≡ length (book_cells.cells result) }
     ensures few { length result.marks < 2 ^ 32 }
 {
     let mut book = book;

@@ -2,7 +2,7 @@ ghost use Rattle.std.specs.Prelude.{IfOk};
 ghost use Rattle.job_inputs.specs.Inputs.{inputs_of};
 ghost use Rattle.job_inputs.specs.Looks.{ComesTo};
 ghost use Rattle.job_inputs.specs.Reading.{IsReadFrom};
-ghost use Rattle.job_inputs.specs.Sound.{AreSound};
+ghost use Rattle.job_inputs.specs.SoundJobs.{AreSound};
 
 use crate::described::{Described, read_described};
 use crate::fields::read_fields;
@@ -24,8 +24,9 @@ pub struct Inputs {
 
 /// The job of this name with all that its input files hold, read for a purpose.
 ///
-/// They are looked at in this order, and the first fault is the answer: the job, the metadata, the job's variables in the
-/// metadata, for each spanning variable in the order of the metadata its code list and then its hierarchy, and the microdata.
+/// They are looked at in this order, and the first fault is the answer: the job, the metadata, the job's variables in
+/// the metadata, for each spanning variable in the order of the metadata its code list and then its hierarchy, and the
+/// microdata.
 #[tactic(auto, unfolding(crate::specs::Inputs::inputs_of))]
 pub(crate) fn read_inputs<S: Shelf>(
     alloc: Global,
@@ -33,7 +34,8 @@ pub(crate) fn read_inputs<S: Shelf>(
     name: &Text,
     purpose: Purpose,
 ) -> Result<Inputs, InputStop>
-    ensures reads { IsReadFrom (λ read. read) (λ fs. inputs_of purpose fs name.now) (λ fs. ComesTo purpose fs name.now) result (S.state shelf.old) (S.state shelf.new) }
+    ensures reads { IsReadFrom (λ read. read) (λ fs. inputs_of purpose fs name.now) (λ fs. ComesTo purpose fs name.now)
+        result (S.state shelf.old) (S.state shelf.new) }
     ensures sound { IfOk result AreSound }
 {
     let described = read_described(alloc, shelf, name, purpose)?;

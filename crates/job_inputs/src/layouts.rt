@@ -1,9 +1,10 @@
 ghost use Rattle.std.specs.Prelude.{◌≡◌, ◌<◌, ◌≤◌, ◌+◌, Some, IfOk, IfSome, length, fold, option_map};
 ghost use Rattle.std.specs.List.{AllByRecursion};
 ghost use Rattle.microdata.specs.Layouts.{IsLayout};
-ghost use Rattle.job_inputs.specs.Layouts.{number_field, number_at, weight_in, up_to_field, up_to_number, needed_for, last_position as last_of, layout_of};
-ghost use Rattle.job_inputs.specs.Placed.{IsPlaced, IsPlacedField, IsPlacedNumber};
-ghost use Rattle.job_inputs.specs.Sound.{IsSound};
+ghost use Rattle.job_inputs.specs.Layouts.{number_field, number_at, weight_in, up_to_field, up_to_number, needed_for, layout_of};
+ghost use Rattle.job_inputs.specs.Layouts as spec;
+ghost use Rattle.job_inputs.specs.PlacedFields.{IsPlaced, IsPlacedField, IsPlacedNumber};
+ghost use Rattle.job_inputs.specs.SoundJobs.{IsSound};
 
 use crate::described::Described;
 use crate::fields::variable_at;
@@ -113,7 +114,7 @@ fn last_of_fields(fields: &[Field]) -> u32
 // The last position of a field.
 fn last_position(first: u32, width: u32) -> u32
     requires { IsPlaced first width }
-    ensures { result ≡ last_of first width }
+    ensures { result ≡ spec.last_position first width }
 {
     first + width - 1
 }

@@ -2,7 +2,7 @@ ghost use Rattle.std.specs.Prelude.{◌≡◌, ◌≤◌, ◌++◌, [], Some, If
 ghost use Rattle.std.specs.List.{AllByRecursion};
 ghost use Rattle.sdc_base.specs.Answers.{Gives, Fails};
 ghost use Rattle.sdc_base.specs.Steps.{map_fault};
-ghost use Rattle.sdc_base.specs.Told.{WhereTold};
+ghost use Rattle.sdc_base.specs.WhereTold.{WhereTold};
 ghost use Rattle.sdc_base.specs.Trees.{IsCodeTree};
 ghost use Rattle.office_io.specs.Shelves.{HasBegun, HasChosen, HasOnlyRead};
 ghost use Rattle.microdata.specs.Feeding.{HasRead, fed_of};
@@ -14,7 +14,7 @@ ghost use Rattle.job_inputs.specs.Inputs.{limit, row_fault, records_in, look_at_
 ghost use Rattle.job_inputs.specs.Looks.{IsFile};
 ghost use Rattle.job_inputs.specs.Reading.{IsReadFrom, HasCause, stopped_for};
 ghost use Rattle.job_inputs.specs.Refusals.{refused_for, IsForContents};
-ghost use Rattle.job_inputs.specs.Sound.{AreAtLeaves};
+ghost use Rattle.job_inputs.specs.SoundJobs.{AreAtLeaves};
 ghost use Rattle.job_inputs.specs.declared.file_ref.FileRef.{FileRef as AnyFile};
 
 use crate::faults::Fault;
@@ -29,8 +29,8 @@ use std::alloc::Global;
 
 /// The records of the microdata file of this name, which is read in pieces.
 ///
-/// The faults are looked for in the order Absent, then those of the first 2^28 bytes whatever follows them, then TooLong, then
-/// those of the whole.
+/// The faults are looked for in the order Absent, then those of the first 2^28 bytes whatever follows them, then
+/// TooLong, then those of the whole.
 pub(crate) fn read_records<S: Shelf>(
     alloc: Global,
     shelf: &mut S,
@@ -38,7 +38,8 @@ pub(crate) fn read_records<S: Shelf>(
     layout: Layout,
 ) -> Result<Records, InputStop>
     requires { IsLayout layout }
-    ensures reads { IsReadFrom (λ records. records) (λ fs. look_at_records fs name.now layout) (λ fs. IsFile FileRef.Microdata name.now) result (S.state shelf.old) (S.state shelf.new) }
+    ensures reads { IsReadFrom (λ records. records) (λ fs. look_at_records fs name.now layout)
+        (λ fs. IsFile FileRef.Microdata name.now) result (S.state shelf.old) (S.state shelf.new) }
     ensures within { IfOk result (λ records. AreWithinLimits layout records) }
     ensures leaves { IfOk result AreAtLeaves }
     ensures trees { IfOk result (λ records. AllByRecursion IsCodeTree records.trees) }
@@ -53,7 +54,8 @@ pub(crate) fn read_records<S: Shelf>(
 // Chooses the microdata file.
 fn begin<S: Shelf>(shelf: &mut S, name: &Text) -> Result<(), InputStop>
     ensures chosen { OnOk result (HasChosen name.now (S.state shelf.old) (S.state shelf.new)) }
-    ensures told { IfErr result (λ stop. WhereTold (S.state shelf.old).files (λ fs. (layout : AnyLayout) → Fails (stopped_for stop) (look_at_records fs name.now layout))) }
+    ensures told { IfErr result (λ stop. WhereTold (S.state shelf.old).files
+        (λ fs. (layout : AnyLayout) → Fails (stopped_for stop) (look_at_records fs name.now layout))) }
     ensures which { (f : AnyFile) → IsErrOf result (InputStop.ReadFault f) → f ≡ FileRef.Microdata }
     ensures begun { HasBegun name.now (S.state shelf.old) (S.state shelf.new) }
     ensures only_read { HasOnlyRead (S.state shelf.old) (S.state shelf.new) }
@@ -69,10 +71,13 @@ fn begin<S: Shelf>(shelf: &mut S, name: &Text) -> Result<(), InputStop>
 // Feeds a reader with all bytes of the chosen file, of which none is taken yet.
 fn feed_all<S: Shelf>(shelf: &mut S, reader: &mut Reader) -> Result<(), InputStop>
     requires { (S.state shelf.old).taken ≡ 0 }
-    ensures whole { OnOk result ((layout : AnyLayout) (bytes : List ℕ) → (S.state shelf.old).left ≡ Some bytes → HasRead reader.old layout []
+    ensures whole { OnOk result ((layout : AnyLayout) (bytes : List ℕ) → (S.state shelf.old).left ≡ Some bytes
+        → HasRead reader.old layout []
         → HasRead reader.new layout bytes × (length bytes ≤ limit)) }
-    ensures some { OnOk result ((layout : AnyLayout) → HasRead reader.old layout [] → (bytes : List ℕ) × HasRead reader.new layout bytes) }
-    ensures told { IfErr result (λ stop. (layout : AnyLayout) (bytes : List ℕ) → (S.state shelf.old).left ≡ Some bytes → HasRead reader.old layout []
+    ensures some { OnOk result ((layout : AnyLayout) → HasRead reader.old layout []
+        → (bytes : List ℕ) × HasRead reader.new layout bytes) }
+    ensures told { IfErr result (λ stop. (layout : AnyLayout) (bytes : List ℕ) → (S.state shelf.old).left ≡ Some bytes
+        → HasRead reader.old layout []
         → Fails (stopped_for stop) (records_in layout (Some bytes))) }
     ensures which { (f : AnyFile) → IsErrOf result (InputStop.ReadFault f) → f ≡ FileRef.Microdata }
     ensures last { (S.state shelf.new).last ≡ (S.state shelf.old).last }
@@ -106,7 +111,8 @@ fn feed_all<S: Shelf>(shelf: &mut S, reader: &mut Reader) -> Result<(), InputSto
 // Feeds a reader with a piece.
 #[tactic(auto, using(crate::proofs::Refusing::row_refuses, crate::proofs::Refusing::row_is_for_contents))]
 fn feed_piece(reader: &mut Reader, piece: &[u8]) -> Result<(), Refusal>
-    ensures fed { OnOk result ((layout : AnyLayout) (bytes : List ℕ) → HasRead reader.old layout bytes → HasRead reader.new layout (bytes ++ piece.now)) }
+    ensures fed { OnOk result ((layout : AnyLayout) (bytes : List ℕ) → HasRead reader.old layout bytes
+        → HasRead reader.new layout (bytes ++ piece.now)) }
     ensures exact { (layout : AnyLayout) (bytes : List ℕ) → HasRead reader.old layout bytes
         → Gives refused_for (λ fine. fine) result (map_fault row_fault (fed_of layout (bytes ++ piece.now))) }
     ensures contents { IfErr result IsForContents }
@@ -119,8 +125,10 @@ fn feed_piece(reader: &mut Reader, piece: &[u8]) -> Result<(), Refusal>
 fn finish(reader: Reader) -> Result<Records, Refusal>
     ensures exact { (layout : AnyLayout) (bytes : List ℕ) → HasRead reader layout bytes
         → Gives refused_for (λ records. records) result (map_fault row_fault (records_of layout bytes)) }
-    ensures within { IfOk result (λ records. (layout : AnyLayout) (bytes : List ℕ) → HasRead reader layout bytes → AreWithinLimits layout records) }
-    ensures leaves { IfOk result (λ records. (layout : AnyLayout) (bytes : List ℕ) → HasRead reader layout bytes → AreAtLeaves records) }
+    ensures within { IfOk result (λ records. (layout : AnyLayout) (bytes : List ℕ) → HasRead reader layout bytes
+        → AreWithinLimits layout records) }
+    ensures leaves { IfOk result (λ records. (layout : AnyLayout) (bytes : List ℕ) → HasRead reader layout bytes
+        → AreAtLeaves records) }
     ensures trees { IfOk result (λ records. AllByRecursion IsCodeTree records.trees) }
     ensures contents { IfErr result IsForContents }
 {

@@ -1,5 +1,5 @@
 ghost use Rattle.std.specs.Prelude.{◌≡◌};
-ghost use Rattle.job_inputs.specs.Purposes.{is_unfit as unfit};
+ghost use Rattle.job_inputs.specs.Purposes as spec;
 
 use sdc_base::Method;
 
@@ -14,7 +14,7 @@ pub enum Purpose {
 
 /// Whether a job's method leaves nothing of what its inputs are read for: rounding hides no cells.
 pub(crate) fn is_unfit(purpose: Purpose, method: Method) -> bool
-    ensures { result ≡ unfit purpose method }
+    ensures { result ≡ spec.is_unfit purpose method }
 {
     match (purpose, method) {
         (Purpose::Intervals, Method::Rnd(_)) => true,

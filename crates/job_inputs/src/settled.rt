@@ -1,17 +1,17 @@
 ghost use Rattle.std.specs.Prelude.{◌≡◌, IfOk, IfErr, length, map, All};
 ghost use Rattle.sdc_base.specs.Answers.{Gives, Fails};
 ghost use Rattle.sdc_base.specs.Steps.{map_fault};
-ghost use Rattle.sdc_base.specs.Told.{WhereTold};
+ghost use Rattle.sdc_base.specs.WhereTold.{WhereTold};
 ghost use Rattle.office_io.specs.Shelves.{HasOnlyRead};
 ghost use Rattle.apriori.specs.Priors.{ArePriors};
-ghost use Rattle.apriori.specs.Settling.{seen, settle_of, HasLevelsInRange};
+ghost use Rattle.apriori.specs.Settling.{view_of_cell, settle_of, HasLevelsInRange};
 ghost use Rattle.job_inputs.specs.Cells.{figures, prior_fault};
-ghost use Rattle.job_inputs.specs.Counted.{IsCountedOf, IsReady};
+ghost use Rattle.job_inputs.specs.CountedRecords.{IsCountedOf, IsReady};
 ghost use Rattle.job_inputs.specs.Looks.{ComesTo};
 ghost use Rattle.job_inputs.specs.Reading.{HasCause, HasComeTo, stopped_for};
 ghost use Rattle.job_inputs.specs.Refusals.{refused_for, IsForContents};
-ghost use Rattle.job_inputs.specs.Settled.{settled_of, IsReadyJob, IsSettledOf, AreSettled, SettledInputs};
-ghost use Rattle.job_inputs.specs.Sound.{AreSound};
+ghost use Rattle.job_inputs.specs.SettledJobs.{settled_of, IsReadyJob, IsSettledOf, AreSettled, SettledInputs};
+ghost use Rattle.job_inputs.specs.SoundJobs.{AreSound};
 ghost use Rattle.job_inputs.specs.declared.inputs.Inputs.{Inputs as AnyInputs};
 
 use crate::counted::{Counted, count_records};
@@ -28,8 +28,8 @@ use office_io::Shelf;
 use sdc_base::{Cell, Items, Text};
 use std::alloc::Global;
 
-/// A job with its metadata, the book of its tables with the records in the cells, what each cell is to its protection, and how
-/// many records there are and were skipped.
+/// A job with its metadata, the book of its tables with the records in the cells, what each cell is to its protection,
+/// and how many records there are and were skipped.
 #[derive(Drop)]
 pub struct SettledJob {
     pub described: Described,
@@ -41,13 +41,14 @@ pub struct SettledJob {
 
 /// All that the job of this name has before anything is protected, read for a purpose.
 ///
-/// The job, its metadata, the code lists and hierarchies of its spanning variables and its microdata are looked at in this
-/// order, then the number of cells, the a priori files by table, the cells with what is stated of them, and then whether the
-/// certificate or an output would take the job's own name; the first fault is the answer. Where intervals are asked for, a job
-/// that rounds is refused as soon as it is read. The microdata are read in pieces, every other file whole.
+/// The job, its metadata, the code lists and hierarchies of its spanning variables and its microdata are looked at in
+/// this order, then the number of cells, the a priori files by table, the cells with what is stated of them, and then
+/// whether the certificate or an output would take the job's own name; the first fault is the answer. Where intervals
+/// are asked for, a job that rounds is refused as soon as it is read. The microdata are read in pieces, every other
+/// file whole.
 ///
-/// The cost is that of reading each file once, with the records kept in memory; one look-up for each record and table, and one
-/// for each cell and variable. The order is argus's own.
+/// The cost is that of reading each file once, with the records kept in memory; one look-up for each record and table,
+/// and one for each cell and variable. The order is argus's own.
 pub fn read_settled<S: Shelf>(
     alloc: Global,
     shelf: &mut S,
@@ -57,7 +58,8 @@ pub fn read_settled<S: Shelf>(
     ensures told { WhereTold (S.state shelf.old).files (λ fs. AreSettled result (settled_of purpose fs name.now)) }
     ensures settled { IfOk result (λ job. (settled : SettledInputs) × IsSettledOf settled job × AreSound settled.inputs) }
     ensures ready { IfOk result IsReadyJob }
-    ensures came_to { WhereTold (S.state shelf.old).files (λ fs. HasComeTo (ComesTo purpose fs name.now) result fs (S.state shelf.new)) }
+    ensures came_to { WhereTold (S.state shelf.old).files
+        (λ fs. HasComeTo (ComesTo purpose fs name.now) result fs (S.state shelf.new)) }
     ensures only_read { HasOnlyRead (S.state shelf.old) (S.state shelf.new) }
     ensures cause { HasCause result (S.state shelf.old) (S.state shelf.new) }
 {
@@ -81,10 +83,11 @@ fn settled_cells(alloc: Global, counted: &Counted, priors: &[Prior]) -> Result<I
     requires ready { IsReady counted.now }
     requires priors { ArePriors counted.now.book.marks priors.now }
     ensures gives { (inputs : AnyInputs) → IsCountedOf inputs counted.now
-        → Gives refused_for (λ cells. map seen cells) result (map_fault prior_fault (settle_of inputs.described.job.rules (figures inputs) priors.now)) }
+        → Gives refused_for (λ cells. map view_of_cell cells) result (map_fault prior_fault (settle_of inputs.described.job.rules (figures inputs) priors.now)) }
     ensures one_each { IfOk result (λ cells. length cells ≡ length counted.now.book.marks) }
     ensures levels { IfOk result (λ cells. All HasLevelsInRange cells) }
-    ensures truths { IfOk result (λ cells. map (λ mark. mark.facts.truth) counted.now.book.marks ≡ map (λ cell. cell.truth) cells) }
+    ensures truths { IfOk result (λ cells. map (λ mark. mark.facts.truth) counted.now.book.marks
+        ≡ map (λ cell. cell.truth) cells) }
     ensures contents { IfErr result IsForContents }
 {
     let cells = settle(alloc, &counted.book, &counted.described.job.rules, priors)?;

@@ -1,17 +1,18 @@
 ghost use Rattle.std.specs.Prelude.{◌≡◌, ◌<◌, ◌≤◌, IfOk, IfErr, OnOk, ℕ, length, option_map};
 ghost use Rattle.sdc_base.specs.Answers.{Gives};
 ghost use Rattle.sdc_base.specs.Steps.{map_fault};
-ghost use Rattle.sdc_base.specs.Told.{WhereTold};
+ghost use Rattle.sdc_base.specs.WhereTold.{WhereTold};
 ghost use Rattle.office_io.specs.Shelves.{HasOnlyRead};
 ghost use Rattle.apriori.specs.Applying.{file_says};
 ghost use Rattle.apriori.specs.Priors.{ArePriors};
 ghost use Rattle.job_inputs.specs.Cells.{prior_fault};
-ghost use Rattle.job_inputs.specs.Counted.{IsCountedOf, IsReady};
+ghost use Rattle.job_inputs.specs.CountedRecords.{IsCountedOf, IsReady};
 ghost use Rattle.job_inputs.specs.Inputs.{limit};
 ghost use Rattle.job_inputs.specs.Looks.{IsPriorFileOf, ComesToStatements};
 ghost use Rattle.job_inputs.specs.Reading.{HasCause, HasComeTo, stopped_for};
 ghost use Rattle.job_inputs.specs.Refusals.{refused_for, IsForContents};
-ghost use Rattle.job_inputs.specs.Stated.{basis_in, prior_line as line_of, with_file, priors_of};
+ghost use Rattle.job_inputs.specs.PriorStatements.{basis_in, with_file, priors_of};
+ghost use Rattle.job_inputs.specs.PriorStatements as spec;
 ghost use Rattle.job_inputs.specs.declared.inputs.Inputs.{Inputs as AnyInputs};
 
 use crate::counted::Counted;
@@ -51,7 +52,7 @@ pub(crate) fn read_priors<S: Shelf>(
 }
 
 // Adds what a table's a priori file states, where it has one.
-#[tactic(auto, unfolding(crate::specs::Stated::with_file))]
+#[tactic(auto, unfolding(crate::specs::PriorStatements::with_file))]
 fn add_file<S: Shelf>(
     alloc: Global,
     shelf: &mut S,
@@ -63,8 +64,9 @@ fn add_file<S: Shelf>(
     requires table { t < length counted.now.described.job.tables }
     requires priors { ArePriors counted.now.book.marks priors.old.items }
     ensures told { (inputs : AnyInputs) → IsCountedOf inputs counted.now → WhereTold (S.state shelf.old).files (λ fs.
-        Gives stopped_for (λ fine. priors.new.items) result (with_file fs inputs t (line_of t counted.now.described.job.priors) priors.old.items)) }
-    ensures came_to { WhereTold (S.state shelf.old).files (λ fs. HasComeTo (IsPriorFileOf t counted.now.described.job.priors) result fs (S.state shelf.new)) }
+        Gives stopped_for (λ fine. priors.new.items) result (with_file fs inputs t (spec.prior_line t counted.now.described.job.priors) priors.old.items)) }
+    ensures came_to { WhereTold (S.state shelf.old).files
+        (λ fs. HasComeTo (IsPriorFileOf t counted.now.described.job.priors) result fs (S.state shelf.new)) }
     ensures only_read { HasOnlyRead (S.state shelf.old) (S.state shelf.new) }
     ensures cause { HasCause result (S.state shelf.old) (S.state shelf.new) }
     ensures fit { OnOk result (ArePriors counted.now.book.marks priors.new.items) }
@@ -79,7 +81,7 @@ fn add_file<S: Shelf>(
 
 // The line of the job that names a table's a priori file, where there is one.
 fn prior_line(lines: &[PriorLine], t: u32) -> Option<&PriorLine>
-    ensures { option_map (λ line. line.now) result ≡ line_of t lines.now }
+    ensures { option_map (λ line. line.now) result ≡ spec.prior_line t lines.now }
 {
     'lines: for line in lines {
         if line.table == t {
@@ -103,7 +105,8 @@ fn state(
     requires table { t < length counted.now.described.job.tables }
     requires priors { ArePriors counted.now.book.marks priors.old.items }
     requires few { length bytes.now ≤ limit }
-    ensures told { (inputs : AnyInputs) → IsCountedOf inputs counted.now → Gives refused_for (λ fine. priors.new.items) result
+    ensures told { (inputs : AnyInputs) → IsCountedOf inputs counted.now
+        → Gives refused_for (λ fine. priors.new.items) result
         (map_fault prior_fault (file_says (basis_in inputs) t line.now.separator inputs.described.bound.decimals priors.old.items bytes.now)) }
     ensures fit { OnOk result (ArePriors counted.now.book.marks priors.new.items) }
     ensures contents { IfErr result IsForContents }

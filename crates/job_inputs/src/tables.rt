@@ -13,8 +13,8 @@ use std::alloc::Global;
 
 /// The names in the first line of each table of a job, in the order of the tables.
 ///
-/// They are those of the table's variables, as its line of the job has them, and that of the response. `Memory` is the only
-/// refusal. The cost is the length of the names. The format is argus's own.
+/// They are those of the table's variables, as its line of the job has them, and that of the response. `Memory` is the
+/// only refusal. The cost is the length of the names. The format is argus's own.
 pub fn table_names(alloc: Global, job: &Job) -> Result<Items<Items<Text>>, Memory>
     ensures { IfOk result (λ names. names ≡ map names_of job.now.tables) }
 {
@@ -42,15 +42,16 @@ pub fn header_for(alloc: Global, line: &TableLine) -> Result<Items<Text>, Memory
 /// The bytes of the tables that stand under the names of a job, one text for each of its outputs and in their order.
 ///
 /// The job is within its limits. The files are looked at in the order of the tables, each for Absent, then TooLong, and
-/// the first fault is the answer; what the bytes say isn't looked at. Each file is read whole, once. The order is argus's
-/// own.
+/// the first fault is the answer; what the bytes say isn't looked at. Each file is read whole, once. The order is
+/// argus's own.
 pub fn read_tables<S: Shelf>(
     alloc: Global,
     shelf: &mut S,
     job: &Job,
 ) -> Result<Items<Text>, InputStop>
     requires { IsJob job.now }
-    ensures reads { IsReadFrom (λ tables. tables) (λ fs. tables_of fs job.now) (λ fs. ComesToTables fs job.now) result (S.state shelf.old) (S.state shelf.new) }
+    ensures reads { IsReadFrom (λ tables. tables) (λ fs. tables_of fs job.now) (λ fs. ComesToTables fs job.now) result
+        (S.state shelf.old) (S.state shelf.new) }
     ensures each { IfOk result (λ tables. length tables ≡ length job.now.outputs) }
 {
     let mut tables = Items::empty(alloc);

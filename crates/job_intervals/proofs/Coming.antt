@@ -5,7 +5,7 @@ use Rattle.sdc_base.specs.Steps.{refuse}
 use Rattle.office_io.specs.Files.{Files}
 use Rattle.job_inputs.proofs.Refusing.{fails-on}
 use Rattle.job_inputs.specs.Looks.{ComesTo as ComesToInput}
-use Rattle.job_inputs.specs.Settled.{SettledInputs, settled_of}
+use Rattle.job_inputs.specs.SettledJobs.{SettledInputs, settled_of}
 use Rattle.job_inputs.specs.Tables.{tables_of, TablesComeTo, ComesToTables}
 use Rattle.job_inputs.specs.declared.described.Described.{Described}
 use Rattle.job_inputs.specs.declared.faults.Fault.{Fault}
@@ -14,7 +14,7 @@ use Rattle.job_inputs.specs.declared.file_ref.FileRef.{FileRef}
 use Rattle.job_inputs.specs.declared.file_ref.FileRef.TheVariants as file
 use Rattle.job_inputs.specs.declared.purpose.Purpose.TheVariants as purpose
 use Rattle.job_intervals.specs.OutNames.{overwrites}
-use Rattle.job_intervals.specs.Shelved.{shelved_of, ComesTo}
+use Rattle.job_intervals.specs.TablesOnShelf.{shelved_of, ComesTo}
 
 -- a value that has a property, where there is one
 pub ok_and : {A F : Type 0} (P : A → Type 0) (o : Result A F) → IsOkAnd o P → (x : A) × (o ≡ Ok x) × P x

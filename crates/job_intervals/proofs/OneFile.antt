@@ -9,8 +9,8 @@ use Rattle.sdc_base.specs.Worlds.{IsWithinBounds, IsWorld, value_over}
 use Rattle.sdc_base.specs.declared.cell.Cell.{Cell}
 use Rattle.sdc_base.specs.declared.relation.Relation.{Relation}
 use Rattle.sdc_base.specs.declared.system.System.{System}
-use Rattle.apriori.specs.Settling.{Settled, seen}
-use Rattle.linked_tables.specs.Shared.{cells as cells_in}
+use Rattle.apriori.specs.Settling.{SettledCell, view_of_cell}
+use Rattle.linked_tables.specs.BookCells.{cells as cells_in}
 use Rattle.relations.specs.Holding.{IsSystemOf, sum_in}
 use Rattle.cell_intervals.specs.IntervalTexts.{interval_text}
 use Rattle.cell_intervals.specs.Laws.{FileIsOne}
@@ -20,11 +20,11 @@ use Rattle.cell_intervals.specs.declared.interval.UpperEnd.{UpperEnd}
 use Rattle.cell_intervals.specs.declared.interval.UpperEnd.TheVariants.{At, Open}
 use Rattle.cell_intervals.specs.declared.ratio.Ratio.{Ratio}
 use Rattle.cert_check.specs.declared.faults.CheckFault.{CheckFault}
-use Rattle.job_inputs.specs.Settled.{SettledInputs, IsSettledOf}
+use Rattle.job_inputs.specs.SettledJobs.{SettledInputs, IsSettledOf}
 use Rattle.job_inputs.specs.declared.settled.SettledJob.{SettledJob}
 use Rattle.job_intervals.proofs.ReadingAlike.{tables_are_read_alike}
 use Rattle.job_intervals.specs.Finding.{IsFileOf}
-use Rattle.job_intervals.specs.Shelved.{ShelvedTables}
+use Rattle.job_intervals.specs.TablesOnShelf.{ShelvedTables}
 use Rattle.job_intervals.specs.ShownTables.{flags_in}
 use Rattle.job_intervals.specs.declared.interval_file.IntervalFile.{IntervalFile}
 
@@ -32,22 +32,22 @@ use Rattle.job_intervals.specs.declared.interval_file.IntervalFile.{IntervalFile
 pub record AreAlike (one other : System) (cells others : List Cell) : Type 0 where
   pub as_many : one.cells ≡ other.cells
   pub sums : map sum_in one.relations ≡ map sum_in other.relations
-  pub amounts : map seen cells ≡ map seen others
+  pub amounts : map view_of_cell cells ≡ map view_of_cell others
 
 alike_back : (one other : System) (cells others : List Cell) → AreAlike one other cells others → AreAlike other one others cells
 alike_back one other cells others alike = record { as_many = sym alike.as_many; sums = sym alike.sums; amounts = sym alike.amounts }
 
 -- at each place there is a cell of the same amounts
-cell_alike : (cells others : List Cell) (number : ℕ) (other : Cell) → map seen cells ≡ map seen others → slice_get others number ≡ Some other → (cell : Cell) × (slice_get cells number ≡ Some cell) × (seen cell ≡ seen other)
+cell_alike : (cells others : List Cell) (number : ℕ) (other : Cell) → map view_of_cell cells ≡ map view_of_cell others → slice_get others number ≡ Some other → (cell : Cell) × (slice_get cells number ≡ Some cell) × (view_of_cell cell ≡ view_of_cell other)
 cell_alike [] [] number other same at = absurd cc
 cell_alike [] (next ∷ others) number other same at = absurd cc
 cell_alike (cell ∷ cells) [] number other same at = absurd cc
 cell_alike (cell ∷ cells) (next ∷ others) zero other same at =
-    let heads : seen cell ≡ seen next = cc in
+    let heads : view_of_cell cell ≡ view_of_cell next = cc in
     let is : next ≡ other = cc in
-    (cell, refl, heads ∙ ap seen is)
+    (cell, refl, heads ∙ ap view_of_cell is)
 cell_alike (cell ∷ cells) (next ∷ others) (suc number) other same at =
-    let tails : map seen cells ≡ map seen others = cc in
+    let tails : map view_of_cell cells ≡ map view_of_cell others = cc in
     cell_alike cells others number other tails at
 
 holds_alike : (moves : Numbers) (ones others : List Relation) → map sum_in ones ≡ map sum_in others → HoldOn moves ones → HoldOn moves others
@@ -60,11 +60,11 @@ holds_alike moves (one ∷ ones) (r ∷ others) same holds =
     All-cons (λ (q : Relation). form moves q ≡ pos 0) r others (sym forms ∙ All-head (λ (q : Relation). form moves q ≡ pos 0) one ones holds)
     (holds_alike moves ones others tails (All-tail (λ (q : Relation). form moves q ≡ pos 0) one ones holds))
 
-bounds_alike : (cell other : Cell) (den move : ℤ) → seen cell ≡ seen other → IsWithinBounds cell den move → IsWithinBounds other den move
+bounds_alike : (cell other : Cell) (den move : ℤ) → view_of_cell cell ≡ view_of_cell other → IsWithinBounds cell den move → IsWithinBounds other den move
 bounds_alike cell other den move same within =
-    let truth : cell.truth ≡ other.truth = ap (λ (one : Settled). one.truth) same in
-    let low : cell.low ≡ other.low = ap (λ (one : Settled). one.low) same in
-    let high : cell.high ≡ other.high = ap (λ (one : Settled). one.high) same in
+    let truth : cell.truth ≡ other.truth = ap (λ (one : SettledCell). one.truth) same in
+    let low : cell.low ≡ other.low = ap (λ (one : SettledCell). one.low) same in
+    let high : cell.high ≡ other.high = ap (λ (one : SettledCell). one.high) same in
     record {
       from_low = rw (← low, ← truth) within.from_low;
       to_high = λ bound is. rw (← truth) (within.to_high bound (high ∙ is));
@@ -81,10 +81,10 @@ world_alike one other cells others flags den moves alike world = record {
       bounds_alike here.0 cell den (moves number) here.2 (world.bounds_hold number here.0 here.1);
 }
 
-value_alike : (cell other : Cell) (den move : ℤ) → seen cell ≡ seen other → value_over den cell move ≡ value_over den other move
-value_alike cell other den move same = ap (λ (one : Settled). den *ℤ one.truth +ℤ move) same
+value_alike : (cell other : Cell) (den move : ℤ) → view_of_cell cell ≡ view_of_cell other → value_over den cell move ≡ value_over den other move
+value_alike cell other den move same = ap (λ (one : SettledCell). den *ℤ one.truth +ℤ move) same
 
-attained_alike : (one other : System) (cells others : List Cell) (flags : List Bool) (number : ℕ) (cell another : Cell) (value : Ratio) → AreAlike one other cells others → seen cell ≡ seen another
+attained_alike : (one other : System) (cells others : List Cell) (flags : List Bool) (number : ℕ) (cell another : Cell) (value : Ratio) → AreAlike one other cells others → view_of_cell cell ≡ view_of_cell another
     → IsAttained one cells flags number cell value → IsAttained other others flags number another value
 attained_alike one other cells others flags number cell another value alike same it = (
   it.0,
@@ -93,27 +93,27 @@ attained_alike one other cells others flags number cell another value alike same
   rw (← value_alike cell another it.0 (it.1 number) same) it.3,
 )
 
-least_alike : (one other : System) (cells others : List Cell) (flags : List Bool) (number : ℕ) (cell another : Cell) (value : Ratio) → AreAlike one other cells others → seen cell ≡ seen another
+least_alike : (one other : System) (cells others : List Cell) (flags : List Bool) (number : ℕ) (cell another : Cell) (value : Ratio) → AreAlike one other cells others → view_of_cell cell ≡ view_of_cell another
     → IsLeastValue one cells flags number cell value → IsLeastValue other others flags number another value
 least_alike one other cells others flags number cell another value alike same it = record {
   attained = attained_alike one other cells others flags number cell another value alike same it.attained;
   least = λ den moves world. rw (← value_alike cell another den (moves number) same) (it.least den moves (world_alike other one others cells flags den moves (alike_back one other cells others alike) world));
 }
 
-greatest_alike : (one other : System) (cells others : List Cell) (flags : List Bool) (number : ℕ) (cell another : Cell) (value : Ratio) → AreAlike one other cells others → seen cell ≡ seen another
+greatest_alike : (one other : System) (cells others : List Cell) (flags : List Bool) (number : ℕ) (cell another : Cell) (value : Ratio) → AreAlike one other cells others → view_of_cell cell ≡ view_of_cell another
     → IsGreatestValue one cells flags number cell value → IsGreatestValue other others flags number another value
 greatest_alike one other cells others flags number cell another value alike same it = record {
   attained = attained_alike one other cells others flags number cell another value alike same it.attained;
   greatest = λ den moves world. rw (← value_alike cell another den (moves number) same) (it.greatest den moves (world_alike other one others cells flags den moves (alike_back one other cells others alike) world));
 }
 
-upper_alike : (one other : System) (cells others : List Cell) (flags : List Bool) (number : ℕ) (cell another : Cell) (high : UpperEnd) → AreAlike one other cells others → seen cell ≡ seen another
+upper_alike : (one other : System) (cells others : List Cell) (flags : List Bool) (number : ℕ) (cell another : Cell) (high : UpperEnd) → AreAlike one other cells others → view_of_cell cell ≡ view_of_cell another
     → IsUpperEnd one cells flags number cell high → IsUpperEnd other others flags number another high
 upper_alike one other cells others flags number cell another (At high) alike same it =
-    let truth : cell.truth ≡ another.truth = ap (λ (one : Settled). one.truth) same in
+    let truth : cell.truth ≡ another.truth = ap (λ (one : SettledCell). one.truth) same in
     (greatest_alike one other cells others flags number cell another high alike same it.0, rw (← truth) it.1)
 upper_alike one other cells others flags number cell another Open alike same it =
-    let truth : cell.truth ≡ another.truth = ap (λ (one : Settled). one.truth) same in
+    let truth : cell.truth ≡ another.truth = ap (λ (one : SettledCell). one.truth) same in
     (it.0, it.1, world_alike one other cells others flags it.0 it.1 alike it.2, rw (← value_alike cell another it.0 (it.1 number) same, ← truth) it.3)
 
 interval_alike : (one other : System) (cells others : List Cell) (flags : List Bool) (interval : CellInterval) → AreAlike one other cells others → IsIntervalOf one cells flags interval → IsIntervalOf other others flags interval

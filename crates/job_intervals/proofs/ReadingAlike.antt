@@ -8,29 +8,29 @@ use Rattle.sdc_base.specs.Records.{Name}
 use Rattle.sdc_base.specs.TableText.{line_text}
 use Rattle.sdc_base.specs.Trees.{Tree}
 use Rattle.sdc_base.specs.declared.cell.Cell.{Cell}
-use Rattle.apriori.specs.Settling.{Settled, seen}
-use Rattle.linked_tables.specs.Held.{Held}
-use Rattle.linked_tables.specs.Shared.{named, number_of}
+use Rattle.apriori.specs.Settling.{SettledCell, view_of_cell}
+use Rattle.linked_tables.specs.BookViews.{BookView}
+use Rattle.linked_tables.specs.BookCells.{name_in_table, number_of}
 use Rattle.linked_tables.specs.declared.mark.Mark.{Mark}
-use Rattle.release_writer.specs.ReleaseReading.{Template, Reading, rest_behind, truth_of, value_there, read_place, read_places, read_table, read_tables, hidden_read, flags_of}
+use Rattle.release_writer.specs.ReleaseReading.{Template, ReleaseSoFar, rest_behind, truth_of, value_there, read_place, read_places, read_table, read_tables, hidden_read, flags_of}
 use Rattle.worlds.specs.ProtectFaults.{fixed_hidden}
 use Rattle.cert_check.specs.RoundedRelease.{at_line}
 use Rattle.job_inputs.proofs.Facts.{facts-in}
 use Rattle.job_inputs.specs.Cells.{cells, truth_in}
-use Rattle.job_inputs.specs.Settled.{SettledInputs, IsSettledOf}
+use Rattle.job_inputs.specs.SettledJobs.{SettledInputs, IsSettledOf}
 use Rattle.job_inputs.specs.Tables.{names_of}
-use Rattle.job_inputs.specs.Tabulated.{IsBookOf}
+use Rattle.job_inputs.specs.TabulatedBooks.{IsBookOf}
 use Rattle.job_inputs.specs.declared.described.Described.{Described}
 use Rattle.job_inputs.specs.declared.inputs.Inputs.{Inputs}
 use Rattle.job_inputs.specs.declared.settled.SettledJob.{SettledJob}
 use Rattle.job_intervals.specs.ShownTables.{flags_in, lines_read}
 
 -- a book by its parts
-abbrev held : List Tree → List (List ℕ) → List Mark → Held
+abbrev held : List Tree → List (List ℕ) → List Mark → BookView
 held trees tables marks = record { trees = trees; tables = tables; marks = marks }
 
 -- table t of a release that hides cells
-abbrev form : Held → ℕ → List ℕ → ℕ → Template
+abbrev form : BookView → ℕ → List ℕ → ℕ → Template
 form book t table decimals = record { book = book; t = t; table = table; decimals = decimals; rounded = false }
 
 -- the marks of two books have the same truths
@@ -42,14 +42,14 @@ same_value : (trees : List Tree) (tables : List (List ℕ)) (ones others : List 
 same_value trees tables ones others t table decimals place bytes cell None same = rw (same cell) refl
 same_value trees tables ones others t table decimals place bytes cell (Some value) same = refl
 
-same_place : (trees : List Tree) (tables : List (List ℕ)) (ones others : List Mark) (t : ℕ) (table : List ℕ) (decimals : ℕ) (reading : Reading) (place : List ℕ) → HaveSameTruths ones others
+same_place : (trees : List Tree) (tables : List (List ℕ)) (ones others : List Mark) (t : ℕ) (table : List ℕ) (decimals : ℕ) (reading : ReleaseSoFar) (place : List ℕ) → HaveSameTruths ones others
     → read_place (form (held trees tables ones) t table decimals) reading place ≡ read_place (form (held trees tables others) t table decimals) reading place
 unfolding read_place
 same_place trees tables ones others t table decimals reading place same =
-    bind_same (or_fault (t, reading.line) (number_of (held trees tables ones) (named (held trees tables ones) table place))) _ _
+    bind_same (or_fault (t, reading.line) (number_of (held trees tables ones) (name_in_table (held trees tables ones) table place))) _ _
     (λ cell. rw (same_value trees tables ones others t table decimals place reading.rest cell (slice_get reading.shown cell) same) refl)
 
-same_places : (trees : List Tree) (tables : List (List ℕ)) (ones others : List Mark) (t : ℕ) (table : List ℕ) (decimals : ℕ) (reading : Reading) (all : List (List ℕ)) → HaveSameTruths ones others
+same_places : (trees : List Tree) (tables : List (List ℕ)) (ones others : List Mark) (t : ℕ) (table : List ℕ) (decimals : ℕ) (reading : ReleaseSoFar) (all : List (List ℕ)) → HaveSameTruths ones others
     → read_places (form (held trees tables ones) t table decimals) reading all ≡ read_places (form (held trees tables others) t table decimals) reading all
 same_places trees tables ones others t table decimals reading [] same = refl
 same_places trees tables ones others t table decimals reading (place ∷ rest) same =
@@ -74,7 +74,7 @@ same_tables trees tables ones others decimals t (table ∷ some) (own ∷ names)
     (bind_same (read_table (form (held trees tables others) t table decimals) own bytes shown) _ _ (λ next. same_tables trees tables ones others decimals (t + 1) some names files next same))
 
 -- what tables hide is read alike by books of the same truths
-hidden_alike : (one other : Held) (names : List (List (List ℕ))) (decimals : ℕ) (files : List (List ℕ)) → one.trees ≡ other.trees → one.tables ≡ other.tables → HaveSameTruths one.marks other.marks
+hidden_alike : (one other : BookView) (names : List (List (List ℕ))) (decimals : ℕ) (files : List (List ℕ)) → one.trees ≡ other.trees → one.tables ≡ other.tables → HaveSameTruths one.marks other.marks
     → hidden_read one names decimals files ≡ hidden_read other names decimals files
 hidden_alike one other names decimals files trees tables same =
     let first : hidden_read one names decimals files ≡ hidden_read (held other.trees other.tables one.marks) names decimals files = rw (← trees, ← tables) refl in
@@ -89,21 +89,21 @@ truths_at truth (name ∷ names) (mark ∷ marks) many is zero = ap Some (is 0 n
 truths_at truth (name ∷ names) (mark ∷ marks) many is (suc cell) = truths_at truth names marks (omega (arith, many)) (λ k other one at holds. is (suc k) other one at holds) cell
 
 -- marks of the same inputs have the same truths
-same_truths : (inputs : Inputs) (one other : Held) → IsBookOf inputs one → IsBookOf inputs other → HaveSameTruths one.marks other.marks
+same_truths : (inputs : Inputs) (one other : BookView) → IsBookOf inputs one → IsBookOf inputs other → HaveSameTruths one.marks other.marks
 same_truths inputs one other is_one is_other cell =
     let here = facts-in inputs one is_one in
     let there = facts-in inputs other is_other in
     truths_at (truth_in inputs) (cells inputs) one.marks here.one_each (λ k name mark at holds. (here.each k name mark at holds).0.truth) cell
     ∙ sym (truths_at (truth_in inputs) (cells inputs) other.marks there.one_each (λ k name mark at holds. (there.each k name mark at holds).0.truth) cell)
 
-same_fixed : (flags : List Bool) (number : ℕ) (ones others : List Cell) → map seen ones ≡ map seen others → fixed_hidden flags number ones ≡ fixed_hidden flags number others
+same_fixed : (flags : List Bool) (number : ℕ) (ones others : List Cell) → map view_of_cell ones ≡ map view_of_cell others → fixed_hidden flags number ones ≡ fixed_hidden flags number others
 same_fixed flags number [] [] same = refl
 same_fixed flags number [] (cell ∷ others) same = absurd cc
 same_fixed flags number (cell ∷ ones) [] same = absurd cc
 same_fixed flags number (cell ∷ ones) (another ∷ others) same =
-    let heads : seen cell ≡ seen another = cc in
-    let tails : map seen ones ≡ map seen others = cc in
-    let kinds : cell.kind ≡ another.kind = ap (λ (one : Settled). one.kind) heads in
+    let heads : view_of_cell cell ≡ view_of_cell another = cc in
+    let tails : map view_of_cell ones ≡ map view_of_cell others = cc in
+    let kinds : cell.kind ≡ another.kind = ap (λ (one : SettledCell). one.kind) heads in
     rw (kinds, same_fixed flags (number + 1) ones others tails) refl
 
 same_flags : (one other : SettledJob) (tables : List (List ℕ)) → lines_read one tables ≡ lines_read other tables → ((flags : List Bool) → fixed_hidden flags 0 one.cells ≡ fixed_hidden flags 0 other.cells) → flags_in one tables ≡ flags_in other tables

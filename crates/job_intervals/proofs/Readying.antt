@@ -14,10 +14,10 @@ use Rattle.release_writer.specs.Sheets.{HaveNames, HasTruthsFromZero}
 use Rattle.cell_intervals.specs.Intervals.{AreIntervals}
 use Rattle.cell_intervals.specs.declared.interval.CellInterval.{CellInterval}
 use Rattle.job_intervals.proofs.Naming.{names-each, names-fit}
-use Rattle.job_inputs.specs.Settled.{IsReadyJob}
+use Rattle.job_inputs.specs.SettledJobs.{IsReadyJob}
 use Rattle.job_inputs.specs.Tables.{names_of}
 use Rattle.job_inputs.specs.declared.settled.SettledJob.{SettledJob}
-use Rattle.job_intervals.specs.Shelved.{IsReadyShelved}
+use Rattle.job_intervals.specs.TablesOnShelf.{IsReadyShelved}
 use Rattle.job_intervals.specs.declared.shelved.ShelvedJob.{ShelvedJob}
 
 -- truths are from 0

@@ -12,14 +12,14 @@ use Rattle.cert_check.specs.FirstFault.{fault_of}
 use Rattle.cert_check.specs.declared.faults.CheckFault.{CheckFault}
 use Rattle.cert_check.specs.declared.faults.CheckFault.TheVariants as check
 use Rattle.job_inputs.specs.Reading.{HasCause as HasInputCause, HasComeTo as HasInputComeTo}
-use Rattle.job_inputs.specs.Sound.{AreSound}
+use Rattle.job_inputs.specs.SoundJobs.{AreSound}
 use Rattle.job_inputs.specs.declared.faults.Fault.{Fault}
 use Rattle.job_inputs.specs.declared.file_ref.FileRef.{FileRef}
 use Rattle.job_inputs.specs.declared.settled.SettledJob.{SettledJob}
 use Rattle.job_inputs.specs.declared.stop.InputStop.{InputStop}
 use Rattle.job_inputs.specs.declared.stop.InputStop.TheVariants as input
-use Rattle.job_intervals.specs.Finding.{Comes, ComesFromSet, IsFound}
-use Rattle.job_intervals.specs.Shelved.{ShelvedTables}
+use Rattle.job_intervals.specs.Finding.{AnswersIntervals, ComesFromSet, IsFound}
+use Rattle.job_intervals.specs.TablesOnShelf.{ShelvedTables}
 use Rattle.job_intervals.specs.Stops.{memory_stop, table_stop, question_stop, HasCause, HasComeTo}
 use Rattle.job_intervals.specs.declared.interval_file.IntervalFile.{IntervalFile}
 use Rattle.job_intervals.specs.declared.stop.IntervalStop.{IntervalStop}
@@ -59,7 +59,7 @@ table_is check.Memory = inl refl
 
 -- so it stops the run for the first fault of the tables
 pub table_stops : {A : Type 0} (meant : Result A CheckFault) (shelved : Result ShelvedTables Fault) (e : CheckFault) → Fails (fault_of e) meant
-    → ((why : CheckFault) → meant ≡ Err why → Comes shelved (Err (stop.NotAccepted why))) → Comes shelved (Err (table_stop e))
+    → ((why : CheckFault) → meant ≡ Err why → AnswersIntervals shelved (Err (stop.NotAccepted why))) → AnswersIntervals shelved (Err (table_stop e))
 table_stops {A} meant shelved e fails make = elim (table_is e) [
   | inl memory ↦ rw memory tt
   | inr own ↦ rw (own.0) (make e (subst (λ (o : Option CheckFault). Fails o meant) own.1 fails))
@@ -67,7 +67,7 @@ table_stops {A} meant shelved e fails make = elim (table_is e) [
 
 -- and is found so over any shelf
 pub table_found : {A : Type 0} (meant : Result A CheckFault) (e : CheckFault) → Fails (fault_of e) meant
-    → ((why : CheckFault) → meant ≡ Err why → (shelved : ShelvedTables) × AreSound shelved.settled.inputs × Comes (Ok shelved) (Err (stop.NotAccepted why))) → IsFound (Err (table_stop e))
+    → ((why : CheckFault) → meant ≡ Err why → (shelved : ShelvedTables) × AreSound shelved.settled.inputs × AnswersIntervals (Ok shelved) (Err (stop.NotAccepted why))) → IsFound (Err (table_stop e))
 table_found {A} meant e fails make = elim (table_is e) [
   | inl memory ↦ rw memory tt
   | inr own ↦ rw (own.0) (make e (subst (λ (o : Option CheckFault). Fails o meant) own.1 fails))

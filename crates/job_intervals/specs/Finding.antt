@@ -11,19 +11,19 @@ use Rattle.cell_intervals.specs.Intervals.{AreIntervals}
 use Rattle.cell_intervals.specs.declared.interval.CellInterval.{CellInterval}
 use Rattle.cert_check.specs.declared.faults.CheckFault.{CheckFault}
 use Rattle.job_inputs.specs.Reading.{stopped_for}
-use Rattle.job_inputs.specs.Settled.{IsSettledOf}
-use Rattle.job_inputs.specs.Sound.{AreSound}
+use Rattle.job_inputs.specs.SettledJobs.{IsSettledOf}
+use Rattle.job_inputs.specs.SoundJobs.{AreSound}
 use Rattle.job_inputs.specs.declared.faults.Fault.{Fault}
 use Rattle.job_inputs.specs.declared.settled.SettledJob.{SettledJob}
 use Rattle.job_inputs.specs.declared.stop.InputStop.TheVariants as input
-use Rattle.job_intervals.specs.Shelved.{ShelvedTables}
+use Rattle.job_intervals.specs.TablesOnShelf.{ShelvedTables}
 use Rattle.job_intervals.specs.ShownTables.{flags_in}
 use Rattle.job_intervals.specs.declared.interval_file.IntervalFile.{IntervalFile}
 use Rattle.job_intervals.specs.declared.stop.IntervalStop.{IntervalStop}
 use Rattle.job_intervals.specs.declared.stop.IntervalStop.TheVariants as stop
 
--- The file is that of the intervals of the cells that are hidden: each of them, ascending, with the least and the greatest value that
--- a complete table gives it, as a text, and their number.
+-- The file is that of the intervals of the cells that are hidden: each of them, ascending, with the least and the
+-- greatest value that a complete table gives it, as a text, and their number.
 pub record IsFileFor (job : SettledJob) (flags : List Bool) (file : IntervalFile) : Type 0 where
   pub system : System
   pub intervals : List CellInterval
@@ -32,14 +32,16 @@ pub record IsFileFor (job : SettledJob) (flags : List Bool) (file : IntervalFile
   pub bytes : file.bytes ≡ interval_text intervals
   pub cells : file.cells ≡ length intervals
 
--- the fault is that of the first question about a hidden cell that has no answer within the job's steps, and isn't want of memory
+-- the fault is that of the first question about a hidden cell that has no answer within the job's steps, and isn't want
+-- of memory
 pub record IsStuckAt (job : SettledJob) (flags : List Bool) (why : AskFault) : Type 0 where
   pub system : System
   pub system_is : IsSystemOf job.book system
   pub not_memory : why ≢ ask.Memory
   pub fault : IsFaultOf system job.cells flags job.described.job.steps why
 
--- the answer for a hidden set: the file of its intervals, or the fault of the first question without an answer, want of memory aside
+-- the answer for a hidden set: the file of its intervals, or the fault of the first question without an answer, want of
+-- memory aside
 abbrev pub ComesFromSet : SettledJob → List Bool → Result IntervalFile IntervalStop → Type 0
 ComesFromSet job flags (Ok file) = IsFileFor job flags file
 ComesFromSet job flags (Err (stop.Inputs input.Memory)) = Unit {0}
@@ -69,16 +71,17 @@ pub record IsUndecidedFor (shelved : ShelvedTables) (why : AskFault) : Type 0 wh
   pub shown : flags_in job shelved.tables ≡ Ok flags
   pub stuck : IsStuckAt job flags why
 
--- What the run answers, by what the told files come to: the first fault of the inputs, of the name of the file to be put and of the
--- tables' files; or else the first fault of the tables, the first question without an answer, or the file of the intervals. Faults of
--- the shelf and want of memory say nothing of the files.
-abbrev pub Comes : Result ShelvedTables Fault → Result IntervalFile IntervalStop → Type 0
-Comes shelved (Ok file) = IsOkAnd shelved (λ one. IsFileOf one file)
-Comes shelved (Err (stop.Inputs why)) = Fails (stopped_for why) shelved
-Comes shelved (Err (stop.NotAccepted why)) = IsOkAnd shelved (λ one. AreRefusedFor one why)
-Comes shelved (Err (stop.Undecided why)) = IsOkAnd shelved (λ one. IsUndecidedFor one why)
+-- What the run answers, by what the told files come to: the first fault of the inputs, of the name of the file to be
+-- put and of the tables' files; or else the first fault of the tables, the first question without an answer, or the
+-- file of the intervals. Faults of the shelf and want of memory say nothing of the files.
+abbrev pub AnswersIntervals : Result ShelvedTables Fault → Result IntervalFile IntervalStop → Type 0
+AnswersIntervals shelved (Ok file) = IsOkAnd shelved (λ one. IsFileOf one file)
+AnswersIntervals shelved (Err (stop.Inputs why)) = Fails (stopped_for why) shelved
+AnswersIntervals shelved (Err (stop.NotAccepted why)) = IsOkAnd shelved (λ one. AreRefusedFor one why)
+AnswersIntervals shelved (Err (stop.Undecided why)) = IsOkAnd shelved (λ one. IsUndecidedFor one why)
 
--- Whatever the shelf tells: an answer that doesn't stop the inputs is one that some inputs within their limits come to, with some tables.
+-- Whatever the shelf tells: an answer that doesn't stop the inputs is one that some inputs within their limits come to,
+-- with some tables.
 abbrev pub IsFound : Result IntervalFile IntervalStop → Type 0
 IsFound (Err (stop.Inputs why)) = Unit {0}
-IsFound other = (shelved : ShelvedTables) × AreSound shelved.settled.inputs × Comes (Ok shelved) other
+IsFound other = (shelved : ShelvedTables) × AreSound shelved.settled.inputs × AnswersIntervals (Ok shelved) other

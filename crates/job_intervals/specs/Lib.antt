@@ -1,5 +1,5 @@
 pub mod OutNames
-pub mod Shelved
+pub mod TablesOnShelf
 pub mod ShownTables
 pub mod Stops
 pub mod Finding

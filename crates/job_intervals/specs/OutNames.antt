@@ -5,7 +5,7 @@ use Rattle.std.specs.Str.{bytes_eq}
 use Rattle.rda_meta.specs.declared.meta.Variable.{Variable}
 use Rattle.job_lang.specs.Binding.{is_code_list, is_hierarchy_file}
 use Rattle.job_lang.specs.declared.job.Job.{Job}
-use Rattle.job_inputs.specs.Inputs.{spanning}
+use Rattle.job_inputs.specs.Inputs.{spanning_variables}
 use Rattle.job_inputs.specs.declared.described.Described.{Described}
 
 -- the job names this file: as its microdata, its metadata, an a priori file, the file of a table or the certificate
@@ -20,9 +20,9 @@ is_coded_by file variable = is_code_list file variable.codes || is_hierarchy_fil
 
 -- the codes of a variable that spans a table, or their hierarchy, are in this file
 abbrev pub has_codes_in : List ℕ → Described → Bool
-has_codes_in file described = list_any (λ one. is_coded_by file one.1) (spanning described)
+has_codes_in file described = list_any (λ one. is_coded_by file one.1) (spanning_variables described)
 
--- A file that is put under the name `out` would overwrite the file of the job, which has this name, or one that the job names, or
--- the code list or the hierarchy file of a variable that spans a table.
+-- A file that is put under the name `out` would overwrite the file of the job, which has this name, or one that the job
+-- names, or the code list or the hierarchy file of a variable that spans a table.
 abbrev pub overwrites : List ℕ → List ℕ → Described → Bool
 overwrites name out described = bytes_eq name out || is_named_in out described.job || has_codes_in out described

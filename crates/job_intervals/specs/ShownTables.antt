@@ -11,16 +11,18 @@ use Rattle.cert_check.specs.declared.faults.CheckFault.TheVariants as fault
 use Rattle.job_inputs.specs.Tables.{names_of}
 use Rattle.job_inputs.specs.declared.settled.SettledJob.{SettledJob}
 
--- the hidden set, by a flag for each cell, whose texts the tables of a job are, or the first line that the texts of none have
+-- the hidden set, by a flag for each cell, whose texts the tables of a job are, or the first line that the texts of
+-- none have
 abbrev pub lines_read : SettledJob → List (List ℕ) → Result (List Bool) CheckFault
-lines_read job tables = map_fault at_line (hidden_read job.book (map names_of job.described.job.tables) job.described.bound.decimals tables)
+lines_read job tables =
+    map_fault at_line (hidden_read job.book (map names_of job.described.job.tables) job.described.bound.decimals tables)
 
 -- the first fixed cell that is hidden
 abbrev pub fixed_fault : List Cell → List Bool → Result (Unit {0}) CheckFault
 fixed_fault cells flags = refuse_at fault.FixedHidden (fixed_hidden flags 0 cells)
 
--- The hidden set whose texts the tables of a job are, or the first fault of the tables: the first bad line, or else the first fixed
--- cell that is hidden. Not: a primary cell that is shown.
+-- The hidden set whose texts the tables of a job are, or the first fault of the tables: the first bad line, or else the
+-- first fixed cell that is hidden. Not: a primary cell that is shown.
 unfoldable pub flags_in : SettledJob → List (List ℕ) → Result (List Bool) CheckFault
 flags_in job tables = do
   flags ← lines_read job tables

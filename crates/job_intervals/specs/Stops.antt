@@ -30,8 +30,10 @@ question_stop why = stop.Undecided why
 
 -- where inputs, the name of the file to be put or the tables' files are refused, that has its cause on the shelf
 abbrev pub HasCause : Result IntervalFile IntervalStop → ShelfState → ShelfState → Type 0
-HasCause result old new = (why : InputStop) → result ≡ Err (stop.Inputs why) → HasInputCause {X = IntervalFile} (Err why) old new
+HasCause result old new =
+    (why : InputStop) → result ≡ Err (stop.Inputs why) → HasInputCause {X = IntervalFile} (Err why) old new
 
 -- where the shelf fails at a file, it is one that the run came to by its name, and was the last one looked for
 abbrev pub HasComeTo : (FileRef → List ℕ → Type 0) → Result IntervalFile IntervalStop → Files → ShelfState → Type 0
-HasComeTo comes result files new = (why : InputStop) → result ≡ Err (stop.Inputs why) → HasInputComeTo {X = IntervalFile} comes (Err why) files new
+HasComeTo comes result files new =
+    (why : InputStop) → result ≡ Err (stop.Inputs why) → HasInputComeTo {X = IntervalFile} comes (Err why) files new

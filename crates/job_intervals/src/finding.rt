@@ -1,8 +1,8 @@
 ghost use Rattle.std.specs.Prelude.{◌≡◌, length};
-ghost use Rattle.sdc_base.specs.Told.{WhereTold};
+ghost use Rattle.sdc_base.specs.WhereTold.{WhereTold};
 ghost use Rattle.office_io.specs.Shelves.{HasOnlyRead};
-ghost use Rattle.job_intervals.specs.Finding.{Comes, ComesFromSet, IsFound};
-ghost use Rattle.job_intervals.specs.Shelved.{shelved_of, ComesTo, IsReadyShelved};
+ghost use Rattle.job_intervals.specs.Finding.{AnswersIntervals, ComesFromSet, IsFound};
+ghost use Rattle.job_intervals.specs.TablesOnShelf.{shelved_of, ComesTo, IsReadyShelved};
 ghost use Rattle.job_intervals.specs.Stops.{HasCause, HasComeTo};
 
 use crate::interval_file::IntervalFile;
@@ -15,9 +15,9 @@ use relations::relations_of;
 use sdc_base::{Hidden, Text};
 use std::alloc::Global;
 
-/// The file of intervals of the cells that the tables of a job hide, to be put under the name `out`: for each such cell, in
-/// ascending order of the cells' numbers, the least and the greatest value that a complete table gives it, of all that agree
-/// with the shown cells, the relations and the bounds.
+/// The file of intervals of the cells that the tables of a job hide, to be put under the name `out`: for each such
+/// cell, in ascending order of the cells' numbers, the least and the greatest value that a complete table gives it, of
+/// all that agree with the shown cells, the relations and the bounds.
 ///
 /// `name` is the name of the job, `out` that of the file to be put; both may be any bytes. The inputs of the job are read for
 /// intervals, in their order (`job_inputs::read_settled`); then `out` is refused where a put would overwrite the job's file, a file that
@@ -30,28 +30,30 @@ use std::alloc::Global;
 /// primary cell that is shown is no fault. Want of memory is that of the inputs, and may come at any time. Nothing is put, and
 /// the shelf is only read from.
 ///
-/// Over a shelf that tells nothing of its files, that a file is absent, that one is too long and a fault of the shelf have their
-/// cause in its counts.
+/// Over a shelf that tells nothing of its files, that a file is absent, that one is too long and a fault of the shelf
+/// have their cause in its counts.
 ///
-/// It costs as much as reading the inputs and the tables, at most two lines of text for each place of the tables, and two
-/// questions for each hidden cell, each of at most as many improvements as the job's steps.
+/// It costs as much as reading the inputs and the tables, at most two lines of text for each place of the tables, and
+/// two questions for each hidden cell, each of at most as many improvements as the job's steps.
 ///
-/// The interval is the feasibility interval in Hundepool et al., Statistical Disclosure Control, chapter on magnitude tables; the
-/// order in which the files are looked at and the format of the file are argus's own.
+/// The interval is the feasibility interval in Hundepool et al., Statistical Disclosure Control, chapter on magnitude
+/// tables; the order in which the files are looked at and the format of the file are argus's own.
 pub fn find_intervals<S: Shelf>(
     alloc: Global,
     shelf: &mut S,
     name: &Text,
     out: &Text,
 ) -> Result<IntervalFile, IntervalStop>
-    // The answer is what the told files come to: the first fault of inputs, name and tables' files, or else what the tables come to.
-    ensures told { WhereTold (S.state shelf.old).files (λ fs. Comes (shelved_of fs name.now out.now) result) }
+    // The answer is what the told files come to: the first fault of inputs, name and tables' files, or else what the
+    // tables come to.
+    ensures told { WhereTold (S.state shelf.old).files (λ fs. AnswersIntervals (shelved_of fs name.now out.now) result) }
 
     // Over a shelf that tells nothing too, the answer is that of some inputs within their limits, with some tables.
     ensures found { IsFound result }
 
     // Where the shelf fails at a file, the run came to it and nothing before it has a fault.
-    ensures came_to { WhereTold (S.state shelf.old).files (λ fs. HasComeTo (ComesTo fs name.now out.now) result fs (S.state shelf.new)) }
+    ensures came_to { WhereTold (S.state shelf.old).files
+        (λ fs. HasComeTo (ComesTo fs name.now out.now) result fs (S.state shelf.new)) }
     ensures only_read { HasOnlyRead (S.state shelf.old) (S.state shelf.new) }
 
     // That a file is absent or too long and a fault of the shelf have their cause, whatever the shelf tells.

@@ -1,5 +1,5 @@
-//! What a reader of the tables that were put for a job can find out of each hidden cell: the job's inputs and its tables are
-//! read, and the file of intervals is made.
+//! What a reader of the tables that were put for a job can find out of each hidden cell: the job's inputs and its
+//! tables are read, and the file of intervals is made.
 #![tactic(auto)]
 
 mod finding;

@@ -11,8 +11,8 @@ use job_lang::{Job, OutputLine, PriorLine};
 use rda_meta::{Shape, Variable};
 use sdc_base::Text;
 
-/// Refuses a file to be put that would overwrite the job's file, a file that the job names, or one that the metadata name for
-/// a variable that spans a table.
+/// Refuses a file to be put that would overwrite the job's file, a file that the job names, or one that the metadata
+/// name for a variable that spans a table.
 pub(crate) fn check_out(name: &Text, out: &Text, described: &Described) -> Result<(), Fault>
     ensures { result ≡ refuse Fault.OutName (meant.overwrites name.now out.now described.now) }
 {
@@ -61,7 +61,8 @@ fn has_codes_in(file: &Text, described: &Described) -> bool
 
 // Whether a variable at one of these places of the metadata has its codes or their hierarchy in this file.
 fn is_of_any(file: &Text, variables: &[Variable], places: &[u32]) -> bool
-    ensures { result ≡ list_any (λ place. option_map_or (meant.is_coded_by file.now) (slice_get variables.now place) false) places.now }
+    ensures { result ≡ list_any (λ place. option_map_or (meant.is_coded_by file.now) (slice_get variables.now place)
+        false) places.now }
 {
     places.iter().any(|place| is_of(file, variables, *place))
 }

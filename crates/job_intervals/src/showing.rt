@@ -2,7 +2,7 @@ ghost use Rattle.std.specs.Prelude.{◌≡◌, ◌<◌, ◌^◌, IfOk, length};
 ghost use Rattle.sdc_base.specs.Answers.{Gives};
 ghost use Rattle.worlds.specs.ProtectFaults.{fixed_hidden};
 ghost use Rattle.cert_check.specs.FirstFault.{fault_of};
-ghost use Rattle.job_intervals.specs.Shelved.{IsReadyShelved};
+ghost use Rattle.job_intervals.specs.TablesOnShelf.{IsReadyShelved};
 ghost use Rattle.job_intervals.specs.ShownTables.{fixed_fault, flags_in, lines_read};
 
 use crate::shelved::ShelvedJob;
@@ -12,8 +12,8 @@ use release_writer::{hidden_of, hidden_sets_are_read_back};
 use sdc_base::{Cell, Hidden};
 use std::alloc::Global;
 
-/// The cells that the tables of a job hide, or the first fault of the tables: the first line that the texts of no hidden set
-/// have, or else the first fixed cell that is hidden.
+/// The cells that the tables of a job hide, or the first fault of the tables: the first line that the texts of no
+/// hidden set have, or else the first fixed cell that is hidden.
 #[tactic(auto, unfolding(crate::specs::ShownTables::flags_in))]
 pub(crate) fn hidden_in(alloc: Global, shelved: &ShelvedJob) -> Result<Hidden, CheckFault>
     requires { IsReadyShelved shelved.now }

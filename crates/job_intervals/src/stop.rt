@@ -3,13 +3,14 @@ use interval_audit::AskFault;
 use job_inputs::InputStop;
 use sdc_base::Memory;
 
-/// Why there are no intervals of the cells that the tables of a job hide. Want of memory is that of the inputs, wherever it came.
+/// Why there are no intervals of the cells that the tables of a job hide. Want of memory is that of the inputs,
+/// wherever it came.
 #[derive(Drop)]
 pub enum IntervalStop {
     /// The inputs or the tables were not read to their end, or the file to be put would overwrite one of them.
     Inputs(InputStop),
-    /// The tables are not the texts of a hidden set without fixed cells: `Release` with the first bad line, or else `FixedHidden`
-    /// with the first such cell.
+    /// The tables are not the texts of a hidden set without fixed cells: `Release` with the first bad line, or else
+    /// `FixedHidden` with the first such cell.
     NotAccepted(CheckFault),
     /// The first question without an answer, and why it has none; never want of memory.
     Undecided(AskFault),

@@ -12,14 +12,14 @@ use Rattle.job_lang.specs.declared.faults.JobWhy.{JobWhy}
 use Rattle.job_lang.specs.declared.job.Job.{Job}
 use Rattle.job_lang.specs.declared.job.OutputLine.{OutputLine}
 use Rattle.job_lang.specs.declared.job.TableLine.{TableLine}
-use Rattle.job_lang.specs.Binding.{is_named, is_absent, is_numeric_named, is_numeric, table_fault, weight_fault, is_spanning, file_fault, earlier, tables_fault, outputs_fault, earliest_fault, places_from, spanning_of, variable_place, spanning_place, table_places, response_of, places_of}
+use Rattle.job_lang.specs.Binding.{is_named, is_absent, is_numeric_named, is_numeric, table_fault, weight_fault, is_spanning, file_fault, earlier_fault, tables_fault, outputs_fault, earliest_fault, places_from, spanning_of, variable_place, spanning_place, table_places, response_of, places_of}
 use Rattle.job_lang.specs.JobLimits.{HasNoTwice, AreTables}
 use Rattle.job_lang.specs.BoundLimits.{AreVariables, AreAscending, IsNumericAt, IsBound}
 use Rattle.job_lang.proofs.PlacesFit.{or_left, or_right, turned, spanning_few, response_few, weight_few}
 
 -- ---- no fault at all
 
-earlier_none : (first : Option (ℕ × JobWhy)) (line : ℕ) (why : Option JobWhy) → earlier first line why ≡ None → (first ≡ None) × (why ≡ None)
+earlier_none : (first : Option (ℕ × JobWhy)) (line : ℕ) (why : Option JobWhy) → earlier_fault first line why ≡ None → (first ≡ None) × (why ≡ None)
 earlier_none first line None h = (h, refl)
 earlier_none None line (Some why) h = absurd cc
 earlier_none (Some fault) line (Some why) h = absurd (never (nat_lt line fault.0) h)
@@ -28,11 +28,11 @@ earlier_none (Some fault) line (Some why) h = absurd (never (nat_lt line fault.0
     never true g = cc
     never false g = cc
 
-tables_none : (variables : List Variable) (first : Option (ℕ × JobWhy)) (tables : List TableLine) → fold (λ first t. earlier first t.line (table_fault variables t)) first tables ≡ None
+tables_none : (variables : List Variable) (first : Option (ℕ × JobWhy)) (tables : List TableLine) → fold (λ first t. earlier_fault first t.line (table_fault variables t)) first tables ≡ None
     → (first ≡ None) × AllByRecursion (λ t. table_fault variables t ≡ None) tables
 tables_none variables first [] h = (h, tt)
 tables_none variables first (t ∷ tables) h =
-    let rest = tables_none variables (earlier first t.line (table_fault variables t)) tables h in
+    let rest = tables_none variables (earlier_fault first t.line (table_fault variables t)) tables h in
     let both = earlier_none first t.line (table_fault variables t) rest.0 in
     (both.0, (both.1, rest.1))
 
@@ -40,7 +40,7 @@ outputs_none : (tables : List TableLine) (variables : List Variable) (first : Op
     → (first ≡ None) × AllByRecursion (λ o. file_fault tables variables o.file ≡ None) outputs
 outputs_none tables variables first [] h = (h, tt)
 outputs_none tables variables first (o ∷ outputs) h =
-    let rest = outputs_none tables variables (earlier first o.line (file_fault tables variables o.file)) outputs h in
+    let rest = outputs_none tables variables (earlier_fault first o.line (file_fault tables variables o.file)) outputs h in
     let both = earlier_none first o.line (file_fault tables variables o.file) rest.0 in
     (both.0, (both.1, rest.1))
 
@@ -53,8 +53,8 @@ pub record IsClean (job : Job) (variables : List Variable) : Type 0 where
 
 pub clean : (job : Job) (variables : List Variable) → earliest_fault job variables ≡ None → IsClean job variables
 clean job variables h =
-    let last = earlier_none (outputs_fault job.tables variables (earlier (tables_fault variables job.tables) job.rules_line (weight_fault variables job.rules)) job.outputs) job.certificate_line (file_fault job.tables variables job.certificate) h in
-    let puts = outputs_none job.tables variables (earlier (tables_fault variables job.tables) job.rules_line (weight_fault variables job.rules)) job.outputs last.0 in
+    let last = earlier_none (outputs_fault job.tables variables (earlier_fault (tables_fault variables job.tables) job.rules_line (weight_fault variables job.rules)) job.outputs) job.certificate_line (file_fault job.tables variables job.certificate) h in
+    let puts = outputs_none job.tables variables (earlier_fault (tables_fault variables job.tables) job.rules_line (weight_fault variables job.rules)) job.outputs last.0 in
     let rules = earlier_none (tables_fault variables job.tables) job.rules_line (weight_fault variables job.rules) puts.0 in
     record { tables = (tables_none variables None job.tables rules.0).1; rules = rules.1; outputs = puts.1; certificate = last.1 }
 

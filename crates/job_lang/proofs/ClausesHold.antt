@@ -10,7 +10,7 @@ use Rattle.sdc_base.specs.Tokens.{number_in}
 use Rattle.job_lang.specs.declared.faults.JobWhy.TheVariants.{BadValue}
 use Rattle.job_lang.specs.declared.rule_clauses.RuleClause.{RuleClause}
 use Rattle.job_lang.specs.declared.rule_clauses.RuleClause.TheVariants.{Named, Man, Weights}
-use Rattle.job_lang.specs.LineTokens.{behind_mark, run_of, behind_run, number_at, closed, ended}
+use Rattle.job_lang.specs.LineTokens.{behind_mark, run_of, behind_run, number_at, closing_token, end_of_tokens}
 use Rattle.job_lang.specs.Pieces.{pieces}
 use Rattle.job_lang.specs.RuleTexts.{one_number, frequency_clause, dominance_clause, percent_behind, percent_clause, man_clause, weights_clause, clause_in, clauses_in, named_in, is_frequency, is_man, is_weights, are_rules, man_of, rules_in}
 use Rattle.job_lang.specs.Arguments.{work_argument, most_work, passes_method, modular_method, rounding_method, method_argument}
@@ -30,7 +30,7 @@ unfolding one_number
 one_known low high text =
     then_known (λ n. (low ≤ n) × (n ≤ high)) (behind_mark 40 text) _ (λ open_ h.
     then_known (λ n. (low ≤ n) × (n ≤ high)) (number_at low high open_) _ (λ number h1.
-    then_known (λ n. (low ≤ n) × (n ≤ high)) (closed number.1) _ (λ end h2. known (IsFrom low high) (number_at low high open_) number (number_known low high open_) h1)))
+    then_known (λ n. (low ≤ n) × (n ≤ high)) (closing_token number.1) _ (λ end h2. known (IsFrom low high) (number_at low high open_) number (number_known low high open_) h1)))
 
 -- the numbers of a rule are in their ranges
 abbrev pub IsClause : RuleClause → Type 0
@@ -45,7 +45,7 @@ frequency_known text =
     then_known IsClause (number_at 1 1000000 open_) _ (λ n h1.
     then_known IsClause (behind_mark 44 n.1) _ (λ comma h2.
     then_known IsClause (number_at 0 1000 comma) _ (λ r h3.
-    then_known IsClause (closed r.1) _ (λ end h4.
+    then_known IsClause (closing_token r.1) _ (λ end h4.
     let first = known (IsFrom 1 1000000) (number_at 1 1000000 open_) n (number_known 1 1000000 open_) h1 in
     let second = known (IsFrom 0 1000) (number_at 0 1000 comma) r (number_known 0 1000 comma) h3 in
     (first.0, first.1, second.1))))))
@@ -57,7 +57,7 @@ dominance_known text =
     then_known IsClause (number_at 1 10 open_) _ (λ n h1.
     then_known IsClause (behind_mark 44 n.1) _ (λ comma h2.
     then_known IsClause (number_at 1 100 comma) _ (λ k h3.
-    then_known IsClause (closed k.1) _ (λ end h4.
+    then_known IsClause (closing_token k.1) _ (λ end h4.
     let first = known (IsFrom 1 10) (number_at 1 10 open_) n (number_known 1 10 open_) h1 in
     let second = known (IsFrom 1 100) (number_at 1 100 comma) k (number_known 1 100 comma) h3 in
     (first.0, first.1, second.0, second.1))))))
@@ -121,7 +121,7 @@ pub work_known : (text : List ℕ) → IfOk (work_argument text) IsWork
 unfolding work_argument
 work_known text =
     then_known IsWork (number_at 1 most_work text) _ (λ number h.
-    then_known IsWork (ended number.1) _ (λ end h1. known (IsFrom 1 most_work) (number_at 1 most_work text) number (number_known 1 most_work text) h))
+    then_known IsWork (end_of_tokens number.1) _ (λ end h1. known (IsFrom 1 most_work) (number_at 1 most_work text) number (number_known 1 most_work text) h))
 
 passes_known : (text : List ℕ) → IfOk (passes_method text) IsMethod
 unfolding passes_method
@@ -129,7 +129,7 @@ passes_known text = then_known IsMethod (one_number 1 8 text) _ (λ n h. known (
 
 modular_known : (text : List ℕ) → IfOk (modular_method text) IsMethod
 unfolding modular_method
-modular_known text = then_known IsMethod (behind_mark 40 text) _ (λ open_ h. then_known IsMethod (closed open_) _ (λ end h1. tt))
+modular_known text = then_known IsMethod (behind_mark 40 text) _ (λ open_ h. then_known IsMethod (closing_token open_) _ (λ end h1. tt))
 
 base_range : (n : ℕ) → (1 ≤ n) × (n ≤ 1000000000) → (pos 1 ≤ℤ pos n) × (pos n ≤ℤ pos 1000000000)
 base_range n h = (omega (arith, ints, h.0), omega (arith, ints, h.1))

@@ -21,12 +21,12 @@ use Rattle.job_lang.specs.declared.statement.Said.{Said}
 use Rattle.job_lang.specs.declared.statement.Said.TheVariants as said
 use Rattle.job_lang.specs.declared.statement.Draft.{Draft}
 use Rattle.job_lang.specs.Faults.{at_line}
-use Rattle.job_lang.specs.LineTokens.{is_next, behind_mark, quoted_at, digits_at, ended, closed}
+use Rattle.job_lang.specs.LineTokens.{is_next, behind_mark, quoted_at, digits_at, end_of_tokens, closing_token}
 use Rattle.job_lang.specs.Keywords.{keyword_of, word_in}
 use Rattle.job_lang.specs.RuleTexts.{rules_in}
 use Rattle.job_lang.specs.TableTexts.{names_up_to, is_twice, quoted_part, behind_again, are_free_parts, table_argument}
 use Rattle.job_lang.specs.Arguments.{file_at, only_file, separator_of, prior_argument, output_argument, cost_argument, work_argument, method_argument, argument_of}
-use Rattle.job_lang.specs.Statements.{is_again, names_in, is_past_room, is_other_response, with_table, with_statement, with_said, is_passed_over, command_line, text_says, lines_say, nothing}
+use Rattle.job_lang.specs.Statements.{is_again, names_in, is_past_room, is_other_response, with_table, with_statement, with_said, is_passed_over, command_line, text_says, lines_say, empty_draft}
 use Rattle.job_lang.specs.Binding.{response_of}
 use Rattle.job_lang.specs.JobLimits.{HasNoTwice, HasVariables, AreInRange, IsMethod, IsWork}
 use Rattle.job_lang.proofs.Known.{then_known, known, either_known, not_refused, all_and_last}
@@ -86,7 +86,7 @@ prior_known text =
     then_known IsSaid (behind_mark 44 number.1) _ (λ again h3.
     then_known IsSaid (quoted_at again) _ (λ word h4.
     then_known IsSaid (or_fault BadValue (separator_of word.0)) _ (λ separator h5.
-    then_known IsSaid (ended word.1) _ (λ end h6. tt)))))))
+    then_known IsSaid (end_of_tokens word.1) _ (λ end h6. tt)))))))
 
 output_known : (text : List ℕ) → IfOk (output_argument text) IsSaid
 unfolding output_argument
@@ -95,7 +95,7 @@ output_known text =
     then_known IsSaid (digits_at open_) _ (λ number h1.
     then_known IsSaid (behind_mark 44 number.1) _ (λ comma h2.
     then_known IsSaid (file_at comma) _ (λ file h3.
-    then_known IsSaid (closed file.1) _ (λ end h4. tt)))))
+    then_known IsSaid (closing_token file.1) _ (λ end h4. tt)))))
 
 pub argument_known : (keyword : Keyword) (text : List ℕ) → IfOk (argument_of keyword text) IsSaid
 unfolding argument_of
@@ -103,7 +103,7 @@ argument_known OpenMicrodata text = then_known IsSaid (only_file text) _ (λ nam
 argument_known OpenMetadata text = then_known IsSaid (only_file text) _ (λ name h. tt)
 argument_known SpecifyTable text = table_known text
 argument_known SafetyRule text = then_known IsSaid (rules_in text) _ (λ rules h. known AreInRange (rules_in text) rules (rules_known text) h)
-argument_known ReadMicrodata text = then_known IsSaid (ended text) _ (λ end h. tt)
+argument_known ReadMicrodata text = then_known IsSaid (end_of_tokens text) _ (λ end h. tt)
 argument_known Apriori text = prior_known text
 argument_known Cost text = then_known IsSaid (cost_argument text) _ (λ cost h. tt)
 argument_known Steps text = then_known IsSaid (work_argument text) _ (λ steps h. known IsWork (work_argument text) steps (work_known text) h)
@@ -199,5 +199,5 @@ lines_kept before draft (text ∷ texts) is =
     (known IsDraft (at_line (before + 1) (text_says (before + 1) draft (trim text))) next (at_known IsDraft (before + 1) (text_says (before + 1) draft (trim text)) (text_kept (before + 1) draft (trim text) is)) h))
 
 -- all that lines say is within the limits
-pub lines_known : (texts : List (List ℕ)) → IfOk (lines_say 0 nothing texts) IsDraft
-lines_known texts = lines_kept 0 nothing texts (record { few = omega arith; variables = tt; once = tt; response = tt; names = omega arith; said = tt })
+pub lines_known : (texts : List (List ℕ)) → IfOk (lines_say 0 empty_draft texts) IsDraft
+lines_known texts = lines_kept 0 empty_draft texts (record { few = omega arith; variables = tt; once = tt; response = tt; names = omega arith; said = tt })

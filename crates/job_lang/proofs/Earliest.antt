@@ -11,7 +11,7 @@ use Rattle.job_lang.specs.declared.bound.Bound.{Bound}
 use Rattle.job_lang.specs.declared.job.Job.{Job}
 use Rattle.job_lang.specs.declared.job.OutputLine.{OutputLine}
 use Rattle.job_lang.specs.declared.job.TableLine.{TableLine}
-use Rattle.job_lang.specs.Binding.{is_numeric, table_fault, weight_fault, file_fault, earlier, earliest_fault, unless_fault, bound_of}
+use Rattle.job_lang.specs.Binding.{is_numeric, table_fault, weight_fault, file_fault, earlier_fault, earliest_fault, unless_fault, bound_of}
 use Rattle.job_lang.specs.BindingOrder.{looked_at, IsBehind, IsNotBefore, IsEarliest, GivesEarliest, lacks_variable, has_numeric, IsFirstKind, GivesFirstKind}
 
 -- a line with the fault that it has
@@ -20,7 +20,7 @@ Looked = ℕ × Option JobWhy
 
 -- the earliest of the faults of lines, and of one from before
 abbrev earliest : Option (ℕ × JobWhy) → List Looked → Option (ℕ × JobWhy)
-earliest first lines = fold (λ first l. earlier first l.0 l.1) first lines
+earliest first lines = fold (λ first l. earlier_fault first l.0 l.1) first lines
 
 -- there was no fault before, or it was behind this line
 abbrev IsAbove : ℕ → Option (ℕ × JobWhy) → Type 0
@@ -33,7 +33,7 @@ less a b h = grind arith
 not_less : (a b : ℕ) → nat_lt a b ≡ false → b ≤ a
 not_less a b h = grind arith
 
-above_both : (line : ℕ) (first : Option (ℕ × JobWhy)) (other : ℕ) (why : Option JobWhy) → IsAbove line (earlier first other why) → IsAbove line first × IsBehind line other why
+above_both : (line : ℕ) (first : Option (ℕ × JobWhy)) (other : ℕ) (why : Option JobWhy) → IsAbove line (earlier_fault first other why) → IsAbove line first × IsBehind line other why
 above_both line first other None h = (h, tt)
 above_both line None other (Some why) h = (tt, h)
 above_both line (Some first) other (Some why) h =
@@ -54,7 +54,7 @@ line_is first line why h = let same : ◌≡◌ {A = ℕ × JobWhy} first (line,
 abbrev IsOneOf : ℕ → JobWhy → Option (ℕ × JobWhy) → ℕ → Option JobWhy → Type 0
 IsOneOf line why first other cause = ((first ≡ Some (line, why)) × IsNotBefore line other cause) ⊎ (IsAbove line first × (other ≡ line) × (cause ≡ Some why))
 
-one_of : (line : ℕ) (why : JobWhy) (first : Option (ℕ × JobWhy)) (other : ℕ) (cause : Option JobWhy) → earlier first other cause ≡ Some (line, why) → IsOneOf line why first other cause
+one_of : (line : ℕ) (why : JobWhy) (first : Option (ℕ × JobWhy)) (other : ℕ) (cause : Option JobWhy) → earlier_fault first other cause ≡ Some (line, why) → IsOneOf line why first other cause
 one_of line why first other None h = inl (h, tt)
 one_of line why None other (Some cause) h = let same = pair_is other line cause why h in inr (tt, same.0, ap (λ (x : JobWhy). Some x) same.1)
 one_of line why (Some first) other (Some cause) h =
@@ -73,7 +73,7 @@ one_of line why (Some first) other (Some cause) h =
 abbrev IsFound : ℕ → JobWhy → Option (ℕ × JobWhy) → List Looked → Type 0
 IsFound line why first lines = ((first ≡ Some (line, why)) × AllByRecursion (λ other. IsNotBefore line other.0 other.1) lines) ⊎ (IsAbove line first × IsEarliest lines line why)
 
-found_more : (line : ℕ) (why : JobWhy) (first : Option (ℕ × JobWhy)) (l : Looked) (lines : List Looked) → IsFound line why (earlier first l.0 l.1) lines → IsFound line why first (l ∷ lines)
+found_more : (line : ℕ) (why : JobWhy) (first : Option (ℕ × JobWhy)) (l : Looked) (lines : List Looked) → IsFound line why (earlier_fault first l.0 l.1) lines → IsFound line why first (l ∷ lines)
 found_more line why first l lines (inl h) =
     elim (one_of line why first l.0 l.1 h.0) [
       | inl was ↦ inl (was.0, (was.1, h.1))
@@ -103,11 +103,11 @@ found_more line why first l lines (inr h) =
 
 found : (line : ℕ) (why : JobWhy) (first : Option (ℕ × JobWhy)) (lines : List Looked) → earliest first lines ≡ Some (line, why) → IsFound line why first lines
 found line why first [] h = inl (h, tt)
-found line why first (l ∷ lines) h = found_more line why first l lines (found line why (earlier first l.0 l.1) lines h)
+found line why first (l ∷ lines) h = found_more line why first l lines (found line why (earlier_fault first l.0 l.1) lines h)
 
 both_lists : (first : Option (ℕ × JobWhy)) (xs ys : List Looked) → earliest first (xs ++ ys) ≡ earliest (earliest first xs) ys
 both_lists first [] ys = refl
-both_lists first (x ∷ xs) ys = both_lists (earlier first x.0 x.1) xs ys
+both_lists first (x ∷ xs) ys = both_lists (earlier_fault first x.0 x.1) xs ys
 
 by_lines : (job : Job) (variables : List Variable) → earliest_fault job variables ≡ earliest None (looked_at job variables)
 by_lines job variables =
@@ -115,9 +115,9 @@ by_lines job variables =
     let outputs : List Looked = map (λ o. (o.line, file_fault job.tables variables o.file)) job.outputs in
     let last : List Looked = (job.certificate_line, file_fault job.tables variables job.certificate) ∷ [] in
     let rules : Looked = (job.rules_line, weight_fault variables job.rules) in
-    let step : Option (ℕ × JobWhy) → Looked → Option (ℕ × JobWhy) = λ first l. earlier first l.0 l.1 in
-    let of_tables : earliest None tables ≡ fold (λ first t. earlier first t.line (table_fault variables t)) None job.tables = fold-map step (λ (t : TableLine). (t.line, table_fault variables t)) None job.tables in
-    let of_outputs : (first : Option (ℕ × JobWhy)) → earliest first outputs ≡ fold (λ first o. earlier first o.line (file_fault job.tables variables o.file)) first job.outputs =
+    let step : Option (ℕ × JobWhy) → Looked → Option (ℕ × JobWhy) = λ first l. earlier_fault first l.0 l.1 in
+    let of_tables : earliest None tables ≡ fold (λ first t. earlier_fault first t.line (table_fault variables t)) None job.tables = fold-map step (λ (t : TableLine). (t.line, table_fault variables t)) None job.tables in
+    let of_outputs : (first : Option (ℕ × JobWhy)) → earliest first outputs ≡ fold (λ first o. earlier_fault first o.line (file_fault job.tables variables o.file)) first job.outputs =
     λ first. fold-map step (λ (o : OutputLine). (o.line, file_fault job.tables variables o.file)) first job.outputs in
     sym (
     both_lists None tables (rules ∷ outputs ++ last)

@@ -15,10 +15,10 @@ use Rattle.job_lang.specs.declared.statement.Keyword.TheVariants as keyword
 use Rattle.job_lang.specs.declared.statement.Statement.{Statement}
 use Rattle.job_lang.specs.declared.statement.Draft.{Draft}
 use Rattle.job_lang.specs.Faults.{at_line}
-use Rattle.job_lang.specs.Statements.{text_says, lines_say, nothing}
-use Rattle.job_lang.specs.ClosingLooks.{is_astray, no_stray, is_meeting, no_same_name, said_by, file_line, rules_line, method_of, output_said, needed, output_of_table, outputs_from}
+use Rattle.job_lang.specs.Statements.{text_says, lines_say, empty_draft}
+use Rattle.job_lang.specs.ClosingLooks.{is_astray, no_stray, is_meeting, no_same_name, said_by, file_line, rules_line, method_of, output_said, needed_value, output_of_table, outputs_from}
 use Rattle.job_lang.specs.Jobs.{job_made, closed_job, job_of}
-use Rattle.job_lang.specs.Laws.{IsLineFault, lacks_output, lacks, must_have, IsFirstStray, IsFirstMeeting, IsFirstLack}
+use Rattle.job_lang.specs.Laws.{IsLineFault, lacks_output, lacks_command, must_have, IsFirstStray, IsFirstMeeting, IsFirstLack}
 use Rattle.job_lang.proofs.Known.{not_refused}
 
 -- ---- lines
@@ -89,14 +89,14 @@ no_meetings all (s ∷ rest) t h =
 -- ---- commands that lack
 
 -- a command that must be there isn't
-lack : {A : Type 0} (which : Command) (o : Option A) (line : ℕ) (why : JobWhy) → needed which o ≡ Err (line, why) → (is_none o ≡ true) × (line ≡ 0) × (why ≡ Missing which)
+lack : {A : Type 0} (which : Command) (o : Option A) (line : ℕ) (why : JobWhy) → needed_value which o ≡ Err (line, why) → (is_none o ≡ true) × (line ≡ 0) × (why ≡ Missing which)
 lack which None line why h =
     let pair : ◌≡◌ {A = ℕ × JobWhy} (line, why) (0, Missing which) = cc in
     (refl, ap (λ (p : ℕ × JobWhy). p.0) pair, ap (λ (p : ℕ × JobWhy). p.1) pair)
 lack which (Some x) line why h = absurd cc
 
 -- it is there
-there : {A : Type 0} (which : Command) (o : Option A) (x : A) → needed which o ≡ Ok x → is_none o ≡ false
+there : {A : Type 0} (which : Command) (o : Option A) (x : A) → needed_value which o ≡ Ok x → is_none o ≡ false
 there which None x h = absurd cc
 there which (Some y) x h = refl
 
@@ -129,16 +129,16 @@ outputs_there (suc more) place said outputs h =
     rw (there command.WriteTable (file_line (output_said place said)) one.0 one.1, outputs_there more (place + 1) said rest.0 rest.1) refl
 
 abbrev FirstLack : Draft → ℕ → JobWhy → Type 0
-FirstLack draft line why = (which : Command) × (find (lacks draft) must_have ≡ Some which) × (line ≡ 0) × (why ≡ Missing which)
+FirstLack draft line why = (which : Command) × (find (lacks_command draft) must_have ≡ Some which) × (line ≡ 0) × (why ≡ Missing which)
 
 first_lack : (draft : Draft) (line : ℕ) (why : JobWhy) → job_made draft ≡ Err (line, why) → FirstLack draft line why
 unfolding job_made
 first_lack draft line why h =
-    elim (bind_err (needed command.OpenMicrodata (file_line (said_by keyword.OpenMicrodata draft.said))) _ (line, why) h) [
+    elim (bind_err (needed_value command.OpenMicrodata (file_line (said_by keyword.OpenMicrodata draft.said))) _ (line, why) h) [
       | inl failed ↦ let l = lack command.OpenMicrodata (file_line (said_by keyword.OpenMicrodata draft.said)) line why failed in (command.OpenMicrodata, rw l.0 refl, l.1, l.2)
       | inr (micro, is_micro, h) ↦
           let a = there command.OpenMicrodata (file_line (said_by keyword.OpenMicrodata draft.said)) micro is_micro in
-          elim (bind_err (needed command.OpenMetadata (file_line (said_by keyword.OpenMetadata draft.said))) _ (line, why) h) [
+          elim (bind_err (needed_value command.OpenMetadata (file_line (said_by keyword.OpenMetadata draft.said))) _ (line, why) h) [
             | inl failed ↦ let l = lack command.OpenMetadata (file_line (said_by keyword.OpenMetadata draft.said)) line why failed in (command.OpenMetadata, rw (a, l.0) refl, l.1, l.2)
             | inr (meta, is_meta, h) ↦
                 let b = there command.OpenMetadata (file_line (said_by keyword.OpenMetadata draft.said)) meta is_meta in
@@ -146,11 +146,11 @@ first_lack draft line why h =
                   | inl failed ↦ let l = refused command.SpecifyTable (length draft.tables == 0) line why failed in (command.SpecifyTable, rw (a, b, l.0) refl, l.1, l.2)
                   | inr (some, is_some, h) ↦
                       let d = not_refused (0, Missing command.SpecifyTable) (length draft.tables == 0) some is_some in
-                      elim (bind_err (needed command.SafetyRule (rules_line (said_by keyword.SafetyRule draft.said))) _ (line, why) h) [
+                      elim (bind_err (needed_value command.SafetyRule (rules_line (said_by keyword.SafetyRule draft.said))) _ (line, why) h) [
                         | inl failed ↦ let l = lack command.SafetyRule (rules_line (said_by keyword.SafetyRule draft.said)) line why failed in (command.SafetyRule, rw (a, b, d, l.0) refl, l.1, l.2)
                         | inr (rules, is_rules, h) ↦
                             let e = there command.SafetyRule (rules_line (said_by keyword.SafetyRule draft.said)) rules is_rules in
-                            elim (bind_err (needed command.Suppress (method_of (said_by keyword.Suppress draft.said))) _ (line, why) h) [
+                            elim (bind_err (needed_value command.Suppress (method_of (said_by keyword.Suppress draft.said))) _ (line, why) h) [
                               | inl failed ↦ let l = lack command.Suppress (method_of (said_by keyword.Suppress draft.said)) line why failed in (command.Suppress, rw (a, b, d, e, l.0) refl, l.1, l.2)
                               | inr (method, is_method, h) ↦
                                   let f = there command.Suppress (method_of (said_by keyword.Suppress draft.said)) method is_method in
@@ -158,7 +158,7 @@ first_lack draft line why h =
                                     | inl failed ↦ let l = output_lack (length draft.tables) 0 draft.said line why failed in (command.WriteTable, rw (a, b, d, e, f, l.0) refl, l.1, l.2)
                                     | inr (outputs, are_outputs, h) ↦
                                         let g = outputs_there (length draft.tables) 0 draft.said outputs are_outputs in
-                                        elim (bind_err (needed command.Certificate (file_line (said_by keyword.Certificate draft.said))) _ (line, why) h) [
+                                        elim (bind_err (needed_value command.Certificate (file_line (said_by keyword.Certificate draft.said))) _ (line, why) h) [
                                           | inl failed ↦ let l = lack command.Certificate (file_line (said_by keyword.Certificate draft.said)) line why failed in (command.Certificate, rw (a, b, d, e, f, g, l.0) refl, l.1, l.2)
                                           | inr (certificate, is_certificate, h) ↦ absurd cc
                                         ]
@@ -170,11 +170,11 @@ first_lack draft line why h =
     ]
 
 pub in_order : (bytes : List ℕ) (line : ℕ) (why : JobWhy) → job_of bytes ≡ Err (line, why)
-    → IsLineFault (lines bytes) line why ⊎ ((draft : Draft) × (lines_say 0 nothing (lines bytes) ≡ Ok draft) × (IsFirstStray draft line why ⊎ IsFirstMeeting draft line why ⊎ IsFirstLack draft line why))
+    → IsLineFault (lines bytes) line why ⊎ ((draft : Draft) × (lines_say 0 empty_draft (lines bytes) ≡ Ok draft) × (IsFirstStray draft line why ⊎ IsFirstMeeting draft line why ⊎ IsFirstLack draft line why))
 unfolding job_of closed_job
 in_order bytes line why h =
-    elim (bind_err (lines_say 0 nothing (lines bytes)) _ (line, why) h) [
-      | inl failed ↦ inl (let f = line_fault 0 nothing (lines bytes) line why failed in (f.0, f.1, f.2, omega (arith, f.3), f.4, f.5, f.6))
+    elim (bind_err (lines_say 0 empty_draft (lines bytes)) _ (line, why) h) [
+      | inl failed ↦ inl (let f = line_fault 0 empty_draft (lines bytes) line why failed in (f.0, f.1, f.2, omega (arith, f.3), f.4, f.5, f.6))
       | inr (draft, said, h) ↦
           inr (
             draft,

@@ -18,8 +18,8 @@ use Rattle.job_lang.specs.declared.statement.Said.{Said}
 use Rattle.job_lang.specs.declared.statement.Said.TheVariants as said
 use Rattle.job_lang.specs.declared.statement.Statement.{Statement}
 use Rattle.job_lang.specs.declared.statement.Draft.{Draft}
-use Rattle.job_lang.specs.Statements.{is_by, lines_say, nothing}
-use Rattle.job_lang.specs.ClosingLooks.{is_no_table, is_astray, no_stray, no_same_name, said_by, file_line, rules_from, rules_line, method_from, method_of, work_from, work_of, usual_steps, usual_nodes, table_place, prior_in, priors_in, needed, output_of_table, outputs_from}
+use Rattle.job_lang.specs.Statements.{is_by, lines_say, empty_draft}
+use Rattle.job_lang.specs.ClosingLooks.{is_no_table, is_astray, no_stray, no_same_name, said_by, file_line, rules_from, rules_line, method_from, method_of, work_from, work_of, usual_steps, usual_nodes, table_place, prior_in, priors_in, needed_value, output_of_table, outputs_from}
 use Rattle.job_lang.specs.Jobs.{job_made, closed_job, job_of}
 use Rattle.job_lang.specs.JobLimits.{AreInRange, IsMethod, IsWork, IsJob}
 use Rattle.job_lang.proofs.Known.{then_known, known, not_refused, was_some}
@@ -116,13 +116,13 @@ some_tables n h = grind arith
 made_known : (draft : Draft) → IsDraft draft → AllByRecursion (λ (p : PriorLine). p.table < length draft.tables) (priors_in draft.said) → IfOk (job_made draft) IsJob
 unfolding job_made
 made_known draft is placed =
-    then_known IsJob (needed command.OpenMicrodata (file_line (said_by keyword.OpenMicrodata draft.said))) _ (λ micro h.
-    then_known IsJob (needed command.OpenMetadata (file_line (said_by keyword.OpenMetadata draft.said))) _ (λ meta h1.
+    then_known IsJob (needed_value command.OpenMicrodata (file_line (said_by keyword.OpenMicrodata draft.said))) _ (λ micro h.
+    then_known IsJob (needed_value command.OpenMetadata (file_line (said_by keyword.OpenMetadata draft.said))) _ (λ meta h1.
     then_known IsJob (refuse (0, Missing command.SpecifyTable) (length draft.tables == 0)) _ (λ some h2.
-    then_known IsJob (needed command.SafetyRule (rules_line (said_by keyword.SafetyRule draft.said))) _ (λ rules h3.
-    then_known IsJob (needed command.Suppress (method_of (said_by keyword.Suppress draft.said))) _ (λ method h4.
+    then_known IsJob (needed_value command.SafetyRule (rules_line (said_by keyword.SafetyRule draft.said))) _ (λ rules h3.
+    then_known IsJob (needed_value command.Suppress (method_of (said_by keyword.Suppress draft.said))) _ (λ method h4.
     then_known IsJob (outputs_from (length draft.tables) 0 draft.said) _ (λ outputs h5.
-    then_known IsJob (needed command.Certificate (file_line (said_by keyword.Certificate draft.said))) _ (λ certificate h6.
+    then_known IsJob (needed_value command.Certificate (file_line (said_by keyword.Certificate draft.said))) _ (λ certificate h6.
     record {
       tables = record {
         some = some_tables (length draft.tables) (not_refused (0, Missing command.SpecifyTable) (length draft.tables == 0) some h2);
@@ -149,4 +149,4 @@ closed_known draft is =
 pub job_known : (bytes : List ℕ) → IfOk (job_of bytes) IsJob
 unfolding job_of
 job_known bytes =
-    then_known IsJob (lines_say 0 nothing (lines bytes)) _ (λ draft h. closed_known draft (known IsDraft (lines_say 0 nothing (lines bytes)) draft (lines_known (lines bytes)) h))
+    then_known IsJob (lines_say 0 empty_draft (lines bytes)) _ (λ draft h. closed_known draft (known IsDraft (lines_say 0 empty_draft (lines bytes)) draft (lines_known (lines bytes)) h))

@@ -12,8 +12,8 @@ use Rattle.job_lang.specs.declared.job.OutputLine.{OutputLine}
 use Rattle.job_lang.specs.declared.looked_up.RulesLine.{RulesLine}
 use Rattle.job_lang.specs.declared.statement.Keyword.TheVariants as keyword
 use Rattle.job_lang.specs.declared.statement.Draft.{Draft}
-use Rattle.job_lang.specs.Statements.{lines_say, nothing}
-use Rattle.job_lang.specs.ClosingLooks.{no_stray, no_same_name, said_by, file_line, rules_line, method_of, cost_of, work_of, usual_steps, usual_nodes, priors_in, needed, outputs_from}
+use Rattle.job_lang.specs.Statements.{lines_say, empty_draft}
+use Rattle.job_lang.specs.ClosingLooks.{no_stray, no_same_name, said_by, file_line, rules_line, method_of, cost_of, work_of, usual_steps, usual_nodes, priors_in, needed_value, outputs_from}
 use Rattle.job_lang.specs.Jobs.{job_made, closed_job, job_of}
 use Rattle.job_lang.proofs.Known.{was_some, same_value}
 
@@ -53,13 +53,13 @@ pub record IsMade (draft : Draft) (job : Job) : Type 0 where
 pub made : (draft : Draft) (job : Job) → job_made draft ≡ Ok job → IsMade draft job
 unfolding job_made
 made draft job h =
-    let a = bind_ok (needed command.OpenMicrodata (file_line (said_by keyword.OpenMicrodata draft.said))) _ job h in
-    let b = bind_ok (needed command.OpenMetadata (file_line (said_by keyword.OpenMetadata draft.said))) _ job a.2 in
+    let a = bind_ok (needed_value command.OpenMicrodata (file_line (said_by keyword.OpenMicrodata draft.said))) _ job h in
+    let b = bind_ok (needed_value command.OpenMetadata (file_line (said_by keyword.OpenMetadata draft.said))) _ job a.2 in
     let d = bind_ok (refuse (0, Missing command.SpecifyTable) (length draft.tables == 0)) _ job b.2 in
-    let e = bind_ok (needed command.SafetyRule (rules_line (said_by keyword.SafetyRule draft.said))) _ job d.2 in
-    let f = bind_ok (needed command.Suppress (method_of (said_by keyword.Suppress draft.said))) _ job e.2 in
+    let e = bind_ok (needed_value command.SafetyRule (rules_line (said_by keyword.SafetyRule draft.said))) _ job d.2 in
+    let f = bind_ok (needed_value command.Suppress (method_of (said_by keyword.Suppress draft.said))) _ job e.2 in
     let g = bind_ok (outputs_from (length draft.tables) 0 draft.said) _ job f.2 in
-    let i = bind_ok (needed command.Certificate (file_line (said_by keyword.Certificate draft.said))) _ job g.2 in
+    let i = bind_ok (needed_value command.Certificate (file_line (said_by keyword.Certificate draft.said))) _ job g.2 in
     let whole = same_value (job_with draft a.0 b.0 e.0 f.0 g.0 i.0) job i.2 in
     record {
       micro = a.0;
@@ -80,7 +80,7 @@ made draft job h =
 -- what the lines of a text say, and the job that is made of it
 pub record IsRead (bytes : List ℕ) (job : Job) : Type 0 where
   pub draft : Draft
-  pub says : lines_say 0 nothing (lines bytes) ≡ Ok draft
+  pub says : lines_say 0 empty_draft (lines bytes) ≡ Ok draft
   pub placed : no_stray (length draft.tables) draft.said ≡ Ok tt
   pub apart : no_same_name draft.said draft.said ≡ Ok tt
   pub is_made : IsMade draft job
@@ -88,7 +88,7 @@ pub record IsRead (bytes : List ℕ) (job : Job) : Type 0 where
 pub read : (bytes : List ℕ) (job : Job) → job_of bytes ≡ Ok job → IsRead bytes job
 unfolding job_of closed_job
 read bytes job h =
-    let a = bind_ok (lines_say 0 nothing (lines bytes)) _ job h in
+    let a = bind_ok (lines_say 0 empty_draft (lines bytes)) _ job h in
     let b = bind_ok (no_stray (length a.0.tables) a.0.said) _ job a.2 in
     let d = bind_ok (no_same_name a.0.said a.0.said) _ job b.2 in
     record { draft = a.0; says = a.1; placed = b.1; apart = d.1; is_made = made a.0 job d.2 }

@@ -26,9 +26,9 @@ use Rattle.job_lang.specs.declared.statement.Draft.{Draft}
 use Rattle.job_lang.specs.Faults.{at_line}
 use Rattle.job_lang.specs.Keywords.{keyword_of, word_in, place_of}
 use Rattle.job_lang.specs.Arguments.{argument_of}
-use Rattle.job_lang.specs.Statements.{command_of, is_by, is_again, is_past_room, is_other_response, with_table, with_statement, with_said, is_passed_over, command_line, text_says, lines_say, nothing}
+use Rattle.job_lang.specs.Statements.{command_of, is_by, is_again, is_past_room, is_other_response, with_table, with_statement, with_said, is_passed_over, command_line, text_says, lines_say, empty_draft}
 use Rattle.job_lang.specs.ClosingLooks.{said_by, output_said, file_said, file_line, rules_from, rules_line, method_from, method_of, cost_of, work_of, work_from, usual_steps, usual_nodes, output_of_table, outputs_from}
-use Rattle.job_lang.specs.Meaning.{line_says, said_at, stated, stated_in, table_in, tables_among, other_in, others_among, others_in, by_command, IsStatedOnce, IsStatedOrElse, IsMeant, JobsAreMeant}
+use Rattle.job_lang.specs.Meaning.{line_says, said_at, statements_of_line, stated_in, table_in, tables_among, other_in, others_among, others_in, by_command, IsStatedOnce, IsStatedOrElse, IsMeant, JobsAreMeant}
 use Rattle.job_lang.proofs.Known.{not_refused, was_some, same_value}
 use Rattle.job_lang.proofs.Made.{IsMade, read, job_with}
 
@@ -78,7 +78,7 @@ unfolding with_said
 said_adds line draft next (said.Table variables response) h = table_adds line draft next variables response h
 said_adds line draft next one h = let a = other_adds line draft next one h in record { tables = a.0 ∙ sym (append-nil draft.tables); said = a.1 }
 
-text_adds : (line : ℕ) (draft next : Draft) (text : List ℕ) → text_says line draft text ≡ Ok next → Adds draft next (stated line text)
+text_adds : (line : ℕ) (draft next : Draft) (text : List ℕ) → text_says line draft text ≡ Ok next → Adds draft next (statements_of_line line text)
 unfolding text_says command_line line_says
 text_adds line draft next text h =
     elim (is_passed_over text) as (λ t. cond t (Ok draft) (command_line line draft text) ≡ Ok next → Adds draft next (cond t [] (said_at line (line_says text)))) [
@@ -96,7 +96,7 @@ lines_add before draft next [] h = let is = same_value draft next h in subst (λ
 lines_add before draft next (text ∷ texts) h =
     let a = bind_ok (at_line (before + 1) (text_says (before + 1) draft (trim text))) _ next h in
     let said = without_line (before + 1) (text_says (before + 1) draft (trim text)) a.0 a.1 in
-    adds_both draft a.0 next (stated (before + 1) (trim text)) (stated_in (before + 1) texts) (text_adds (before + 1) draft a.0 (trim text) said) (lines_add (before + 1) a.0 next texts a.2)
+    adds_both draft a.0 next (statements_of_line (before + 1) (trim text)) (stated_in (before + 1) texts) (text_adds (before + 1) draft a.0 (trim text) said) (lines_add (before + 1) a.0 next texts a.2)
   where
     without_line : (line : ℕ) (r : Result Draft JobWhy) (d : Draft) → at_line line r ≡ Ok d → r ≡ Ok d
     without_line line (Ok x) d h = ap (λ (d : Draft). Ok d) (same_value x d h)
@@ -347,6 +347,6 @@ made_meant bytes draft job tables others single is =
 pub are_meant : JobsAreMeant
 are_meant bytes job h =
     let is = read bytes job h in
-    let adds = lines_add 0 nothing is.draft (lines bytes) is.says in
-    let single = lines_single 0 nothing is.draft (lines bytes) (λ word s. omega arith) is.says in
+    let adds = lines_add 0 empty_draft is.draft (lines bytes) is.says in
+    let single = lines_single 0 empty_draft is.draft (lines bytes) (λ word s. omega arith) is.says in
     made_meant bytes is.draft job adds.tables adds.said (subst AreSingle adds.said single) is.is_made

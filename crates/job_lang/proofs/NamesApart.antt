@@ -21,7 +21,7 @@ use Rattle.job_lang.specs.declared.statement.Said.TheVariants as said
 use Rattle.job_lang.specs.declared.statement.Statement.{Statement}
 use Rattle.job_lang.specs.declared.statement.Draft.{Draft}
 use Rattle.job_lang.specs.Statements.{is_by}
-use Rattle.job_lang.specs.ClosingLooks.{puts, reads, is_shared, is_meeting, is_output_at, output_said, file_said, file_line, prior_in, priors_in, output_of_table, outputs_from}
+use Rattle.job_lang.specs.ClosingLooks.{puts, is_read_file, is_shared, is_meeting, is_output_at, output_said, file_said, file_line, prior_in, priors_in, output_of_table, outputs_from}
 use Rattle.job_lang.specs.Binding.{is_spanning, is_code_list, is_hierarchy_file, is_file_of, file_fault, earliest_fault, unless_fault, bound_of}
 use Rattle.job_lang.specs.Laws.{codes_named, tree_named, files_of, puts_of, reads_of, PutsAreNotRead, PutsAreNotNamed}
 use Rattle.job_lang.proofs.Known.{was_some}
@@ -63,7 +63,7 @@ found {A} P test (y ∷ xs) all x h = elim (test y) as (λ t. test y ≡ t → c
 
 -- a statement puts this file, and no file of that name is read
 abbrev IsUnread : List Statement → List ℕ → Type 0
-IsUnread all name = list_any (λ s. reads name s.said) all ≡ false
+IsUnread all name = list_any (λ s. is_read_file name s.said) all ≡ false
 
 unread : (all : List Statement) (name : List ℕ) → is_shared name all ≡ false → IsUnread all name
 unread all name h = (false_left (nat_lt 1 (count_by (λ s. puts name s.said) all)) _ h).1
@@ -101,17 +101,17 @@ outputs_unread all (suc more) place outputs apart h =
 
 -- ---- what reads a file
 
-unread_each : (name : List ℕ) (said : List Statement) → list_any (λ s. reads name s.said) said ≡ false → AllByRecursion (λ s. reads name s.said ≡ false) said
+unread_each : (name : List ℕ) (said : List Statement) → list_any (λ s. is_read_file name s.said) said ≡ false → AllByRecursion (λ s. is_read_file name s.said ≡ false) said
 unread_each name [] h = tt
-unread_each name (s ∷ rest) h = let both = false_left (reads name s.said) _ h in (both.0, unread_each name rest both.1)
+unread_each name (s ∷ rest) h = let both = false_left (is_read_file name s.said) _ h in (both.0, unread_each name rest both.1)
 
-micro_read : (name : List ℕ) (one : Said) (line : ℕ) (o : OutputLine) → is_by keyword.OpenMicrodata one ≡ true → reads name one ≡ false → option_map (λ (file : List ℕ). record { line = line; file = file }) (file_said one) ≡ Some o → name ≢ o.file
+micro_read : (name : List ℕ) (one : Said) (line : ℕ) (o : OutputLine) → is_by keyword.OpenMicrodata one ≡ true → is_read_file name one ≡ false → option_map (λ (file : List ℕ). record { line = line; file = file }) (file_said one) ≡ Some o → name ≢ o.file
 micro_read name (said.Microdata file) line o by free h =
     let is : ◌≡◌ {A = OutputLine} (record { line = line; file = file }) o = cc in
     subst (λ (o : OutputLine). name ≢ o.file) is (differ file name free)
 micro_read name one line o by free h = absurd cc
 
-meta_read : (name : List ℕ) (one : Said) (line : ℕ) (o : OutputLine) → is_by keyword.OpenMetadata one ≡ true → reads name one ≡ false → option_map (λ (file : List ℕ). record { line = line; file = file }) (file_said one) ≡ Some o → name ≢ o.file
+meta_read : (name : List ℕ) (one : Said) (line : ℕ) (o : OutputLine) → is_by keyword.OpenMetadata one ≡ true → is_read_file name one ≡ false → option_map (λ (file : List ℕ). record { line = line; file = file }) (file_said one) ≡ Some o → name ≢ o.file
 meta_read name (said.Metadata file) line o by free h =
     let is : ◌≡◌ {A = OutputLine} (record { line = line; file = file }) o = cc in
     subst (λ (o : OutputLine). name ≢ o.file) is (differ file name free)
@@ -125,11 +125,11 @@ all_mapped : {A : Type 0} (P : List ℕ → Type 0) (f : A → List ℕ) (xs : L
 all_mapped P f [] all = tt
 all_mapped P f (x ∷ xs) all = (all.0, all_mapped P f xs all.1)
 
-prior_read : (name : List ℕ) (line : ℕ) (one : Said) → reads name one ≡ false → AllByRecursion (λ p. name ≢ p.file) (prior_in line one)
+prior_read : (name : List ℕ) (line : ℕ) (one : Said) → is_read_file name one ≡ false → AllByRecursion (λ p. name ≢ p.file) (prior_in line one)
 prior_read name line (said.Prior file number separator) free = (differ file name free, tt)
 prior_read name line one free = tt
 
-priors_read : (name : List ℕ) (said : List Statement) → AllByRecursion (λ s. reads name s.said ≡ false) said → AllByRecursion (λ p. name ≢ p.file) (priors_in said)
+priors_read : (name : List ℕ) (said : List Statement) → AllByRecursion (λ s. is_read_file name s.said ≡ false) said → AllByRecursion (λ p. name ≢ p.file) (priors_in said)
 priors_read name [] all = tt
 priors_read name (s ∷ rest) all = all_both (λ p. name ≢ p.file) (prior_in s.line s.said) (priors_in rest) (prior_read name s.line s.said all.0) (priors_read name rest all.1)
 
@@ -137,8 +137,8 @@ priors_read name (s ∷ rest) all = all_both (λ p. name ≢ p.file) (prior_in s
 none_read : (draft : Draft) (job : Job) (name : List ℕ) → IsMade draft job → IsUnread draft.said name → AllByRecursion (λ read. name ≢ read) (reads_of job)
 none_read draft job name is free =
     let each = unread_each name draft.said free in
-    let micro = line_of (λ s. reads name s.said ≡ false) draft.said (λ s. is_by keyword.OpenMicrodata s.said) (λ o. name ≢ o.file) each (λ s o by open_ g. micro_read name s.said s.line o by open_ g) is.micro is.is_micro in
-    let meta = line_of (λ s. reads name s.said ≡ false) draft.said (λ s. is_by keyword.OpenMetadata s.said) (λ o. name ≢ o.file) each (λ s o by open_ g. meta_read name s.said s.line o by open_ g) is.meta is.is_meta in
+    let micro = line_of (λ s. is_read_file name s.said ≡ false) draft.said (λ s. is_by keyword.OpenMicrodata s.said) (λ o. name ≢ o.file) each (λ s o by open_ g. micro_read name s.said s.line o by open_ g) is.micro is.is_micro in
+    let meta = line_of (λ s. is_read_file name s.said ≡ false) draft.said (λ s. is_by keyword.OpenMetadata s.said) (λ o. name ≢ o.file) each (λ s o by open_ g. meta_read name s.said s.line o by open_ g) is.meta is.is_meta in
     let priors = all_mapped (λ read. name ≢ read) (λ (p : PriorLine). p.file) (priors_in draft.said) (priors_read name draft.said each) in
     subst (λ (job : Job). AllByRecursion (λ read. name ≢ read) (reads_of job)) is.whole (micro, (meta, priors))
 

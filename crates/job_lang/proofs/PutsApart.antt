@@ -20,7 +20,7 @@ use Rattle.job_lang.specs.declared.statement.Said.{Said}
 use Rattle.job_lang.specs.declared.statement.Said.TheVariants as said
 use Rattle.job_lang.specs.declared.statement.Statement.{Statement}
 use Rattle.job_lang.specs.Statements.{is_by}
-use Rattle.job_lang.specs.ClosingLooks.{puts, reads, is_shared, is_meeting, is_output_at, output_said, file_said, file_line, output_of_table, outputs_from}
+use Rattle.job_lang.specs.ClosingLooks.{puts, is_read_file, is_shared, is_meeting, is_output_at, output_said, file_said, file_line, output_of_table, outputs_from}
 use Rattle.job_lang.specs.Laws.{puts_of, PutsDiffer}
 use Rattle.job_lang.proofs.Known.{was_some}
 use Rattle.job_lang.proofs.FirstFault.{no_meetings}
@@ -111,7 +111,7 @@ two_names all t u a b first second apart =
     elim (bytes_eq a.file b.file) as (λ r. bytes_eq a.file b.file ≡ r → r ≡ false) [
       | true ↦ λ same.
           let is : a.file ≡ b.file = (bytes_eq-Decides a.file b.file).0 same in
-          absurd (few (count_by (λ s. puts a.file s.said) all) (list_any (λ s. reads a.file s.said) all) first.3
+          absurd (few (count_by (λ s. puts a.file s.said) all) (list_any (λ s. is_read_file a.file s.said) all) first.3
           (two_counted (λ s. puts a.file s.said) t u all first.0 second.0 first.1 second.1 first.2 (puts_same a.file b.file second.0.said is second.2) apart))
       | false ↦ λ differ. refl
     ] refl

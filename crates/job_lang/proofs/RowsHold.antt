@@ -5,7 +5,7 @@ use Rattle.std.specs.Str.{all_ascii_digits}
 use Rattle.std.specs.Str.Parse.{digits_value}
 use Rattle.std.proofs.lemmas.Fmt.{decimal_digit, decimal-digits_value}
 use Rattle.std.proofs.lemmas.Str.Parse.{numerals_by_value, tells_all_ascii_digits}
-use Rattle.job_lang.specs.LineTokens.{behind_mark, quoted_at, number_at, digits_at, ended, closed}
+use Rattle.job_lang.specs.LineTokens.{behind_mark, quoted_at, number_at, digits_at, end_of_tokens, closing_token}
 use Rattle.job_lang.specs.Keywords.{keyword_of, word_in}
 use Rattle.job_lang.specs.RuleTexts.{one_number, frequency_clause, clause_in, clauses_in, rules_in}
 use Rattle.job_lang.specs.TableTexts.{names_up_to, quoted_part, table_argument}
@@ -14,17 +14,17 @@ use Rattle.job_lang.specs.Statements.{with_table, with_statement, with_said, com
 use Rattle.job_lang.specs.ClosingLooks.{no_stray, no_same_name, outputs_from}
 use Rattle.job_lang.specs.Jobs.{job_made, closed_job, job_of}
 use Rattle.job_lang.specs.Binding.{bound_of}
-use Rattle.job_lang.specs.Rows.{EightLines, FullText, FullLines, NameBeforeMissing, Bindable, CodeListMet}
+use Rattle.job_lang.specs.Rows.{EightLines, FullText, FullLines, NameBeforeMissing, BindsInAnyOrder, CodeListMet}
 
 pub eight_lines : EightLines
-unfolding behind_mark quoted_at number_at digits_at ended closed keyword_of word_in one_number frequency_clause clause_in clauses_in rules_in names_up_to quoted_part table_argument file_at only_file output_argument modular_method method_argument argument_of with_table with_statement with_said command_line text_says lines_say no_stray no_same_name outputs_from job_made closed_job job_of
+unfolding behind_mark quoted_at number_at digits_at end_of_tokens closing_token keyword_of word_in one_number frequency_clause clause_in clauses_in rules_in names_up_to quoted_part table_argument file_at only_file output_argument modular_method method_argument argument_of with_table with_statement with_said command_line text_says lines_say no_stray no_same_name outputs_from job_made closed_job job_of
 eight_lines = refl
 
 pub name_before_missing : NameBeforeMissing
-unfolding behind_mark quoted_at number_at digits_at ended closed keyword_of word_in one_number frequency_clause clause_in clauses_in rules_in names_up_to quoted_part table_argument file_at only_file output_argument modular_method method_argument argument_of with_table with_statement with_said command_line text_says lines_say no_stray no_same_name outputs_from job_made closed_job job_of
+unfolding behind_mark quoted_at number_at digits_at end_of_tokens closing_token keyword_of word_in one_number frequency_clause clause_in clauses_in rules_in names_up_to quoted_part table_argument file_at only_file output_argument modular_method method_argument argument_of with_table with_statement with_said command_line text_says lines_say no_stray no_same_name outputs_from job_made closed_job job_of
 name_before_missing = refl
 
-pub bindable : Bindable
+pub bindable : BindsInAnyOrder
 unfolding bound_of
 bindable = refl
 

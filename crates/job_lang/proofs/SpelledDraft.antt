@@ -20,10 +20,10 @@ use Rattle.job_lang.specs.declared.statement.Said.TheVariants as said
 use Rattle.job_lang.specs.declared.statement.Statement.{Statement}
 use Rattle.job_lang.specs.Faults.{at_line}
 use Rattle.job_lang.specs.Keywords.{place_of}
-use Rattle.job_lang.specs.Statements.{is_by, is_prior_of, is_output_of, is_again, is_past_room, is_other_response, with_table, with_statement, with_said, text_says, lines_say, nothing}
+use Rattle.job_lang.specs.Statements.{is_by, is_prior_of, is_output_of, is_again, is_past_room, is_other_response, with_table, with_statement, with_said, text_says, lines_say, empty_draft}
 use Rattle.job_lang.specs.Spelling.{table_number, said_line}
 use Rattle.job_lang.specs.JobText.{table_said, prior_said, outputs_said, job_says, tables_from}
-use Rattle.job_lang.specs.Writable.{IsSpellable}
+use Rattle.job_lang.specs.WritableJobs.{IsSpellable}
 use Rattle.job_lang.proofs.SpelledArguments.{number_is}
 use Rattle.job_lang.proofs.SpelledLines.{line_read, line_trimmed}
 use Rattle.job_lang.proofs.TableRoom.{Fit}
@@ -204,7 +204,7 @@ statements_of job =
     front_of job ++ (priors_stated (5 + length job.tables) job.priors ++ (middle_of (cost_line job) job ++ (outputs_stated (outputs_line job) 0 job.outputs
     ++ record { line = outputs_line job + length job.outputs; said = said.Certificate job.certificate } ∷ [])))
 
-first_two : (job : Job) (rest : List Said) → says 0 nothing (said.Microdata job.micro ∷ said.Metadata job.meta ∷ rest)
+first_two : (job : Job) (rest : List Said) → says 0 empty_draft (said.Microdata job.micro ∷ said.Metadata job.meta ∷ rest)
     ≡ says 2 (drafted [] (record { line = 1; said = said.Microdata job.micro } ∷ record { line = 2; said = said.Metadata job.meta } ∷ [])) rest
 unfolding with_said with_statement
 first_two job rest = refl
@@ -265,7 +265,7 @@ front_unsaid word job line h0 h1 h3 h4 h5 = rw (h0, h1, h3, h4, priors_unsaid wo
 
 -- what a job's canonical text says, where its parts fit
 pub text_says_all : (job : Job) → Fit [] job.tables → AllByRecursion (λ p. p.table < 8) job.priors → IsDistinct ◌==◌ (map (λ p. p.table) job.priors) → length job.outputs ≤ 8
-    → says 0 nothing (job_says job) ≡ Ok (drafted (tables_from 3 job.tables) (statements_of job))
+    → says 0 empty_draft (job_says job) ≡ Ok (drafted (tables_from 3 job.tables) (statements_of job))
 text_says_all job fits few once outputs =
     let n = length job.tables in
     let m = length job.priors in

@@ -27,7 +27,7 @@ use Rattle.job_lang.specs.declared.statement.Said.TheVariants as said
 use Rattle.job_lang.specs.declared.statement.Statement.{Statement}
 use Rattle.job_lang.specs.Keywords.{place_of}
 use Rattle.job_lang.specs.Statements.{is_by}
-use Rattle.job_lang.specs.ClosingLooks.{is_no_table, is_astray, no_stray, puts, reads, is_shared, is_meeting, no_same_name, said_by, is_output_at, output_said, file_line, rules_line, method_of, cost_of, work_of, usual_steps, usual_nodes, table_place, priors_in, outputs_from}
+use Rattle.job_lang.specs.ClosingLooks.{is_no_table, is_astray, no_stray, puts, is_read_file, is_shared, is_meeting, no_same_name, said_by, is_output_at, output_said, file_line, rules_line, method_of, cost_of, work_of, usual_steps, usual_nodes, table_place, priors_in, outputs_from}
 use Rattle.job_lang.specs.Jobs.{job_made, closed_job}
 use Rattle.job_lang.specs.Laws.{puts_of, reads_of}
 use Rattle.job_lang.specs.Spelling.{table_number}
@@ -248,20 +248,20 @@ puts_counted name job =
     let last : count_by (λ s. puts name s.said) (z ∷ []) ≡ cond (bytes_eq job.certificate name) 1 0 = omega arith in
     omega (arith, a, b, d, e, f, middle, last)
 
-priors_unread : (name : List ℕ) (line : ℕ) (priors : List PriorLine) → AllByRecursion (λ read. name ≢ read) (map (λ p. p.file) priors) → list_any (λ s. reads name s.said) (priors_stated line priors) ≡ false
+priors_unread : (name : List ℕ) (line : ℕ) (priors : List PriorLine) → AllByRecursion (λ read. name ≢ read) (map (λ p. p.file) priors) → list_any (λ s. is_read_file name s.said) (priors_stated line priors) ≡ false
 priors_unread name line [] all = refl
 priors_unread name line (prior ∷ priors) all = rw (differs name prior.file all.0, priors_unread name (line + 1) priors all.1) refl
 
-outputs_unread : (name : List ℕ) (line place : ℕ) (outputs : List OutputLine) → list_any (λ s. reads name s.said) (outputs_stated line place outputs) ≡ false
+outputs_unread : (name : List ℕ) (line place : ℕ) (outputs : List OutputLine) → list_any (λ s. is_read_file name s.said) (outputs_stated line place outputs) ≡ false
 outputs_unread name line place [] = refl
 outputs_unread name line place (output ∷ outputs) = outputs_unread name (line + 1) (place + 1) outputs
 
-all_unread : (name : List ℕ) (job : Job) → AllByRecursion (λ read. name ≢ read) (reads_of job) → list_any (λ s. reads name s.said) (statements_of job) ≡ false
+all_unread : (name : List ℕ) (job : Job) → AllByRecursion (λ read. name ≢ read) (reads_of job) → list_any (λ s. is_read_file name s.said) (statements_of job) ≡ false
 all_unread name job all =
     let z : Statement = record { line = outputs_line job + length job.outputs; said = said.Certificate job.certificate } in
-    let rest : list_any (λ s. reads name s.said) (priors_stated (5 + length job.tables) job.priors ++ behind_priors job) ≡ false =
-    any_past (λ s. reads name s.said) (priors_stated (5 + length job.tables) job.priors) (behind_priors job) (priors_unread name (5 + length job.tables) job.priors all.1.1)
-    ∙ any_past (λ s. reads name s.said) (outputs_stated (outputs_line job) 0 job.outputs) (z ∷ []) (outputs_unread name (outputs_line job) 0 job.outputs) in
+    let rest : list_any (λ s. is_read_file name s.said) (priors_stated (5 + length job.tables) job.priors ++ behind_priors job) ≡ false =
+    any_past (λ s. is_read_file name s.said) (priors_stated (5 + length job.tables) job.priors) (behind_priors job) (priors_unread name (5 + length job.tables) job.priors all.1.1)
+    ∙ any_past (λ s. is_read_file name s.said) (outputs_stated (outputs_line job) 0 job.outputs) (z ∷ []) (outputs_unread name (outputs_line job) 0 job.outputs) in
     rw (differs name job.micro all.0, differs name job.meta all.1.0) rest
 
 alone : (n : ℕ) (b : Bool) → n ≤ 1 → b ≡ false → (nat_lt 1 n || b) ≡ false
@@ -271,7 +271,7 @@ unshared : (name : List ℕ) (job : Job) → IsDistinct bytes_eq (puts_of job) �
 unshared name job distinct all =
     let few = once name (puts_of job) distinct in
     let count = puts_counted name job in
-    alone (count_by (λ s. puts name s.said) (statements_of job)) (list_any (λ s. reads name s.said) (statements_of job)) (omega (arith, few, count)) (all_unread name job all)
+    alone (count_by (λ s. puts name s.said) (statements_of job)) (list_any (λ s. is_read_file name s.said) (statements_of job)) (omega (arith, few, count)) (all_unread name job all)
 
 priors_meet_none : (all : List Statement) (line : ℕ) (priors : List PriorLine) → list_any (λ s. is_meeting all s.said) (priors_stated line priors) ≡ false
 priors_meet_none all line [] = refl

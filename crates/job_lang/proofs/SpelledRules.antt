@@ -11,25 +11,25 @@ use Rattle.sdc_base.specs.declared.rule.Rule.TheVariants.{Freq, Nk, Percent}
 use Rattle.sdc_base.specs.declared.rule.Rules.{Rules}
 use Rattle.job_lang.specs.declared.rule_clauses.RuleClause.{RuleClause}
 use Rattle.job_lang.specs.declared.rule_clauses.RuleClause.TheVariants.{Named, Man, Weights}
-use Rattle.job_lang.specs.LineTokens.{is_bar, is_break, behind_mark, run_of, behind_run, closed, ended}
+use Rattle.job_lang.specs.LineTokens.{is_bar, is_break, behind_mark, run_of, behind_run, closing_token, end_of_tokens}
 use Rattle.job_lang.specs.Pieces.{pieces}
 use Rattle.job_lang.specs.RuleTexts.{one_number, frequency_clause, dominance_clause, percent_behind, percent_clause, man_clause, weights_clause, clause_in, clauses_in, named_in, is_frequency, is_man, is_weights, are_rules, man_of, weighted_of, rules_in}
 use Rattle.job_lang.specs.JobLimits.{IsInRange, AreInRange}
-use Rattle.job_lang.specs.Spelling.{barred, enclosed, enclosed_both, clause_text, clauses_of, rules_text}
-use Rattle.job_lang.specs.Writable.{is_on_frequencies}
+use Rattle.job_lang.specs.Spelling.{texts_between_bars, number_in_parentheses, enclosed_both, clause_text, clauses_of, rules_text}
+use Rattle.job_lang.specs.WritableJobs.{is_on_frequencies}
 use Rattle.job_lang.proofs.ClausesHold.{IsClause}
 use Rattle.job_lang.proofs.Spelled.{or_right, IsEnded, ended_behind, ended_with, trim_space, mark_read, run_read, number_read, digits_whole}
 
 -- ---- numbers in parentheses
 
-pub closed_read : closed (41 ∷ []) ≡ Ok tt
-unfolding closed behind_mark ended
+pub closed_read : closing_token (41 ∷ []) ≡ Ok tt
+unfolding closing_token behind_mark end_of_tokens
 closed_read = refl
 
 closing : (b : ℕ) (front : List ℕ) → IsEnded (b ∷ front ++ 41 ∷ [])
 closing b front = ended_behind (b ∷ front) (41 ∷ []) (ended_with 41 refl refl)
 
-pub enclosed_read : (low high n : ℕ) → low ≤ n → n ≤ high → high < 10 ^ 18 → one_number low high (enclosed (decimal n)) ≡ Ok n
+pub enclosed_read : (low high n : ℕ) → low ≤ n → n ≤ high → high < 10 ^ 18 → one_number low high (number_in_parentheses (decimal n)) ≡ Ok n
 unfolding one_number
 enclosed_read low high n above within small =
     rw (mark_read 40 (decimal n ++ 41 ∷ []) refl (closing 40 (decimal n)) refl, number_read low high n 41 [] above within small refl (ended_with 41 refl refl), closed_read) refl
@@ -63,16 +63,16 @@ dominance_read n k h =
 nothing_behind : percent_behind (41 ∷ []) ≡ Ok tt
 nothing_behind = closed_read
 
-percent_read : (p : ℕ) → IsInRange (Percent p) → percent_clause (enclosed (decimal p)) ≡ Ok (Named (Percent p))
+percent_read : (p : ℕ) → IsInRange (Percent p) → percent_clause (number_in_parentheses (decimal p)) ≡ Ok (Named (Percent p))
 unfolding percent_clause
 percent_read p h =
     rw (mark_read 40 (decimal p ++ 41 ∷ []) refl (closing 40 (decimal p)) refl, number_read 1 1000 p 41 [] h.0 h.1 (omega arith) refl (ended_with 41 refl refl), nothing_behind) refl
 
-man_read : (r : ℕ) → r ≤ 1000 → man_clause (enclosed (decimal r)) ≡ Ok (Man r)
+man_read : (r : ℕ) → r ≤ 1000 → man_clause (number_in_parentheses (decimal r)) ≡ Ok (Man r)
 unfolding man_clause
 man_read r h = rw (enclosed_read 0 1000 r (omega arith) h (omega arith)) refl
 
-weights_read : (n : ℕ) → n ≤ 1 → weights_clause (enclosed (decimal n)) ≡ Ok (Weights (n == 1))
+weights_read : (n : ℕ) → n ≤ 1 → weights_clause (number_in_parentheses (decimal n)) ≡ Ok (Weights (n == 1))
 unfolding weights_clause
 weights_read n h = rw (enclosed_read 0 1 n (omega arith) h (omega arith)) refl
 
@@ -154,10 +154,10 @@ next_piece (b ∷ text) rest h = rw (left (is_bar b) (list_any is_bar text) h, n
     left true y h = h
     left false y h = refl
 
-pieces_again : (clause : RuleClause) (clauses : List RuleClause) → IsClause clause → AllByRecursion IsClause clauses → pieces (barred (clause_text clause ∷ map clause_text clauses)) ≡ clause_text clause ∷ map clause_text clauses
+pieces_again : (clause : RuleClause) (clauses : List RuleClause) → IsClause clause → AllByRecursion IsClause clauses → pieces (texts_between_bars (clause_text clause ∷ map clause_text clauses)) ≡ clause_text clause ∷ map clause_text clauses
 pieces_again clause [] h all = last_piece (clause_text clause) (clause_barless clause h)
 pieces_again clause (next ∷ clauses) h all =
-    next_piece (clause_text clause) (barred (clause_text next ∷ map clause_text clauses)) (clause_barless clause h)
+    next_piece (clause_text clause) (texts_between_bars (clause_text next ∷ map clause_text clauses)) (clause_barless clause h)
     ∙ ap (λ (ps : List (List ℕ)). clause_text clause ∷ ps) (pieces_again next clauses all.0 all.1)
 
 -- ---- all rules
@@ -171,7 +171,7 @@ clauses_behind_space : (text : List ℕ) (texts : List (List ℕ)) → clauses_i
 unfolding clauses_in
 clauses_behind_space text texts = rw (clause_space text) refl
 
-clauses_read : (clause : RuleClause) (clauses : List RuleClause) → IsClause clause → AllByRecursion IsClause clauses → clauses_in (pieces (32 ∷ barred (clause_text clause ∷ map clause_text clauses))) ≡ Ok (clause ∷ clauses)
+clauses_read : (clause : RuleClause) (clauses : List RuleClause) → IsClause clause → AllByRecursion IsClause clauses → clauses_in (pieces (32 ∷ texts_between_bars (clause_text clause ∷ map clause_text clauses))) ≡ Ok (clause ∷ clauses)
 clauses_read clause clauses h all =
     ap (λ (ps : List (List ℕ)). clauses_in (with_front 32 ps)) (pieces_again clause clauses h all)
     ∙ clauses_behind_space (clause_text clause) (map clause_text clauses)
@@ -216,7 +216,7 @@ all_clauses [] man weighted all h = (h, (tt, tt))
 all_clauses (rule ∷ list) man weighted all h = (all.0, all_clauses list man weighted all.1 h)
 
 text_of : (list : List Rule) (man : ℕ) (weighted : Bool) → 0 < length list → AllByRecursion IsInRange list → man ≤ 1000
-    → clauses_in (pieces (32 ∷ barred (map clause_text (map Named list ++ Man man ∷ Weights weighted ∷ [])))) ≡ Ok (map Named list ++ Man man ∷ Weights weighted ∷ [])
+    → clauses_in (pieces (32 ∷ texts_between_bars (map clause_text (map Named list ++ Man man ∷ Weights weighted ∷ [])))) ≡ Ok (map Named list ++ Man man ∷ Weights weighted ∷ [])
 text_of [] man weighted some all h = absurd (omega (arith, some))
 text_of (rule ∷ list) man weighted some all h = clauses_read (Named rule) (map Named list ++ Man man ∷ Weights weighted ∷ []) all.0 (all_clauses list man weighted all.1 h)
 

@@ -11,14 +11,14 @@ use Rattle.job_lang.specs.declared.job.PriorLine.{PriorLine}
 use Rattle.job_lang.specs.declared.job.TableLine.{TableLine}
 use Rattle.job_lang.specs.declared.statement.Said.{Said}
 use Rattle.job_lang.specs.declared.statement.Said.TheVariants as said
-use Rattle.job_lang.specs.Statements.{lines_say, nothing}
+use Rattle.job_lang.specs.Statements.{lines_say, empty_draft}
 use Rattle.job_lang.specs.JobLimits.{HasNoTwice, HasVariables}
 use Rattle.job_lang.specs.Jobs.{closed_job, job_of}
 use Rattle.job_lang.specs.Laws.{puts_of, reads_of}
 use Rattle.job_lang.specs.Binding.{response_of}
 use Rattle.job_lang.specs.Spelling.{said_line}
 use Rattle.job_lang.specs.JobText.{table_said, prior_said, outputs_said, job_says, job_text, in_text}
-use Rattle.job_lang.specs.Writable.{HasQuotable, HasSeparator, IsSpellable, IsWritable}
+use Rattle.job_lang.specs.WritableJobs.{HasQuotable, HasSeparator, IsSpellable, IsWritable}
 use Rattle.job_lang.proofs.SpelledLines.{line_line}
 use Rattle.job_lang.proofs.SpelledDraft.{lines_are, text_says_all}
 use Rattle.job_lang.proofs.SpelledJob.{closed_again}
@@ -90,8 +90,8 @@ text_read law job h =
     let can = all_spellable job h in
     let few = all_below (length job.tables) job.priors h.limits.few h.limits.priors in
     let fits = fit (response_of job.tables) [] job.tables (omega (arith, h.limits.few)) h.limits.tables.variables tt h.limits.tables.response in
-    ap (λ (ts : List (List ℕ)). lines_say 0 nothing ts >>= closed_job) (law (map said_line (job_says job)) (lines_fine (job_says job) can))
-    ∙ ap (λ r. r >>= closed_job) (lines_are 0 nothing (job_says job) can ∙ text_says_all job fits few h.priors (omega (arith, h.limits.outputs, h.limits.few)))
+    ap (λ (ts : List (List ℕ)). lines_say 0 empty_draft ts >>= closed_job) (law (map said_line (job_says job)) (lines_fine (job_says job) can))
+    ∙ ap (λ r. r >>= closed_job) (lines_are 0 empty_draft (job_says job) can ∙ text_says_all job fits few h.priors (omega (arith, h.limits.outputs, h.limits.few)))
     ∙ closed_again job h.limits.tables.some h.limits.few h.limits.outputs h.limits.priors few h.puts h.apart
 
 pub round_trip : AreReadAgain → (job : Job) → IsWritable job → in_text job ≡ job → job_of (job_text job) ≡ Ok job

@@ -28,13 +28,13 @@ use Rattle.job_lang.specs.declared.statement.Statement.{Statement}
 use Rattle.job_lang.specs.Faults.{at_line}
 use Rattle.job_lang.specs.Keywords.{keyword_of, word_in}
 use Rattle.job_lang.specs.Arguments.{argument_of}
-use Rattle.job_lang.specs.Statements.{is_prior_of, is_again, is_past_room, is_other_response, with_table, with_statement, with_said, is_passed_over, command_line, text_says, lines_say, nothing}
+use Rattle.job_lang.specs.Statements.{is_prior_of, is_again, is_past_room, is_other_response, with_table, with_statement, with_said, is_passed_over, command_line, text_says, lines_say, empty_draft}
 use Rattle.job_lang.specs.ClosingLooks.{is_no_table, is_astray, file_said, file_line, rules_from, rules_line, output_said, table_place, prior_in, priors_in, output_of_table, outputs_from}
 use Rattle.job_lang.specs.JobLimits.{IsJob}
 use Rattle.job_lang.specs.Jobs.{job_of}
 use Rattle.job_lang.specs.Laws.{puts_of, reads_of}
 use Rattle.job_lang.specs.Spelling.{table_number}
-use Rattle.job_lang.specs.Writable.{is_on_frequencies, HasQuotable, HasSeparator, IsWritable, JobsAreWritable}
+use Rattle.job_lang.specs.WritableJobs.{is_on_frequencies, HasQuotable, HasSeparator, IsWritable, JobsAreWritable}
 use Rattle.job_lang.proofs.FirstFault.{no_strays}
 use Rattle.job_lang.proofs.JobHolds.{find_known, was_there, wider, job_known}
 use Rattle.job_lang.proofs.Known.{then_known, known, either_known, not_refused, was_some, all_and_last}
@@ -267,7 +267,7 @@ writable bytes job h =
     let draft = is.draft in
     let made = is.is_made in
     let limits = known IsJob (job_of bytes) job (job_known bytes) h in
-    let written = known AreWritten (lines_say 0 nothing (lines bytes)) draft (lines_kept 0 nothing (lines bytes) (record { tables = tt; said = tt; other = tt }) (lines_free bytes)) is.says in
+    let written = known AreWritten (lines_say 0 empty_draft (lines bytes)) draft (lines_kept 0 empty_draft (lines bytes) (record { tables = tt; said = tt; other = tt }) (lines_free bytes)) is.says in
     let j = job_with draft made.micro made.meta made.rules made.method made.outputs made.certificate in
     let back = sym made.whole in
     let few : length draft.tables ≤ 8 = (subst IsJob back limits).few in

@@ -18,12 +18,12 @@ use Rattle.job_lang.specs.declared.statement.Keyword.TheVariants.{OpenMicrodata,
 use Rattle.job_lang.specs.declared.statement.Said.{Said}
 use Rattle.job_lang.specs.declared.statement.Said.TheVariants as said
 use Rattle.job_lang.specs.Keywords.{is_close, word_in}
-use Rattle.job_lang.specs.LineTokens.{is_next, behind_mark, quoted_at, run_of, behind_run, digits_at, without_zeros, ended, closed}
+use Rattle.job_lang.specs.LineTokens.{is_next, behind_mark, quoted_at, run_of, behind_run, digits_at, without_zeros, end_of_tokens, closing_token}
 use Rattle.job_lang.specs.Pieces.{pieces}
 use Rattle.job_lang.specs.RuleTexts.{clauses_in, named_in, is_frequency, is_man, is_weights, are_rules, rules_in}
 use Rattle.job_lang.specs.TableTexts.{names_up_to, is_twice, quoted_part, behind_again, are_free_parts, table_argument}
 use Rattle.job_lang.specs.Arguments.{file_at, only_file, may_separate, separator_of, prior_argument, output_argument, cost_argument, work_argument, method_argument, argument_of}
-use Rattle.job_lang.specs.Writable.{is_on_frequencies, IsQuotable}
+use Rattle.job_lang.specs.WritableJobs.{is_on_frequencies, IsQuotable}
 use Rattle.job_lang.proofs.Known.{then_known, known, either_known, not_refused, was_some}
 use Rattle.job_lang.proofs.Spelled.{or_left, or_right}
 use Rattle.job_lang.proofs.SpelledRules.{frequency_same}
@@ -158,7 +158,7 @@ only_written : (text : List ℕ) → HasNoFeed text → IfOk (only_file text) Is
 unfolding only_file
 only_written text h =
     then_known IsNamed (file_at text) _ (λ name g.
-    then_known IsNamed (ended name.1) _ (λ end k. (known IsFile (file_at text) name (file_written text h) g).0))
+    then_known IsNamed (end_of_tokens name.1) _ (λ end k. (known IsFile (file_at text) name (file_written text h) g).0))
 
 one_byte : (separates : ℕ → Bool) (b x : ℕ) → cond (separates b) (Some b) None ≡ Some x → (separates x ≡ true) × (b ≡ x)
 one_byte separates b x h =
@@ -188,7 +188,7 @@ prior_written text h =
     then_known IsWritten (quoted_at again) _ (λ word g4.
     let f = known IsWord (quoted_at again) word (quoted_written again e) g4 in
     then_known IsWritten (or_fault BadValue (separator_of word.0)) _ (λ separator g5.
-    then_known IsWritten (ended word.1) _ (λ end g6.
+    then_known IsWritten (end_of_tokens word.1) _ (λ end g6.
     let s = separator_written word.0 separator f.0.1 (was_some BadValue (separator_of word.0) separator g5) in (a.0, d.0, s.0, s.1))))))))
 
 output_written : (text : List ℕ) → HasNoFeed text → IfOk (output_argument text) IsWritten
@@ -201,7 +201,7 @@ output_written text h =
     then_known IsWritten (behind_mark 44 number.1) _ (λ comma g2.
     let d = known HasNoFeed (behind_mark 44 number.1) comma (mark_written 44 number.1 b.1) g2 in
     then_known IsWritten (file_at comma) _ (λ file g3.
-    then_known IsWritten (closed file.1) _ (λ end g4. ((known IsFile (file_at comma) file (file_written comma d) g3).0, b.0))))))
+    then_known IsWritten (closing_token file.1) _ (λ end g4. ((known IsFile (file_at comma) file (file_written comma d) g3).0, b.0))))))
 
 -- names that can be written, and the text behind them without LF
 abbrev AreWords : (List (List ℕ) × List ℕ) → Type 0
@@ -260,7 +260,7 @@ argument_written OpenMicrodata text h = then_known IsWritten (only_file text) _ 
 argument_written OpenMetadata text h = then_known IsWritten (only_file text) _ (λ name g. known IsNamed (only_file text) name (only_written text h) g)
 argument_written SpecifyTable text h = table_written text h
 argument_written SafetyRule text h = then_known IsWritten (rules_in text) _ (λ rules g. known (λ rules. count_by is_on_frequencies rules.list ≤ 1) (rules_in text) rules (rules_written text) g)
-argument_written ReadMicrodata text h = then_known IsWritten (ended text) _ (λ end g. tt)
+argument_written ReadMicrodata text h = then_known IsWritten (end_of_tokens text) _ (λ end g. tt)
 argument_written Apriori text h = prior_written text h
 argument_written Cost text h = then_known IsWritten (cost_argument text) _ (λ cost g. tt)
 argument_written Steps text h = then_known IsWritten (work_argument text) _ (λ steps g. tt)

@@ -16,7 +16,7 @@ use Rattle.job_lang.specs.declared.statement.Keyword.{Keyword}
 use Rattle.job_lang.specs.declared.statement.Keyword.TheVariants.{OpenMicrodata, OpenMetadata, SpecifyTable, SafetyRule, ReadMicrodata, Apriori, Cost, Steps, Nodes, Suppress, WriteTable, Certificate}
 use Rattle.job_lang.specs.declared.statement.Said.{Said}
 use Rattle.job_lang.specs.declared.statement.Said.TheVariants as said
-use Rattle.job_lang.specs.LineTokens.{behind_mark, quoted_at, run_of, behind_run, number_at, digits_at, ended, closed}
+use Rattle.job_lang.specs.LineTokens.{behind_mark, quoted_at, run_of, behind_run, number_at, digits_at, end_of_tokens, closing_token}
 use Rattle.job_lang.specs.RuleTexts.{one_number, rules_in}
 use Rattle.job_lang.specs.TableTexts.{table_argument}
 
@@ -31,7 +31,7 @@ file_at text = do
 unfoldable pub only_file : List ℕ → Result (List ℕ) JobWhy
 only_file text = do
   name ← file_at text
-  end ← ended name.1
+  end ← end_of_tokens name.1
   Ok name.0
 
 -- a byte that may separate fields: no digit, point, quote, blank or CR
@@ -53,7 +53,7 @@ prior_argument text = do
   again ← behind_mark 44 number.1
   word ← quoted_at again
   separator ← or_fault BadValue (separator_of word.0)
-  end ← ended word.1
+  end ← end_of_tokens word.1
   Ok (said.Prior file.0 number.0 separator)
 
 -- (t,"name"): the number of a table and the file that it is put in
@@ -63,7 +63,7 @@ output_argument text = do
   number ← digits_at open_
   comma ← behind_mark 44 number.1
   file ← file_at comma
-  end ← closed file.1
+  end ← closing_token file.1
   Ok (said.Output number.0 file.0)
 
 -- the kind of cost of this word, in letters of any case
@@ -78,7 +78,7 @@ cost_of word =
 unfoldable pub cost_argument : List ℕ → Result CostKind JobWhy
 cost_argument text = do
   cost ← or_fault BadValue (cost_of (run_of text))
-  end ← ended (behind_run text)
+  end ← end_of_tokens (behind_run text)
   Ok cost
 
 -- the greatest number of steps or nodes
@@ -89,7 +89,7 @@ most_work = 10 ^ 12
 unfoldable pub work_argument : List ℕ → Result ℕ JobWhy
 work_argument text = do
   number ← number_at 1 most_work text
-  end ← ended number.1
+  end ← end_of_tokens number.1
   Ok number.0
 
 -- GH(n): 1 to 8 passes
@@ -102,7 +102,7 @@ passes_method text = do
 unfoldable pub modular_method : List ℕ → Result Method JobWhy
 modular_method text = do
   open_ ← behind_mark 40 text
-  end ← closed open_
+  end ← closing_token open_
   Ok Modular
 
 -- RND(b): the base, from 1 to 10^9
@@ -125,7 +125,7 @@ argument_of OpenMicrodata text = only_file text >>= λ name. Ok (said.Microdata 
 argument_of OpenMetadata text = only_file text >>= λ name. Ok (said.Metadata name)
 argument_of SpecifyTable text = table_argument text
 argument_of SafetyRule text = rules_in text >>= λ rules. Ok (said.Safety rules)
-argument_of ReadMicrodata text = ended text >>= λ end. Ok said.Read
+argument_of ReadMicrodata text = end_of_tokens text >>= λ end. Ok said.Read
 argument_of Apriori text = prior_argument text
 argument_of Cost text = cost_argument text >>= λ cost. Ok (said.Cost cost)
 argument_of Steps text = work_argument text >>= λ steps. Ok (said.Steps steps)

@@ -34,17 +34,20 @@ is_numeric_named name variable = is_named name variable && variable.numeric
 abbrev pub is_numeric : List Variable → List ℕ → Bool
 is_numeric variables name = list_any (λ v. is_numeric_named name v) variables
 
--- The fault of a table's line: a name of no variable, a numeric variable that spans it, or a response that isn't numeric; each over the whole line.
+-- The fault of a table's line: a name of no variable, a numeric variable that spans it, or a response that isn't
+-- numeric; each over the whole line.
 abbrev pub table_fault : List Variable → TableLine → Option JobWhy
 table_fault variables table =
-    if list_any (λ name. is_absent variables name) table.variables || is_absent variables table.response then Some NoSuchVariable
+    if list_any (λ name. is_absent variables name) table.variables || is_absent variables table.response
+    then Some NoSuchVariable
     else if list_any (λ name. is_numeric variables name) table.variables then Some NotSpanning
     else if not (is_numeric variables table.response) then Some NotNumeric
     else None
 
 -- the fault of the rules' line: records have weights, and no variable is the weight
 abbrev pub weight_fault : List Variable → Rules → Option JobWhy
-weight_fault variables rules = if rules.weighted && not (list_any (λ v. v.weight) variables) then Some NoWeight else None
+weight_fault variables rules =
+    if rules.weighted && not (list_any (λ v. v.weight) variables) then Some NoWeight else None
 
 -- some table is spanned by the variable of this name
 abbrev pub is_spanning : List TableLine → List ℕ → Bool
@@ -69,23 +72,26 @@ abbrev pub file_fault : List TableLine → List Variable → List ℕ → Option
 file_fault tables variables file = if list_any (λ v. is_file_of tables file v) variables then Some SameName else None
 
 -- the earlier of two faults, the first where both stand at one line
-abbrev pub earlier : Option (ℕ × JobWhy) → ℕ → Option JobWhy → Option (ℕ × JobWhy)
-earlier first line None = first
-earlier None line (Some why) = Some (line, why)
-earlier (Some first) line (Some why) = if nat_lt line first.0 then Some (line, why) else Some first
+abbrev pub earlier_fault : Option (ℕ × JobWhy) → ℕ → Option JobWhy → Option (ℕ × JobWhy)
+earlier_fault first line None = first
+earlier_fault None line (Some why) = Some (line, why)
+earlier_fault (Some first) line (Some why) = if nat_lt line first.0 then Some (line, why) else Some first
 
 -- the earliest fault of tables
 abbrev pub tables_fault : List Variable → List TableLine → Option (ℕ × JobWhy)
-tables_fault variables tables = fold (λ first t. earlier first t.line (table_fault variables t)) None tables
+tables_fault variables tables = fold (λ first t. earlier_fault first t.line (table_fault variables t)) None tables
 
 -- the earliest fault of outputs, and of what was looked at before
 abbrev pub outputs_fault : List TableLine → List Variable → Option (ℕ × JobWhy) → List OutputLine → Option (ℕ × JobWhy)
-outputs_fault tables variables first outputs = fold (λ first o. earlier first o.line (file_fault tables variables o.file)) first outputs
+outputs_fault tables variables first outputs =
+    fold (λ first o. earlier_fault first o.line (file_fault tables variables o.file)) first outputs
 
 -- the earliest fault of a job's lines: tables, rules, outputs and certificate
 abbrev pub earliest_fault : Job → List Variable → Option (ℕ × JobWhy)
 earliest_fault job variables =
-    earlier (outputs_fault job.tables variables (earlier (tables_fault variables job.tables) job.rules_line (weight_fault variables job.rules)) job.outputs)
+    earlier_fault (outputs_fault job.tables variables
+    (earlier_fault (tables_fault variables job.tables) job.rules_line (weight_fault variables job.rules))
+    job.outputs)
     job.certificate_line (file_fault job.tables variables job.certificate)
 
 -- ---- places
@@ -93,7 +99,8 @@ earliest_fault job variables =
 -- the places of those that pass the test, ascending, where the first of the list has this place
 abbrev pub places_from : {X : Type 0} → ℕ → (X → Bool) → List X → List ℕ
 places_from place test [] = []
-places_from place test (x ∷ xs) = if test x then place ∷ places_from (place + 1) test xs else places_from (place + 1) test xs
+places_from place test (x ∷ xs) = if test x then place ∷ places_from (place + 1) test xs
+    else places_from (place + 1) test xs
 
 -- the variables that span tables, in the order of the metadata
 abbrev pub spanning_of : List TableLine → List Variable → List ℕ

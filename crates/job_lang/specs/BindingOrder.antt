@@ -13,7 +13,8 @@ use Rattle.job_lang.specs.Binding.{is_absent, is_numeric, table_fault, weight_fa
 abbrev pub looked_at : Job → List Variable → List (ℕ × Option JobWhy)
 looked_at job variables =
     map (λ t. (t.line, table_fault variables t)) job.tables
-    ++ ((job.rules_line, weight_fault variables job.rules) ∷ map (λ o. (o.line, file_fault job.tables variables o.file)) job.outputs
+    ++ ((job.rules_line, weight_fault variables job.rules)
+    ∷ map (λ o. (o.line, file_fault job.tables variables o.file)) job.outputs
     ++ (job.certificate_line, file_fault job.tables variables job.certificate) ∷ [])
 
 -- a line has no fault, or stands behind this one
@@ -26,7 +27,8 @@ abbrev pub IsNotBefore : ℕ → ℕ → Option JobWhy → Type 0
 IsNotBefore line other None = Unit {0}
 IsNotBefore line other (Some why) = line ≤ other
 
--- The first of some lines that has a fault and before which no line has one. Were two parts of a job in one line, it would be the first of them.
+-- The first of some lines that has a fault and before which no line has one. Were two parts of a job in one line, it
+-- would be the first of them.
 pub record IsEarliest (lines : List (ℕ × Option JobWhy)) (line : ℕ) (why : JobWhy) : Type 0 where
   pub before : List (ℕ × Option JobWhy)
   pub after : List (ℕ × Option JobWhy)
@@ -36,23 +38,30 @@ pub record IsEarliest (lines : List (ℕ × Option JobWhy)) (line : ℕ) (why : 
 
 -- The fault that binding gives is that of the earliest line that has one.
 abbrev pub GivesEarliest : Type 0
-GivesEarliest = (job : Job) (meta : Meta) (line : ℕ) (why : JobWhy) → bound_of job meta ≡ Err (line, why) → IsEarliest (looked_at job meta.variables) line why
+GivesEarliest =
+    (job : Job) (meta : Meta) (line : ℕ) (why : JobWhy) → bound_of job meta ≡ Err (line, why)
+    → IsEarliest (looked_at job meta.variables) line why
 
 -- a table names something that is no variable
 abbrev pub lacks_variable : List Variable → TableLine → Bool
-lacks_variable variables table = list_any (λ name. is_absent variables name) table.variables || is_absent variables table.response
+lacks_variable variables table =
+    list_any (λ name. is_absent variables name) table.variables || is_absent variables table.response
 
 -- a numeric variable spans a table
 abbrev pub has_numeric : List Variable → TableLine → Bool
 has_numeric variables table = list_any (λ name. is_numeric variables name) table.variables
 
--- a table names no such variable; or all are there and a numeric one spans it; or none does and its response isn't numeric
+-- a table names no such variable; or all are there and a numeric one spans it; or none does and its response isn't
+-- numeric
 abbrev pub IsFirstKind : List Variable → TableLine → JobWhy → Type 0
 IsFirstKind variables table why =
     ((why ≡ NoSuchVariable) × (lacks_variable variables table ≡ true))
     ⊎ ((why ≡ NotSpanning) × (lacks_variable variables table ≡ false) × (has_numeric variables table ≡ true))
-    ⊎ ((why ≡ NotNumeric) × (lacks_variable variables table ≡ false) × (has_numeric variables table ≡ false) × (is_numeric variables table.response ≡ false))
+    ⊎ ((why ≡ NotNumeric) × (lacks_variable variables table ≡ false) × (has_numeric variables table ≡ false)
+    × (is_numeric variables table.response ≡ false))
 
 -- Of a table's line the first kind of fault is given, in this order.
 abbrev pub GivesFirstKind : Type 0
-GivesFirstKind = (variables : List Variable) (table : TableLine) (why : JobWhy) → table_fault variables table ≡ Some why → IsFirstKind variables table why
+GivesFirstKind =
+    (variables : List Variable) (table : TableLine) (why : JobWhy) → table_fault variables table ≡ Some why
+    → IsFirstKind variables table why

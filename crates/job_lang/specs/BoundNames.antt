@@ -15,25 +15,31 @@ IsNamedAt variables place name = (v : Variable) × (slice_get variables place �
 
 -- the variable at this place of those that span tables has this name
 abbrev pub IsSpannedAt : List Variable → List ℕ → ℕ → List ℕ → Type 0
-IsSpannedAt variables spanning k name = (place : ℕ) × (slice_get spanning k ≡ Some place) × IsNamedAt variables place name
+IsSpannedAt variables spanning k name =
+    (place : ℕ) × (slice_get spanning k ≡ Some place) × IsNamedAt variables place name
 
 -- these places are, one by one, those of the variables with these names
 abbrev pub AreNamedAt : List Variable → List ℕ → List ℕ → List (List ℕ) → Type 0
 AreNamedAt variables spanning [] [] = Unit {0}
-AreNamedAt variables spanning (k ∷ places) (name ∷ names) = IsSpannedAt variables spanning k name × AreNamedAt variables spanning places names
+AreNamedAt variables spanning (k ∷ places) (name ∷ names) = IsSpannedAt variables spanning k name
+    × AreNamedAt variables spanning places names
 AreNamedAt variables spanning places names = true ≡ false
 
 -- each table has the places of the variables that its line names, in the line's order
 abbrev pub HaveNamesAt : List Variable → List ℕ → List (List ℕ) → List TableLine → Type 0
 HaveNamesAt variables spanning [] [] = Unit {0}
-HaveNamesAt variables spanning (places ∷ rest) (table ∷ tables) = AreNamedAt variables spanning places table.variables × HaveNamesAt variables spanning rest tables
+HaveNamesAt variables spanning (places ∷ rest) (table ∷ tables) = AreNamedAt variables spanning places table.variables
+    × HaveNamesAt variables spanning rest tables
 HaveNamesAt variables spanning rest tables = true ≡ false
 
--- The places of a bound job are those of the variables that its lines name. Not: the first variable where a name is none's.
+-- The places of a bound job are those of the variables that its lines name. Not: the first variable where a name is
+-- none's.
 pub record PlacesHaveNames (job : Job) (variables : List Variable) (bound : Bound) : Type 0 where
   pub tables : HaveNamesAt variables bound.spanning bound.tables job.tables
   pub response : AllByRecursion (λ table. IsNamedAt variables bound.response table.response) job.tables
 
 -- At the places of each job that is bound stand the variables that the job names, for every table.
 abbrev pub BoundAsNamed : Type 0
-BoundAsNamed = (job : Job) (meta : Meta) (bound : Bound) → AreTables job.tables → bound_of job meta ≡ Ok bound → PlacesHaveNames job meta.variables bound
+BoundAsNamed =
+    (job : Job) (meta : Meta) (bound : Bound) → AreTables job.tables → bound_of job meta ≡ Ok bound
+    → PlacesHaveNames job meta.variables bound

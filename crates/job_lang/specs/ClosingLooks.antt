@@ -47,15 +47,15 @@ puts name (said.Certificate file) = bytes_eq file name
 puts name one = false
 
 -- a file of this name is read
-abbrev pub reads : List ℕ → Said → Bool
-reads name (said.Microdata file) = bytes_eq file name
-reads name (said.Metadata file) = bytes_eq file name
-reads name (said.Prior file number separator) = bytes_eq file name
-reads name one = false
+abbrev pub is_read_file : List ℕ → Said → Bool
+is_read_file name (said.Microdata file) = bytes_eq file name
+is_read_file name (said.Metadata file) = bytes_eq file name
+is_read_file name (said.Prior file number separator) = bytes_eq file name
+is_read_file name one = false
 
 -- two files of this name are put, or one is read
 abbrev pub is_shared : List ℕ → List Statement → Bool
-is_shared name all = nat_lt 1 (count_by (λ s. puts name s.said) all) || list_any (λ s. reads name s.said) all
+is_shared name all = nat_lt 1 (count_by (λ s. puts name s.said) all) || list_any (λ s. is_read_file name s.said) all
 
 -- a file is put whose name another one has
 abbrev pub is_meeting : List Statement → Said → Bool
@@ -151,7 +151,8 @@ table_place number = unwrap_or (number_in 1 8 number) 1 - 1
 
 -- an a priori file with its line
 abbrev pub prior_in : ℕ → Said → List PriorLine
-prior_in line (said.Prior file number separator) = record { line = line; file = file; table = table_place number; separator = separator } ∷ []
+prior_in line (said.Prior file number separator) = record
+    { line = line; file = file; table = table_place number; separator = separator } ∷ []
 prior_in line one = []
 
 -- the a priori files in the order of their lines
@@ -162,12 +163,12 @@ priors_in (s ∷ rest) = prior_in s.line s.said ++ priors_in rest
 -- ---- commands that are missing
 
 -- a job must have this command
-abbrev pub needed : {A : Type 0} → Command → Option A → Result A (ℕ × JobWhy)
-needed which found = or_fault (0, Missing which) found
+abbrev pub needed_value : {A : Type 0} → Command → Option A → Result A (ℕ × JobWhy)
+needed_value which found = or_fault (0, Missing which) found
 
 -- the output of the table at this place, which must have one
 abbrev pub output_of_table : ℕ → List Statement → Result OutputLine (ℕ × JobWhy)
-output_of_table place all = needed command.WriteTable (file_line (output_said place all))
+output_of_table place all = needed_value command.WriteTable (file_line (output_said place all))
 
 -- the outputs of so many tables from this place on
 unfoldable pub outputs_from : ℕ → ℕ → List Statement → Result (List OutputLine) (ℕ × JobWhy)

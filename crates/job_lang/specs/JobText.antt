@@ -1,6 +1,6 @@
 -- The canonical text of a job: a line for each command, in the order of the table of commands (own).
 use Rattle.std.specs.Prelude.{ℕ, ◌+◌, List, [], ◌∷◌, ◌++◌, length, map}
-use Rattle.sdc_base.specs.Lines.{joined}
+use Rattle.sdc_base.specs.Lines.{text_of_lines}
 use Rattle.job_lang.specs.declared.job.Job.{Job}
 use Rattle.job_lang.specs.declared.job.OutputLine.{OutputLine}
 use Rattle.job_lang.specs.declared.job.PriorLine.{PriorLine}
@@ -29,12 +29,13 @@ abbrev pub job_says : Job → List Said
 job_says job =
     said.Microdata job.micro ∷ said.Metadata job.meta ∷ map table_said job.tables
     ++ (said.Safety job.rules ∷ said.Read ∷ map prior_said job.priors
-    ++ (said.Cost job.cost ∷ said.Steps job.steps ∷ said.Nodes job.nodes ∷ said.Suppress job.method ∷ outputs_said 0 job.outputs
+    ++ (said.Cost job.cost ∷ said.Steps job.steps ∷ said.Nodes job.nodes ∷ said.Suppress job.method
+    ∷ outputs_said 0 job.outputs
     ++ said.Certificate job.certificate ∷ []))
 
 -- the canonical text of a job: its lines, each ended by LF
 abbrev pub job_text : Job → List ℕ
-job_text job = joined (map said_line (job_says job))
+job_text job = text_of_lines (map said_line (job_says job))
 
 -- ---- the lines of that text
 

@@ -8,19 +8,20 @@ use Rattle.job_lang.specs.declared.faults.Command.TheVariants as command
 use Rattle.job_lang.specs.declared.job.Job.{Job}
 use Rattle.job_lang.specs.declared.statement.Keyword.TheVariants as keyword
 use Rattle.job_lang.specs.declared.statement.Draft.{Draft}
-use Rattle.job_lang.specs.Statements.{lines_say, nothing}
-use Rattle.job_lang.specs.ClosingLooks.{no_stray, no_same_name, said_by, file_line, rules_line, method_of, cost_of, work_of, usual_steps, usual_nodes, priors_in, needed, outputs_from}
+use Rattle.job_lang.specs.Statements.{lines_say, empty_draft}
+use Rattle.job_lang.specs.ClosingLooks.{no_stray, no_same_name, said_by, file_line, rules_line, method_of, cost_of, work_of, usual_steps, usual_nodes, priors_in, needed_value, outputs_from}
 
--- The job of all that was said: each command that must be there, in the order of the table, and the others with their defaults.
+-- The job of all that was said: each command that must be there, in the order of the table, and the others with their
+-- defaults.
 unfoldable pub job_made : Draft → Result Job (ℕ × JobWhy)
 job_made draft = do
-  micro ← needed command.OpenMicrodata (file_line (said_by keyword.OpenMicrodata draft.said))
-  meta ← needed command.OpenMetadata (file_line (said_by keyword.OpenMetadata draft.said))
+  micro ← needed_value command.OpenMicrodata (file_line (said_by keyword.OpenMicrodata draft.said))
+  meta ← needed_value command.OpenMetadata (file_line (said_by keyword.OpenMetadata draft.said))
   some ← refuse (0, Missing command.SpecifyTable) (length draft.tables == 0)
-  rules ← needed command.SafetyRule (rules_line (said_by keyword.SafetyRule draft.said))
-  method ← needed command.Suppress (method_of (said_by keyword.Suppress draft.said))
+  rules ← needed_value command.SafetyRule (rules_line (said_by keyword.SafetyRule draft.said))
+  method ← needed_value command.Suppress (method_of (said_by keyword.Suppress draft.said))
   outputs ← outputs_from (length draft.tables) 0 draft.said
-  certificate ← needed command.Certificate (file_line (said_by keyword.Certificate draft.said))
+  certificate ← needed_value command.Certificate (file_line (said_by keyword.Certificate draft.said))
   Ok (record {
     micro = micro.file;
     meta = meta.file;
@@ -47,5 +48,5 @@ closed_job draft = do
 -- the job that a text states, or its first fault with its line
 unfoldable pub job_of : List ℕ → Result Job (ℕ × JobWhy)
 job_of bytes = do
-  draft ← lines_say 0 nothing (lines bytes)
+  draft ← lines_say 0 empty_draft (lines bytes)
   closed_job draft

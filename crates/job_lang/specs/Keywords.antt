@@ -48,7 +48,8 @@ same_keyword a b = place_of a == place_of b
 abbrev pub is_close : ℕ → Bool
 is_close b = b == 62
 
--- The word between < and the first >, and what stands behind it. A line without such a word is bad; blanks inside belong to the word.
+-- The word between < and the first >, and what stands behind it. A line without such a word is bad; blanks inside
+-- belong to the word.
 unfoldable pub word_in : List ℕ → Result (List ℕ × List ℕ) JobWhy
 word_in [] = Err BadLine
 word_in (b ∷ text) = do

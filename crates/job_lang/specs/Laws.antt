@@ -19,7 +19,7 @@ use Rattle.job_lang.specs.declared.bound.Bound.{Bound}
 use Rattle.job_lang.specs.declared.statement.Keyword.TheVariants as keyword
 use Rattle.job_lang.specs.declared.statement.Statement.{Statement}
 use Rattle.job_lang.specs.declared.statement.Draft.{Draft}
-use Rattle.job_lang.specs.Statements.{text_says, lines_say, nothing}
+use Rattle.job_lang.specs.Statements.{text_says, lines_say, empty_draft}
 use Rattle.job_lang.specs.ClosingLooks.{is_astray, is_meeting, said_by, file_line, rules_line, method_of, output_said}
 use Rattle.job_lang.specs.Jobs.{job_of}
 use Rattle.job_lang.specs.BoundLimits.{AreVariables}
@@ -31,7 +31,7 @@ use Rattle.job_lang.specs.Binding.{is_spanning, bound_of}
 abbrev pub IsLineFault : List (List ℕ) → ℕ → JobWhy → Type 0
 IsLineFault texts line why =
     (before : ℕ) × (draft : Draft) × (text : List ℕ) × (line ≡ before + 1) × (slice_get texts before ≡ Some text)
-    × (lines_say 0 nothing (take before texts) ≡ Ok draft) × (text_says line draft (trim text) ≡ Err why)
+    × (lines_say 0 empty_draft (take before texts) ≡ Ok draft) × (text_says line draft (trim text) ≡ Err why)
 
 -- an output of one of so many tables lacks, from this place on
 abbrev pub lacks_output : ℕ → ℕ → List Statement → Bool
@@ -39,40 +39,48 @@ lacks_output zero place said = false
 lacks_output (suc more) place said = is_none (file_line (output_said place said)) || lacks_output more (place + 1) said
 
 -- what was said lacks this command, or for outputs one of a table
-abbrev pub lacks : Draft → Command → Bool
-lacks draft command.OpenMicrodata = is_none (file_line (said_by keyword.OpenMicrodata draft.said))
-lacks draft command.OpenMetadata = is_none (file_line (said_by keyword.OpenMetadata draft.said))
-lacks draft command.SpecifyTable = length draft.tables == 0
-lacks draft command.SafetyRule = is_none (rules_line (said_by keyword.SafetyRule draft.said))
-lacks draft command.Suppress = is_none (method_of (said_by keyword.Suppress draft.said))
-lacks draft command.WriteTable = lacks_output (length draft.tables) 0 draft.said
-lacks draft command.Certificate = is_none (file_line (said_by keyword.Certificate draft.said))
+abbrev pub lacks_command : Draft → Command → Bool
+lacks_command draft command.OpenMicrodata = is_none (file_line (said_by keyword.OpenMicrodata draft.said))
+lacks_command draft command.OpenMetadata = is_none (file_line (said_by keyword.OpenMetadata draft.said))
+lacks_command draft command.SpecifyTable = length draft.tables == 0
+lacks_command draft command.SafetyRule = is_none (rules_line (said_by keyword.SafetyRule draft.said))
+lacks_command draft command.Suppress = is_none (method_of (said_by keyword.Suppress draft.said))
+lacks_command draft command.WriteTable = lacks_output (length draft.tables) 0 draft.said
+lacks_command draft command.Certificate = is_none (file_line (said_by keyword.Certificate draft.said))
 
 -- the commands that a job must have, in their order
 abbrev pub must_have : List Command
-must_have = command.OpenMicrodata ∷ command.OpenMetadata ∷ command.SpecifyTable ∷ command.SafetyRule ∷ command.Suppress ∷ command.WriteTable ∷ command.Certificate ∷ []
+must_have =
+    command.OpenMicrodata ∷ command.OpenMetadata ∷ command.SpecifyTable ∷ command.SafetyRule ∷ command.Suppress
+    ∷ command.WriteTable ∷ command.Certificate ∷ []
 
 -- No line has a fault, and this is the first that names no table.
 abbrev pub IsFirstStray : Draft → ℕ → JobWhy → Type 0
-IsFirstStray draft line why = (s : Statement) × (find (λ s. is_astray (length draft.tables) s.said) draft.said ≡ Some s) × (line ≡ s.line) × (why ≡ NoSuchTable)
+IsFirstStray draft line why =
+    (s : Statement) × (find (λ s. is_astray (length draft.tables) s.said) draft.said ≡ Some s) × (line ≡ s.line)
+    × (why ≡ NoSuchTable)
 
 -- Every line that names a table names one of the job's, and this is the first that puts a file whose name another has.
 abbrev pub IsFirstMeeting : Draft → ℕ → JobWhy → Type 0
 IsFirstMeeting draft line why =
-    (s : Statement) × (list_any (λ s. is_astray (length draft.tables) s.said) draft.said ≡ false) × (find (λ s. is_meeting draft.said s.said) draft.said ≡ Some s) × (line ≡ s.line) × (why ≡ SameName)
+    (s : Statement) × (list_any (λ s. is_astray (length draft.tables) s.said) draft.said ≡ false)
+    × (find (λ s. is_meeting draft.said s.said) draft.said ≡ Some s) × (line ≡ s.line) × (why ≡ SameName)
 
 -- Neither is so, and this is the first command that lacks; the line is 0.
 abbrev pub IsFirstLack : Draft → ℕ → JobWhy → Type 0
 IsFirstLack draft line why =
-    (which : Command) × (list_any (λ s. is_astray (length draft.tables) s.said) draft.said ≡ false) × (list_any (λ s. is_meeting draft.said s.said) draft.said ≡ false)
-    × (find (lacks draft) must_have ≡ Some which) × (line ≡ 0) × (why ≡ Missing which)
+    (which : Command) × (list_any (λ s. is_astray (length draft.tables) s.said) draft.said ≡ false)
+    × (list_any (λ s. is_meeting draft.said s.said) draft.said ≡ false)
+    × (find (lacks_command draft) must_have ≡ Some which) × (line ≡ 0) × (why ≡ Missing which)
 
--- The fault that is given is that of the first line that has one; else the first number of no table, the first name that
--- meets another, and the first command that lacks, in this order.
+-- The fault that is given is that of the first line that has one; else the first number of no table, the first name
+-- that meets another, and the first command that lacks, in this order.
 abbrev pub IsInOrder : Type 0
 IsInOrder =
     (bytes : List ℕ) (line : ℕ) (why : JobWhy) → job_of bytes ≡ Err (line, why)
-    → IsLineFault (lines bytes) line why ⊎ ((draft : Draft) × (lines_say 0 nothing (lines bytes) ≡ Ok draft) × (IsFirstStray draft line why ⊎ IsFirstMeeting draft line why ⊎ IsFirstLack draft line why))
+    → IsLineFault (lines bytes) line why
+    ⊎ ((draft : Draft) × (lines_say 0 empty_draft (lines bytes) ≡ Ok draft)
+    × (IsFirstStray draft line why ⊎ IsFirstMeeting draft line why ⊎ IsFirstLack draft line why))
 
 -- ---- names of files
 
@@ -89,7 +97,8 @@ tree_named other = []
 -- the files that the metadata name for variables that span tables
 abbrev pub files_of : List TableLine → List Variable → List (List ℕ)
 files_of tables [] = []
-files_of tables (v ∷ variables) = (if is_spanning tables v.name then codes_named v.codes ++ tree_named v.shape else []) ++ files_of tables variables
+files_of tables (v ∷ variables) = (if is_spanning tables v.name then codes_named v.codes ++ tree_named v.shape else [])
+    ++ files_of tables variables
 
 -- the files that a job puts
 abbrev pub puts_of : Job → List (List ℕ)
@@ -101,11 +110,15 @@ reads_of job = job.micro ∷ job.meta ∷ map (λ p. p.file) job.priors
 
 -- No file that a job puts is one that it reads.
 abbrev pub PutsAreNotRead : Type 0
-PutsAreNotRead = (bytes : List ℕ) (job : Job) → job_of bytes ≡ Ok job → AllByRecursion (λ put. AllByRecursion (λ read. put ≢ read) (reads_of job)) (puts_of job)
+PutsAreNotRead =
+    (bytes : List ℕ) (job : Job) → job_of bytes ≡ Ok job
+    → AllByRecursion (λ put. AllByRecursion (λ read. put ≢ read) (reads_of job)) (puts_of job)
 
 -- No file that a bound job puts is a code list or a hierarchy file that is read for it.
 abbrev pub PutsAreNotNamed : Type 0
-PutsAreNotNamed = (job : Job) (meta : Meta) (bound : Bound) → bound_of job meta ≡ Ok bound → AllByRecursion (λ put. AllByRecursion (λ read. put ≢ read) (files_of job.tables meta.variables)) (puts_of job)
+PutsAreNotNamed =
+    (job : Job) (meta : Meta) (bound : Bound) → bound_of job meta ≡ Ok bound
+    → AllByRecursion (λ put. AllByRecursion (λ read. put ≢ read) (files_of job.tables meta.variables)) (puts_of job)
 
 -- No file that a job puts has the name of another one that it puts.
 abbrev pub PutsDiffer : Type 0

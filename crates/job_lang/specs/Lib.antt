@@ -18,4 +18,4 @@ pub mod BoundNames
 pub mod Meaning
 pub mod Spelling
 pub mod JobText
-pub mod Writable
+pub mod WritableJobs

@@ -35,7 +35,7 @@ behind_mark mark text = do
 unfoldable pub quoted_at : List ℕ → Result (List ℕ × List ℕ) JobWhy
 quoted_at text = do
   inside ← behind_mark 34 text
-  closed ← refuse BadValue (not (list_any is_quote inside))
+  closing_token ← refuse BadValue (not (list_any is_quote inside))
   Ok (before_first is_quote inside, after_first is_quote inside)
 
 -- the run that is the next token, without a byte where that is none
@@ -63,11 +63,11 @@ digits_at text = do
   Ok (without_zeros (run_of text), behind_run text)
 
 -- there is no further token
-unfoldable pub ended : List ℕ → Result (Unit {0}) JobWhy
-ended text = refuse BadValue (not (length (trim text) == 0))
+unfoldable pub end_of_tokens : List ℕ → Result (Unit {0}) JobWhy
+end_of_tokens text = refuse BadValue (not (length (trim text) == 0))
 
 -- a ) is the last token
-unfoldable pub closed : List ℕ → Result (Unit {0}) JobWhy
-closed text = do
+unfoldable pub closing_token : List ℕ → Result (Unit {0}) JobWhy
+closing_token text = do
   behind ← behind_mark 41 text
-  ended behind
+  end_of_tokens behind

@@ -32,13 +32,13 @@ said_at line (Ok one) = record { line = line; said = one } ∷ []
 said_at line (Err why) = []
 
 -- what a line states, unless it is passed over
-abbrev pub stated : ℕ → List ℕ → List Statement
-stated line text = if is_passed_over text then [] else said_at line (line_says text)
+abbrev pub statements_of_line : ℕ → List ℕ → List Statement
+statements_of_line line text = if is_passed_over text then [] else said_at line (line_says text)
 
 -- what all lines state, behind so many others
 abbrev pub stated_in : ℕ → List (List ℕ) → List Statement
 stated_in before [] = []
-stated_in before (text ∷ texts) = stated (before + 1) (trim text) ++ stated_in (before + 1) texts
+stated_in before (text ∷ texts) = statements_of_line (before + 1) (trim text) ++ stated_in (before + 1) texts
 
 -- a table, where one is stated
 abbrev pub table_in : ℕ → Said → List TableLine
@@ -76,20 +76,24 @@ IsStatedOnce word all one = (line : ℕ) × (by_command word all ≡ record { li
 abbrev pub IsStatedOrElse : Keyword → List Statement → Said → Type 0 → Type 0
 IsStatedOrElse word all one Usual = IsStatedOnce word all one ⊎ ((by_command word all ≡ []) × Usual)
 
--- A job has its tables in the order of their lines. Each other part is what exactly one line states, or the default where no
--- line states it; the a priori files are those of all lines; and each table's output is that of the first line with its number.
+-- A job has its tables in the order of their lines. Each other part is what exactly one line states, or the default
+-- where no line states it; the a priori files are those of all lines; and each table's output is that of the first line
+-- with its number.
 pub record IsMeant (bytes : List ℕ) (job : Job) : Type 0 where
   pub tables : job.tables ≡ tables_among (stated_in 0 (lines bytes))
   pub micro : IsStatedOnce keyword.OpenMicrodata (others_in bytes) (said.Microdata job.micro)
   pub meta : IsStatedOnce keyword.OpenMetadata (others_in bytes) (said.Metadata job.meta)
-  pub rules : by_command keyword.SafetyRule (others_in bytes) ≡ record { line = job.rules_line; said = said.Safety job.rules } ∷ []
+  pub rules : by_command keyword.SafetyRule (others_in bytes)
+      ≡ record { line = job.rules_line; said = said.Safety job.rules } ∷ []
   pub method : IsStatedOnce keyword.Suppress (others_in bytes) (said.Suppress job.method)
-  pub certificate : by_command keyword.Certificate (others_in bytes) ≡ record { line = job.certificate_line; said = said.Certificate job.certificate } ∷ []
+  pub certificate : by_command keyword.Certificate (others_in bytes)
+      ≡ record { line = job.certificate_line; said = said.Certificate job.certificate } ∷ []
   pub cost : IsStatedOrElse keyword.Cost (others_in bytes) (said.Cost job.cost) (job.cost ≡ Value)
   pub steps : IsStatedOrElse keyword.Steps (others_in bytes) (said.Steps job.steps) (job.steps ≡ 100000)
   pub nodes : IsStatedOrElse keyword.Nodes (others_in bytes) (said.Nodes job.nodes) (job.nodes ≡ 1000000)
   pub priors : job.priors ≡ priors_in (others_in bytes)
-  pub outputs : (place : ℕ) → place < length job.tables → file_line (output_said place (others_in bytes)) ≡ slice_get job.outputs place
+  pub outputs : (place : ℕ) → place < length job.tables
+      → file_line (output_said place (others_in bytes)) ≡ slice_get job.outputs place
 
 -- Each job that is read is what its lines state.
 abbrev pub JobsAreMeant : Type 0

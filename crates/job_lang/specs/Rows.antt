@@ -1,7 +1,7 @@
 -- Worked jobs and what they say (own).
 use Rattle.std.specs.Prelude.{◌≡◌, ℕ, Bool, true, false, codes, List, [], ◌∷◌, Option, None, Some, Ok, Err}
 use Rattle.cost_rule.specs.declared.kind.CostKind.TheVariants as kind
-use Rattle.sdc_base.specs.Lines.{joined}
+use Rattle.sdc_base.specs.Lines.{text_of_lines}
 use Rattle.sdc_base.specs.declared.method.Method.TheVariants as method
 use Rattle.sdc_base.specs.declared.rule.Rule.TheVariants as rule
 use Rattle.rda_meta.specs.declared.meta.Shape.TheVariants as shape
@@ -33,8 +33,9 @@ flat_job = record {
 -- the eight lines of that job
 abbrev pub EightLines : Type 0
 EightLines =
-    job_of (joined (
-    codes "<OPENMICRODATA> \"m.asc\"" ∷ codes "<OPENMETADATA> \"m.rda\"" ∷ codes "<SPECIFYTABLE> \"A\"|\"V\"" ∷ codes "<SAFETYRULE> FREQ(3,30)" ∷ codes "<READMICRODATA>"
+    job_of (text_of_lines (
+    codes "<OPENMICRODATA> \"m.asc\"" ∷ codes "<OPENMETADATA> \"m.rda\"" ∷ codes "<SPECIFYTABLE> \"A\"|\"V\""
+    ∷ codes "<SAFETYRULE> FREQ(3,30)" ∷ codes "<READMICRODATA>"
     ∷ codes "<SUPPRESS> MOD()" ∷ codes "<WRITETABLE> (1,\"t.csv\")" ∷ codes "<CERTIFICATE> \"t.cert\"" ∷ []))
     ≡ Ok flat_job
 
@@ -43,7 +44,8 @@ abbrev pub full_job : Job
 full_job = record {
   micro = codes "m.asc";
   meta = codes "m.rda";
-  tables = record { line = 3; variables = codes "A" ∷ codes "B" ∷ []; response = codes "V" } ∷ record { line = 4; variables = codes "B" ∷ []; response = codes "V" } ∷ [];
+  tables = record { line = 3; variables = codes "A" ∷ codes "B" ∷ []; response = codes "V" }
+      ∷ record { line = 4; variables = codes "B" ∷ []; response = codes "V" } ∷ [];
   rules = record { list = rule.Freq 3 30 ∷ rule.Nk 1 75 ∷ rule.Percent 10 ∷ []; man = 0; weighted = true };
   rules_line = 5;
   priors = record { line = 7; file = codes "p.hst"; table = 1; separator = 59 } ∷ [];
@@ -60,10 +62,13 @@ full_job = record {
 abbrev pub FullText : Type 0
 FullText =
     job_text full_job
-    ≡ joined (
-    codes "<OPENMICRODATA> \"m.asc\"" ∷ codes "<OPENMETADATA> \"m.rda\"" ∷ codes "<SPECIFYTABLE> \"A\"\"B\"|\"V\"" ∷ codes "<SPECIFYTABLE> \"B\"|\"V\""
-    ∷ codes "<SAFETYRULE> FREQ(3,30)|NK(1,75)|P(10)|MAN(0)|WGT(1)" ∷ codes "<READMICRODATA>" ∷ codes "<APRIORI> \"p.hst\",2,\";\"" ∷ codes "<COST> FREQ" ∷ codes "<STEPS> 50"
-    ∷ codes "<NODES> 7" ∷ codes "<SUPPRESS> GH(2)" ∷ codes "<WRITETABLE> (1,\"ab.csv\")" ∷ codes "<WRITETABLE> (2,\"b.csv\")" ∷ codes "<CERTIFICATE> \"t.cert\"" ∷ [])
+    ≡ text_of_lines (
+    codes "<OPENMICRODATA> \"m.asc\"" ∷ codes "<OPENMETADATA> \"m.rda\"" ∷ codes "<SPECIFYTABLE> \"A\"\"B\"|\"V\""
+    ∷ codes "<SPECIFYTABLE> \"B\"|\"V\""
+    ∷ codes "<SAFETYRULE> FREQ(3,30)|NK(1,75)|P(10)|MAN(0)|WGT(1)" ∷ codes "<READMICRODATA>"
+    ∷ codes "<APRIORI> \"p.hst\",2,\";\"" ∷ codes "<COST> FREQ" ∷ codes "<STEPS> 50"
+    ∷ codes "<NODES> 7" ∷ codes "<SUPPRESS> GH(2)" ∷ codes "<WRITETABLE> (1,\"ab.csv\")"
+    ∷ codes "<WRITETABLE> (2,\"b.csv\")" ∷ codes "<CERTIFICATE> \"t.cert\"" ∷ [])
 
 -- its lines are those of that text
 abbrev pub FullLines : Type 0
@@ -72,22 +77,42 @@ FullLines = in_text full_job ≡ full_job
 -- An output that is named like the microdata is given before the certificate that is missing.
 abbrev pub NameBeforeMissing : Type 0
 NameBeforeMissing =
-    job_of (joined (
-    codes "<OPENMICRODATA> \"m.asc\"" ∷ codes "// a comment" ∷ [] ∷ codes "<specifytable> \"A\" | \"V\" | \"V\" | \"\" |" ∷ codes "<WRITETABLE> ( 01 , \"m.asc\" )" ∷ []))
+    job_of (text_of_lines (
+    codes "<OPENMICRODATA> \"m.asc\"" ∷ codes "// a comment" ∷ []
+    ∷ codes "<specifytable> \"A\" | \"V\" | \"V\" | \"\" |" ∷ codes "<WRITETABLE> ( 01 , \"m.asc\" )" ∷ []))
     ≡ Err (5, why.SameName)
 
 -- a variable of the metadata of that job
 abbrev pub variable : List ℕ → Bool → ℕ → Option (List ℕ) → Variable
-variable name numeric decimals file = record { name = name; first = 1; width = 1; missing = []; numeric = numeric; weight = false; decimals = decimals; total = codes "Total"; codes = file; shape = shape.Flat }
+variable name numeric decimals file =
+    record {
+      name = name;
+      first = 1;
+      width = 1;
+      missing = [];
+      numeric = numeric;
+      weight = false;
+      decimals = decimals;
+      total = codes "Total";
+      codes = file;
+      shape = shape.Flat;
+    }
 
 -- Bound to metadata with the variable and the response in the other order.
-abbrev pub Bindable : Type 0
-Bindable =
-    bound_of flat_job (record { variables = variable (codes "V") true 2 None ∷ variable (codes "A") false 0 None ∷ []; passed_over = 0 })
+abbrev pub BindsInAnyOrder : Type 0
+BindsInAnyOrder =
+    bound_of flat_job (record {
+      variables = variable (codes "V") true 2 None ∷ variable (codes "A") false 0 None ∷ [];
+      passed_over = 0;
+    })
     ≡ Ok (record { spanning = 1 ∷ []; tables = (0 ∷ []) ∷ []; response = 0; weight = None; decimals = 2; scale = 1 })
 
 -- The certificate is the code list of the variable that spans the table.
 abbrev pub CodeListMet : Type 0
 CodeListMet =
-    bound_of flat_job (record { variables = variable (codes "A") false 0 (Some (codes "t.cert")) ∷ variable (codes "V") true 0 None ∷ []; passed_over = 0 })
+    bound_of flat_job (record {
+      variables = variable (codes "A") false 0 (Some (codes "t.cert"))
+          ∷ variable (codes "V") true 0 None ∷ [];
+      passed_over = 0;
+    })
     ≡ Err (8, why.SameName)

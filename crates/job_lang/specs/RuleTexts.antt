@@ -10,7 +10,7 @@ use Rattle.job_lang.specs.declared.faults.JobWhy.{JobWhy}
 use Rattle.job_lang.specs.declared.faults.JobWhy.TheVariants.{BadValue}
 use Rattle.job_lang.specs.declared.rule_clauses.RuleClause.{RuleClause}
 use Rattle.job_lang.specs.declared.rule_clauses.RuleClause.TheVariants.{Named, Man, Weights}
-use Rattle.job_lang.specs.LineTokens.{is_next, behind_mark, run_of, behind_run, number_at, closed}
+use Rattle.job_lang.specs.LineTokens.{is_next, behind_mark, run_of, behind_run, number_at, closing_token}
 use Rattle.job_lang.specs.Pieces.{pieces}
 
 -- (n) with n in these bounds, and nothing behind it
@@ -18,7 +18,7 @@ unfoldable pub one_number : ℕ → ℕ → List ℕ → Result ℕ JobWhy
 one_number low high text = do
   open_ ← behind_mark 40 text
   number ← number_at low high open_
-  end ← closed number.1
+  end ← closing_token number.1
   Ok number.0
 
 -- FREQ(n,r): n from 1 to 1,000,000, r from 0 to 1,000
@@ -28,7 +28,7 @@ frequency_clause text = do
   n ← number_at 1 1000000 open_
   comma ← behind_mark 44 n.1
   r ← number_at 0 1000 comma
-  end ← closed r.1
+  end ← closing_token r.1
   Ok (Named (Freq n.0 r.0))
 
 -- NK(n,k): n from 1 to 10, k from 1 to 100
@@ -38,7 +38,7 @@ dominance_clause text = do
   n ← number_at 1 10 open_
   comma ← behind_mark 44 n.1
   k ← number_at 1 100 comma
-  end ← closed k.1
+  end ← closing_token k.1
   Ok (Named (Nk n.0 k.0))
 
 -- the 1 that may stand behind the p of P, and the end
@@ -46,11 +46,11 @@ unfoldable pub further_one : List ℕ → Result (Unit {0}) JobWhy
 further_one text = do
   comma ← behind_mark 44 text
   one ← number_at 1 1 comma
-  closed one.1
+  closing_token one.1
 
 -- what stands behind the p of P
 abbrev pub percent_behind : List ℕ → Result (Unit {0}) JobWhy
-percent_behind text = if is_next 44 text then further_one text else closed text
+percent_behind text = if is_next 44 text then further_one text else closing_token text
 
 -- P(p) or P(p,1): p from 1 to 1,000
 unfoldable pub percent_clause : List ℕ → Result RuleClause JobWhy
@@ -116,7 +116,8 @@ is_weights clause = false
 abbrev pub are_rules : List RuleClause → Bool
 are_rules clauses =
     nat_lt 0 (length (named_in clauses)) && nat_lt (length (named_in clauses)) 9
-    && nat_lt (count_by is_frequency clauses) 2 && nat_lt (count_by is_man clauses) 2 && nat_lt (count_by is_weights clauses) 2
+    && nat_lt (count_by is_frequency clauses) 2 && nat_lt (count_by is_man clauses) 2
+    && nat_lt (count_by is_weights clauses) 2
 
 -- the level of cells that are declared unsafe, 20 percent where no rule says so
 abbrev pub man_of : List RuleClause → ℕ

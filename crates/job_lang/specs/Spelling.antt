@@ -33,23 +33,23 @@ word_of WriteTable = codes "WRITETABLE"
 word_of Certificate = codes "CERTIFICATE"
 
 -- a name between double quotes
-abbrev pub quoted : List ℕ → List ℕ
-quoted name = 34 ∷ name ++ 34 ∷ []
+abbrev pub quoted_name : List ℕ → List ℕ
+quoted_name name = 34 ∷ name ++ 34 ∷ []
 
 -- names between double quotes, one right behind the other
 abbrev pub quoted_each : List (List ℕ) → List ℕ
 quoted_each [] = []
-quoted_each (name ∷ names) = quoted name ++ quoted_each names
+quoted_each (name ∷ names) = quoted_name name ++ quoted_each names
 
 -- texts with a bar between each two
-abbrev pub barred : List (List ℕ) → List ℕ
-barred [] = []
-barred (text ∷ []) = text
-barred (text ∷ next ∷ texts) = text ++ 124 ∷ barred (next ∷ texts)
+abbrev pub texts_between_bars : List (List ℕ) → List ℕ
+texts_between_bars [] = []
+texts_between_bars (text ∷ []) = text
+texts_between_bars (text ∷ next ∷ texts) = text ++ 124 ∷ texts_between_bars (next ∷ texts)
 
 -- a number between parentheses
-abbrev pub enclosed : List ℕ → List ℕ
-enclosed number = 40 ∷ number ++ 41 ∷ []
+abbrev pub number_in_parentheses : List ℕ → List ℕ
+number_in_parentheses number = 40 ∷ number ++ 41 ∷ []
 
 -- two numbers between parentheses
 abbrev pub enclosed_both : List ℕ → List ℕ → List ℕ
@@ -65,10 +65,10 @@ table_number place = decimal (place + 1)
 abbrev pub clause_text : RuleClause → List ℕ
 clause_text (Named (Freq n r)) = codes "FREQ" ++ enclosed_both (decimal n) (decimal r)
 clause_text (Named (Nk n k)) = codes "NK" ++ enclosed_both (decimal n) (decimal k)
-clause_text (Named (Percent p)) = codes "P" ++ enclosed (decimal p)
-clause_text (Man r) = codes "MAN" ++ enclosed (decimal r)
-clause_text (Weights false) = codes "WGT" ++ enclosed (decimal 0)
-clause_text (Weights true) = codes "WGT" ++ enclosed (decimal 1)
+clause_text (Named (Percent p)) = codes "P" ++ number_in_parentheses (decimal p)
+clause_text (Man r) = codes "MAN" ++ number_in_parentheses (decimal r)
+clause_text (Weights false) = codes "WGT" ++ number_in_parentheses (decimal 0)
+clause_text (Weights true) = codes "WGT" ++ number_in_parentheses (decimal 1)
 
 -- the rules of a job, and behind them MAN and WGT
 abbrev pub clauses_of : Rules → List RuleClause
@@ -76,7 +76,7 @@ clauses_of rules = map Named rules.list ++ Man rules.man ∷ Weights rules.weigh
 
 -- rules joined by bars
 abbrev pub rules_text : Rules → List ℕ
-rules_text rules = barred (map clause_text (clauses_of rules))
+rules_text rules = texts_between_bars (map clause_text (clauses_of rules))
 
 -- a kind of cost
 abbrev pub cost_text : CostKind → List ℕ
@@ -86,24 +86,25 @@ cost_text kind.One = codes "UNIT"
 
 -- how tables are protected
 abbrev pub method_text : Method → List ℕ
-method_text (Gh n) = codes "GH" ++ enclosed (decimal n)
+method_text (Gh n) = codes "GH" ++ number_in_parentheses (decimal n)
 method_text Modular = codes "MOD()"
-method_text (Rnd base) = codes "RND" ++ enclosed (signed_decimal base)
+method_text (Rnd base) = codes "RND" ++ number_in_parentheses (signed_decimal base)
 
 -- the argument by which it is said, behind a space where there is one
 abbrev pub argument_text : Said → List ℕ
-argument_text (said.Microdata name) = 32 ∷ quoted name
-argument_text (said.Metadata name) = 32 ∷ quoted name
-argument_text (said.Table variables response) = 32 ∷ quoted_each variables ++ 124 ∷ quoted response
+argument_text (said.Microdata name) = 32 ∷ quoted_name name
+argument_text (said.Metadata name) = 32 ∷ quoted_name name
+argument_text (said.Table variables response) = 32 ∷ quoted_each variables ++ 124 ∷ quoted_name response
 argument_text (said.Safety rules) = 32 ∷ rules_text rules
 argument_text said.Read = []
-argument_text (said.Prior file number separator) = 32 ∷ quoted file ++ (44 ∷ number ++ 44 ∷ quoted (separator ∷ []))
+argument_text (said.Prior file number separator) = 32 ∷ quoted_name file
+    ++ (44 ∷ number ++ 44 ∷ quoted_name (separator ∷ []))
 argument_text (said.Cost cost) = 32 ∷ cost_text cost
 argument_text (said.Steps steps) = 32 ∷ decimal steps
 argument_text (said.Nodes nodes) = 32 ∷ decimal nodes
 argument_text (said.Suppress method) = 32 ∷ method_text method
-argument_text (said.Output number file) = 32 ∷ 40 ∷ number ++ (44 ∷ quoted file ++ 41 ∷ [])
-argument_text (said.Certificate name) = 32 ∷ quoted name
+argument_text (said.Output number file) = 32 ∷ 40 ∷ number ++ (44 ∷ quoted_name file ++ 41 ∷ [])
+argument_text (said.Certificate name) = 32 ∷ quoted_name name
 
 -- the line by which it is said
 abbrev pub said_line : Said → List ℕ

@@ -47,7 +47,8 @@ abbrev pub is_output_of : List ℕ → Said → Bool
 is_output_of number (said.Output other file) = bytes_eq other number
 is_output_of number one = false
 
--- It is said before: an a priori file or an output for the same table, all else by the same command. Tables are no repetition.
+-- It is said before: an a priori file or an output for the same table, all else by the same command. Tables are no
+-- repetition.
 abbrev pub is_again : Said → List Statement → Bool
 is_again (said.Table variables response) before = false
 is_again (said.Prior file number separator) before = list_any (λ s. is_prior_of number s.said) before
@@ -58,10 +59,11 @@ is_again one before = list_any (λ s. is_by (command_of one) s.said) before
 abbrev pub names_in : List TableLine → List (List ℕ)
 names_in tables = flat_map (λ t. t.variables) tables
 
--- With this table there are more than 8 tables, or more than 8 different variables in all. Not: variables counted as often
--- as they stand.
+-- With this table there are more than 8 tables, or more than 8 different variables in all. Not: variables counted as
+-- often as they stand.
 abbrev pub is_past_room : List (List ℕ) → List TableLine → Bool
-is_past_room variables tables = nat_le 8 (length tables) || nat_lt 8 (distinct_count bytes_eq (names_in tables ++ variables))
+is_past_room variables tables =
+    nat_le 8 (length tables) || nat_lt 8 (distinct_count bytes_eq (names_in tables ++ variables))
 
 -- the first table has another response
 abbrev pub is_other_response : List ℕ → List TableLine → Bool
@@ -92,7 +94,8 @@ is_passed_over [] = true
 is_passed_over (b ∷ []) = false
 is_passed_over (b ∷ c ∷ text) = if b == 47 then c == 47 else false
 
--- A command and its argument, behind what was said. The faults in their order: no word, an unknown one, the argument, again, no room, another response.
+-- A command and its argument, behind what was said. The faults in their order: no word, an unknown one, the argument,
+-- again, no room, another response.
 unfoldable pub command_line : ℕ → Draft → List ℕ → Result Draft JobWhy
 command_line line draft text = do
   word ← word_in text
@@ -112,5 +115,5 @@ lines_say before draft (text ∷ texts) = do
   lines_say (before + 1) next texts
 
 -- before the first line
-abbrev pub nothing : Draft
-nothing = record { tables = []; said = [] }
+abbrev pub empty_draft : Draft
+empty_draft = record { tables = []; said = [] }

@@ -2,7 +2,7 @@ ghost use Rattle.std.specs.Prelude.{◌≡◌, ◌≤◌, ◌<◌, ◌^◌, IfOk
 ghost use Rattle.std.specs.List.{list_any};
 ghost use Rattle.sdc_base.specs.Answers.{Gives};
 ghost use Rattle.job_lang.specs.Faults.{fault_itself, why_of};
-ghost use Rattle.job_lang.specs.Arguments.{file_at as filed, only_file as filed_alone, may_separate as separates, separator_of as separator, prior_argument as prior, output_argument as output, cost_of as costed, cost_argument as cost, work_argument as work, passes_method as passes, modular_method as modular, rounding_method as rounding, method_argument as method, argument_of as argued};
+ghost use Rattle.job_lang.specs.Arguments as spec;
 
 use crate::cursor::{Cursor, at_front};
 use crate::faults::{JobWhy, LineError};
@@ -23,7 +23,7 @@ const MOST_WORK: u64 = 1_000_000_000_000;
 /// What the text behind a command says.
 #[tactic(auto, unfolding(crate::specs::Arguments::argument_of))]
 pub(crate) fn argument_of(alloc: Global, keyword: Keyword, text: &[u8]) -> Result<Said, LineError>
-    ensures { Gives why_of (λ said. said) result (argued keyword text.now) }
+    ensures { Gives why_of (λ said. said) result (spec.argument_of keyword text.now) }
 {
     match keyword {
         Keyword::OpenMicrodata => Ok(Said::Microdata(only_file(alloc, text)?)),
@@ -44,7 +44,7 @@ pub(crate) fn argument_of(alloc: Global, keyword: Keyword, text: &[u8]) -> Resul
 // No token at all.
 #[tactic(auto, unfolding(crate::specs::Arguments::argument_of))]
 fn nothing_more(text: &[u8]) -> Result<Said, LineError>
-    ensures { Gives why_of (λ said. said) result (argued Keyword.ReadMicrodata text.now) }
+    ensures { Gives why_of (λ said. said) result (spec.argument_of Keyword.ReadMicrodata text.now) }
 {
     at_front(text).end()?;
     Ok(Said::Read)
@@ -53,7 +53,7 @@ fn nothing_more(text: &[u8]) -> Result<Said, LineError>
 // The next token, which must be a file name in quotes.
 #[tactic(auto, unfolding(crate::specs::Arguments::file_at))]
 fn file_at<'a>(cursor: &mut Cursor<'a>) -> Result<&'a [u8], JobWhy>
-    ensures { Gives fault_itself (λ file. (file.now, cursor.new)) result (filed cursor.old) }
+    ensures { Gives fault_itself (λ file. (file.now, cursor.new)) result (spec.file_at cursor.old) }
 {
     let name = cursor.quoted()?;
     if !is_file_name(name) {
@@ -65,7 +65,7 @@ fn file_at<'a>(cursor: &mut Cursor<'a>) -> Result<&'a [u8], JobWhy>
 // A file name in quotes, and nothing behind it.
 #[tactic(auto, unfolding(crate::specs::Arguments::only_file))]
 fn only_file(alloc: Global, text: &[u8]) -> Result<Text, LineError>
-    ensures { Gives why_of (λ file. file) result (filed_alone text.now) }
+    ensures { Gives why_of (λ file. file) result (spec.only_file text.now) }
 {
     let mut cursor = at_front(text);
     let file = file_at(&mut cursor)?;
@@ -75,14 +75,14 @@ fn only_file(alloc: Global, text: &[u8]) -> Result<Text, LineError>
 
 // No digit, point, quote, blank or CR.
 fn may_separate(b: u8) -> bool
-    ensures { result ≡ separates b }
+    ensures { result ≡ spec.may_separate b }
 {
     !(b.is_ascii_digit() || b == b'.' || b == b'"' || is_blank_byte(b) || b == b'\r')
 }
 
 // One byte that may separate fields.
 fn separator_of(word: &[u8]) -> Option<u8>
-    ensures { result ≡ separator word.now }
+    ensures { result ≡ spec.separator_of word.now }
 {
     if word.len() != 1 {
         return None;
@@ -94,7 +94,7 @@ fn separator_of(word: &[u8]) -> Option<u8>
 // A file, the number of its table and its separator.
 #[tactic(auto, unfolding(crate::specs::Arguments::prior_argument))]
 fn prior_argument(alloc: Global, text: &[u8]) -> Result<Said, LineError>
-    ensures { Gives why_of (λ said. said) result (prior text.now) }
+    ensures { Gives why_of (λ said. said) result (spec.prior_argument text.now) }
 {
     let mut cursor = at_front(text);
     let file = file_at(&mut cursor)?;
@@ -118,7 +118,7 @@ fn prior_argument(alloc: Global, text: &[u8]) -> Result<Said, LineError>
 // The number of a table and its file.
 #[tactic(auto, unfolding(crate::specs::Arguments::output_argument))]
 fn output_argument(alloc: Global, text: &[u8]) -> Result<Said, LineError>
-    ensures { Gives why_of (λ said. said) result (output text.now) }
+    ensures { Gives why_of (λ said. said) result (spec.output_argument text.now) }
 {
     let mut cursor = at_front(text);
     cursor.mark(b'(')?;
@@ -134,7 +134,7 @@ fn output_argument(alloc: Global, text: &[u8]) -> Result<Said, LineError>
 // The kind of cost of a word, in letters of any case.
 #[tactic(auto, unfolding(crate::specs::Arguments::cost_of))]
 fn cost_of(word: &[u8]) -> Option<CostKind>
-    ensures { result ≡ costed word.now }
+    ensures { result ≡ spec.cost_of word.now }
 {
     if spells(word, b"VALUE") {
         return Some(CostKind::Value);
@@ -151,7 +151,7 @@ fn cost_of(word: &[u8]) -> Option<CostKind>
 // A kind of cost, and nothing behind it.
 #[tactic(auto, unfolding(crate::specs::Arguments::cost_argument))]
 fn cost_argument(text: &[u8]) -> Result<CostKind, JobWhy>
-    ensures { Gives fault_itself (λ cost. cost) result (cost text.now) }
+    ensures { Gives fault_itself (λ one. one) result (spec.cost_argument text.now) }
 {
     let mut cursor = at_front(text);
     let Some(cost) = cost_of(cursor.run()) else {
@@ -164,7 +164,7 @@ fn cost_argument(text: &[u8]) -> Result<CostKind, JobWhy>
 // A number of steps or nodes, and nothing behind it.
 #[tactic(auto, unfolding(crate::specs::Arguments::work_argument))]
 fn work_argument(text: &[u8]) -> Result<u64, JobWhy>
-    ensures { Gives fault_itself (λ number. number) result (work text.now) }
+    ensures { Gives fault_itself (λ number. number) result (spec.work_argument text.now) }
 {
     let mut cursor = at_front(text);
     let number = cursor.number(1, MOST_WORK)?;
@@ -175,7 +175,7 @@ fn work_argument(text: &[u8]) -> Result<u64, JobWhy>
 // The passes of GH.
 #[tactic(auto, unfolding(crate::specs::Arguments::passes_method))]
 fn passes_method(cursor: &mut Cursor) -> Result<Method, JobWhy>
-    ensures { Gives fault_itself (λ method. method) result (passes cursor.old) }
+    ensures { Gives fault_itself (λ one. one) result (spec.passes_method cursor.old) }
 {
     let n = one_number(1, 8, cursor)?;
     Ok(Method::Gh(n as u32))
@@ -184,7 +184,7 @@ fn passes_method(cursor: &mut Cursor) -> Result<Method, JobWhy>
 // The empty parentheses of MOD.
 #[tactic(auto, unfolding(crate::specs::Arguments::modular_method))]
 fn modular_method(cursor: &mut Cursor) -> Result<Method, JobWhy>
-    ensures { Gives fault_itself (λ method. method) result (modular cursor.old) }
+    ensures { Gives fault_itself (λ one. one) result (spec.modular_method cursor.old) }
 {
     cursor.mark(b'(')?;
     cursor.close()?;
@@ -194,7 +194,7 @@ fn modular_method(cursor: &mut Cursor) -> Result<Method, JobWhy>
 // The base of RND.
 #[tactic(auto, unfolding(crate::specs::Arguments::rounding_method))]
 fn rounding_method(cursor: &mut Cursor) -> Result<Method, JobWhy>
-    ensures { Gives fault_itself (λ method. method) result (rounding cursor.old) }
+    ensures { Gives fault_itself (λ one. one) result (spec.rounding_method cursor.old) }
 {
     let base = one_number(1, 1_000_000_000, cursor)?;
     Ok(Method::Rnd(base as i128))
@@ -203,7 +203,7 @@ fn rounding_method(cursor: &mut Cursor) -> Result<Method, JobWhy>
 // How tables are protected, its word in letters of any case.
 #[tactic(auto, unfolding(crate::specs::Arguments::method_argument))]
 fn method_argument(text: &[u8]) -> Result<Method, JobWhy>
-    ensures { Gives fault_itself (λ method. method) result (method text.now) }
+    ensures { Gives fault_itself (λ one. one) result (spec.method_argument text.now) }
 {
     let mut cursor = at_front(text);
     let word = cursor.run();

@@ -6,7 +6,8 @@ ghost use Rattle.sdc_base.specs.Places.{first_place};
 ghost use Rattle.job_lang.specs.Faults.{fault_of};
 ghost use Rattle.job_lang.specs.JobLimits.{AreTables};
 ghost use Rattle.job_lang.specs.BoundLimits.{AreVariables, IsBound};
-ghost use Rattle.job_lang.specs.Binding.{is_named as named, spanning_of as spanning_variables, variable_place as placed, spanning_place as spanned, table_places as table_placed, response_of as response, decimals_of as digits, response_decimals as response_digits, weight_decimals as weight_digits, weight_place as weight_placed, places_of as all_places, bound_of};
+ghost use Rattle.job_lang.specs.Binding.{bound_of};
+ghost use Rattle.job_lang.specs.Binding as spec;
 
 use crate::binding_faults::{earliest_fault, is_named, is_spanning};
 use crate::bound::Bound;
@@ -19,15 +20,15 @@ use std::alloc::Global;
 
 /// The variables of a job as places in the metadata, or the earliest line with a fault and what is wrong with it.
 ///
-/// A table's line is looked at for `NoSuchVariable`, `NotSpanning` and `NotNumeric`, each over all its variables and the
-/// response; the line of the rules for `NoWeight`; the lines of outputs and certificate for `SameName`, where the
+/// A table's line is looked at for `NoSuchVariable`, `NotSpanning` and `NotNumeric`, each over all its variables and
+/// the response; the line of the rules for `NoWeight`; the lines of outputs and certificate for `SameName`, where the
 /// metadata name that file for a variable that spans a table. Names are compared byte for byte. The rules are argus's
 /// own.
 ///
 /// The caller sees to it that the job has a table, all of one response, each of distinct variables and of at most 8 in
-/// all, as each job that was read has; and that the metadata are within their limits, as those that were read are: at most
-/// 64 variables of distinct names, one of them the weight at most, with at most 9 digits behind the point, and a weight
-/// with at most 4. Nothing is changed. Want of memory aside, the answer is the definition's.
+/// all, as each job that was read has; and that the metadata are within their limits, as those that were read are: at
+/// most 64 variables of distinct names, one of them the weight at most, with at most 9 digits behind the point, and a
+/// weight with at most 4. Nothing is changed. Want of memory aside, the answer is the definition's.
 ///
 /// The cost is a look at each variable of the metadata for each name of the job.
 #[tactic(auto, unfolding(crate::specs::Binding::bound_of))]
@@ -47,12 +48,12 @@ pub fn bind(alloc: Global, job: &Job, meta: &Meta) -> Result<Bound, JobError>
 // The variables of a job as places.
 fn places_of(alloc: Global, job: &Job, variables: &[Variable]) -> Result<Bound, Memory>
     requires few { length variables.now ≤ 64 }
-    requires spanning { length (spanning_variables job.now.tables variables.now) ≤ 8 }
+    requires spanning { length (spec.spanning_of job.now.tables variables.now) ≤ 8 }
     requires widths { All (λ t. length t.variables ≤ 8) job.now.tables }
     requires some { 0 < length job.now.tables }
-    requires decimals { response_digits job.now.tables variables.now ≤ 9 }
-    requires weight { weight_digits job.now.rules variables.now ≤ 4 }
-    ensures { IfOk result (λ bound. bound ≡ all_places job.now variables.now) }
+    requires decimals { spec.response_decimals job.now.tables variables.now ≤ 9 }
+    requires weight { spec.weight_decimals job.now.rules variables.now ≤ 4 }
+    ensures { IfOk result (λ bound. bound ≡ spec.places_of job.now variables.now) }
 {
     let tables = job.tables.as_slice();
     let spanning = spanning_of(tables, variables);
@@ -75,8 +76,8 @@ fn places_of(alloc: Global, job: &Job, variables: &[Variable]) -> Result<Bound, 
 // The variables that span tables, in the order of the metadata.
 fn spanning_of(tables: &[TableLine], variables: &[Variable]) -> Place
     requires few { length variables.now ≤ 64 }
-    requires spanning { length (spanning_variables tables.now variables.now) ≤ 8 }
-    ensures { result ≡ spanning_variables tables.now variables.now }
+    requires spanning { length (spec.spanning_of tables.now variables.now) ≤ 8 }
+    ensures { result ≡ spec.spanning_of tables.now variables.now }
 {
     let mut places = ArrayVec::new();
     for (k, variable) in variables.iter().enumerate() {
@@ -90,7 +91,7 @@ fn spanning_of(tables: &[TableLine], variables: &[Variable]) -> Place
 // The place of the variable of this name, and 0 where there is none.
 fn variable_place(variables: &[Variable], name: &Text) -> u32
     requires { length variables.now ≤ 64 }
-    ensures { result ≡ placed variables.now name.now }
+    ensures { result ≡ spec.variable_place variables.now name.now }
 {
     for (k, variable) in variables.iter().enumerate() {
         if is_named(name, variable) {
@@ -104,7 +105,7 @@ fn variable_place(variables: &[Variable], name: &Text) -> u32
 fn spanning_place(spanning: &[u32], variables: &[Variable], name: &Text) -> u32
     requires few { length spanning.now ≤ 8 }
     requires variables { length variables.now ≤ 64 }
-    ensures { result ≡ spanned spanning.now variables.now name.now }
+    ensures { result ≡ spec.spanning_place spanning.now variables.now name.now }
 {
     let place = variable_place(variables, name);
     for (k, other) in spanning.iter().enumerate() {
@@ -120,7 +121,7 @@ fn table_places(spanning: &[u32], variables: &[Variable], names: &[Text]) -> Pla
     requires few { length spanning.now ≤ 8 }
     requires variables { length variables.now ≤ 64 }
     requires names { length names.now ≤ 8 }
-    ensures { result ≡ map (λ name. spanned spanning.now variables.now name) names.now }
+    ensures { result ≡ map (λ name. spec.spanning_place spanning.now variables.now name) names.now }
 {
     let mut places = ArrayVec::new();
     for name in names {
@@ -139,7 +140,7 @@ fn tables_places(
     requires few { length spanning.now ≤ 8 }
     requires variables { length variables.now ≤ 64 }
     requires widths { All (λ t. length t.variables ≤ 8) tables.now }
-    ensures { IfOk result (λ places. places ≡ map (λ t. table_placed spanning.now variables.now t) tables.now) }
+    ensures { IfOk result (λ places. places ≡ map (λ t. spec.table_places spanning.now variables.now t) tables.now) }
 {
     let mut places = Items::empty(alloc);
     for table in tables {
@@ -151,7 +152,7 @@ fn tables_places(
 // The response of the tables.
 fn response_of(tables: &[TableLine]) -> &Text
     requires { 0 < length tables.now }
-    ensures { result.now ≡ response tables.now }
+    ensures { result.now ≡ spec.response_of tables.now }
 {
     &tables[0].response
 }
@@ -160,7 +161,7 @@ fn response_of(tables: &[TableLine]) -> &Text
 fn response_place(variables: &[Variable], tables: &[TableLine]) -> u32
     requires some { 0 < length tables.now }
     requires few { length variables.now ≤ 64 }
-    ensures { result ≡ placed variables.now (response tables.now) }
+    ensures { result ≡ spec.variable_place variables.now (spec.response_of tables.now) }
 {
     variable_place(variables, response_of(tables))
 }
@@ -168,14 +169,14 @@ fn response_place(variables: &[Variable], tables: &[TableLine]) -> u32
 // The digits behind the point of the response.
 fn response_decimals(variables: &[Variable], tables: &[TableLine]) -> u8
     requires { 0 < length tables.now }
-    ensures { result ≡ response_digits tables.now variables.now }
+    ensures { result ≡ spec.response_decimals tables.now variables.now }
 {
     decimals_of(variable_named(variables, response_of(tables)))
 }
 
 // The variable of this name.
 fn variable_named<'a>(variables: &'a [Variable], name: &Text) -> Option<&'a Variable>
-    ensures { option_copied result ≡ find (λ v. named name.now v) variables.now }
+    ensures { option_copied result ≡ find (λ v. spec.is_named name.now v) variables.now }
 {
     for variable in variables {
         if is_named(name, variable) {
@@ -199,7 +200,7 @@ fn weight_variable(variables: &[Variable]) -> Option<&Variable>
 
 // The digits behind the point of a variable.
 fn decimals_of(variable: Option<&Variable>) -> u8
-    ensures { result ≡ digits (option_copied variable.entry) }
+    ensures { result ≡ spec.decimals_of (option_copied variable.entry) }
 {
     let Some(variable) = variable else {
         return 0;
@@ -209,7 +210,7 @@ fn decimals_of(variable: Option<&Variable>) -> u8
 
 // The digits behind the point of the weight, where records have weights.
 fn weight_decimals(rules: &Rules, variables: &[Variable]) -> u8
-    ensures { result ≡ weight_digits rules.now variables.now }
+    ensures { result ≡ spec.weight_decimals rules.now variables.now }
 {
     if !rules.weighted {
         return 0;
@@ -233,7 +234,7 @@ fn first_weight(variables: &[Variable]) -> Option<u32>
 // The place of the weight, where records have weights.
 fn weight_place(rules: &Rules, variables: &[Variable]) -> Option<u32>
     requires { length variables.now ≤ 64 }
-    ensures { result ≡ weight_placed rules.now variables.now }
+    ensures { result ≡ spec.weight_place rules.now variables.now }
 {
     if !rules.weighted {
         return None;

@@ -1,7 +1,7 @@
 ghost use Rattle.std.specs.Prelude.{◌≡◌};
 ghost use Rattle.std.specs.List.{list_any};
 ghost use Rattle.std.specs.Str.{bytes_eq};
-ghost use Rattle.job_lang.specs.Binding.{is_named as named, is_absent as absent, is_numeric_named as numeric_named, is_numeric as numeric, table_fault as table_wrong, weight_fault as weight_wrong, is_spanning as spanning, is_code_list as code_list, is_hierarchy_file as hierarchy, is_file_of as file_of, file_fault as file_wrong, earlier as earlier_of, tables_fault as tables_wrong, outputs_fault as outputs_wrong, earliest_fault as earliest};
+ghost use Rattle.job_lang.specs.Binding as spec;
 
 use crate::faults::JobWhy;
 use crate::job::{Job, OutputLine, TableLine};
@@ -10,56 +10,56 @@ use sdc_base::{Rules, Text};
 
 /// Whether the variable has this name.
 pub(crate) fn is_named(name: &Text, variable: &Variable) -> bool
-    ensures { result ≡ named name.now variable.now }
+    ensures { result ≡ spec.is_named name.now variable.now }
 {
     variable.name.equals(name)
 }
 
 // Whether no variable has this name.
 fn is_absent(variables: &[Variable], name: &Text) -> bool
-    ensures { result ≡ absent variables.now name.now }
+    ensures { result ≡ spec.is_absent variables.now name.now }
 {
     !has_name(variables, name)
 }
 
 // Whether some variable has this name.
 fn has_name(variables: &[Variable], name: &Text) -> bool
-    ensures { result ≡ list_any (λ v. named name.now v) variables.now }
+    ensures { result ≡ list_any (λ v. spec.is_named name.now v) variables.now }
 {
     variables.iter().any(|v| is_named(name, v))
 }
 
 // Whether the variable has this name and is numeric.
 fn is_numeric_named(name: &Text, variable: &Variable) -> bool
-    ensures { result ≡ numeric_named name.now variable.now }
+    ensures { result ≡ spec.is_numeric_named name.now variable.now }
 {
     is_named(name, variable) && variable.numeric
 }
 
 // Whether a numeric variable has this name.
 fn is_numeric(variables: &[Variable], name: &Text) -> bool
-    ensures { result ≡ numeric variables.now name.now }
+    ensures { result ≡ spec.is_numeric variables.now name.now }
 {
     variables.iter().any(|v| is_numeric_named(name, v))
 }
 
 // Whether one of the names is that of no variable.
 fn some_absent(variables: &[Variable], names: &[Text]) -> bool
-    ensures { result ≡ list_any (λ name. absent variables.now name) names.now }
+    ensures { result ≡ list_any (λ name. spec.is_absent variables.now name) names.now }
 {
     names.iter().any(|name| is_absent(variables, name))
 }
 
 // Whether one of the names is that of a numeric variable.
 fn some_numeric(variables: &[Variable], names: &[Text]) -> bool
-    ensures { result ≡ list_any (λ name. numeric variables.now name) names.now }
+    ensures { result ≡ list_any (λ name. spec.is_numeric variables.now name) names.now }
 {
     names.iter().any(|name| is_numeric(variables, name))
 }
 
 // The fault of a table's line.
 fn table_fault(variables: &[Variable], table: &TableLine) -> Option<JobWhy>
-    ensures { result ≡ table_wrong variables.now table.now }
+    ensures { result ≡ spec.table_fault variables.now table.now }
 {
     if some_absent(variables, table.variables.as_slice()) || is_absent(variables, &table.response) {
         return Some(JobWhy::NoSuchVariable);
@@ -82,7 +82,7 @@ fn has_weight(variables: &[Variable]) -> bool
 
 // The fault of the rules' line.
 fn weight_fault(variables: &[Variable], rules: &Rules) -> Option<JobWhy>
-    ensures { result ≡ weight_wrong variables.now rules.now }
+    ensures { result ≡ spec.weight_fault variables.now rules.now }
 {
     if rules.weighted && !has_weight(variables) {
         return Some(JobWhy::NoWeight);
@@ -99,7 +99,7 @@ fn is_spanned_by(name: &Text, names: &[Text]) -> bool
 
 /// Whether some table is spanned by the variable of this name.
 pub(crate) fn is_spanning(tables: &[TableLine], name: &Text) -> bool
-    ensures { result ≡ spanning tables.now name.now }
+    ensures { result ≡ spec.is_spanning tables.now name.now }
 {
     tables
         .iter()
@@ -108,7 +108,7 @@ pub(crate) fn is_spanning(tables: &[TableLine], name: &Text) -> bool
 
 // Whether the list of codes has this name.
 fn is_code_list(file: &Text, codes: &Option<Text>) -> bool
-    ensures { result ≡ code_list file.now codes.now }
+    ensures { result ≡ spec.is_code_list file.now codes.now }
 {
     match codes {
         Some(name) => name.equals(file),
@@ -118,7 +118,7 @@ fn is_code_list(file: &Text, codes: &Option<Text>) -> bool
 
 // Whether the hierarchy file has this name.
 fn is_hierarchy_file(file: &Text, shape: &Shape) -> bool
-    ensures { result ≡ hierarchy file.now shape.now }
+    ensures { result ≡ spec.is_hierarchy_file file.now shape.now }
 {
     match shape {
         Shape::Listed { file: name, .. } => name.equals(file),
@@ -128,7 +128,7 @@ fn is_hierarchy_file(file: &Text, shape: &Shape) -> bool
 
 // Whether the metadata name this file for the variable, which spans a table.
 fn is_file_of(tables: &[TableLine], file: &Text, variable: &Variable) -> bool
-    ensures { result ≡ file_of tables.now file.now variable.now }
+    ensures { result ≡ spec.is_file_of tables.now file.now variable.now }
 {
     is_spanning(tables, &variable.name)
         && (is_code_list(file, &variable.codes) || is_hierarchy_file(file, &variable.shape))
@@ -136,14 +136,14 @@ fn is_file_of(tables: &[TableLine], file: &Text, variable: &Variable) -> bool
 
 // Whether the metadata name this file for a variable that spans a table.
 fn is_read_file(tables: &[TableLine], variables: &[Variable], file: &Text) -> bool
-    ensures { result ≡ list_any (λ v. file_of tables.now file.now v) variables.now }
+    ensures { result ≡ list_any (λ v. spec.is_file_of tables.now file.now v) variables.now }
 {
     variables.iter().any(|v| is_file_of(tables, file, v))
 }
 
 // The fault of a line that puts a file.
 fn file_fault(tables: &[TableLine], variables: &[Variable], file: &Text) -> Option<JobWhy>
-    ensures { result ≡ file_wrong tables.now variables.now file.now }
+    ensures { result ≡ spec.file_fault tables.now variables.now file.now }
 {
     if is_read_file(tables, variables, file) {
         return Some(JobWhy::SameName);
@@ -152,8 +152,12 @@ fn file_fault(tables: &[TableLine], variables: &[Variable], file: &Text) -> Opti
 }
 
 // The earlier of two faults, the first where both stand at one line.
-fn earlier(first: Option<(u32, JobWhy)>, line: u32, why: Option<JobWhy>) -> Option<(u32, JobWhy)>
-    ensures { result ≡ earlier_of first line why }
+fn earlier_fault(
+    first: Option<(u32, JobWhy)>,
+    line: u32,
+    why: Option<JobWhy>,
+) -> Option<(u32, JobWhy)>
+    ensures { result ≡ spec.earlier_fault first line why }
 {
     let Some(why) = why else {
         return first;
@@ -169,11 +173,11 @@ fn earlier(first: Option<(u32, JobWhy)>, line: u32, why: Option<JobWhy>) -> Opti
 
 // The earliest fault of tables.
 fn tables_fault(variables: &[Variable], tables: &[TableLine]) -> Option<(u32, JobWhy)>
-    ensures { result ≡ tables_wrong variables.now tables.now }
+    ensures { result ≡ spec.tables_fault variables.now tables.now }
 {
     let mut first = None;
     for table in tables {
-        first = earlier(first, table.line, table_fault(variables, table));
+        first = earlier_fault(first, table.line, table_fault(variables, table));
     }
     first
 }
@@ -185,11 +189,11 @@ fn outputs_fault(
     before: Option<(u32, JobWhy)>,
     outputs: &[OutputLine],
 ) -> Option<(u32, JobWhy)>
-    ensures { result ≡ outputs_wrong tables.now variables.now before outputs.now }
+    ensures { result ≡ spec.outputs_fault tables.now variables.now before outputs.now }
 {
     let mut first = before;
     for output in outputs {
-        first = earlier(
+        first = earlier_fault(
             first,
             output.line,
             file_fault(tables, variables, &output.file),
@@ -200,12 +204,12 @@ fn outputs_fault(
 
 /// The earliest fault of a job's lines.
 pub(crate) fn earliest_fault(job: &Job, variables: &[Variable]) -> Option<(u32, JobWhy)>
-    ensures { result ≡ earliest job.now variables.now }
+    ensures { result ≡ spec.earliest_fault job.now variables.now }
 {
     let tables = job.tables.as_slice();
     let first = tables_fault(variables, tables);
-    let first = earlier(first, job.rules_line, weight_fault(variables, &job.rules));
+    let first = earlier_fault(first, job.rules_line, weight_fault(variables, &job.rules));
     let first = outputs_fault(tables, variables, first, job.outputs.as_slice());
     let last = file_fault(tables, variables, &job.certificate);
-    earlier(first, job.certificate_line, last)
+    earlier_fault(first, job.certificate_line, last)
 }

@@ -2,7 +2,7 @@ ghost use Rattle.std.specs.Prelude.{◌≡◌, ◌≤◌, Some};
 ghost use Rattle.std.specs.List.{list_any, count_by};
 ghost use Rattle.sdc_base.specs.Answers.{Gives};
 ghost use Rattle.job_lang.specs.Faults.{fault_of};
-ghost use Rattle.job_lang.specs.ClosingLooks.{is_no_table as no_table, is_astray as astray, no_stray as no_strays, puts as puts_file, reads as reads_file, is_shared as shared, is_meeting as meeting, no_same_name as no_same_names};
+ghost use Rattle.job_lang.specs.ClosingLooks as spec;
 
 use crate::faults::{JobError, JobWhy};
 use crate::statement::{Said, Statement};
@@ -22,7 +22,7 @@ fn at(statement: &Statement, why: JobWhy) -> JobError
 // Whether no table has this number.
 fn is_no_table(count: usize, number: &Text) -> bool
     requires { count ≤ 8 }
-    ensures { result ≡ no_table count number.now }
+    ensures { result ≡ spec.is_no_table count number.now }
 {
     number_in(1, count as u64, number.as_slice()).is_none()
 }
@@ -30,7 +30,7 @@ fn is_no_table(count: usize, number: &Text) -> bool
 // Whether it is said of no table.
 fn is_astray(count: usize, said: &Said) -> bool
     requires { count ≤ 8 }
-    ensures { result ≡ astray count said.now }
+    ensures { result ≡ spec.is_astray count said.now }
 {
     match said {
         Said::Prior { number, .. } => is_no_table(count, number),
@@ -43,7 +43,7 @@ fn is_astray(count: usize, said: &Said) -> bool
 #[tactic(auto, unfolding(crate::specs::ClosingLooks::no_stray))]
 pub(crate) fn no_stray(count: usize, said: &[Statement]) -> Result<(), JobError>
     requires { count ≤ 8 }
-    ensures { Gives fault_of (λ fine. fine) result (no_strays count said.now) }
+    ensures { Gives fault_of (λ fine. fine) result (spec.no_stray count said.now) }
 {
     'said: for statement in said {
         if is_astray(count, &statement.said) {
@@ -55,7 +55,7 @@ pub(crate) fn no_stray(count: usize, said: &[Statement]) -> Result<(), JobError>
 
 // Whether a file of this name is put.
 fn puts(name: &Text, said: &Said) -> bool
-    ensures { result ≡ puts_file name.now said.now }
+    ensures { result ≡ spec.puts name.now said.now }
 {
     match said {
         Said::Output { file, .. } => file.equals(name),
@@ -66,7 +66,7 @@ fn puts(name: &Text, said: &Said) -> bool
 
 // Whether a file of this name is read.
 fn reads(name: &Text, said: &Said) -> bool
-    ensures { result ≡ reads_file name.now said.now }
+    ensures { result ≡ spec.is_read_file name.now said.now }
 {
     match said {
         Said::Microdata(file) => file.equals(name),
@@ -78,21 +78,21 @@ fn reads(name: &Text, said: &Said) -> bool
 
 // How many files of this name are put.
 fn put_count(name: &Text, all: &[Statement]) -> usize
-    ensures { result ≡ count_by (λ s. puts_file name.now s.said) all.now }
+    ensures { result ≡ count_by (λ s. spec.puts name.now s.said) all.now }
 {
     all.iter().filter(|s| puts(name, &s.said)).count()
 }
 
 // Whether some file of this name is read.
 fn is_read(name: &Text, all: &[Statement]) -> bool
-    ensures { result ≡ list_any (λ s. reads_file name.now s.said) all.now }
+    ensures { result ≡ list_any (λ s. spec.is_read_file name.now s.said) all.now }
 {
     all.iter().any(|s| reads(name, &s.said))
 }
 
 // Whether two files of this name are put, or one is read.
 fn is_shared(name: &Text, all: &[Statement]) -> bool
-    ensures { result ≡ shared name.now all.now }
+    ensures { result ≡ spec.is_shared name.now all.now }
 {
     if put_count(name, all) > 1 {
         return true;
@@ -102,7 +102,7 @@ fn is_shared(name: &Text, all: &[Statement]) -> bool
 
 // Whether a file is put whose name another one has.
 fn is_meeting(all: &[Statement], said: &Said) -> bool
-    ensures { result ≡ meeting all.now said.now }
+    ensures { result ≡ spec.is_meeting all.now said.now }
 {
     match said {
         Said::Output { file, .. } => is_shared(file, all),
@@ -114,7 +114,7 @@ fn is_meeting(all: &[Statement], said: &Said) -> bool
 /// The first statement that puts a file whose name another one has is a fault of its line.
 #[tactic(auto, unfolding(crate::specs::ClosingLooks::no_same_name))]
 pub(crate) fn no_same_name(all: &[Statement]) -> Result<(), JobError>
-    ensures { Gives fault_of (λ fine. fine) result (no_same_names all.now all.now) }
+    ensures { Gives fault_of (λ fine. fine) result (spec.no_same_name all.now all.now) }
 {
     'said: for statement in all {
         if is_meeting(all, &statement.said) {

@@ -2,9 +2,10 @@ ghost use Rattle.std.specs.Prelude.{◌≡◌, ◌<◌, ◌≤◌, ◌^◌, leng
 ghost use Rattle.std.specs.List.{position_or_len};
 ghost use Rattle.std.specs.Str.{all_ascii_digits};
 ghost use Rattle.sdc_base.specs.Answers.{Gives};
-ghost use Rattle.sdc_base.specs.Tokens.{is_number as numbers};
+ghost use Rattle.sdc_base.specs.Tokens as tokens_specs;
 ghost use Rattle.job_lang.specs.Faults.{fault_itself};
-ghost use Rattle.job_lang.specs.LineTokens.{begins_with as begins, is_break as breaks, is_next as stands, behind_mark, quoted_at, run_of, behind_run, number_at, digits_at, without_zeros as unpadded, ended, closed};
+ghost use Rattle.job_lang.specs.LineTokens.{behind_mark, quoted_at, run_of, behind_run, number_at, digits_at, end_of_tokens, closing_token};
+ghost use Rattle.job_lang.specs.LineTokens as line_tokens;
 
 use crate::faults::JobWhy;
 use plain_text::{cut_at, is_blank_byte, number_in, trim};
@@ -41,7 +42,7 @@ impl<'a> Cursor<'a> {
 
     /// Whether the next token begins with this byte.
     pub(crate) fn is_next(&self, mark: u8) -> bool
-        ensures { result ≡ stands mark self.now }
+        ensures { result ≡ line_tokens.is_next mark self.now }
     {
         begins_with(mark, trim(self.rest))
     }
@@ -111,9 +112,9 @@ impl<'a> Cursor<'a> {
     }
 
     /// There must be no further token.
-    #[tactic(auto, unfolding(crate::specs::LineTokens::ended))]
+    #[tactic(auto, unfolding(crate::specs::LineTokens::end_of_tokens))]
     pub(crate) fn end(&self) -> Result<(), JobWhy>
-        ensures { Gives fault_itself (λ fine. fine) result (ended self.now) }
+        ensures { Gives fault_itself (λ fine. fine) result (end_of_tokens self.now) }
     {
         if !trim(self.rest).is_empty() {
             return Err(JobWhy::BadValue);
@@ -122,9 +123,9 @@ impl<'a> Cursor<'a> {
     }
 
     /// Takes the last token, which must be a closing parenthesis.
-    #[tactic(auto, unfolding(crate::specs::LineTokens::closed))]
+    #[tactic(auto, unfolding(crate::specs::LineTokens::closing_token))]
     pub(crate) fn close(&mut self) -> Result<(), JobWhy>
-        ensures { Gives fault_itself (λ fine. fine) result (closed self.old) }
+        ensures { Gives fault_itself (λ fine. fine) result (closing_token self.old) }
     {
         self.mark(b')')?;
         self.end()
@@ -133,7 +134,7 @@ impl<'a> Cursor<'a> {
 
 // Whether the first byte is this one.
 fn begins_with(mark: u8, text: &[u8]) -> bool
-    ensures { result ≡ begins mark text.now }
+    ensures { result ≡ line_tokens.begins_with mark text.now }
 {
     let Some(first) = text.first() else {
         return false;
@@ -143,14 +144,14 @@ fn begins_with(mark: u8, text: &[u8]) -> bool
 
 // A blank, a quote or a mark.
 fn is_break(b: u8) -> bool
-    ensures { result ≡ breaks b }
+    ensures { result ≡ line_tokens.is_break b }
 {
     is_blank_byte(b) || b == b'"' || b == b'|' || b == b',' || b == b'(' || b == b')'
 }
 
 // The place of the first byte at which a run ends, or the length where there is none.
 fn run_end(text: &[u8]) -> usize
-    ensures place { result ≡ position_or_len breaks text.now }
+    ensures place { result ≡ position_or_len line_tokens.is_break text.now }
     ensures within { result ≤ length text.now }
 {
     for (i, b) in text.iter().enumerate() {
@@ -163,7 +164,7 @@ fn run_end(text: &[u8]) -> usize
 
 // One digit or more, and nothing else.
 fn is_number(digits: &[u8]) -> bool
-    ensures { result ≡ numbers digits.now }
+    ensures { result ≡ tokens_specs.is_number digits.now }
 {
     if digits.is_empty() {
         return false;
@@ -185,7 +186,7 @@ fn all_digits(digits: &[u8]) -> bool
 
 // The digits from the first that is no zero.
 fn without_zeros(digits: &[u8]) -> &[u8]
-    ensures { result.now ≡ unpadded digits.now }
+    ensures { result.now ≡ line_tokens.without_zeros digits.now }
 {
     for (i, b) in digits.iter().enumerate() {
         if *b != b'0' {

@@ -2,7 +2,7 @@ ghost use Rattle.std.specs.Prelude.{◌≡◌};
 ghost use Rattle.std.specs.Str.{str_eq_ignore_ascii_case};
 ghost use Rattle.sdc_base.specs.Answers.{Gives};
 ghost use Rattle.job_lang.specs.Faults.{fault_itself};
-ghost use Rattle.job_lang.specs.Keywords.{keyword_of as meant, place_of as placed, same_keyword as same, word_in as worded};
+ghost use Rattle.job_lang.specs.Keywords as spec;
 
 use crate::faults::JobWhy;
 use crate::statement::Keyword;
@@ -18,7 +18,7 @@ pub(crate) fn spells(word: &[u8], name: &[u8]) -> bool
 /// The command of a word, in letters of any case.
 #[tactic(auto, unfolding(crate::specs::Keywords::keyword_of))]
 pub(crate) fn keyword_of(word: &[u8]) -> Option<Keyword>
-    ensures { result ≡ meant word.now }
+    ensures { result ≡ spec.keyword_of word.now }
 {
     if spells(word, b"OPENMICRODATA") {
         return Some(Keyword::OpenMicrodata);
@@ -61,7 +61,7 @@ pub(crate) fn keyword_of(word: &[u8]) -> Option<Keyword>
 
 // A command's place in the table.
 fn place_of(keyword: Keyword) -> u8
-    ensures { result ≡ placed keyword }
+    ensures { result ≡ spec.place_of keyword }
 {
     match keyword {
         Keyword::OpenMicrodata => 0,
@@ -81,7 +81,7 @@ fn place_of(keyword: Keyword) -> u8
 
 /// Whether both are one command.
 pub(crate) fn same_keyword(a: Keyword, b: Keyword) -> bool
-    ensures { result ≡ same a b }
+    ensures { result ≡ spec.same_keyword a b }
 {
     place_of(a) == place_of(b)
 }
@@ -89,7 +89,7 @@ pub(crate) fn same_keyword(a: Keyword, b: Keyword) -> bool
 /// The word between `<` and the first `>` of a line, and what stands behind it.
 #[tactic(auto, unfolding(crate::specs::Keywords::word_in))]
 pub(crate) fn word_in(line: &[u8]) -> Result<(&[u8], &[u8]), JobWhy>
-    ensures { Gives fault_itself (λ word. (word.0.now, word.1.now)) result (worded line.now) }
+    ensures { Gives fault_itself (λ word. (word.0.now, word.1.now)) result (spec.word_in line.now) }
 {
     if line.is_empty() || line[0] != b'<' {
         return Err(JobWhy::BadLine);

@@ -3,8 +3,8 @@
 ghost use Rattle.job_lang.specs.Laws.{IsInOrder, PutsAreNotRead, PutsAreNotNamed, PutsDiffer, MetadataFit};
 ghost use Rattle.job_lang.specs.BindingOrder.{GivesEarliest, GivesFirstKind};
 ghost use Rattle.job_lang.specs.Meaning.{JobsAreMeant};
-ghost use Rattle.job_lang.specs.Writable.{LinesAreRead, TextIsRead, IsRoundTrip, JobsAreWritable, JobsAreReadAgain};
-ghost use Rattle.job_lang.specs.Rows.{EightLines, FullText, FullLines, NameBeforeMissing, Bindable, CodeListMet};
+ghost use Rattle.job_lang.specs.WritableJobs.{LinesAreRead, TextIsRead, IsRoundTrip, JobsAreWritable, JobsAreReadAgain};
+ghost use Rattle.job_lang.specs.Rows.{EightLines, FullText, FullLines, NameBeforeMissing, BindsInAnyOrder, CodeListMet};
 ghost use Rattle.job_lang.specs.BoundNames.{BoundAsNamed};
 
 /// The definitions give what worked jobs say by hand.
@@ -14,7 +14,7 @@ pub fn rows()
     ensures full_text { FullText }
     ensures full_lines { FullLines }
     ensures name_before_missing { NameBeforeMissing }
-    ensures bindable { Bindable }
+    ensures bindable { BindsInAnyOrder }
     ensures code_list_met { CodeListMet }
 {}
 
@@ -24,7 +24,8 @@ pub fn order()
     ensures { IsInOrder }
 {}
 
-/// The fault that binding gives is that of the earliest line that has one, and of a table's line the first of its kinds.
+/// The fault that binding gives is that of the earliest line that has one, and of a table's line the first of its
+/// kinds.
 #[tactic(auto, using(crate::proofs::Earliest::gives_earliest, crate::proofs::Earliest::gives_first_kind))]
 pub fn binding_order()
     ensures line { GivesEarliest }

@@ -1,10 +1,11 @@
 ghost use Rattle.std.specs.Prelude.{◌≡◌, ◌<◌, ◌^◌, length, IfOk, OnOk};
 ghost use Rattle.std.specs.List.{list_any};
 ghost use Rattle.sdc_base.specs.Answers.{Gives};
-ghost use Rattle.sdc_base.specs.Blanks.{trim as trimmed};
-ghost use Rattle.sdc_base.specs.Lines.{lines as lines_of};
+ghost use Rattle.sdc_base.specs.Blanks as blanks_specs;
+ghost use Rattle.sdc_base.specs.Lines as lines_specs;
 ghost use Rattle.job_lang.specs.Faults.{why_of, fault_of, at_line};
-ghost use Rattle.job_lang.specs.Statements.{command_of as by_command, is_by as by, is_prior_of as prior_of, is_output_of as output_of, is_again as again, names_in as named, is_past_room as past_room, is_other_response as other_response, with_table as tabled, with_statement as stated, with_said as said_more, is_passed_over as passed, command_line as commanded, text_says as says_text, lines_say, nothing};
+ghost use Rattle.job_lang.specs.Statements.{lines_say, empty_draft};
+ghost use Rattle.job_lang.specs.Statements as statements;
 
 use crate::arguments::argument_of;
 use crate::faults::{JobError, JobWhy, LineError, error_at};
@@ -24,7 +25,7 @@ const MOST_VARIABLES: usize = 8;
 /// What all lines say.
 pub(crate) fn read_lines(alloc: Global, bytes: &[u8]) -> Result<Draft, JobError>
     requires { length bytes.now < 2 ^ 32 }
-    ensures { Gives fault_of (λ draft. draft) result (lines_say 0 nothing (lines_of bytes.now)) }
+    ensures { Gives fault_of (λ draft. draft) result (lines_say 0 empty_draft (lines_specs.lines bytes.now)) }
 {
     let mut reader = lines(bytes);
     let mut draft = Draft {
@@ -40,7 +41,8 @@ pub(crate) fn read_lines(alloc: Global, bytes: &[u8]) -> Result<Draft, JobError>
 // Takes in what the line with this number says.
 #[tactic(auto, using(crate::proofs::LineSteps::fails_at))]
 fn read_line(alloc: Global, line: u32, text: &[u8], draft: &mut Draft) -> Result<(), JobError>
-    ensures { Gives fault_of (λ _. draft.new) result (at_line line (says_text line draft.old (trimmed text.now))) }
+    ensures { Gives fault_of (λ _. draft.new) result
+        (at_line line (statements.text_says line draft.old (blanks_specs.trim text.now))) }
 {
     match text_says(alloc, line, trim(text), draft) {
         Ok(()) => Ok(()),
@@ -51,7 +53,7 @@ fn read_line(alloc: Global, line: u32, text: &[u8], draft: &mut Draft) -> Result
 // What the bytes of a line say, without blanks at their ends.
 #[tactic(auto, unfolding(crate::specs::Statements::text_says))]
 fn text_says(alloc: Global, line: u32, text: &[u8], draft: &mut Draft) -> Result<(), LineError>
-    ensures { Gives why_of (λ _. draft.new) result (says_text line draft.old text.now) }
+    ensures { Gives why_of (λ _. draft.new) result (statements.text_says line draft.old text.now) }
 {
     if is_passed_over(text) {
         return Ok(());
@@ -61,7 +63,7 @@ fn text_says(alloc: Global, line: u32, text: &[u8], draft: &mut Draft) -> Result
 
 // Whether it is a blank line, or one that begins with two slashes.
 fn is_passed_over(text: &[u8]) -> bool
-    ensures { result ≡ passed text.now }
+    ensures { result ≡ statements.is_passed_over text.now }
 {
     if text.is_empty() {
         return true;
@@ -75,7 +77,7 @@ fn is_passed_over(text: &[u8]) -> bool
 // A command and its argument.
 #[tactic(auto, unfolding(crate::specs::Statements::command_line))]
 fn command_line(alloc: Global, line: u32, text: &[u8], draft: &mut Draft) -> Result<(), LineError>
-    ensures { Gives why_of (λ _. draft.new) result (commanded line draft.old text.now) }
+    ensures { Gives why_of (λ _. draft.new) result (statements.command_line line draft.old text.now) }
 {
     let (word, rest) = word_in(text)?;
     let Some(keyword) = keyword_of(word) else {
@@ -88,7 +90,7 @@ fn command_line(alloc: Global, line: u32, text: &[u8], draft: &mut Draft) -> Res
 // What is said goes to the tables, or to the rest.
 #[tactic(auto, unfolding(crate::specs::Statements::with_said))]
 fn take_said(alloc: Global, line: u32, draft: &mut Draft, said: Said) -> Result<(), LineError>
-    ensures { Gives why_of (λ _. draft.new) result (said_more line draft.old said) }
+    ensures { Gives why_of (λ _. draft.new) result (statements.with_said line draft.old said) }
 {
     match said {
         Said::Table {
@@ -108,7 +110,7 @@ fn take_table(
     variables: Items<Text>,
     response: Text,
 ) -> Result<(), LineError>
-    ensures { Gives why_of (λ _. draft.new) result (tabled line draft.old variables response) }
+    ensures { Gives why_of (λ _. draft.new) result (statements.with_table line draft.old variables response) }
 {
     if is_past_room(alloc, variables.as_slice(), draft.tables.as_slice())? {
         return Err(LineError::Fault(JobWhy::TooMany));
@@ -126,7 +128,7 @@ fn take_table(
 
 // The names of all variables of tables.
 fn names_in(alloc: Global, tables: &[TableLine]) -> Result<Items<Text>, Memory>
-    ensures { IfOk result (λ names. names ≡ named tables.now) }
+    ensures { IfOk result (λ names. names ≡ statements.names_in tables.now) }
 {
     let mut names = Items::empty(alloc);
     for table in tables {
@@ -137,7 +139,7 @@ fn names_in(alloc: Global, tables: &[TableLine]) -> Result<Items<Text>, Memory>
 
 // Whether this table is one too many, or its variables are.
 fn is_past_room(alloc: Global, variables: &[Text], tables: &[TableLine]) -> Result<bool, Memory>
-    ensures { IfOk result (λ past. past ≡ past_room variables.now tables.now) }
+    ensures { IfOk result (λ past. past ≡ statements.is_past_room variables.now tables.now) }
 {
     if tables.len() >= MOST_TABLES {
         return Ok(true);
@@ -149,7 +151,7 @@ fn is_past_room(alloc: Global, variables: &[Text], tables: &[TableLine]) -> Resu
 
 // Whether the first table has another response.
 fn is_other_response(response: &Text, tables: &[TableLine]) -> bool
-    ensures { result ≡ other_response response.now tables.now }
+    ensures { result ≡ statements.is_other_response response.now tables.now }
 {
     let Some(first) = tables.first() else {
         return false;
@@ -160,7 +162,7 @@ fn is_other_response(response: &Text, tables: &[TableLine]) -> bool
 // One statement more.
 #[tactic(auto, unfolding(crate::specs::Statements::with_statement))]
 fn take_statement(line: u32, draft: &mut Draft, said: Said) -> Result<(), LineError>
-    ensures { Gives why_of (λ _. draft.new) result (stated line draft.old said) }
+    ensures { Gives why_of (λ _. draft.new) result (statements.with_statement line draft.old said) }
 {
     if is_again(&said, draft.said.as_slice()) {
         return Err(LineError::Fault(JobWhy::Twice));
@@ -171,7 +173,7 @@ fn take_statement(line: u32, draft: &mut Draft, said: Said) -> Result<(), LineEr
 
 // The command by which it is said.
 fn command_of(said: &Said) -> Keyword
-    ensures { result ≡ by_command said.now }
+    ensures { result ≡ statements.command_of said.now }
 {
     match said {
         Said::Microdata(_) => Keyword::OpenMicrodata,
@@ -191,14 +193,14 @@ fn command_of(said: &Said) -> Keyword
 
 /// Whether it is said by this command.
 pub(crate) fn is_by(keyword: Keyword, said: &Said) -> bool
-    ensures { result ≡ by keyword said.now }
+    ensures { result ≡ statements.is_by keyword said.now }
 {
     same_keyword(command_of(said), keyword)
 }
 
 // Whether it is an a priori file of the table with these digits.
 fn is_prior_of(number: &Text, said: &Said) -> bool
-    ensures { result ≡ prior_of number.now said.now }
+    ensures { result ≡ statements.is_prior_of number.now said.now }
 {
     match said {
         Said::Prior { number: other, .. } => other.equals(number),
@@ -208,7 +210,7 @@ fn is_prior_of(number: &Text, said: &Said) -> bool
 
 // Whether it is an output of the table with these digits.
 fn is_output_of(number: &Text, said: &Said) -> bool
-    ensures { result ≡ output_of number.now said.now }
+    ensures { result ≡ statements.is_output_of number.now said.now }
 {
     match said {
         Said::Output { number: other, .. } => other.equals(number),
@@ -218,28 +220,28 @@ fn is_output_of(number: &Text, said: &Said) -> bool
 
 // Whether the table with these digits has an a priori file.
 fn has_prior(number: &Text, before: &[Statement]) -> bool
-    ensures { result ≡ list_any (λ s. prior_of number.now s.said) before.now }
+    ensures { result ≡ list_any (λ s. statements.is_prior_of number.now s.said) before.now }
 {
     before.iter().any(|s| is_prior_of(number, &s.said))
 }
 
 // Whether the table with these digits has an output.
 fn has_output(number: &Text, before: &[Statement]) -> bool
-    ensures { result ≡ list_any (λ s. output_of number.now s.said) before.now }
+    ensures { result ≡ list_any (λ s. statements.is_output_of number.now s.said) before.now }
 {
     before.iter().any(|s| is_output_of(number, &s.said))
 }
 
 // Whether something is said by this command.
 fn has_command(keyword: Keyword, before: &[Statement]) -> bool
-    ensures { result ≡ list_any (λ s. by keyword s.said) before.now }
+    ensures { result ≡ list_any (λ s. statements.is_by keyword s.said) before.now }
 {
     before.iter().any(|s| is_by(keyword, &s.said))
 }
 
 // Whether it is said before.
 fn is_again(said: &Said, before: &[Statement]) -> bool
-    ensures { result ≡ again said.now before.now }
+    ensures { result ≡ statements.is_again said.now before.now }
 {
     match said {
         Said::Table { .. } => false,

@@ -1,7 +1,7 @@
 ghost use Rattle.std.specs.Prelude.{◌≡◌, ◌≤◌, ◌<◌, ◌+◌, IfOk, find, length};
 ghost use Rattle.std.specs.Option.{option_copied};
-ghost use Rattle.job_lang.specs.Statements.{is_by as by};
-ghost use Rattle.job_lang.specs.ClosingLooks.{said_by as stated_by, is_output_at as output_at, output_said as output_stated, file_said as file_stated, file_line as filed, rules_line as ruled, method_of as method, cost_of as cost, work_of as work, table_place as placed, priors_in as priors};
+ghost use Rattle.job_lang.specs.Statements as statements;
+ghost use Rattle.job_lang.specs.ClosingLooks as closing_looks;
 
 use crate::job::{OutputLine, PriorLine};
 use crate::lines::is_by;
@@ -20,7 +20,7 @@ pub(crate) struct RulesLine {
 
 /// The statement by this command.
 pub(crate) fn said_by(keyword: Keyword, all: &[Statement]) -> Option<&Statement>
-    ensures { option_copied result ≡ stated_by keyword all.now }
+    ensures { option_copied result ≡ closing_looks.said_by keyword all.now }
 {
     'all: for statement in all {
         if is_by(keyword, &statement.said) {
@@ -33,7 +33,7 @@ pub(crate) fn said_by(keyword: Keyword, all: &[Statement]) -> Option<&Statement>
 // Whether it is an output of the table at this place, from 0.
 fn is_output_at(place: usize, said: &Said) -> bool
     requires { place < 8 }
-    ensures { result ≡ output_at place said.now }
+    ensures { result ≡ closing_looks.is_output_at place said.now }
 {
     let number = place as u64 + 1;
     match said {
@@ -47,7 +47,7 @@ fn is_output_at(place: usize, said: &Said) -> bool
 /// The statement of the output of the table at this place, from 0.
 pub(crate) fn output_said(place: usize, all: &[Statement]) -> Option<&Statement>
     requires { place < 8 }
-    ensures { option_copied result ≡ output_stated place all.now }
+    ensures { option_copied result ≡ closing_looks.output_said place all.now }
 {
     'all: for statement in all {
         if is_output_at(place, &statement.said) {
@@ -59,7 +59,7 @@ pub(crate) fn output_said(place: usize, all: &[Statement]) -> Option<&Statement>
 
 // The file of a command that names one alone, or of an output.
 fn file_said(said: &Said) -> Option<&Text>
-    ensures { option_copied result ≡ file_stated said.now }
+    ensures { option_copied result ≡ closing_looks.file_said said.now }
 {
     match said {
         Said::Microdata(file) => Some(file),
@@ -75,7 +75,7 @@ pub(crate) fn file_line(
     alloc: Global,
     statement: Option<&Statement>,
 ) -> Result<Option<OutputLine>, Memory>
-    ensures { IfOk result (λ line. line ≡ filed (option_copied statement.entry)) }
+    ensures { IfOk result (λ line. line ≡ closing_looks.file_line (option_copied statement.entry)) }
 {
     let Some(statement) = statement else {
         return Ok(None);
@@ -103,7 +103,7 @@ fn copy_rules(rules: &Rules) -> Rules
 
 /// The rules with their line.
 pub(crate) fn rules_line(statement: Option<&Statement>) -> Option<RulesLine>
-    ensures { result ≡ ruled (option_copied statement.entry) }
+    ensures { result ≡ closing_looks.rules_line (option_copied statement.entry) }
 {
     let statement = statement?;
     match &statement.said {
@@ -117,7 +117,7 @@ pub(crate) fn rules_line(statement: Option<&Statement>) -> Option<RulesLine>
 
 /// The method.
 pub(crate) fn method_of(statement: Option<&Statement>) -> Option<Method>
-    ensures { result ≡ method (option_copied statement.entry) }
+    ensures { result ≡ closing_looks.method_of (option_copied statement.entry) }
 {
     match &statement?.said {
         Said::Suppress(method) => Some(*method),
@@ -127,7 +127,7 @@ pub(crate) fn method_of(statement: Option<&Statement>) -> Option<Method>
 
 /// The kind of cost, its value where nothing else is said.
 pub(crate) fn cost_of(statement: Option<&Statement>) -> CostKind
-    ensures { result ≡ cost (option_copied statement.entry) }
+    ensures { result ≡ closing_looks.cost_of (option_copied statement.entry) }
 {
     let Some(statement) = statement else {
         return CostKind::Value;
@@ -140,7 +140,7 @@ pub(crate) fn cost_of(statement: Option<&Statement>) -> CostKind
 
 /// The number of steps or nodes, or else this one.
 pub(crate) fn work_of(other: u64, statement: Option<&Statement>) -> u64
-    ensures { result ≡ work other (option_copied statement.entry) }
+    ensures { result ≡ closing_looks.work_of other (option_copied statement.entry) }
 {
     let Some(statement) = statement else {
         return other;
@@ -154,7 +154,7 @@ pub(crate) fn work_of(other: u64, statement: Option<&Statement>) -> u64
 
 // The place of the table with this number, from 0.
 fn table_place(number: &Text) -> u32
-    ensures { result ≡ placed number.now }
+    ensures { result ≡ closing_looks.table_place number.now }
 {
     match number_in(1, 8, number.as_slice()) {
         Some(number) => number as u32 - 1,
@@ -170,7 +170,8 @@ fn prior_line(
     number: &Text,
     separator: u8,
 ) -> Result<PriorLine, Memory>
-    ensures { IfOk result (λ prior. prior ≡ record { line = line; file = file.now; table = placed number.now; separator = separator }) }
+    ensures { IfOk result (λ prior. prior
+        ≡ record { line = line; file = file.now; table = closing_looks.table_place number.now; separator = separator }) }
 {
     let file = file.copy(alloc)?;
     Ok(PriorLine {
@@ -183,7 +184,7 @@ fn prior_line(
 
 /// The a priori files in the order of their lines.
 pub(crate) fn priors_in(alloc: Global, all: &[Statement]) -> Result<Items<PriorLine>, Memory>
-    ensures { IfOk result (λ lines. lines ≡ priors all.now) }
+    ensures { IfOk result (λ lines. lines ≡ closing_looks.priors_in all.now) }
 {
     let mut lines = Items::empty(alloc);
     'all: for statement in all {

@@ -1,5 +1,5 @@
 ghost use Rattle.std.specs.Prelude.{◌≡◌, length, [], ◌∷◌, IfNone, IfSome};
-ghost use Rattle.job_lang.specs.Pieces.{pieces as pieces_of};
+ghost use Rattle.job_lang.specs.Pieces as spec;
 
 use plain_text::cut_at;
 use std::marker::Model;
@@ -22,7 +22,7 @@ impl<'a> Model for Pieces<'a> {
 
 /// The pieces of a text.
 pub(crate) fn pieces_in<'a>(text: &'a [u8]) -> Pieces<'a>
-    ensures { result ≡ pieces_of text.now }
+    ensures { result ≡ spec.pieces text.now }
 {
     Pieces {
         rest: text,

@@ -1,9 +1,10 @@
 ghost use Rattle.std.specs.Prelude.{◌≡◌, ◌<◌, ◌≤◌, ◌^◌, length, IfOk};
 ghost use Rattle.sdc_base.specs.Answers.{Gives};
-ghost use Rattle.sdc_base.specs.Lines.{lines as lines_of};
+ghost use Rattle.sdc_base.specs.Lines as lines_specs;
 ghost use Rattle.job_lang.specs.Faults.{fault_of};
-ghost use Rattle.job_lang.specs.ClosingLooks.{output_of_table as output_of, outputs_from as outputs_of};
-ghost use Rattle.job_lang.specs.Jobs.{job_made as made, closed_job as closed, job_of};
+ghost use Rattle.job_lang.specs.ClosingLooks as closing_looks;
+ghost use Rattle.job_lang.specs.Jobs.{job_of};
+ghost use Rattle.job_lang.specs.Jobs as jobs;
 ghost use Rattle.job_lang.specs.JobLimits.{IsJob};
 
 use crate::closing::{no_same_name, no_stray};
@@ -30,11 +31,11 @@ const USUAL_NODES: u64 = 1_000_000;
 /// with a fault. The words are those of tau-ARGUS's batch files, but for `COST`, `STEPS`, `NODES` and `CERTIFICATE`;
 /// the exact form, the ranges and the order of the faults are argus's own.
 ///
-/// The caller sees to it that there are fewer than `2^32` bytes, so that a line's number fits. Want of memory aside, the
-/// answer is the definition's.
+/// The caller sees to it that there are fewer than `2^32` bytes, so that a line's number fits. Want of memory aside,
+/// the answer is the definition's.
 ///
-/// The cost is a look at each byte a few times, for each line one at what the lines before it say, and for each table and
-/// each file that is put one at what all lines say.
+/// The cost is a look at each byte a few times, for each line one at what the lines before it say, and for each table
+/// and each file that is put one at what all lines say.
 #[tactic(auto, unfolding(crate::specs::Jobs::job_of))]
 pub fn read_job(alloc: Global, bytes: &[u8]) -> Result<Job, JobError>
     requires { length bytes.now < 2 ^ 32 }
@@ -49,7 +50,7 @@ pub fn read_job(alloc: Global, bytes: &[u8]) -> Result<Job, JobError>
 #[tactic(auto, unfolding(crate::specs::Jobs::closed_job))]
 fn closed_job(alloc: Global, draft: Draft) -> Result<Job, JobError>
     requires { length draft.tables ≤ 8 }
-    ensures { Gives fault_of (λ job. job) result (closed draft) }
+    ensures { Gives fault_of (λ job. job) result (jobs.closed_job draft) }
 {
     no_stray(draft.tables.as_slice().len(), draft.said.as_slice())?;
     no_same_name(draft.said.as_slice())?;
@@ -57,7 +58,7 @@ fn closed_job(alloc: Global, draft: Draft) -> Result<Job, JobError>
 }
 
 // The fault of a job that lacks this command.
-fn missing(which: Command) -> JobError
+fn missing_command(which: Command) -> JobError
     ensures { result ≡ JobError.At 0 (JobWhy.Missing which) }
 {
     JobError::At {
@@ -69,10 +70,10 @@ fn missing(which: Command) -> JobError
 // The output of the table at this place, which must have one.
 fn output_of_table(alloc: Global, place: usize, said: &[Statement]) -> Result<OutputLine, JobError>
     requires { place < 8 }
-    ensures { Gives fault_of (λ output. output) result (output_of place said.now) }
+    ensures { Gives fault_of (λ output. output) result (closing_looks.output_of_table place said.now) }
 {
     let Some(output) = file_line(alloc, output_said(place, said))? else {
-        return Err(missing(Command::WriteTable));
+        return Err(missing_command(Command::WriteTable));
     };
     Ok(output)
 }
@@ -84,7 +85,7 @@ fn outputs_of_tables(
     said: &[Statement],
 ) -> Result<Items<OutputLine>, JobError>
     requires { count ≤ 8 }
-    ensures { Gives fault_of (λ outputs. outputs) result (outputs_of count 0 said.now) }
+    ensures { Gives fault_of (λ outputs. outputs) result (closing_looks.outputs_from count 0 said.now) }
 {
     let mut outputs = Items::empty(alloc);
     for place in 0..count {
@@ -98,28 +99,28 @@ fn outputs_of_tables(
 #[tactic(auto, unfolding(crate::specs::Jobs::job_made))]
 fn job_made(alloc: Global, draft: Draft) -> Result<Job, JobError>
     requires { length draft.tables ≤ 8 }
-    ensures { Gives fault_of (λ job. job) result (made draft) }
+    ensures { Gives fault_of (λ job. job) result (jobs.job_made draft) }
 {
     let said = draft.said.as_slice();
     let Some(micro) = file_line(alloc, said_by(Keyword::OpenMicrodata, said))? else {
-        return Err(missing(Command::OpenMicrodata));
+        return Err(missing_command(Command::OpenMicrodata));
     };
     let Some(meta) = file_line(alloc, said_by(Keyword::OpenMetadata, said))? else {
-        return Err(missing(Command::OpenMetadata));
+        return Err(missing_command(Command::OpenMetadata));
     };
     let count = draft.tables.as_slice().len();
     if count == 0 {
-        return Err(missing(Command::SpecifyTable));
+        return Err(missing_command(Command::SpecifyTable));
     }
     let Some(rules) = rules_line(said_by(Keyword::SafetyRule, said)) else {
-        return Err(missing(Command::SafetyRule));
+        return Err(missing_command(Command::SafetyRule));
     };
     let Some(method) = method_of(said_by(Keyword::Suppress, said)) else {
-        return Err(missing(Command::Suppress));
+        return Err(missing_command(Command::Suppress));
     };
     let outputs = outputs_of_tables(alloc, count, said)?;
     let Some(certificate) = file_line(alloc, said_by(Keyword::Certificate, said))? else {
-        return Err(missing(Command::Certificate));
+        return Err(missing_command(Command::Certificate));
     };
     let priors = priors_in(alloc, said)?;
     let cost = cost_of(said_by(Keyword::Cost, said));

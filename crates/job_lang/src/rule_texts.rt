@@ -1,7 +1,8 @@
 ghost use Rattle.std.specs.Prelude.{◌≡◌, ◌<◌, ◌≤◌, ◌^◌, length, IfOk};
 ghost use Rattle.sdc_base.specs.Answers.{Gives};
 ghost use Rattle.job_lang.specs.Faults.{fault_itself};
-ghost use Rattle.job_lang.specs.RuleTexts.{one_number as one_number_in, frequency_clause as frequency, dominance_clause as dominance, further_one as further, percent_behind, percent_clause as percent, man_clause as man, weights_clause as weights, clause_in as clause};
+ghost use Rattle.job_lang.specs.RuleTexts.{percent_behind};
+ghost use Rattle.job_lang.specs.RuleTexts as spec;
 
 use crate::cursor::{Cursor, at_front};
 use crate::faults::JobWhy;
@@ -13,7 +14,7 @@ use sdc_base::Rule;
 #[tactic(auto, unfolding(crate::specs::RuleTexts::one_number))]
 pub(crate) fn one_number(low: u64, high: u64, cursor: &mut Cursor) -> Result<u64, JobWhy>
     requires { high < 10 ^ 18 }
-    ensures exact { Gives fault_itself (λ number. number) result (one_number_in low high cursor.old) }
+    ensures exact { Gives fault_itself (λ number. number) result (spec.one_number low high cursor.old) }
     ensures within { IfOk result (λ number. (low ≤ number) × (number ≤ high)) }
 {
     cursor.mark(b'(')?;
@@ -25,7 +26,7 @@ pub(crate) fn one_number(low: u64, high: u64, cursor: &mut Cursor) -> Result<u64
 /// One rule, its word in letters of any case.
 #[tactic(auto, unfolding(crate::specs::RuleTexts::clause_in))]
 pub(crate) fn clause_in(text: &[u8]) -> Result<RuleClause, JobWhy>
-    ensures { Gives fault_itself (λ clause. clause) result (clause text.now) }
+    ensures { Gives fault_itself (λ one. one) result (spec.clause_in text.now) }
 {
     let mut cursor = at_front(text);
     let word = cursor.run();
@@ -50,7 +51,7 @@ pub(crate) fn clause_in(text: &[u8]) -> Result<RuleClause, JobWhy>
 // The numbers of FREQ.
 #[tactic(auto, unfolding(crate::specs::RuleTexts::frequency_clause))]
 fn frequency_clause(cursor: &mut Cursor) -> Result<RuleClause, JobWhy>
-    ensures { Gives fault_itself (λ clause. clause) result (frequency cursor.old) }
+    ensures { Gives fault_itself (λ one. one) result (spec.frequency_clause cursor.old) }
 {
     cursor.mark(b'(')?;
     let n = cursor.number(1, 1_000_000)?;
@@ -66,7 +67,7 @@ fn frequency_clause(cursor: &mut Cursor) -> Result<RuleClause, JobWhy>
 // The numbers of NK.
 #[tactic(auto, unfolding(crate::specs::RuleTexts::dominance_clause))]
 fn dominance_clause(cursor: &mut Cursor) -> Result<RuleClause, JobWhy>
-    ensures { Gives fault_itself (λ clause. clause) result (dominance cursor.old) }
+    ensures { Gives fault_itself (λ one. one) result (spec.dominance_clause cursor.old) }
 {
     cursor.mark(b'(')?;
     let n = cursor.number(1, 10)?;
@@ -82,7 +83,7 @@ fn dominance_clause(cursor: &mut Cursor) -> Result<RuleClause, JobWhy>
 // The 1 that may stand behind the number of P, and the end.
 #[tactic(auto, unfolding(crate::specs::RuleTexts::further_one))]
 fn further_one(cursor: &mut Cursor) -> Result<(), JobWhy>
-    ensures { Gives fault_itself (λ fine. fine) result (further cursor.old) }
+    ensures { Gives fault_itself (λ fine. fine) result (spec.further_one cursor.old) }
 {
     cursor.mark(b',')?;
     cursor.number(1, 1)?;
@@ -102,7 +103,7 @@ fn percent_end(cursor: &mut Cursor) -> Result<(), JobWhy>
 // The number of P.
 #[tactic(auto, unfolding(crate::specs::RuleTexts::percent_clause))]
 fn percent_clause(cursor: &mut Cursor) -> Result<RuleClause, JobWhy>
-    ensures { Gives fault_itself (λ clause. clause) result (percent cursor.old) }
+    ensures { Gives fault_itself (λ one. one) result (spec.percent_clause cursor.old) }
 {
     cursor.mark(b'(')?;
     let p = cursor.number(1, 1000)?;
@@ -113,7 +114,7 @@ fn percent_clause(cursor: &mut Cursor) -> Result<RuleClause, JobWhy>
 // The number of MAN.
 #[tactic(auto, unfolding(crate::specs::RuleTexts::man_clause))]
 fn man_clause(cursor: &mut Cursor) -> Result<RuleClause, JobWhy>
-    ensures { Gives fault_itself (λ clause. clause) result (man cursor.old) }
+    ensures { Gives fault_itself (λ one. one) result (spec.man_clause cursor.old) }
 {
     let r = one_number(0, 1000, cursor)?;
     Ok(RuleClause::Man(r as u32))
@@ -122,7 +123,7 @@ fn man_clause(cursor: &mut Cursor) -> Result<RuleClause, JobWhy>
 // The flag of WGT.
 #[tactic(auto, unfolding(crate::specs::RuleTexts::weights_clause))]
 fn weights_clause(cursor: &mut Cursor) -> Result<RuleClause, JobWhy>
-    ensures { Gives fault_itself (λ clause. clause) result (weights cursor.old) }
+    ensures { Gives fault_itself (λ one. one) result (spec.weights_clause cursor.old) }
 {
     let flag = one_number(0, 1, cursor)?;
     Ok(RuleClause::Weights(flag == 1))

@@ -3,7 +3,8 @@ ghost use Rattle.std.specs.List.{count_by};
 ghost use Rattle.sdc_base.specs.Answers.{Gives};
 ghost use Rattle.job_lang.specs.Faults.{why_of};
 ghost use Rattle.job_lang.specs.Pieces.{pieces};
-ghost use Rattle.job_lang.specs.RuleTexts.{clauses_in as clauses_of, named_in, is_frequency as frequent, is_man as manual, is_weights as weighing, are_rules as rules_are, man_of as man, weighted_of as weighted, rules_in as ruled};
+ghost use Rattle.job_lang.specs.RuleTexts.{named_in};
+ghost use Rattle.job_lang.specs.RuleTexts as spec;
 
 use crate::faults::{JobWhy, LineError};
 use crate::pieces::pieces_in;
@@ -16,7 +17,7 @@ use std::alloc::Global;
 /// The rules that a text joins by bars.
 #[tactic(auto, unfolding(crate::specs::RuleTexts::rules_in))]
 pub(crate) fn rules_in(alloc: Global, text: &[u8]) -> Result<Rules, LineError>
-    ensures { Gives why_of (λ rules. rules) result (ruled text.now) }
+    ensures { Gives why_of (λ rules. rules) result (spec.rules_in text.now) }
 {
     let clauses = clauses_in(alloc, text)?;
     let clauses = clauses.as_slice();
@@ -32,7 +33,7 @@ pub(crate) fn rules_in(alloc: Global, text: &[u8]) -> Result<Rules, LineError>
 
 // Each piece of a text as a rule.
 fn clauses_in(alloc: Global, text: &[u8]) -> Result<Items<RuleClause>, LineError>
-    ensures { Gives why_of (λ clauses. clauses) result (clauses_of (pieces text.now)) }
+    ensures { Gives why_of (λ clauses. clauses) result (spec.clauses_in (pieces text.now)) }
 {
     let mut pieces = pieces_in(text);
     let mut clauses = Items::empty(alloc);
@@ -45,7 +46,7 @@ fn clauses_in(alloc: Global, text: &[u8]) -> Result<Items<RuleClause>, LineError
 
 // Whether it is a rule on frequencies.
 fn is_frequency(clause: &RuleClause) -> bool
-    ensures { result ≡ frequent clause.now }
+    ensures { result ≡ spec.is_frequency clause.now }
 {
     match clause {
         RuleClause::Named(Rule::Freq { .. }) => true,
@@ -55,7 +56,7 @@ fn is_frequency(clause: &RuleClause) -> bool
 
 // Whether it is the level of cells that are declared unsafe.
 fn is_man(clause: &RuleClause) -> bool
-    ensures { result ≡ manual clause.now }
+    ensures { result ≡ spec.is_man clause.now }
 {
     match clause {
         RuleClause::Man(_) => true,
@@ -65,7 +66,7 @@ fn is_man(clause: &RuleClause) -> bool
 
 // Whether it says if records have weights.
 fn is_weights(clause: &RuleClause) -> bool
-    ensures { result ≡ weighing clause.now }
+    ensures { result ≡ spec.is_weights clause.now }
 {
     match clause {
         RuleClause::Weights(_) => true,
@@ -75,21 +76,21 @@ fn is_weights(clause: &RuleClause) -> bool
 
 // How many are rules on frequencies.
 fn frequency_count(clauses: &[RuleClause]) -> usize
-    ensures { result ≡ count_by frequent clauses.now }
+    ensures { result ≡ count_by spec.is_frequency clauses.now }
 {
     clauses.iter().filter(|c| is_frequency(c)).count()
 }
 
 // How many are levels of cells that are declared unsafe.
 fn man_count(clauses: &[RuleClause]) -> usize
-    ensures { result ≡ count_by manual clauses.now }
+    ensures { result ≡ count_by spec.is_man clauses.now }
 {
     clauses.iter().filter(|c| is_man(c)).count()
 }
 
 // How many say if records have weights.
 fn weights_count(clauses: &[RuleClause]) -> usize
-    ensures { result ≡ count_by weighing clauses.now }
+    ensures { result ≡ count_by spec.is_weights clauses.now }
 {
     clauses.iter().filter(|c| is_weights(c)).count()
 }
@@ -109,7 +110,7 @@ fn named_count(clauses: &[RuleClause]) -> usize
 
 // One to eight rules that name cells, at most one of them on frequencies, and at most one MAN and one WGT.
 fn are_rules(clauses: &[RuleClause]) -> bool
-    ensures { result ≡ rules_are clauses.now }
+    ensures { result ≡ spec.are_rules clauses.now }
 {
     let named = named_count(clauses);
     0 < named
@@ -135,7 +136,7 @@ fn named_rules(clauses: &[RuleClause]) -> Few<Rule, 8>
 
 // The level of cells that are declared unsafe, 20 where no rule says so.
 fn man_of(clauses: &[RuleClause]) -> u32
-    ensures { result ≡ man clauses.now }
+    ensures { result ≡ spec.man_of clauses.now }
 {
     for clause in clauses {
         if let RuleClause::Man(r) = clause {
@@ -147,7 +148,7 @@ fn man_of(clauses: &[RuleClause]) -> u32
 
 // Whether records have weights; they have none where no rule says so.
 fn weighted_of(clauses: &[RuleClause]) -> bool
-    ensures { result ≡ weighted clauses.now }
+    ensures { result ≡ spec.weighted_of clauses.now }
 {
     for clause in clauses {
         if let RuleClause::Weights(flag) = clause {

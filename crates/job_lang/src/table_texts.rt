@@ -3,7 +3,8 @@ ghost use Rattle.std.specs.List.{list_all};
 ghost use Rattle.sdc_base.specs.Answers.{Gives};
 ghost use Rattle.job_lang.specs.Faults.{fault_itself, why_of};
 ghost use Rattle.job_lang.specs.Pieces.{pieces};
-ghost use Rattle.job_lang.specs.TableTexts.{names_up_to, quoted_part as quoted_in, behind_again as again, is_free_part as free, are_free_parts as free_parts, table_argument as tabled};
+ghost use Rattle.job_lang.specs.TableTexts.{names_up_to};
+ghost use Rattle.job_lang.specs.TableTexts as spec;
 
 use crate::cursor::{Cursor, at_front};
 use crate::faults::{JobWhy, LineError};
@@ -20,7 +21,7 @@ const MOST_VARIABLES: usize = 4;
 /// The table that the text behind SPECIFYTABLE states.
 #[tactic(auto, unfolding(crate::specs::TableTexts::table_argument))]
 pub(crate) fn table_argument(alloc: Global, text: &[u8]) -> Result<Said, LineError>
-    ensures { Gives why_of (λ said. said) result (tabled text.now) }
+    ensures { Gives why_of (λ said. said) result (spec.table_argument text.now) }
 {
     let mut cursor = at_front(text);
     let variables = variables_at(alloc, &mut cursor)?;
@@ -61,7 +62,7 @@ fn variables_at(alloc: Global, cursor: &mut Cursor) -> Result<Items<Text>, LineE
 // A bar and then a word in quotes; the word, and what stands behind it.
 #[tactic(auto, unfolding(crate::specs::TableTexts::quoted_part))]
 fn quoted_part(text: &[u8]) -> Result<(&[u8], &[u8]), JobWhy>
-    ensures { Gives fault_itself (λ part. (part.0.now, part.1.now)) result (quoted_in text.now) }
+    ensures { Gives fault_itself (λ part. (part.0.now, part.1.now)) result (spec.quoted_part text.now) }
 {
     let mut cursor = at_front(text);
     cursor.mark(b'|')?;
@@ -71,7 +72,7 @@ fn quoted_part(text: &[u8]) -> Result<(&[u8], &[u8]), JobWhy>
 
 // What stands behind the response where the first part has it again, else the text.
 fn behind_again<'a>(response: &[u8], text: &'a [u8]) -> &'a [u8]
-    ensures { result.now ≡ again response.now text.now (quoted_in text.now) }
+    ensures { result.now ≡ spec.behind_again response.now text.now (spec.quoted_part text.now) }
 {
     let Ok(part) = quoted_part(text) else {
         return text;
@@ -84,7 +85,7 @@ fn behind_again<'a>(response: &[u8], text: &'a [u8]) -> &'a [u8]
 
 // Whether the piece has no byte, or two quotes alone.
 fn is_free_part(piece: &[u8]) -> bool
-    ensures { result ≡ free piece.now }
+    ensures { result ≡ spec.is_free_part piece.now }
 {
     let part = trim(piece);
     part.is_empty() || part == b"\"\"".as_slice()
@@ -92,7 +93,7 @@ fn is_free_part(piece: &[u8]) -> bool
 
 // Whether all pieces of the text are such.
 fn all_free(text: &[u8]) -> bool
-    ensures { result ≡ list_all free (pieces text.now) }
+    ensures { result ≡ list_all spec.is_free_part (pieces text.now) }
 {
     let mut parts = pieces_in(text);
     'parts: while let Some(part) = parts.next_piece() {
@@ -105,7 +106,7 @@ fn all_free(text: &[u8]) -> bool
 
 // Parts that say nothing, each behind a bar, or nothing at all.
 fn are_free_parts(text: &[u8]) -> bool
-    ensures { result ≡ free_parts text.now }
+    ensures { result ≡ spec.are_free_parts text.now }
 {
     let cursor = at_front(text);
     if trim(text).is_empty() || cursor.is_next(b'|') {

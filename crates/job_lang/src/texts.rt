@@ -2,7 +2,7 @@ ghost use Rattle.std.specs.Prelude.{◌≡◌, ◌++◌, IfOk, OnOk};
 ghost use Rattle.std.specs.List.{list_any};
 ghost use Rattle.std.specs.Set.{distinct_count as distinct_number};
 ghost use Rattle.std.specs.Str.{bytes_eq};
-ghost use Rattle.job_lang.specs.TableTexts.{is_twice as twice};
+ghost use Rattle.job_lang.specs.TableTexts as spec;
 
 use sdc_base::{Items, Memory, Text};
 use std::alloc::Global;
@@ -46,7 +46,7 @@ pub(crate) fn distinct_count(texts: &[Text]) -> usize
 
 /// Whether some text stands twice in a list.
 pub(crate) fn is_twice(texts: &[Text]) -> bool
-    ensures { result ≡ twice texts.now }
+    ensures { result ≡ spec.is_twice texts.now }
 {
     distinct_count(texts) < texts.len()
 }

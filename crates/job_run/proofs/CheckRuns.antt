@@ -1,13 +1,13 @@
 -- A check of a release, from how it went on.
 use Rattle.std.proofs.Common.{◌≡◌, ◌≢◌, inl, inr, ℕ, List, Result, Ok, Err, refl, ap, sym}
 use Rattle.sdc_base.specs.Answers.{Fails}
-use Rattle.sdc_base.specs.Told.{WhereTold}
+use Rattle.sdc_base.specs.WhereTold.{WhereTold}
 use Rattle.office_io.specs.Files.{Files}
 use Rattle.office_io.specs.Shelves.{ShelfState}
 use Rattle.office_io.specs.Trays.{TrayState}
-use Rattle.job_check.specs.Answers.{Comes}
+use Rattle.job_check.specs.Answers.{AnswersRelease}
 use Rattle.job_check.specs.Reading.{ComesTo}
-use Rattle.job_check.specs.Released.{Released, released_of}
+use Rattle.job_check.specs.ReleaseFiles.{ReleasedFiles, released_of}
 use Rattle.job_check.specs.declared.stop.CheckStop.{CheckStop}
 use Rattle.job_check.specs.declared.stop.CheckStop.TheVariants as check
 use Rattle.job_inputs.specs.Reading.{stopped_for, HasCause as HasInputCause, HasComeTo as HasInputComeTo}
@@ -28,17 +28,17 @@ check_report (Ok fine) = report.Accepted
 check_report (Err (check.Inputs why)) = report_of (Err (inputs_stop why))
 check_report (Err (check.NotAccepted why)) = report.NotAccepted why
 
-inputs-meet-check : (e : InputStop) (outcome : Result Released Fault) → Fails (stopped_for e) outcome → MeetsCheck (report_of (Err (inputs_stop e))) outcome
+inputs-meet-check : (e : InputStop) (outcome : Result ReleasedFiles Fault) → Fails (stopped_for e) outcome → MeetsCheck (report_of (Err (inputs_stop e))) outcome
 inputs-meet-check (input.Refused f) outcome h = h
 inputs-meet-check (input.ReadFault f) outcome h = tt
 inputs-meet-check input.Memory outcome h = tt
 
-meets : (r : Result (Unit {0}) CheckStop) (outcome : Result Released Fault) → Comes outcome r → MeetsCheck (check_report r) outcome
+meets : (r : Result (Unit {0}) CheckStop) (outcome : Result ReleasedFiles Fault) → AnswersRelease outcome r → MeetsCheck (check_report r) outcome
 meets (Ok fine) outcome h = h
 meets (Err (check.Inputs why)) outcome h = inputs-meet-check why outcome h
 meets (Err (check.NotAccepted why)) outcome h = h
 
-settles-check : (answer : Report) (outcome : Result Released Fault) → MeetsCheck answer outcome → ((f : FileRef) → answer ≢ report.ReadFault f) → SettlesCheck answer outcome
+settles-check : (answer : Report) (outcome : Result ReleasedFiles Fault) → MeetsCheck answer outcome → ((f : FileRef) → answer ≢ report.ReadFault f) → SettlesCheck answer outcome
 settles-check report.Accepted (Ok released) h no_read = tt
 settles-check report.Accepted (Err f) h no_read = absurd h
 settles-check (report.NotAccepted why) (Ok released) h no_read = tt
@@ -78,7 +78,7 @@ check-answers (Err (check.Inputs why)) = inputs-answer why
 check-answers (Err (check.NotAccepted why)) = tt
 
 -- what holds of how it went on holds of the check
-pub check-run : (name : List ℕ) (r : Result (Unit {0}) CheckStop) (old new : ShelfState) (tray : TrayState) → WhereTold old.files (λ fs. Comes (released_of fs name) r)
+pub check-run : (name : List ℕ) (r : Result (Unit {0}) CheckStop) (old new : ShelfState) (tray : TrayState) → WhereTold old.files (λ fs. AnswersRelease (released_of fs name) r)
     → WhereTold old.files (λ fs. (e : InputStop) → r ≡ Err (check.Inputs e) → HasInputComeTo {X = Unit {0}} (ComesTo fs name) (Err e) fs new)
     → ((e : InputStop) → r ≡ Err (check.Inputs e) → HasInputCause {X = Unit {0}} (Err e) old new) → IsCheckOf name (check_report r) old new tray tray
 check-run name r old new tray told come cause = record {

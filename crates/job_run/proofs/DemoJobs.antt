@@ -9,7 +9,7 @@ use Rattle.office_io.specs.Files.{Files}
 use Rattle.demo_files.specs.DemoFiles.{demo_files, job_name, job_text}
 use Rattle.job_lang.specs.declared.job.Job.{Job}
 use Rattle.job_lang.specs.Jobs.{job_made, closed_job, job_of}
-use Rattle.job_lang.specs.LineTokens.{behind_mark, quoted_at, number_at, digits_at, ended, closed}
+use Rattle.job_lang.specs.LineTokens.{behind_mark, quoted_at, number_at, digits_at, end_of_tokens, closing_token}
 use Rattle.job_lang.specs.Keywords.{keyword_of, word_in}
 use Rattle.job_lang.specs.RuleTexts.{one_number, frequency_clause, clause_in, clauses_in, percent_clause, rules_in}
 use Rattle.job_lang.specs.TableTexts.{names_up_to, quoted_part, table_argument}
@@ -23,11 +23,11 @@ use Rattle.job_lang.specs.Binding.{bound_of}
 use Rattle.job_lang.specs.declared.faults.JobWhy.TheVariants.{BadValue}
 use Rattle.job_inputs.specs.Cells.{figures, cells_fault, prior_fault}
 use Rattle.job_inputs.specs.Layouts.{layout_of}
-use Rattle.job_inputs.specs.Stated.{priors_of}
+use Rattle.job_inputs.specs.PriorStatements.{priors_of}
 use Rattle.job_inputs.specs.declared.faults.Fault.TheVariants as fault
-use Rattle.job_inputs.specs.Inputs.{look, job_for, job_fault, meta_fault, described_of, fields_of, spanning, look_at_records, inputs_of}
+use Rattle.job_inputs.specs.Inputs.{bytes_of_file, job_for, job_fault, meta_fault, described_of, fields_of, spanning_variables, look_at_records, inputs_of}
 use Rattle.job_inputs.specs.Purposes.{is_unfit}
-use Rattle.job_inputs.specs.Settled.{SettledInputs, overwrites_job, settled_of}
+use Rattle.job_inputs.specs.SettledJobs.{SettledInputs, overwrites_job, settled_of}
 use Rattle.job_inputs.specs.declared.described.Described.{Described}
 use Rattle.job_inputs.specs.declared.file_ref.FileRef.TheVariants as file
 use Rattle.job_inputs.specs.declared.inputs.Inputs.{Inputs}
@@ -57,11 +57,11 @@ demo_job = record {
 }
 
 job-is : job_of job_text ≡ Ok demo_job
-unfolding behind_mark quoted_at number_at digits_at ended closed keyword_of word_in one_number frequency_clause clause_in clauses_in percent_clause rules_in names_up_to quoted_part table_argument file_at only_file output_argument modular_method method_argument cost_of cost_argument argument_of with_table with_statement with_said command_line text_says lines_say no_stray no_same_name outputs_from job_made closed_job job_of
+unfolding behind_mark quoted_at number_at digits_at end_of_tokens closing_token keyword_of word_in one_number frequency_clause clause_in clauses_in percent_clause rules_in names_up_to quoted_part table_argument file_at only_file output_argument modular_method method_argument cost_of cost_argument argument_of with_table with_statement with_said command_line text_says lines_say no_stray no_same_name outputs_from job_made closed_job job_of
 job-is = refl
 
 -- the folder holds that text
-held : (seed records : ℕ) → look (demo_files seed records) job_name file.Job ≡ Ok job_text
+held : (seed records : ℕ) → bytes_of_file (demo_files seed records) job_name file.Job ≡ Ok job_text
 held seed records = refl
 
 -- ---- how inputs come to their job
@@ -70,18 +70,18 @@ inputs-described : (purpose : Purpose) (files : Files) (name : List ℕ) (inputs
 unfolding inputs_of
 inputs-described purpose files name inputs is =
     let described = bind_ok (described_of purpose files name) _ inputs is in
-    let fields = bind_ok (fields_of files (spanning described.0)) _ inputs described.2 in
+    let fields = bind_ok (fields_of files (spanning_variables described.0)) _ inputs described.2 in
     let rows = bind_ok (look_at_records files described.0.job.micro (layout_of described.0.meta.variables described.0.bound fields.0)) _ inputs fields.2 in
     let same : record { described = described.0; records = rows.0 } ≡ inputs = ok-is rows.2 in
     described.1 ∙ ap Ok (ap (λ (one : Inputs). one.described) same)
 
 described-job : (purpose : Purpose) (files : Files) (name : List ℕ) (described : Described) → described_of purpose files name ≡ Ok described
-    → (bytes : List ℕ) × (look files name file.Job ≡ Ok bytes) × (job_for purpose bytes ≡ Ok described.job)
+    → (bytes : List ℕ) × (bytes_of_file files name file.Job ≡ Ok bytes) × (job_for purpose bytes ≡ Ok described.job)
 unfolding described_of
 described-job purpose files name described is =
-    let bytes = bind_ok (look files name file.Job) _ described is in
+    let bytes = bind_ok (bytes_of_file files name file.Job) _ described is in
     let job = bind_ok (job_for purpose bytes.0) _ described bytes.2 in
-    let text = bind_ok (look files job.0.meta file.Metadata) _ described job.2 in
+    let text = bind_ok (bytes_of_file files job.0.meta file.Metadata) _ described job.2 in
     let meta = bind_ok (map_fault meta_fault (meta_of text.0)) _ described text.2 in
     let bound = bind_ok (map_fault job_fault (bound_of job.0 meta.0)) _ described meta.2 in
     let same : record { job = job.0; meta = meta.0; bound = bound.0 } ≡ described = ok-is bound.2 in

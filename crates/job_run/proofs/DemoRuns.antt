@@ -1,20 +1,20 @@
 -- A demonstration, from how its run went on.
 use Rattle.std.proofs.Common.{◌≡◌, ◌≤◌, ℕ, List, Result, Ok, Err, Option, None, Some, IfOk, OnOk, IsOkAnd, refl, sym, subst, arith}
-use Rattle.sdc_base.specs.Counts.{Rose, counted}
-use Rattle.sdc_base.specs.Told.{WhereTold}
+use Rattle.sdc_base.specs.Counts.{HasRisen, count_after}
+use Rattle.sdc_base.specs.WhereTold.{WhereTold}
 use Rattle.sdc_base.specs.declared.memory.Memory.{Memory}
 use Rattle.demo_files.specs.DemoFiles.{demo_files, job_name}
-use Rattle.demo_files.specs.Steady.{shelf_with, empty_tray}
+use Rattle.demo_files.specs.SteadyFiles.{shelf_with, empty_tray}
 use Rattle.office_io.specs.Shelves.{ShelfState}
 use Rattle.office_io.specs.Trays.{TrayState}
 use Rattle.worlds.specs.declared.refuted.Refuted.{Refuted}
-use Rattle.job_inputs.specs.Settled.{settled_of}
+use Rattle.job_inputs.specs.SettledJobs.{settled_of}
 use Rattle.job_inputs.specs.declared.purpose.Purpose.TheVariants as purpose
 use Rattle.job_run.specs.Demos.{IsDemoOf, SaysAnswer, SaysStuck}
 use Rattle.job_run.specs.Endings.{IsUndecided}
-use Rattle.job_run.specs.Released.{HasReleased}
+use Rattle.job_run.specs.PutReleases.{HasReleased}
 use Rattle.job_inputs.specs.Looks.{ComesTo}
-use Rattle.job_run.specs.Reports.{Meets, Leaves, HasCause, HasComeTo, report_of}
+use Rattle.job_run.specs.Reports.{AgreesWith, LeavesTray, HasCause, HasComeTo, report_of}
 use Rattle.job_run.specs.Summaries.{demo_of, stuck_demo}
 use Rattle.job_run.specs.declared.put.Release.{Release}
 use Rattle.job_run.specs.declared.report.DemoSummary.{DemoSummary}
@@ -29,7 +29,7 @@ use Rattle.job_run.proofs.ReleaseRuns.{release-run}
 ok-is : {A F : Type 0} {a b : A} → ◌≡◌ {A = Result A F} (Ok a) (Ok b) → a ≡ b
 ok-is {A} {F} {a} {b} is = let same : a ≡ b = cc in same
 
-never-rose : (old new : ℕ) → old ≡ 0 → new ≡ 0 → Rose old new → ⊥
+never-rose : (old new : ℕ) → old ≡ 0 → new ≡ 0 → HasRisen old new → ⊥
 never-rose old new is_old is_new rose = absurd (omega (arith, is_old, is_new, rose))
 
 none-some : {A : Type 0} {a : A} (o : Option A) → o ≡ None → o ≡ Some a → ⊥
@@ -47,7 +47,7 @@ says-stuck seed records (stuck.Nodes nodes) repairs shown meets =
 
 -- it says what its run answered
 says : (seed records : ℕ) (outcome : Result Release Stop) (after : ShelfState) (tray : TrayState) (demo : DemoSummary)
-    → after.faults ≡ 0 → tray.faults ≡ 0 → Meets (report_of outcome) (settled_of purpose.Release (demo_files seed records) job_name)
+    → after.faults ≡ 0 → tray.faults ≡ 0 → AgreesWith (report_of outcome) (settled_of purpose.Release (demo_files seed records) job_name)
     → HasCause (report_of outcome) (shelf_with (demo_files seed records)) after empty_tray tray
     → IfOk outcome (λ release. HasReleased (demo_files seed records) job_name release empty_tray tray)
     → demo_of outcome ≡ Ok demo → SaysAnswer (demo_files seed records) (report_of outcome) tray demo
@@ -62,9 +62,9 @@ says seed records (Err stop.Memory) after tray demo calm still meets cause relea
 
 -- all that holds of how a run for a release went on
 pub record WentOn (name : List ℕ) (outcome : Result Release Stop) (old new : ShelfState) (before after : TrayState) : Type 0 where
-  pub told : WhereTold old.files (λ fs. Meets (report_of outcome) (settled_of purpose.Release fs name))
-  pub left : WhereTold old.files (λ fs. Leaves (report_of outcome) (settled_of purpose.Release fs name) before after)
-  pub some : OnOk outcome ((count : ℕ) × (2 ≤ count) × (count ≤ 9) × (after.puts ≡ counted before.puts count))
+  pub told : WhereTold old.files (λ fs. AgreesWith (report_of outcome) (settled_of purpose.Release fs name))
+  pub left : WhereTold old.files (λ fs. LeavesTray (report_of outcome) (settled_of purpose.Release fs name) before after)
+  pub some : OnOk outcome ((count : ℕ) × (2 ≤ count) × (count ≤ 9) × (after.puts ≡ count_after before.puts count))
   pub released : WhereTold old.files (λ fs. IfOk outcome (λ release. HasReleased fs name release before after))
   pub cause : HasCause (report_of outcome) old new before after
   pub come : WhereTold old.files (λ fs. HasComeTo (ComesTo purpose.Release fs name) (report_of outcome) fs new)

@@ -1,7 +1,7 @@
 -- A run for intervals, from how it went on.
 use Rattle.std.proofs.Common.{◌≡◌, ◌≢◌, inl, inr, ℕ, List, Result, Ok, Err, IsOk, IsOkAnd, refl, ap, sym, subst}
 use Rattle.sdc_base.specs.Answers.{Fails}
-use Rattle.sdc_base.specs.Told.{WhereTold}
+use Rattle.sdc_base.specs.WhereTold.{WhereTold}
 use Rattle.interval_audit.specs.declared.answer.AskFault.{AskFault}
 use Rattle.interval_audit.specs.declared.answer.AskFault.TheVariants as ask
 use Rattle.office_io.specs.Files.{Files}
@@ -13,8 +13,8 @@ use Rattle.job_inputs.specs.declared.file_ref.FileRef.{FileRef}
 use Rattle.job_inputs.specs.declared.file_ref.FileRef.TheVariants as file
 use Rattle.job_inputs.specs.declared.stop.InputStop.{InputStop}
 use Rattle.job_inputs.specs.declared.stop.InputStop.TheVariants as input
-use Rattle.job_intervals.specs.Finding.{Comes, IsFileOf, IsUndecidedFor}
-use Rattle.job_intervals.specs.Shelved.{ShelvedTables, shelved_of, ComesTo}
+use Rattle.job_intervals.specs.Finding.{AnswersIntervals, IsFileOf, IsUndecidedFor}
+use Rattle.job_intervals.specs.TablesOnShelf.{ShelvedTables, shelved_of, ComesTo}
 use Rattle.job_intervals.specs.Stops.{HasCause as HasFindingCause, HasComeTo as HasFindingComeTo}
 use Rattle.job_intervals.specs.declared.interval_file.IntervalFile.{IntervalFile}
 use Rattle.job_intervals.specs.declared.stop.IntervalStop.{IntervalStop}
@@ -49,7 +49,7 @@ question-meets (ask.Size question hidden) (Ok shelved) h = reported shelved (ask
 question-meets ask.Memory (Ok shelved) h = tt
 question-meets why (Err f) h = absurd h
 
-stop-meets : (e : IntervalStop) (outcome : Result ShelvedTables Fault) → Comes outcome (Err e) → MeetsIntervals (stop_report e) outcome
+stop-meets : (e : IntervalStop) (outcome : Result ShelvedTables Fault) → AnswersIntervals outcome (Err e) → MeetsIntervals (stop_report e) outcome
 stop-meets (stop.Inputs why) outcome h = inputs-meet why outcome h
 stop-meets (stop.NotAccepted why) outcome h = h
 stop-meets (stop.Undecided why) outcome h = question-meets why outcome h
@@ -158,7 +158,7 @@ settles (report.Cannot cell side multipliers) outcome h no_read no_write = absur
 settles report.NoRounding outcome h no_read no_write = absurd h
 
 -- what holds of how it went on holds of a run that finds no intervals
-pub stopped-run : (name out : List ℕ) (e : IntervalStop) (old new : ShelfState) (tray : TrayState) → WhereTold old.files (λ fs. Comes (shelved_of fs name out) (Err e))
+pub stopped-run : (name out : List ℕ) (e : IntervalStop) (old new : ShelfState) (tray : TrayState) → WhereTold old.files (λ fs. AnswersIntervals (shelved_of fs name out) (Err e))
     → WhereTold old.files (λ fs. HasFindingComeTo (ComesTo fs name out) (Err e) fs new) → HasFindingCause (Err e) old new → IsIntervalRunOf name out (stop_report e) old new tray tray
 stopped-run name out e old new tray told come cause = record {
   answers = stop-answers e;
@@ -171,11 +171,11 @@ stopped-run name out e old new tray told come cause = record {
 }
 
 -- the same of a run that went on so, and reports it
-pub stopped-run-of : (name out : List ℕ) (r : Result IntervalFile IntervalStop) (e : IntervalStop) (answer : Report) (old new : ShelfState) (tray : TrayState) → r ≡ Err e → answer ≡ stop_report e → WhereTold old.files (λ fs. Comes (shelved_of fs name out) r)
+pub stopped-run-of : (name out : List ℕ) (r : Result IntervalFile IntervalStop) (e : IntervalStop) (answer : Report) (old new : ShelfState) (tray : TrayState) → r ≡ Err e → answer ≡ stop_report e → WhereTold old.files (λ fs. AnswersIntervals (shelved_of fs name out) r)
     → WhereTold old.files (λ fs. HasFindingComeTo (ComesTo fs name out) r fs new) → HasFindingCause r old new → IsIntervalRunOf name out answer old new tray tray
 stopped-run-of name out r e answer old new tray is same told come cause =
     subst (λ (a : Report). IsIntervalRunOf name out a old new tray tray) (sym same)
-    (stopped-run name out e old new tray (λ fs held. subst (λ (o : Result IntervalFile IntervalStop). Comes (shelved_of fs name out) o) is (told fs held))
+    (stopped-run name out e old new tray (λ fs held. subst (λ (o : Result IntervalFile IntervalStop). AnswersIntervals (shelved_of fs name out) o) is (told fs held))
     (λ fs held. subst (λ (o : Result IntervalFile IntervalStop). HasFindingComeTo (ComesTo fs name out) o fs new) is (come fs held)) (subst (λ (o : Result IntervalFile IntervalStop). HasFindingCause o old new) is cause))
 
 pub stopped-cause-of : (r : Result IntervalFile IntervalStop) (e : IntervalStop) (answer : Report) (old new : ShelfState) (tray : TrayState) → r ≡ Err e → answer ≡ stop_report e → HasFindingCause r old new → HasCause answer old new tray tray
@@ -199,7 +199,7 @@ part-leaves (Ok shelved) intervals out before after h part = record { intervals 
 part-leaves (Err f) intervals out before after h part = absurd h
 
 -- the file of the intervals was put
-pub put-run : (name out : List ℕ) (intervals : IntervalFile) (old new : ShelfState) (before after : TrayState) → WhereTold old.files (λ fs. Comes (shelved_of fs name out) (Ok intervals)) → HasPut out intervals.bytes before after
+pub put-run : (name out : List ℕ) (intervals : IntervalFile) (old new : ShelfState) (before after : TrayState) → WhereTold old.files (λ fs. AnswersIntervals (shelved_of fs name out) (Ok intervals)) → HasPut out intervals.bytes before after
     → IsIntervalRunOf name out (report.Intervals intervals.cells) old new before after
 put-run name out intervals old new before after told whole = record {
   answers = tt;
@@ -211,7 +211,7 @@ put-run name out intervals old new before after told whole = record {
 }
 
 -- it was put in part
-pub part-run : (name out : List ℕ) (intervals : IntervalFile) (old new : ShelfState) (before after : TrayState) → WhereTold old.files (λ fs. Comes (shelved_of fs name out) (Ok intervals)) → HasPutInPart out intervals.bytes before after
+pub part-run : (name out : List ℕ) (intervals : IntervalFile) (old new : ShelfState) (before after : TrayState) → WhereTold old.files (λ fs. AnswersIntervals (shelved_of fs name out) (Ok intervals)) → HasPutInPart out intervals.bytes before after
     → IsIntervalRunOf name out (report.WriteFault file.Out) old new before after
 part-run name out intervals old new before after told part = record {
   answers = tt;

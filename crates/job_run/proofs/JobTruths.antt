@@ -11,8 +11,8 @@ use Rattle.sdc_base.specs.Trees.{Tree, children}
 use Rattle.sdc_base.specs.declared.cell.Cell.{Cell}
 use Rattle.sdc_base.specs.declared.relation.Relation.{Relation}
 use Rattle.sdc_base.specs.declared.rows.Row.{Row}
-use Rattle.linked_tables.specs.Held.{Held}
-use Rattle.linked_tables.specs.Shared.{cells as cells_in}
+use Rattle.linked_tables.specs.BookViews.{BookView}
+use Rattle.linked_tables.specs.BookCells.{cells as cells_in}
 use Rattle.linked_tables.specs.declared.mark.Mark.{Mark}
 use Rattle.microdata.specs.Leaves.{AreLeaves}
 use Rattle.microdata.specs.Ranges.{IsRow as IsReadRow}
@@ -20,8 +20,8 @@ use Rattle.relations.specs.Holding.{AreTruths, HaveNoChildren, truth_at}
 use Rattle.job_inputs.proofs.Facts.{cells-are}
 use Rattle.job_inputs.proofs.Filling.{rows-are}
 use Rattle.job_inputs.specs.Cells.{truth_in}
-use Rattle.job_inputs.specs.Sound.{AreSound}
-use Rattle.job_inputs.specs.Tabulated.{IsBookOf}
+use Rattle.job_inputs.specs.SoundJobs.{AreSound}
+use Rattle.job_inputs.specs.TabulatedBooks.{IsBookOf}
 use Rattle.job_inputs.specs.declared.inputs.Inputs.{Inputs}
 use Rattle.job_run.specs.Roundings.{truths_in}
 
@@ -45,18 +45,18 @@ bare-rows trees (row ∷ rows) all =
     (bare-codes trees row.codes all.0) (bare-rows trees rows all.1)
 
 -- the records of a job have a code for each tree of its book
-pub are-coded : (inputs : Inputs) (book : Held) → AreSound inputs → IsBookOf inputs book → All (IsCoded book.trees) inputs.records.rows
+pub are-coded : (inputs : Inputs) (book : BookView) → AreSound inputs → IsBookOf inputs book → All (IsCoded book.trees) inputs.records.rows
 are-coded inputs book sound is =
     subst (λ (trees : List Tree). All (IsCoded trees) inputs.records.rows) (sym is.trees)
     (coded-rows inputs.records.trees inputs.described.bound.scale inputs.records.rows sound.records.rows.each)
 
 -- and none of these has codes below it
-pub are-bare : (inputs : Inputs) (book : Held) → AreSound inputs → IsBookOf inputs book → HaveNoChildren book.trees inputs.records.rows
+pub are-bare : (inputs : Inputs) (book : BookView) → AreSound inputs → IsBookOf inputs book → HaveNoChildren book.trees inputs.records.rows
 are-bare inputs book sound is =
     subst (λ (trees : List Tree). HaveNoChildren trees inputs.records.rows) (sym is.trees) (bare-rows inputs.records.trees inputs.records.rows sound.records.leaves)
 
 -- each mark has the truth of its cell over the records
-pub are-truths : (inputs : Inputs) (book : Held) → IsBookOf inputs book → AreTruths book inputs.records.rows
+pub are-truths : (inputs : Inputs) (book : BookView) → IsBookOf inputs book → AreTruths book inputs.records.rows
 are-truths inputs book is cell name mark named at = (is.told cell name mark named at).truth_is
 
 -- ---- lists of truths
@@ -85,7 +85,7 @@ truths-by_name f (name ∷ names) (mark ∷ marks) many each =
     ∙ ap (λ (ts : List ℤ). f name ∷ ts) (truths-by_name f names marks (omega (arith, many)) (λ cell other one named at. each (suc cell) other one named at))
 
 -- the truths of a job's cells are those of the records
-pub truths-are : (inputs : Inputs) (book : Held) (all : List Cell) → IsBookOf inputs book → map (λ (mark : Mark). mark.facts.truth) book.marks ≡ map (λ (cell : Cell). cell.truth) all
+pub truths-are : (inputs : Inputs) (book : BookView) (all : List Cell) → IsBookOf inputs book → map (λ (mark : Mark). mark.facts.truth) book.marks ≡ map (λ (cell : Cell). cell.truth) all
     → map (λ (cell : Cell). cell.truth) all ≡ truths_in inputs
 truths-are inputs book all is same =
     sym same

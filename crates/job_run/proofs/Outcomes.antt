@@ -1,12 +1,12 @@
 -- What a run comes to, from what its inputs came to.
 use Rattle.std.proofs.Common.{◌≡◌, inl, inr, List, ℕ, Result, Ok, Err, IsErrOf, IsOkAnd, refl, ap}
 use Rattle.sdc_base.specs.Answers.{Fails}
-use Rattle.sdc_base.specs.Counts.{Rose}
+use Rattle.sdc_base.specs.Counts.{HasRisen}
 use Rattle.office_io.specs.Files.{Files}
 use Rattle.office_io.specs.Shelves.{ShelfState}
 use Rattle.office_io.specs.Trays.{TrayState}
 use Rattle.job_inputs.specs.Reading.{stopped_for, HasCause as HasInputCause, HasComeTo as HasInputComeTo}
-use Rattle.job_inputs.specs.Settled.{SettledInputs, settled_of}
+use Rattle.job_inputs.specs.SettledJobs.{SettledInputs, settled_of}
 use Rattle.job_inputs.specs.declared.file_ref.FileRef.{FileRef}
 use Rattle.job_inputs.specs.declared.purpose.Purpose.TheVariants as purpose
 use Rattle.job_inputs.specs.declared.stop.InputStop.{InputStop}
@@ -14,8 +14,8 @@ use Rattle.job_inputs.specs.declared.stop.InputStop.TheVariants as input
 use Rattle.hierarchy.specs.declared.tree_fault.TreeFault.TheVariants as tree
 use Rattle.job_run.specs.Endings.{IsReleaseOf}
 use Rattle.job_run.specs.Puts.{SomeWhole, OneInPart}
-use Rattle.job_run.specs.Reports.{report_of, Meets, Leaves, LeavesAll, HasCause, HasComeTo}
-use Rattle.job_run.specs.Stops.{Comes, inputs_stop, puts_stop}
+use Rattle.job_run.specs.Reports.{report_of, AgreesWith, LeavesTray, LeavesAll, HasCause, HasComeTo}
+use Rattle.job_run.specs.Stops.{ComesToRelease, inputs_stop, puts_stop}
 use Rattle.job_run.specs.declared.put.Release.{Release}
 use Rattle.job_run.specs.declared.puts.PutStop.{PutStop}
 use Rattle.job_run.specs.declared.puts.PutStop.TheVariants as puts
@@ -33,12 +33,12 @@ ok-and P (Err f) h = absurd h
 
 -- ---- what stopped the inputs
 
-pub inputs-meet : (e : InputStop) (files : Files) (name : List ℕ) → Fails (stopped_for e) (settled_of purpose.Release files name) → Meets (report_of (Err (inputs_stop e))) (settled_of purpose.Release files name)
+pub inputs-meet : (e : InputStop) (files : Files) (name : List ℕ) → Fails (stopped_for e) (settled_of purpose.Release files name) → AgreesWith (report_of (Err (inputs_stop e))) (settled_of purpose.Release files name)
 inputs-meet (input.Refused f) files name h = rw h refl
 inputs-meet (input.ReadFault f) files name h = tt
 inputs-meet input.Memory files name h = tt
 
-pub inputs-leave : (e : InputStop) (outcome : Result SettledInputs Fault) (tray : TrayState) → Leaves (report_of (Err (inputs_stop e))) outcome tray tray
+pub inputs-leave : (e : InputStop) (outcome : Result SettledInputs Fault) (tray : TrayState) → LeavesTray (report_of (Err (inputs_stop e))) outcome tray tray
 inputs-leave (input.Refused f) outcome tray = tt
 inputs-leave (input.ReadFault f) outcome tray = tt
 inputs-leave input.Memory outcome tray = inl refl
@@ -79,7 +79,7 @@ inputs-come input.Memory comes files new come = λ f is. absurd cc
 
 -- ---- what stopped the release
 
-pub stop-meets : (e : Stop) (files : Files) (name : List ℕ) (settled : SettledInputs) → settled_of purpose.Release files name ≡ Ok settled → Comes settled (Err e) → Meets (report_of (Err e)) (settled_of purpose.Release files name)
+pub stop-meets : (e : Stop) (files : Files) (name : List ℕ) (settled : SettledInputs) → settled_of purpose.Release files name ≡ Ok settled → ComesToRelease settled (Err e) → AgreesWith (report_of (Err e)) (settled_of purpose.Release files name)
 stop-meets (stop.Refused f) files name settled read comes = absurd comes
 stop-meets (stop.Cannot cell side multipliers) files name settled read comes = rw read comes
 stop-meets stop.NoRounding files name settled read comes = rw read comes
@@ -88,7 +88,7 @@ stop-meets (stop.ReadFault f) files name settled read comes = absurd comes
 stop-meets (stop.WriteFault f) files name settled read comes = absurd comes
 stop-meets stop.Memory files name settled read comes = tt
 
-pub stop-leaves : (e : Stop) (settled : SettledInputs) (outcome : Result SettledInputs Fault) (tray : TrayState) → Comes settled (Err e) → Leaves (report_of (Err e)) outcome tray tray
+pub stop-leaves : (e : Stop) (settled : SettledInputs) (outcome : Result SettledInputs Fault) (tray : TrayState) → ComesToRelease settled (Err e) → LeavesTray (report_of (Err e)) outcome tray tray
 stop-leaves (stop.Refused f) settled outcome tray comes = absurd comes
 stop-leaves (stop.Cannot cell side multipliers) settled outcome tray comes = tt
 stop-leaves stop.NoRounding settled outcome tray comes = tt
@@ -106,7 +106,7 @@ stop-leaves-all (stop.ReadFault f) tray = refl
 stop-leaves-all (stop.WriteFault f) tray = tt
 stop-leaves-all stop.Memory tray = tt
 
-pub stop-cause : (e : Stop) (settled : SettledInputs) (old new : ShelfState) (tray : TrayState) → Comes settled (Err e) → HasCause (report_of (Err e)) old new tray tray
+pub stop-cause : (e : Stop) (settled : SettledInputs) (old new : ShelfState) (tray : TrayState) → ComesToRelease settled (Err e) → HasCause (report_of (Err e)) old new tray tray
 stop-cause (stop.Refused f) settled old new tray comes = absurd comes
 stop-cause (stop.Cannot cell side multipliers) settled old new tray comes = no-cause (stop.Cannot cell side multipliers) old new tray tray (λ f is. absurd cc) (λ f is. absurd cc) (λ f is. absurd cc) (λ f is. absurd cc) (λ f is. absurd cc)
 stop-cause stop.NoRounding settled old new tray comes = no-cause stop.NoRounding old new tray tray (λ f is. absurd cc) (λ f is. absurd cc) (λ f is. absurd cc) (λ f is. absurd cc) (λ f is. absurd cc)
@@ -115,7 +115,7 @@ stop-cause (stop.ReadFault f) settled old new tray comes = absurd comes
 stop-cause (stop.WriteFault f) settled old new tray comes = absurd comes
 stop-cause stop.Memory settled old new tray comes = no-cause stop.Memory old new tray tray (λ f is. absurd cc) (λ f is. absurd cc) (λ f is. absurd cc) (λ f is. absurd cc) (λ f is. absurd cc)
 
-pub stop-come : (e : Stop) (settled : SettledInputs) (comes : FileRef → List ℕ → Type 0) (files : Files) (new : ShelfState) → Comes settled (Err e) → HasComeTo comes (report_of (Err e)) files new
+pub stop-come : (e : Stop) (settled : SettledInputs) (comes : FileRef → List ℕ → Type 0) (files : Files) (new : ShelfState) → ComesToRelease settled (Err e) → HasComeTo comes (report_of (Err e)) files new
 stop-come (stop.Refused g) settled come files new comes = absurd comes
 stop-come (stop.Cannot cell side multipliers) settled come files new comes = λ f is. absurd cc
 stop-come stop.NoRounding settled come files new comes = λ f is. absurd cc
@@ -126,12 +126,12 @@ stop-come stop.Memory settled come files new comes = λ f is. absurd cc
 
 -- ---- what stopped the puts came after whole inputs
 
-pub puts-meet : (e : PutStop) (outcome : Result SettledInputs Fault) (settled : SettledInputs) → outcome ≡ Ok settled → Meets (report_of (Err (puts_stop e))) outcome
+pub puts-meet : (e : PutStop) (outcome : Result SettledInputs Fault) (settled : SettledInputs) → outcome ≡ Ok settled → AgreesWith (report_of (Err (puts_stop e))) outcome
 puts-meet (puts.WriteFault f) outcome settled is = rw is refl
 puts-meet puts.Memory outcome settled is = tt
 
 pub puts-leave : (e : PutStop) (outcome : Result SettledInputs Fault) (settled : SettledInputs) (r : Release) (old new : TrayState) → outcome ≡ Ok settled → IsReleaseOf settled r
-    → ((f : FileRef) → IsErrOf {T = Unit {0}} (Err e) (puts.WriteFault f) → OneInPart r.puts f old new) → (IsErrOf {T = Unit {0}} (Err e) puts.Memory → SomeWhole r.puts old new) → Leaves (report_of (Err (puts_stop e))) outcome old new
+    → ((f : FileRef) → IsErrOf {T = Unit {0}} (Err e) (puts.WriteFault f) → OneInPart r.puts f old new) → (IsErrOf {T = Unit {0}} (Err e) puts.Memory → SomeWhole r.puts old new) → LeavesTray (report_of (Err (puts_stop e))) outcome old new
 puts-leave (puts.WriteFault f) outcome settled r old new is made part whole = rw is (r, made, part f refl)
 puts-leave puts.Memory outcome settled r old new is made part whole = inr (rw is (r, made, whole refl))
 
@@ -139,7 +139,7 @@ pub puts-leave-all : (e : PutStop) (old new : TrayState) → LeavesAll (report_o
 puts-leave-all (puts.WriteFault f) old new = tt
 puts-leave-all puts.Memory old new = tt
 
-pub puts-cause : (e : PutStop) (old new : ShelfState) (before after : TrayState) → ((f : FileRef) → IsErrOf {T = Unit {0}} (Err e) (puts.WriteFault f) → Rose before.faults after.faults) → HasCause (report_of (Err (puts_stop e))) old new before after
+pub puts-cause : (e : PutStop) (old new : ShelfState) (before after : TrayState) → ((f : FileRef) → IsErrOf {T = Unit {0}} (Err e) (puts.WriteFault f) → HasRisen before.faults after.faults) → HasCause (report_of (Err (puts_stop e))) old new before after
 puts-cause (puts.WriteFault g) old new before after cause = record { absent = λ f is. absurd cc; too_long = λ f is. absurd cc; read_fault = λ f is. absurd cc; write_fault = λ f is. cause g refl; tree = λ f is. absurd cc }
 puts-cause puts.Memory old new before after cause = no-cause stop.Memory old new before after (λ f is. absurd cc) (λ f is. absurd cc) (λ f is. absurd cc) (λ f is. absurd cc) (λ f is. absurd cc)
 

@@ -2,20 +2,20 @@
 use Rattle.std.proofs.Common.{◌≡◌, ℕ, zero, suc, arith, ◌+◌, ◌<◌, List, [], ◌∷◌, ◌++◌, length, take, get_or, Option, None, Some, option_map, refl, ap, sym, ◌∙◌, inl, inr}
 use Rattle.std.proofs.lemmas.List.{take_more}
 use Rattle.std.proofs.lemmas.Option.{slice_get_read}
-use Rattle.sdc_base.specs.Counts.{counted}
-use Rattle.office_io.specs.Files.{Files, put}
+use Rattle.sdc_base.specs.Counts.{count_after}
+use Rattle.office_io.specs.Files.{Files, files_after_put}
 use Rattle.office_io.specs.Trays.{TrayState, HasPutInPart}
 use Rattle.job_run.specs.Puts.{put_all, OneInPart, SomeWhole}
 use Rattle.job_inputs.specs.declared.file_ref.FileRef.{FileRef}
 use Rattle.job_run.specs.declared.put.Put.{Put}
 
-put_all-push : (out : Files) (puts : List Put) (p : Put) → put_all out (puts ++ p ∷ []) ≡ put (put_all out puts) p.name p.bytes
+put_all-push : (out : Files) (puts : List Put) (p : Put) → put_all out (puts ++ p ∷ []) ≡ files_after_put (put_all out puts) p.name p.bytes
 put_all-push out [] p = refl
-put_all-push out (q ∷ puts) p = put_all-push (put out q.name q.bytes) puts p
+put_all-push out (q ∷ puts) p = put_all-push (files_after_put out q.name q.bytes) puts p
 
 -- a put after the puts so far
 pub put-more : (puts : List Put) (i : ℕ) (p : Put) (start old new : Option Files) → i < length puts → p ≡ get_or puts i p →
-    old ≡ option_map (λ out. put_all out (take i puts)) start → new ≡ option_map (λ out. put out p.name p.bytes) old →
+    old ≡ option_map (λ out. put_all out (take i puts)) start → new ≡ option_map (λ out. files_after_put out p.name p.bytes) old →
     new ≡ option_map (λ out. put_all out (take (i + 1) puts)) start
 put-more puts i p None old new below is before after = rw after (rw before refl)
 put-more puts i p (Some out) old new below is before after =
@@ -23,13 +23,13 @@ put-more puts i p (Some out) old new below is before after =
     after ∙ rw before (ap Some (sym (put_all-push out (take i puts) p) ∙ ap (put_all out) (sym more)))
 
 -- one put more, counted
-pub counted-more : (before after : ℕ) (start i : ℕ) → (i ≡ 0 → before ≡ start) → (0 < i → before ≡ counted start i) → after ≡ counted before 1 → after ≡ counted start (i + 1)
+pub counted-more : (before after : ℕ) (start i : ℕ) → (i ≡ 0 → before ≡ start) → (0 < i → before ≡ count_after start i) → after ≡ count_after before 1 → after ≡ count_after start (i + 1)
 counted-more before after start zero none once more = omega (arith, none refl, more)
 counted-more before after start (suc i) none once more = omega (arith, once (omega arith), more)
 
 -- a put that stopped after some bytes
 pub put-part : (puts : List Put) (i : ℕ) (p : Put) (f : FileRef) (start old new : TrayState) → i < length puts → p ≡ get_or puts i p → p.file ≡ f
-    → old.files ≡ option_map (λ out. put_all out (take i puts)) start.files → (i ≡ 0 → old ≡ start) → (0 < i → old.puts ≡ counted start.puts i) → HasPutInPart p.name p.bytes old new → OneInPart puts f start new
+    → old.files ≡ option_map (λ out. put_all out (take i puts)) start.files → (i ≡ 0 → old ≡ start) → (0 < i → old.puts ≡ count_after start.puts i) → HasPutInPart p.name p.bytes old new → OneInPart puts f start new
 put-part puts i p f start old new below is named before none once part = (
   i,
   part.files.0,
@@ -42,12 +42,12 @@ put-part puts i p f start old new below is named before none once part = (
   },
 )
   where
-    after_all : (n : ℕ) (o : Option Files) → option_map (λ out. put out p.name (take n p.bytes)) (option_map (λ out. put_all out (take i puts)) o) ≡ option_map (λ out. put (put_all out (take i puts)) p.name (take n p.bytes)) o
+    after_all : (n : ℕ) (o : Option Files) → option_map (λ out. files_after_put out p.name (take n p.bytes)) (option_map (λ out. put_all out (take i puts)) o) ≡ option_map (λ out. files_after_put (put_all out (take i puts)) p.name (take n p.bytes)) o
     after_all n None = refl
     after_all n (Some out) = refl
 
 -- the puts so far, where memory was wanting for the next
-pub some-whole : (puts : List Put) (i : ℕ) (start old new : TrayState) → old.files ≡ option_map (λ out. put_all out (take i puts)) start.files → (i ≡ 0 → old ≡ start) → (0 < i → old.puts ≡ counted start.puts i)
+pub some-whole : (puts : List Put) (i : ℕ) (start old new : TrayState) → old.files ≡ option_map (λ out. put_all out (take i puts)) start.files → (i ≡ 0 → old ≡ start) → (0 < i → old.puts ≡ count_after start.puts i)
     → new ≡ old → SomeWhole puts start new
 some-whole puts zero start old new before none once same = inl (same ∙ none refl)
 some-whole puts (suc i) start old new before none once same =

@@ -1,15 +1,15 @@
 -- A run for a release, from how it went on.
 use Rattle.std.proofs.Common.{◌≡◌, ◌≤◌, ℕ, List, Result, Ok, Err, IfOk, OnOk, subst}
-use Rattle.sdc_base.specs.Counts.{counted}
-use Rattle.sdc_base.specs.Told.{WhereTold}
+use Rattle.sdc_base.specs.Counts.{count_after}
+use Rattle.sdc_base.specs.WhereTold.{WhereTold}
 use Rattle.office_io.specs.Shelves.{ShelfState}
 use Rattle.office_io.specs.Trays.{TrayState}
 use Rattle.job_inputs.specs.Looks.{ComesTo}
-use Rattle.job_inputs.specs.Settled.{settled_of}
+use Rattle.job_inputs.specs.SettledJobs.{settled_of}
 use Rattle.job_inputs.specs.declared.purpose.Purpose.TheVariants as purpose
-use Rattle.job_run.specs.Released.{Releases, HasReleased}
+use Rattle.job_run.specs.PutReleases.{Releases, HasReleased}
 use Rattle.job_run.specs.ReleaseRuns.{IsReleaseRunOf}
-use Rattle.job_run.specs.Reports.{report_of, IsReleaseAnswer, Meets, Leaves, HasCause, HasComeTo}
+use Rattle.job_run.specs.Reports.{report_of, IsReleaseAnswer, AgreesWith, LeavesTray, HasCause, HasComeTo}
 use Rattle.job_run.specs.declared.put.Release.{Release}
 use Rattle.job_run.specs.declared.report.Report.TheVariants as report
 use Rattle.job_run.specs.declared.report.Summary.{Summary}
@@ -41,8 +41,8 @@ release-answers (Err stop.Memory) = tt
 
 -- what holds of how it went on holds of the run
 pub release-run : (name : List ℕ) (r : Result Release Stop) (old new : ShelfState) (before after : TrayState)
-    → WhereTold old.files (λ fs. Meets (report_of r) (settled_of purpose.Release fs name)) → WhereTold old.files (λ fs. Leaves (report_of r) (settled_of purpose.Release fs name) before after)
-    → OnOk r ((count : ℕ) × (2 ≤ count) × (count ≤ 9) × (after.puts ≡ counted before.puts count)) → WhereTold old.files (λ fs. IfOk r (λ release. HasReleased fs name release before after))
+    → WhereTold old.files (λ fs. AgreesWith (report_of r) (settled_of purpose.Release fs name)) → WhereTold old.files (λ fs. LeavesTray (report_of r) (settled_of purpose.Release fs name) before after)
+    → OnOk r ((count : ℕ) × (2 ≤ count) × (count ≤ 9) × (after.puts ≡ count_after before.puts count)) → WhereTold old.files (λ fs. IfOk r (λ release. HasReleased fs name release before after))
     → HasCause (report_of r) old new before after → WhereTold old.files (λ fs. HasComeTo (ComesTo purpose.Release fs name) (report_of r) fs new)
     → IsReleaseRunOf name (report_of r) old new before after
 release-run name r old new before after told left some released cause come = record {

@@ -10,7 +10,7 @@ use Rattle.sdc_base.specs.declared.cell.Cell.{Cell}
 use Rattle.sdc_base.specs.declared.hidden.Hidden.{Hidden}
 use Rattle.sdc_base.specs.declared.method.Method.{Method}
 use Rattle.sdc_base.specs.declared.trail.PlanStep.{PlanStep}
-use Rattle.apriori.specs.Settling.{Settled, seen}
+use Rattle.apriori.specs.Settling.{SettledCell, view_of_cell}
 use Rattle.sdc_base.specs.declared.system.System.{System}
 use Rattle.certificate.specs.declared.certificate.Certificate.{Certificate}
 use Rattle.cell_protection.specs.Certifying.{hidden_numbers}
@@ -19,20 +19,20 @@ use Rattle.cell_protection.specs.declared.protection.Protection.{Protection}
 use Rattle.cell_protection.specs.declared.protection.Protection.TheVariants as protection
 use Rattle.interval_audit.specs.declared.answer.AskFault.{AskFault}
 use Rattle.interval_audit.specs.declared.answer.AskFault.TheVariants as ask
-use Rattle.linked_tables.specs.Held.{Held}
-use Rattle.linked_tables.specs.Shared.{cells as cells_in}
+use Rattle.linked_tables.specs.BookViews.{BookView}
+use Rattle.linked_tables.specs.BookCells.{cells as cells_in}
 use Rattle.linked_tables.specs.declared.mark.Mark.{Mark}
 use Rattle.modular_plan.specs.Plans.{trail_of}
 use Rattle.primary_rules.specs.Ranges.{IsTruth}
-use Rattle.release_writer.specs.Shown.{CanBeShown}
+use Rattle.release_writer.specs.ShownCells.{CanBeShown}
 use Rattle.release_writer.specs.declared.shown.Shown.TheVariants as shown
 use Rattle.repair.specs.HidingOrder.{Case, case, prices_of}
 use Rattle.repair.specs.declared.stopped.Stopped.{Stopped}
 use Rattle.worlds.specs.Protection.{Protection as HiddenSet}
 use Rattle.worlds.specs.declared.refuted.Refuted.{Refuted}
 use Rattle.job_inputs.specs.Cells.{cells}
-use Rattle.job_inputs.specs.Settled.{SettledInputs, IsSettledOf}
-use Rattle.job_inputs.specs.Tabulated.{IsReadyFor}
+use Rattle.job_inputs.specs.SettledJobs.{SettledInputs, IsSettledOf}
+use Rattle.job_inputs.specs.TabulatedBooks.{IsReadyFor}
 use Rattle.job_inputs.specs.declared.described.Described.{Described}
 use Rattle.job_inputs.specs.declared.settled.SettledJob.{SettledJob}
 use Rattle.relations.specs.Holding.{IsSystemOf}
@@ -42,7 +42,7 @@ use Rattle.job_run.specs.Releases.{summary_of}
 use Rattle.job_run.specs.Roundings.{base_of}
 use Rattle.job_run.specs.declared.put.Release.{Release}
 use Rattle.job_run.specs.declared.report.Summary.{Summary}
-use Rattle.job_run.specs.Stops.{Comes, question_stop, stopped_stop}
+use Rattle.job_run.specs.Stops.{ComesToRelease, question_stop, stopped_stop}
 
 -- a job has the base of its settled inputs, if it has one
 pub same-base : (settled : SettledInputs) (job : SettledJob) → IsSettledOf settled job → base_of settled.inputs.described ≡ base_of job.described
@@ -55,14 +55,14 @@ pub protection-for : (settled : SettledInputs) (job : SettledJob) (system : Syst
 protection-for settled job system protection hides is_job is_system is = record { hides = same-base settled job is_job ∙ hides; job = job; system = system; job_is = is_job; system_is = is_system; comes_to = is }
 
 question-comes : (settled : SettledInputs) (fault : AskFault) (repairs : List Refuted) (shown : List ℕ) → StopsShort settled fault repairs shown
-    → Comes settled (Err (question_stop fault repairs shown))
+    → ComesToRelease settled (Err (question_stop fault repairs shown))
 question-comes settled (ask.Work walk) repairs shown is = is
 question-comes settled (ask.Wide walk place) repairs shown is = is
 question-comes settled (ask.Size question hidden) repairs shown is = is
 question-comes settled ask.Memory repairs shown is = tt
 
 -- a protection that stopped short stops the run
-pub stopped-comes : (settled : SettledInputs) (stopped : Stopped) → IsProtectionFor settled (protection.Undecided stopped) → Comes settled (Err (stopped_stop stopped))
+pub stopped-comes : (settled : SettledInputs) (stopped : Stopped) → IsProtectionFor settled (protection.Undecided stopped) → ComesToRelease settled (Err (stopped_stop stopped))
 stopped-comes settled stopped is = question-comes settled stopped.fault stopped.repairs stopped.shown is
 
 -- the same, where the cells are read through a slice
@@ -103,7 +103,7 @@ from-zero : (marks : List Mark) → All (λ (mark : Mark). IsTruth mark.facts.tr
 from-zero marks all k d within = (all k d within).from_zero
 
 -- a book with its truths in range and a flag for each cell can be shown with cells hidden
-pub hidden-can : (described : Described) (book : Held) (hidden : Bor Hidden) → IsReadyFor described book → length hidden.now.flags ≡ length book.marks → CanBeShown book (shown.Hidden hidden)
+pub hidden-can : (described : Described) (book : BookView) (hidden : Bor Hidden) → IsReadyFor described book → length hidden.now.flags ≡ length book.marks → CanBeShown book (shown.Hidden hidden)
 hidden-can described book hidden ready each = (each, from-zero book.marks ready.truths)
 
 -- ---- the numbers of a release
@@ -112,10 +112,10 @@ abbrev pub summary : ℕ → ℕ → ℕ → ℕ → ℕ → ℕ → Summary
 summary records skipped passed_over cells primary hidden = record { records = records; skipped = skipped; passed_over = passed_over; cells = cells; primary = primary; hidden = hidden }
 
 -- as many cells are primary, however they are seen
-as-many-primary : (cells : List Cell) → length (filter (λ (cell : Cell). is_primary cell.kind) cells) ≡ length (filter (λ (cell : Settled). is_primary cell.kind) (map seen cells))
+as-many-primary : (cells : List Cell) → length (filter (λ (cell : Cell). is_primary cell.kind) cells) ≡ length (filter (λ (cell : SettledCell). is_primary cell.kind) (map view_of_cell cells))
 as-many-primary [] = refl
 as-many-primary (cell ∷ cells) = elim (is_primary cell.kind) as (λ b. length (cond b (cell ∷ filter (λ (one : Cell). is_primary one.kind) cells) (filter (λ (one : Cell). is_primary one.kind) cells))
-    ≡ length (cond b (seen cell ∷ filter (λ (one : Settled). is_primary one.kind) (map seen cells)) (filter (λ (one : Settled). is_primary one.kind) (map seen cells)))) [
+    ≡ length (cond b (view_of_cell cell ∷ filter (λ (one : SettledCell). is_primary one.kind) (map view_of_cell cells)) (filter (λ (one : SettledCell). is_primary one.kind) (map view_of_cell cells)))) [
       | true ↦ ap suc (as-many-primary cells)
       | false ↦ as-many-primary cells
     ]
@@ -131,7 +131,7 @@ numbers-are settled job all count primary is counted same primaries =
     ∙ ap (λ (n : ℕ). summary (length settled.inputs.records.rows) settled.inputs.records.skipped settled.inputs.described.meta.passed_over n primary 0)
     (counted ∙ ap (λ (trees : List Tree). length (cells_of trees job.book.tables)) is.book.trees ∙ ap (λ (tables : List (List ℕ)). length (cells_of settled.inputs.records.trees tables)) is.book.tables)
     ∙ ap (λ (n : ℕ). summary (length settled.inputs.records.rows) settled.inputs.records.skipped settled.inputs.described.meta.passed_over (length (cells settled.inputs)) n 0)
-    (primaries ∙ ap (λ (cs : List Cell). length (filter (λ (cell : Cell). is_primary cell.kind) cs)) same ∙ as-many-primary job.cells ∙ ap (λ (cs : List Settled). length (filter (λ (cell : Settled). is_primary cell.kind) cs)) is.cells)
+    (primaries ∙ ap (λ (cs : List Cell). length (filter (λ (cell : Cell). is_primary cell.kind) cs)) same ∙ as-many-primary job.cells ∙ ap (λ (cs : List SettledCell). length (filter (λ (cell : SettledCell). is_primary cell.kind) cs)) is.cells)
 
 -- with so many cells hidden they are those with so many
 pub with-hidden : (settled : SettledInputs) (numbers : Summary) (counted hidden : ℕ) → numbers ≡ summary_of settled 0 → counted ≡ hidden → record numbers { hidden = counted } ≡ summary_of settled hidden
@@ -140,5 +140,5 @@ with-hidden settled numbers counted hidden is same = ap (λ (s : Summary). recor
 -- ---- a suppressed release
 
 -- a hidden set that protects makes a suppressed release
-pub suppressed-comes : (settled : SettledInputs) (job : SettledJob) (release : Release) → base_of job.described ≡ None → IsSettledOf settled job → IsSuppressedRelease settled release → Comes settled (Ok release)
+pub suppressed-comes : (settled : SettledInputs) (job : SettledJob) (release : Release) → base_of job.described ≡ None → IsSettledOf settled job → IsSuppressedRelease settled release → ComesToRelease settled (Ok release)
 suppressed-comes settled job release hides is_of is = subst (λ (base : Option ℤ). IsReleaseBy base settled release) (sym (same-base settled job is_of ∙ hides)) is

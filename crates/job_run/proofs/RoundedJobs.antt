@@ -20,11 +20,11 @@ use Rattle.certificate.specs.Laws.{without_hidden_cells}
 use Rattle.certificate.specs.Spelling.{IsSpellable}
 use Rattle.certificate.specs.Texts.{text_of}
 use Rattle.certificate.specs.declared.certificate.Certificate.{Certificate}
-use Rattle.linked_tables.specs.Held.{Held}
-use Rattle.linked_tables.specs.Shared.{IsBook}
+use Rattle.linked_tables.specs.BookViews.{BookView}
+use Rattle.linked_tables.specs.BookCells.{IsBook}
 use Rattle.linked_tables.specs.declared.mark.Mark.{Mark}
 use Rattle.primary_rules.specs.Ranges.{IsTruth}
-use Rattle.release_writer.specs.Shown.{CanBeShown}
+use Rattle.release_writer.specs.ShownCells.{CanBeShown}
 use Rattle.release_writer.specs.declared.shown.Shown.TheVariants as shown
 use Rattle.relations.specs.Holding.{AreTruths, HaveNoChildren, IsSystemOf, sum_in, truth_at}
 use Rattle.relations.specs.TableSigns.{IsFlat, HaveSigns}
@@ -34,14 +34,14 @@ use Rattle.rounding.specs.Tasks.{IsProper, IsTruth as IsRoundable}
 use Rattle.rounding.specs.declared.fault.RoundFault.{RoundFault}
 use Rattle.rounding.specs.declared.fault.RoundFault.TheVariants as round
 use Rattle.job_inputs.specs.Cells.{cells}
-use Rattle.job_inputs.specs.Settled.{SettledInputs, IsSettledOf}
+use Rattle.job_inputs.specs.SettledJobs.{SettledInputs, IsSettledOf}
 use Rattle.job_inputs.specs.declared.described.Described.{Described}
 use Rattle.job_inputs.specs.declared.settled.SettledJob.{SettledJob}
 use Rattle.job_run.specs.Books.{CanBeReleased}
 use Rattle.job_run.specs.Endings.{IsReleaseBy}
 use Rattle.job_run.specs.Releases.{puts_of, summary_of, value_in}
 use Rattle.job_run.specs.Roundings.{base_of, truths_in, HasNoRounding, IsAlwaysRounded, IsOneOrTwoWay, IsSystemIn, SearchStops, rounded_certificate}
-use Rattle.job_run.specs.Stops.{Comes, search_stop}
+use Rattle.job_run.specs.Stops.{ComesToRelease, search_stop}
 use Rattle.job_run.specs.declared.put.Release.{Release}
 use Rattle.job_run.proofs.Bases.{base-within}
 use Rattle.job_run.proofs.JobTruths.{are-bare, are-coded, are-truths, holds-on, truths-are}
@@ -71,7 +71,7 @@ values-within system truths base values proper rounding k d inside =
         (value-from_zero base (number_at truths cell) (number_at values cell) proper.from_one truth.from adjacent, omega (arith, ints, adjacent.not_above, truth.to, proper.to_most))
 
 -- they can be shown
-pub values-can : (book : Held) (system : System) (truths : List ℤ) (base : ℤ) (values : List ℤ) (lent : Bor (List ℤ)) → length book.marks ≡ system.cells → IsProper system truths base → IsRounding system truths base values → lent.now ≡ values → CanBeShown book (shown.Rounded lent)
+pub values-can : (book : BookView) (system : System) (truths : List ℤ) (base : ℤ) (values : List ℤ) (lent : Bor (List ℤ)) → length book.marks ≡ system.cells → IsProper system truths base → IsRounding system truths base values → lent.now ≡ values → CanBeShown book (shown.Rounded lent)
 values-can book system truths base values lent many proper rounding same =
     (ap length same ∙ rounding.each ∙ sym many, subst (All (λ (number : ℤ). (pos 0 ≤ℤ number) × (number <ℤ pos too_wide))) (sym same) (values-within system truths base values proper rounding))
 
@@ -128,7 +128,7 @@ its-truths : (settled : SettledInputs) (job : SettledJob) (system : System) (bas
 its-truths settled job system base truths task = task.listed ∙ truths-are settled.inputs job.book job.cells task.is_of.book task.can.ready.truths
 
 -- the relations of one table of one variable, and of two flat ones, have signs
-signs-by : (trees : List Tree) (tables : List (List ℕ)) (book : Held) (system : System) → IsOneOrTwoWay trees tables → book.trees ≡ trees → book.tables ≡ tables → IsBook book → IsSystemOf book system → HaveSigns system.relations
+signs-by : (trees : List Tree) (tables : List (List ℕ)) (book : BookView) (system : System) → IsOneOrTwoWay trees tables → book.trees ≡ trees → book.tables ≡ tables → IsBook book → IsSystemOf book system → HaveSigns system.relations
 signs-by trees [] book system shape same_trees same_tables is_book is = absurd shape
 signs-by trees ([] ∷ tables) book system shape same_trees same_tables is_book is = absurd shape
 signs-by trees ((variable ∷ []) ∷ []) book system shape same_trees same_tables is_book is = one_variable_has_signs book variable system is_book same_tables is
@@ -172,7 +172,7 @@ pub search-comes : (settled : SettledInputs) (job : SettledJob) (system : System
     → (fault ≡ round.NoRounding → (values : List ℤ) → IsRounding system truths base values → ⊥)
     → ((nodes : ℕ) → fault ≡ round.Nodes nodes → (nodes ≡ job.described.job.nodes) × Stops system truths base nodes)
     → IsBook job.book → ((signs : List Bool) → AreSigns system.relations signs → fault ≡ round.Memory)
-    → Comes settled (Err (search_stop fault))
+    → ComesToRelease settled (Err (search_stop fault))
 search-comes settled job system base truths round.NoRounding task none limit is_book signed =
     no-rounding settled job system base truths task (none refl) (other-tables settled job system base truths round.NoRounding task is_book signed (λ is. absurd cc))
 search-comes settled job system base truths (round.Nodes nodes) task none limit is_book signed =
@@ -199,7 +199,7 @@ certificate-is settled job system base truths task =
 -- a rounding makes a rounded release
 pub rounded-comes : (settled : SettledInputs) (job : SettledJob) (system : System) (base : ℤ) (truths values : List ℤ) (certificate : Certificate) (release : Release) → IsTask settled job system base truths → release.certificate ≡ certificate
     → IsRounding system truths base values → certificate ≡ without_hidden_cells job.described.job.method system.cells (length system.relations) → certificate_of (text_of certificate) ≡ Ok certificate
-    → release.puts ≡ puts_of settled.inputs (value_in settled.inputs values) certificate → release.summary ≡ summary_of settled 0 → Comes settled (Ok release)
+    → release.puts ≡ puts_of settled.inputs (value_in settled.inputs values) certificate → release.summary ≡ summary_of settled 0 → ComesToRelease settled (Ok release)
 rounded-comes settled job system base truths values certificate release task given rounding is read puts numbers =
     let same : certificate ≡ rounded_certificate settled.inputs = is ∙ certificate-is settled job system base truths task in
     subst (λ (b : Option ℤ). IsReleaseBy b settled release) (sym (its-base settled job system base truths task)) (record {

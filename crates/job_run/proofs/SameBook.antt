@@ -10,15 +10,15 @@ use Rattle.sdc_base.specs.declared.rows.Row.{Row}
 use Rattle.cell_protection.specs.Protections.{AreNarrow}
 use Rattle.cost_rule.specs.Costs.{AreCosted}
 use Rattle.primary_rules.specs.Ranges.{IsTruth}
-use Rattle.linked_tables.specs.Held.{Held}
-use Rattle.linked_tables.specs.Shared.{cells as cells_in}
+use Rattle.linked_tables.specs.BookViews.{BookView}
+use Rattle.linked_tables.specs.BookCells.{cells as cells_in}
 use Rattle.linked_tables.specs.declared.mark.Mark.{Mark}
 use Rattle.modular_plan.specs.Plans.{IsSameButHidden}
-use Rattle.tabulate.specs.Tabulated.{TellsOf}
+use Rattle.tabulate.specs.TabulatedMarks.{TellsOf}
 use Rattle.job_lang.specs.declared.job.TableLine.{TableLine}
 use Rattle.job_lang.specs.JobLimits.{HasVariables}
-use Rattle.job_inputs.specs.Sound.{IsSound}
-use Rattle.job_inputs.specs.Tabulated.{IsBookOf, IsReadyFor}
+use Rattle.job_inputs.specs.SoundJobs.{IsSound}
+use Rattle.job_inputs.specs.TabulatedBooks.{IsBookOf, IsReadyFor}
 use Rattle.job_inputs.specs.declared.described.Described.{Described}
 use Rattle.job_inputs.specs.declared.inputs.Inputs.{Inputs}
 use Rattle.job_run.proofs.TableSteps.{as-many}
@@ -60,7 +60,7 @@ tells-same trees rows keep scale name mark other same tells = subst (λ (facts :
 tabulated-trees : (trees others : List Tree) (rows : List Row) (keep scale : ℕ) (name : Name) (mark : Mark) → others ≡ trees → TellsOf trees rows keep scale name mark → TellsOf others rows keep scale name mark
 tabulated-trees trees others rows keep scale name mark same = subst (λ (all : List Tree). TellsOf all rows keep scale name mark) (sym same)
 
-same-cells : (old new : Held) → IsSameButHidden old new → cells_in new ≡ cells_in old
+same-cells : (old new : BookView) → IsSameButHidden old new → cells_in new ≡ cells_in old
 same-cells old new same = rw (same.trees, same.tables) refl
 
 same-length : {X Y : Type 0} (f : X → Y) (xs ys : List X) → map f xs ≡ map f ys → length xs ≡ length ys
@@ -70,11 +70,11 @@ same-length f (x ∷ xs) [] h = absurd cc
 same-length f (x ∷ xs) (y ∷ ys) h = let rest : map f xs ≡ map f ys = cc in ap suc (same-length f xs ys rest)
 
 -- it has as many marks
-pub as-many-marks : (old new : Held) → IsSameButHidden old new → length new.marks ≡ length old.marks
+pub as-many-marks : (old new : BookView) → IsSameButHidden old new → length new.marks ≡ length old.marks
 as-many-marks old new same = same-length (λ (one : Mark). one.facts) new.marks old.marks same.facts
 
 -- the book is still that of its inputs
-pub still-book : (inputs : Inputs) (old new : Held) → IsSameButHidden old new → IsBookOf inputs old → IsBookOf inputs new
+pub still-book : (inputs : Inputs) (old new : BookView) → IsSameButHidden old new → IsBookOf inputs old → IsBookOf inputs new
 still-book inputs old new same is = record {
   trees = same.trees ∙ is.trees;
   tables = same.tables ∙ is.tables;
@@ -87,7 +87,7 @@ still-book inputs old new same is = record {
 }
 
 -- and still ready for a job
-pub still-ready : (described : Described) (old new : Held) → IsSameButHidden old new → IsReadyFor described old → IsReadyFor described new
+pub still-ready : (described : Described) (old new : BookView) → IsSameButHidden old new → IsReadyFor described old → IsReadyFor described new
 still-ready described old new same ready = record {
   tables = same.tables ∙ ready.tables;
   truths = over-facts (λ facts. IsTruth facts.truth) old.marks new.marks same.facts ready.truths;
@@ -111,7 +111,7 @@ each-narrow (table ∷ tables) (line ∷ lines) same all =
     let rest : map (λ (places : List ℕ). length places) tables ≡ map (λ (t : TableLine). length t.variables) lines = cc in
     ((omega (arith, here, all.0.0), omega (arith, here, all.0.1)), each-narrow tables lines rest all.1)
 
-pub narrow : (described : Described) (book : Held) → IsSound described → IsReadyFor described book → AreNarrow book.tables
+pub narrow : (described : Described) (book : BookView) → IsSound described → IsReadyFor described book → AreNarrow book.tables
 narrow described book sound ready =
     subst AreNarrow (sym ready.tables) (record {
       few = (let many = as-many described.bound.tables described.job.tables sound.bound.tables in omega (arith, many, sound.job.few));

@@ -6,9 +6,9 @@ use Rattle.std.proofs.lemmas.Slice.Eq.{bytes_eq-Decides}
 use Rattle.certificate.specs.declared.certificate.Certificate.{Certificate}
 use Rattle.job_lang.specs.declared.job.OutputLine.{OutputLine}
 use Rattle.job_lang.specs.declared.job.TableLine.{TableLine}
-use Rattle.office_io.specs.Files.{Files, put, told_file}
+use Rattle.office_io.specs.Files.{Files, files_after_put, told_file}
 use Rattle.office_io.specs.Trays.{TrayState}
-use Rattle.job_inputs.specs.Settled.{SettledInputs, settled_of}
+use Rattle.job_inputs.specs.SettledJobs.{SettledInputs, settled_of}
 use Rattle.job_inputs.specs.declared.file_ref.FileRef.{FileRef}
 use Rattle.job_inputs.specs.declared.inputs.Inputs.{Inputs}
 use Rattle.job_inputs.specs.declared.purpose.Purpose.TheVariants as purpose
@@ -28,7 +28,7 @@ OfOthers other puts = AllByRecursion (λ (p : Put). other ≢ p.name) puts
 
 -- ---- puts of other names
 
-put_other : (files : Files) (name bytes other : List ℕ) → other ≢ name → put files name bytes other ≡ files other
+put_other : (files : Files) (name bytes other : List ℕ) → other ≢ name → files_after_put files name bytes other ≡ files other
 put_other files name bytes other differs =
     elim (bytes_eq name other) as (λ same. bytes_eq name other ≡ same → (if same then Some bytes else files other) ≡ files other) [
       | true ↦ λ is. absurd (differs (sym ((bytes_eq-Decides name other).0 is)))
@@ -37,7 +37,7 @@ put_other files name bytes other differs =
 
 all-others : (other : List ℕ) (puts : List Put) (out : Files) → OfOthers other puts → put_all out puts other ≡ out other
 all-others other [] out apart = refl
-all-others other (p ∷ puts) out apart = all-others other puts (put out p.name p.bytes) apart.1 ∙ put_other out p.name p.bytes other apart.0
+all-others other (p ∷ puts) out apart = all-others other puts (files_after_put out p.name p.bytes) apart.1 ∙ put_other out p.name p.bytes other apart.0
 
 front-others : (other : List ℕ) (k : ℕ) (puts : List Put) → OfOthers other puts → OfOthers other (take k puts)
 front-others other zero puts apart = tt
@@ -68,7 +68,7 @@ part-others other puts file old new apart part = ap (λ (files : Option Files). 
     is : IsInPart puts file k n old new
     is = part.2
 
-    by : (o : Option Files) → told_file (option_map (λ out. put (put_all out (take k puts)) is.next.name (take n is.next.bytes)) o) other ≡ told_file o other
+    by : (o : Option Files) → told_file (option_map (λ out. files_after_put (put_all out (take k puts)) is.next.name (take n is.next.bytes)) o) other ≡ told_file o other
     by None = refl
     by (Some out) = ap Some (put_other (put_all out (take k puts)) is.next.name (take n is.next.bytes) other (one-other other k puts is.next apart is.is_next) ∙ all-others other (take k puts) out (front-others other k puts apart))
 

@@ -3,12 +3,12 @@ use Rattle.std.proofs.Common.{◌≡◌, ◌≢◌, inl, inr, ℕ, List, Result,
 use Rattle.office_io.specs.Files.{Files}
 use Rattle.office_io.specs.Trays.{TrayState}
 use Rattle.job_inputs.specs.declared.file_ref.FileRef.{FileRef}
-use Rattle.job_inputs.specs.Settled.{SettledInputs, settled_of}
+use Rattle.job_inputs.specs.SettledJobs.{SettledInputs, settled_of}
 use Rattle.job_inputs.specs.declared.purpose.Purpose.TheVariants as purpose
 use Rattle.job_run.specs.Endings.{IsReleaseOf}
 use Rattle.job_run.specs.Puts.{AllWhole}
-use Rattle.job_run.specs.Released.{Releases, HasReleased}
-use Rattle.job_run.specs.Reports.{Meets, Settles}
+use Rattle.job_run.specs.PutReleases.{Releases, HasReleased}
+use Rattle.job_run.specs.Reports.{AgreesWith, AnswersExactly}
 use Rattle.job_run.specs.declared.put.Release.{Release}
 use Rattle.job_inputs.specs.declared.faults.Fault.{Fault}
 use Rattle.job_run.specs.declared.report.Report.{Report}
@@ -24,7 +24,7 @@ pub releases-by : (files : Files) (name : List ℕ) (release : Release) (old new
 releases-by files name release old new has = record { settled = has.settled; release = release; read = has.read; is_release = has.is_release; numbers = refl; put = has.put }
 
 -- without a fault of shelf or tray the first fault is the answer, or the run ends, or there is no memory
-pub settles : (answer : Report) (outcome : Result SettledInputs Fault) → Meets answer outcome → ((f : FileRef) → answer ≢ report.ReadFault f) → ((f : FileRef) → answer ≢ report.WriteFault f) → Settles answer outcome
+pub settles : (answer : Report) (outcome : Result SettledInputs Fault) → AgreesWith answer outcome → ((f : FileRef) → answer ≢ report.ReadFault f) → ((f : FileRef) → answer ≢ report.WriteFault f) → AnswersExactly answer outcome
 settles (report.Released s) (Ok settled) meets no_read no_write = tt
 settles (report.Released s) (Err f) meets no_read no_write = absurd cc
 settles report.Accepted outcome meets no_read no_write = absurd meets

@@ -15,16 +15,16 @@ use Rattle.sdc_base.specs.TableText.{line_text, codes_of_place, shown_text, tabl
 use Rattle.sdc_base.specs.Trees.{Tree}
 use Rattle.sdc_base.specs.declared.rows.Row.{Row}
 use Rattle.linked_tables.proofs.Finding.{named-found, found-name, place-named}
-use Rattle.linked_tables.specs.Held.{Held}
-use Rattle.linked_tables.specs.Shared.{cells as cells_in, number_of}
+use Rattle.linked_tables.specs.BookViews.{BookView}
+use Rattle.linked_tables.specs.BookCells.{cells as cells_in, number_of}
 use Rattle.linked_tables.specs.declared.mark.Mark.{Mark}
-use Rattle.release_writer.specs.Shown.{open_truth, release_text}
+use Rattle.release_writer.specs.ShownCells.{open_truth, release_text}
 use Rattle.release_writer.specs.declared.shown.Shown.{Shown}
 use Rattle.release_writer.specs.declared.shown.Shown.TheVariants as shown
 use Rattle.tabulate.proofs.Finish.{read-within}
-use Rattle.tabulate.specs.Tabulated.{AreTabulated}
+use Rattle.tabulate.specs.TabulatedMarks.{AreTabulated}
 use Rattle.job_inputs.proofs.Placing.{get-within}
-use Rattle.job_inputs.specs.Tabulated.{IsBookOf}
+use Rattle.job_inputs.specs.TabulatedBooks.{IsBookOf}
 use Rattle.job_inputs.specs.declared.inputs.Inputs.{Inputs}
 use Rattle.job_run.specs.Books.{shown_by}
 use Rattle.job_run.specs.Releases.{shown_in, table_of, value_in}
@@ -68,7 +68,7 @@ abbrev open_by : List Tree → List (List ℕ) → List Row → List Bool → Na
 open_by trees tables rows flags name = cond (option_map_or (is_hidden flags) (number_among (cells_of trees tables) name) false) None (Some (truth trees name rows))
 
 -- a cell of the book shows its truth over the records, unless it is hidden
-shows-right : (book : Held) (rows : List Row) (keep scale : ℕ) (flags : List Bool) (name : Name) → AreTabulated book rows keep scale → length book.marks ≡ length (cells_in book)
+shows-right : (book : BookView) (rows : List Row) (keep scale : ℕ) (flags : List Bool) (name : Name) → AreTabulated book rows keep scale → length book.marks ≡ length (cells_in book)
     → is_among (cells_in book) name ≡ true → option_and_then (open_truth book.marks flags) (number_of book name) ≡ open_by book.trees book.tables rows flags name
 shows-right book rows keep scale flags name told many there =
     let found = some-is (number_of book name) (named-found (cells_in book) name ∙ there) in
@@ -86,20 +86,20 @@ get-at (x ∷ xs) zero h = refl
 get-at (x ∷ xs) (suc k) h = get-at xs k (omega (arith, h))
 
 -- what the release of inputs shows, by the trees and tables of their book
-shown-same : (inputs : Inputs) (book : Held) (flags : List Bool) (name : Name) → IsBookOf inputs book → open_by book.trees book.tables inputs.records.rows flags name ≡ shown_in inputs flags name
+shown-same : (inputs : Inputs) (book : BookView) (flags : List Bool) (name : Name) → IsBookOf inputs book → open_by book.trees book.tables inputs.records.rows flags name ≡ shown_in inputs flags name
 shown-same inputs book flags name is =
     ap (λ (trees : List Tree). open_by trees book.tables inputs.records.rows flags name) is.trees
     ∙ ap (λ (tables : List (List ℕ)). open_by inputs.records.trees tables inputs.records.rows flags name) is.tables
 
 -- a table by the trees and tables of the inputs
-table-same : (inputs : Inputs) (book : Held) (shown : Name → Option ℤ) (t : ℕ) (header : List (List ℕ)) → IsBookOf inputs book
+table-same : (inputs : Inputs) (book : BookView) (shown : Name → Option ℤ) (t : ℕ) (header : List (List ℕ)) → IsBookOf inputs book
     → table_text book.trees (slice_index_or book.tables t []) header inputs.described.bound.decimals shown ≡ table_of inputs shown t header
 table-same inputs book shown t header is =
     ap (λ (trees : List Tree). table_text trees (slice_index_or book.tables t []) header inputs.described.bound.decimals shown) is.trees
     ∙ ap (λ (tables : List (List ℕ)). table_text inputs.records.trees (slice_index_or tables t []) header inputs.described.bound.decimals shown) is.tables
 
 -- the text of a table of the book with cells hidden is that of its records
-hidden-shown : (inputs : Inputs) (book : Held) (flags : List Bool) (t : ℕ) (header : List (List ℕ)) → IsBookOf inputs book → t < length book.tables
+hidden-shown : (inputs : Inputs) (book : BookView) (flags : List Bool) (t : ℕ) (header : List (List ℕ)) → IsBookOf inputs book → t < length book.tables
     → table_text book.trees (slice_index_or book.tables t []) header inputs.described.bound.decimals (λ name. option_and_then (open_truth book.marks flags) (number_of book name)) ≡ table_of inputs (shown_in inputs flags) t header
 hidden-shown inputs book flags t header is within =
     let rows = inputs.records.rows in
@@ -112,7 +112,7 @@ hidden-shown inputs book flags t header is within =
     here ∙ table-same inputs book (shown_in inputs flags) t header is
 
 -- the text of a table of the book with these values is that of the inputs
-values-shown : (inputs : Inputs) (book : Held) (values : List ℤ) (t : ℕ) (header : List (List ℕ)) → IsBookOf inputs book
+values-shown : (inputs : Inputs) (book : BookView) (values : List ℤ) (t : ℕ) (header : List (List ℕ)) → IsBookOf inputs book
     → table_text book.trees (slice_index_or book.tables t []) header inputs.described.bound.decimals (λ name. option_and_then (slice_get values) (number_of book name)) ≡ table_of inputs (value_in inputs values) t header
 values-shown inputs book values t header is =
     ap (λ (trees : List Tree). table_text book.trees (slice_index_or book.tables t []) header inputs.described.bound.decimals (λ name. option_and_then (slice_get values) (number_among (cells_of trees book.tables) name))) is.trees
@@ -120,7 +120,7 @@ values-shown inputs book values t header is =
     ∙ table-same inputs book (value_in inputs values) t header is
 
 -- the text of a table of the book is that of the inputs
-pub table-shown : (inputs : Inputs) (book : Held) (how : Shown) (t : ℕ) (header : List (List ℕ)) → IsBookOf inputs book → t < length book.tables
+pub table-shown : (inputs : Inputs) (book : BookView) (how : Shown) (t : ℕ) (header : List (List ℕ)) → IsBookOf inputs book → t < length book.tables
     → release_text book t header inputs.described.bound.decimals how ≡ table_of inputs (shown_by inputs how) t header
 table-shown inputs book (shown.Hidden hidden) t header is within = hidden-shown inputs book hidden.now.flags t header is within
 table-shown inputs book (shown.Rounded values) t header is within = values-shown inputs book values.now t header is

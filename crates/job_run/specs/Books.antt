@@ -1,13 +1,13 @@
 -- What holds of a settled job before it is released, and of its book when its texts are written (own).
 use Rattle.std.specs.Prelude.{Option, ℤ}
 use Rattle.sdc_base.specs.Records.{Name}
-use Rattle.linked_tables.specs.Held.{Held}
-use Rattle.release_writer.specs.Shown.{CanBeShown}
+use Rattle.linked_tables.specs.BookViews.{BookView}
+use Rattle.release_writer.specs.ShownCells.{CanBeShown}
 use Rattle.release_writer.specs.declared.shown.Shown.{Shown}
 use Rattle.release_writer.specs.declared.shown.Shown.TheVariants as shown
-use Rattle.job_inputs.specs.Settled.{SettledInputs, IsReadyJob, IsSettledOf}
-use Rattle.job_inputs.specs.Sound.{AreSound, IsSound}
-use Rattle.job_inputs.specs.Tabulated.{IsReadyFor}
+use Rattle.job_inputs.specs.SettledJobs.{SettledInputs, IsReadyJob, IsSettledOf}
+use Rattle.job_inputs.specs.SoundJobs.{AreSound, IsSound}
+use Rattle.job_inputs.specs.TabulatedBooks.{IsReadyFor}
 use Rattle.job_inputs.specs.declared.described.Described.{Described}
 use Rattle.job_inputs.specs.declared.inputs.Inputs.{Inputs}
 use Rattle.job_inputs.specs.declared.settled.SettledJob.{SettledJob}
@@ -30,7 +30,7 @@ shown_by inputs (shown.Hidden hidden) name = shown_in inputs hidden.now.flags na
 shown_by inputs (shown.Rounded values) name = value_in inputs values.now name
 
 -- the job is within its limits, its book is ready for it, and what is to be shown of its cells can be
-pub record IsShownBook (described : Described) (book : Held) (shown : Shown) : Type 0 where
+pub record IsShownBook (described : Described) (book : BookView) (shown : Shown) : Type 0 where
   pub sound : IsSound described
   pub ready : IsReadyFor described book
   pub can : CanBeShown book shown

@@ -1,20 +1,21 @@
 -- What a check of a release answers, and what it leaves on the tray (own).
 use Rattle.std.specs.Prelude.{◌≡◌, ◌⊎◌, ℕ, List, Result, Ok, Err, IsOkAnd}
-use Rattle.sdc_base.specs.Counts.{Rose}
-use Rattle.sdc_base.specs.Told.{WhereTold}
+use Rattle.sdc_base.specs.Counts.{HasRisen}
+use Rattle.sdc_base.specs.WhereTold.{WhereTold}
 use Rattle.office_io.specs.Shelves.{ShelfState}
 use Rattle.office_io.specs.Trays.{TrayState}
 use Rattle.job_check.specs.Answers.{IsAcceptedRelease, IsNotAccepted}
 use Rattle.job_check.specs.Reading.{ComesTo}
-use Rattle.job_check.specs.Released.{Released, released_of}
+use Rattle.job_check.specs.ReleaseFiles.{ReleasedFiles, released_of}
 use Rattle.job_inputs.specs.declared.faults.Fault.{Fault}
 use Rattle.job_run.specs.Reports.{HasComeTo}
 use Rattle.job_run.specs.declared.report.Report.{Report}
 use Rattle.job_run.specs.declared.report.Report.TheVariants as report
 
--- What the report says of the told files, which come to a release that is to be judged or to a first fault: it is accepted, or has
--- this fault, or a refusal names the files' first fault. Want of memory and faults of the shelf say nothing of them.
-abbrev pub MeetsCheck : Report → Result Released Fault → Type 0
+-- What the report says of the told files, which come to a release that is to be judged or to a first fault: it is
+-- accepted, or has this fault, or a refusal names the files' first fault. Want of memory and faults of the shelf say
+-- nothing of them.
+abbrev pub MeetsCheck : Report → Result ReleasedFiles Fault → Type 0
 MeetsCheck report.Accepted outcome = IsOkAnd outcome IsAcceptedRelease
 MeetsCheck (report.NotAccepted why) outcome = IsOkAnd outcome (λ released. IsNotAccepted released why)
 MeetsCheck (report.Refused reason) outcome = outcome ≡ Err reason
@@ -39,15 +40,16 @@ IsCheckEnd report.Memory = Unit {0}
 IsCheckEnd other = ⊥
 
 -- without a fault of the shelf a check answers the first fault of the told files, or ends so, or memory is wanted
-abbrev pub SettlesCheck : Report → Result Released Fault → Type 0
+abbrev pub SettlesCheck : Report → Result ReleasedFiles Fault → Type 0
 SettlesCheck answer (Ok released) = IsCheckEnd answer
 SettlesCheck answer (Err reason) = (answer ≡ report.Refused reason) ⊎ (answer ≡ report.Memory)
 
--- A check of the job of this name: its answer is what the told files come to, it comes to files in their order, and it puts nothing,
--- whatever the shelf and the tray tell.
+-- A check of the job of this name: its answer is what the told files come to, it comes to files in their order, and it
+-- puts nothing, whatever the shelf and the tray tell.
 pub record IsCheckOf (name : List ℕ) (answer : Report) (old new : ShelfState) (before after : TrayState) : Type 0 where
   pub answers : IsCheckAnswer answer
   pub told : WhereTold old.files (λ fs. MeetsCheck answer (released_of fs name))
-  pub complete : WhereTold old.files (λ fs. ¬ Rose old.faults new.faults → SettlesCheck answer (released_of fs name))
+  pub complete : WhereTold old.files (λ fs. ¬ HasRisen old.faults new.faults
+      → SettlesCheck answer (released_of fs name))
   pub came_to : WhereTold old.files (λ fs. HasComeTo (ComesTo fs name) answer fs new)
   pub untouched : after ≡ before

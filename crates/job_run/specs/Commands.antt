@@ -18,12 +18,15 @@ check_job words = job_behind (codes "check") words
 
 -- `intervals JOB OUT`: the name of the job, and the name under which the intervals are put
 abbrev pub interval_names : List (List ℕ) → Option (List ℕ × List ℕ)
-interval_names (word ∷ (b ∷ name) ∷ (d ∷ out) ∷ []) = if bytes_eq word (codes "intervals") then Some (b ∷ name, d ∷ out) else None
+interval_names (word ∷ (b ∷ name) ∷ (d ∷ out) ∷ []) = if bytes_eq word (codes "intervals") then Some (b ∷ name, d ∷ out)
+    else None
 interval_names words = None
 
--- a seed up to 2^64 - 1 and a number of records from 1 to 1,000,000, where two words spell these, without zeros in front
+-- a seed up to 2^64 - 1 and a number of records from 1 to 1,000,000, where two words spell these, without zeros in
+-- front
 abbrev pub seed_and_records : List ℕ → List ℕ → Option (ℕ × ℕ)
-seed_and_records seed records = option_and_then (λ s. option_map (λ n. (s, n)) (natural_in 1 1000000 records)) (natural_in 0 (2 ^ 64 - 1) seed)
+seed_and_records seed records =
+    option_and_then (λ s. option_map (λ n. (s, n)) (natural_in 1 1000000 records)) (natural_in 0 (2 ^ 64 - 1) seed)
 
 -- `demo SEED RECORDS`
 abbrev pub demo_numbers : List (List ℕ) → Option (ℕ × ℕ)

@@ -1,7 +1,7 @@
 -- What a run for intervals answers, and what it leaves on the tray (handbook, feasibility interval; own).
 use Rattle.std.specs.Prelude.{◌≡◌, ◌⊎◌, ℕ, List, [], Result, Ok, Err, IsOk, IsOkAnd}
-use Rattle.sdc_base.specs.Counts.{Rose}
-use Rattle.sdc_base.specs.Told.{WhereTold}
+use Rattle.sdc_base.specs.Counts.{HasRisen}
+use Rattle.sdc_base.specs.WhereTold.{WhereTold}
 use Rattle.interval_audit.specs.declared.answer.AskFault.{AskFault}
 use Rattle.interval_audit.specs.declared.answer.AskFault.TheVariants as ask
 use Rattle.office_io.specs.Shelves.{ShelfState}
@@ -9,7 +9,7 @@ use Rattle.office_io.specs.Trays.{TrayState, HasPut, HasPutInPart}
 use Rattle.job_inputs.specs.declared.faults.Fault.{Fault}
 use Rattle.job_inputs.specs.declared.file_ref.FileRef.TheVariants as file
 use Rattle.job_intervals.specs.Finding.{AreRefusedFor, IsFileOf, IsUndecidedFor}
-use Rattle.job_intervals.specs.Shelved.{ShelvedTables, shelved_of, ComesTo}
+use Rattle.job_intervals.specs.TablesOnShelf.{ShelvedTables, shelved_of, ComesTo}
 use Rattle.job_intervals.specs.declared.interval_file.IntervalFile.{IntervalFile}
 use Rattle.job_run.specs.Reports.{HasComeTo}
 use Rattle.job_run.specs.declared.report.Report.{Report}
@@ -40,13 +40,14 @@ IsIntervalAnswer (report.WriteFault file) = Unit {0}
 IsIntervalAnswer report.Memory = Unit {0}
 IsIntervalAnswer other = ⊥
 
--- What the report says of the told files, which come to settled inputs with tables or to a first fault: the intervals were found, or the
--- tables have this fault, or a question stopped short, or a refusal names the files' first fault. Want of memory and faults of the
--- shelf say nothing of them.
+-- What the report says of the told files, which come to settled inputs with tables or to a first fault: the intervals
+-- were found, or the tables have this fault, or a question stopped short, or a refusal names the files' first fault.
+-- Want of memory and faults of the shelf say nothing of them.
 abbrev pub MeetsIntervals : Report → Result ShelvedTables Fault → Type 0
 MeetsIntervals (report.Intervals cells) outcome = IsOk outcome
 MeetsIntervals (report.NotAccepted why) outcome = IsOkAnd outcome (λ shelved. AreRefusedFor shelved why)
-MeetsIntervals (report.Undecided why repairs shown) outcome = IsOkAnd outcome (λ shelved. IsReportedSo shelved (report.Undecided why repairs shown))
+MeetsIntervals (report.Undecided why repairs shown) outcome = IsOkAnd outcome
+    (λ shelved. IsReportedSo shelved (report.Undecided why repairs shown))
 MeetsIntervals (report.Refused reason) outcome = outcome ≡ Err reason
 MeetsIntervals (report.ReadFault file) outcome = Unit {0}
 MeetsIntervals (report.WriteFault file) outcome = IsOk outcome
@@ -66,13 +67,17 @@ pub record IsIntervalPart (shelved : ShelvedTables) (out : List ℕ) (before aft
   pub is_file : IsFileOf shelved intervals
   pub put : HasPutInPart out intervals.bytes before after
 
--- What the tray holds afterwards: the file of the intervals, or after a write fault its first bytes; else all is as it was.
+-- What the tray holds afterwards: the file of the intervals, or after a write fault its first bytes; else all is as it
+-- was.
 abbrev pub IntervalsLeave : Report → Result ShelvedTables Fault → List ℕ → TrayState → TrayState → Type 0
-IntervalsLeave (report.Intervals cells) outcome out before after = IsOkAnd outcome (λ shelved. IsIntervalPut shelved out cells before after)
-IntervalsLeave (report.WriteFault f) outcome out before after = (f ≡ file.Out) × IsOkAnd outcome (λ shelved. IsIntervalPart shelved out before after)
+IntervalsLeave (report.Intervals cells) outcome out before after = IsOkAnd outcome
+    (λ shelved. IsIntervalPut shelved out cells before after)
+IntervalsLeave (report.WriteFault f) outcome out before after = (f ≡ file.Out)
+    × IsOkAnd outcome (λ shelved. IsIntervalPart shelved out before after)
 IntervalsLeave other outcome out before after = after ≡ before
 
--- what a run for intervals ends with: their file was put, the tables have a fault, a question stopped short, or there is no memory
+-- what a run for intervals ends with: their file was put, the tables have a fault, a question stopped short, or there
+-- is no memory
 abbrev pub IsIntervalEnd : Report → Type 0
 IsIntervalEnd (report.Intervals cells) = Unit {0}
 IsIntervalEnd (report.NotAccepted why) = Unit {0}
@@ -85,12 +90,15 @@ abbrev pub SettlesIntervals : Report → Result ShelvedTables Fault → Type 0
 SettlesIntervals answer (Ok shelved) = IsIntervalEnd answer
 SettlesIntervals answer (Err reason) = (answer ≡ report.Refused reason) ⊎ (answer ≡ report.Memory)
 
--- A run for the intervals of the job of this name, to be put under the name `out`: its answer is what the told files come to, it comes
--- to files in their order, and where it says that intervals were found, one put was made, whatever the shelf and the tray tell.
-pub record IsIntervalRunOf (name out : List ℕ) (answer : Report) (old new : ShelfState) (before after : TrayState) : Type 0 where
+-- A run for the intervals of the job of this name, to be put under the name `out`: its answer is what the told files
+-- come to, it comes to files in their order, and where it says that intervals were found, one put was made, whatever
+-- the shelf and the tray tell.
+pub record IsIntervalRunOf (name out : List ℕ) (answer : Report) (old new : ShelfState)
+    (before after : TrayState) : Type 0 where
   pub answers : IsIntervalAnswer answer
   pub told : WhereTold old.files (λ fs. MeetsIntervals answer (shelved_of fs name out))
   pub left : WhereTold old.files (λ fs. IntervalsLeave answer (shelved_of fs name out) out before after)
-  pub complete : WhereTold old.files (λ fs. ¬ Rose old.faults new.faults → ¬ Rose before.faults after.faults → SettlesIntervals answer (shelved_of fs name out))
+  pub complete : WhereTold old.files (λ fs. ¬ HasRisen old.faults new.faults → ¬ HasRisen before.faults after.faults
+      → SettlesIntervals answer (shelved_of fs name out))
   pub came_to : WhereTold old.files (λ fs. HasComeTo (ComesTo fs name out) answer fs new)
   pub one_put : (cells : ℕ) → answer ≡ report.Intervals cells → (bytes : List ℕ) × HasPut out bytes before after

@@ -14,18 +14,21 @@ use Rattle.job_run.specs.Roundings.{IsRoundingFor}
 -- every cell shows a multiple of the base, less than one base from its truth over the records
 abbrev pub CellsShowAdjacent : Type 0
 CellsShowAdjacent =
-    (inputs : Inputs) (base : ℤ) (values : List ℤ) (name : Name) → IsRoundingFor inputs base values → is_named (cells inputs) name ≡ true
+    (inputs : Inputs) (base : ℤ) (values : List ℤ) (name : Name) → IsRoundingFor inputs base values
+    → is_named (cells inputs) name ≡ true
     → (value : ℤ) × (value_in inputs values name ≡ Some value) × IsAdjacent base (truth_in inputs name) value
 
 -- the number that is shown for the cell with this name; 0 where no table has it
 abbrev pub number_shown : Inputs → List ℤ → Name → ℤ
 number_shown inputs values name = unwrap_or (value_in inputs values name) (pos 0)
 
--- A cell of a table that spans a variable, with codes right below its own, shows the sum of what the cells with one of these in its
--- place show.
+-- A cell of a table that spans a variable, with codes right below its own, shows the sum of what the cells with one of
+-- these in its place show.
 abbrev pub ShownMarginsAddUp : Type 0
 ShownMarginsAddUp =
     (inputs : Inputs) (base : ℤ) (values : List ℤ) (name : Name) (variable : ℕ) → IsRoundingFor inputs base values
-    → is_named (cells inputs) name ≡ true → variable < length inputs.records.trees → is_spanned inputs.records.trees inputs.described.bound.tables name variable ≡ true
+    → is_named (cells inputs) name ≡ true → variable < length inputs.records.trees
+    → is_spanned inputs.records.trees inputs.described.bound.tables name variable ≡ true
     → codes_below inputs.records.trees name variable ≢ []
-    → number_shown inputs values name ≡ sum_of (λ code. number_shown inputs values (slice_set name variable code)) (codes_below inputs.records.trees name variable)
+    → number_shown inputs values name ≡ sum_of (λ code. number_shown inputs values (slice_set name variable code))
+    (codes_below inputs.records.trees name variable)

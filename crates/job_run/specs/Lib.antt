@@ -8,7 +8,7 @@ pub mod Books
 pub mod Commands
 pub mod Puts
 pub mod Reports
-pub mod Released
+pub mod PutReleases
 pub mod ReleaseRuns
 pub mod Checks
 pub mod IntervalRuns

@@ -12,26 +12,29 @@ use Rattle.modular_plan.specs.Plans.{trail_of}
 use Rattle.repair.specs.HidingOrder.{case, prices_of}
 use Rattle.worlds.specs.Protection.{Protection as HiddenSet}
 use Rattle.worlds.specs.declared.refuted.Refuted.{Refuted}
-use Rattle.job_inputs.specs.Settled.{SettledInputs, IsSettledOf}
+use Rattle.job_inputs.specs.SettledJobs.{SettledInputs, IsSettledOf}
 use Rattle.job_inputs.specs.declared.settled.SettledJob.{SettledJob}
 use Rattle.relations.specs.Holding.{IsSystemOf}
 use Rattle.job_run.specs.Releases.{puts_of, shown_in, summary_of}
 use Rattle.job_run.specs.Roundings.{base_of}
 use Rattle.job_run.specs.declared.put.Release.{Release}
 
--- The job hides, and the protection of settled inputs comes to this: that of their settled cells, with the system of the relations
--- between them, planned by the job's method and its costs, each question within the job's steps.
+-- The job hides, and the protection of settled inputs comes to this: that of their settled cells, with the system of
+-- the relations between them, planned by the job's method and its costs, each question within the job's steps.
 pub record IsProtectionFor (settled : SettledInputs) (protection : Protection) : Type 0 where
   pub hides : base_of settled.inputs.described ≡ None
   pub job : SettledJob
   pub system : System
   pub job_is : IsSettledOf settled job
   pub system_is : IsSystemOf job.book system
-  pub comes_to : IsProtectionOf (case system job.cells) (prices_of job.described.job.cost job.cells job.book.marks) job.described.job.method
-      (trail_of job.book job.cells job.described.job.cost (passes_of job.described.job.method)) job.described.job.steps protection
+  pub comes_to : IsProtectionOf (case system job.cells) (prices_of job.described.job.cost job.cells job.book.marks)
+      job.described.job.method
+      (trail_of job.book job.cells job.described.job.cost (passes_of job.described.job.method)) job.described.job.steps
+      protection
 
--- A suppressed release of settled inputs: a hidden set protects their primary cells, and its certificate, the tables that hide these
--- cells, and their numbers are what the release puts and says. The certificate's text is read as that certificate.
+-- A suppressed release of settled inputs: a hidden set protects their primary cells, and its certificate, the tables
+-- that hide these cells, and their numbers are what the release puts and says. The certificate's text is read as that
+-- certificate.
 pub record IsSuppressedRelease (settled : SettledInputs) (release : Release) : Type 0 where
   pub hidden_set : HiddenSet
   pub certificate : Certificate
@@ -43,4 +46,5 @@ pub record IsSuppressedRelease (settled : SettledInputs) (release : Release) : T
 
 -- the protection of settled inputs stops short at a question, with these repairs and these cells shown
 abbrev pub StopsShort : SettledInputs → AskFault → List Refuted → List ℕ → Type 0
-StopsShort settled fault repairs shown = IsProtectionFor settled (protection.Undecided (record { fault = fault; repairs = repairs; shown = shown }))
+StopsShort settled fault repairs shown =
+    IsProtectionFor settled (protection.Undecided (record { fault = fault; repairs = repairs; shown = shown }))

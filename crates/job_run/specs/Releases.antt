@@ -11,7 +11,7 @@ use Rattle.certificate.specs.declared.certificate.Certificate.{Certificate}
 use Rattle.job_lang.specs.declared.job.OutputLine.{OutputLine}
 use Rattle.job_lang.specs.declared.job.TableLine.{TableLine}
 use Rattle.job_inputs.specs.Cells.{cells, truth_in}
-use Rattle.job_inputs.specs.Settled.{SettledInputs}
+use Rattle.job_inputs.specs.SettledJobs.{SettledInputs}
 use Rattle.job_inputs.specs.Tables.{names_of}
 use Rattle.job_inputs.specs.declared.file_ref.FileRef.TheVariants as file
 use Rattle.job_inputs.specs.declared.inputs.Inputs.{Inputs}
@@ -24,7 +24,8 @@ use Rattle.job_run.specs.declared.report.Summary.{Summary}
 abbrev pub is_hidden_in : Inputs → List Bool → Name → Bool
 is_hidden_in inputs flags name = option_map_or (is_hidden flags) (number_among (cells inputs) name) false
 
--- what every table of a suppressed release shows for the cell with this name: its truth over the records, unless it is hidden
+-- what every table of a suppressed release shows for the cell with this name: its truth over the records, unless it is
+-- hidden
 abbrev pub shown_in : Inputs → List Bool → Name → Option ℤ
 shown_in inputs flags name = if is_hidden_in inputs flags name then None else Some (truth_in inputs name)
 
@@ -37,7 +38,8 @@ value_in inputs values name = option_and_then (slice_get values) (number_among (
 -- the text of table t, where cells show this by their names, and its first line has these names
 abbrev pub table_of : Inputs → (Name → Option ℤ) → ℕ → List (List ℕ) → List ℕ
 table_of inputs shown t header =
-    table_text inputs.records.trees (slice_index_or inputs.described.bound.tables t []) header inputs.described.bound.decimals shown
+    table_text inputs.records.trees (slice_index_or inputs.described.bound.tables t []) header
+    inputs.described.bound.decimals shown
 
 -- ---- what is put
 
@@ -46,7 +48,8 @@ abbrev pub tables_from : Inputs → (Name → Option ℤ) → ℕ → List Table
 tables_from inputs shown t [] outputs = []
 tables_from inputs shown t (line ∷ lines) [] = []
 tables_from inputs shown t (line ∷ lines) (output ∷ outputs) =
-    record { file = file.Table t; name = output.file; bytes = table_of inputs shown t (names_of line) } ∷ tables_from inputs shown (t + 1) lines outputs
+    record { file = file.Table t; name = output.file; bytes = table_of inputs shown t (names_of line) }
+    ∷ tables_from inputs shown (t + 1) lines outputs
 
 -- what is put: first the certificate, then the tables in the order of the job
 abbrev pub puts_of : Inputs → (Name → Option ℤ) → Certificate → List Put

@@ -61,9 +61,12 @@ cell_text cell side = codes "cell " ++ (decimal cell ++ (codes " " ++ side_word 
 
 -- why a question stopped short, and of which cell it is; or after how many nodes a search did
 abbrev pub stuck_text : Stuck → List ℕ
-stuck_text (stuck.Work walk) = codes "work, " ++ (cell_text walk.question.cell walk.question.side ++ (codes ", " ++ (decimal walk.tableau.improved ++ codes " steps")))
+stuck_text (stuck.Work walk) = codes "work, "
+    ++ (cell_text walk.question.cell walk.question.side
+    ++ (codes ", " ++ (decimal walk.tableau.improved ++ codes " steps")))
 stuck_text (stuck.Wide walk place) = codes "wide, " ++ cell_text walk.question.cell walk.question.side
-stuck_text (stuck.Size question hidden) = codes "size, " ++ (cell_text question.cell question.side ++ (codes ", " ++ (decimal hidden ++ codes " hidden")))
+stuck_text (stuck.Size question hidden) = codes "size, "
+    ++ (cell_text question.cell question.side ++ (codes ", " ++ (decimal hidden ++ codes " hidden")))
 stuck_text (stuck.Nodes nodes) = codes "nodes, " ++ decimal nodes
 
 -- a relation with its number, behind a space
@@ -72,7 +75,8 @@ term_text term = codes " " ++ pair_token term
 
 -- the den of multipliers, and each relation that has one with its number
 abbrev pub multipliers_text : Multipliers → List ℕ
-multipliers_text multipliers = codes "multipliers " ++ (signed_decimal multipliers.den ++ flat_map term_text multipliers.by_relation)
+multipliers_text multipliers =
+    codes "multipliers " ++ (signed_decimal multipliers.den ++ flat_map term_text multipliers.by_relation)
 
 -- the first line of a report that a cell can't be protected, with its end
 abbrev pub cannot_line : ℕ → Side → List ℕ

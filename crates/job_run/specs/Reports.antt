@@ -1,13 +1,13 @@
 -- A report: what it says of told files, what the tray holds afterwards, and the cause of each refusal (own).
 use Rattle.std.specs.Prelude.{◌≡◌, ◌≢◌, ◌⊎◌, ℕ, ◌+◌, List, Result, Ok, Err, IsOk, IsOkAnd}
-use Rattle.sdc_base.specs.Counts.{Rose}
+use Rattle.sdc_base.specs.Counts.{HasRisen}
 use Rattle.cell_protection.specs.declared.protection.Protection.TheVariants as protection
 use Rattle.hierarchy.specs.declared.tree_fault.TreeFault.TheVariants as tree
 use Rattle.office_io.specs.Files.{Files, held_name}
 use Rattle.office_io.specs.Shelves.{ShelfState}
 use Rattle.office_io.specs.Trays.{TrayState}
 use Rattle.job_inputs.specs.Inputs.{limit_of}
-use Rattle.job_inputs.specs.Settled.{SettledInputs}
+use Rattle.job_inputs.specs.SettledJobs.{SettledInputs}
 use Rattle.job_inputs.specs.declared.file_ref.FileRef.{FileRef}
 use Rattle.job_run.specs.Endings.{IsReleaseOf, IsUndecided}
 use Rattle.job_run.specs.Protections.{IsProtectionFor}
@@ -21,26 +21,28 @@ use Rattle.job_run.specs.declared.report.Report.TheVariants as report
 use Rattle.job_run.specs.declared.stop.Stop.{Stop}
 use Rattle.job_run.specs.declared.stop.Stop.TheVariants as stop
 
--- What the report says of the told files, which come to settled inputs or to a first fault: a refusal names that fault, and what can't
--- be protected, has no rounding or wasn't decided is so of the settled inputs. Want of memory and faults of the shelf say nothing of
--- them.
-abbrev pub Meets : Report → Result SettledInputs Fault → Type 0
-Meets (report.Released summary) outcome = IsOk outcome
-Meets report.Accepted outcome = ⊥
-Meets (report.Intervals cells) outcome = ⊥
-Meets (report.Demo demo) outcome = ⊥
-Meets report.Usage outcome = ⊥
-Meets (report.Refused reason) outcome = outcome ≡ Err reason
-Meets (report.Cannot cell side multipliers) outcome = IsOkAnd outcome (λ settled. IsProtectionFor settled (protection.Cannot cell side multipliers))
-Meets report.NoRounding outcome = IsOkAnd outcome HasNoRounding
-Meets (report.NotAccepted why) outcome = ⊥
-Meets (report.Undecided why repairs shown) outcome = IsOkAnd outcome (λ settled. IsUndecided settled why repairs shown)
-Meets (report.ReadFault file) outcome = Unit {0}
-Meets (report.WriteFault file) outcome = IsOk outcome
-Meets report.Memory outcome = Unit {0}
+-- What the report says of the told files, which come to settled inputs or to a first fault: a refusal names that fault,
+-- and what can't be protected, has no rounding or wasn't decided is so of the settled inputs. Want of memory and faults
+-- of the shelf say nothing of them.
+abbrev pub AgreesWith : Report → Result SettledInputs Fault → Type 0
+AgreesWith (report.Released summary) outcome = IsOk outcome
+AgreesWith report.Accepted outcome = ⊥
+AgreesWith (report.Intervals cells) outcome = ⊥
+AgreesWith (report.Demo demo) outcome = ⊥
+AgreesWith report.Usage outcome = ⊥
+AgreesWith (report.Refused reason) outcome = outcome ≡ Err reason
+AgreesWith (report.Cannot cell side multipliers) outcome = IsOkAnd outcome
+    (λ settled. IsProtectionFor settled (protection.Cannot cell side multipliers))
+AgreesWith report.NoRounding outcome = IsOkAnd outcome HasNoRounding
+AgreesWith (report.NotAccepted why) outcome = ⊥
+AgreesWith (report.Undecided why repairs shown) outcome = IsOkAnd outcome
+    (λ settled. IsUndecided settled why repairs shown)
+AgreesWith (report.ReadFault file) outcome = Unit {0}
+AgreesWith (report.WriteFault file) outcome = IsOk outcome
+AgreesWith report.Memory outcome = Unit {0}
 
--- what a run for a release can answer, whatever shelf and tray tell: neither what is said of a check, of intervals or of a
--- demonstration, nor the usage line
+-- what a run for a release can answer, whatever shelf and tray tell: neither what is said of a check, of intervals or
+-- of a demonstration, nor the usage line
 abbrev pub IsReleaseAnswer : Report → Type 0
 IsReleaseAnswer report.Accepted = ⊥
 IsReleaseAnswer (report.NotAccepted why) = ⊥
@@ -49,12 +51,16 @@ IsReleaseAnswer (report.Demo demo) = ⊥
 IsReleaseAnswer report.Usage = ⊥
 IsReleaseAnswer other = Unit {0}
 
--- Where not all was put, the tray holds a part of the puts of a release of the told files: after a write fault those before the named
--- file whole and the first bytes of that one, after want of memory some of them or none. Each was counted once.
-abbrev pub Leaves : Report → Result SettledInputs Fault → TrayState → TrayState → Type 0
-Leaves (report.WriteFault file) outcome old new = IsOkAnd outcome (λ settled. (release : Release) × IsReleaseOf settled release × OneInPart release.puts file old new)
-Leaves report.Memory outcome old new = (new ≡ old) ⊎ IsOkAnd outcome (λ settled. (release : Release) × IsReleaseOf settled release × SomeWhole release.puts old new)
-Leaves other outcome old new = Unit {0}
+-- Where not all was put, the tray holds a part of the puts of a release of the told files: after a write fault those
+-- before the named file whole and the first bytes of that one, after want of memory some of them or none. Each was
+-- counted once.
+abbrev pub LeavesTray : Report → Result SettledInputs Fault → TrayState → TrayState → Type 0
+LeavesTray (report.WriteFault file) outcome old new = IsOkAnd outcome
+    (λ settled. (release : Release) × IsReleaseOf settled release × OneInPart release.puts file old new)
+LeavesTray report.Memory outcome old new =
+    (new ≡ old) ⊎ IsOkAnd outcome (λ settled. (release : Release) × IsReleaseOf settled release
+    × SomeWhole release.puts old new)
+LeavesTray other outcome old new = Unit {0}
 
 -- a report after which the tray is as it was, whatever the shelf tells
 abbrev pub LeavesAll : Report → TrayState → TrayState → Type 0
@@ -69,22 +75,23 @@ LeavesAll (report.Undecided why repairs shown) old new = new ≡ old
 LeavesAll (report.ReadFault file) old new = new ≡ old
 LeavesAll other old new = Unit {0}
 
--- Each refusal has its cause, whatever shelf and tray tell: a file that isn't there was counted as an absence, of one that is too
--- long one byte more than its limit was taken, a file that can't be read or written was counted as a fault, and codes are never
--- refused for want of memory.
+-- Each refusal has its cause, whatever shelf and tray tell: a file that isn't there was counted as an absence, of one
+-- that is too long one byte more than its limit was taken, a file that can't be read or written was counted as a fault,
+-- and codes are never refused for want of memory.
 pub record HasCause (answer : Report) (old new : ShelfState) (before after : TrayState) : Type 0 where
-  pub absent : (f : FileRef) → answer ≡ report.Refused (fault.Absent f) → Rose old.absences new.absences
+  pub absent : (f : FileRef) → answer ≡ report.Refused (fault.Absent f) → HasRisen old.absences new.absences
   pub too_long : (f : FileRef) → answer ≡ report.Refused (fault.TooLong f) → new.taken ≡ limit_of f + 1
-  pub read_fault : (f : FileRef) → answer ≡ report.ReadFault f → Rose old.faults new.faults
-  pub write_fault : (f : FileRef) → answer ≡ report.WriteFault f → Rose before.faults after.faults
+  pub read_fault : (f : FileRef) → answer ≡ report.ReadFault f → HasRisen old.faults new.faults
+  pub write_fault : (f : FileRef) → answer ≡ report.WriteFault f → HasRisen before.faults after.faults
   pub tree : (f : FileRef) → answer ≢ report.Refused (fault.Tree f tree.Memory)
 
 -- where the shelf fails at a file, it is one that the run came to by its name, and was the last one looked for
 abbrev pub HasComeTo : (FileRef → List ℕ → Type 0) → Report → Files → ShelfState → Type 0
-HasComeTo comes answer files new = (f : FileRef) → answer ≡ report.ReadFault f → (held : List ℕ) × comes f held × (new.last ≡ held_name files held)
+HasComeTo comes answer files new =
+    (f : FileRef) → answer ≡ report.ReadFault f → (held : List ℕ) × comes f held × (new.last ≡ held_name files held)
 
--- what a run that isn't refused ends with: a release, a cell that can't be protected, that there is no rounding, a question or a search
--- that stopped short, or no memory
+-- what a run that isn't refused ends with: a release, a cell that can't be protected, that there is no rounding, a
+-- question or a search that stopped short, or no memory
 abbrev pub IsEnd : Report → Type 0
 IsEnd (report.Released summary) = Unit {0}
 IsEnd (report.Cannot cell side multipliers) = Unit {0}
@@ -94,9 +101,9 @@ IsEnd report.Memory = Unit {0}
 IsEnd other = ⊥
 
 -- Without a fault of shelf or tray, the run answers the first fault of the told files, or ends so, or memory is wanted.
-abbrev pub Settles : Report → Result SettledInputs Fault → Type 0
-Settles answer (Ok settled) = IsEnd answer
-Settles answer (Err reason) = (answer ≡ report.Refused reason) ⊎ (answer ≡ report.Memory)
+abbrev pub AnswersExactly : Report → Result SettledInputs Fault → Type 0
+AnswersExactly answer (Ok settled) = IsEnd answer
+AnswersExactly answer (Err reason) = (answer ≡ report.Refused reason) ⊎ (answer ≡ report.Memory)
 
 -- the report of how a run went on
 abbrev pub report_of : Result Release Stop → Report

@@ -10,13 +10,13 @@ use Rattle.certificate.specs.Certificates.{certificate_of}
 use Rattle.certificate.specs.Laws.{without_hidden_cells}
 use Rattle.certificate.specs.Texts.{text_of}
 use Rattle.certificate.specs.declared.certificate.Certificate.{Certificate}
-use Rattle.linked_tables.specs.Held.{Held}
+use Rattle.linked_tables.specs.BookViews.{BookView}
 use Rattle.relations.specs.Holding.{IsSystemOf}
 use Rattle.relations.specs.TableSigns.{IsFlat}
 use Rattle.rounding.specs.Searches.{Stops}
 use Rattle.job_inputs.specs.Cells.{cells, truth_in}
-use Rattle.job_inputs.specs.Settled.{SettledInputs}
-use Rattle.job_inputs.specs.Tabulated.{IsBookOf}
+use Rattle.job_inputs.specs.SettledJobs.{SettledInputs}
+use Rattle.job_inputs.specs.TabulatedBooks.{IsBookOf}
 use Rattle.job_inputs.specs.declared.described.Described.{Described}
 use Rattle.job_inputs.specs.declared.inputs.Inputs.{Inputs}
 use Rattle.job_run.specs.Releases.{puts_of, summary_of, value_in}
@@ -39,22 +39,23 @@ truths_in inputs = map (truth_in inputs) (cells inputs)
 
 -- the system has the relations between the cells of the inputs
 abbrev pub IsSystemIn : Inputs → System → Type 0
-IsSystemIn inputs system = (book : Held) × IsBookOf inputs book × IsSystemOf book system
+IsSystemIn inputs system = (book : BookView) × IsBookOf inputs book × IsSystemOf book system
 
 -- ---- roundings
 
--- values are a rounding for the inputs: each is a multiple of the base less than one base from the truth of its cell over the
--- records, and every relation between the cells holds on them
+-- values are a rounding for the inputs: each is a multiple of the base less than one base from the truth of its cell
+-- over the records, and every relation between the cells holds on them
 pub record IsRoundingFor (inputs : Inputs) (base : ℤ) (values : List ℤ) : Type 0 where
   pub system : System
   pub system_is : IsSystemIn inputs system
   pub rounding : IsRounding system (truths_in inputs) base values
 
--- The tables are one table of one variable, or of two flat ones: there is always a rounding then. Not: of two of which one has codes
--- below others.
+-- The tables are one table of one variable, or of two flat ones: there is always a rounding then. Not: of two of which
+-- one has codes below others.
 abbrev pub IsOneOrTwoWay : List Tree → List (List ℕ) → Type 0
 IsOneOrTwoWay trees ((variable ∷ []) ∷ []) = Unit {0}
-IsOneOrTwoWay trees ((one ∷ other ∷ []) ∷ []) = IsFlat (slice_index_or trees one []) × IsFlat (slice_index_or trees other [])
+IsOneOrTwoWay trees ((one ∷ other ∷ []) ∷ []) = IsFlat (slice_index_or trees one [])
+    × IsFlat (slice_index_or trees other [])
 IsOneOrTwoWay trees tables = ⊥
 
 -- the job has such tables
@@ -68,8 +69,8 @@ pub record HasNoRounding (settled : SettledInputs) : Type 0 where
   pub none : (values : List ℤ) → ¬ IsRoundingFor settled.inputs base values
   pub more : ¬ IsAlwaysRounded settled.inputs
 
--- The job rounds, not one or two flat variables alone, so many nodes are those that it allows, and the search for a rounding stops
--- there: it has at least so many lists, and none of its first so many is a rounding.
+-- The job rounds, not one or two flat variables alone, so many nodes are those that it allows, and the search for a
+-- rounding stops there: it has at least so many lists, and none of its first so many is a rounding.
 pub record SearchStops (settled : SettledInputs) (nodes : ℕ) : Type 0 where
   pub base : ℤ
   pub system : System
@@ -84,14 +85,16 @@ pub record SearchStops (settled : SettledInputs) (nodes : ℕ) : Type 0 where
 -- the certificate of a rounded release: the method, how many cells and relations there are, and no lists
 abbrev pub rounded_certificate : Inputs → Certificate
 rounded_certificate inputs =
-    without_hidden_cells inputs.described.job.method (length (cells inputs)) (length (relations_among inputs.records.trees inputs.described.bound.tables))
+    without_hidden_cells inputs.described.job.method (length (cells inputs))
+    (length (relations_among inputs.records.trees inputs.described.bound.tables))
 
--- A rounded release of settled inputs: there is a rounding to the base, every table shows its values, the certificate lists nothing,
--- and no cell counts as hidden. The certificate's text is read as that certificate.
+-- A rounded release of settled inputs: there is a rounding to the base, every table shows its values, the certificate
+-- lists nothing, and no cell counts as hidden. The certificate's text is read as that certificate.
 pub record IsRoundedRelease (settled : SettledInputs) (base : ℤ) (release : Release) : Type 0 where
   pub values : List ℤ
   pub rounding : IsRoundingFor settled.inputs base values
-  pub read_back : certificate_of (text_of (rounded_certificate settled.inputs)) ≡ Ok (rounded_certificate settled.inputs)
+  pub read_back : certificate_of (text_of (rounded_certificate settled.inputs))
+      ≡ Ok (rounded_certificate settled.inputs)
   pub puts : release.puts ≡ puts_of settled.inputs (value_in settled.inputs values) (rounded_certificate settled.inputs)
   pub numbers : release.summary ≡ summary_of settled 0
   pub certificate_is : release.certificate ≡ rounded_certificate settled.inputs

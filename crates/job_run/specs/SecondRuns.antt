@@ -7,11 +7,11 @@ use Rattle.job_lang.specs.declared.job.Job.{Job}
 use Rattle.office_io.specs.Files.{Files, told_file}
 use Rattle.office_io.specs.Shelves.{ShelfState}
 use Rattle.office_io.specs.Trays.{TrayState}
-use Rattle.job_inputs.specs.Settled.{SettledInputs, settled_of}
+use Rattle.job_inputs.specs.SettledJobs.{SettledInputs, settled_of}
 use Rattle.job_inputs.specs.declared.file_ref.FileRef.{FileRef}
 use Rattle.job_inputs.specs.declared.purpose.Purpose.TheVariants as purpose
 use Rattle.job_run.specs.ReleaseRuns.{IsReleaseRunOf}
-use Rattle.job_run.specs.Released.{Releases}
+use Rattle.job_run.specs.PutReleases.{Releases}
 use Rattle.job_run.specs.declared.report.Report.TheVariants as report
 use Rattle.job_run.specs.declared.report.Summary.{Summary}
 
@@ -19,9 +19,10 @@ use Rattle.job_run.specs.declared.report.Summary.{Summary}
 abbrev pub is_put_by : Job → List ℕ → Bool
 is_put_by job name = list_any (λ file. bytes_eq file name) (puts_of job)
 
--- A run of the job of this name stopped at a write fault, and a second one over the same files, which began with the tray as the first
--- had left it, released.
-pub record AreTwoRuns (files : Files) (name : List ℕ) (summary : Summary) (before between after : TrayState) : Type 0 where
+-- A run of the job of this name stopped at a write fault, and a second one over the same files, which began with the
+-- tray as the first had left it, released.
+pub record AreTwoRuns (files : Files) (name : List ℕ) (summary : Summary)
+    (before between after : TrayState) : Type 0 where
   pub file : FileRef
   pub old : ShelfState
   pub new : ShelfState
@@ -35,6 +36,9 @@ pub record AreTwoRuns (files : Files) (name : List ℕ) (summary : Summary) (bef
 -- After the second run its release stands whole, and every file that the job doesn't put is as it was before the first.
 abbrev pub SecondRunsComplete : Type 0
 SecondRunsComplete =
-    (files : Files) (name : List ℕ) (summary : Summary) (before between after : TrayState) → AreTwoRuns files name summary before between after
+    (files : Files) (name : List ℕ) (summary : Summary) (before between after : TrayState)
+    → AreTwoRuns files name summary before between after
     → Releases files name summary between after
-    × ((settled : SettledInputs) (other : List ℕ) → settled_of purpose.Release files name ≡ Ok settled → is_put_by settled.inputs.described.job other ≡ false → told_file after.files other ≡ told_file before.files other)
+    × ((settled : SettledInputs) (other : List ℕ) → settled_of purpose.Release files name ≡ Ok settled
+    → is_put_by settled.inputs.described.job other ≡ false
+    → told_file after.files other ≡ told_file before.files other)

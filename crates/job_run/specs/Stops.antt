@@ -7,7 +7,7 @@ use Rattle.repair.specs.declared.stopped.Stopped.{Stopped}
 use Rattle.rounding.specs.declared.fault.RoundFault.{RoundFault}
 use Rattle.rounding.specs.declared.fault.RoundFault.TheVariants as round
 use Rattle.worlds.specs.declared.refuted.Refuted.{Refuted}
-use Rattle.job_inputs.specs.Settled.{SettledInputs}
+use Rattle.job_inputs.specs.SettledJobs.{SettledInputs}
 use Rattle.job_inputs.specs.declared.stop.InputStop.{InputStop}
 use Rattle.job_inputs.specs.declared.stop.InputStop.TheVariants as input
 use Rattle.job_run.specs.Endings.{IsReleaseOf, IsUndecided}
@@ -49,12 +49,13 @@ search_stop (round.Nodes nodes) = stop.Undecided (stuck.Nodes nodes) [] []
 search_stop round.Memory = stop.Memory
 
 -- settled inputs come to this release, or to this stop of their protection or of the search for a rounding
-abbrev pub Comes : SettledInputs → Result Release Stop → Type 0
-Comes settled (Ok release) = IsReleaseOf settled release
-Comes settled (Err (stop.Refused reason)) = ⊥
-Comes settled (Err (stop.Cannot cell side multipliers)) = IsProtectionFor settled (protection.Cannot cell side multipliers)
-Comes settled (Err stop.NoRounding) = HasNoRounding settled
-Comes settled (Err (stop.Undecided why repairs shown)) = IsUndecided settled why repairs shown
-Comes settled (Err (stop.ReadFault file)) = ⊥
-Comes settled (Err (stop.WriteFault file)) = ⊥
-Comes settled (Err stop.Memory) = Unit {0}
+abbrev pub ComesToRelease : SettledInputs → Result Release Stop → Type 0
+ComesToRelease settled (Ok release) = IsReleaseOf settled release
+ComesToRelease settled (Err (stop.Refused reason)) = ⊥
+ComesToRelease settled (Err (stop.Cannot cell side multipliers)) = IsProtectionFor settled
+    (protection.Cannot cell side multipliers)
+ComesToRelease settled (Err stop.NoRounding) = HasNoRounding settled
+ComesToRelease settled (Err (stop.Undecided why repairs shown)) = IsUndecided settled why repairs shown
+ComesToRelease settled (Err (stop.ReadFault file)) = ⊥
+ComesToRelease settled (Err (stop.WriteFault file)) = ⊥
+ComesToRelease settled (Err stop.Memory) = Unit {0}

@@ -17,7 +17,8 @@ pub(crate) fn check_job<S: Shelf, T: Tray>(
     shelf: &mut S,
     tray: &mut T,
 ) -> Report
-    ensures check { IsCheckOf name.now result (S.state shelf.old) (S.state shelf.new) (T.state tray.old) (T.state tray.new) }
+    ensures check { IsCheckOf name.now result (S.state shelf.old) (S.state shelf.new) (T.state tray.old)
+        (T.state tray.new) }
     ensures untouched { LeavesAll result (T.state tray.old) (T.state tray.new) }
     ensures cause { HasCause result (S.state shelf.old) (S.state shelf.new) (T.state tray.old) (T.state tray.new) }
 {

@@ -16,8 +16,8 @@ pub(crate) fn job_behind<'a>(verb: &[u8], words: &'a [Text]) -> Option<&'a Text>
     }
 }
 
-/// The name of a job and the name under which its intervals are put, where the words are `intervals JOB OUT` with names of one
-/// byte or more.
+/// The name of a job and the name under which its intervals are put, where the words are `intervals JOB OUT` with names
+/// of one byte or more.
 pub(crate) fn interval_names(words: &[Text]) -> Option<(&Text, &Text)>
     ensures { option_map (λ names. (names.0.now, names.1.now)) result ≡ commands.interval_names words.now }
 {

@@ -1,5 +1,6 @@
 ghost use Rattle.std.specs.Prelude.{◌≡◌, ◌≢◌};
-ghost use Rattle.job_run.specs.IntervalRuns.{IsIntervalRunOf, question_report as report_for};
+ghost use Rattle.job_run.specs.IntervalRuns.{IsIntervalRunOf};
+ghost use Rattle.job_run.specs.IntervalRuns as spec;
 ghost use Rattle.job_run.specs.Reports.{HasCause, LeavesAll};
 
 use crate::report::{Report, Stuck};
@@ -20,7 +21,8 @@ pub(crate) fn put_intervals<S: Shelf, T: Tray>(
     shelf: &mut S,
     tray: &mut T,
 ) -> Report
-    ensures intervals { IsIntervalRunOf name.now out.now result (S.state shelf.old) (S.state shelf.new) (T.state tray.old) (T.state tray.new) }
+    ensures intervals { IsIntervalRunOf name.now out.now result (S.state shelf.old) (S.state shelf.new)
+        (T.state tray.old) (T.state tray.new) }
     ensures untouched { LeavesAll result (T.state tray.old) (T.state tray.new) }
     ensures cause { HasCause result (S.state shelf.old) (S.state shelf.new) (T.state tray.old) (T.state tray.new) }
 {
@@ -38,7 +40,7 @@ pub(crate) fn put_intervals<S: Shelf, T: Tray>(
 
 // The report of a question that stopped short: nothing was repaired, and no cell shown again.
 fn question_report(alloc: Global, fault: AskFault) -> Report
-    ensures { result ≡ report_for fault }
+    ensures { result ≡ spec.question_report fault }
 {
     let stuck = match fault {
         AskFault::Work(walk) => Stuck::Work(walk),

@@ -3,15 +3,15 @@
 ghost use Rattle.job_run.specs.Laws.{CellsShowAdjacent, ShownMarginsAddUp};
 ghost use Rattle.job_run.specs.SecondRuns.{SecondRunsComplete};
 
-/// In a rounded release every cell shows a multiple of the base, less than one base from the weighted sum of its records, and
-/// every cell that is a total shows the sum of its parts, in every table.
+/// In a rounded release every cell shows a multiple of the base, less than one base from the weighted sum of its
+/// records, and every cell that is a total shows the sum of its parts, in every table.
 pub fn rounded_tables_add_up()
     ensures adjacent { CellsShowAdjacent }
     ensures margins { ShownMarginsAddUp }
 {}
 
-/// After a run that stopped at a write fault, a second one over the same files that releases leaves the whole release, and every
-/// file that the job doesn't put as it was before the first.
+/// After a run that stopped at a write fault, a second one over the same files that releases leaves the whole release,
+/// and every file that the job doesn't put as it was before the first.
 pub fn second_runs_complete()
     ensures { SecondRunsComplete }
 {}

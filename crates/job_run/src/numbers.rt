@@ -1,6 +1,6 @@
 ghost use Rattle.std.specs.Prelude.{◌≡◌, ◌<◌, ◌^◌, length, filter};
 ghost use Rattle.sdc_base.specs.Kinds as kinds;
-ghost use Rattle.job_inputs.specs.Settled.{IsReadyJob, IsSettledOf, SettledInputs};
+ghost use Rattle.job_inputs.specs.SettledJobs.{IsReadyJob, IsSettledOf, SettledInputs};
 ghost use Rattle.job_run.specs.Releases.{summary_of};
 
 use crate::report::Summary;

@@ -1,5 +1,6 @@
 ghost use Rattle.std.specs.Prelude.{◌≡◌, ◌++◌, ◌∷◌, [], IfOk, flat_map};
-ghost use Rattle.job_run.specs.ReportText.{status_of, term_text as spec_term, multipliers_text as spec_multipliers, report_line as line_of, report_text as text_of};
+ghost use Rattle.job_run.specs.ReportText.{status_of};
+ghost use Rattle.job_run.specs.ReportText as spec;
 ghost use Rattle.job_run.specs.declared.report.Report.TheVariants as AnyReport;
 
 use crate::check_texts::CheckKind;
@@ -12,9 +13,10 @@ use std::fmt::Display;
 use worlds::Multipliers;
 
 impl Report {
-    /// The status with which the program ends: 0 for a release, one that is accepted, intervals and a demonstration, 1 for the usage line, 2 for a
-    /// refusal, 3 for a cell that can't be protected, where there is no rounding and for a release that isn't accepted, 4 where a question or the search for a rounding stopped short, 5 and 6 for a
-    /// fault in reading and in writing, 7 for want of memory. The numbers are argus's own.
+    /// The status with which the program ends: 0 for a release, one that is accepted, intervals and a demonstration, 1
+    /// for the usage line, 2 for a refusal, 3 for a cell that can't be protected, where there is no rounding and for a
+    /// release that isn't accepted, 4 where a question or the search for a rounding stopped short, 5 and 6 for a fault
+    /// in reading and in writing, 7 for want of memory. The numbers are argus's own.
     pub fn status(&self) -> u8
         ensures { result ≡ status_of self.now }
     {
@@ -36,12 +38,12 @@ impl Report {
     }
 }
 
-/// The text of a report: one line, two where a cell can't be protected, each ended by LF. Variables are numbered by their place in
-/// the metadata and tables in the order of the job, both from 1, and cells and relations from 0.
+/// The text of a report: one line, two where a cell can't be protected, each ended by LF. Variables are numbered by
+/// their place in the metadata and tables in the order of the job, both from 1, and cells and relations from 0.
 ///
 /// `Memory` is the only refusal. The cost is that of the lines, and their wording is argus's own.
 pub fn report_text(alloc: Global, report: &Report) -> Result<Text, Memory>
-    ensures { IfOk result (λ text. text ≡ text_of report.now) }
+    ensures { IfOk result (λ text. text ≡ spec.report_text report.now) }
 {
     let line = match report {
         Report::Cannot {
@@ -72,7 +74,7 @@ pub fn report_text(alloc: Global, report: &Report) -> Result<Text, Memory>
 
 // The line of a demonstration: its status, and the numbers of its release.
 fn demo_text(alloc: Global, demo: &DemoSummary) -> Result<Text, Memory>
-    ensures { IfOk result (λ text. text ≡ line_of (AnyReport.Demo demo.now) ++ 10 ∷ []) }
+    ensures { IfOk result (λ text. text ≡ spec.report_line (AnyReport.Demo demo.now) ++ 10 ∷ []) }
 {
     let status = demo.status;
     if let Some(summary) = demo.summary {
@@ -91,7 +93,7 @@ fn cannot_text(
     side: Side,
     multipliers: &Multipliers,
 ) -> Result<Text, Memory>
-    ensures { IfOk result (λ text. text ≡ line_of (AnyReport.Cannot cell side multipliers.now) ++ 10 ∷ []) }
+    ensures { IfOk result (λ text. text ≡ spec.report_line (AnyReport.Cannot cell side multipliers.now) ++ 10 ∷ []) }
 {
     let word = side.word();
     let reason = multipliers_text(alloc, multipliers)?;
@@ -101,7 +103,7 @@ fn cannot_text(
 
 // The den of multipliers, and each relation that has one with its number.
 fn multipliers_text(alloc: Global, multipliers: &Multipliers) -> Result<String, Memory>
-    ensures { IfOk result (λ text. text.bytes.items ≡ spec_multipliers multipliers.now) }
+    ensures { IfOk result (λ text. text.bytes.items ≡ spec.multipliers_text multipliers.now) }
 {
     let den = multipliers.den;
     let terms = terms_text(alloc, multipliers.by_relation.as_slice())?;
@@ -110,7 +112,7 @@ fn multipliers_text(alloc: Global, multipliers: &Multipliers) -> Result<String, 
 
 // Relations with their numbers, each behind a space.
 fn terms_text(alloc: Global, terms: &[(u32, i128)]) -> Result<String, Memory>
-    ensures { IfOk result (λ text. text.bytes.items ≡ flat_map spec_term terms.now) }
+    ensures { IfOk result (λ text. text.bytes.items ≡ flat_map spec.term_text terms.now) }
 {
     let mut text = String::new(alloc);
     'terms: for term in terms {
@@ -122,7 +124,7 @@ fn terms_text(alloc: Global, terms: &[(u32, i128)]) -> Result<String, Memory>
 
 // A relation with its number, behind a space.
 fn term_text(alloc: Global, term: (u32, i128)) -> Result<String, Memory>
-    ensures { IfOk result (λ text. text.bytes.items ≡ spec_term term) }
+    ensures { IfOk result (λ text. text.bytes.items ≡ spec.term_text term) }
 {
     let (relation, number) = term;
     Ok(format!(in alloc; " {relation}:{number}")?)

@@ -1,5 +1,5 @@
 ghost use Rattle.std.specs.Prelude.{◌≡◌, ◌<◌, ◌≤◌, ℕ, length, OnOk, IsErrOf};
-ghost use Rattle.sdc_base.specs.Counts.{Rose};
+ghost use Rattle.sdc_base.specs.Counts.{HasRisen};
 ghost use Rattle.office_io.specs.Trays.{HasPut, HasPutInPart};
 ghost use Rattle.job_run.specs.Puts.{AllWhole, SomeWhole, OneInPart};
 ghost use Rattle.job_inputs.specs.declared.file_ref.FileRef.{FileRef as AnyFile};
@@ -36,9 +36,11 @@ fn put_file<T: Tray>(tray: &mut T, next: &Put) -> Result<(), PutStop>
 pub(crate) fn put_files<T: Tray>(tray: &mut T, puts: &[Put]) -> Result<(), PutStop>
     requires { 0 < length puts.now }
     ensures whole { OnOk result (AllWhole puts.now (T.state tray.old) (T.state tray.new)) }
-    ensures part { (f : AnyFile) → IsErrOf result (PutStop.WriteFault f) → OneInPart puts.now f (T.state tray.old) (T.state tray.new) }
+    ensures part { (f : AnyFile) → IsErrOf result (PutStop.WriteFault f)
+        → OneInPart puts.now f (T.state tray.old) (T.state tray.new) }
     ensures memory { IsErrOf result PutStop.Memory → SomeWhole puts.now (T.state tray.old) (T.state tray.new) }
-    ensures cause { (f : AnyFile) → IsErrOf result (PutStop.WriteFault f) → Rose (T.state tray.old).faults (T.state tray.new).faults }
+    ensures cause { (f : AnyFile) → IsErrOf result (PutStop.WriteFault f)
+        → HasRisen (T.state tray.old).faults (T.state tray.new).faults }
 {
     for next in puts {
         put_file(tray, next)?;

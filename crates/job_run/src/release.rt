@@ -1,9 +1,9 @@
 ghost use Rattle.std.specs.Prelude.{◌≡◌, ◌+◌, ◌≤◌, ◌^◌, None, IfOk, length, pos, ◌≤ℤ◌, ◌*ℤ◌};
 ghost use Rattle.job_lang.specs.JobLimits.{IsMethod};
-ghost use Rattle.job_inputs.specs.Settled.{IsSettledOf, SettledInputs};
+ghost use Rattle.job_inputs.specs.SettledJobs.{IsSettledOf, SettledInputs};
 ghost use Rattle.job_run.specs.Books.{CanBeReleased};
 ghost use Rattle.job_run.specs.Roundings as roundings;
-ghost use Rattle.job_run.specs.Stops.{Comes};
+ghost use Rattle.job_run.specs.Stops.{ComesToRelease};
 
 use crate::numbers::numbers_of;
 use crate::put::Release;
@@ -17,12 +17,12 @@ use release_writer::Shown;
 use sdc_base::Method;
 use std::alloc::Global;
 
-/// The release of a job's settled cells, by its method: the cells are protected or rounded, and the certificate and the tables
-/// are made, with the numbers of the release. Else why there is none: a cell that can't be protected, that there is no rounding,
-/// a question or a search that stopped short, or want of memory.
+/// The release of a job's settled cells, by its method: the cells are protected or rounded, and the certificate and the
+/// tables are made, with the numbers of the release. Else why there is none: a cell that can't be protected, that there
+/// is no rounding, a question or a search that stopped short, or want of memory.
 pub(crate) fn release_for(alloc: Global, job: SettledJob) -> Result<Release, Stop>
     requires { CanBeReleased job }
-    ensures comes { (settled : SettledInputs) → IsSettledOf settled job → Comes settled result }
+    ensures comes { (settled : SettledInputs) → IsSettledOf settled job → ComesToRelease settled result }
     ensures some { IfOk result (λ release. length release.puts ≡ 1 + length job.described.job.tables) }
 {
     match base_of(job.described.job.method, job.described.bound.decimals) {
@@ -59,7 +59,7 @@ fn in_units(base: i128, decimals: u8) -> i128
 fn suppressed_release(alloc: Global, job: SettledJob) -> Result<Release, Stop>
     requires can { CanBeReleased job }
     requires hides { roundings.base_of job.described ≡ None }
-    ensures comes { (settled : SettledInputs) → IsSettledOf settled job → Comes settled result }
+    ensures comes { (settled : SettledInputs) → IsSettledOf settled job → ComesToRelease settled result }
     ensures some { IfOk result (λ release. length release.puts ≡ 1 + length job.described.job.tables) }
 {
     let mut summary = numbers_of(&job);

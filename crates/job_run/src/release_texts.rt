@@ -3,7 +3,7 @@ ghost use Rattle.certificate.specs.Spelling.{IsSpellable};
 ghost use Rattle.certificate.specs.Certificates.{certificate_of};
 ghost use Rattle.certificate.specs.Texts.{text_of};
 ghost use Rattle.job_inputs.specs.Tables.{names_of};
-ghost use Rattle.job_inputs.specs.Tabulated.{IsBookOf};
+ghost use Rattle.job_inputs.specs.TabulatedBooks.{IsBookOf};
 ghost use Rattle.job_inputs.specs.declared.inputs.Inputs.{Inputs as AnyInputs};
 ghost use Rattle.job_run.specs.Books.{IsShownBook, shown_by};
 ghost use Rattle.job_run.specs.Releases as releases;
@@ -27,7 +27,8 @@ pub(crate) fn puts_for(
 ) -> Result<Items<Put>, Memory>
     requires shown { IsShownBook described.now book.now shown }
     requires text { IsSpellable certificate.now }
-    ensures puts { IfOk result (λ puts. (inputs : AnyInputs) → inputs.described ≡ described.now → IsBookOf inputs book.now
+    ensures puts { IfOk result (λ puts. (inputs : AnyInputs) → inputs.described ≡ described.now
+        → IsBookOf inputs book.now
         → puts ≡ releases.puts_of inputs (shown_by inputs shown.entry) certificate.now) }
     ensures each { IfOk result (λ puts. length puts ≡ 1 + length described.now.job.tables) }
     ensures read_back { IfOk result (λ puts. certificate_of (text_of certificate.now) ≡ Ok certificate.now) }
@@ -45,7 +46,8 @@ fn certificate_put(
     certificate: &Certificate,
 ) -> Result<Put, Memory>
     requires { IsSpellable certificate.now }
-    ensures put { IfOk result (λ put. put ≡ record { file = FileRef.Certificate; name = described.now.job.certificate; bytes = text_of certificate.now }) }
+    ensures put { IfOk result (λ put. put
+        ≡ record { file = FileRef.Certificate; name = described.now.job.certificate; bytes = text_of certificate.now }) }
     ensures read_back { IfOk result (λ put. certificate_of (text_of certificate.now) ≡ Ok certificate.now) }
 {
     Ok(Put {

@@ -26,14 +26,15 @@ pub struct Summary {
 /// What came of a demonstration.
 #[derive(Drop)]
 pub struct DemoSummary {
-    /// The status: 0 for a release, 2 for a refusal, 3 for a cell that can't be protected, 4 for a question that stopped short.
+    /// The status: 0 for a release, 2 for a refusal, 3 for a cell that can't be protected, 4 for a question that
+    /// stopped short.
     pub status: u8,
     /// The numbers of the release, exactly where the status is 0.
     pub summary: Option<Summary>,
     /// The certificate of the release, exactly where the status is 0.
     pub certificate: Option<Certificate>,
-    /// The question that stopped short, exactly where the status is 4, with the repairs and the cells shown again until then. Never
-    /// want of memory.
+    /// The question that stopped short, exactly where the status is 4, with the repairs and the cells shown again until
+    /// then. Never want of memory.
     pub stopped: Option<Stopped>,
 }
 
@@ -46,8 +47,8 @@ pub enum Stuck {
     Wide(Walk, WidePlace),
     /// The component of its cell has too many hidden cells.
     Size { question: Question, hidden: u32 },
-    /// The search for a rounding has so many lists of choices or more, which are as many as the job allows, and none of the first
-    /// so many is a rounding.
+    /// The search for a rounding has so many lists of choices or more, which are as many as the job allows, and none of
+    /// the first so many is a rounding.
     Nodes(u64),
 }
 
@@ -66,8 +67,8 @@ pub enum Report {
     Usage,
     /// The inputs have this fault, and nothing was put.
     Refused(Fault),
-    /// The job hides cells, and no hidden set protects this cell to this side, the first such pair: the multipliers refute it with
-    /// all cells hidden that may be. Cells are numbered from 0. Nothing was put.
+    /// The job hides cells, and no hidden set protects this cell to this side, the first such pair: the multipliers
+    /// refute it with all cells hidden that may be. Cells are numbered from 0. Nothing was put.
     Cannot {
         cell: u32,
         side: Side,
@@ -75,11 +76,11 @@ pub enum Report {
     },
     /// The job rounds, and no numbers at all are a rounding of its truths to its base. Nothing was put.
     NoRounding,
-    /// The certificate and the tables that stand under the job's names have this fault; for intervals, the tables do. Never want of
-    /// memory. Nothing was put.
+    /// The certificate and the tables that stand under the job's names have this fault; for intervals, the tables do.
+    /// Never want of memory. Nothing was put.
     NotAccepted(CheckFault),
-    /// A question stopped short, after these repairs and with these cells shown again, ascending, of which the last was being
-    /// tried; or the search for a rounding did, and both lists are empty. Nothing was put.
+    /// A question stopped short, after these repairs and with these cells shown again, ascending, of which the last was
+    /// being tried; or the search for a rounding did, and both lists are empty. Nothing was put.
     Undecided {
         stuck: Stuck,
         repairs: Items<Refuted>,

@@ -1,9 +1,9 @@
 ghost use Rattle.std.specs.Prelude.{◌≡◌, ◌+◌, Some, IfOk, length, map};
 ghost use Rattle.certificate.specs.Laws.{without_hidden_cells};
-ghost use Rattle.job_inputs.specs.Settled.{IsSettledOf, SettledInputs};
+ghost use Rattle.job_inputs.specs.SettledJobs.{IsSettledOf, SettledInputs};
 ghost use Rattle.job_run.specs.Books.{CanBeReleased};
 ghost use Rattle.job_run.specs.Roundings as roundings;
-ghost use Rattle.job_run.specs.Stops.{Comes};
+ghost use Rattle.job_run.specs.Stops.{ComesToRelease};
 
 use crate::numbers::numbers_of;
 use crate::put::Release;
@@ -17,11 +17,12 @@ use rounding::round;
 use sdc_base::{Cell, Items, Memory, Method, System};
 use std::alloc::Global;
 
-/// The release of a job that rounds to this base, in units: the cells show a rounding of their truths, and none is hidden.
+/// The release of a job that rounds to this base, in units: the cells show a rounding of their truths, and none is
+/// hidden.
 pub(crate) fn rounded_release(alloc: Global, job: SettledJob, base: i128) -> Result<Release, Stop>
     requires can { CanBeReleased job }
     requires rounds { roundings.base_of job.described ≡ Some base }
-    ensures comes { (settled : SettledInputs) → IsSettledOf settled job → Comes settled result }
+    ensures comes { (settled : SettledInputs) → IsSettledOf settled job → ComesToRelease settled result }
     ensures some { IfOk result (λ release. length release.puts ≡ 1 + length job.described.job.tables) }
 {
     let summary = numbers_of(&job);

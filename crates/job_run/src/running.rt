@@ -1,16 +1,16 @@
 ghost use Rattle.std.specs.Prelude.{◌≡◌, ◌≢◌, ◌↔◌, ◌≤◌, ℕ, OnOk, IfOk};
-ghost use Rattle.sdc_base.specs.Counts.{Rose, counted};
-ghost use Rattle.sdc_base.specs.Told.{WhereTold};
+ghost use Rattle.sdc_base.specs.Counts.{HasRisen, count_after};
+ghost use Rattle.sdc_base.specs.WhereTold.{WhereTold};
 ghost use Rattle.job_inputs.specs.Looks.{ComesTo};
-ghost use Rattle.job_inputs.specs.Settled.{settled_of};
+ghost use Rattle.job_inputs.specs.SettledJobs.{settled_of};
 ghost use Rattle.job_run.specs.Checks.{IsCheckOf};
 ghost use Rattle.job_run.specs.Commands as commands;
 ghost use Rattle.job_run.specs.Commands.{AreUsage};
 ghost use Rattle.job_run.specs.Demos.{IsDemoRunOf};
 ghost use Rattle.job_run.specs.IntervalRuns.{IsIntervalRunOf};
 ghost use Rattle.job_run.specs.ReleaseRuns.{IsReleaseRunOf};
-ghost use Rattle.job_run.specs.Released.{HasReleased};
-ghost use Rattle.job_run.specs.Reports.{Meets, Leaves, LeavesAll, Settles, HasCause, HasComeTo, report_of};
+ghost use Rattle.job_run.specs.PutReleases.{HasReleased};
+ghost use Rattle.job_run.specs.Reports.{AgreesWith, LeavesTray, LeavesAll, AnswersExactly, HasCause, HasComeTo, report_of};
 ghost use Rattle.job_run.specs.declared.report.Summary.{Summary as Numbers};
 
 use crate::check_run::check_job;
@@ -28,9 +28,9 @@ use office_io::{Shelf, Tray};
 use sdc_base::Text;
 use std::alloc::Global;
 
-/// Does what the words say: `run JOB` puts a release of a job, `check JOB` says whether the release that stands under the job's
-/// names is one, `intervals JOB OUT` puts what a reader of its tables can find out of each hidden cell, and `demo SEED RECORDS`
-/// protects a made survey of so many records, 1 to 1,000,000, drawn from a seed.
+/// Does what the words say: `run JOB` puts a release of a job, `check JOB` says whether the release that stands under
+/// the job's names is one, `intervals JOB OUT` puts what a reader of its tables can find out of each hidden cell, and
+/// `demo SEED RECORDS` protects a made survey of so many records, 1 to 1,000,000, drawn from a seed.
 ///
 /// Of a job its metadata, the code lists and hierarchies of its spanning variables and its microdata are looked at in this order,
 /// then the number of cells, the a priori files by table, the cells with what is stated of them, and whether a put would take the
@@ -38,35 +38,46 @@ use std::alloc::Global;
 /// `intervals` refuses a job that rounds as soon as it is read. The microdata are read in pieces, every other file whole. All that is
 /// put is made before the first put.
 ///
-/// A job that hides comes to a release, to a cell that can't be protected, or to a question that stopped short. A job that rounds
-/// comes to a release, to no rounding, or to a search that stopped short; its primary cells are counted and not hidden.
+/// A job that hides comes to a release, to a cell that can't be protected, or to a question that stopped short. A job
+/// that rounds comes to a release, to no rounding, or to a search that stopped short; its primary cells are counted and
+/// not hidden.
 ///
-/// Other words are answered with the usage line. Usage, a refusal and a fault of the shelf leave the tray as it was, and so does
-/// each answer without a release or intervals. After a fault of the tray the files put before the one that failed stand whole, and
-/// of that one its first bytes may be there; after want of memory some of the files may have been put whole. No file is put twice,
-/// and `check` puts nothing. `demo` makes its files in memory, runs its job there in the same way, and says what came of it; it
-/// looks neither at the shelf nor at the tray. It takes any words, any shelf and any tray.
+/// Other words are answered with the usage line. Usage, a refusal and a fault of the shelf leave the tray as it was,
+/// and so does each answer without a release or intervals. After a fault of the tray the files put before the one that
+/// failed stand whole, and of that one its first bytes may be there; after want of memory some of the files may have
+/// been put whole. No file is put twice, and `check` puts nothing. `demo` makes its files in memory, runs its job there
+/// in the same way, and says what came of it; it looks neither at the shelf nor at the tray. It takes any words, any
+/// shelf and any tray.
 ///
-/// Over a shelf that tells nothing, as one over real files, four answers have a cause that counts show: that a file is absent,
-/// that one is too long, a read fault and a write fault. What else is refused, and what is put, is said of told files alone.
+/// Over a shelf that tells nothing, as one over real files, four answers have a cause that counts show: that a file is
+/// absent, that one is too long, a read fault and a write fault. What else is refused, and what is put, is said of told
+/// files alone.
 ///
-/// The cost is that of reading each file once, with the records kept in memory; one look-up for each record and table, and
-/// one for each cell and variable; the bytes of the tables; and that of the questions, or of the search for a rounding. The
-/// commands are the manual's, the order in which the inputs are looked at is argus's own.
+/// The cost is that of reading each file once, with the records kept in memory; one look-up for each record and table,
+/// and one for each cell and variable; the bytes of the tables; and that of the questions, or of the search for a
+/// rounding. The commands are the manual's, the order in which the inputs are looked at is argus's own.
 pub fn run<S: Shelf, T: Tray>(alloc: Global, words: &[Text], shelf: &mut S, tray: &mut T) -> Report
     // Usage comes exactly where the words are none of the forms that are built.
     ensures usage { (result ≡ Report.Usage) ↔ AreUsage words.now }
 
-    // What `run JOB`, `check JOB` and `intervals JOB OUT` answer of told files, what they put, and to which files they come.
-    ensures release { WhereTold (commands.run_job words.now) (λ name. IsReleaseRunOf name result (S.state shelf.old) (S.state shelf.new) (T.state tray.old) (T.state tray.new)) }
-    ensures check { WhereTold (commands.check_job words.now) (λ name. IsCheckOf name result (S.state shelf.old) (S.state shelf.new) (T.state tray.old) (T.state tray.new)) }
-    ensures intervals { WhereTold (commands.interval_names words.now) (λ names. IsIntervalRunOf names.0 names.1 result (S.state shelf.old) (S.state shelf.new) (T.state tray.old) (T.state tray.new)) }
+    // What `run JOB`, `check JOB` and `intervals JOB OUT` answer of told files, what they put, and to which files they
+    // come.
+    ensures release { WhereTold (commands.run_job words.now)
+        (λ name. IsReleaseRunOf name result (S.state shelf.old) (S.state shelf.new) (T.state tray.old)
+        (T.state tray.new)) }
+    ensures check { WhereTold (commands.check_job words.now)
+        (λ name. IsCheckOf name result (S.state shelf.old) (S.state shelf.new) (T.state tray.old) (T.state tray.new)) }
+    ensures intervals { WhereTold (commands.interval_names words.now)
+        (λ names. IsIntervalRunOf names.0 names.1 result (S.state shelf.old) (S.state shelf.new) (T.state tray.old)
+        (T.state tray.new)) }
 
     // What `demo SEED RECORDS` answers, whatever the shelf and the tray tell.
-    ensures demo { WhereTold (commands.demo_numbers words.now) (λ numbers. IsDemoRunOf numbers.0 numbers.1 result (S.state shelf.old) (S.state shelf.new) (T.state tray.old) (T.state tray.new)) }
+    ensures demo { WhereTold (commands.demo_numbers words.now)
+        (λ numbers. IsDemoRunOf numbers.0 numbers.1 result (S.state shelf.old) (S.state shelf.new) (T.state tray.old)
+        (T.state tray.new)) }
 
-    // That the tray is as it was, and that a file is absent or too long, a read fault and a write fault have their cause, whatever the
-    // shelf and the tray tell.
+    // That the tray is as it was, and that a file is absent or too long, a read fault and a write fault have their
+    // cause, whatever the shelf and the tray tell.
     ensures untouched { LeavesAll result (T.state tray.old) (T.state tray.new) }
     ensures cause { HasCause result (S.state shelf.old) (S.state shelf.new) (T.state tray.old) (T.state tray.new) }
 {
@@ -87,7 +98,8 @@ pub fn run<S: Shelf, T: Tray>(alloc: Global, words: &[Text], shelf: &mut S, tray
 
 // Puts a release of a job.
 fn put_release<S: Shelf, T: Tray>(alloc: Global, name: &Text, shelf: &mut S, tray: &mut T) -> Report
-    ensures release { IsReleaseRunOf name.now result (S.state shelf.old) (S.state shelf.new) (T.state tray.old) (T.state tray.new) }
+    ensures release { IsReleaseRunOf name.now result (S.state shelf.old) (S.state shelf.new) (T.state tray.old)
+        (T.state tray.new) }
     ensures untouched { LeavesAll result (T.state tray.old) (T.state tray.new) }
     ensures cause { HasCause result (S.state shelf.old) (S.state shelf.new) (T.state tray.old) (T.state tray.new) }
 {
@@ -101,13 +113,20 @@ pub(crate) fn run_job<S: Shelf, T: Tray>(
     shelf: &mut S,
     tray: &mut T,
 ) -> Result<Release, Stop>
-    ensures told { WhereTold (S.state shelf.old).files (λ fs. Meets (report_of result) (settled_of Purpose.Release fs name.now)) }
-    ensures left { WhereTold (S.state shelf.old).files (λ fs. Leaves (report_of result) (settled_of Purpose.Release fs name.now) (T.state tray.old) (T.state tray.new)) }
+    ensures told { WhereTold (S.state shelf.old).files
+        (λ fs. AgreesWith (report_of result) (settled_of Purpose.Release fs name.now)) }
+    ensures left { WhereTold (S.state shelf.old).files
+        (λ fs. LeavesTray (report_of result) (settled_of Purpose.Release fs name.now) (T.state tray.old)
+        (T.state tray.new)) }
     ensures untouched { LeavesAll (report_of result) (T.state tray.old) (T.state tray.new) }
-    ensures some { OnOk result ((count : ℕ) × (2 ≤ count) × (count ≤ 9) × ((T.state tray.new).puts ≡ counted (T.state tray.old).puts count)) }
-    ensures released { WhereTold (S.state shelf.old).files (λ fs. IfOk result (λ release. HasReleased fs name.now release (T.state tray.old) (T.state tray.new))) }
-    ensures cause { HasCause (report_of result) (S.state shelf.old) (S.state shelf.new) (T.state tray.old) (T.state tray.new) }
-    ensures came_to { WhereTold (S.state shelf.old).files (λ fs. HasComeTo (ComesTo Purpose.Release fs name.now) (report_of result) fs (S.state shelf.new)) }
+    ensures some { OnOk result ((count : ℕ) × (2 ≤ count) × (count ≤ 9)
+        × ((T.state tray.new).puts ≡ count_after (T.state tray.old).puts count)) }
+    ensures released { WhereTold (S.state shelf.old).files
+        (λ fs. IfOk result (λ release. HasReleased fs name.now release (T.state tray.old) (T.state tray.new))) }
+    ensures cause { HasCause (report_of result) (S.state shelf.old) (S.state shelf.new) (T.state tray.old)
+        (T.state tray.new) }
+    ensures came_to { WhereTold (S.state shelf.old).files
+        (λ fs. HasComeTo (ComesTo Purpose.Release fs name.now) (report_of result) fs (S.state shelf.new)) }
 {
     let settled = read_settled(alloc, shelf, name, Purpose::Release)?;
     let release = release_for(alloc, settled)?;

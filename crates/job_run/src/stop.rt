@@ -1,5 +1,5 @@
 ghost use Rattle.std.specs.Prelude.{◌≡◌};
-ghost use Rattle.job_run.specs.Stops.{search_stop as stop_of};
+ghost use Rattle.job_run.specs.Stops as spec;
 
 use crate::puts::PutStop;
 use crate::report::Stuck;
@@ -110,7 +110,7 @@ impl From<PutStop> for Stop {
 
 /// What stops a run where the search for a rounding gave none: it has made no repairs and shown no cells again.
 pub(crate) fn search_stop(alloc: Global, fault: RoundFault) -> Stop
-    ensures { result ≡ stop_of fault }
+    ensures { result ≡ spec.search_stop fault }
 {
     match fault {
         RoundFault::NoRounding => Stop::NoRounding,

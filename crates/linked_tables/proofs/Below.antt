@@ -7,7 +7,7 @@ use Rattle.sdc_base.specs.Records.{Name}
 use Rattle.sdc_base.specs.Cells.{name_of, places, trees_of, with_name}
 use Rattle.sdc_base.proofs.FirstNames.{stay}
 use Rattle.sdc_base.proofs.PlaceLists.{begun, begun_more}
-use Rattle.linked_tables.specs.Kept.{names_below}
+use Rattle.linked_tables.specs.BookKeeping.{names_below}
 
 -- the names of those places that go on with one of the first n codes
 abbrev pub names_begun : List Tree → List ℕ → List ℕ → ℕ → List Name

@@ -10,7 +10,7 @@ use Rattle.sdc_base.specs.Trees.{Tree}
 use Rattle.sdc_base.specs.Records.{Name}
 use Rattle.sdc_base.specs.Cells.{cells_of, named_by, with_name}
 use Rattle.sdc_base.proofs.FirstNames.{names_are_first}
-use Rattle.linked_tables.specs.Kept.{starts_of}
+use Rattle.linked_tables.specs.BookKeeping.{starts_of}
 
 -- with one table more
 pub cells-more : (trees : List Tree) (tables : List (List ℕ)) (table : List ℕ) → cells_of trees (tables ++ table ∷ []) ≡ fold with_name (cells_of trees tables) (named_by trees table)

@@ -6,8 +6,8 @@ use Rattle.sdc_base.specs.Answers.{Fails}
 use Rattle.linked_tables.specs.declared.book_fault.BookFault.{BookFault}
 use Rattle.linked_tables.specs.declared.book_fault.BookFault.TheVariants as fault
 use Rattle.linked_tables.specs.Tables.{most_cells, has_unknown, has_twice, or_later, variables_fault, unless_fault}
-use Rattle.linked_tables.specs.Shared.{IsTable}
-use Rattle.linked_tables.specs.Kept.{capped}
+use Rattle.linked_tables.specs.BookCells.{IsTable}
+use Rattle.linked_tables.specs.BookKeeping.{names_within_limit}
 
 -- where there is a value there is no fault
 pub no-fault : {X : Type 0} (told : Option BookFault) (x y : X) → unless_fault told x ≡ Ok y → told ≡ None
@@ -31,19 +31,19 @@ fails-second (Some one) told None rest x y none h = cc
 fails-second (Some one) told (Some other) rest x y none h = let same : other ≡ one = cc in rw none (ap Err same)
 
 -- more names are too many too
-pub fails-more : (named : Option BookFault) (t : ℕ) (some all : List Name) → length some ≤ length all → Fails named (capped t some) → Fails named (capped t all)
+pub fails-more : (named : Option BookFault) (t : ℕ) (some all : List Name) → length some ≤ length all → Fails named (names_within_limit t some) → Fails named (names_within_limit t all)
 fails-more None t some all h fails = tt
 fails-more (Some one) t some all h fails =
-    elim (nat_lt most_cells (length some)) as (λ b. nat_lt most_cells (length some) ≡ b → unless_fault (if b then Some (fault.TooManyCells t) else None) some ≡ Err one → capped t all ≡ Err one) [
+    elim (nat_lt most_cells (length some)) as (λ b. nat_lt most_cells (length some) ≡ b → unless_fault (if b then Some (fault.TooManyCells t) else None) some ≡ Err one → names_within_limit t all ≡ Err one) [
       | true ↦ λ is failed. let too : nat_lt most_cells (length all) ≡ true = grind (arith, nat_tests) in let same : fault.TooManyCells t ≡ one = cc in rw too (ap Err same)
       | false ↦ λ is failed. cc
     ] refl fails
 
 -- names that aren't too many stay as they are
-pub capped-few : (t : ℕ) (names : List Name) → length names ≤ most_cells → capped t names ≡ Ok names
+pub capped-few : (t : ℕ) (names : List Name) → length names ≤ most_cells → names_within_limit t names ≡ Ok names
 capped-few t names h = let few : nat_lt most_cells (length names) ≡ false = grind (arith, nat_tests) in rw few refl
 
-pub capped-Ok : (t : ℕ) (names others : List Name) → capped t names ≡ Ok others → (names ≡ others) × (length names ≤ most_cells)
+pub capped-Ok : (t : ℕ) (names others : List Name) → names_within_limit t names ≡ Ok others → (names ≡ others) × (length names ≤ most_cells)
 capped-Ok t names others h =
     elim (nat_lt most_cells (length names)) as (λ b. nat_lt most_cells (length names) ≡ b → unless_fault (if b then Some (fault.TooManyCells t) else None) names ≡ Ok others → (names ≡ others) × (length names ≤ most_cells)) [
       | true ↦ λ is made. cc

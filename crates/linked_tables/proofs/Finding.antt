@@ -11,8 +11,8 @@ use Rattle.sdc_base.specs.Cells.{cells_of, is_named, named_by, name_of, places, 
 use Rattle.sdc_base.specs.CellOrder.{is_place_in}
 use Rattle.sdc_base.proofs.Places.{places_are_lexicographic}
 use Rattle.sdc_base.proofs.FirstNames.{names_are_first}
-use Rattle.linked_tables.specs.Held.{Held}
-use Rattle.linked_tables.specs.Shared.{cells, named, is_in, number_of, is_place_of, name_at, cell_at}
+use Rattle.linked_tables.specs.BookViews.{BookView}
+use Rattle.linked_tables.specs.BookCells.{cells, name_in_table, is_in, number_of, is_place_of, name_at, cell_at}
 
 -- ---- the first place of a name
 
@@ -85,27 +85,27 @@ place-named trees tables t table place at inside =
 -- ---- the cell at a place of a table of a book
 
 -- there is one exactly where the place is one of the table
-pub cell-found : (book : Held) (t : ℕ) (place : List ℕ) → is_some (cell_at book t place) ≡ is_place_of book t place
+pub cell-found : (book : BookView) (t : ℕ) (place : List ℕ) → is_some (cell_at book t place) ≡ is_place_of book t place
 cell-found book t place = by_table (slice_get book.tables t) refl
   where
-    inside : (table : List ℕ) → slice_get book.tables t ≡ Some table → (b : Bool) → is_in book table place ≡ b → is_some (if b then number_of book (named book table place) else None) ≡ b
-    inside table at true is = named-found (cells book) (named book table place) ∙ place-named book.trees book.tables t table place at is
+    inside : (table : List ℕ) → slice_get book.tables t ≡ Some table → (b : Bool) → is_in book table place ≡ b → is_some (if b then number_of book (name_in_table book table place) else None) ≡ b
+    inside table at true is = named-found (cells book) (name_in_table book table place) ∙ place-named book.trees book.tables t table place at is
     inside table at false is = refl
 
     by_table : (found : Option (List ℕ)) → slice_get book.tables t ≡ found
-        → is_some (option_and_then (λ table. if is_in book table place then number_of book (named book table place) else None) found) ≡ option_map_or (λ table. is_in book table place) found false
+        → is_some (option_and_then (λ table. if is_in book table place then number_of book (name_in_table book table place) else None) found) ≡ option_map_or (λ table. is_in book table place) found false
     by_table None at = refl
     by_table (Some table) at = inside table at (is_in book table place) refl
 
 -- and its name is that of the place
-pub cell-named : (book : Held) (t : ℕ) (place : List ℕ) (cell : ℕ) → cell_at book t place ≡ Some cell → slice_get (cells book) cell ≡ Some (name_at book t place)
+pub cell-named : (book : BookView) (t : ℕ) (place : List ℕ) (cell : ℕ) → cell_at book t place ≡ Some cell → slice_get (cells book) cell ≡ Some (name_at book t place)
 cell-named book t place cell = by_table (slice_get book.tables t)
   where
-    inside : (table : List ℕ) (b : Bool) → (if b then number_of book (named book table place) else None) ≡ Some cell → slice_get (cells book) cell ≡ Some (named book table place)
-    inside table true is = found-name (cells book) (named book table place) cell is
+    inside : (table : List ℕ) (b : Bool) → (if b then number_of book (name_in_table book table place) else None) ≡ Some cell → slice_get (cells book) cell ≡ Some (name_in_table book table place)
+    inside table true is = found-name (cells book) (name_in_table book table place) cell is
     inside table false is = cc
 
-    by_table : (found : Option (List ℕ)) → option_and_then (λ table. if is_in book table place then number_of book (named book table place) else None) found ≡ Some cell
-        → slice_get (cells book) cell ≡ Some (option_map_or (λ table. named book table place) found [])
+    by_table : (found : Option (List ℕ)) → option_and_then (λ table. if is_in book table place then number_of book (name_in_table book table place) else None) found ≡ Some cell
+        → slice_get (cells book) cell ≡ Some (option_map_or (λ table. name_in_table book table place) found [])
     by_table None is = cc
     by_table (Some table) is = inside table (is_in book table place) is

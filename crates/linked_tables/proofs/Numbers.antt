@@ -3,26 +3,26 @@ use Rattle.std.proofs.Common.{◌≡◌, ℕ, ◌+◌, ◌-◌, ◌≤◌, Bool,
 use Rattle.std.specs.Option.{option_and_then, option_map_or}
 use Rattle.std.proofs.lemmas.List.{append-nil, drop_all, take_all, length-take-le, length-drop}
 use Rattle.linked_tables.specs.declared.mark.Mark.{Mark}
-use Rattle.linked_tables.specs.Held.{Held}
-use Rattle.linked_tables.specs.Shared.{cell_at, is_in, is_place_of, name_at, named, number_of}
+use Rattle.linked_tables.specs.BookViews.{BookView}
+use Rattle.linked_tables.specs.BookCells.{cell_at, is_in, is_place_of, name_at, name_in_table, number_of}
 use Rattle.linked_tables.specs.Lending.{replaced_from, written_from}
 use Rattle.linked_tables.specs.Laws.{NumbersAreNames, WrittenStand}
 use Rattle.linked_tables.proofs.Finding.{cell-found, cell-named}
 
 -- the number at a place is that of its name
-pub number-of-name : (book : Held) (t : ℕ) (place : List ℕ) → is_place_of book t place ≡ true → cell_at book t place ≡ number_of book (name_at book t place)
+pub number-of-name : (book : BookView) (t : ℕ) (place : List ℕ) → is_place_of book t place ≡ true → cell_at book t place ≡ number_of book (name_at book t place)
 number-of-name book t place = by_table (slice_get book.tables t)
   where
-    inside : (table : List ℕ) (b : Bool) → b ≡ true → (if b then number_of book (named book table place) else None) ≡ number_of book (named book table place)
+    inside : (table : List ℕ) (b : Bool) → b ≡ true → (if b then number_of book (name_in_table book table place) else None) ≡ number_of book (name_in_table book table place)
     inside table true h = refl
     inside table false h = cc
 
     by_table : (found : Option (List ℕ)) → option_map_or (λ table. is_in book table place) found false ≡ true
-        → option_and_then (λ table. if is_in book table place then number_of book (named book table place) else None) found ≡ number_of book (option_map_or (λ table. named book table place) found [])
+        → option_and_then (λ table. if is_in book table place then number_of book (name_in_table book table place) else None) found ≡ number_of book (option_map_or (λ table. name_in_table book table place) found [])
     by_table None h = cc
     by_table (Some table) h = inside table (is_in book table place) h
 
-one-name : (book : Held) (t u : ℕ) (place other : List ℕ) (found : Option ℕ) → cell_at book t place ≡ found → cell_at book u other ≡ found → is_some found ≡ true → name_at book t place ≡ name_at book u other
+one-name : (book : BookView) (t u : ℕ) (place other : List ℕ) (found : Option ℕ) → cell_at book t place ≡ found → cell_at book u other ≡ found → is_some found ≡ true → name_at book t place ≡ name_at book u other
 one-name book t u place other None first second h = cc
 one-name book t u place other (Some cell) first second h = same (sym (cell-named book t place cell first) ∙ cell-named book u other cell second)
   where

@@ -12,7 +12,7 @@ use Rattle.sdc_base.specs.CellOrder.{is_place_in}
 use Rattle.sdc_base.proofs.Places.{places_are_lexicographic}
 use Rattle.sdc_base.proofs.PlaceLists.{name_length}
 use Rattle.linked_tables.specs.Tables.{has_unknown}
-use Rattle.linked_tables.specs.Shared.{IsTable}
+use Rattle.linked_tables.specs.BookCells.{IsTable}
 use Rattle.linked_tables.specs.Laws.{is_code, CellsByCode, TurnedShareAll, ApartShareTotal, grand_total}
 use Rattle.linked_tables.proofs.Finding.{named-map}
 

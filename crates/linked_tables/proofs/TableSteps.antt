@@ -11,8 +11,8 @@ use Rattle.sdc_base.specs.Cells.{cells_of, named_by, with_name}
 use Rattle.hierarchy.proofs.FlatSteps.{drop-at, take-at}
 use Rattle.linked_tables.specs.declared.book_fault.BookFault.{BookFault}
 use Rattle.linked_tables.specs.Tables.{most_cells, variables_fault, cells_fault, first_fault, or_later, unless_fault, book_of}
-use Rattle.linked_tables.specs.Shared.{IsTable}
-use Rattle.linked_tables.specs.Kept.{capped}
+use Rattle.linked_tables.specs.BookCells.{IsTable}
+use Rattle.linked_tables.specs.BookKeeping.{names_within_limit}
 use Rattle.linked_tables.proofs.CellLists.{cells-more}
 use Rattle.linked_tables.proofs.Faults.{fails-first, fails-second, sound-table}
 
@@ -57,7 +57,7 @@ variables-stop trees tables t table named at so_far fails =
 
 -- a table with too many cells
 pub cells-stop : (trees : List Tree) (tables : List (List ℕ)) (t : ℕ) (table : List ℕ) (named : Option BookFault) → slice_get tables t ≡ Some table → first_fault trees [] tables ≡ first_fault trees (take t tables) (drop t tables)
-    → variables_fault (length trees) t table ≡ None → Fails named (capped t (with_table trees tables t table)) → Fails named (book_of trees tables)
+    → variables_fault (length trees) t table ≡ None → Fails named (names_within_limit t (with_table trees tables t table)) → Fails named (book_of trees tables)
 cells-stop trees tables t table named at so_far none fails =
     subst (λ told. Fails {Y = List Tree × List (List ℕ)} named (unless_fault told (trees, tables))) (sym (so_far ∙ first-step trees tables t table at))
     (fails-second {Y = List Tree × List (List ℕ)} named (variables_fault (length trees) t table) (cells_fault t (with_table trees tables t table)) (first_fault trees (take (t + 1) tables) (drop (t + 1) tables)) (with_table trees tables t table) (trees, tables) none fails)

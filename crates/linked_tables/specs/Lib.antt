@@ -1,7 +1,7 @@
-pub mod Held
+pub mod BookViews
 pub mod Tables
-pub mod Blank
-pub mod Shared
-pub mod Kept
+pub mod BlankMarks
+pub mod BookCells
+pub mod BookKeeping
 pub mod Lending
 pub mod Laws

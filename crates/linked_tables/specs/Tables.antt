@@ -28,22 +28,25 @@ or_later None later = later
 -- the fault of table t for its variables: one that there isn't, or one that stands twice
 abbrev pub variables_fault : ℕ → ℕ → List ℕ → Option BookFault
 variables_fault variables t table =
-    if has_unknown variables table then Some (fault.NoSuchVariable t) else if has_twice table then Some (fault.TwiceInTable t) else None
+    if has_unknown variables table then Some (fault.NoSuchVariable t) else if has_twice table
+    then Some (fault.TwiceInTable t) else None
 
--- the fault of table t for the cells of it and all tables before it: they are too many. Not: the cells of table t alone, nor
--- the places of all tables, in which a shared cell stands more than once.
+-- the fault of table t for the cells of it and all tables before it: they are too many. Not: the cells of table t
+-- alone, nor the places of all tables, in which a shared cell stands more than once.
 abbrev pub cells_fault : ℕ → List Name → Option BookFault
 cells_fault t names = if nat_lt most_cells (length names) then Some (fault.TooManyCells t) else None
 
 -- the fault of a table that stands behind these: that of its variables, or else that of the cells up to it
 abbrev pub table_fault : List Tree → List (List ℕ) → List ℕ → Option BookFault
 table_fault trees before table =
-    or_later (variables_fault (length trees) (length before) table) (cells_fault (length before) (cells_of trees (before ++ table ∷ [])))
+    or_later (variables_fault (length trees) (length before) table)
+    (cells_fault (length before) (cells_of trees (before ++ table ∷ [])))
 
 -- the fault of the first table that has one, of those that stand behind these
 abbrev pub first_fault : List Tree → List (List ℕ) → List (List ℕ) → Option BookFault
 first_fault trees before [] = None
-first_fault trees before (table ∷ tables) = or_later (table_fault trees before table) (first_fault trees (before ++ table ∷ []) tables)
+first_fault trees before (table ∷ tables) = or_later (table_fault trees before table)
+    (first_fault trees (before ++ table ∷ []) tables)
 
 -- this value, unless there is a fault
 abbrev pub unless_fault : {X : Type 0} → Option BookFault → X → Result X BookFault

@@ -1,9 +1,10 @@
 ghost use Rattle.std.specs.Prelude.{◌≡◌, ◌↔◌, ◌≤◌, ◌<◌, ◌^◌, ◌+◌, ◌-◌, length, take, drop, slice_get, is_some, option_map, All, IsNone, IfSome, IfOk};
 ghost use Rattle.std.specs.Option.{ForSome};
 ghost use Rattle.sdc_base.specs.Answers.{Gives};
-ghost use Rattle.linked_tables.specs.Blank.{IsBlank};
+ghost use Rattle.linked_tables.specs.BlankMarks.{IsBlank};
 ghost use Rattle.linked_tables.specs.Tables.{book_of, fault_of};
-ghost use Rattle.linked_tables.specs.Shared.{cells as cells_in, cell_at, is_place_of, name_at as name_in, number_of, first_own as first_in, IsBook};
+ghost use Rattle.linked_tables.specs.BookCells.{cell_at, is_place_of, number_of, IsBook};
+ghost use Rattle.linked_tables.specs.BookCells as spec;
 
 use crate::book_fault::BookFault;
 use crate::mark::Mark;
@@ -33,10 +34,10 @@ pub struct Book {
 }
 
 impl Model for Book {
-    ghost use Rattle.linked_tables.specs.Held.{Held};
-    ghost use Rattle.linked_tables.specs.Kept.{IsKept};
+    ghost use Rattle.linked_tables.specs.BookViews.{BookView};
+    ghost use Rattle.linked_tables.specs.BookKeeping.{IsKept};
 
-    ghost Value = { Held };
+    ghost Value = { BookView };
 
     ghost view = { λ s. record { trees = s.trees.items; tables = s.tables.items; marks = s.marks.items } };
 
@@ -60,7 +61,7 @@ impl Book {
         requires fewer { length tables.items < 2 ^ 32 }
         ensures exact { Gives fault_of (λ book. (book.trees, book.tables)) result (book_of trees.items tables.items) }
         ensures blank { IfOk result (λ book. All IsBlank book.marks) }
-        ensures one_each { IfOk result (λ book. length book.marks ≡ length (cells_in book)) }
+        ensures one_each { IfOk result (λ book. length book.marks ≡ length (spec.cells book)) }
     {
         know_trees(&trees);
         let Numbering {
@@ -87,7 +88,8 @@ impl Book {
     pub fn id(&self, t: u32, place: &[u32]) -> Option<u32>
         ensures cell { result ≡ cell_at self.now t place.now }
         ensures found { is_some result ≡ is_place_of self.now t place.now }
-        ensures name { IfSome result (λ cell. slice_get (cells_in self.now) cell ≡ Some (name_in self.now t place.now)) }
+        ensures name { IfSome result (λ cell. slice_get (spec.cells self.now) cell
+            ≡ Some (spec.name_at self.now t place.now)) }
         ensures within { IfSome result (λ cell. cell < length self.now.marks) }
     {
         let table = self.spans(t)?;
@@ -105,7 +107,7 @@ impl Book {
     /// The name of a cell, or none behind the last cell: one code for each variable, the total's where the tables
     /// that have the cell don't span it.
     pub fn name(&self, cell: u32) -> Option<&Place>
-        ensures { option_map (λ name. name.now) result ≡ slice_get (cells_in self.now) cell }
+        ensures { option_map (λ name. name.now) result ≡ slice_get (spec.cells self.now) cell }
     {
         self.names.get(cell as usize)
     }
@@ -136,7 +138,7 @@ impl Book {
 
     /// How many cells there are, and what holds of every book.
     pub fn cells(&self) -> u32
-        ensures cells { result ≡ length (cells_in self.now) }
+        ensures cells { result ≡ length (spec.cells self.now) }
         ensures marks { result ≡ length self.now.marks }
         ensures book { IsBook self.now }
     {
@@ -146,7 +148,7 @@ impl Book {
     /// The number of the first cell that no table before t names: the cells that t is the first to name begin there,
     /// where there are any. It is the number of cells behind the last table.
     pub fn first_own(&self, t: u32) -> u32
-        ensures { result ≡ first_in self.now t }
+        ensures { result ≡ spec.first_own self.now t }
     {
         self.start_of(t as usize) as u32
     }
@@ -170,13 +172,14 @@ impl Book {
     ghost use Rattle.std.specs.Borrow.{sem};
     ghost use Rattle.std.specs.Prelude.{if◌then◌else◌, None, Some};
     ghost use Rattle.linked_tables.specs.Tables.{most_cells};
-    ghost use Rattle.linked_tables.specs.Shared.{is_in, named};
+    ghost use Rattle.linked_tables.specs.BookCells.{is_in, name_in_table};
     ghost use Rattle.linked_tables.specs.Lending.{LendsMark, LendsPart};
 
     // The number of the cell at a place of a table that spans these variables: the guess, where its name is that of the
     // place, and else by a look-up.
     fn number_in(&self, t: usize, table: &[u32], place: &[u32]) -> Option<usize>
-        ensures number { result ≡ (if is_in self.now table.now place.now then number_of self.now (named self.now table.now place.now) else None) }
+        ensures number { result ≡ (if is_in self.now table.now place.now
+            then number_of self.now (name_in_table self.now table.now place.now) else None) }
         ensures within { IfSome result (λ number. number < length self.now.marks) }
         ensures few { length self.now.marks ≤ most_cells }
     {
@@ -208,7 +211,7 @@ impl Book {
 
     /// How many cells the tables before t name, which is the number of the first cell of its own.
     pub(crate) fn start_of(&self, t: usize) -> usize
-        ensures start { result ≡ first_in self.now t }
+        ensures start { result ≡ spec.first_own self.now t }
         ensures within { result ≤ length self.now.marks }
         ensures few { length self.now.marks ≤ most_cells }
     {

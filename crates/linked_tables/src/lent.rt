@@ -1,6 +1,6 @@
 ghost use Rattle.std.specs.Prelude.{◌≡◌, ◌↔◌, ◌≤◌, length, IsNone, IfSome};
 ghost use Rattle.std.specs.Borrow.{sem};
-ghost use Rattle.linked_tables.specs.Shared.{earlier_marks, own_marks};
+ghost use Rattle.linked_tables.specs.BookCells.{earlier_marks, own_marks};
 ghost use Rattle.linked_tables.specs.Lending.{LendsOwn, RestsWithLent};
 
 use crate::book::Book;

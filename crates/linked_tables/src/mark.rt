@@ -1,4 +1,4 @@
-ghost use Rattle.linked_tables.specs.Blank.{IsBlank};
+ghost use Rattle.linked_tables.specs.BlankMarks.{IsBlank};
 
 use sdc_base::{CellFacts, Tops};
 

@@ -1,9 +1,9 @@
 ghost use Rattle.std.specs.Prelude.{◌≡◌, ◌≤◌, ◌<◌, ◌^◌, ◌++◌, ◌∷◌, [], length, fold, All, None, Ok, IfOk, IfErr, OnOk};
 ghost use Rattle.sdc_base.specs.Answers.{Fails};
 ghost use Rattle.sdc_base.specs.Cells.{named_by, with_name};
-ghost use Rattle.linked_tables.specs.Blank.{IsBlank};
+ghost use Rattle.linked_tables.specs.BlankMarks.{IsBlank};
 ghost use Rattle.linked_tables.specs.Tables.{book_of, fault_of, first_fault, most_cells, unless_fault, variables_fault};
-ghost use Rattle.linked_tables.specs.Kept.{IsNumbered, capped, names_below};
+ghost use Rattle.linked_tables.specs.BookKeeping.{IsNumbered, names_within_limit, names_below};
 
 use crate::book_fault::BookFault;
 use crate::mark::Mark;
@@ -61,7 +61,8 @@ pub(crate) fn number_cells(
 // Refuses a table that spans a variable that there isn't, or one twice.
 fn check_variables(variables: usize, t: u32, table: &[u32]) -> Result<(), BookFault>
     ensures none { OnOk result (variables_fault variables t table.now ≡ None) }
-    ensures fault { IfErr result (λ fault. Fails (fault_of fault) (unless_fault (variables_fault variables t table.now) (tt {0}))) }
+    ensures fault { IfErr result (λ fault. Fails (fault_of fault)
+        (unless_fault (variables_fault variables t table.now) (tt {0}))) }
 {
     if spans_unknown(variables, table) {
         return Err(BookFault::NoSuchVariable(t));
@@ -84,8 +85,10 @@ fn name_below(
     requires few { length trees.now ≤ 8 }
     requires begun { length place.now ≤ length table.now }
     requires room { length names.old ≤ most_cells }
-    ensures names { OnOk result (capped t (fold with_name names.old (names_below trees.now table.now place.now)) ≡ Ok names.new) }
-    ensures fault { IfErr result (λ fault. Fails (fault_of fault) (capped t (fold with_name names.old (names_below trees.now table.now place.now)))) }
+    ensures names { OnOk result (names_within_limit t
+        (fold with_name names.old (names_below trees.now table.now place.now)) ≡ Ok names.new) }
+    ensures fault { IfErr result (λ fault. Fails (fault_of fault)
+        (names_within_limit t (fold with_name names.old (names_below trees.now table.now place.now)))) }
 {
     if place.len() >= table.len() {
         let name = name_at(trees.len(), table.as_slice(), place);
@@ -106,8 +109,8 @@ fn add_name(
     names: &mut Names,
     guesses: &mut Vec<usize>,
 ) -> Result<(), BookFault>
-    ensures names { OnOk result (capped t (with_name names.old name) ≡ Ok names.new) }
-    ensures fault { IfErr result (λ fault. Fails (fault_of fault) (capped t (with_name names.old name))) }
+    ensures names { OnOk result (names_within_limit t (with_name names.old name) ≡ Ok names.new) }
+    ensures fault { IfErr result (λ fault. Fails (fault_of fault) (names_within_limit t (with_name names.old name))) }
 {
     let number = match names.number_of(&name) {
         Some(number) => number,

@@ -1,6 +1,6 @@
 ghost use Rattle.std.specs.Prelude.{◌≡◌, ◌↔◌, ◌≤◌, length, is_some, IsNone, IfSome, slice_get};
 ghost use Rattle.std.specs.Borrow.{sem};
-ghost use Rattle.linked_tables.specs.Shared.{cell_at, is_place_of};
+ghost use Rattle.linked_tables.specs.BookCells.{cell_at, is_place_of};
 ghost use Rattle.linked_tables.specs.Lending.{LendsMark, LendsCell, RestsWithTable};
 
 use crate::book::Book;
@@ -40,7 +40,8 @@ impl<'a> TableMut<'a> {
     pub fn cell_mut(&mut self, place: &[u32]) -> Option<&mut Mark>
         ensures* writes_back { sem 𝓛 (LendsCell self.entry place.now result) }
         ensures found { is_some result ≡ is_place_of self.old.book.now self.old.number place.now }
-        ensures mark { IfSome result (λ mark. IfSome (cell_at self.old.book.now self.old.number place.now) (λ cell. slice_get self.old.book.now.marks cell ≡ Some mark.now)) }
+        ensures mark { IfSome result (λ mark. IfSome (cell_at self.old.book.now self.old.number place.now)
+            (λ cell. slice_get self.old.book.now.marks cell ≡ Some mark.now)) }
     {
         let cell = self.book.id(self.number, place)?;
         let book = &mut *self.book;

@@ -13,7 +13,7 @@ use Rattle.microdata.specs.Closing.{closed_of, place_of, leaf_of, leaves_of, row
 use Rattle.microdata.specs.Fields.{scale_of}
 use Rattle.microdata.specs.Layouts.{measures_of}
 use Rattle.microdata.specs.Microdata.{records_of, closed_records}
-use Rattle.microdata.specs.OneRecord.{lines_say, nothing}
+use Rattle.microdata.specs.OneRecord.{lines_say, no_records}
 use Rattle.microdata.specs.Leaves.{AreLeaves, RowsAreAtLeaves}
 use Rattle.microdata.specs.declared.closing.Closed.{Closed}
 use Rattle.microdata.specs.declared.faults.RowWhy.{RowWhy}
@@ -88,7 +88,7 @@ rows-lowest scale variables (one ∷ kept) rows good h =
 pub rows_are_at_leaves : RowsAreAtLeaves
 unfolding records_of closed_records
 rows_are_at_leaves layout bytes records h =
-    let a = bind_ok (lines_say (measures_of layout) (nothing layout) (lines bytes)) _ records h in
+    let a = bind_ok (lines_say (measures_of layout) (no_records layout) (lines bytes)) _ records h in
     let b = bind_ok (rows_of (map closed_of a.0.variables) a.0.rows) _ records a.2 in
-    let good = lines-good (measures_of layout) layout.spanning (nothing layout) a.0 (lines bytes) (record { fields = fields-first layout.spanning; rows = tt; few = omega arith; records = omega arith }) a.1 in
+    let good = lines-good (measures_of layout) layout.spanning (no_records layout) a.0 (lines bytes) (record { fields = fields-first layout.spanning; rows = tt; few = omega arith; records = omega arith }) a.1 in
     subst (λ (records : Records). AllByRecursion (λ row. AreLeaves records.trees row.codes) records.rows) (value_of_ok _ records b.2) (rows-lowest (scale_of layout.weight) a.0.variables a.0.rows b.0 good.rows b.1)

@@ -6,11 +6,11 @@ use Rattle.sdc_base.specs.Answers.{Fails, Gives}
 use Rattle.sdc_base.specs.Lines.{HasNoFeed}
 use Rattle.sdc_base.specs.Steps.{◌>>=◌}
 use Rattle.plain_text.proofs.FirstLine.{NoFeeds, lines-open, lines-ended}
-use Rattle.microdata.specs.Feeding.{is_too_long, fed_says, all_says, fed_of, SaysAsFrom, HasFault, IsKeptOf, StopsLong, Reading, HasRead}
+use Rattle.microdata.specs.Feeding.{is_too_long, fed_says, all_says, fed_of, SaysAsFrom, HasFault, IsKeptOf, StopsLong, ReaderView, HasRead}
 use Rattle.microdata.specs.Faults.{fault_of}
 use Rattle.microdata.specs.Layouts.{measures_of}
 use Rattle.microdata.specs.Microdata.{records_of, records_behind, closed_records}
-use Rattle.microdata.specs.OneRecord.{line_says, lines_say, record_says, nothing}
+use Rattle.microdata.specs.OneRecord.{line_says, lines_say, record_says, no_records}
 use Rattle.microdata.specs.declared.faults.RowError.{RowError}
 use Rattle.microdata.specs.declared.faults.RowError.TheVariants as row_error
 use Rattle.microdata.specs.declared.faults.RowWhy.{RowWhy}
@@ -182,41 +182,41 @@ last-says m so_far (b ∷ line) plain = ap (lines_say m so_far) (lines-open b li
 
 -- ---- a reader
 
-kept-none : (r : Reading) (first : SoFar) (bytes : List ℕ) → r.error ≡ None → IsKeptOf r.error r.measures first bytes r.so_far r.begun → SaysAsFrom r.measures first bytes r.so_far r.begun
+kept-none : (r : ReaderView) (first : SoFar) (bytes : List ℕ) → r.error ≡ None → IsKeptOf r.error r.measures first bytes r.so_far r.begun → SaysAsFrom r.measures first bytes r.so_far r.begun
 kept-none r first bytes none kept = subst (λ e. IsKeptOf e r.measures first bytes r.so_far r.begun) none kept
 
 -- a piece without a fault
-pub feed-fine : (r : Reading) (layout : Layout) (bytes piece : List ℕ) (next : SoFar) (end : List ℕ) → r.error ≡ None → HasRead r layout bytes → SaysAsFrom r.measures r.so_far (r.begun ++ piece) next end
+pub feed-fine : (r : ReaderView) (layout : Layout) (bytes piece : List ℕ) (next : SoFar) (end : List ℕ) → r.error ≡ None → HasRead r layout bytes → SaysAsFrom r.measures r.so_far (r.begun ++ piece) next end
     → HasNoFeed end → is_too_long end ≡ false → fed_of layout (bytes ++ piece) ≡ Ok tt
 feed-fine r layout bytes piece next end none read says plain short =
-    let all = says-on r.measures (nothing layout) r.so_far next bytes r.begun piece end (kept-none r (nothing layout) bytes none read.kept) says in
-    subst (λ m. fed_says m (nothing layout) (bytes ++ piece) ≡ Ok tt) read.measures
-    (ap (fed_says r.measures (nothing layout)) (sym (append-nil (bytes ++ piece))) ∙ all.fed [] ∙ ap (fed_says r.measures next) (append-nil end) ∙ begun-says r.measures next end plain short)
+    let all = says-on r.measures (no_records layout) r.so_far next bytes r.begun piece end (kept-none r (no_records layout) bytes none read.kept) says in
+    subst (λ m. fed_says m (no_records layout) (bytes ++ piece) ≡ Ok tt) read.measures
+    (ap (fed_says r.measures (no_records layout)) (sym (append-nil (bytes ++ piece))) ∙ all.fed [] ∙ ap (fed_says r.measures next) (append-nil end) ∙ begun-says r.measures next end plain short)
 
-pub feed-stops : (r : Reading) (layout : Layout) (bytes piece : List ℕ) (e : RowError) → r.error ≡ None → HasRead r layout bytes → IsKeptOf (Some e) r.measures r.so_far (r.begun ++ piece) r.so_far r.begun
-    → IsKeptOf (Some e) r.measures (nothing layout) (bytes ++ piece) r.so_far r.begun
-feed-stops r layout bytes piece e none read stops = kept-on r.measures (nothing layout) r.so_far bytes r.begun piece e (kept-none r (nothing layout) bytes none read.kept) stops
+pub feed-stops : (r : ReaderView) (layout : Layout) (bytes piece : List ℕ) (e : RowError) → r.error ≡ None → HasRead r layout bytes → IsKeptOf (Some e) r.measures r.so_far (r.begun ++ piece) r.so_far r.begun
+    → IsKeptOf (Some e) r.measures (no_records layout) (bytes ++ piece) r.so_far r.begun
+feed-stops r layout bytes piece e none read stops = kept-on r.measures (no_records layout) r.so_far bytes r.begun piece e (kept-none r (no_records layout) bytes none read.kept) stops
 
-pub kept-fails : (r : Reading) (layout : Layout) (bytes : List ℕ) (e : RowError) (so_far : SoFar) (rest : List ℕ) → r.measures ≡ measures_of layout → IsKeptOf (Some e) r.measures (nothing layout) bytes so_far rest → Fails (fault_of e) (fed_of layout bytes)
+pub kept-fails : (r : ReaderView) (layout : Layout) (bytes : List ℕ) (e : RowError) (so_far : SoFar) (rest : List ℕ) → r.measures ≡ measures_of layout → IsKeptOf (Some e) r.measures (no_records layout) bytes so_far rest → Fails (fault_of e) (fed_of layout bytes)
 kept-fails r layout bytes row_error.Memory so_far rest same kept = tt
 kept-fails r layout bytes (row_error.At number why) so_far rest same kept =
-    subst (λ m. fed_says m (nothing layout) bytes ≡ Err (number, why)) same (ap (fed_says r.measures (nothing layout)) (sym (append-nil bytes)) ∙ kept.fed [])
+    subst (λ m. fed_says m (no_records layout) bytes ≡ Err (number, why)) same (ap (fed_says r.measures (no_records layout)) (sym (append-nil bytes)) ∙ kept.fed [])
 
-pub all-fails : (r : Reading) (layout : Layout) (bytes : List ℕ) (e : RowError) → r.measures ≡ measures_of layout → IsKeptOf (Some e) r.measures (nothing layout) bytes r.so_far r.begun → Fails (fault_of e) (records_of layout bytes)
+pub all-fails : (r : ReaderView) (layout : Layout) (bytes : List ℕ) (e : RowError) → r.measures ≡ measures_of layout → IsKeptOf (Some e) r.measures (no_records layout) bytes r.so_far r.begun → Fails (fault_of e) (records_of layout bytes)
 unfolding records_of
 all-fails r layout bytes row_error.Memory same kept = tt
 all-fails r layout bytes (row_error.At number why) same kept =
-    let all : all_says (measures_of layout) (nothing layout) bytes ≡ Err (number, why) =
-    subst (λ m. all_says m (nothing layout) bytes ≡ Err (number, why)) same (ap (all_says r.measures (nothing layout)) (sym (append-nil bytes)) ∙ kept.all []) in
+    let all : all_says (measures_of layout) (no_records layout) bytes ≡ Err (number, why) =
+    subst (λ m. all_says m (no_records layout) bytes ≡ Err (number, why)) same (ap (all_says r.measures (no_records layout)) (sym (append-nil bytes)) ∙ kept.all []) in
     rw all refl
 
 -- what all bytes say is what the rest of them says after the records so far
-pub all-read : (r : Reading) (layout : Layout) (bytes : List ℕ) → r.error ≡ None → HasRead r layout bytes → HasNoFeed r.begun → records_of layout bytes ≡ records_behind r.measures r.so_far r.begun
+pub all-read : (r : ReaderView) (layout : Layout) (bytes : List ℕ) → r.error ≡ None → HasRead r layout bytes → HasNoFeed r.begun → records_of layout bytes ≡ records_behind r.measures r.so_far r.begun
 unfolding records_of records_behind
 all-read r layout bytes none read plain =
-    let says = kept-none r (nothing layout) bytes none read.kept in
-    ap (λ m. all_says m (nothing layout) bytes >>= closed_records) (sym read.measures)
-    ∙ ap (λ whole. all_says r.measures (nothing layout) whole >>= closed_records) (sym (append-nil bytes))
+    let says = kept-none r (no_records layout) bytes none read.kept in
+    ap (λ m. all_says m (no_records layout) bytes >>= closed_records) (sym read.measures)
+    ∙ ap (λ whole. all_says r.measures (no_records layout) whole >>= closed_records) (sym (append-nil bytes))
     ∙ ap (λ said. said >>= closed_records) (says.all [])
     ∙ ap (λ rest. all_says r.measures r.so_far rest >>= closed_records) (append-nil r.begun)
     ∙ ap (λ said. said >>= closed_records) (last-says r.measures r.so_far r.begun plain)

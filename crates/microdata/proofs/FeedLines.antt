@@ -5,7 +5,7 @@ use Rattle.std.specs.Str.Lines.{strip_carriage_return}
 use Rattle.std.proofs.lemmas.Bool.Decides.{nat_tests, Decides-eqb}
 use Rattle.sdc_base.specs.Lines.{lines, is_line_feed, HasNoFeed}
 use Rattle.plain_text.proofs.FirstLine.{NoFeeds, lines-ended}
-use Rattle.microdata.specs.Feeding.{up_to_last_feed, ended, begun, is_too_long}
+use Rattle.microdata.specs.Feeding.{up_to_last_feed, ended_lines, begun_line, is_too_long}
 
 either-false : (a b : Bool) → a || b ≡ false → (a ≡ false) × (b ≡ false)
 either-false true b h = cc
@@ -46,19 +46,19 @@ whole-next : (line rest : List ℕ) → up_to_last_feed (line ++ 10 ∷ rest) �
 whole-next [] rest = refl
 whole-next (b ∷ line) rest = rw (any-feed (b ∷ line) rest) (ap (λ r. b ∷ r) (whole-next line rest))
 
-pub ended-next : (line rest : List ℕ) → NoFeeds line → ended (line ++ 10 ∷ rest) ≡ strip_carriage_return line ∷ ended rest
+pub ended-next : (line rest : List ℕ) → NoFeeds line → ended_lines (line ++ 10 ∷ rest) ≡ strip_carriage_return line ∷ ended_lines rest
 ended-next line rest h = ap lines (whole-next line rest) ∙ lines-ended line (up_to_last_feed rest) h
 
-pub begun-next : (line rest : List ℕ) → begun (line ++ 10 ∷ rest) ≡ begun rest
+pub begun-next : (line rest : List ℕ) → begun_line (line ++ 10 ∷ rest) ≡ begun_line rest
 begun-next [] rest = refl
 begun-next (b ∷ line) rest = rw (any-feed (b ∷ line) rest) (begun-next line rest)
 
 -- bytes without a line feed are a line that has begun
-pub begun-open : (line : List ℕ) → HasNoFeed line → begun line ≡ line
+pub begun-open : (line : List ℕ) → HasNoFeed line → begun_line line ≡ line
 begun-open [] h = refl
 begun-open (b ∷ line) h = rw h refl
 
-pub ended-open : (line : List ℕ) → HasNoFeed line → ended line ≡ []
+pub ended-open : (line : List ℕ) → HasNoFeed line → ended_lines line ≡ []
 ended-open [] h = refl
 ended-open (b ∷ line) h = rw h refl
 

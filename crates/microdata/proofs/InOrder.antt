@@ -7,7 +7,7 @@ use Rattle.std.specs.Ordering.{nat_cmp, match_ordering, ordering_reverse}
 use Rattle.std.specs.declared.cmp.Ordering.TheVariants.{Less, Equal, Greater}
 use Rattle.std.proofs.lemmas.Cmp.{nat_list_cmp_total}
 use Rattle.hierarchy.specs.Among.{IsIn, AreAmong}
-use Rattle.hierarchy.specs.Levels.{prefixes, with_prefixes, gathered}
+use Rattle.hierarchy.specs.Levels.{prefixes, with_prefixes, codes_with_prefixes}
 use Rattle.hierarchy.proofs.Gathered.{all-stays, all-new, all-back}
 use Rattle.hierarchy.proofs.Prefixes.{not_before_itself}
 
@@ -92,11 +92,11 @@ same-members (one ∷ ones) (other ∷ others) order second among back =
 
 -- ---- the members of codes with their prefixes
 
-gathered-stays : (bounds : List ℕ) (codes kept : List (List ℕ)) (x : List ℕ) → IsIn x kept → IsIn x (gathered bounds kept codes)
+gathered-stays : (bounds : List ℕ) (codes kept : List (List ℕ)) (x : List ℕ) → IsIn x kept → IsIn x (codes_with_prefixes bounds kept codes)
 gathered-stays bounds [] kept x h = h
 gathered-stays bounds (code ∷ codes) kept x h = gathered-stays bounds codes (with_prefixes bounds kept code) x (all-stays (prefixes bounds code) kept x h)
 
-pub gathered-new : (bounds : List ℕ) (codes kept : List (List ℕ)) (code x : List ℕ) → IsIn code codes → IsIn x (prefixes bounds code) → IsIn x (gathered bounds kept codes)
+pub gathered-new : (bounds : List ℕ) (codes kept : List (List ℕ)) (code x : List ℕ) → IsIn code codes → IsIn x (prefixes bounds code) → IsIn x (codes_with_prefixes bounds kept codes)
 gathered-new bounds [] kept code x h inside = absurd h
 gathered-new bounds (first ∷ codes) kept code x h inside =
     let rest = λ (h : IsIn code codes). gathered-new bounds codes (with_prefixes bounds kept first) code x h inside in
@@ -109,7 +109,7 @@ gathered-new bounds (first ∷ codes) kept code x h inside =
 abbrev pub IsPrefixed : List ℕ → List (List ℕ) → List ℕ → Type 0
 IsPrefixed bounds codes x = (code : List ℕ) × IsIn code codes × IsIn x (prefixes bounds code)
 
-pub gathered-back : (bounds : List ℕ) (codes kept : List (List ℕ)) (x : List ℕ) → IsIn x (gathered bounds kept codes) → IsIn x kept ⊎ IsPrefixed bounds codes x
+pub gathered-back : (bounds : List ℕ) (codes kept : List (List ℕ)) (x : List ℕ) → IsIn x (codes_with_prefixes bounds kept codes) → IsIn x kept ⊎ IsPrefixed bounds codes x
 gathered-back bounds [] kept x h = inl h
 gathered-back bounds (first ∷ codes) kept x h =
     elim (gathered-back bounds codes (with_prefixes bounds kept first) x h) [

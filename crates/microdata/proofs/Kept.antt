@@ -13,7 +13,7 @@ use Rattle.sdc_base.specs.Trees.{Tree, find}
 use Rattle.sdc_base.specs.declared.number_fault.NumberFault.{NumberFault}
 use Rattle.hierarchy.specs.Levels.{boundaries, prefixes, with_prefixes}
 use Rattle.microdata.specs.Faults.{at_record}
-use Rattle.microdata.specs.Fields.{field, below, number_of, value_of, weight_of, scale_of, is_negative, has_no_response}
+use Rattle.microdata.specs.Fields.{field, number_below, number_of, value_of, weight_of, scale_of, is_negative, has_no_response}
 use Rattle.microdata.specs.OneRecord.{variable_says, variables_say, response_says, record_says, line_says, lines_say, with_row, with_skipped}
 use Rattle.microdata.specs.SeenCodes.{is_above, listed_place, with_level_code, with_flat_code, known_or_new, with_code}
 use Rattle.microdata.specs.declared.faults.RowWhy.{RowWhy}
@@ -182,7 +182,7 @@ variables-taken (variable ∷ variables) taken line h =
 
 -- ---- the numbers of a record
 
-below-within : (limit n : ℕ) (read : Result ℤ NumberFault) → below limit read ≡ Ok n → n < limit
+below-within : (limit n : ℕ) (read : Result ℤ NumberFault) → number_below limit read ≡ Ok n → n < limit
 below-within limit n (Err fault) h = cc
 below-within limit n (Ok (negsuc k)) h = cc
 below-within limit n (Ok (pos k)) h = by (nat_lt k limit) refl h

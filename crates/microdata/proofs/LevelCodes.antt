@@ -7,7 +7,7 @@ use Rattle.std.proofs.lemmas.List.Elements.{All-append, All-cons, All-nil}
 use Rattle.sdc_base.specs.Blanks.{is_blank}
 use Rattle.sdc_base.specs.Steps.{◌>>=◌, refuse}
 use Rattle.hierarchy.specs.Faults.{or_else}
-use Rattle.hierarchy.specs.Levels.{boundaries, prefixes, with_prefixes, gathered, level_fault, first_level_fault}
+use Rattle.hierarchy.specs.Levels.{boundaries, prefixes, with_prefixes, codes_with_prefixes, level_fault, first_level_fault}
 use Rattle.hierarchy.specs.declared.tree_fault.TreeFault.{TreeFault}
 use Rattle.hierarchy.proofs.Among.{among-more}
 use Rattle.microdata.specs.Keeping.{AreLevelCodes}
@@ -24,7 +24,7 @@ passed why false next y h = (refl, h)
 pub value_is : (x y : Seen) → ◌≡◌ {A = Result Seen RowWhy} (Ok x) (Ok y) → x ≡ y
 value_is x y h = cc
 
-pub gathered-more : (bounds : List ℕ) (codes kept : List (List ℕ)) (code : List ℕ) → gathered bounds kept (codes ++ code ∷ []) ≡ with_prefixes bounds (gathered bounds kept codes) code
+pub gathered-more : (bounds : List ℕ) (codes kept : List (List ℕ)) (code : List ℕ) → codes_with_prefixes bounds kept (codes ++ code ∷ []) ≡ with_prefixes bounds (codes_with_prefixes bounds kept codes) code
 gathered-more bounds [] kept code = refl
 gathered-more bounds (first ∷ codes) kept code = gathered-more bounds codes (with_prefixes bounds kept first) code
 
@@ -33,7 +33,7 @@ neither None other h = (refl, h)
 neither (Some fault) other h = cc
 
 fine-more : (total bounds : List ℕ) (n : ℕ) (earlier kept codes : List (List ℕ)) (code : List ℕ) → first_level_fault total bounds n earlier kept codes ≡ None
-    → ((m : ℕ) → level_fault total bounds (earlier ++ codes) (gathered bounds kept codes) code m ≡ None)
+    → ((m : ℕ) → level_fault total bounds (earlier ++ codes) (codes_with_prefixes bounds kept codes) code m ≡ None)
     → first_level_fault total bounds n earlier kept (codes ++ code ∷ []) ≡ None
 fine-more total bounds n earlier kept [] code h last =
     let here : level_fault total bounds earlier kept code n ≡ None = subst (λ before. level_fault total bounds before kept code n ≡ None) (append-nil earlier) (last n) in
@@ -41,7 +41,7 @@ fine-more total bounds n earlier kept [] code h last =
 fine-more total bounds n earlier kept (first ∷ codes) code h last =
     let both = neither (level_fault total bounds earlier kept first n) (first_level_fault total bounds (n + 1) (earlier ++ first ∷ []) (with_prefixes bounds kept first) codes) h in
     let rest = fine-more total bounds (n + 1) (earlier ++ first ∷ []) (with_prefixes bounds kept first) codes code both.1
-    (λ m. subst (λ before. level_fault total bounds before (gathered bounds (with_prefixes bounds kept first) codes) code m ≡ None) (sym (append_assoc earlier (first ∷ []) codes)) (last m)) in
+    (λ m. subst (λ before. level_fault total bounds before (codes_with_prefixes bounds (with_prefixes bounds kept first) codes) code m ≡ None) (sym (append_assoc earlier (first ∷ []) codes)) (last m)) in
     ap (λ told. or_else told (first_level_fault total bounds (n + 1) (earlier ++ first ∷ []) (with_prefixes bounds kept first) (codes ++ code ∷ []))) both.0 ∙ rest
 
 no-fault : (total bounds : List ℕ) (earlier kept : List (List ℕ)) (code : List ℕ) (m : ℕ) → list_any is_blank code ≡ false → list_any (bytes_eq total) (prefixes bounds code) ≡ false → list_any (bytes_eq code) earlier ≡ false
@@ -61,7 +61,7 @@ grown-sound widths total old code new sound plain short apart room =
     record {
       nodes = ap (λ nodes. with_prefixes bounds nodes code) sound.nodes ∙ sym (gathered-more bounds old.codes [] code);
       fine = fine-more total bounds 1 [] [] old.codes code sound.fine
-          (λ m. no-fault total bounds old.codes (gathered bounds [] old.codes) code m plain apart new (subst (λ nodes. nat_lt 5000 (length (with_prefixes bounds nodes code)) ≡ false) sound.nodes room));
+          (λ m. no-fault total bounds old.codes (codes_with_prefixes bounds [] old.codes) code m plain apart new (subst (λ nodes. nat_lt 5000 (length (with_prefixes bounds nodes code)) ≡ false) sound.nodes room));
       short = All-append (λ code. length code ≤ sum widths) old.codes (code ∷ []) sound.short (All-cons (λ code. length code ≤ sum widths) code [] (not_below _ _ short) (All-nil (λ code. length code ≤ sum widths)));
       among = among-more bounds old.codes old.nodes code sound.among;
       few = not_below 5000 _ room;

@@ -11,7 +11,7 @@ use Rattle.microdata.specs.Fields.{has_no_response, value_of, weight_of}
 use Rattle.microdata.specs.Layouts.{measures_of}
 use Rattle.microdata.specs.Meaning.{is_record, IsNumberOfRecord, FaultsAreNumbered}
 use Rattle.microdata.specs.Microdata.{records_of, closed_records}
-use Rattle.microdata.specs.OneRecord.{variables_say, response_says, record_says, line_says, lines_say, with_row, with_skipped, nothing}
+use Rattle.microdata.specs.OneRecord.{variables_say, response_says, record_says, line_says, lines_say, with_row, with_skipped, no_records}
 use Rattle.microdata.specs.declared.closing.Closed.{Closed}
 use Rattle.microdata.specs.declared.faults.RowWhy.{RowWhy}
 use Rattle.microdata.specs.declared.faults.RowWhy.TheVariants.{TooLong, TooMany, Short}
@@ -123,11 +123,11 @@ rows-numbered all closed (one ∷ kept) number why counted h =
 pub faults_are_numbered : FaultsAreNumbered
 unfolding records_of closed_records
 faults_are_numbered layout bytes number why h =
-    let first : IsCounted [] (nothing layout) = record { number = refl; rows = tt } in
-    elim (bind_err (lines_say (measures_of layout) (nothing layout) (lines bytes)) closed_records (number, why) h) [
-      | inl stops ↦ lines-numbered (measures_of layout) [] (lines bytes) (nothing layout) number why first stops
+    let first : IsCounted [] (no_records layout) = record { number = refl; rows = tt } in
+    elim (bind_err (lines_say (measures_of layout) (no_records layout) (lines bytes)) closed_records (number, why) h) [
+      | inl stops ↦ lines-numbered (measures_of layout) [] (lines bytes) (no_records layout) number why first stops
       | inr next ↦
-          let counted = lines-counted (measures_of layout) [] (lines bytes) (nothing layout) next.0 first next.1 in
+          let counted = lines-counted (measures_of layout) [] (lines bytes) (no_records layout) next.0 first next.1 in
           rows-numbered (lines bytes) (map closed_of next.0.variables) next.0.rows number why counted.rows (closing-stops next.0 (rows_of (map closed_of next.0.variables) next.0.rows) next.2)
     ]
   where

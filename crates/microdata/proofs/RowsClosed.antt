@@ -11,7 +11,7 @@ use Rattle.sdc_base.specs.Trees.{Tree, codes, find}
 use Rattle.sdc_base.specs.declared.rows.Row.{Row}
 use Rattle.hierarchy.specs.Among.{IsIn}
 use Rattle.hierarchy.specs.Children.{first_child}
-use Rattle.hierarchy.specs.Levels.{boundaries, above, tree_of_codes}
+use Rattle.hierarchy.specs.Levels.{boundaries, code_above, tree_of_codes}
 use Rattle.hierarchy.proofs.Among.{codes-more}
 use Rattle.hierarchy.proofs.FlatSteps.{codes-flat}
 use Rattle.microdata.specs.Closing.{tree_of, places_in, closed_of, place_of, leaf_of, leaves_of, row_of, rows_of}
@@ -20,7 +20,7 @@ use Rattle.microdata.specs.Keeping.{AreSeen}
 use Rattle.microdata.specs.Layouts.{measures_of, IsField, IsLayout}
 use Rattle.microdata.specs.Meaning.{is_answered, is_unanswered, ArePlacesOf, IsRowOf, AreRowsOf, RowsAreTheirRecords}
 use Rattle.microdata.specs.Microdata.{records_of, closed_records}
-use Rattle.microdata.specs.OneRecord.{lines_say, nothing}
+use Rattle.microdata.specs.OneRecord.{lines_say, no_records}
 use Rattle.microdata.specs.declared.closing.Closed.{Closed}
 use Rattle.microdata.specs.declared.faults.RowWhy.{RowWhy}
 use Rattle.microdata.specs.declared.faults.RowWhy.TheVariants.{NotLeaf}
@@ -56,9 +56,9 @@ find-some (node ∷ tree) code h =
 codes-made : (total bounds : List ℕ) (below : List (List ℕ)) (tree : Tree) → codes (tree_of_codes total bounds tree below) ≡ codes tree ++ below
 codes-made total bounds [] tree = sym (append-nil (codes tree))
 codes-made total bounds (code ∷ below) tree =
-    let next : Tree = tree ++ (code, find tree (above total bounds code)) ∷ [] in
+    let next : Tree = tree ++ (code, find tree (code_above total bounds code)) ∷ [] in
     codes-made total bounds below next
-    ∙ ap (λ (front : List (List ℕ)). front ++ below) (codes-more tree code (find tree (above total bounds code)))
+    ∙ ap (λ (front : List (List ℕ)). front ++ below) (codes-more tree code (find tree (code_above total bounds code)))
     ∙ append_assoc (codes tree) (code ∷ []) below
 
 in-level-tree : (widths total : List ℕ) (seen : Seen) (code : List ℕ) → IsIn code seen.nodes → IsIn code (codes (tree_of (source.Levels widths total) seen))
@@ -160,7 +160,7 @@ all-brought-first : (fields : List Field) → AllByRecursion (IsBrought []) (map
 all-brought-first [] = tt
 all-brought-first (field ∷ fields) = (brought-first field, all-brought-first fields)
 
-meant-first : (layout : Layout) → IsLayout layout → IsMeantSoFar layout [] 0 (nothing layout)
+meant-first : (layout : Layout) → IsLayout layout → IsMeantSoFar layout [] 0 (no_records layout)
 meant-first layout fine = record { fields = fields-first layout.spanning; sound = sound-first layout.needed layout.spanning fine.fields; rows = tt; skipped = refl; brought = all-brought-first layout.spanning }
 
 -- what was kept of the records that are read
@@ -173,10 +173,10 @@ pub record IsReadFrom (layout : Layout) (bytes : List ℕ) (records : Records) (
 pub read-from : (layout : Layout) (bytes : List ℕ) (records : Records) → IsLayout layout → records_of layout bytes ≡ Ok records → (last : SoFar) × IsReadFrom layout bytes records last
 unfolding records_of closed_records
 read-from layout bytes records fine h =
-    let a = bind_ok (lines_say (measures_of layout) (nothing layout) (lines bytes)) _ records h in
+    let a = bind_ok (lines_say (measures_of layout) (no_records layout) (lines bytes)) _ records h in
     let b = bind_ok (rows_of (map closed_of a.0.variables) a.0.rows) _ records a.2 in
     let zero_more : 0 + length (filter (is_unanswered layout.response) (lines bytes)) ≡ length (filter (is_unanswered layout.response) (lines bytes)) = omega arith in
-    let meant = subst (λ n. IsMeantSoFar layout (filter (is_answered layout.response) (lines bytes)) n a.0) zero_more (lines-meant layout [] 0 (nothing layout) a.0 (lines bytes) (meant-first layout fine) a.1) in (
+    let meant = subst (λ n. IsMeantSoFar layout (filter (is_answered layout.response) (lines bytes)) n a.0) zero_more (lines-meant layout [] 0 (no_records layout) a.0 (lines bytes) (meant-first layout fine) a.1) in (
       a.0,
       subst (λ (records : Records). IsReadFrom layout bytes records a.0) (value_of_ok _ records b.2) (record {
         meant = meant;

@@ -4,11 +4,11 @@ use Rattle.std.specs.Str.Lines.{strip_carriage_return}
 use Rattle.sdc_base.specs.Steps.{◌>>=◌, refuse}
 use Rattle.sdc_base.proofs.StepLemmas.{bind_err}
 use Rattle.plain_text.proofs.FirstLine.{NoFeeds}
-use Rattle.microdata.specs.Feeding.{ended, begun, is_too_long, fed_says, HasFault}
+use Rattle.microdata.specs.Feeding.{ended_lines, begun_line, is_too_long, fed_says, HasFault}
 use Rattle.microdata.specs.Layouts.{measures_of}
 use Rattle.microdata.specs.Laws.{FaultsStand}
 use Rattle.microdata.specs.Microdata.{records_of}
-use Rattle.microdata.specs.OneRecord.{line_says, lines_say, nothing}
+use Rattle.microdata.specs.OneRecord.{line_says, lines_say, no_records}
 use Rattle.microdata.specs.declared.faults.RowWhy.{RowWhy}
 use Rattle.microdata.specs.declared.faults.RowWhy.TheVariants.{TooLong}
 use Rattle.microdata.specs.declared.layout.Measures.{Measures}
@@ -24,7 +24,7 @@ open-stands : (m : Measures) (so_far : SoFar) (bytes : List ℕ) (fault : ℕ ×
 unfolding fed_says lines_say
 open-stands m so_far bytes fault none said =
     let plain = no-feed bytes none in
-    by (is_too_long bytes) refl (ap (λ lines. lines_say m so_far lines >>= λ all. refuse (all.number + 1, TooLong) (is_too_long bytes)) (sym (ended-open bytes plain)) ∙ ap (λ line. lines_say m so_far (ended bytes) >>= λ all. refuse (all.number + 1, TooLong) (is_too_long line)) (sym (begun-open bytes plain)) ∙ said)
+    by (is_too_long bytes) refl (ap (λ lines. lines_say m so_far lines >>= λ all. refuse (all.number + 1, TooLong) (is_too_long bytes)) (sym (ended-open bytes plain)) ∙ ap (λ line. lines_say m so_far (ended_lines bytes) >>= λ all. refuse (all.number + 1, TooLong) (is_too_long line)) (sym (begun-open bytes plain)) ∙ said)
   where
     by : (b : Bool) → is_too_long bytes ≡ b → refuse (so_far.number + 1, TooLong) b ≡ Err fault → HasFault m so_far bytes fault
     by true is h = subst (HasFault m so_far bytes) (fault-of-err _ fault h) (begun-too-long m so_far bytes (no-feed bytes none) is)
@@ -35,7 +35,7 @@ first-line : (m : Measures) (so_far : SoFar) (line rest : List ℕ) → NoFeeds 
 unfolding fed_says lines_say
 first-line m so_far line rest none = rw (ended-next line rest none, begun-next line rest) (regrouped (line_says m so_far (strip_carriage_return line)))
   where
-    regrouped : (read : Result SoFar (ℕ × RowWhy)) → ((read >>= λ next. lines_say m next (ended rest)) >>= λ all. refuse (all.number + 1, TooLong) (is_too_long (begun rest))) ≡ (read >>= λ next. lines_say m next (ended rest) >>= λ all. refuse (all.number + 1, TooLong) (is_too_long (begun rest)))
+    regrouped : (read : Result SoFar (ℕ × RowWhy)) → ((read >>= λ next. lines_say m next (ended_lines rest)) >>= λ all. refuse (all.number + 1, TooLong) (is_too_long (begun_line rest))) ≡ (read >>= λ next. lines_say m next (ended_lines rest) >>= λ all. refuse (all.number + 1, TooLong) (is_too_long (begun_line rest)))
     regrouped (Ok next) = refl
     regrouped (Err fault) = refl
 
@@ -64,5 +64,5 @@ stands (suc n) m so_far bytes fault few said =
 pub faults_stand : FaultsStand
 unfolding records_of
 faults_stand layout bytes more fault said =
-    let both = stands (length bytes) (measures_of layout) (nothing layout) bytes fault (omega arith) said in
+    let both = stands (length bytes) (measures_of layout) (no_records layout) bytes fault (omega arith) said in
     (both.fed more, rw (both.all more) refl)

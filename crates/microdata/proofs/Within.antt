@@ -7,12 +7,12 @@ use Rattle.sdc_base.proofs.StepLemmas.{bind_ok}
 use Rattle.sdc_base.specs.Trees.{Tree, find}
 use Rattle.sdc_base.specs.declared.rows.Row.{Row}
 use Rattle.hierarchy.specs.Children.{first_child}
-use Rattle.hierarchy.specs.Levels.{boundaries, above, tree_of_codes}
+use Rattle.hierarchy.specs.Levels.{boundaries, code_above, tree_of_codes}
 use Rattle.microdata.specs.Closing.{tree_of, places_in, closed_of, place_of, leaf_of, leaves_of, row_of, rows_of}
 use Rattle.microdata.specs.Fields.{scale_of}
 use Rattle.microdata.specs.Layouts.{measures_of}
 use Rattle.microdata.specs.Microdata.{records_of, closed_records}
-use Rattle.microdata.specs.OneRecord.{lines_say, nothing}
+use Rattle.microdata.specs.OneRecord.{lines_say, no_records}
 use Rattle.microdata.specs.SeenCodes.{seen_first}
 use Rattle.microdata.specs.Ranges.{AreInTrees, IsRow, AreWithinLimits, ReadIsWithinLimits}
 use Rattle.microdata.specs.declared.closing.Closed.{Closed}
@@ -41,7 +41,7 @@ in-table tree (code ∷ codes) (suc number) other some h = in-table tree codes n
 longer : (total bounds : List ℕ) (codes : List (List ℕ)) (tree : Tree) → 0 < length tree → 0 < length (tree_of_codes total bounds tree codes)
 longer total bounds [] tree some = some
 longer total bounds (code ∷ codes) [] some = absurd (omega arith)
-longer total bounds (code ∷ codes) (node ∷ tree) some = longer total bounds codes ((node ∷ tree) ++ (code, find (node ∷ tree) (above total bounds code)) ∷ []) (omega arith)
+longer total bounds (code ∷ codes) (node ∷ tree) some = longer total bounds codes ((node ∷ tree) ++ (code, find (node ∷ tree) (code_above total bounds code)) ∷ []) (omega arith)
 
 placed : (s : Source) (seen : Seen) (number : ℕ) → number < bound s seen → slice_index_or (places_in (tree_of s seen) seen.codes) number number < length (tree_of s seen)
 placed (source.Listed tree) seen number h = in-table tree seen.codes number number (omega (arith, h)) (inl h)
@@ -97,9 +97,9 @@ fields-first (field ∷ fields) = ap (λ rest. field ∷ rest) (fields-first fie
 pub within_limits : ReadIsWithinLimits
 unfolding records_of closed_records
 within_limits layout bytes records h =
-    let a = bind_ok (lines_say (measures_of layout) (nothing layout) (lines bytes)) _ records h in
+    let a = bind_ok (lines_say (measures_of layout) (no_records layout) (lines bytes)) _ records h in
     let b = bind_ok (rows_of (map closed_of a.0.variables) a.0.rows) _ records a.2 in
-    let good = lines-good (measures_of layout) layout.spanning (nothing layout) a.0 (lines bytes) (record { fields = fields-first layout.spanning; rows = tt; few = omega arith; records = omega arith }) a.1 in
+    let good = lines-good (measures_of layout) layout.spanning (no_records layout) a.0 (lines bytes) (record { fields = fields-first layout.spanning; rows = tt; few = omega arith; records = omega arith }) a.1 in
     let rows = rows-in (scale_of layout.weight) a.0.variables a.0.rows b.0 good.rows b.1 in
     subst (AreWithinLimits layout) (value_of_ok _ records b.2) (record {
       trees = as-many-trees a.0.variables ∙ ap length good.fields;

@@ -39,7 +39,8 @@ place_of closed number = slice_index_or closed.places number number
 
 -- the place, where no other codes stand below it
 abbrev pub leaf_of : Closed → ℕ → Result ℕ RowWhy
-leaf_of closed number = if is_some (first_child closed.tree (place_of closed number)) then Err NotLeaf else Ok (place_of closed number)
+leaf_of closed number =
+    if is_some (first_child closed.tree (place_of closed number)) then Err NotLeaf else Ok (place_of closed number)
 
 -- the places of a record's codes, in the order of the variables
 unfoldable pub leaves_of : List Closed → List ℕ → Result (List ℕ) RowWhy

@@ -20,14 +20,14 @@ is_negative [] = false
 is_negative (b ∷ bytes) = b == 45
 
 -- a number below a limit; whatever else was read is no number
-abbrev pub below : ℕ → Result ℤ NumberFault → Result ℕ RowWhy
-below limit (Err fault) = Err BadNumber
-below limit (Ok (pos n)) = if nat_lt n limit then Ok n else Err BadNumber
-below limit (Ok (negsuc n)) = Err BadNumber
+abbrev pub number_below : ℕ → Result ℤ NumberFault → Result ℕ RowWhy
+number_below limit (Err fault) = Err BadNumber
+number_below limit (Ok (pos n)) = if nat_lt n limit then Ok n else Err BadNumber
+number_below limit (Ok (negsuc n)) = Err BadNumber
 
 -- the number of a field, in its units, below a limit
 abbrev pub number_of : ℕ → NumberField → List ℕ → Result ℕ RowWhy
-number_of limit number line = below limit (read_units (field number.first number.width line) number.decimals)
+number_of limit number line = number_below limit (read_units (field number.first number.width line) number.decimals)
 
 -- there is no response: its field is blank or has a missing code
 abbrev pub has_no_response : NumberField → List ℕ → Bool

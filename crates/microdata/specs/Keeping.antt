@@ -4,7 +4,7 @@ use Rattle.std.specs.List.{IsDistinct}
 use Rattle.std.specs.Str.{bytes_eq}
 use Rattle.sdc_base.specs.Lines.{HasNoFeed}
 use Rattle.hierarchy.specs.Among.{AreAmong}
-use Rattle.hierarchy.specs.Levels.{boundaries, gathered, first_level_fault}
+use Rattle.hierarchy.specs.Levels.{boundaries, codes_with_prefixes, first_level_fault}
 use Rattle.microdata.specs.Feeding.{is_too_long}
 use Rattle.microdata.specs.Layouts.{IsField, AreMeasures}
 use Rattle.microdata.specs.declared.faults.RowError.{RowError}
@@ -17,7 +17,7 @@ use Rattle.microdata.specs.declared.taking.Seen.{Seen}
 
 -- the codes by levels make a tree, with their prefixes in order
 pub record AreLevelCodes (widths total : List ℕ) (seen : Seen) : Type 0 where
-  pub nodes : seen.nodes ≡ gathered (boundaries 0 widths) [] seen.codes
+  pub nodes : seen.nodes ≡ codes_with_prefixes (boundaries 0 widths) [] seen.codes
   pub fine : first_level_fault total (boundaries 0 widths) 1 [] [] seen.codes ≡ None
   pub short : All (λ code. length code ≤ sum widths) seen.codes
   pub among : AreAmong seen.codes seen.nodes

@@ -15,4 +15,6 @@ AreLeaves (tree ∷ trees) [] = ⊥
 
 -- the places of each row that was read have no other codes below them
 abbrev pub RowsAreAtLeaves : Type 0
-RowsAreAtLeaves = (layout : Layout) (bytes : List ℕ) (records : Records) → records_of layout bytes ≡ Ok records → AllByRecursion (λ row. AreLeaves records.trees row.codes) records.rows
+RowsAreAtLeaves =
+    (layout : Layout) (bytes : List ℕ) (records : Records) → records_of layout bytes ≡ Ok records
+    → AllByRecursion (λ row. AreLeaves records.trees row.codes) records.rows

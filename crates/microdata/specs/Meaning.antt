@@ -28,7 +28,8 @@ is_unanswered response line = is_record line && has_no_response response line
 -- for each variable the code in its field is the one that stands in its tree at this place, and nowhere else
 abbrev pub ArePlacesOf : List Field → List Tree → List ℕ → List ℕ → Type 0
 ArePlacesOf [] [] line [] = Unit {0}
-ArePlacesOf (one ∷ fields) (tree ∷ trees) line (place ∷ places) = (find tree (field one.first one.width line) ≡ Some place) × ArePlacesOf fields trees line places
+ArePlacesOf (one ∷ fields) (tree ∷ trees) line (place ∷ places) =
+    (find tree (field one.first one.width line) ≡ Some place) × ArePlacesOf fields trees line places
 ArePlacesOf fields trees line places = ⊥
 
 -- a row has the places of the codes in the fields of its record, and the value and weight that stand there
@@ -45,13 +46,19 @@ AreRowsOf layout trees lines rows = ⊥
 
 -- the rows are those of the records with a response, in their order, each read by itself; and the others are counted
 abbrev pub RowsAreTheirRecords : Type 0
-RowsAreTheirRecords = (layout : Layout) (bytes : List ℕ) (records : Records) → IsLayout layout → records_of layout bytes ≡ Ok records
-    → AreRowsOf layout records.trees (filter (is_answered layout.response) (lines bytes)) records.rows × (records.skipped ≡ length (filter (is_unanswered layout.response) (lines bytes)))
+RowsAreTheirRecords =
+    (layout : Layout) (bytes : List ℕ) (records : Records) → IsLayout layout → records_of layout bytes ≡ Ok records
+    → AreRowsOf layout records.trees (filter (is_answered layout.response) (lines bytes)) records.rows
+    × (records.skipped ≡ length (filter (is_unanswered layout.response) (lines bytes)))
 
 -- this is the number of a record: so many lines with a byte stand up to its own
 abbrev pub IsNumberOfRecord : List (List ℕ) → ℕ → Type 0
-IsNumberOfRecord lines number = (before : List (List ℕ)) × (line : List ℕ) × (behind : List (List ℕ)) × (lines ≡ before ++ line ∷ behind) × (is_record line ≡ true) × (number ≡ length (filter is_record before) + 1)
+IsNumberOfRecord lines number =
+    (before : List (List ℕ)) × (line : List ℕ) × (behind : List (List ℕ)) × (lines ≡ before ++ line ∷ behind)
+    × (is_record line ≡ true) × (number ≡ length (filter is_record before) + 1)
 
 -- a fault is given with the number of a record, in which every line with a byte is counted
 abbrev pub FaultsAreNumbered : Type 0
-FaultsAreNumbered = (layout : Layout) (bytes : List ℕ) (number : ℕ) (why : RowWhy) → records_of layout bytes ≡ Err (number, why) → IsNumberOfRecord (lines bytes) number
+FaultsAreNumbered =
+    (layout : Layout) (bytes : List ℕ) (number : ℕ) (why : RowWhy) → records_of layout bytes ≡ Err (number, why)
+    → IsNumberOfRecord (lines bytes) number

@@ -4,7 +4,7 @@ use Rattle.sdc_base.specs.Lines.{lines}
 use Rattle.sdc_base.specs.Steps.{◌>>=◌}
 use Rattle.microdata.specs.Closing.{closed_of, rows_of}
 use Rattle.microdata.specs.Layouts.{measures_of}
-use Rattle.microdata.specs.OneRecord.{line_says, lines_say, nothing}
+use Rattle.microdata.specs.OneRecord.{line_says, lines_say, no_records}
 use Rattle.microdata.specs.declared.faults.RowWhy.{RowWhy}
 use Rattle.microdata.specs.declared.layout.Layout.{Layout}
 use Rattle.microdata.specs.declared.layout.Measures.{Measures}
@@ -15,7 +15,11 @@ use Rattle.microdata.specs.declared.records.Records.{Records}
 unfoldable pub closed_records : SoFar → Result Records (ℕ × RowWhy)
 closed_records so_far = do
   rows ← rows_of (map closed_of so_far.variables) so_far.rows
-  Ok (record { trees = map (λ closed. closed.tree) (map closed_of so_far.variables); rows = rows; skipped = so_far.skipped })
+  Ok (record {
+    trees = map (λ closed. closed.tree) (map closed_of so_far.variables);
+    rows = rows;
+    skipped = so_far.skipped;
+  })
 
 -- the records behind these and a last line
 unfoldable pub records_behind : Measures → SoFar → List ℕ → Result Records (ℕ × RowWhy)
@@ -26,5 +30,5 @@ records_behind measures so_far last = do
 -- the records of the bytes, or the first fault with the number of its record
 unfoldable pub records_of : Layout → List ℕ → Result Records (ℕ × RowWhy)
 records_of layout bytes = do
-  all ← lines_say (measures_of layout) (nothing layout) (lines bytes)
+  all ← lines_say (measures_of layout) (no_records layout) (lines bytes)
   closed_records all

@@ -28,11 +28,23 @@ variables_say (variable ∷ variables) line = do
 
 -- one record more, which is skipped
 abbrev pub with_skipped : SoFar → SoFar
-with_skipped so_far = record { variables = so_far.variables; rows = so_far.rows; number = so_far.number + 1; skipped = so_far.skipped + 1 }
+with_skipped so_far =
+    record {
+      variables = so_far.variables;
+      rows = so_far.rows;
+      number = so_far.number + 1;
+      skipped = so_far.skipped + 1;
+    }
 
 -- one record more, with these variables and this row
 abbrev pub with_row : SoFar → List Variable → Kept → SoFar
-with_row so_far variables row = record { variables = variables; rows = so_far.rows ++ row ∷ []; number = so_far.number + 1; skipped = so_far.skipped }
+with_row so_far variables row =
+    record {
+      variables = variables;
+      rows = so_far.rows ++ row ∷ [];
+      number = so_far.number + 1;
+      skipped = so_far.skipped;
+    }
 
 -- a record with a response: the response, the weight, and the codes in the order of the variables
 unfoldable pub response_says : Measures → SoFar → List ℕ → Result SoFar RowWhy
@@ -40,9 +52,15 @@ response_says measures so_far line = do
   value ← value_of measures.response line
   weight ← weight_of measures.weight line
   taken ← variables_say so_far.variables line
-  Ok (with_row so_far taken.0 (record { number = so_far.number + 1; places = taken.1; value = pos value; weight = weight }))
+  Ok (with_row so_far taken.0 (record {
+    number = so_far.number + 1;
+    places = taken.1;
+    value = pos value;
+    weight = weight;
+  }))
 
--- a record: at most 1,000 bytes, the 1,000,000th at most, and as long as its fields want; without a response it is skipped
+-- a record: at most 1,000 bytes, the 1,000,000th at most, and as long as its fields want; without a response it is
+-- skipped
 unfoldable pub record_says : Measures → SoFar → List ℕ → Result SoFar RowWhy
 record_says measures so_far line = do
   long ← refuse TooLong (nat_lt 1000 (length line))
@@ -63,8 +81,8 @@ lines_say measures so_far (line ∷ lines) = do
   lines_say measures next lines
 
 -- before the first record
-abbrev pub nothing : Layout → SoFar
-nothing layout = record {
+abbrev pub no_records : Layout → SoFar
+no_records layout = record {
   variables = map (λ field. record { field = field; seen = seen_first field.source }) layout.spanning;
   rows = [];
   number = 0;

@@ -13,7 +13,10 @@ pub record AreSameButForOrder (records others : Records) : Type 0 where
   pub rows : IsPermutation records.rows others.rows
   pub skipped : others.skipped ≡ records.skipped
 
--- where the lines of a text are those of another in some order, what is read of both is the same but for the order of the rows
+-- where the lines of a text are those of another in some order, what is read of both is the same but for the order of
+-- the rows
 abbrev pub OrderChangesNoTree : Type 0
-OrderChangesNoTree = (layout : Layout) (bytes other : List ℕ) (records others : Records) → IsLayout layout → IsPermutation (lines bytes) (lines other)
+OrderChangesNoTree =
+    (layout : Layout) (bytes other : List ℕ) (records others : Records) → IsLayout layout
+    → IsPermutation (lines bytes) (lines other)
     → records_of layout bytes ≡ Ok records → records_of layout other ≡ Ok others → AreSameButForOrder records others

@@ -15,7 +15,8 @@ AreInTrees (tree ∷ trees) (place ∷ places) = (place < length tree) × AreInT
 AreInTrees [] (place ∷ places) = ⊥
 AreInTrees (tree ∷ trees) [] = ⊥
 
--- a record: its places are in the trees, its value is from 0 and below 10^15, and its weight at least one and below 10^8
+-- a record: its places are in the trees, its value is from 0 and below 10^15, and its weight at least one and below
+-- 10^8
 pub record IsRow (scale : ℕ) (trees : List Tree) (row : Row) : Type 0 where
   pub places : AreInTrees trees row.codes
   pub from_zero : pos 0 ≤ℤ row.value
@@ -31,4 +32,6 @@ pub record AreWithinLimits (layout : Layout) (records : Records) : Type 0 where
 
 -- whatever is read is within its limits
 abbrev pub ReadIsWithinLimits : Type 0
-ReadIsWithinLimits = (layout : Layout) (bytes : List ℕ) (records : Records) → records_of layout bytes ≡ Ok records → AreWithinLimits layout records
+ReadIsWithinLimits =
+    (layout : Layout) (bytes : List ℕ) (records : Records) → records_of layout bytes ≡ Ok records
+    → AreWithinLimits layout records

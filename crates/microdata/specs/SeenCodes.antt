@@ -28,8 +28,8 @@ listed_place tree code = do
   Ok place
 
 -- A new code by levels: it has no blank inside, isn't longer than the widths together, isn't the total and has no
--- prefix at the end of a level that is; and with its prefixes there are at most 5,000. (Where it is the total, no shorter
--- prefix is.) Not: a prefix that ends inside a level.
+-- prefix at the end of a level that is; and with its prefixes there are at most 5,000. (Where it is the total, no
+-- shorter prefix is.) Not: a prefix that ends inside a level.
 unfoldable pub with_level_code : List ℕ → List ℕ → Seen → List ℕ → Result Seen RowWhy
 with_level_code widths total seen code = do
   plain ← refuse UnknownCode (list_any is_blank code)
@@ -55,8 +55,10 @@ known_or_new seen None grown = grown >>= λ next. Ok (next, length seen.codes)
 -- the distinct codes so far.
 unfoldable pub with_code : Source → Seen → List ℕ → Result (Seen × ℕ) RowWhy
 with_code (source.Listed tree) seen code = listed_place tree code >>= λ place. Ok (seen, place)
-with_code (source.Levels widths total) seen code = known_or_new seen (position (bytes_eq code) seen.codes) (with_level_code widths total seen code)
-with_code (source.Flat codes total) seen code = known_or_new seen (position (bytes_eq code) seen.codes) (with_flat_code total seen code)
+with_code (source.Levels widths total) seen code = known_or_new seen (position (bytes_eq code) seen.codes)
+    (with_level_code widths total seen code)
+with_code (source.Flat codes total) seen code = known_or_new seen (position (bytes_eq code) seen.codes)
+    (with_flat_code total seen code)
 
 -- before the first record: the codes of a list, and nothing else
 abbrev pub seen_first : Source → Seen

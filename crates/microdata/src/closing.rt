@@ -1,10 +1,12 @@
 ghost use Rattle.std.specs.Prelude.{◌≡◌, ◌≤◌, ◌<◌, ◌+◌, ◌++◌, ◌∷◌, [], All, map, length, sum, None, IfOk};
 ghost use Rattle.std.specs.List.{AllByRecursion, IsDistinct};
 ghost use Rattle.std.specs.Str.{bytes_eq};
-ghost use Rattle.sdc_base.specs.Trees.{flat_tree as flat_of, IsCodeTree};
-ghost use Rattle.hierarchy.specs.Levels.{boundaries, tree_of_codes, gathered, first_level_fault};
+ghost use Rattle.sdc_base.specs.Trees.{IsCodeTree};
+ghost use Rattle.sdc_base.specs.Trees as trees_specs;
+ghost use Rattle.hierarchy.specs.Levels.{boundaries, tree_of_codes, codes_with_prefixes, first_level_fault};
 ghost use Rattle.sdc_base.specs.Answers.{Gives};
-ghost use Rattle.microdata.specs.Closing.{closed_of, tree_of, places_in, place_of as place_meant, leaf_of as leaf_meant, leaves_of as leaves_meant, row_of as row_meant, rows_of as rows_meant};
+ghost use Rattle.microdata.specs.Closing.{closed_of, tree_of, places_in};
+ghost use Rattle.microdata.specs.Closing as closing;
 ghost use Rattle.microdata.specs.Faults.{fault_of, why_of, at_record};
 ghost use Rattle.microdata.specs.Keeping.{AreSeen, IsSound, IsVariable};
 ghost use Rattle.microdata.specs.Layouts.{IsSource};
@@ -133,7 +135,7 @@ fn trees_of(alloc: Global, closed: Items<Closed>) -> Result<Items<CodeTree>, Mem
 #[tactic(auto, unfolding(crate::specs::Closing::rows_of))]
 fn rows_of(alloc: Global, closed: &[Closed], kept: Items<Kept>) -> Result<Items<Row>, RowError>
     requires few { length closed.now ≤ 8 }
-    ensures { Gives fault_of (λ rows. rows) result (rows_meant closed.now kept) }
+    ensures { Gives fault_of (λ rows. rows) result (closing.rows_of closed.now kept) }
 {
     let mut rows = Items::empty(alloc);
     'kept: for one in kept.into_vec() {
@@ -146,7 +148,7 @@ fn rows_of(alloc: Global, closed: &[Closed], kept: Items<Kept>) -> Result<Items<
 #[tactic(auto, using(crate::proofs::FaultsAt::fails_at))]
 fn row_at(closed: &[Closed], kept: &Kept) -> Result<Row, RowError>
     requires few { length closed.now ≤ 8 }
-    ensures { Gives fault_of (λ row. row) result (at_record kept.now.number (row_meant closed.now kept.now)) }
+    ensures { Gives fault_of (λ row. row) result (at_record kept.now.number (closing.row_of closed.now kept.now)) }
 {
     match row_of(closed, kept) {
         Ok(row) => Ok(row),
@@ -158,7 +160,7 @@ fn row_at(closed: &[Closed], kept: &Kept) -> Result<Row, RowError>
 #[tactic(auto, unfolding(crate::specs::Closing::row_of))]
 fn row_of(closed: &[Closed], kept: &Kept) -> Result<Row, RecordError>
     requires few { length closed.now ≤ 8 }
-    ensures { Gives why_of (λ row. row) result (row_meant closed.now kept.now) }
+    ensures { Gives why_of (λ row. row) result (closing.row_of closed.now kept.now) }
 {
     let codes = leaves_of(closed, kept.places.as_slice())?;
     Ok(Row {
@@ -172,7 +174,7 @@ fn row_of(closed: &[Closed], kept: &Kept) -> Result<Row, RecordError>
 #[tactic(auto, unfolding(crate::specs::Closing::leaves_of))]
 fn leaves_of(closed: &[Closed], numbers: &[u32]) -> Result<Place, RecordError>
     requires few { length closed.now ≤ 8 }
-    ensures { Gives why_of (λ places. places) result (leaves_meant closed.now numbers.now) }
+    ensures { Gives why_of (λ places. places) result (closing.leaves_of closed.now numbers.now) }
 {
     let mut places = ArrayVec::new();
     for (k, one) in closed.iter().enumerate() {
@@ -187,7 +189,7 @@ fn leaves_of(closed: &[Closed], numbers: &[u32]) -> Result<Place, RecordError>
 
 // The place of a code, where no others stand below it.
 fn leaf_of(closed: &Closed, number: u32) -> Result<u32, RecordError>
-    ensures { Gives why_of (λ place. place) result (leaf_meant closed.now number) }
+    ensures { Gives why_of (λ place. place) result (closing.leaf_of closed.now number) }
 {
     let place = place_of(closed, number);
     if closed.tree.first_child(place).is_some() {
@@ -198,7 +200,7 @@ fn leaf_of(closed: &Closed, number: u32) -> Result<u32, RecordError>
 
 // The place in the tree of the code with this number.
 fn place_of(closed: &Closed, number: u32) -> u32
-    ensures { result ≡ place_meant closed.now number }
+    ensures { result ≡ closing.place_of closed.now number }
 {
     match closed.places.as_slice().get(number as usize) {
         Some(place) => *place,
@@ -218,7 +220,8 @@ fn level_tree(
     requires positive { All (λ width. 0 < width) widths.now }
     requires short { All (λ code. length code ≤ sum widths.now) codes.now }
     requires fine { first_level_fault total.now (boundaries 0 widths.now) 1 [] [] codes.now ≡ None }
-    ensures { IfOk result (λ tree. tree ≡ tree_of_codes total.now (boundaries 0 widths.now) ((total.now, None) ∷ []) (gathered (boundaries 0 widths.now) [] codes.now)) }
+    ensures { IfOk result (λ tree. tree ≡ tree_of_codes total.now (boundaries 0 widths.now) ((total.now, None) ∷ [])
+        (codes_with_prefixes (boundaries 0 widths.now) [] codes.now)) }
 {
     match from_levels(alloc, codes, widths, total) {
         Ok(tree) => Ok(tree),
@@ -243,7 +246,7 @@ fn flat_tree(
 ) -> Result<CodeTree, Memory>
     requires distinct { IsDistinct bytes_eq (total.now ∷ (listed ++ further)) }
     requires few { length listed + length further ≤ 5000 }
-    ensures { IfOk result (λ tree. tree ≡ flat_of total.now (listed ++ further)) }
+    ensures { IfOk result (λ tree. tree ≡ trees_specs.flat_tree total.now (listed ++ further)) }
 {
     let mut codes = listed.into_vec();
     let mut further = further.into_texts(alloc)?;

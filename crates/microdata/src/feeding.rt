@@ -1,7 +1,8 @@
 ghost use Rattle.std.specs.Prelude.{◌≡◌, ◌+◌, ◌≤◌, ◌++◌, ◌∷◌, ℕ, [], None, Some, false, IfErr, IfNone, IfSome, OnOk};
 ghost use Rattle.std.specs.Str.Lines.{strip_carriage_return};
 ghost use Rattle.sdc_base.specs.Lines.{HasNoFeed};
-ghost use Rattle.microdata.specs.Feeding.{is_too_long as too_long, SaysAsFrom, IsKeptOf, StopsLong};
+ghost use Rattle.microdata.specs.Feeding.{SaysAsFrom, IsKeptOf, StopsLong};
+ghost use Rattle.microdata.specs.Feeding as spec;
 ghost use Rattle.microdata.specs.Keeping.{IsSound};
 
 use crate::faults::{RowError, RowWhy};
@@ -23,12 +24,14 @@ pub(crate) fn take_bytes(
 ) -> Result<(), RowError>
     requires sound { IsSound measures.now so_far.old }
     requires plain { HasNoFeed begun.old.items }
-    requires short { too_long begun.old.items ≡ false }
+    requires short { spec.is_too_long begun.old.items ≡ false }
     ensures sound { OnOk result (IsSound measures.now so_far.new) }
     ensures plain { OnOk result (HasNoFeed begun.new.items) }
-    ensures short { OnOk result (too_long begun.new.items ≡ false) }
-    ensures says { OnOk result (SaysAsFrom measures.now so_far.old (begun.old.items ++ piece.now) so_far.new begun.new.items) }
-    ensures stops { IfErr result (λ error. IsKeptOf (Some error) measures.now so_far.old (begun.old.items ++ piece.now) so_far.old begun.old.items) }
+    ensures short { OnOk result (spec.is_too_long begun.new.items ≡ false) }
+    ensures says { OnOk result (SaysAsFrom measures.now so_far.old (begun.old.items ++ piece.now) so_far.new
+        begun.new.items) }
+    ensures stops { IfErr result (λ error. IsKeptOf (Some error) measures.now so_far.old (begun.old.items ++ piece.now)
+        so_far.old begun.old.items) }
 {
     let mut rest = piece;
     'lines: while let Some((line, behind)) = ended_line(rest) {
@@ -61,12 +64,14 @@ fn end_line(
 ) -> Result<(), RowError>
     requires sound { IsSound measures.now so_far.old }
     requires plain { HasNoFeed begun.old.items }
-    requires short { too_long begun.old.items ≡ false }
+    requires short { spec.is_too_long begun.old.items ≡ false }
     requires inside { HasNoFeed bytes.now }
     ensures sound { OnOk result (IsSound measures.now so_far.new) }
     ensures empty { OnOk result (begun.new.items ≡ []) }
-    ensures says { OnOk result (SaysAsFrom measures.now so_far.old (begun.old.items ++ bytes.now ++ 10 ∷ []) so_far.new []) }
-    ensures stops { IfErr result (λ error. IsKeptOf (Some error) measures.now so_far.old (begun.old.items ++ bytes.now ++ 10 ∷ []) so_far.old begun.old.items) }
+    ensures says { OnOk result (SaysAsFrom measures.now so_far.old (begun.old.items ++ bytes.now ++ 10 ∷ []) so_far.new
+        []) }
+    ensures stops { IfErr result (λ error. IsKeptOf (Some error) measures.now so_far.old
+        (begun.old.items ++ bytes.now ++ 10 ∷ []) so_far.old begun.old.items) }
 {
     if begun.is_empty() {
         return take_ended(alloc, measures, so_far, bytes);
@@ -88,7 +93,8 @@ fn take_ended(
     requires plain { HasNoFeed line.now }
     ensures sound { OnOk result (IsSound measures.now so_far.new) }
     ensures says { OnOk result (SaysAsFrom measures.now so_far.old (line.now ++ 10 ∷ []) so_far.new []) }
-    ensures stops { IfErr result (λ error. IsKeptOf (Some error) measures.now so_far.old (line.now ++ 10 ∷ []) so_far.old line.now) }
+    ensures stops { IfErr result (λ error. IsKeptOf (Some error) measures.now so_far.old (line.now ++ 10 ∷ [])
+        so_far.old line.now) }
 {
     take_line(alloc, measures, so_far, without_return(line))
 }
@@ -96,9 +102,9 @@ fn take_ended(
 // The line that has begun goes on. Where it becomes too long, it is left as it was.
 fn grow_line(number: u64, begun: &mut Vec<u8>, bytes: &[u8]) -> Result<(), RowError>
     requires records { number ≤ 1000000 }
-    requires short { too_long begun.old.items ≡ false }
+    requires short { spec.is_too_long begun.old.items ≡ false }
     ensures grown { OnOk result (begun.new.items ≡ begun.old.items ++ bytes.now) }
-    ensures short { OnOk result (too_long begun.new.items ≡ false) }
+    ensures short { OnOk result (spec.is_too_long begun.new.items ≡ false) }
     ensures stops { IfErr result (λ error. StopsLong error number (begun.old.items ++ bytes.now)) }
 {
     if is_too_long(begun, bytes) {
@@ -113,8 +119,8 @@ fn grow_line(number: u64, begun: &mut Vec<u8>, bytes: &[u8]) -> Result<(), RowEr
 
 // Whether the line that has begun has more than 1,000 bytes with these behind it, one CR at its end not counted.
 fn is_too_long(begun: &[u8], bytes: &[u8]) -> bool
-    requires { too_long begun.now ≡ false }
-    ensures { result ≡ too_long (begun.now ++ bytes.now) }
+    requires { spec.is_too_long begun.now ≡ false }
+    ensures { result ≡ spec.is_too_long (begun.now ++ bytes.now) }
 {
     if bytes.is_empty() {
         return false;

@@ -3,7 +3,7 @@ ghost use Rattle.std.specs.List.{list_any};
 ghost use Rattle.std.specs.Str.{bytes_eq};
 ghost use Rattle.sdc_base.specs.Answers.{Gives};
 ghost use Rattle.microdata.specs.Faults.{why_of};
-ghost use Rattle.microdata.specs.Fields.{is_negative as negative, number_of as number_meant, has_no_response as without_response, value_of as value_meant, weight_of as weight_meant};
+ghost use Rattle.microdata.specs.Fields as spec;
 ghost use Rattle.microdata.specs.Layouts.{IsNumber, IsWeight};
 
 use crate::faults::{RecordError, RowWhy};
@@ -21,7 +21,7 @@ const TOO_HEAVY: u64 = 100_000_000;
 /// Whether a record has no response: its field is blank or has a missing code.
 pub(crate) fn has_no_response(response: &NumberField, line: &[u8]) -> bool
     requires number { IsNumber (length line.now) 9 response.now }
-    ensures { result ≡ without_response response.now line.now }
+    ensures { result ≡ spec.has_no_response response.now line.now }
 {
     let text = field(response.first, response.width, line);
     if text.is_empty() {
@@ -42,7 +42,7 @@ fn is_among(text: &[u8], codes: &[Text]) -> bool
 pub(crate) fn value_of(response: &NumberField, line: &[u8]) -> Result<u64, RecordError>
     requires number { IsNumber (length line.now) 9 response.now }
     requires few { length line.now ≤ 1000 }
-    ensures value { Gives why_of (λ value. value) result (value_meant response.now line.now) }
+    ensures value { Gives why_of (λ value. value) result (spec.value_of response.now line.now) }
     ensures small { IfOk result (λ value. value < 10 ^ 15) }
 {
     if is_negative(field(response.first, response.width, line)) {
@@ -53,7 +53,7 @@ pub(crate) fn value_of(response: &NumberField, line: &[u8]) -> Result<u64, Recor
 
 // Whether the bytes begin with a minus.
 fn is_negative(bytes: &[u8]) -> bool
-    ensures { result ≡ negative bytes.now }
+    ensures { result ≡ spec.is_negative bytes.now }
 {
     if bytes.is_empty() {
         return false;
@@ -66,7 +66,7 @@ fn is_negative(bytes: &[u8]) -> bool
 pub(crate) fn weight_of(weight: &Option<NumberField>, line: &[u8]) -> Result<u32, RecordError>
     requires number { IsWeight (length line.now) weight.now }
     requires few { length line.now ≤ 1000 }
-    ensures { Gives why_of (λ steps. steps) result (weight_meant weight.now line.now) }
+    ensures { Gives why_of (λ steps. steps) result (spec.weight_of weight.now line.now) }
 {
     match weight {
         Some(weight) => steps_of(weight, line),
@@ -79,7 +79,7 @@ pub(crate) fn weight_of(weight: &Option<NumberField>, line: &[u8]) -> Result<u32
 fn steps_of(weight: &NumberField, line: &[u8]) -> Result<u32, RecordError>
     requires number { IsNumber (length line.now) 4 weight.now }
     requires few { length line.now ≤ 1000 }
-    ensures { Gives why_of (λ steps. steps) result (weight_meant (Some weight.now) line.now) }
+    ensures { Gives why_of (λ steps. steps) result (spec.weight_of (Some weight.now) line.now) }
 {
     let steps = number_of(TOO_HEAVY, weight, line)?;
     if steps < scale_of(weight.decimals) {
@@ -100,7 +100,7 @@ fn scale_of(decimals: u8) -> u64
 fn number_of(limit: u64, number: &NumberField, line: &[u8]) -> Result<u64, RecordError>
     requires number { IsNumber (length line.now) 9 number.now }
     requires few { length line.now ≤ 1000 }
-    ensures value { Gives why_of (λ value. value) result (number_meant limit number.now line.now) }
+    ensures value { Gives why_of (λ value. value) result (spec.number_of limit number.now line.now) }
     ensures small { IfOk result (λ value. value < limit) }
 {
     let Ok(units) = read_units(field(number.first, number.width, line), number.decimals) else {

@@ -11,7 +11,7 @@ ghost use Rattle.sdc_base.specs.Answers.{Gives};
 ghost use Rattle.microdata.specs.Faults.{fault_of};
 ghost use Rattle.microdata.specs.Layouts.{IsLayout};
 ghost use Rattle.microdata.specs.Microdata.{records_of, records_behind};
-ghost use Rattle.microdata.specs.Feeding.{HasRead, fed_of, answered};
+ghost use Rattle.microdata.specs.Feeding.{HasRead, fed_of, answered_error};
 ghost use Rattle.microdata.specs.declared.layout.Layout.{Layout as AnyLayout};
 
 use crate::ascending::Ascending;
@@ -40,10 +40,10 @@ pub struct Reader {
 }
 
 impl Model for Reader {
-    ghost use Rattle.microdata.specs.Feeding.{Reading};
+    ghost use Rattle.microdata.specs.Feeding.{ReaderView};
     ghost use Rattle.microdata.specs.Keeping.{IsReady};
 
-    ghost Value = { Reading };
+    ghost Value = { ReaderView };
 
     ghost view = { λ s. record { measures = s.measures; so_far = s.so_far; begun = s.begun.items; error = s.error } };
 
@@ -61,7 +61,7 @@ impl Reader {
     pub fn new(alloc: Global, layout: Layout) -> Result<Reader, Memory>
         requires { IsLayout layout }
         ensures fed { IfOk result (λ reader. HasRead reader layout []) }
-        ensures none { IfOk result (λ reader. answered reader ≡ None) }
+        ensures none { IfOk result (λ reader. answered_error reader ≡ None) }
     {
         let variables = variables_of(alloc, layout.spanning)?;
         Ok(Reader {
@@ -84,19 +84,21 @@ impl Reader {
 
     /// Takes in the next piece of the bytes.
     ///
-    /// It answers `At` exactly where, of all bytes so far, a line that has ended has a fault, or the line that has begun
-    /// has more than 1,000 bytes, one CR at its end not counted; the first fault is given, with the number of its
-    /// record, from 1. That a code has others below it is looked for in `finish` alone. `Memory` is want of memory. After
-    /// an error the same error is answered from then on, here and by `finish`.
+    /// It answers `At` exactly where, of all bytes so far, a line that has ended has a fault, or the line that has
+    /// begun has more than 1,000 bytes, one CR at its end not counted; the first fault is given, with the number of its
+    /// record, from 1. That a code has others below it is looked for in `finish` alone. `Memory` is want of memory.
+    /// After an error the same error is answered from then on, here and by `finish`.
     ///
     /// It looks at each byte a few times, and for each record takes one look-up for each spanning variable, and a few
     /// more where a code is new. The form of the records is tau-ARGUS's, limits and the order of faults argus's own.
     pub fn feed(&mut self, piece: &[u8]) -> Result<(), RowError>
-        ensures fed { (layout : AnyLayout) (bytes : List ℕ) → HasRead self.old layout bytes → HasRead self.new layout (bytes ++ piece.now) }
-        ensures exact { (layout : AnyLayout) (bytes : List ℕ) → HasRead self.old layout bytes → Gives fault_of (λ fine. fine) result (fed_of layout (bytes ++ piece.now)) }
-        ensures again { ForSome (answered self.old) (λ error. result ≡ Err error) }
-        ensures kept { IfErr result (λ error. answered self.new ≡ Some error) }
-        ensures going { IfOk result (λ _. answered self.new ≡ None) }
+        ensures fed { (layout : AnyLayout) (bytes : List ℕ) → HasRead self.old layout bytes
+            → HasRead self.new layout (bytes ++ piece.now) }
+        ensures exact { (layout : AnyLayout) (bytes : List ℕ) → HasRead self.old layout bytes
+            → Gives fault_of (λ fine. fine) result (fed_of layout (bytes ++ piece.now)) }
+        ensures again { ForSome (answered_error self.old) (λ error. result ≡ Err error) }
+        ensures kept { IfErr result (λ error. answered_error self.new ≡ Some error) }
+        ensures going { IfOk result (λ _. answered_error self.new ≡ None) }
     {
         if let Some(error) = self.error {
             return Err(error);
@@ -122,8 +124,9 @@ impl Reader {
     ///
     /// It takes a pass over the records, and a few look-ups for each distinct code.
     pub fn finish(self) -> Result<Records, RowError>
-        ensures exact { (layout : AnyLayout) (bytes : List ℕ) → HasRead self layout bytes → Gives fault_of (λ records. records) result (records_of layout bytes) }
-        ensures again { ForSome (answered self) (λ error. result ≡ Err error) }
+        ensures exact { (layout : AnyLayout) (bytes : List ℕ) → HasRead self layout bytes
+            → Gives fault_of (λ records. records) result (records_of layout bytes) }
+        ensures again { ForSome (answered_error self) (λ error. result ≡ Err error) }
         ensures trees { IfOk result (λ records. AllByRecursion IsCodeTree records.trees) }
     {
         let Reader {
@@ -161,7 +164,8 @@ fn read_out(
 // The variables before the first record.
 fn variables_of(alloc: Global, spanning: Items<Field>) -> Result<Vec<Variable>, Memory>
     requires { All (λ field. IsSource field.source) spanning }
-    ensures { IfOk result (λ variables. variables.items ≡ map (λ field. record { field = field; seen = seen_first field.source }) spanning) }
+    ensures { IfOk result (λ variables. variables.items
+        ≡ map (λ field. record { field = field; seen = seen_first field.source }) spanning) }
 {
     let mut variables = Vec::new(alloc);
     'fields: for field in spanning.into_vec() {

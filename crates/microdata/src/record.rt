@@ -179,7 +179,8 @@ fn take_codes(
     requires variables { All (IsVariable needed) variables.old.items }
     requires few { length variables.old.items ≤ 8 }
     requires whole { needed ≤ length line.now }
-    ensures said { Gives why_of (λ places. (variables.new.items, places)) result (variables_say variables.old.items line.now) }
+    ensures said { Gives why_of (λ places. (variables.new.items, places)) result
+        (variables_say variables.old.items line.now) }
     ensures sound { OnOk result (All (IsVariable needed) variables.new.items) }
     ensures few { OnOk result (length variables.new.items ≤ 8) }
 {

@@ -5,7 +5,8 @@ ghost use Rattle.sdc_base.specs.Answers.{Gives};
 ghost use Rattle.sdc_base.specs.Blanks.{is_blank};
 ghost use Rattle.hierarchy.specs.Levels.{boundaries, prefixes, with_prefixes};
 ghost use Rattle.microdata.specs.Faults.{why_of};
-ghost use Rattle.microdata.specs.SeenCodes.{listed_place as place_listed, with_code, known_or_new, with_level_code, with_flat_code};
+ghost use Rattle.microdata.specs.SeenCodes.{with_code, known_or_new, with_level_code, with_flat_code};
+ghost use Rattle.microdata.specs.SeenCodes as spec;
 ghost use Rattle.microdata.specs.Keeping.{AreSeen, AreLevelCodes, AreFlatCodes};
 ghost use Rattle.microdata.specs.Layouts.{IsSource};
 
@@ -56,7 +57,7 @@ pub(crate) fn take_code(
 // The place of a code in a listed tree, where nothing stands below it.
 #[tactic(auto, unfolding(crate::specs::SeenCodes::listed_place))]
 fn listed_place(tree: &CodeTree, code: &[u8]) -> Result<u32, RecordError>
-    ensures { Gives why_of (λ place. place) result (place_listed tree.now code.now) }
+    ensures { Gives why_of (λ place. place) result (spec.listed_place tree.now code.now) }
 {
     let Some(place) = tree.find(code) else {
         return Err(RecordError::Fault(RowWhy::UnknownCode));
@@ -77,7 +78,9 @@ fn take_level_code(
 ) -> Result<u32, RecordError>
     requires few { length widths.now ≤ 9 }
     requires sound { AreLevelCodes widths.now total.now seen.old }
-    ensures said { Gives why_of (λ place. (seen.new, place)) result (known_or_new seen.old (position (bytes_eq code.now) seen.old.codes) (with_level_code widths.now total.now seen.old code.now)) }
+    ensures said { Gives why_of (λ place. (seen.new, place)) result
+        (known_or_new seen.old (position (bytes_eq code.now) seen.old.codes)
+        (with_level_code widths.now total.now seen.old code.now)) }
     ensures seen { OnOk result (AreLevelCodes widths.now total.now seen.new) }
 {
     let count = seen.codes.len();
@@ -187,8 +190,11 @@ fn take_flat_code(
     code: &[u8],
 ) -> Result<u32, RecordError>
     requires { length seen.old.codes ≤ 5000 }
-    ensures said { Gives why_of (λ place. (seen.new, place)) result (known_or_new seen.old (position (bytes_eq code.now) seen.old.codes) (with_flat_code total.now seen.old code.now)) }
-    ensures seen { (codes : List (List ℕ)) → AreFlatCodes codes total.now seen.old → OnOk result (AreFlatCodes codes total.now seen.new) }
+    ensures said { Gives why_of (λ place. (seen.new, place)) result
+        (known_or_new seen.old (position (bytes_eq code.now) seen.old.codes)
+        (with_flat_code total.now seen.old code.now)) }
+    ensures seen { (codes : List (List ℕ)) → AreFlatCodes codes total.now seen.old
+        → OnOk result (AreFlatCodes codes total.now seen.new) }
 {
     let count = seen.codes.len();
     if let Some(place) = seen.codes.place_of(code) {

@@ -13,7 +13,7 @@ use Rattle.sdc_base.specs.declared.cube.Corner.{Corner}
 use Rattle.sdc_base.specs.declared.facts.CellFacts.{CellFacts}
 use Rattle.sdc_base.proofs.ListReads.{set-here, set-there}
 use Rattle.linked_tables.specs.declared.mark.Mark.{Mark}
-use Rattle.linked_tables.specs.Held.{Held}
+use Rattle.linked_tables.specs.BookViews.{BookView}
 use Rattle.hypercube.specs.LeastCubes.{is_marked}
 use Rattle.modular_plan.specs.Plans.{AreMarked, IsSameButHidden}
 
@@ -26,10 +26,10 @@ facts-set [] cell mark hidden h = refl
 facts-set (one ∷ marks) zero mark hidden h = let same : one ≡ mark = cc in ap (λ (m : Mark). m.facts ∷ map (λ (one : Mark). one.facts) marks) (sym same)
 facts-set (one ∷ marks) (suc cell) mark hidden h = ap (λ (facts : List CellFacts). one.facts ∷ facts) (facts-set marks cell mark hidden h)
 
-pub same-flagged : (book : Held) (cell : ℕ) (mark : Mark) (hidden : Bool) → slice_get book.marks cell ≡ Some mark → IsSameButHidden book (record book { marks = slice_set book.marks cell (flagged mark hidden) })
+pub same-flagged : (book : BookView) (cell : ℕ) (mark : Mark) (hidden : Bool) → slice_get book.marks cell ≡ Some mark → IsSameButHidden book (record book { marks = slice_set book.marks cell (flagged mark hidden) })
 same-flagged book cell mark hidden h = record { trees = refl; tables = refl; facts = facts-set book.marks cell mark hidden h }
 
-pub marked-flagged : (book : Held) (cell : ℕ) (mark : Mark) (hidden : Bool) (other : ℕ) → slice_get book.marks cell ≡ Some mark
+pub marked-flagged : (book : BookView) (cell : ℕ) (mark : Mark) (hidden : Bool) (other : ℕ) → slice_get book.marks cell ≡ Some mark
     → is_marked (record book { marks = slice_set book.marks cell (flagged mark hidden) }) other ≡ (if other == cell then hidden else is_marked book other)
 marked-flagged book cell mark hidden other h =
     elim (other == cell) as (λ b. (other == cell) ≡ b → is_marked (record book { marks = slice_set book.marks cell (flagged mark hidden) }) other ≡ (if b then hidden else is_marked book other)) [
@@ -46,10 +46,10 @@ marked-flagged book cell mark hidden other h =
     differ one other = absurd cc
 
 -- a book differs from itself by nothing
-pub same-itself : (book : Held) → IsSameButHidden book book
+pub same-itself : (book : BookView) → IsSameButHidden book book
 same-itself book = record { trees = refl; tables = refl; facts = refl }
 
-pub same-then : (a b c : Held) → IsSameButHidden a b → IsSameButHidden b c → IsSameButHidden a c
+pub same-then : (a b c : BookView) → IsSameButHidden a b → IsSameButHidden b c → IsSameButHidden a c
 same-then a b c one two = record { trees = two.trees ∙ one.trees; tables = two.tables ∙ one.tables; facts = two.facts ∙ one.facts }
 
 count-facts : (marks : List Mark) → length (map (λ (one : Mark). one.facts) marks) ≡ length marks
@@ -57,7 +57,7 @@ count-facts [] = refl
 count-facts (mark ∷ marks) = ap suc (count-facts marks)
 
 -- as many marks as before
-pub same-count : (old new : Held) → IsSameButHidden old new → length new.marks ≡ length old.marks
+pub same-count : (old new : BookView) → IsSameButHidden old new → length new.marks ≡ length old.marks
 same-count old new same = sym (count-facts new.marks) ∙ ap length same.facts ∙ count-facts old.marks
 
 -- corners marked one after another
@@ -104,7 +104,7 @@ or-nothing true = refl
 or-nothing false = refl
 
 -- all are
-pub below-all : (book : Held) (cells : List Cell) (before : ℕ → Bool) (count : ℕ) → ((cell : ℕ) → is_marked book cell ≡ marked_below cells before count cell) → length book.marks ≤ count → length cells ≤ count → AreMarked book cells []
+pub below-all : (book : BookView) (cells : List Cell) (before : ℕ → Bool) (count : ℕ) → ((cell : ℕ) → is_marked book cell ≡ marked_below cells before count cell) → length book.marks ≤ count → length cells ≤ count → AreMarked book cells []
 below-all book cells before count marked few fewer = λ cell.
     elim (nat_lt cell count) as (λ b. nat_lt cell count ≡ b → is_marked book cell ≡ hidden_after cells [] cell) [
       | true ↦ λ here. marked cell ∙ ap (λ b. if b then is_primary_at cells cell else before cell) here ∙ or-nothing (is_primary_at cells cell)

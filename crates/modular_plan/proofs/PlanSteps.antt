@@ -17,8 +17,8 @@ use Rattle.sdc_base.specs.declared.facts.Levels.{Levels}
 use Rattle.sdc_base.specs.declared.trail.PlanStep.{PlanStep}
 use Rattle.sdc_base.proofs.GrowingLists.{all-nothing}
 use Rattle.cost_rule.specs.declared.kind.CostKind.{CostKind}
-use Rattle.linked_tables.specs.Held.{Held}
-use Rattle.linked_tables.specs.Shared.{cell_at}
+use Rattle.linked_tables.specs.BookViews.{BookView}
+use Rattle.linked_tables.specs.BookCells.{cell_at}
 use Rattle.hypercube.specs.LeastCubes.{cubes_in, is_marked, least_cube, price_in}
 use Rattle.modular_plan.specs.Beginnings.{Begins}
 use Rattle.modular_plan.specs.Plans.{AreMarked, hidden_in, with_cell, with_subtable}
@@ -40,7 +40,7 @@ serve-within cells levels (corner ∷ corners) h =
     here (Some cell) at h = slice_get_within cells corner.cell cell at
 
 -- the step of a cell, by what the marks say
-pub cell-read : (book : Held) (cells : List Cell) (cost : CostKind) (subtable : Subtable) (steps : List PlanStep) (cell : ℕ) → AreMarked book cells steps
+pub cell-read : (book : BookView) (cells : List Cell) (cost : CostKind) (subtable : Subtable) (steps : List PlanStep) (cell : ℕ) → AreMarked book cells steps
     → with_step (is_marked book) subtable cell steps (least_cube book cells cost subtable cell (levels_at cells cell)) ≡ with_cell book cells cost subtable steps cell
 cell-read book cells cost subtable steps cell marked =
     let same : is_marked book ≡ hidden_after cells steps = fun_ext marked in
@@ -57,7 +57,7 @@ or-assoc false false true = refl
 or-assoc false false false = refl
 
 -- with a step more its corners are hidden too
-pub marked-more : (old new : Held) (cells : List Cell) (steps : List PlanStep) (subtable : Subtable) (cell : ℕ) (corners : List Corner) → AreMarked old cells steps → ((one : ℕ) → is_marked new one ≡ (is_marked old one || list_any (λ (corner : Corner). corner.cell == one) corners))
+pub marked-more : (old new : BookView) (cells : List Cell) (steps : List PlanStep) (subtable : Subtable) (cell : ℕ) (corners : List Corner) → AreMarked old cells steps → ((one : ℕ) → is_marked new one ≡ (is_marked old one || list_any (λ (corner : Corner). corner.cell == one) corners))
     → AreMarked new cells (steps ++ step_of subtable cell corners ∷ [])
 marked-more old new cells steps subtable cell corners marked hides = λ one.
     hides one
@@ -94,14 +94,14 @@ with_step-begins hidden subtable cell steps (Some corners) =
       | false ↦ begins-itself steps
     ]
 
-pub cells-begin : (book : Held) (cells : List Cell) (cost : CostKind) (subtable : Subtable) (steps : List PlanStep) (among : List ℕ) → Begins steps (fold (with_cell book cells cost subtable) steps among)
+pub cells-begin : (book : BookView) (cells : List Cell) (cost : CostKind) (subtable : Subtable) (steps : List PlanStep) (among : List ℕ) → Begins steps (fold (with_cell book cells cost subtable) steps among)
 cells-begin book cells cost subtable steps [] = begins-itself steps
 cells-begin book cells cost subtable steps (cell ∷ among) =
     begins-then steps (with_cell book cells cost subtable steps cell) (fold (with_cell book cells cost subtable) (with_cell book cells cost subtable steps cell) among)
     (with_step-begins (hidden_after cells steps) subtable cell steps (least_of (cell_at book subtable.table) (hidden_after cells steps) (price_in book cells cost) cells (levels_at cells cell) (cubes_in book subtable cell)))
     (cells-begin book cells cost subtable (with_cell book cells cost subtable steps cell) among)
 
-pub subtables-begin : (book : Held) (cells : List Cell) (cost : CostKind) (steps : List PlanStep) (subtables : List Subtable) → Begins steps (fold (with_subtable book cells cost) steps subtables)
+pub subtables-begin : (book : BookView) (cells : List Cell) (cost : CostKind) (steps : List PlanStep) (subtables : List Subtable) → Begins steps (fold (with_subtable book cells cost) steps subtables)
 subtables-begin book cells cost steps [] = begins-itself steps
 subtables-begin book cells cost steps (subtable ∷ subtables) =
     begins-then steps (with_subtable book cells cost steps subtable) (fold (with_subtable book cells cost) (with_subtable book cells cost steps subtable) subtables)
@@ -109,5 +109,5 @@ subtables-begin book cells cost steps (subtable ∷ subtables) =
     (subtables-begin book cells cost (with_subtable book cells cost steps subtable) subtables)
 
 -- the first of some are the first of more
-pub begins-more : (book : Held) (cells : List Cell) (cost : CostKind) (first steps : List PlanStep) (subtables : List Subtable) → Begins first steps → Begins first (fold (with_subtable book cells cost) steps subtables)
+pub begins-more : (book : BookView) (cells : List Cell) (cost : CostKind) (first steps : List PlanStep) (subtables : List Subtable) → Begins first steps → Begins first (fold (with_subtable book cells cost) steps subtables)
 begins-more book cells cost first steps subtables is = begins-then first steps (fold (with_subtable book cells cost) steps subtables) is (subtables-begin book cells cost steps subtables)

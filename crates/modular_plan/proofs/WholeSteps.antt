@@ -25,8 +25,8 @@ use Rattle.std.specs.Prelude.{Result, Ok, Err, IfOk}
 use Rattle.sdc_base.proofs.GrowingLists.{read-at}
 use Rattle.sdc_base.proofs.ListReads.{read-some}
 use Rattle.cost_rule.specs.declared.kind.CostKind.{CostKind}
-use Rattle.linked_tables.specs.Held.{Held}
-use Rattle.linked_tables.specs.Shared.{IsBook, cells, cell_at}
+use Rattle.linked_tables.specs.BookViews.{BookView}
+use Rattle.linked_tables.specs.BookCells.{IsBook, cells, cell_at}
 use Rattle.hypercube.specs.CornerLaws.{AreInTrees, AreWhole}
 use Rattle.hypercube.specs.LeastCubes.{cubes_in, price_in}
 use Rattle.hypercube.specs.LeastLaws.{AreLeast, NoneServes}
@@ -171,7 +171,7 @@ contained {X = X} P xs x all has = by xs has.0 has.1 has.2 all
 -- ---- steps
 
 -- a least cube of a cell in a subtable makes a step with all its corners, which can be hidden
-least-whole : (book : Held) (members : List Cell) (subtable : Subtable) (cell : ℕ) (hidden : ℕ → Bool) (price : ℕ → ℕ) (levels : Levels) (corners : List Corner) → IsBook book → IsSubtable book.trees book.tables subtable
+least-whole : (book : BookView) (members : List Cell) (subtable : Subtable) (cell : ℕ) (hidden : ℕ → Bool) (price : ℕ → ℕ) (levels : Levels) (corners : List Corner) → IsBook book → IsSubtable book.trees book.tables subtable
     → is_cell_of book subtable cell ≡ true → AreLeast (cell_at book subtable.table) hidden price members levels (cubes_in book subtable cell) corners → IsWholeStep book members (step_of subtable cell corners)
 least-whole book members subtable cell hidden price levels corners is_book is_subtable is_cell least =
     let table = is_subtable.table in
@@ -194,7 +194,7 @@ least-whole book members subtable cell hidden price levels corners is_book is_su
       hideable = serve-open members levels corners least.served;
     }
 
-cell-whole : (book : Held) (members : List Cell) (cost : CostKind) (subtable : Subtable) (steps : List PlanStep) (cell : ℕ) → IsBook book → IsSubtable book.trees book.tables subtable
+cell-whole : (book : BookView) (members : List Cell) (cost : CostKind) (subtable : Subtable) (steps : List PlanStep) (cell : ℕ) → IsBook book → IsSubtable book.trees book.tables subtable
     → is_cell_of book subtable cell ≡ true → AllByRecursion (IsWholeStep book members) steps → AllByRecursion (IsWholeStep book members) (with_cell book members cost subtable steps cell)
 cell-whole book members cost subtable steps cell is_book is_subtable is_cell all =
     by (least_of (cell_at book subtable.table) (hidden_after members steps) (price_in book members cost) members (levels_at members cell) (cubes_in book subtable cell))
@@ -209,13 +209,13 @@ cell-whole book members cost subtable steps cell is_book is_subtable is_cell all
       | false ↦ all
     ]
 
-cells-whole : (book : Held) (members : List Cell) (cost : CostKind) (subtable : Subtable) (among : List ℕ) (steps : List PlanStep) → IsBook book → IsSubtable book.trees book.tables subtable
+cells-whole : (book : BookView) (members : List Cell) (cost : CostKind) (subtable : Subtable) (among : List ℕ) (steps : List PlanStep) → IsBook book → IsSubtable book.trees book.tables subtable
     → AllByRecursion (λ cell. is_cell_of book subtable cell ≡ true) among → AllByRecursion (IsWholeStep book members) steps → AllByRecursion (IsWholeStep book members) (fold (with_cell book members cost subtable) steps among)
 cells-whole book members cost subtable [] steps is_book is_subtable are all = all
 cells-whole book members cost subtable (cell ∷ among) steps is_book is_subtable are all =
     cells-whole book members cost subtable among (with_cell book members cost subtable steps cell) is_book is_subtable are.1 (cell-whole book members cost subtable steps cell is_book is_subtable are.0 all)
 
-among-are : (book : Held) (hidden : ℕ → Bool) (subtable : Subtable) (among : List ℕ) → AllByRecursion (λ cell. is_cell_of book subtable cell ≡ true) (hidden_among book hidden subtable among)
+among-are : (book : BookView) (hidden : ℕ → Bool) (subtable : Subtable) (among : List ℕ) → AllByRecursion (λ cell. is_cell_of book subtable cell ≡ true) (hidden_among book hidden subtable among)
 among-are book hidden subtable [] = tt
 among-are book hidden subtable (cell ∷ among) =
     elim (hidden cell && is_cell_of book subtable cell) as (λ b. (hidden cell && is_cell_of book subtable cell) ≡ b → AllByRecursion (λ one. is_cell_of book subtable one ≡ true) (cond b (cell ∷ hidden_among book hidden subtable among) (hidden_among book hidden subtable among))) [
@@ -223,7 +223,7 @@ among-are book hidden subtable (cell ∷ among) =
       | false ↦ λ is. among-are book hidden subtable among
     ] refl
 
-subtables-whole : (book : Held) (members : List Cell) (cost : CostKind) (subtables : List Subtable) (steps : List PlanStep) → IsBook book → AllByRecursion (IsSubtable book.trees book.tables) subtables
+subtables-whole : (book : BookView) (members : List Cell) (cost : CostKind) (subtables : List Subtable) (steps : List PlanStep) → IsBook book → AllByRecursion (IsSubtable book.trees book.tables) subtables
     → AllByRecursion (IsWholeStep book members) steps → AllByRecursion (IsWholeStep book members) (fold (with_subtable book members cost) steps subtables)
 subtables-whole book members cost [] steps is_book are all = all
 subtables-whole book members cost (subtable ∷ subtables) steps is_book are all =
@@ -239,6 +239,6 @@ steps_are_whole book members cost passes is_book =
     tt
 
 -- and so is each step of what a plan gives
-pub trail-whole : (book : Held) (members : List Cell) (cost : CostKind) (passes : ℕ) (r : Result Trail Memory) → IsBook book → IfOk r (λ trail. trail.steps ≡ trail_of book members cost passes) → IfOk r (λ trail. AllByRecursion (IsWholeStep book members) trail.steps)
+pub trail-whole : (book : BookView) (members : List Cell) (cost : CostKind) (passes : ℕ) (r : Result Trail Memory) → IsBook book → IfOk r (λ trail. trail.steps ≡ trail_of book members cost passes) → IfOk r (λ trail. AllByRecursion (IsWholeStep book members) trail.steps)
 trail-whole book members cost passes (Ok trail) is_book is = subst (λ (steps : List PlanStep). AllByRecursion (IsWholeStep book members) steps) (sym is) (steps_are_whole book members cost passes is_book)
 trail-whole book members cost passes (Err fault) is_book is = tt

@@ -5,7 +5,7 @@ use Rattle.sdc_base.specs.Subtables.{subtable_at}
 use Rattle.sdc_base.specs.declared.cell.Cell.{Cell}
 use Rattle.sdc_base.specs.declared.cube.Subtable.{Subtable}
 use Rattle.sdc_base.specs.declared.trail.PlanStep.{PlanStep}
-use Rattle.linked_tables.specs.Held.{Held}
+use Rattle.linked_tables.specs.BookViews.{BookView}
 use Rattle.modular_plan.specs.Plans.{AreMarked}
 
 -- the subtables of table t whose parents begin so and go on with one code of each list
@@ -17,5 +17,5 @@ abbrev pub Begins : List PlanStep → List PlanStep → Type 0
 Begins steps all = (later : List PlanStep) × (all ≡ steps ++ later)
 
 -- exactly the primary cells and the corners of some first of these steps are marked as hidden
-abbrev pub AreMarkedInPart : Held → List Cell → List PlanStep → Type 0
+abbrev pub AreMarkedInPart : BookView → List Cell → List PlanStep → Type 0
 AreMarkedInPart book cells all = (steps : List PlanStep) × Begins steps all × AreMarked book cells steps

@@ -6,8 +6,8 @@ use Rattle.sdc_base.specs.Kinds.{is_fixed}
 use Rattle.sdc_base.specs.declared.cell.Cell.{Cell}
 use Rattle.sdc_base.specs.declared.trail.PlanStep.{PlanStep}
 use Rattle.cost_rule.specs.declared.kind.CostKind.{CostKind}
-use Rattle.linked_tables.specs.Held.{Held}
-use Rattle.linked_tables.specs.Shared.{IsBook}
+use Rattle.linked_tables.specs.BookViews.{BookView}
+use Rattle.linked_tables.specs.BookCells.{IsBook}
 use Rattle.modular_plan.specs.Plans.{trail_of}
 
 -- there is a cell with this number, and it isn't fixed
@@ -16,9 +16,9 @@ pub record CanBeHidden (cells : List Cell) (number : ℕ) : Type 0 where
   pub found : slice_get cells number ≡ Some cell
   pub not_fixed : is_fixed cell.kind ≡ false
 
--- A step is of a table of the book: it has a parent for each variable of the table, and 2 to their number corners, by their numbers
--- upwards, each of which can be hidden.
-pub record IsWholeStep (book : Held) (cells : List Cell) (step : PlanStep) : Type 0 where
+-- A step is of a table of the book: it has a parent for each variable of the table, and 2 to their number corners, by
+-- their numbers upwards, each of which can be hidden.
+pub record IsWholeStep (book : BookView) (cells : List Cell) (step : PlanStep) : Type 0 where
   pub variables : List ℕ
   pub table : slice_get book.tables step.table ≡ Some variables
   pub parents : length step.parents ≡ length variables
@@ -28,4 +28,6 @@ pub record IsWholeStep (book : Held) (cells : List Cell) (step : PlanStep) : Typ
 
 -- every step of a trail through the subtables of a book is such a step
 abbrev pub StepsAreWhole : Type 0
-StepsAreWhole = (book : Held) (cells : List Cell) (cost : CostKind) (passes : ℕ) → IsBook book → AllByRecursion (IsWholeStep book cells) (trail_of book cells cost passes)
+StepsAreWhole =
+    (book : BookView) (cells : List Cell) (cost : CostKind) (passes : ℕ) → IsBook book
+    → AllByRecursion (IsWholeStep book cells) (trail_of book cells cost passes)

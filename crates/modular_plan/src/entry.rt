@@ -2,7 +2,7 @@ ghost use Rattle.std.specs.Prelude.{◌≡◌, ◌<◌, ◌≤◌, ◌++◌, ◌
 ghost use Rattle.std.specs.Option.{option_map_or};
 ghost use Rattle.sdc_base.specs.Trees.{is_child, parent_at};
 ghost use Rattle.sdc_base.specs.Subtables as spec;
-ghost use Rattle.linked_tables.specs.Shared.{cells, cell_at};
+ghost use Rattle.linked_tables.specs.BookCells.{cells, cell_at};
 ghost use Rattle.hypercube.specs.LeastCubes.{is_marked};
 ghost use Rattle.modular_plan.specs.Plans as plans;
 
@@ -32,7 +32,9 @@ fn add_cell(book: &Book, subtable: &Subtable, cell: u32, found: &mut Vec<u32>) -
     requires known { cell < length (cells book.now) }
     requires named { All (λ one. one < length (cells book.now)) found.old.items }
     ensures within { OnOk result (All (λ one. one < length (cells book.now)) found.new.items) }
-    ensures added { OnOk result (found.new.items ≡ (if is_marked book.now cell && plans.is_cell_of book.now subtable.now cell then found.old.items ++ cell ∷ [] else found.old.items)) }
+    ensures added { OnOk result (found.new.items
+        ≡ (if is_marked book.now cell && plans.is_cell_of book.now subtable.now cell then found.old.items ++ cell ∷ []
+        else found.old.items)) }
 {
     if is_hidden(book, cell) && is_cell_of(book, subtable, cell) {
         found.push(cell)?;

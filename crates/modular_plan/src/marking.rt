@@ -32,7 +32,8 @@ fn is_primary(cells: &[Cell], cell: u32) -> bool
 pub(crate) fn hide(book: &mut Book, corners: &[Corner])
     requires within { All (λ corner. corner.cell < length book.old.marks) corners.now }
     ensures same { IsSameButHidden book.old book.new }
-    ensures marked { (cell : ℕ) → is_marked book.new cell ≡ (is_marked book.old cell || list_any (λ corner. corner.cell == cell) corners.now) }
+    ensures marked { (cell : ℕ) → is_marked book.new cell
+        ≡ (is_marked book.old cell || list_any (λ corner. corner.cell == cell) corners.now) }
 {
     for corner in corners {
         set_hidden(book, corner.cell, true);
@@ -42,7 +43,8 @@ pub(crate) fn hide(book: &mut Book, corners: &[Corner])
 // Marks a cell as hidden or shown.
 fn set_hidden(book: &mut Book, cell: u32, hidden: bool)
     ensures same { IsSameButHidden book.old book.new }
-    ensures marked { (other : ℕ) → cell < length book.old.marks → is_marked book.new other ≡ (if other == cell then hidden else is_marked book.old other) }
+    ensures marked { (other : ℕ) → cell < length book.old.marks
+        → is_marked book.new other ≡ (if other == cell then hidden else is_marked book.old other) }
 {
     if let Some(mark) = book.mark_mut(cell) {
         mark.hidden = hidden;

@@ -10,8 +10,13 @@ use std::alloc::Global;
 const MOST_DEPTH: u64 = 72;
 
 /// These subtables, by the summed depth of their parents, those of one depth in their order.
-pub(crate) fn ordered(alloc: Global, book: &Book, all: &[Subtable]) -> Result<Vec<Subtable>, Memory>
-    ensures { IfOk result (λ found. found.items ≡ spec.by_depths book.now.trees book.now.tables all.now (range_with_len 0 (spec.most_depth + 1))) }
+pub(crate) fn in_order(
+    alloc: Global,
+    book: &Book,
+    all: &[Subtable],
+) -> Result<Vec<Subtable>, Memory>
+    ensures { IfOk result (λ found. found.items
+        ≡ spec.by_depths book.now.trees book.now.tables all.now (range_with_len 0 (spec.most_depth + 1))) }
 {
     let mut found = Vec::new(alloc);
     'depths: for depth in 0..MOST_DEPTH + 1 {
@@ -27,7 +32,8 @@ fn add_depth(
     depth: u64,
     found: &mut Vec<Subtable>,
 ) -> Result<(), Memory>
-    ensures { OnOk result (found.new.items ≡ found.old.items ++ spec.of_depth book.now.trees book.now.tables depth all.now) }
+    ensures { OnOk result (found.new.items
+        ≡ found.old.items ++ spec.of_depth book.now.trees book.now.tables depth all.now) }
 {
     for subtable in all {
         add_one(book, subtable, depth, found)?;
@@ -42,7 +48,9 @@ fn add_one(
     depth: u64,
     found: &mut Vec<Subtable>,
 ) -> Result<(), Memory>
-    ensures { OnOk result (found.new.items ≡ (if spec.depth_of book.now.trees book.now.tables subtable.now == depth then found.old.items ++ subtable.now ∷ [] else found.old.items)) }
+    ensures { OnOk result (found.new.items
+        ≡ (if spec.depth_of book.now.trees book.now.tables subtable.now == depth
+        then found.old.items ++ subtable.now ∷ [] else found.old.items)) }
 {
     if depth_of(book, subtable) == depth {
         found.push(Subtable {

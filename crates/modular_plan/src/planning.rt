@@ -2,7 +2,7 @@ ghost use Rattle.std.specs.Prelude.{◌≡◌, ◌<◌, ◌≤◌, ◌^◌, ℕ,
 ghost use Rattle.std.specs.List.{AllByRecursion, list_any};
 ghost use Rattle.sdc_base.specs.Trails as spec;
 ghost use Rattle.cost_rule.specs.Costs.{AreCosted};
-ghost use Rattle.linked_tables.specs.Shared.{cells as cells_in};
+ghost use Rattle.linked_tables.specs.BookCells as book_cells;
 ghost use Rattle.hypercube.specs.LeastCubes.{is_marked};
 ghost use Rattle.modular_plan.specs.Beginnings.{AreMarkedInPart, Begins};
 ghost use Rattle.modular_plan.specs.StepLaws.{IsWholeStep};
@@ -10,7 +10,7 @@ ghost use Rattle.modular_plan.specs.Plans.{AreMarked, IsSameButHidden, trail_of,
 
 use crate::entry::{hidden_in, is_hidden};
 use crate::marking::{hide, mark_primary};
-use crate::ordering::ordered;
+use crate::ordering::in_order;
 use crate::subtables::all_subtables;
 use cost_rule::{CostRule, TellsCosts};
 use hypercube::cheapest;
@@ -38,7 +38,8 @@ pub fn plan<F: TellsCosts>(
     requires costed { All (λ mark. AreCosted mark.facts) book.old.marks }
     ensures trail { IfOk result (λ trail. trail.steps ≡ trail_of book.old cells.now rule.now passes) }
     ensures hidden { IfOk result (λ trail. AreMarked book.new cells.now trail.steps) }
-    ensures stopped { IfErr result (λ _. AreMarkedInPart book.new cells.now (trail_of book.old cells.now rule.now passes)) }
+    ensures stopped { IfErr result (λ _. AreMarkedInPart book.new cells.now
+        (trail_of book.old cells.now rule.now passes)) }
     ensures same { IsSameButHidden book.old book.new }
     ensures whole { IfOk result (λ trail. AllByRecursion (IsWholeStep book.old cells.now) trail.steps) }
 {
@@ -59,12 +60,13 @@ fn plan_passes<F: TellsCosts>(
     requires costed { All (λ mark. AreCosted mark.facts) book.old.marks }
     ensures trail { IfOk result (λ trail. trail.steps ≡ trail_of book.old cells.now rule.now passes) }
     ensures hidden { IfOk result (λ trail. AreMarked book.new cells.now trail.steps) }
-    ensures stopped { IfErr result (λ _. AreMarkedInPart book.new cells.now (trail_of book.old cells.now rule.now passes)) }
+    ensures stopped { IfErr result (λ _. AreMarkedInPart book.new cells.now
+        (trail_of book.old cells.now rule.now passes)) }
     ensures same { IsSameButHidden book.old book.new }
 {
     mark_primary(book, cells);
     let all = all_subtables(alloc, book)?;
-    let subtables = ordered(alloc, book, all.as_slice())?;
+    let subtables = in_order(alloc, book, all.as_slice())?;
     let mut steps = Vec::new(alloc);
     'passes: for _ in 0..passes {
         add_pass(alloc, book, cells, rule, subtables.as_slice(), &mut steps)?;
@@ -86,8 +88,10 @@ fn add_pass<F: TellsCosts>(
     requires one_each { length cells.now ≡ length book.old.marks }
     requires costed { All (λ mark. AreCosted mark.facts) book.old.marks }
     requires marked { AreMarked book.old cells.now steps.old.items }
-    ensures ok { OnOk result (steps.new.items ≡ fold (with_subtable book.old cells.now rule.now) steps.old.items subtables.now) }
-    ensures stopped { OnErr result (Begins steps.new.items (fold (with_subtable book.old cells.now rule.now) steps.old.items subtables.now)) }
+    ensures ok { OnOk result (steps.new.items
+        ≡ fold (with_subtable book.old cells.now rule.now) steps.old.items subtables.now) }
+    ensures stopped { OnErr result (Begins steps.new.items
+        (fold (with_subtable book.old cells.now rule.now) steps.old.items subtables.now)) }
     ensures marked { AreMarked book.new cells.now steps.new.items }
     ensures same { IsSameButHidden book.old book.new }
 {
@@ -110,7 +114,8 @@ fn add_steps<F: TellsCosts>(
     requires costed { All (λ mark. AreCosted mark.facts) book.old.marks }
     requires marked { AreMarked book.old cells.now steps.old.items }
     ensures ok { OnOk result (steps.new.items ≡ with_subtable book.old cells.now rule.now steps.old.items subtable.now) }
-    ensures stopped { OnErr result (Begins steps.new.items (with_subtable book.old cells.now rule.now steps.old.items subtable.now)) }
+    ensures stopped { OnErr result (Begins steps.new.items
+        (with_subtable book.old cells.now rule.now steps.old.items subtable.now)) }
     ensures marked { AreMarked book.new cells.now steps.new.items }
     ensures same { IsSameButHidden book.old book.new }
 {
@@ -132,7 +137,7 @@ fn add_step<F: TellsCosts>(
     steps: &mut Vec<PlanStep>,
 ) -> Result<(), Memory>
     requires one_each { length cells.now ≡ length book.old.marks }
-    requires known { cell < length (cells_in book.old) }
+    requires known { cell < length (book_cells.cells book.old) }
     requires costed { All (λ mark. AreCosted mark.facts) book.old.marks }
     requires marked { AreMarked book.old cells.now steps.old.items }
     ensures ok { OnOk result (steps.new.items ≡ with_cell book.old cells.now rule.now subtable.now steps.old.items cell) }

@@ -23,7 +23,8 @@ pub(crate) fn all_subtables(alloc: Global, book: &Book) -> Result<Vec<Subtable>,
 // Adds the subtables of table t.
 fn add_table(alloc: Global, book: &Book, t: u32, found: &mut Vec<Subtable>) -> Result<(), Memory>
     requires { t < length book.now.tables }
-    ensures { OnOk result (found.new.items ≡ found.old.items ++ spec.subtables_in t (trees_of book.now.trees (slice_index_or book.now.tables t []))) }
+    ensures { OnOk result (found.new.items
+        ≡ found.old.items ++ spec.subtables_in t (trees_of book.now.trees (slice_index_or book.now.tables t []))) }
 {
     let Some(table) = book.spans(t) else {
         return Ok(());
@@ -60,7 +61,9 @@ fn inner_codes(alloc: Global, book: &Book, variable: u32) -> Result<Items<u32>, 
 
 // Adds a code, where it has children.
 fn add_inner(book: &Book, variable: u32, code: u32, codes: &mut Vec<u32>) -> Result<(), Memory>
-    ensures { OnOk result (codes.new.items ≡ (if not (length (children (slice_index_or book.now.trees variable []) code) == 0) then codes.old.items ++ code ∷ [] else codes.old.items)) }
+    ensures { OnOk result (codes.new.items
+        ≡ (if not (length (children (slice_index_or book.now.trees variable []) code) == 0)
+        then codes.old.items ++ code ∷ [] else codes.old.items)) }
 {
     if has_children(book, variable, code) {
         codes.push(code)?;
@@ -76,7 +79,8 @@ fn add_choices(
     found: &mut Vec<Subtable>,
 ) -> Result<(), Memory>
     requires few { length lists.now ≤ 8 }
-    ensures { OnOk result (found.new.items ≡ found.old.items ++ subtables_below t parents.now (drop (length parents.now) lists.now)) }
+    ensures { OnOk result (found.new.items
+        ≡ found.old.items ++ subtables_below t parents.now (drop (length parents.now) lists.now)) }
 {
     let k = parents.len();
     if k >= lists.len() {

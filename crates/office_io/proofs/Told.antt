@@ -1,6 +1,6 @@
 -- What is left of a file that is told.
 use Rattle.std.proofs.Common.{◌≡◌, ◌≢◌, ℕ, ◌-◌, ◌<◌, ◌≤◌, List, [], ◌++◌, length, take, drop, Option, None, Some, ap, sym, ◌∙◌, subst, refl, arith, append_assoc, append-nil, length-append, IsSomeAnd, option_map, ◌↔◌}
-use Rattle.sdc_base.specs.Told.{WhereTold}
+use Rattle.sdc_base.specs.WhereTold.{WhereTold}
 use Rattle.std.proofs.lemmas.List.{take-append-drop}
 
 -- the file is what was got and what is left

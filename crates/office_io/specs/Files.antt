@@ -9,8 +9,8 @@ abbrev pub Files : Type 0
 Files = List ℕ → Option (List ℕ)
 
 -- the files after one is made or replaced: every other stays
-abbrev pub put : Files → List ℕ → List ℕ → Files
-put files name bytes = update bytes_eq files name (Some bytes)
+abbrev pub files_after_put : Files → List ℕ → List ℕ → Files
+files_after_put files name bytes = update bytes_eq files name (Some bytes)
 
 -- the bytes that told files hold under a name: none told, no file, or its bytes
 abbrev pub told_file : Option Files → List ℕ → Option (Option (List ℕ))

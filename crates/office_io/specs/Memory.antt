@@ -1,7 +1,7 @@
 -- What a shelf and a tray in memory hold, at which calls they fail, and how many they have had (own).
 use Rattle.std.specs.Prelude.{ℕ, Bool, List, Option, Some, ◌==◌, option_and_then}
 use Rattle.std.specs.List.{list_any}
-use Rattle.sdc_base.specs.Counts.{counted}
+use Rattle.sdc_base.specs.Counts.{count_after}
 use Rattle.office_io.specs.Files.{file_of, name_at, rest_at}
 use Rattle.office_io.specs.Shelves.{ShelfState}
 use Rattle.office_io.specs.Trays.{TrayState}
@@ -10,9 +10,10 @@ use Rattle.office_io.specs.declared.memory_tray.MemoryTray.{MemoryTray}
 
 -- after so many calls the next one is among the failing: the first call has the number 1
 abbrev pub is_due : List ℕ → ℕ → Bool
-is_due failing calls = list_any (λ number. number == counted calls 1) failing
+is_due failing calls = list_any (λ number. number == count_after calls 1) failing
 
--- what a shelf tells: its files, what is left of the chosen one, which isn't known after a read that failed, and its counts
+-- what a shelf tells: its files, what is left of the chosen one, which isn't known after a read that failed, and its
+-- counts
 abbrev pub shelf_state : MemoryShelf → ShelfState
 shelf_state s = record {
   files = Some (file_of s.files.items);

@@ -1,7 +1,7 @@
 -- What reading a whole file comes to (own).
 use Rattle.std.specs.Prelude.{◌≡◌, ◌≢◌, ℕ, ◌+◌, ◌<◌, ◌≤◌, List, length, None, Some}
-use Rattle.sdc_base.specs.Counts.{Rose}
-use Rattle.sdc_base.specs.Told.{WhereTold}
+use Rattle.sdc_base.specs.Counts.{HasRisen}
+use Rattle.sdc_base.specs.WhereTold.{WhereTold}
 use Rattle.office_io.specs.Files.{held_name}
 use Rattle.office_io.specs.Shelves.{ShelfState}
 
@@ -14,14 +14,15 @@ pub record IsWhole (name : List ℕ) (limit : ℕ) (bytes : List ℕ) (old new :
 -- no file has this name, and an absence was counted
 pub record IsAbsent (name : List ℕ) (old new : ShelfState) : Type 0 where
   pub not_held : WhereTold old.files (λ fs. fs name ≡ None)
-  pub absent : Rose old.absences new.absences
+  pub absent : HasRisen old.absences new.absences
 
 -- the file of this name is held and has more bytes than the limit
 pub record IsTooLong (name : List ℕ) (limit : ℕ) (old : ShelfState) : Type 0 where
   pub held : WhereTold old.files (λ fs. fs name ≢ None)
   pub longer : WhereTold old.files (λ fs. WhereTold (fs name) (λ bytes. limit < length bytes))
 
--- The file of this name was the last one looked for, and at most one byte more than the limit was taken, by at most as many reads.
+-- The file of this name was the last one looked for, and at most one byte more than the limit was taken, by at most as
+-- many reads.
 pub record HasLookedFor (name : List ℕ) (limit : ℕ) (old new : ShelfState) : Type 0 where
   pub last : WhereTold old.files (λ fs. new.last ≡ held_name fs name)
   pub no_more : new.taken ≤ limit + 1

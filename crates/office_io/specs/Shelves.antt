@@ -1,12 +1,12 @@
 -- What a shelf tells of its files and calls, and how one call changes it (own).
 use Rattle.std.specs.Prelude.{◌≡◌, ◌≢◌, ℕ, ◌-◌, ◌^◌, ◌≤◌, ◌↔◌, List, [], length, take, drop, Option, None, Some, option_map}
-use Rattle.sdc_base.specs.Counts.{Rose, counted}
-use Rattle.sdc_base.specs.Told.{WhereTold}
+use Rattle.sdc_base.specs.Counts.{HasRisen, count_after}
+use Rattle.sdc_base.specs.WhereTold.{WhereTold}
 use Rattle.office_io.specs.Files.{Files, held_name}
 
--- What a shelf tells: its files by their names and what is left of the chosen one, where these are known; how many bytes were
--- given and how many reads were made since the last begin; the name last begun, where it is held; and how often the shelf has
--- failed and how often a file was not there. No count falls, and each stands still at 2^64 - 1.
+-- What a shelf tells: its files by their names and what is left of the chosen one, where these are known; how many
+-- bytes were given and how many reads were made since the last begin; the name last begun, where it is held; and how
+-- often the shelf has failed and how often a file was not there. No count falls, and each stands still at 2^64 - 1.
 pub record ShelfState : Type 0 where
   pub files : Option Files
   pub left : Option (List ℕ)
@@ -38,12 +38,12 @@ pub record HasChosen (name : List ℕ) (old new : ShelfState) : Type 0 where
 -- no file has this name, an absence was counted, and nothing is left
 pub record HasFoundNone (name : List ℕ) (old new : ShelfState) : Type 0 where
   pub not_held : WhereTold old.files (λ fs. fs name ≡ None)
-  pub absent : Rose old.absences new.absences
+  pub absent : HasRisen old.absences new.absences
   pub refused : new.left ≡ Some []
 
 -- the shelf could not look, a fault was counted, and nothing is left
 pub record HasNotLooked (old new : ShelfState) : Type 0 where
-  pub failed : Rose old.faults new.faults
+  pub failed : HasRisen old.faults new.faults
   pub refused : new.left ≡ Some []
 
 -- the next n bytes of what was left stand at a buffer's front and are left no more; no byte is the end of the file
@@ -53,15 +53,15 @@ pub record HasGiven (n : ℕ) (before after : List ℕ) (old new : ShelfState) :
   pub given : WhereTold old.left (λ bytes. take n after ≡ take n bytes)
   pub rest : new.left ≡ option_map (drop n) old.left
   pub end : WhereTold old.left (λ bytes. (n ≡ 0) ↔ (bytes ≡ []))
-  pub taken : new.taken ≡ counted old.taken n
+  pub taken : new.taken ≡ count_after old.taken n
 
 -- the shelf could not read on: a fault was counted, nothing was taken, and it is unknown what is left
 pub record HasNotRead (old new : ShelfState) : Type 0 where
-  pub failed : Rose old.faults new.faults
+  pub failed : HasRisen old.faults new.faults
   pub unknown : new.left ≡ None
   pub none_taken : new.taken ≡ old.taken
 
 -- one more read of the same file was made
 pub record HasReadOnce (old new : ShelfState) : Type 0 where
-  pub reads : new.reads ≡ counted old.reads 1
+  pub reads : new.reads ≡ count_after old.reads 1
   pub last : new.last ≡ old.last

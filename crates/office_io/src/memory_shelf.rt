@@ -1,5 +1,5 @@
 ghost use Rattle.std.specs.Prelude.{◌≡◌, ◌≢◌, ◌≤◌, ◌<◌, Some, None, [], IfSome, IfNone, IfOk, OnOk, OnErr, IsErr, IsErrOf, Err, ◌↔◌, length, take, true};
-ghost use Rattle.sdc_base.specs.Counts.{counted};
+ghost use Rattle.sdc_base.specs.Counts.{count_after};
 ghost use Rattle.office_io.specs.Files.{file_of, name_at, bytes_at, rest_at};
 ghost use Rattle.office_io.specs.Shelves.{HasOnlyRead, HasBegun, HasChosen, HasFoundNone, HasNotLooked};
 ghost use Rattle.office_io.specs.Shelves.{HasGiven, HasNotRead, HasReadOnce};
@@ -67,7 +67,7 @@ impl MemoryShelf {
     // Whether the next call fails.
     fn next_fails(&mut self) -> bool
         ensures due { result ≡ is_due self.old.failing.items self.old.calls }
-        ensures rest { self.new ≡ record self.old { calls = counted self.old.calls 1 } }
+        ensures rest { self.new ≡ record self.old { calls = count_after self.old.calls 1 } }
     {
         self.calls = self.calls.saturating_add(1);
         self.failing.contains(&self.calls)
@@ -108,7 +108,8 @@ fn give(bytes: &[u8], most: u32, buffer: &mut [u8]) -> usize
 // The place of the first file of this name.
 fn place_of(files: &[(Text, Vec<u8>)], name: &Text) -> Option<usize>
     ensures none { IfNone result (file_of files.now name.now ≡ None) }
-    ensures some { IfSome result (λ i. (file_of files.now name.now ≡ bytes_at files.now i) × (name_at files.now i ≡ Some name.now)) }
+    ensures some { IfSome result (λ i. (file_of files.now name.now ≡ bytes_at files.now i)
+        × (name_at files.now i ≡ Some name.now)) }
 {
     for (i, file) in files.iter().enumerate() {
         if file.0.equals(name) {
@@ -135,18 +136,23 @@ impl Shelf for MemoryShelf {
 
     fn begin(&mut self, name: &Text) -> Result<(), BeginFault>
         ensures chosen { OnOk result (HasChosen name.now (shelf_state self.old) (shelf_state self.new)) }
-        ensures absent { IsErrOf result BeginFault.Absent → HasFoundNone name.now (shelf_state self.old) (shelf_state self.new) }
+        ensures absent { IsErrOf result BeginFault.Absent
+            → HasFoundNone name.now (shelf_state self.old) (shelf_state self.new) }
         ensures failed { IsErrOf result BeginFault.Failed → HasNotLooked (shelf_state self.old) (shelf_state self.new) }
         ensures begun { HasBegun name.now (shelf_state self.old) (shelf_state self.new) }
         ensures only_read { HasOnlyRead (shelf_state self.old) (shelf_state self.new) }
         ensures due { IsErrOf result BeginFault.Failed ↔ (is_due (shelf_failing self.old) (shelf_calls self.old) ≡ true) }
-        ensures calls { shelf_calls self.new ≡ counted (shelf_calls self.old) 1 }
+        ensures calls { shelf_calls self.new ≡ count_after (shelf_calls self.old) 1 }
         ensures failing { shelf_failing self.new ≡ shelf_failing self.old }
         ensures piece_stays { shelf_piece self.new ≡ shelf_piece self.old }
-        ensures one_fault { IsErrOf result BeginFault.Failed → (shelf_state self.new).faults ≡ counted (shelf_state self.old).faults 1 }
-        ensures no_fault { (result ≢ Err BeginFault.Failed) → (shelf_state self.new).faults ≡ (shelf_state self.old).faults }
-        ensures one_absence { IsErrOf result BeginFault.Absent → (shelf_state self.new).absences ≡ counted (shelf_state self.old).absences 1 }
-        ensures no_absence { (result ≢ Err BeginFault.Absent) → (shelf_state self.new).absences ≡ (shelf_state self.old).absences }
+        ensures one_fault { IsErrOf result BeginFault.Failed
+            → (shelf_state self.new).faults ≡ count_after (shelf_state self.old).faults 1 }
+        ensures no_fault { (result ≢ Err BeginFault.Failed)
+            → (shelf_state self.new).faults ≡ (shelf_state self.old).faults }
+        ensures one_absence { IsErrOf result BeginFault.Absent
+            → (shelf_state self.new).absences ≡ count_after (shelf_state self.old).absences 1 }
+        ensures no_absence { (result ≢ Err BeginFault.Absent)
+            → (shelf_state self.new).absences ≡ (shelf_state self.old).absences }
     {
         self.taken = 0;
         self.reads = 0;
@@ -168,16 +174,17 @@ impl Shelf for MemoryShelf {
 
     fn read(&mut self, buffer: &mut [u8]) -> Result<usize, Failed>
         requires { 0 < length buffer.old }
-        ensures given { IfOk result (λ n. HasGiven n buffer.old buffer.new (shelf_state self.old) (shelf_state self.new)) }
+        ensures given { IfOk result (λ n. HasGiven n buffer.old buffer.new (shelf_state self.old)
+            (shelf_state self.new)) }
         ensures failed { OnErr result (HasNotRead (shelf_state self.old) (shelf_state self.new)) }
         ensures once { HasReadOnce (shelf_state self.old) (shelf_state self.new) }
         ensures only_read { HasOnlyRead (shelf_state self.old) (shelf_state self.new) }
         ensures due { IsErr result ↔ (is_due (shelf_failing self.old) (shelf_calls self.old) ≡ true) }
         ensures piece { IfOk result (λ n. n ≤ shelf_piece self.old) }
-        ensures calls { shelf_calls self.new ≡ counted (shelf_calls self.old) 1 }
+        ensures calls { shelf_calls self.new ≡ count_after (shelf_calls self.old) 1 }
         ensures failing { shelf_failing self.new ≡ shelf_failing self.old }
         ensures piece_stays { shelf_piece self.new ≡ shelf_piece self.old }
-        ensures one_fault { OnErr result ((shelf_state self.new).faults ≡ counted (shelf_state self.old).faults 1) }
+        ensures one_fault { OnErr result ((shelf_state self.new).faults ≡ count_after (shelf_state self.old).faults 1) }
         ensures no_fault { OnOk result ((shelf_state self.new).faults ≡ (shelf_state self.old).faults) }
         ensures no_absence { (shelf_state self.new).absences ≡ (shelf_state self.old).absences }
     {

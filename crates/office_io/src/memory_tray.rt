@@ -1,7 +1,7 @@
 ghost use Rattle.std.specs.Prelude.{◌≡◌, ◌≢◌, ℕ, List, ◌/◌, take, length, true, false, IsErrOf, Some, None, option_map, OnOk, OnErr, IfErr};
-ghost use Rattle.sdc_base.specs.Counts.{counted};
-ghost use Rattle.sdc_base.specs.Told.{WhereTold};
-ghost use Rattle.office_io.specs.Files.{file_of, put};
+ghost use Rattle.sdc_base.specs.Counts.{count_after};
+ghost use Rattle.sdc_base.specs.WhereTold.{WhereTold};
+ghost use Rattle.office_io.specs.Files.{file_of, files_after_put};
 ghost use Rattle.office_io.specs.Memory.{is_due, tray_state, tray_failing};
 ghost use Rattle.office_io.specs.Trays.{HasPut, HasPutInPart, LeavesOthers};
 
@@ -32,7 +32,8 @@ impl MemoryTray {
     ///
     /// It takes no memory now, and keeps the allocator for its files.
     pub fn new(alloc: Global, failing: Vec<u64>) -> MemoryTray
-        ensures empty { ⟦<MemoryTray as Tray>⟧.state result ≡ record { files = Some (λ _. None); puts = 0; faults = 0 } }
+        ensures empty { ⟦<MemoryTray as Tray>⟧.state result
+            ≡ record { files = Some (λ _. None); puts = 0; faults = 0 } }
         ensures failing { tray_failing result ≡ failing.items }
     {
         MemoryTray {
@@ -47,7 +48,8 @@ impl MemoryTray {
     /// The bytes of the file of this name, lent, or none where it is not held. It goes through all puts
     /// from the last one on, until it finds the name.
     pub fn file(&self, name: &Text) -> Option<&[u8]>
-        ensures { WhereTold (⟦<MemoryTray as Tray>⟧.state self.now).files (λ fs. option_map (λ bytes. bytes.now) result ≡ fs name.now) }
+        ensures { WhereTold (⟦<MemoryTray as Tray>⟧.state self.now).files
+            (λ fs. option_map (λ bytes. bytes.now) result ≡ fs name.now) }
     {
         for (held, bytes) in &self.files {
             if held.equals(name) {
@@ -60,10 +62,12 @@ impl MemoryTray {
     // The tray with this file made or replaced, under no count of faults.
     #[tactic(auto, using(crate::proofs::Puts::put_other))]
     fn keep(&mut self, name: &Text, bytes: &[u8]) -> Result<(), PutFault>
-        ensures ok { OnOk result (file_of self.new.files.items ≡ put (file_of self.old.files.items) name.now bytes.now) }
+        ensures ok { OnOk result (file_of self.new.files.items
+            ≡ files_after_put (file_of self.old.files.items) name.now bytes.now) }
         ensures err { IfErr result (λ e. e ≡ PutFault.Memory) }
         ensures same { OnErr result (file_of self.new.files.items ≡ file_of self.old.files.items) }
-        ensures others { (other : List ℕ) → other ≢ name.now → file_of self.new.files.items other ≡ file_of self.old.files.items other }
+        ensures others { (other : List ℕ) → other ≢ name.now
+            → file_of self.new.files.items other ≡ file_of self.old.files.items other }
         ensures rest { self.new ≡ record self.old { files = self.new.files } }
     {
         let Ok(name) = name.copy(self.alloc) else {
@@ -87,14 +91,18 @@ impl Tray for MemoryTray {
 
     fn put(&mut self, name: &Text, bytes: &[u8]) -> Result<(), PutFault>
         ensures put { OnOk result (HasPut name.now bytes.now (tray_state self.old) (tray_state self.new)) }
-        ensures failed { IsErrOf result PutFault.Failed → HasPutInPart name.now bytes.now (tray_state self.old) (tray_state self.new) }
+        ensures failed { IsErrOf result PutFault.Failed
+            → HasPutInPart name.now bytes.now (tray_state self.old) (tray_state self.new) }
         ensures memory { IsErrOf result PutFault.Memory → tray_state self.new ≡ tray_state self.old }
         ensures others { LeavesOthers name.now (tray_state self.old) (tray_state self.new) }
         ensures due { OnOk result (is_due (tray_failing self.old) (tray_state self.old).puts ≡ false) }
-        ensures not_due { IsErrOf result PutFault.Failed → is_due (tray_failing self.old) (tray_state self.old).puts ≡ true }
-        ensures half { IsErrOf result PutFault.Failed → HasPut name.now (take (length bytes.now / 2) bytes.now) (tray_state self.old) (tray_state self.new) }
+        ensures not_due { IsErrOf result PutFault.Failed
+            → is_due (tray_failing self.old) (tray_state self.old).puts ≡ true }
+        ensures half { IsErrOf result PutFault.Failed
+            → HasPut name.now (take (length bytes.now / 2) bytes.now) (tray_state self.old) (tray_state self.new) }
         ensures failing { tray_failing self.new ≡ tray_failing self.old }
-        ensures one_fault { IsErrOf result PutFault.Failed → (tray_state self.new).faults ≡ counted (tray_state self.old).faults 1 }
+        ensures one_fault { IsErrOf result PutFault.Failed
+            → (tray_state self.new).faults ≡ count_after (tray_state self.old).faults 1 }
         ensures fine { OnOk result ((tray_state self.new).faults ≡ (tray_state self.old).faults) }
     {
         let number = self.puts.saturating_add(1);

@@ -1,6 +1,6 @@
 ghost use Rattle.std.specs.Prelude.{◌≡◌, ◌≢◌, ◌+◌, ◌^◌, ◌≤◌, ◌<◌, ◌↔◌, length, None, Some, IfOk, IsErrOf, OnOk, IfErr, ◌++◌};
-ghost use Rattle.sdc_base.specs.Counts.{Rose};
-ghost use Rattle.sdc_base.specs.Told.{WhereTold};
+ghost use Rattle.sdc_base.specs.Counts.{HasRisen};
+ghost use Rattle.sdc_base.specs.WhereTold.{WhereTold};
 ghost use Rattle.office_io.specs.Shelves.{HasOnlyRead};
 ghost use Rattle.office_io.specs.Reading.{IsWhole, IsAbsent, IsTooLong, HasLookedFor};
 
@@ -28,7 +28,7 @@ pub fn read_all<S: Shelf>(
     requires { limit < 2 ^ 62 }
     ensures whole { IfOk result (λ bytes. IsWhole name.now limit bytes.items (S.state shelf.old) (S.state shelf.new)) }
     ensures absent { IsErrOf result FileFault.Absent → IsAbsent name.now (S.state shelf.old) (S.state shelf.new) }
-    ensures failed { IsErrOf result FileFault.Failed → Rose (S.state shelf.old).faults (S.state shelf.new).faults }
+    ensures failed { IsErrOf result FileFault.Failed → HasRisen (S.state shelf.old).faults (S.state shelf.new).faults }
     ensures too_long { IsErrOf result FileFault.TooLong ↔ ((S.state shelf.new).taken ≡ limit + 1) }
     ensures longer { IsErrOf result FileFault.TooLong → IsTooLong name.now limit (S.state shelf.old) }
     ensures looked_for { HasLookedFor name.now limit (S.state shelf.old) (S.state shelf.new) }

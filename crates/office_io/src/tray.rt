@@ -18,7 +18,8 @@ pub trait Tray {
     /// After `Memory` nothing has changed. Files of other names stay, whatever the answer.
     fn put(&mut self, name: &Text, bytes: &[u8]) -> Result<(), PutFault>
         ensures put { OnOk result (HasPut name.now bytes.now (state self.old) (state self.new)) }
-        ensures failed { IsErrOf result PutFault.Failed → HasPutInPart name.now bytes.now (state self.old) (state self.new) }
+        ensures failed { IsErrOf result PutFault.Failed
+            → HasPutInPart name.now bytes.now (state self.old) (state self.new) }
         ensures memory { IsErrOf result PutFault.Memory → state self.new ≡ state self.old }
         ensures others { LeavesOthers name.now (state self.old) (state self.new) };
 }

@@ -2,7 +2,7 @@
 use Rattle.std.proofs.Common.{◌≡◌, ◌≢◌, ℕ, Bool, true, false, ◌||◌, List, [], ◌∷◌, ◌++◌, refl, ap, sym, ◌∙◌, append_assoc, append-nil}
 use Rattle.std.specs.List.{list_any, AllByRecursion}
 use Rattle.std.specs.Str.Lines.{strip_carriage_return}
-use Rattle.sdc_base.specs.Lines.{lines, is_line_feed, IsLine, HasNoFeed, joined, joined_with_returns}
+use Rattle.sdc_base.specs.Lines.{lines, is_line_feed, IsLine, HasNoFeed, text_of_lines, joined_with_returns}
 use Rattle.plain_text.specs.Laws.{AreReadAgain, AreReadWithReturns, IsLastRead}
 use Rattle.plain_text.proofs.FirstLine.{NoFeeds, strip-cons, lines-open, lines-ended}
 
@@ -36,12 +36,12 @@ lines-returned line rest h =
     ∙ ap (λ (l : List ℕ). l ∷ lines rest) (strip-return line)
 
 -- the lines of joined lines with more bytes behind them
-joined-before : (texts : List (List ℕ)) (rest : List ℕ) → AllByRecursion IsLine texts → lines (joined texts ++ rest) ≡ texts ++ lines rest
+joined-before : (texts : List (List ℕ)) (rest : List ℕ) → AllByRecursion IsLine texts → lines (text_of_lines texts ++ rest) ≡ texts ++ lines rest
 joined-before [] rest h = refl
 joined-before (line ∷ texts) rest h =
-    ap lines (append_assoc line (10 ∷ joined texts) rest)
-    ∙ lines-ended line (joined texts ++ rest) (no-feeds line h.0.no_feed)
-    ∙ ap (λ (l : List ℕ). l ∷ lines (joined texts ++ rest)) h.0.no_return
+    ap lines (append_assoc line (10 ∷ text_of_lines texts) rest)
+    ∙ lines-ended line (text_of_lines texts ++ rest) (no-feeds line h.0.no_feed)
+    ∙ ap (λ (l : List ℕ). l ∷ lines (text_of_lines texts ++ rest)) h.0.no_return
     ∙ ap (λ (ls : List (List ℕ)). line ∷ ls) (joined-before texts rest h.1)
 
 returns-before : (texts : List (List ℕ)) (rest : List ℕ) → AllByRecursion HasNoFeed texts → lines (joined_with_returns texts ++ rest) ≡ texts ++ lines rest
@@ -56,7 +56,7 @@ last-open [] h some = absurd (some refl)
 last-open (b ∷ line) h some = lines-open b line (no-feeds (b ∷ line) h)
 
 pub read_again : AreReadAgain
-read_again texts h = ap lines (sym (append-nil (joined texts))) ∙ joined-before texts [] h ∙ append-nil texts
+read_again texts h = ap lines (sym (append-nil (text_of_lines texts))) ∙ joined-before texts [] h ∙ append-nil texts
 
 pub read_with_returns : AreReadWithReturns
 read_with_returns texts h = ap lines (sym (append-nil (joined_with_returns texts))) ∙ returns-before texts [] h ∙ append-nil texts

@@ -1,7 +1,7 @@
 -- Zeros in front of a number.
 use Rattle.std.proofs.Common.{◌≡◌, ℕ, zero, suc, Bool, true, false, cond, List, ◌∷◌, ◌++◌, replicate, length, ◌==◌, Option, None, Some, Result, Ok, Err, ℤ, refl, arith}
 use Rattle.sdc_base.specs.declared.number_fault.NumberFault.{NumberFault}
-use Rattle.sdc_base.specs.Numbers.{stray, whole, fraction, read_units, units_of_parts, unless_stray}
+use Rattle.sdc_base.specs.Numbers.{place_of_stray_byte, whole_digits, fraction, read_units, units_of_parts, unless_stray}
 use Rattle.plain_text.specs.Laws.{AreZerosPassed}
 use Rattle.plain_text.proofs.Parts.{whole-digit, fraction-digit}
 
@@ -24,8 +24,8 @@ parts-zero front back decimals units e =
 
 zero-passed : (decimals : ℕ) (bytes : List ℕ) (units : ℤ) → read_units bytes decimals ≡ Ok units → read_units (48 ∷ bytes) decimals ≡ Ok units
 zero-passed decimals bytes units e =
-    let none : stray false bytes ≡ None = no-stray _ _ units e in
-    rw (none, whole-digit 48 bytes refl, fraction-digit 48 bytes refl) (parts-zero (whole bytes) (fraction bytes) decimals units (read-part _ _ units e))
+    let none : place_of_stray_byte false bytes ≡ None = no-stray _ _ units e in
+    rw (none, whole-digit 48 bytes refl, fraction-digit 48 bytes refl) (parts-zero (whole_digits bytes) (fraction bytes) decimals units (read-part _ _ units e))
 
 pub zeros_passed : AreZerosPassed
 zeros_passed zero decimals bytes units e = e

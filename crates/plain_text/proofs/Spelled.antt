@@ -4,17 +4,17 @@ use Rattle.std.specs.List.{AllByRecursion}
 use Rattle.std.specs.Str.Lines.{strip_carriage_return}
 use Rattle.std.proofs.lemmas.Bool.Decides.{Decides-eqb}
 use Rattle.sdc_base.specs.Lines.{lines, is_line_feed, HasNoFeed}
-use Rattle.plain_text.specs.Spelling.{Ended, IsEnded, spelled, open_line, AreSpelled}
+use Rattle.plain_text.specs.Spelling.{LineWithEnd, IsEnded, spelling_of_line, open_line, AreSpelled}
 use Rattle.plain_text.proofs.FirstLine.{strip-cons, lines-open, lines-ended}
 use Rattle.plain_text.proofs.Joined.{no-feeds, lines-returned}
 
 -- lines with their ends, and a last one without
 record HasSpelling (bytes : List ℕ) : Type 0 where
-  front : List Ended
+  front : List LineWithEnd
   last : List ℕ
   ended : AllByRecursion IsEnded front
   no_feed : HasNoFeed last
-  text : bytes ≡ flat_map spelled front ++ last
+  text : bytes ≡ flat_map spelling_of_line front ++ last
 
 last-read : (last : List ℕ) → HasNoFeed last → lines last ≡ open_line last
 last-read [] h = refl
@@ -22,16 +22,16 @@ last-read (b ∷ line) h = lines-open b line (no-feeds (b ∷ line) h)
 
 -- one line with its end stands before the others
 line-read : (line : List ℕ) (by_return : Bool) (rest : List ℕ) → IsEnded (record { line = line; by_return = by_return }) →
-    lines (spelled (record { line = line; by_return = by_return }) ++ rest) ≡ line ∷ lines rest
+    lines (spelling_of_line (record { line = line; by_return = by_return }) ++ rest) ≡ line ∷ lines rest
 line-read line true rest h = ap lines (append_assoc line (13 ∷ 10 ∷ []) rest) ∙ lines-returned line rest (no-feeds line h.no_feed)
 line-read line false rest h =
     ap lines (append_assoc line (10 ∷ []) rest) ∙ lines-ended line rest (no-feeds line h.no_feed) ∙ ap (λ (l : List ℕ). l ∷ lines rest) (h.no_return refl)
 
-spelled-read : (front : List Ended) (last : List ℕ) → AllByRecursion IsEnded front → HasNoFeed last → lines (flat_map spelled front ++ last) ≡ map (λ e. e.line) front ++ open_line last
+spelled-read : (front : List LineWithEnd) (last : List ℕ) → AllByRecursion IsEnded front → HasNoFeed last → lines (flat_map spelling_of_line front ++ last) ≡ map (λ e. e.line) front ++ open_line last
 spelled-read [] last ends open_end = last-read last open_end
 spelled-read (e ∷ front) last ends open_end =
-    ap lines (append_assoc (spelled e) (flat_map spelled front) last)
-    ∙ line-read e.line e.by_return (flat_map spelled front ++ last) ends.0
+    ap lines (append_assoc (spelling_of_line e) (flat_map spelling_of_line front) last)
+    ∙ line-read e.line e.by_return (flat_map spelling_of_line front ++ last) ends.0
     ∙ ap (λ (ls : List (List ℕ)). e.line ∷ ls) (spelled-read front last ends.1 open_end)
 
 more-feeds : (b : ℕ) (line : List ℕ) → is_line_feed b ≡ false → HasNoFeed line → HasNoFeed (b ∷ line)
@@ -41,8 +41,8 @@ strip-one : (b : ℕ) → (b == 13) ≡ false → strip_carriage_return (b ∷ [
 strip-one b other = rw other refl
 
 -- a byte that is no LF, at the front of the first line with its end
-with-byte : (b : ℕ) (line : List ℕ) (by_return : Bool) (front : List Ended) (last : List ℕ) → is_line_feed b ≡ false → IsEnded (record { line = line; by_return = by_return }) → AllByRecursion IsEnded front → HasNoFeed last →
-    HasSpelling (b ∷ (spelled (record { line = line; by_return = by_return }) ++ flat_map spelled front ++ last))
+with-byte : (b : ℕ) (line : List ℕ) (by_return : Bool) (front : List LineWithEnd) (last : List ℕ) → is_line_feed b ≡ false → IsEnded (record { line = line; by_return = by_return }) → AllByRecursion IsEnded front → HasNoFeed last →
+    HasSpelling (b ∷ (spelling_of_line (record { line = line; by_return = by_return }) ++ flat_map spelling_of_line front ++ last))
 with-byte b line true front last other h ends open_end = record {
   front = record { line = b ∷ line; by_return = true } ∷ front;
   last = last;
@@ -57,13 +57,13 @@ with-byte b (c ∷ line) false front last other h ends open_end = record {
   no_feed = open_end;
   text = refl;
 }
-with-byte b [] false front last other h ends open_end = elim (b == 13) as (λ t. (b == 13) ≡ t → HasSpelling (b ∷ (10 ∷ flat_map spelled front ++ last))) [
+with-byte b [] false front last other h ends open_end = elim (b == 13) as (λ t. (b == 13) ≡ t → HasSpelling (b ∷ (10 ∷ flat_map spelling_of_line front ++ last))) [
   | true ↦ λ is. record {
     front = record { line = []; by_return = true } ∷ front;
     last = last;
     ended = (record { no_feed = refl; no_return = λ never. absurd cc }, ends);
     no_feed = open_end;
-    text = ap (λ (c : ℕ). c ∷ (10 ∷ flat_map spelled front ++ last)) ((Decides-eqb _ _).0 is);
+    text = ap (λ (c : ℕ). c ∷ (10 ∷ flat_map spelling_of_line front ++ last)) ((Decides-eqb _ _).0 is);
   }
   | false ↦ λ is. record {
     front = record { line = b ∷ []; by_return = false } ∷ front;
@@ -74,7 +74,7 @@ with-byte b [] false front last other h ends open_end = elim (b == 13) as (λ t.
   }
 ] refl
 
-front-byte : (b : ℕ) (bytes : List ℕ) (front : List Ended) (last : List ℕ) → is_line_feed b ≡ false → AllByRecursion IsEnded front → HasNoFeed last → bytes ≡ flat_map spelled front ++ last → HasSpelling (b ∷ bytes)
+front-byte : (b : ℕ) (bytes : List ℕ) (front : List LineWithEnd) (last : List ℕ) → is_line_feed b ≡ false → AllByRecursion IsEnded front → HasNoFeed last → bytes ≡ flat_map spelling_of_line front ++ last → HasSpelling (b ∷ bytes)
 front-byte b bytes [] last other ends open_end text = record {
   front = [];
   last = b ∷ last;

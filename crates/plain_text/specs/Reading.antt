@@ -2,6 +2,6 @@
 use Rattle.std.specs.Prelude.{ℕ, List}
 
 -- the bytes that are left, and how many lines were given
-pub record Reading : Type 0 where
+pub record LinesView : Type 0 where
   pub rest : List ℕ
   pub given : ℕ

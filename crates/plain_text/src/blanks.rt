@@ -1,11 +1,12 @@
 ghost use Rattle.std.specs.Prelude.{◌≡◌, ◌≤◌, length};
-ghost use Rattle.sdc_base.specs.Blanks.{is_blank, trim_back, trim_front, trim as trimmed, IsTrimmed};
+ghost use Rattle.sdc_base.specs.Blanks.{is_blank, trim_back, trim_front, IsTrimmed};
+ghost use Rattle.sdc_base.specs.Blanks as spec;
 
 /// The bytes without the blanks at both ends. A blank is a space or a tab; every other byte stays, a
 /// form feed and a CR among them. The call has no refusal, takes no memory and looks at the bytes that
 /// it drops and one at each end. The rule is argus's own.
 pub fn trim(bytes: &[u8]) -> &[u8]
-    ensures value { result.now ≡ trimmed bytes.now }
+    ensures value { result.now ≡ spec.trim bytes.now }
     ensures blanks { IsTrimmed bytes.now result.now }
     ensures within { length result.now ≤ length bytes.now }
 {

@@ -1,7 +1,8 @@
 ghost use Rattle.std.specs.Prelude.{◌≡◌, ◌+◌, ◌<◌, ◌≤◌, ◌↔◌, length, [], ◌∷◌, IsNone, IfNone, IfSome};
 ghost use Rattle.std.specs.List.{position_or_len};
 ghost use Rattle.std.specs.Str.Lines.{strip_carriage_return};
-ghost use Rattle.sdc_base.specs.Lines.{lines as lines_of, is_line_feed};
+ghost use Rattle.sdc_base.specs.Lines.{is_line_feed};
+ghost use Rattle.sdc_base.specs.Lines as spec;
 
 use std::marker::Model;
 
@@ -23,9 +24,9 @@ pub struct LineReader<'a> {
 
 impl<'a> Model for LineReader<'a> {
     ghost use Rattle.std.specs.Prelude.{List, ℕ, length, ◌+◌, ◌<◌, ◌^◌};
-    ghost use Rattle.plain_text.specs.Reading.{Reading};
+    ghost use Rattle.plain_text.specs.Reading.{LinesView};
 
-    ghost Value = { Reading };
+    ghost Value = { LinesView };
 
     ghost view = { λ s. record { rest = s.rest.now; given = s.given } };
 
@@ -37,7 +38,7 @@ impl<'a> Model for LineReader<'a> {
 /// memory. The rule is argus's own.
 pub fn lines<'a>(bytes: &'a [u8]) -> LineReader<'a>
     ensures start { result ≡ record { rest = bytes.now; given = 0 } }
-    ensures few { length (lines_of bytes.now) ≤ length bytes.now }
+    ensures few { length (spec.lines bytes.now) ≤ length bytes.now }
 {
     LineReader {
         rest: bytes,
@@ -50,14 +51,15 @@ impl<'a> LineReader<'a> {
     /// text in their order: a loop over this call is a loop over them. It has no refusal and takes no
     /// memory, and looks at the bytes of the line only.
     pub fn next_line(&mut self) -> Option<Line<'a>>
-        ensures end { IsNone result ↔ (lines_of self.old.rest ≡ []) }
+        ensures end { IsNone result ↔ (spec.lines self.old.rest ≡ []) }
         ensures same { IfNone result (self.new ≡ self.old) }
-        ensures text { IfSome result (λ line. lines_of self.old.rest ≡ line.text.now ∷ lines_of self.new.rest) }
+        ensures text { IfSome result (λ line. spec.lines self.old.rest ≡ line.text.now ∷ spec.lines self.new.rest) }
         ensures number { IfSome result (λ line. line.number ≡ self.old.given + 1) }
         ensures given { IfSome result (λ line. self.new.given ≡ line.number) }
         ensures bytes { IfSome result (λ line. length line.text.now + length self.new.rest ≤ length self.old.rest) }
         ensures shorter { IfSome result (λ _. length self.new.rest < length self.old.rest) }
-        ensures total { self.new.given + length (lines_of self.new.rest) ≡ self.old.given + length (lines_of self.old.rest) }
+        ensures total { self.new.given + length (spec.lines self.new.rest)
+            ≡ self.old.given + length (spec.lines self.old.rest) }
     {
         if self.rest.is_empty() {
             return None;
@@ -75,7 +77,7 @@ impl<'a> LineReader<'a> {
 // The first line, without its end, and what follows it.
 fn first_line(bytes: &[u8]) -> (&[u8], &[u8])
     requires { 0 < length bytes.now }
-    ensures line { lines_of bytes.now ≡ result.0.now ∷ lines_of result.1.now }
+    ensures line { spec.lines bytes.now ≡ result.0.now ∷ spec.lines result.1.now }
     ensures bytes { length result.0.now + length result.1.now ≤ length bytes.now }
     ensures shorter { length result.1.now < length bytes.now }
 {

@@ -2,7 +2,8 @@ ghost use Rattle.std.specs.Prelude.{◌≡◌, ◌+◌, ◌-◌, ◌*◌, ◌^�
 ghost use Rattle.std.specs.List.{position_or_len};
 ghost use Rattle.std.specs.Str.{all_ascii_digits};
 ghost use Rattle.std.specs.Str.Parse.{digits_value, digits_value_after};
-ghost use Rattle.sdc_base.specs.Numbers.{stray, whole, fraction, is_point, too_wide, narrow, units_of_parts, read_units as units_of};
+ghost use Rattle.sdc_base.specs.Numbers.{place_of_stray_byte, whole_digits, fraction, is_point, too_wide, number_within, units_of_parts};
+ghost use Rattle.sdc_base.specs.Numbers as spec;
 
 use sdc_base::NumberFault;
 
@@ -20,7 +21,7 @@ const TOO_WIDE: u128 = 10_000_000_000_000_000_000_000_000_000_000_000_000;
 pub fn read_units(bytes: &[u8], decimals: u8) -> Result<i128, NumberFault>
     requires decimals { decimals ≤ 13 }
     requires few { length bytes.now < 2 ^ 32 }
-    ensures value { result ≡ units_of bytes.now decimals }
+    ensures value { result ≡ spec.read_units bytes.now decimals }
     ensures from { IfOk result (λ units. pos 0 ≤ℤ units) }
     ensures below { IfOk result (λ units. units <ℤ pos too_wide) }
 {
@@ -57,7 +58,7 @@ fn value_of(front: &[u8], back: &[u8], zeros: usize) -> Option<u128>
     requires front { all_ascii_digits front.now ≡ true }
     requires back { all_ascii_digits back.now ≡ true }
     requires zeros { zeros ≤ 13 }
-    ensures value { result ≡ narrow (digits_value 10 ((front.now ++ back.now) ++ replicate zeros 48)) }
+    ensures value { result ≡ number_within (digits_value 10 ((front.now ++ back.now) ++ replicate zeros 48)) }
     ensures below { IfSome result (λ value. value < too_wide) }
 {
     let whole = value_after(0, front)?;
@@ -70,8 +71,8 @@ fn value_of(front: &[u8], back: &[u8], zeros: usize) -> Option<u128>
 
 // The bytes before the point.
 fn whole_part(bytes: &[u8]) -> &[u8]
-    ensures part { result.now ≡ whole bytes.now }
-    ensures digits { stray false bytes.now ≡ None → all_ascii_digits result.now ≡ true }
+    ensures part { result.now ≡ whole_digits bytes.now }
+    ensures digits { place_of_stray_byte false bytes.now ≡ None → all_ascii_digits result.now ≡ true }
 {
     &bytes[..point_of(bytes)]
 }
@@ -79,7 +80,7 @@ fn whole_part(bytes: &[u8]) -> &[u8]
 // The bytes after the point.
 fn fraction_part(bytes: &[u8]) -> &[u8]
     ensures part { result.now ≡ fraction bytes.now }
-    ensures digits { stray false bytes.now ≡ None → all_ascii_digits result.now ≡ true }
+    ensures digits { place_of_stray_byte false bytes.now ≡ None → all_ascii_digits result.now ≡ true }
 {
     let point = point_of(bytes);
     if point < bytes.len() {
@@ -90,7 +91,7 @@ fn fraction_part(bytes: &[u8]) -> &[u8]
 
 // The place of the first byte that is neither a digit nor the first point.
 fn first_stray(bytes: &[u8]) -> Option<usize>
-    ensures place { result ≡ stray false bytes.now }
+    ensures place { result ≡ place_of_stray_byte false bytes.now }
     ensures within { IfSome result (λ k. k < length bytes.now) }
 {
     let mut seen = false;
@@ -123,7 +124,7 @@ fn point_of(bytes: &[u8]) -> usize
 fn value_after(start: u128, digits: &[u8]) -> Option<u128>
     requires digits { all_ascii_digits digits.now ≡ true }
     requires narrow { start < too_wide }
-    ensures value { result ≡ narrow (digits_value_after 10 start digits.now) }
+    ensures value { result ≡ number_within (digits_value_after 10 start digits.now) }
     ensures within { IfSome result (λ value. value < too_wide) }
 {
     let mut value = start;

@@ -1,5 +1,6 @@
 ghost use Rattle.std.specs.Prelude.{◌≡◌, ◌+◌, ◌<◌, ◌≤◌, ◌++◌, IfOk, OnOk, Ok, pos, ◌≤ℤ◌, ◌<ℤ◌, unsigned_abs, replicate};
-ghost use Rattle.sdc_base.specs.Numbers.{padded, read_units as units_of, too_wide, units_text};
+ghost use Rattle.sdc_base.specs.Numbers.{padded_digits, too_wide, units_text};
+ghost use Rattle.sdc_base.specs.Numbers as spec;
 
 use sdc_base::{Memory, Text};
 use std::alloc::Global;
@@ -12,7 +13,7 @@ pub fn print_units(alloc: Global, value: i128, decimals: u8) -> Result<Text, Mem
     requires from { pos 0 ≤ℤ value }
     requires decimals { decimals ≤ 13 }
     ensures text { IfOk result (λ text. text ≡ units_text (unsigned_abs value) decimals) }
-    ensures read_back { value <ℤ pos too_wide → IfOk result (λ text. units_of text decimals ≡ Ok value) }
+    ensures read_back { value <ℤ pos too_wide → IfOk result (λ text. spec.read_units text decimals ≡ Ok value) }
 {
     let text = digits_with_point(alloc, value as u128, decimals)?;
     Ok(Text::new(text))
@@ -34,7 +35,7 @@ fn digits_with_point(alloc: Global, value: u128, decimals: u8) -> Result<Vec<u8>
 
 // Adds at least so many digits of a number, with zeros in front.
 fn add_digits(alloc: Global, text: &mut Vec<u8>, value: u128, places: usize) -> Result<(), Memory>
-    ensures { OnOk result (text.new.items ≡ text.old.items ++ padded places value) }
+    ensures { OnOk result (text.new.items ≡ text.old.items ++ padded_digits places value) }
 {
     let digits = value.to_string(alloc)?;
     let zeros = places.saturating_sub(digits.len());

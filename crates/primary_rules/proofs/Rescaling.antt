@@ -4,7 +4,7 @@ use Rattle.std.proofs.lemmas.Int.{ints, by_lt_z}
 use Rattle.std.proofs.Math.IntN.{*ℤ_comm}
 use Rattle.std.proofs.lemmas.List.Elements.{All-head, All-tail}
 use Rattle.sdc_base.proofs.WholeNumbers.{distrib, swap_times, minus_times, times_up, times_more}
-use Rattle.sdc_base.specs.RuleLevels.{Figures, divided, names, rest, wanted, rounded_up, IsRoundedUp, greater, upper_of, levels_up_to, level_of}
+use Rattle.sdc_base.specs.RuleLevels.{Figures, divided, names, rest_beside_two, wanted_level, rounded_up, IsRoundedUp, greater_number, upper_of, levels_up_to, level_of}
 use Rattle.sdc_base.specs.declared.rule.Rule.{Rule}
 use Rattle.sdc_base.specs.declared.rule.Rule.TheVariants as rule
 use Rattle.primary_rules.specs.Ranges.{IsInRange}
@@ -57,7 +57,7 @@ rounded_within t d over h under =
           absurd (omega (arith, ints, again)));
     }
 
-greater_within : (t : ℕ) (n m a b : ℤ) → 1 ≤ t → IsWithinRounding t n a → IsWithinRounding t m b → IsWithinRounding t (greater n (Some m)) (greater a (Some b))
+greater_within : (t : ℕ) (n m a b : ℤ) → 1 ≤ t → IsWithinRounding t n a → IsWithinRounding t m b → IsWithinRounding t (greater_number n (Some m)) (greater_number a (Some b))
 greater_within t n m a b h first second =
     let a_most : a ≤ℤ (pos t *ℤ n) = first.at_most in
     let b_most : b ≤ℤ (pos t *ℤ m) = second.at_most in
@@ -98,7 +98,7 @@ itself_within t n h =
 
 -- ---- one rule
 
-rest_rescaled : (t : ℕ) (cell other : Figures) → IsRescaled t cell other → rest other ≡ pos t *ℤ rest cell
+rest_rescaled : (t : ℕ) (cell other : Figures) → IsRescaled t cell other → rest_beside_two other ≡ pos t *ℤ rest_beside_two cell
 rest_rescaled t cell other are = rw (are.truth, are.largest 2) (omega (arith, ints, distrib (pos t) cell.truth (neg_ℤ (cell.largest 2)), times_minus t (cell.largest 2)))
 
 -- a difference of two parts in the new unit
@@ -112,22 +112,22 @@ names_rescaled t (rule.Nk n k) cell other h are =
     rw (are.truth, are.largest n, swap_times (pos k) (pos t) cell.truth, swap_times (pos 100) (pos t) (cell.largest n)) (less_rescaled t (pos k *ℤ cell.truth) (pos 100 *ℤ cell.largest n) h)
 names_rescaled t (rule.Percent p) cell other h are =
     ap (λ x. int_lt (pos 100 *ℤ x) (pos p *ℤ other.largest 1)) (rest_rescaled t cell other are)
-    ∙ rw (are.largest 1, swap_times (pos 100) (pos t) (rest cell), swap_times (pos p) (pos t) (cell.largest 1)) (less_rescaled t (pos 100 *ℤ rest cell) (pos p *ℤ cell.largest 1) h)
+    ∙ rw (are.largest 1, swap_times (pos 100) (pos t) (rest_beside_two cell), swap_times (pos p) (pos t) (cell.largest 1)) (less_rescaled t (pos 100 *ℤ rest_beside_two cell) (pos p *ℤ cell.largest 1) h)
 
-wanted_within : (t : ℕ) (one : Rule) (cell other : Figures) → 1 ≤ t → IsInRange one → IsRescaled t cell other → IsWithinRounding t (rounded_up (wanted one cell)) (rounded_up (wanted one other))
+wanted_within : (t : ℕ) (one : Rule) (cell other : Figures) → 1 ≤ t → IsInRange one → IsRescaled t cell other → IsWithinRounding t (rounded_up (wanted_level one cell)) (rounded_up (wanted_level one other))
 wanted_within t (rule.Freq n r) cell other h range are =
     let over : pos r *ℤ other.truth ≡ pos t *ℤ (pos r *ℤ cell.truth) = ap (λ x. pos r *ℤ x) are.truth ∙ swap_times (pos r) (pos t) cell.truth in
-    subst (λ x. IsWithinRounding t (rounded_up (wanted (rule.Freq n r) cell)) (rounded_up (divided x 100))) (sym over) (rounded_within t 100 (pos r *ℤ cell.truth) h (omega arith))
+    subst (λ x. IsWithinRounding t (rounded_up (wanted_level (rule.Freq n r) cell)) (rounded_up (divided x 100))) (sym over) (rounded_within t 100 (pos r *ℤ cell.truth) h (omega arith))
 wanted_within t (rule.Nk n k) cell other h range are =
     let over : pos 100 *ℤ other.largest n +ℤ neg_ℤ (pos k *ℤ other.truth) ≡ pos t *ℤ (pos 100 *ℤ cell.largest n +ℤ neg_ℤ (pos k *ℤ cell.truth)) =
     rw (are.truth, are.largest n) (part_rescaled t 100 k (cell.largest n) cell.truth) in
-    subst (λ x. IsWithinRounding t (rounded_up (wanted (rule.Nk n k) cell)) (rounded_up (divided x k))) (sym over) (rounded_within t k (pos 100 *ℤ cell.largest n +ℤ neg_ℤ (pos k *ℤ cell.truth)) h range.2)
+    subst (λ x. IsWithinRounding t (rounded_up (wanted_level (rule.Nk n k) cell)) (rounded_up (divided x k))) (sym over) (rounded_within t k (pos 100 *ℤ cell.largest n +ℤ neg_ℤ (pos k *ℤ cell.truth)) h range.2)
 wanted_within t (rule.Percent p) cell other h range are =
-    let over : pos p *ℤ other.largest 1 +ℤ neg_ℤ (pos 100 *ℤ rest other) ≡ pos t *ℤ (pos p *ℤ cell.largest 1 +ℤ neg_ℤ (pos 100 *ℤ rest cell)) =
+    let over : pos p *ℤ other.largest 1 +ℤ neg_ℤ (pos 100 *ℤ rest_beside_two other) ≡ pos t *ℤ (pos p *ℤ cell.largest 1 +ℤ neg_ℤ (pos 100 *ℤ rest_beside_two cell)) =
     ap (λ x. pos p *ℤ other.largest 1 +ℤ neg_ℤ (pos 100 *ℤ x)) (rest_rescaled t cell other are)
-    ∙ ap (λ x. pos p *ℤ x +ℤ neg_ℤ (pos 100 *ℤ (pos t *ℤ rest cell))) (are.largest 1)
-    ∙ part_rescaled t p 100 (cell.largest 1) (rest cell) in
-    subst (λ x. IsWithinRounding t (rounded_up (wanted (rule.Percent p) cell)) (rounded_up (divided x 100))) (sym over) (rounded_within t 100 (pos p *ℤ cell.largest 1 +ℤ neg_ℤ (pos 100 *ℤ rest cell)) h (omega arith))
+    ∙ ap (λ x. pos p *ℤ x +ℤ neg_ℤ (pos 100 *ℤ (pos t *ℤ rest_beside_two cell))) (are.largest 1)
+    ∙ part_rescaled t p 100 (cell.largest 1) (rest_beside_two cell) in
+    subst (λ x. IsWithinRounding t (rounded_up (wanted_level (rule.Percent p) cell)) (rounded_up (divided x 100))) (sym over) (rounded_within t 100 (pos p *ℤ cell.largest 1 +ℤ neg_ℤ (pos 100 *ℤ rest_beside_two cell)) h (omega arith))
 
 -- ---- all rules
 
@@ -137,10 +137,10 @@ UpWithin t None (Some other) = ⊥
 UpWithin t (Some level) None = ⊥
 UpWithin t (Some level) (Some other) = IsWithinRounding t level other
 
-greatest_within : (t : ℕ) (one other rest more : Option ℤ) → 1 ≤ t → UpWithin t one other → UpWithin t rest more → UpWithin t (greater_of one rest) (greater_of other more)
-greatest_within t None None rest more h first second = second
-greatest_within t None (Some a) rest more h first second = absurd first
-greatest_within t (Some n) None rest more h first second = absurd first
+greatest_within : (t : ℕ) (one other rest_beside_two more : Option ℤ) → 1 ≤ t → UpWithin t one other → UpWithin t rest_beside_two more → UpWithin t (greater_of one rest_beside_two) (greater_of other more)
+greatest_within t None None rest_beside_two more h first second = second
+greatest_within t None (Some a) rest_beside_two more h first second = absurd first
+greatest_within t (Some n) None rest_beside_two more h first second = absurd first
 greatest_within t (Some n) (Some a) None None h first second = first
 greatest_within t (Some n) (Some a) None (Some b) h first second = absurd second
 greatest_within t (Some n) (Some a) (Some m) None h first second = absurd second
@@ -148,8 +148,8 @@ greatest_within t (Some n) (Some a) (Some m) (Some b) h first second = greater_w
 
 one_within : (t : ℕ) (one : Rule) (cell other : Figures) → 1 ≤ t → IsInRange one → IsRescaled t cell other → UpWithin t (up_by one cell) (up_by one other)
 one_within t one cell other h range are =
-    let low : ℤ = rounded_up (wanted one cell) in
-    let high : ℤ = rounded_up (wanted one other) in
+    let low : ℤ = rounded_up (wanted_level one cell) in
+    let high : ℤ = rounded_up (wanted_level one other) in
     let within : IsWithinRounding t low high = wanted_within t one cell other h range are in
     subst (λ b. UpWithin t (up_by one cell) (if b then Some high else None)) (sym (names_rescaled t one cell other h are))
     (elim (names one cell) as (λ b. UpWithin t (if b then Some low else None) (if b then Some high else None)) [ true ↦ within | false ↦ tt ])

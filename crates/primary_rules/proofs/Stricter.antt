@@ -3,7 +3,7 @@ use Rattle.std.proofs.Common.{◌≡◌, ℕ, ◌≤◌, ◌++◌, true, false, 
 use Rattle.std.proofs.lemmas.Int.{ints}
 use Rattle.std.proofs.Math.IntN.{*ℤ_comm}
 use Rattle.sdc_base.proofs.WholeNumbers.{distrib, times_up}
-use Rattle.sdc_base.specs.RuleLevels.{Figures, divided, names, rest, wanted, rounded_up, IsRoundedUp, greater, upper_of, levels_up_to}
+use Rattle.sdc_base.specs.RuleLevels.{Figures, divided, names, rest_beside_two, wanted_level, rounded_up, IsRoundedUp, greater_number, upper_of, levels_up_to}
 use Rattle.sdc_base.specs.declared.rule.Rule.{Rule}
 use Rattle.sdc_base.specs.declared.rule.Rule.TheVariants as rule
 use Rattle.primary_rules.specs.Ranges.{IsInRange}
@@ -46,7 +46,7 @@ stricter_wants_more (rule.Nk n k) (rule.Nk m l) cell here there from stricter na
     (grind (arith, ints, named, hundred, bound), share_more k l cell.truth (pos 100 *ℤ cell.largest n) (pos 100 *ℤ cell.largest m) there.2 stricter.1 from.truth hundred)
 stricter_wants_more (rule.Percent p) (rule.Percent q) cell here there from stricter named =
     let more : (pos p *ℤ cell.largest 1) ≤ℤ (pos q *ℤ cell.largest 1) = times_of p q (cell.largest 1) stricter (from.largest 1) in
-    (grind (arith, ints, named, more), rounded_more (pos p *ℤ cell.largest 1 +ℤ neg_ℤ (pos 100 *ℤ rest cell)) (pos q *ℤ cell.largest 1 +ℤ neg_ℤ (pos 100 *ℤ rest cell)) 100 (omega arith) (omega (arith, ints, more)))
+    (grind (arith, ints, named, more), rounded_more (pos p *ℤ cell.largest 1 +ℤ neg_ℤ (pos 100 *ℤ rest_beside_two cell)) (pos q *ℤ cell.largest 1 +ℤ neg_ℤ (pos 100 *ℤ rest_beside_two cell)) 100 (omega arith) (omega (arith, ints, more)))
 stricter_wants_more one other cell here there from stricter named = absurd stricter
 
 -- ---- levels that are there where others are, and no lower
@@ -60,18 +60,18 @@ rises_itself : (up : Option ℤ) → RisesTo up up
 rises_itself None = tt
 rises_itself (Some n) = omega (arith, ints)
 
-greater_left : (n m : ℤ) → n ≤ℤ greater n (Some m)
+greater_left : (n m : ℤ) → n ≤ℤ greater_number n (Some m)
 greater_left n m = grind (arith, ints)
 
-greater_both : (n m a b : ℤ) → n ≤ℤ a → m ≤ℤ b → greater n (Some m) ≤ℤ greater a (Some b)
+greater_both : (n m a b : ℤ) → n ≤ℤ a → m ≤ℤ b → greater_number n (Some m) ≤ℤ greater_number a (Some b)
 greater_both n m a b h k = grind (arith, ints, h, k)
 
-rises_in_turn : (one other rest more : Option ℤ) → RisesTo one other → RisesTo rest more → RisesTo (greater_of one rest) (greater_of other more)
-rises_in_turn None None rest more h k = k
+rises_in_turn : (one other rest_beside_two more : Option ℤ) → RisesTo one other → RisesTo rest_beside_two more → RisesTo (greater_of one rest_beside_two) (greater_of other more)
+rises_in_turn None None rest_beside_two more h k = k
 rises_in_turn None (Some a) None more h k = tt
 rises_in_turn None (Some a) (Some m) None h k = absurd k
 rises_in_turn None (Some a) (Some m) (Some b) h k = grind (arith, ints, k)
-rises_in_turn (Some n) None rest more h k = absurd h
+rises_in_turn (Some n) None rest_beside_two more h k = absurd h
 rises_in_turn (Some n) (Some a) None None h k = h
 rises_in_turn (Some n) (Some a) None (Some b) h k = grind (arith, ints, h)
 rises_in_turn (Some n) (Some a) (Some m) None h k = absurd k
@@ -79,8 +79,8 @@ rises_in_turn (Some n) (Some a) (Some m) (Some b) h k = greater_both n m a b h k
 
 one_rises : (one other : Rule) (cell : Figures) → IsInRange one → IsInRange other → AreFromZero cell → IsStricter one other → RisesTo (up_by one cell) (up_by other cell)
 one_rises one other cell here there from stricter =
-    let low : ℤ = rounded_up (wanted one cell) in
-    let high : ℤ = rounded_up (wanted other cell) in
+    let low : ℤ = rounded_up (wanted_level one cell) in
+    let high : ℤ = rounded_up (wanted_level other cell) in
     elim (names one cell) as (λ b. names one cell ≡ b → RisesTo (if b then Some low else None) (up_by other cell)) [
       | true ↦ λ is.
           let more = stricter_wants_more one other cell here there from stricter (grind (arith, is)) in

@@ -1,7 +1,7 @@
 pub mod Ranges
 pub mod OneRule
 pub mod Naming
-pub mod Kept
+pub mod EnoughForRules
 pub mod Units
 pub mod Strictness
 pub mod Contributors

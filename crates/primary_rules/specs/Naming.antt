@@ -1,16 +1,16 @@
 -- Where rules name a cell, and which levels it then has, in words of their own (handbook, sensitivity rules; the words: own).
 use Rattle.std.specs.Prelude.{◌≡◌, ◌↔◌, ◌≤◌, ◌<◌, ◌⊎◌, false, IsTrue, List, All, Any, None, Some, ℤ, pos, ◌*ℤ◌, ◌≤ℤ◌, ◌<ℤ◌}
-use Rattle.sdc_base.specs.RuleLevels.{Figures, Fraction, names, rest, wanted, rounded_up, IsRoundedUp, level_of}
+use Rattle.sdc_base.specs.RuleLevels.{Figures, Fraction, names, rest_beside_two, wanted_level, rounded_up, IsRoundedUp, level_of}
 use Rattle.sdc_base.specs.declared.facts.Levels.{Levels}
 use Rattle.sdc_base.specs.declared.rule.Rule.{Rule}
 use Rattle.sdc_base.specs.declared.rule.Rule.TheVariants as rule
 
--- The inequality under which a rule names a cell. Each is strict. Not: a cell that meets its bound exactly, or under FREQ one
--- without records.
+-- The inequality under which a rule names a cell. Each is strict. Not: a cell that meets its bound exactly, or under
+-- FREQ one without records.
 abbrev pub Discloses : Rule → Figures → Type 0
 Discloses (rule.Freq n r) cell = (1 ≤ cell.freq) × (cell.freq < n)
 Discloses (rule.Nk n k) cell = (pos k *ℤ cell.truth) <ℤ (pos 100 *ℤ cell.largest n)
-Discloses (rule.Percent p) cell = (pos 100 *ℤ rest cell) <ℤ (pos p *ℤ cell.largest 1)
+Discloses (rule.Percent p) cell = (pos 100 *ℤ rest_beside_two cell) <ℤ (pos p *ℤ cell.largest 1)
 
 -- a rule names exactly the cells for which its inequality holds
 abbrev pub NamesWhereDisclosing : Type 0
@@ -24,17 +24,20 @@ RoundingIsLeast = (q : Fraction) (level : ℤ) → 1 ≤ q.under → (level ≡ 
 abbrev pub IsLesser : ℤ → ℤ → ℤ → Type 0
 IsLesser n a b = (n ≤ℤ a) × (n ≤ℤ b) × ((n ≡ a) ⊎ (n ≡ b))
 
--- The upper level is what one of the rules wants that name the cell, and none of them wants more; the lower level is the
--- lesser of the upper one and the truth.
+-- The upper level is what one of the rules wants that name the cell, and none of them wants more; the lower level is
+-- the lesser of the upper one and the truth.
 pub record AreGreatest (rules : List Rule) (cell : Figures) (levels : Levels) : Type 0 where
-  pub by_one : Any (λ one. IsTrue (names one cell) × (levels.up ≡ rounded_up (wanted one cell))) rules
-  pub most : All (λ one. IsTrue (names one cell) → rounded_up (wanted one cell) ≤ℤ levels.up) rules
+  pub by_one : Any (λ one. IsTrue (names one cell) × (levels.up ≡ rounded_up (wanted_level one cell))) rules
+  pub most : All (λ one. IsTrue (names one cell) → rounded_up (wanted_level one cell) ≤ℤ levels.up) rules
   pub down : IsLesser levels.down levels.up cell.truth
 
 -- a cell has no levels exactly where no rule names it
 abbrev pub NoneWhereNoneNames : Type 0
-NoneWhereNoneNames = (rules : List Rule) (cell : Figures) → (level_of rules cell ≡ None) ↔ All (λ one. names one cell ≡ false) rules
+NoneWhereNoneNames =
+    (rules : List Rule) (cell : Figures) → (level_of rules cell ≡ None) ↔ All (λ one. names one cell ≡ false) rules
 
 -- the levels of a cell are the greatest of the rules that name it
 abbrev pub LevelsAreGreatest : Type 0
-LevelsAreGreatest = (rules : List Rule) (cell : Figures) (levels : Levels) → level_of rules cell ≡ Some levels → AreGreatest rules cell levels
+LevelsAreGreatest =
+    (rules : List Rule) (cell : Figures) (levels : Levels) → level_of rules cell ≡ Some levels
+    → AreGreatest rules cell levels

@@ -29,8 +29,8 @@ most_truth = 10 ^ 29
 abbrev pub most_level : ℕ
 most_level = 10 ^ 31
 
--- A rule's numbers are in their ranges: FREQ(n,r) with n from 1 to 1,000,000 records and r from 0 to 1,000 percent; NK(n,k)
--- with n from 1 to 10 contributions and k from 1 to 100 percent; P(p) with p from 1 to 1,000 percent.
+-- A rule's numbers are in their ranges: FREQ(n,r) with n from 1 to 1,000,000 records and r from 0 to 1,000 percent;
+-- NK(n,k) with n from 1 to 10 contributions and k from 1 to 100 percent; P(p) with p from 1 to 1,000 percent.
 abbrev pub IsInRange : Rule → Type 0
 IsInRange (rule.Freq n r) = (1 ≤ n) × (n ≤ most_records) × (r ≤ most_percent)
 IsInRange (rule.Nk n k) = (1 ≤ n) × (n ≤ most_contributions) × (1 ≤ k) × (k ≤ whole_share)

@@ -1,7 +1,7 @@
 //! Laws of the rules, each the contract of a function with an empty body.
 
 ghost use Rattle.primary_rules.specs.Naming.{NamesWhereDisclosing, RoundingIsLeast, NoneWhereNoneNames, LevelsAreGreatest};
-ghost use Rattle.primary_rules.specs.Kept.{KeptAreEnough};
+ghost use Rattle.primary_rules.specs.EnoughForRules.{KeptAreEnough};
 ghost use Rattle.primary_rules.specs.Units.{UnitsChangeNoNaming, RecordsAreRescaled};
 ghost use Rattle.primary_rules.specs.Strictness.{StricterWantsMore, StricterLowersNone, FurtherLowersNone, MoreLowersNoManual, ValuesFromZeroAreEnough};
 ghost use Rattle.primary_rules.specs.Contributors.{FurtherIsNotNamed};
@@ -35,15 +35,15 @@ pub fn kept_are_enough()
     ensures { KeptAreEnough }
 {}
 
-/// Where all values are written in a smaller unit, truth and largest contributions are, and the same cells are named; the
-/// levels stay but for rounding.
+/// Where all values are written in a smaller unit, truth and largest contributions are, and the same cells are named;
+/// the levels stay but for rounding.
 pub fn units_change_no_naming()
     ensures records { RecordsAreRescaled }
     ensures levels { UnitsChangeNoNaming }
 {}
 
-/// A stricter rule names more cells and wants them more open, in a list of rules too; a further rule lowers no level, nor
-/// does a greater percentage for cells that are declared unsafe.
+/// A stricter rule names more cells and wants them more open, in a list of rules too; a further rule lowers no level,
+/// nor does a greater percentage for cells that are declared unsafe.
 pub fn stricter_lowers_none()
     ensures wants { StricterWantsMore }
     ensures among_rules { StricterLowersNone }

@@ -3,10 +3,10 @@ ghost use Rattle.std.specs.Option.{ForSome};
 ghost use Rattle.sdc_base.specs.Trees.{Tree};
 ghost use Rattle.sdc_base.specs.Records.{Name};
 ghost use Rattle.sdc_base.specs.declared.rows.Row.{Row};
-ghost use Rattle.sdc_base.specs.RuleLevels.{told, figures_in, upper_of, level_of, manual_of, keep_of, looks_at, levels_up_to};
+ghost use Rattle.sdc_base.specs.RuleLevels.{figures_of_facts, figures_in, upper_of, level_of, manual_of, keep_of, looks_at, levels_up_to};
 ghost use Rattle.primary_rules.specs.Ranges.{IsInRange, AreInRange, IsTruth, IsUpper, AreLevels};
 ghost use Rattle.primary_rules.specs.OneRule.{greater_of};
-ghost use Rattle.primary_rules.specs.Kept.{AreFactsOf};
+ghost use Rattle.primary_rules.specs.EnoughForRules.{AreFactsOf};
 
 use crate::naming::up_under;
 use crate::quotient::{hundredths, up_from};
@@ -22,17 +22,19 @@ use sdc_base::{CellFacts, Levels, Rule, Rules};
 /// is the upper level, and the lesser of it and the truth the lower one.
 ///
 /// The rules must be in their ranges, the truth from 0 to `10^29` units, and the facts must keep at least [`keep`]
-/// contributions. Where the facts are those of a cell over records, so are the levels. Nothing is refused, and no memory
-/// is taken. It takes time in proportion to the rules times the contributions that are kept.
+/// contributions. Where the facts are those of a cell over records, so are the levels. Nothing is refused, and no
+/// memory is taken. It takes time in proportion to the rules times the contributions that are kept.
 ///
-/// The rules and what they want are the handbook's (sensitivity rules); rounding and the lower level are this project's own.
+/// The rules and what they want are the handbook's (sensitivity rules); rounding and the lower level are this project's
+/// own.
 pub fn level(rules: &Rules, facts: &CellFacts) -> Option<Levels>
     requires in_range { AreInRange rules.now }
     requires truth { IsTruth facts.now.truth }
     requires kept { keep_of rules.now.list ≤ facts.now.tops.keep }
     ensures levels { ForSome result (AreLevels facts.now.truth) }
-    ensures told { result ≡ level_of rules.now.list (told facts.now) }
-    ensures over_records { (trees : List Tree) (name : Name) (rows : List Row) → AreFactsOf facts.now trees name rows → result ≡ level_of rules.now.list (figures_in trees name rows facts.now.tops.scale) }
+    ensures told { result ≡ level_of rules.now.list (figures_of_facts facts.now) }
+    ensures over_records { (trees : List Tree) (name : Name) (rows : List Row) → AreFactsOf facts.now trees name rows
+        → result ≡ level_of rules.now.list (figures_in trees name rows facts.now.tops.scale) }
 {
     levels_by(rules.list.as_slice(), facts)
 }
@@ -42,7 +44,7 @@ fn levels_by(rules: &[Rule], facts: &CellFacts) -> Option<Levels>
     requires in_range { All IsInRange rules.now }
     requires truth { IsTruth facts.now.truth }
     ensures levels { ForSome result (AreLevels facts.now.truth) }
-    ensures value { result ≡ level_of rules.now (told facts.now) }
+    ensures value { result ≡ level_of rules.now (figures_of_facts facts.now) }
 {
     let up = greatest(rules, facts)?;
     Some(up_to(up, facts.truth))
@@ -53,7 +55,7 @@ fn greatest(rules: &[Rule], facts: &CellFacts) -> Option<i128>
     requires in_range { All IsInRange rules.now }
     requires truth { IsTruth facts.now.truth }
     ensures level { ForSome result IsUpper }
-    ensures value { result ≡ upper_of rules.now (told facts.now) }
+    ensures value { result ≡ upper_of rules.now (figures_of_facts facts.now) }
 {
     let mut most = None;
     for rule in rules {
@@ -74,11 +76,11 @@ fn greater(one: Option<i128>, other: Option<i128>) -> Option<i128>
     Some(if n < m { m } else { n })
 }
 
-/// The levels of a cell of this truth that is declared unsafe, in units: `man` percent of the truth, rounded up to a unit
-/// and at least 1, and the lesser of that and the truth.
+/// The levels of a cell of this truth that is declared unsafe, in units: `man` percent of the truth, rounded up to a
+/// unit and at least 1, and the lesser of that and the truth.
 ///
-/// The rules must be in their ranges, and the truth from 0 to `10^29` units. Nothing is refused, and no memory is taken. It
-/// takes the same time for all truths.
+/// The rules must be in their ranges, and the truth from 0 to `10^29` units. Nothing is refused, and no memory is
+/// taken. It takes the same time for all truths.
 ///
 /// The percentage is that of `MAN` in a job, 20 where there is none (this project's own default).
 pub fn manual(rules: &Rules, truth: i128) -> Levels
@@ -103,10 +105,11 @@ fn up_to(up: i128, truth: i128) -> Levels
     }
 }
 
-/// How many of the largest contributions the rules look at: the greatest `n` of the dominance rules, and 2 at least, from 2
-/// to 10. Facts that keep so many are enough for [`level`].
+/// How many of the largest contributions the rules look at: the greatest `n` of the dominance rules, and 2 at least,
+/// from 2 to 10. Facts that keep so many are enough for [`level`].
 ///
-/// The rules must be in their ranges. Nothing is refused, and no memory is taken. It takes time in proportion to the rules.
+/// The rules must be in their ranges. Nothing is refused, and no memory is taken. It takes time in proportion to the
+/// rules.
 ///
 /// The two are those of the handbook's p-percent rule; to keep two for every other rule too is this project's own.
 pub fn keep(rules: &Rules) -> u8

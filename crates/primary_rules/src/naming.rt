@@ -1,6 +1,6 @@
 ghost use Rattle.std.specs.Prelude.{◌≡◌, ◌^◌, pos, neg_ℤ, ◌≤ℤ◌};
 ghost use Rattle.std.specs.Option.{ForSome};
-ghost use Rattle.sdc_base.specs.RuleLevels.{told, rest};
+ghost use Rattle.sdc_base.specs.RuleLevels.{figures_of_facts, rest_beside_two};
 ghost use Rattle.sdc_base.specs.declared.rule.Rule.TheVariants as rule;
 ghost use Rattle.primary_rules.specs.Ranges.{IsInRange, IsTruth, IsUpper};
 ghost use Rattle.primary_rules.specs.OneRule.{up_by};
@@ -13,7 +13,7 @@ pub(crate) fn up_under(rule: Rule, facts: &CellFacts) -> Option<i128>
     requires in_range { IsInRange rule }
     requires truth { IsTruth facts.now.truth }
     ensures level { ForSome result IsUpper }
-    ensures value { result ≡ up_by rule (told facts.now) }
+    ensures value { result ≡ up_by rule (figures_of_facts facts.now) }
 {
     match rule {
         Rule::Freq { n, r } => by_frequency(n, r, facts),
@@ -27,7 +27,7 @@ fn by_frequency(n: u32, r: u32, facts: &CellFacts) -> Option<i128>
     requires in_range { IsInRange (rule.Freq n r) }
     requires truth { IsTruth facts.now.truth }
     ensures level { ForSome result IsUpper }
-    ensures value { result ≡ up_by (rule.Freq n r) (told facts.now) }
+    ensures value { result ≡ up_by (rule.Freq n r) (figures_of_facts facts.now) }
 {
     if is_too_few(facts.freq, n) {
         Some(up_from(hundredths(r, facts.truth), 100))
@@ -41,7 +41,7 @@ fn by_dominance(n: u8, k: u32, facts: &CellFacts) -> Option<i128>
     requires in_range { IsInRange (rule.Nk n k) }
     requires truth { IsTruth facts.now.truth }
     ensures level { ForSome result IsUpper }
-    ensures value { result ≡ up_by (rule.Nk n k) (told facts.now) }
+    ensures value { result ≡ up_by (rule.Nk n k) (figures_of_facts facts.now) }
 {
     let largest = hundredths(100, facts.tops.sum_of_largest(n));
     let bound = hundredths(k, facts.truth);
@@ -53,7 +53,7 @@ fn by_percent(p: u32, facts: &CellFacts) -> Option<i128>
     requires in_range { IsInRange (rule.Percent p) }
     requires truth { IsTruth facts.now.truth }
     ensures level { ForSome result IsUpper }
-    ensures value { result ≡ up_by (rule.Percent p) (told facts.now) }
+    ensures value { result ≡ up_by (rule.Percent p) (figures_of_facts facts.now) }
 {
     let rest = hundredths(100, rest_of(facts));
     let bound = hundredths(p, facts.tops.sum_of_largest(1));
@@ -63,7 +63,7 @@ fn by_percent(p: u32, facts: &CellFacts) -> Option<i128>
 // What the truth has beside the two largest contributions.
 fn rest_of(facts: &CellFacts) -> i128
     requires truth { IsTruth facts.now.truth }
-    ensures value { result ≡ rest (told facts.now) }
+    ensures value { result ≡ rest_beside_two (figures_of_facts facts.now) }
     ensures low { neg_ℤ (pos (2 ^ 80)) ≤ℤ result }
     ensures high { result ≤ℤ pos (2 ^ 100) }
 {

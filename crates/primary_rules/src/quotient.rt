@@ -38,7 +38,8 @@ pub(crate) fn excess(amount: i128, bound: i128, under: u32) -> Option<i128>
     requires bound_high { bound ≤ℤ pos (2 ^ 120) }
     requires most { (amount +ℤ neg_ℤ bound) ≤ℤ pos most_level }
     ensures level { ForSome result IsUpper }
-    ensures value { result ≡ (if int_lt bound amount then Some (rounded_up (divided (amount +ℤ neg_ℤ bound) under)) else None) }
+    ensures value { result ≡ (if int_lt bound amount then Some (rounded_up (divided (amount +ℤ neg_ℤ bound) under))
+        else None) }
 {
     if amount > bound {
         Some(up_from(amount - bound, under))

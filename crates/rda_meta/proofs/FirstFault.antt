@@ -5,13 +5,13 @@ use Rattle.sdc_base.specs.Blanks.{trim}
 use Rattle.sdc_base.specs.Lines.{lines}
 use Rattle.sdc_base.specs.Steps.{◌>>=◌}
 use Rattle.rda_meta.specs.Faults.{at_line}
-use Rattle.rda_meta.specs.Metadata.{text_says, lines_say, no_clash, nothing, meta_of}
+use Rattle.rda_meta.specs.Metadata.{text_says, lines_say, no_clash, no_lines, meta_of}
 use Rattle.sdc_base.proofs.StepLemmas.{bind_err}
 use Rattle.rda_meta.specs.declared.faults.MetaWhy.{MetaWhy}
 use Rattle.rda_meta.specs.declared.faults.MetaWhy.TheVariants.{Clash}
 use Rattle.rda_meta.specs.declared.entry.Entry.{Entry}
 use Rattle.rda_meta.specs.declared.entry.SoFar.{SoFar}
-use Rattle.rda_meta.specs.Said.{is_clashing}
+use Rattle.rda_meta.specs.LineSettings.{is_clashing}
 use Rattle.rda_meta.specs.Laws.{IsLineFault, IsClash}
 
 abbrev Faulty : ℕ → SoFar → List (List ℕ) → ℕ → MetaWhy → Type 0
@@ -48,8 +48,8 @@ first-clash (e ∷ es) line why h =
 pub in_order : (bytes : List ℕ) (line : ℕ) (why : MetaWhy) → meta_of bytes ≡ Err (line, why) → IsLineFault (lines bytes) line why ⊎ IsClash (lines bytes) line why
 unfolding meta_of
 in_order bytes line why h =
-    elim (bind_err (lines_say 0 nothing (lines bytes)) _ (line, why) h) [
-      | inl failed ↦ inl (let f = first-fault 0 nothing (lines bytes) line why failed in (f.0, f.1, f.2, omega (arith, f.3), f.4, f.5, f.6))
+    elim (bind_err (lines_say 0 no_lines (lines bytes)) _ (line, why) h) [
+      | inl failed ↦ inl (let f = first-fault 0 no_lines (lines bytes) line why failed in (f.0, f.1, f.2, omega (arith, f.3), f.4, f.5, f.6))
       | inr (all, said, rest) ↦
           elim (bind_err (no_clash all.entries) _ (line, why) rest) [
             | inl clash ↦ inr (let c = first-clash all.entries line why clash in (all, c.0, c.1, said, c.2, c.3))

@@ -9,7 +9,7 @@ use Rattle.sdc_base.specs.Steps.{◌>>=◌, or_fault, refuse, map_ok}
 use Rattle.rda_meta.specs.Faults.{at_line}
 use Rattle.rda_meta.specs.VariableLines.{name_at, number_at, is_past, missing_of, is_named, variable_at}
 use Rattle.rda_meta.specs.KeywordLines.{is_close, keyword_in, last_of, is_again, setting_in, with_setting}
-use Rattle.rda_meta.specs.Metadata.{after_setting, after_variable, keyword_line, variable_line, text_says, lines_say, no_clash, variable_of, nothing, meta_of}
+use Rattle.rda_meta.specs.Metadata.{after_setting, after_variable, keyword_line, variable_line, text_says, lines_say, no_clash, variable_of, no_lines, meta_of}
 use Rattle.sdc_base.proofs.StepLemmas.{bind_same, map_bind}
 use Rattle.rda_meta.specs.declared.faults.MetaWhy.{MetaWhy}
 use Rattle.rda_meta.specs.declared.faults.MetaWhy.TheVariants.{BadName, BadPlace, Twice, TooMany, Clash}
@@ -22,7 +22,7 @@ use Rattle.rda_meta.specs.declared.meta.Meta.{Meta}
 use Rattle.rda_meta.specs.Words.{words}
 use Rattle.rda_meta.specs.Keywords.{is_passed, same_keyword}
 use Rattle.rda_meta.specs.Arguments.{argument_of}
-use Rattle.rda_meta.specs.Said.{says, is_clashing}
+use Rattle.rda_meta.specs.LineSettings.{has_keyword, is_clashing}
 use Rattle.rda_meta.specs.Laws.{is_dark_line, dark_lines, but_for_line}
 
 abbrev pub unnumbered : Entry → Entry
@@ -57,12 +57,12 @@ named-unnumbered : (name : List ℕ) (es : List Entry) → is_named name (all_un
 named-unnumbered name [] = refl
 named-unnumbered name (e ∷ es) = ap (λ t. bytes_eq e.name name || t) (named-unnumbered name es)
 
-weight-unnumbered : (es : List Entry) → list_any (λ e. says Weight e.said) (all_unnumbered es) ≡ list_any (λ e. says Weight e.said) es
+weight-unnumbered : (es : List Entry) → list_any (λ e. has_keyword Weight e.said) (all_unnumbered es) ≡ list_any (λ e. has_keyword Weight e.said) es
 weight-unnumbered [] = refl
-weight-unnumbered (e ∷ es) = ap (λ t. says Weight e.said || t) (weight-unnumbered es)
+weight-unnumbered (e ∷ es) = ap (λ t. has_keyword Weight e.said || t) (weight-unnumbered es)
 
 again-unnumbered : (keyword : Keyword) (e : Entry) (es : List Entry) → is_again keyword (unnumbered e) (all_unnumbered es) ≡ is_again keyword e es
-again-unnumbered keyword e es = ap (λ t. cond (same_keyword keyword Weight) t (says keyword e.said)) (weight-unnumbered es)
+again-unnumbered keyword e es = ap (λ t. cond (same_keyword keyword Weight) t (has_keyword keyword e.said)) (weight-unnumbered es)
 
 setting-unnumbered : (setting : Setting) (es : List Entry) → all_unnumbered (with_setting setting es) ≡ with_setting setting (all_unnumbered es)
 setting-unnumbered setting [] = refl
@@ -187,14 +187,14 @@ made-outcome : (r : Result SoFar (ℕ × MetaWhy)) → (but_for_line r >>= made)
 made-outcome (Ok all) = made-unnumbered all
 made-outcome (Err fault) = refl
 
-pub meta-plainly : (bytes : List ℕ) → but_for_line (meta_of bytes) ≡ (plainly nothing (dark_lines bytes) >>= made)
+pub meta-plainly : (bytes : List ℕ) → but_for_line (meta_of bytes) ≡ (plainly no_lines (dark_lines bytes) >>= made)
 unfolding meta_of
 meta-plainly bytes =
-    let all = lines_say 0 nothing (lines bytes) in
-    but-bind all _ ∙ bind_same (but_for_line all) _ _ (λ x. but-bind (no_clash x.entries) _) ∙ made-outcome all ∙ ap (λ r. r >>= made) (lines-plainly 0 nothing (lines bytes))
+    let all = lines_say 0 no_lines (lines bytes) in
+    but-bind all _ ∙ bind_same (but_for_line all) _ _ (λ x. but-bind (no_clash x.entries) _) ∙ made-outcome all ∙ ap (λ r. r >>= made) (lines-plainly 0 no_lines (lines bytes))
 
 pub lenient : (a b : List ℕ) → dark_lines a ≡ dark_lines b → but_for_line (meta_of a) ≡ but_for_line (meta_of b)
-lenient a b same = meta-plainly a ∙ ap (λ (ts : List (List ℕ)). plainly nothing ts >>= made) same ∙ sym (meta-plainly b)
+lenient a b same = meta-plainly a ∙ ap (λ (ts : List (List ℕ)). plainly no_lines ts >>= made) same ∙ sym (meta-plainly b)
 
 -- ---- with the numbers
 
@@ -211,4 +211,4 @@ trimmed-say before s (x ∷ a) (y ∷ b) same =
 
 pub lenient_to_ends : (a b : List ℕ) → map trim (lines a) ≡ map trim (lines b) → meta_of a ≡ meta_of b
 unfolding meta_of
-lenient_to_ends a b same = ap (λ r. r >>= λ all. no_clash all.entries >>= λ fine. Ok (record { variables = map variable_of all.entries; passed_over = all.passed_over })) (trimmed-say 0 nothing (lines a) (lines b) same)
+lenient_to_ends a b same = ap (λ r. r >>= λ all. no_clash all.entries >>= λ fine. Ok (record { variables = map variable_of all.entries; passed_over = all.passed_over })) (trimmed-say 0 no_lines (lines a) (lines b) same)

@@ -1,7 +1,7 @@
 -- Metadata are the same with every kind of line ends.
 use Rattle.std.proofs.Common.{ℕ, List, [], ◌∷◌, ◌++◌, map, ap, sym, ◌∙◌}
 use Rattle.std.specs.List.{AllByRecursion}
-use Rattle.sdc_base.specs.Lines.{IsLine, HasNoFeed, joined, joined_with_returns}
+use Rattle.sdc_base.specs.Lines.{IsLine, HasNoFeed, text_of_lines, joined_with_returns}
 use Rattle.sdc_base.specs.Blanks.{trim}
 use Rattle.plain_text.specs.Laws.{AreReadAgain, AreReadWithReturns, IsLastRead}
 use Rattle.rda_meta.specs.Laws.{IsLenientToLineEnds}
@@ -17,8 +17,8 @@ one-more (text ∷ texts) last h whole = (h.0, one-more texts last h.1 whole)
 
 pub line_ends : AreReadAgain → AreReadWithReturns → IsLastRead → IsLenientToLineEnds
 line_ends feeds returns open-end texts h = (
-  lenient_to_ends (joined_with_returns texts) (joined texts) (ap (λ (ls : List (List ℕ)). map trim ls) (returns texts (no-feeds texts h) ∙ sym (feeds texts h))),
+  lenient_to_ends (joined_with_returns texts) (text_of_lines texts) (ap (λ (ls : List (List ℕ)). map trim ls) (returns texts (no-feeds texts h) ∙ sym (feeds texts h))),
   λ last whole some.
-      lenient_to_ends (joined texts ++ last) (joined (texts ++ last ∷ []))
+      lenient_to_ends (text_of_lines texts ++ last) (text_of_lines (texts ++ last ∷ []))
       (ap (λ (ls : List (List ℕ)). map trim ls) (open-end.feeds texts last h whole.no_feed some ∙ sym (feeds (texts ++ last ∷ []) (one-more texts last h whole)))),
 )

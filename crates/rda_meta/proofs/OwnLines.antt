@@ -11,7 +11,7 @@ use Rattle.sdc_base.specs.Steps.{or_fault, refuse}
 use Rattle.rda_meta.specs.Faults.{at_line}
 use Rattle.rda_meta.specs.VariableLines.{name_at, number_at, is_past, missing_of, is_named, variable_at}
 use Rattle.rda_meta.specs.KeywordLines.{is_close, keyword_in, last_of, is_again, setting_in, with_setting}
-use Rattle.rda_meta.specs.Metadata.{after_setting, after_variable, keyword_line, variable_line, text_says, lines_say, no_clash, variable_of, nothing, meta_of}
+use Rattle.rda_meta.specs.Metadata.{after_setting, after_variable, keyword_line, variable_line, text_says, lines_say, no_clash, variable_of, no_lines, meta_of}
 use Rattle.sdc_base.proofs.StepLemmas.{bind_ok, then_all}
 use Rattle.rda_meta.specs.declared.faults.MetaWhy.{MetaWhy}
 use Rattle.rda_meta.specs.declared.faults.MetaWhy.TheVariants.{BadName, BadPlace, Twice, TooMany}
@@ -24,7 +24,7 @@ use Rattle.rda_meta.specs.declared.meta.Meta.{Meta}
 use Rattle.rda_meta.specs.Words.{words}
 use Rattle.rda_meta.specs.Keywords.{is_passed}
 use Rattle.rda_meta.specs.Arguments.{argument_of}
-use Rattle.rda_meta.specs.Meaning.{kept, stated, stated_behind, variable_line_numbers, IsOfItsLines, AreOfTheirLines}
+use Rattle.rda_meta.specs.Meaning.{settings_kept, settings_of_line, stated_behind, variable_line_numbers, IsOfItsLines, AreOfTheirLines}
 
 -- the last entry with what these lines add to it
 abbrev extended : List Entry → List (List ℕ) → List Entry
@@ -109,11 +109,11 @@ one-more before t ts (e ∷ new) h =
     ((omega arith, rw far h.0.1, h.0.2, h.0.3, rw place h.0.4, h.0.5), one-more before t ts new h.1)
 
 stated-is : (width b : ℕ) (text : List ℕ) (keyword : Keyword) (argument : Argument) → keyword_in text ≡ Ok keyword → argument_of keyword width (words (after_first is_close text)) ≡ Ok argument
-    → stated width (b ∷ text) ≡ kept (Ok (record { keyword = keyword; argument = argument }))
+    → settings_of_line width (b ∷ text) ≡ settings_kept (Ok (record { keyword = keyword; argument = argument }))
 stated-is width b text keyword argument k a = rw (k, a) refl
 
 -- the setting that was read is the one that the line states
-states : (es : List Entry) (b : ℕ) (text : List ℕ) (setting : Setting) → setting_in es text ≡ Ok setting → (entry : Entry) × (last_of es ≡ Some entry) × (stated entry.width (b ∷ text) ≡ kept (Ok setting))
+states : (es : List Entry) (b : ℕ) (text : List ℕ) (setting : Setting) → setting_in es text ≡ Ok setting → (entry : Entry) × (last_of es ≡ Some entry) × (settings_of_line entry.width (b ∷ text) ≡ settings_kept (Ok setting))
 unfolding setting_in
 states es b text setting h =
     let k = bind_ok (keyword_in text) _ setting h in
@@ -121,7 +121,7 @@ states es b text setting h =
     let a = bind_ok (argument_of k.0 e.0.width (words (after_first is_close text))) _ setting e.2 in
     let o = bind_ok (refuse Twice (is_again k.0 e.0 es)) _ setting a.2 in
     let there : (o : Option Entry) → or_fault BadName o ≡ Ok e.0 → o ≡ Some e.0 = λ o. elim o as (λ o. or_fault BadName o ≡ Ok e.0 → o ≡ Some e.0) [ None ↦ λ h. cc | Some x ↦ λ h. let same : x ≡ e.0 = cc in ap Some same ] in
-    (e.0, there (last_of es) e.1, stated-is e.0.width b text k.0 a.0 k.1 a.1 ∙ ap kept o.2)
+    (e.0, there (last_of es) e.1, stated-is e.0.width b text k.0 a.0 k.1 a.1 ∙ ap settings_kept o.2)
 
 keyword-step : (before : ℕ) (s next : SoFar) (b : ℕ) (text : List ℕ) (ts : List (List ℕ)) (all : List Entry) → (b == 60) ≡ true → keyword_line s text ≡ Ok next → Split (before + 1) next.entries ts all → Split before s.entries ((b ∷ text) ∷ ts) all
 unfolding keyword_line
@@ -131,7 +131,7 @@ keyword-step before s next b text ts all is said rest =
     let there = states s.entries b text setting one.1 in
     let entry = there.0 in
     let made : after_setting s setting ≡ next = cc in
-    let behind : stated_behind entry.width ((b ∷ text) ∷ ts) ≡ kept (Ok setting) ++ stated_behind entry.width ts = rw (is, there.2) refl in
+    let behind : stated_behind entry.width ((b ∷ text) ∷ ts) ≡ settings_kept (Ok setting) ++ stated_behind entry.width ts = rw (is, there.2) refl in
     let same : extended (after_setting s setting).entries ts ≡ extended s.entries ((b ∷ text) ∷ ts) =
     elim (is_passed setting.keyword) as (λ p. stated_behind entry.width ((b ∷ text) ∷ ts) ≡ cond p [] (setting ∷ []) ++ stated_behind entry.width ts → extended (cond p (record s { passed_over = s.passed_over + 1 }) (record s { entries = with_setting setting s.entries })).entries ts ≡ extended s.entries ((b ∷ text) ∷ ts)) [
       | true ↦ λ h. adds-none s.entries entry (b ∷ text) ts there.1 h
@@ -200,10 +200,10 @@ all-of-their-lines texts (e ∷ es) h =
 pub meant : (bytes : List ℕ) (meta : Meta) → meta_of bytes ≡ Ok meta → AreOfTheirLines (map trim (lines bytes)) meta.variables
 unfolding meta_of
 meant bytes meta h =
-    let a = bind_ok (lines_say 0 nothing (lines bytes)) _ meta h in
+    let a = bind_ok (lines_say 0 no_lines (lines bytes)) _ meta h in
     let c = bind_ok (no_clash a.0.entries) _ meta a.2 in
     let made : record { variables = map variable_of a.0.entries; passed_over = a.0.passed_over } ≡ meta = cc in
-    let s = splits 0 nothing a.0 (lines bytes) a.1 in
+    let s = splits 0 no_lines a.0 (lines bytes) a.1 in
     let all : ◌≡◌ {A = List Entry} s.0 a.0.entries = sym s.1 in
     let given : meta.variables ≡ map variable_of s.0 = ap (λ (m : Meta). m.variables) (sym made) ∙ ap (λ (es : List Entry). map variable_of es) (sym all) in
     record { entries = s.0; given = given; lines = s.2; each = all-of-their-lines (map trim (lines bytes)) s.0 s.3 }

@@ -18,7 +18,7 @@ use Rattle.rda_meta.specs.Keywords.{is_passed}
 use Rattle.rda_meta.specs.Arguments.{argument_of}
 use Rattle.rda_meta.specs.KeywordLines.{is_close, keyword_in, last_of, is_again, setting_in, with_setting}
 use Rattle.rda_meta.specs.VariableLines.{variable_at}
-use Rattle.rda_meta.specs.Metadata.{after_setting, after_variable, keyword_line, variable_line, text_says, lines_say, no_clash, variable_of, nothing, meta_of}
+use Rattle.rda_meta.specs.Metadata.{after_setting, after_variable, keyword_line, variable_line, text_says, lines_say, no_clash, variable_of, no_lines, meta_of}
 use Rattle.rda_meta.specs.Meaning.{is_passed_keyword, is_passed_line}
 
 -- one where the line is passed over, else none
@@ -90,7 +90,7 @@ counts before s all (text ∷ texts) h =
 pub counted : (bytes : List ℕ) (meta : Meta) → meta_of bytes ≡ Ok meta → meta.passed_over ≡ length (filter is_passed_line (map trim (lines bytes)))
 unfolding meta_of
 counted bytes meta h =
-    let a = bind_ok (lines_say 0 nothing (lines bytes)) _ meta h in
+    let a = bind_ok (lines_say 0 no_lines (lines bytes)) _ meta h in
     let c = bind_ok (no_clash a.0.entries) _ meta a.2 in
     let made : record { variables = map variable_of a.0.entries; passed_over = a.0.passed_over } ≡ meta = cc in
-    omega (arith, ap (λ (m : Meta). m.passed_over) made, counts 0 nothing a.0 (lines bytes) a.1)
+    omega (arith, ap (λ (m : Meta). m.passed_over) made, counts 0 no_lines a.0 (lines bytes) a.1)

@@ -6,7 +6,7 @@ use Rattle.rda_meta.specs.declared.meta.Shape.{Shape}
 use Rattle.rda_meta.specs.declared.meta.Shape.TheVariants as shape
 use Rattle.rda_meta.specs.declared.meta.Variable.{Variable}
 use Rattle.rda_meta.specs.declared.meta.Meta.{Meta}
-use Rattle.rda_meta.specs.Canonical.{entry_of}
+use Rattle.rda_meta.specs.CanonicalMetadata.{entry_of}
 use Rattle.rda_meta.specs.Laws.{canonical_text, WeightsAreNumeric, AreWithinLimits}
 use Rattle.rda_meta.proofs.SpelledText.{read_again}
 

@@ -6,8 +6,8 @@ use Rattle.std.proofs.lemmas.List.Folds.{list_any-append}
 use Rattle.sdc_base.specs.Blanks.{is_blank, is_dark, trim, trim_front, trim_back}
 use Rattle.rda_meta.specs.Words.{first_word, behind_word, words}
 use Rattle.sdc_base.specs.Tokens.{is_quote}
-use Rattle.rda_meta.specs.Spelling.{quoted, needs_quotes, spelled, spaced}
-use Rattle.rda_meta.specs.Canonical.{IsPlain, ArePlain}
+use Rattle.rda_meta.specs.Spelling.{quoted_word, needs_quotes, spelling_of_word, words_behind_spaces}
+use Rattle.rda_meta.specs.CanonicalMetadata.{IsPlain, ArePlain}
 use Rattle.rda_meta.proofs.WordList.{words_none, words_some}
 
 pub or-left : (a b : Bool) → (a || b) ≡ false → a ≡ false
@@ -49,17 +49,17 @@ ends-bare : (b : ℕ) (word : List ℕ) → list_any is_blank (b ∷ word) ≡ f
 ends-bare b [] none = ([], b, refl, or-left (is_blank b) false none)
 ends-bare b (c ∷ word) none = ends-append (b ∷ []) (c ∷ word) (ends-bare c word (or-right (is_blank b) (list_any is_blank (c ∷ word)) none))
 
-ends-spelled : (word : List ℕ) → EndsDark (spelled word)
+ends-spelled : (word : List ℕ) → EndsDark (spelling_of_word word)
 ends-spelled [] = (34 ∷ [], 34, refl, refl)
 ends-spelled (b ∷ word) =
-    elim (needs_quotes (b ∷ word)) as (λ t. needs_quotes (b ∷ word) ≡ t → EndsDark (cond t (quoted (b ∷ word)) (b ∷ word))) [
+    elim (needs_quotes (b ∷ word)) as (λ t. needs_quotes (b ∷ word) ≡ t → EndsDark (cond t (quoted_word (b ∷ word)) (b ∷ word))) [
       | true ↦ λ _. (34 ∷ b ∷ word, 34, refl, refl)
       | false ↦ λ bare. ends-bare b word (or-right (is_quote b || (b == 60)) (list_any is_blank (b ∷ word)) bare)
     ] refl
 
-pub ends-spaced : (word : List ℕ) (words : List (List ℕ)) → EndsDark (spelled word ++ spaced words)
-ends-spaced word [] = subst EndsDark (sym (append-nil (spelled word))) (ends-spelled word)
-ends-spaced word (next ∷ words) = ends-append (spelled word) (spaced (next ∷ words)) (ends-append (32 ∷ []) (spelled next ++ spaced words) (ends-spaced next words))
+pub ends-spaced : (word : List ℕ) (words : List (List ℕ)) → EndsDark (spelling_of_word word ++ words_behind_spaces words)
+ends-spaced word [] = subst EndsDark (sym (append-nil (spelling_of_word word))) (ends-spelled word)
+ends-spaced word (next ∷ words) = ends-append (spelling_of_word word) (words_behind_spaces (next ∷ words)) (ends-append (32 ∷ []) (spelling_of_word next ++ words_behind_spaces words) (ends-spaced next words))
 
 back-dark : (line : List ℕ) → EndsDark line → trim_back line ≡ line
 back-dark line h =
@@ -87,17 +87,17 @@ same-words a b same =
     ] in
     of (length (trim a)) refl
 
-quoted-word : (word : List ℕ) (words' : List (List ℕ)) → IsPlain word → EndsDark (quoted word ++ spaced words') → words (quoted word ++ spaced words') ≡ word ∷ words (spaced words')
+quoted-word : (word : List ℕ) (words' : List (List ℕ)) → IsPlain word → EndsDark (quoted_word word ++ words_behind_spaces words') → words (quoted_word word ++ words_behind_spaces words') ≡ word ∷ words (words_behind_spaces words')
 quoted-word word words' plain ends =
-    let tail : List ℕ = spaced words' in
-    let line : quoted word ++ tail ≡ 34 ∷ (word ++ 34 ∷ tail) = ap (λ (x : List ℕ). 34 ∷ x) (append_assoc word (34 ∷ []) tail) in
+    let tail : List ℕ = words_behind_spaces words' in
+    let line : quoted_word word ++ tail ≡ 34 ∷ (word ++ 34 ∷ tail) = ap (λ (x : List ℕ). 34 ∷ x) (append_assoc word (34 ∷ []) tail) in
     let closed : list_any is_quote (word ++ 34 ∷ tail) ≡ true = rw (list_any-append is_quote word (34 ∷ tail), plain) refl in
     let front : word ≡ first_word (34 ∷ (word ++ 34 ∷ tail)) = rw closed (sym (before-stop is_quote word 34 tail plain refl)) in
     let back : tail ≡ behind_word (34 ∷ (word ++ 34 ∷ tail)) = rw closed (sym (after-stop is_quote word 34 tail plain refl)) in
     let clean : 34 ∷ (word ++ 34 ∷ tail) ≡ trim (34 ∷ (word ++ 34 ∷ tail)) = sym (trim_dark 34 (word ++ 34 ∷ tail) refl (subst EndsDark line ends)) in
     ap words line ∙ words_some (34 ∷ (word ++ 34 ∷ tail)) (34 ∷ (word ++ 34 ∷ tail)) word tail clean (omega arith) front back
 
-bare-word : (b : ℕ) (word : List ℕ) (words' : List (List ℕ)) → is_quote b ≡ false → list_any is_blank (b ∷ word) ≡ false → EndsDark ((b ∷ word) ++ spaced words') → words ((b ∷ word) ++ spaced words') ≡ (b ∷ word) ∷ words (spaced words')
+bare-word : (b : ℕ) (word : List ℕ) (words' : List (List ℕ)) → is_quote b ≡ false → list_any is_blank (b ∷ word) ≡ false → EndsDark ((b ∷ word) ++ words_behind_spaces words') → words ((b ∷ word) ++ words_behind_spaces words') ≡ (b ∷ word) ∷ words (words_behind_spaces words')
 bare-word b word [] bare dark ends =
     let whole : List ℕ = b ∷ word in
     let line : whole ++ [] ≡ whole = append-nil whole in
@@ -108,21 +108,21 @@ bare-word b word [] bare dark ends =
     ap words line ∙ words_some whole whole whole [] clean (omega arith) front back
 bare-word b word (next ∷ words') bare dark ends =
     let whole : List ℕ = b ∷ word in
-    let tail : List ℕ = spelled next ++ spaced words' in
+    let tail : List ℕ = spelling_of_word next ++ words_behind_spaces words' in
     let front : whole ≡ first_word (whole ++ 32 ∷ tail) = rw bare (sym (before-stop is_blank whole 32 tail dark refl)) in
     let back : tail ≡ behind_word (whole ++ 32 ∷ tail) = rw bare (sym (after-stop is_blank whole 32 tail dark refl)) in
     let clean : whole ++ 32 ∷ tail ≡ trim (whole ++ 32 ∷ tail) = sym (trim_dark b (word ++ 32 ∷ tail) (or-left (is_blank b) (list_any is_blank word) dark) ends) in
     words_some (whole ++ 32 ∷ tail) (whole ++ 32 ∷ tail) whole tail clean (omega arith) front back ∙ ap (λ (ws : List (List ℕ)). whole ∷ ws) (same-words tail (32 ∷ tail) (sym (trim-blank tail)))
 
-pub words_spelled : (word : List ℕ) (words' : List (List ℕ)) → IsPlain word → words (spelled word ++ spaced words') ≡ word ∷ words (spaced words')
+pub words_spelled : (word : List ℕ) (words' : List (List ℕ)) → IsPlain word → words (spelling_of_word word ++ words_behind_spaces words') ≡ word ∷ words (words_behind_spaces words')
 words_spelled [] words' plain = quoted-word [] words' plain (ends-spaced [] words')
 words_spelled (b ∷ word) words' plain =
-    elim (needs_quotes (b ∷ word)) as (λ t. needs_quotes (b ∷ word) ≡ t → EndsDark (cond t (quoted (b ∷ word)) (b ∷ word) ++ spaced words') → words (cond t (quoted (b ∷ word)) (b ∷ word) ++ spaced words') ≡ (b ∷ word) ∷ words (spaced words')) [
+    elim (needs_quotes (b ∷ word)) as (λ t. needs_quotes (b ∷ word) ≡ t → EndsDark (cond t (quoted_word (b ∷ word)) (b ∷ word) ++ words_behind_spaces words') → words (cond t (quoted_word (b ∷ word)) (b ∷ word) ++ words_behind_spaces words') ≡ (b ∷ word) ∷ words (words_behind_spaces words')) [
       | true ↦ λ need ends. quoted-word (b ∷ word) words' plain ends
       | false ↦ λ bare ends. bare-word b word words' (or-left (is_quote b) (b == 60) (or-left (is_quote b || (b == 60)) (list_any is_blank (b ∷ word)) bare)) (or-right (is_quote b || (b == 60)) (list_any is_blank (b ∷ word)) bare) ends
     ] refl (ends-spaced (b ∷ word) words')
 
 -- words that were spelled are read again
-pub words_spaced : (ws : List (List ℕ)) → ArePlain ws → words (spaced ws) ≡ ws
+pub words_spaced : (ws : List (List ℕ)) → ArePlain ws → words (words_behind_spaces ws) ≡ ws
 words_spaced [] plain = words_none [] [] refl refl
-words_spaced (word ∷ ws) plain = same-words (32 ∷ (spelled word ++ spaced ws)) (spelled word ++ spaced ws) (trim-blank (spelled word ++ spaced ws)) ∙ words_spelled word ws plain.0 ∙ ap (λ (xs : List (List ℕ)). word ∷ xs) (words_spaced ws plain.1)
+words_spaced (word ∷ ws) plain = same-words (32 ∷ (spelling_of_word word ++ words_behind_spaces ws)) (spelling_of_word word ++ words_behind_spaces ws) (trim-blank (spelling_of_word word ++ words_behind_spaces ws)) ∙ words_spelled word ws plain.0 ∙ ap (λ (xs : List (List ℕ)). word ∷ xs) (words_spaced ws plain.1)

@@ -15,8 +15,8 @@ use Rattle.sdc_base.specs.Tokens.{number_in}
 use Rattle.rda_meta.specs.KeywordLines.{is_close, keyword_in, last_of, is_again, setting_in}
 use Rattle.rda_meta.specs.Keywords.{keyword_of}
 use Rattle.rda_meta.specs.Arguments.{argument_of}
-use Rattle.rda_meta.specs.Spelling.{spaced, name_of, argument_words, setting_text}
-use Rattle.rda_meta.specs.Canonical.{IsPlain, ArePlain}
+use Rattle.rda_meta.specs.Spelling.{words_behind_spaces, name_of, argument_words, setting_text}
+use Rattle.rda_meta.specs.CanonicalMetadata.{IsPlain, ArePlain}
 use Rattle.rda_meta.proofs.Spelled.{words_spaced, after-stop}
 
 digit-of-value : (c : ℕ) → digit_value c < 10 → is_ascii_digit c ≡ true
@@ -89,5 +89,5 @@ pub setting_spelled : (entries : List Entry) (entry : Entry) (s : Setting) → l
     → ArePlain (argument_words s.argument) → argument_of s.keyword entry.width (argument_words s.argument) ≡ Ok s.argument → setting_in entries (setting_text s) ≡ Ok s
 unfolding setting_in
 setting_spelled entries entry s last first plain fits =
-    let behind : words (after_first is_close (setting_text s)) ≡ argument_words s.argument = ap words (after-stop is_close (name_of s.keyword) 62 (spaced (argument_words s.argument)) (open-name s.keyword) refl) ∙ words_spaced (argument_words s.argument) plain in
-    rw (keyword-spelled s.keyword (spaced (argument_words s.argument)), last, behind, fits, first) refl
+    let behind : words (after_first is_close (setting_text s)) ≡ argument_words s.argument = ap words (after-stop is_close (name_of s.keyword) 62 (words_behind_spaces (argument_words s.argument)) (open-name s.keyword) refl) ∙ words_spaced (argument_words s.argument) plain in
+    rw (keyword-spelled s.keyword (words_behind_spaces (argument_words s.argument)), last, behind, fits, first) refl

@@ -11,7 +11,7 @@ use Rattle.sdc_base.specs.Blanks.{is_blank, trim}
 use Rattle.sdc_base.specs.Steps.{◌>>=◌}
 use Rattle.rda_meta.specs.VariableLines.{name_at, number_at, missing_of, variable_at}
 use Rattle.rda_meta.specs.KeywordLines.{last_of}
-use Rattle.rda_meta.specs.Metadata.{after_variable, keyword_line, variable_line, text_says, no_clash, variable_of, nothing, meta_of}
+use Rattle.rda_meta.specs.Metadata.{after_variable, keyword_line, variable_line, text_says, no_clash, variable_of, no_lines, meta_of}
 use Rattle.rda_meta.specs.declared.faults.MetaWhy.{MetaWhy}
 use Rattle.rda_meta.specs.declared.setting.Keyword.{Keyword}
 use Rattle.rda_meta.specs.declared.setting.Keyword.TheVariants.{Recodeable, Recodable, Numeric, Decimals, Weight, CodeList, Hierarchical, HierLevels, HierCodeList, HierLeadString, TotCode, Request, Holding, Distance}
@@ -21,12 +21,12 @@ use Rattle.rda_meta.specs.declared.entry.Entry.{Entry}
 use Rattle.rda_meta.specs.declared.entry.SoFar.{SoFar}
 use Rattle.sdc_base.proofs.StepLemmas.{bind_same}
 use Rattle.rda_meta.specs.Keywords.{is_passed, same_keyword}
-use Rattle.rda_meta.specs.Said.{says}
+use Rattle.rda_meta.specs.LineSettings.{has_keyword}
 use Rattle.rda_meta.specs.Arguments.{argument_of}
 use Rattle.rda_meta.specs.Words.{words}
 use Rattle.sdc_base.specs.Tokens.{is_quote}
-use Rattle.rda_meta.specs.Spelling.{passed_lines, canonical_lines, name_of, argument_words, quoted, needs_quotes, spelled, spaced, setting_text, setting_line, variable_text, all_lines}
-use Rattle.rda_meta.specs.Canonical.{IsSayable, AreSayable, IsPlaceable, AreCanonical}
+use Rattle.rda_meta.specs.Spelling.{passed_lines, canonical_lines, name_of, argument_words, quoted_word, needs_quotes, spelling_of_word, words_behind_spaces, setting_text, setting_line, variable_text, all_lines}
+use Rattle.rda_meta.specs.CanonicalMetadata.{IsSayable, AreSayable, IsPlaceable, AreCanonical}
 use Rattle.rda_meta.specs.Laws.{is_dark_line, dark_lines, but_for_line, canonical_text}
 use Rattle.rda_meta.proofs.LineSteps.{with_last}
 use Rattle.rda_meta.proofs.Lenient.{plainly, made, meta-plainly}
@@ -60,11 +60,11 @@ settings-say earlier e n (s ∷ said) rest h =
 
 -- ---- variable lines
 
-begins-variable : (line : ℕ) (s : SoFar) (word tail : List ℕ) → text_says line s (spelled word ++ tail) ≡ variable_line line s (spelled word ++ tail)
+begins-variable : (line : ℕ) (s : SoFar) (word tail : List ℕ) → text_says line s (spelling_of_word word ++ tail) ≡ variable_line line s (spelling_of_word word ++ tail)
 unfolding text_says
 begins-variable line s [] tail = refl
 begins-variable line s (b ∷ word) tail =
-    elim (needs_quotes (b ∷ word)) as (λ t. needs_quotes (b ∷ word) ≡ t → text_says line s (cond t (quoted (b ∷ word)) (b ∷ word) ++ tail) ≡ variable_line line s (cond t (quoted (b ∷ word)) (b ∷ word) ++ tail)) [
+    elim (needs_quotes (b ∷ word)) as (λ t. needs_quotes (b ∷ word) ≡ t → text_says line s (cond t (quoted_word (b ∷ word)) (b ∷ word) ++ tail) ≡ variable_line line s (cond t (quoted_word (b ∷ word)) (b ∷ word) ++ tail)) [
       | true ↦ λ _. refl
       | false ↦ λ bare. rw (or-right (is_quote b) (b == 60) (or-left (is_quote b || (b == 60)) (list_any is_blank (b ∷ word)) bare)) refl
     ] refl
@@ -96,7 +96,7 @@ says-variable : (earlier : List Entry) (e : Entry) (n : ℕ) → IsPlaceable ear
     → text_says 0 (record { entries = earlier; passed_over = n }) (variable_text e) ≡ Ok (record { entries = earlier ++ record e { said = [] } ∷ []; passed_over = n })
 unfolding variable_line
 says-variable earlier e n h =
-    begins-variable 0 (record { entries = earlier; passed_over = n }) e.name (spaced (decimal e.first ∷ decimal e.width ∷ e.missing))
+    begins-variable 0 (record { entries = earlier; passed_over = n }) e.name (words_behind_spaces (decimal e.first ∷ decimal e.width ∷ e.missing))
     ∙ ap (λ r. r >>= λ entry. Ok (after_variable (record { entries = earlier; passed_over = n }) entry)) (ap (variable_at 0 earlier) (variable-words earlier e h) ∙ reads-variable earlier e h)
 
 -- ---- the text
@@ -128,23 +128,23 @@ not-request Request h = absurd cc
 not-request Holding h = refl
 not-request Distance h = refl
 
-unrequested : (earlier : List Entry) (e : Entry) (said : List Setting) → AreSayable earlier e said → says Request said ≡ false
+unrequested : (earlier : List Entry) (e : Entry) (said : List Setting) → AreSayable earlier e said → has_keyword Request said ≡ false
 unrequested earlier e [] h = refl
 unrequested earlier e (s ∷ said) h = rw (not-request s.keyword h.0.kept, unrequested earlier (record e { said = e.said ++ s ∷ [] }) said h.1) refl
 
 -- the last of some entries, which says nothing that is passed over
-last-unrequested : (earlier : List Entry) (e : Entry) (es : List Entry) → AreCanonical earlier (e ∷ es) → (entry : Entry) × (last_of (earlier ++ e ∷ es) ≡ Some entry) × (says Request entry.said ≡ false)
+last-unrequested : (earlier : List Entry) (e : Entry) (es : List Entry) → AreCanonical earlier (e ∷ es) → (entry : Entry) × (last_of (earlier ++ e ∷ es) ≡ Some entry) × (has_keyword Request entry.said ≡ false)
 last-unrequested earlier e [] h = (e, last-of earlier e, unrequested earlier (record e { said = [] }) e.said h.1)
 last-unrequested earlier e (next ∷ es) h =
     let rest = last-unrequested (earlier ++ e ∷ []) next es h.3 in
     (rest.0, ap last_of (sym (append_assoc earlier (e ∷ []) (next ∷ es))) ∙ rest.1, rest.2)
 
-passed-says : (entries : List Entry) (e : Entry) (n : ℕ) → last_of entries ≡ Some e → says Request e.said ≡ false
+passed-says : (entries : List Entry) (e : Entry) (n : ℕ) → last_of entries ≡ Some e → has_keyword Request e.said ≡ false
     → text_says 0 (record { entries = entries; passed_over = n }) (codes "<REQUEST>") ≡ Ok (record { entries = entries; passed_over = n + 1 })
 unfolding text_says keyword_line argument_of
 passed-says entries e n last free = rw (setting_spelled entries e (record { keyword = Request; argument = Nothing }) last free tt refl) refl
 
-passed-say : (entries : List Entry) (e : Entry) (n k : ℕ) → last_of entries ≡ Some e → says Request e.said ≡ false
+passed-say : (entries : List Entry) (e : Entry) (n k : ℕ) → last_of entries ≡ Some e → has_keyword Request e.said ≡ false
     → plainly (record { entries = entries; passed_over = n }) (passed_lines k) ≡ Ok (record { entries = entries; passed_over = n + k })
 unfolding plainly
 passed-say entries e n zero last free = ap (λ (m : ℕ). Ok (record { entries = entries; passed_over = m })) (let same : n ≡ n + 0 = omega arith in same)
@@ -167,9 +167,9 @@ none-say : (es : List Entry) → plainly (record { entries = es; passed_over = 0
 unfolding plainly
 none-say es = refl
 
-all-say : (entries : List Entry) (passed : ℕ) → AreCanonical [] entries → (entries ≡ [] → passed ≡ 0) → plainly nothing (canonical_lines entries passed) ≡ Ok (record { entries = entries; passed_over = passed })
+all-say : (entries : List Entry) (passed : ℕ) → AreCanonical [] entries → (entries ≡ [] → passed ≡ 0) → plainly no_lines (canonical_lines entries passed) ≡ Ok (record { entries = entries; passed_over = passed })
 all-say entries passed h place =
-    plainly-append nothing (all_lines entries) (passed_lines passed) ∙ ap (λ r. r >>= λ next. plainly next (passed_lines passed)) (entries-say [] entries 0 h) ∙ behind entries h place
+    plainly-append no_lines (all_lines entries) (passed_lines passed) ∙ ap (λ r. r >>= λ next. plainly next (passed_lines passed)) (entries-say [] entries 0 h) ∙ behind entries h place
   where
     behind : (es : List Entry) → AreCanonical [] es → (es ≡ [] → passed ≡ 0) → plainly (record { entries = es; passed_over = 0 }) (passed_lines passed) ≡ Ok (record { entries = es; passed_over = passed })
     behind [] h place = rw (place refl) (none-say [])
@@ -190,7 +190,7 @@ pub spelled_again : (entries : List Entry) (passed : ℕ) (bytes : List ℕ) →
     → meta_of bytes ≡ Ok (record { variables = map variable_of entries; passed_over = passed })
 spelled_again entries passed bytes h place is =
     with-value (meta_of bytes) (record { variables = map variable_of entries; passed_over = passed })
-    (meta-plainly bytes ∙ ap (λ (ts : List (List ℕ)). plainly nothing ts >>= made) is ∙ ap (λ r. r >>= made) (all-say entries passed h place)
+    (meta-plainly bytes ∙ ap (λ (ts : List (List ℕ)). plainly no_lines ts >>= made) is ∙ ap (λ r. r >>= made) (all-say entries passed h place)
     ∙ ap (λ r. r >>= λ fine. Ok (record { variables = map variable_of entries; passed_over = passed })) (no-clash [] entries h))
 
 -- ---- the bytes
@@ -201,19 +201,19 @@ IsClean line = (trim line ≡ line) × (is_dark_line line ≡ true)
 
 clean-setting : (s : Setting) → IsClean (setting_line s)
 clean-setting s =
-    let ends : (ws : List (List ℕ)) → EndsDark (60 ∷ name_of s.keyword ++ 62 ∷ spaced ws) =
-    λ ws. elim ws as (λ ws. EndsDark (60 ∷ name_of s.keyword ++ 62 ∷ spaced ws)) [
+    let ends : (ws : List (List ℕ)) → EndsDark (60 ∷ name_of s.keyword ++ 62 ∷ words_behind_spaces ws) =
+    λ ws. elim ws as (λ ws. EndsDark (60 ∷ name_of s.keyword ++ 62 ∷ words_behind_spaces ws)) [
       | [] ↦ (60 ∷ name_of s.keyword, 62, refl, refl)
-      | w ∷ ws ↦ ends-append (60 ∷ name_of s.keyword) (62 ∷ spaced (w ∷ ws)) (ends-append (62 ∷ 32 ∷ []) (spelled w ++ spaced ws) (ends-spaced w ws))
+      | w ∷ ws ↦ ends-append (60 ∷ name_of s.keyword) (62 ∷ words_behind_spaces (w ∷ ws)) (ends-append (62 ∷ 32 ∷ []) (spelling_of_word w ++ words_behind_spaces ws) (ends-spaced w ws))
     ] in
     (trim_dark 60 (setting_text s) refl (ends (argument_words s.argument)), refl)
 
-clean-spelled : (word : List ℕ) (ws : List (List ℕ)) → EndsDark (spelled word ++ spaced ws) → IsClean (spelled word ++ spaced ws)
-clean-spelled [] ws ends = (trim_dark 34 (34 ∷ [] ++ spaced ws) refl ends, refl)
+clean-spelled : (word : List ℕ) (ws : List (List ℕ)) → EndsDark (spelling_of_word word ++ words_behind_spaces ws) → IsClean (spelling_of_word word ++ words_behind_spaces ws)
+clean-spelled [] ws ends = (trim_dark 34 (34 ∷ [] ++ words_behind_spaces ws) refl ends, refl)
 clean-spelled (b ∷ word) ws ends =
-    elim (needs_quotes (b ∷ word)) as (λ t. needs_quotes (b ∷ word) ≡ t → EndsDark (cond t (quoted (b ∷ word)) (b ∷ word) ++ spaced ws) → IsClean (cond t (quoted (b ∷ word)) (b ∷ word) ++ spaced ws)) [
-      | true ↦ λ _ ends. (trim_dark 34 ((b ∷ word ++ 34 ∷ []) ++ spaced ws) refl ends, refl)
-      | false ↦ λ bare ends. (trim_dark b (word ++ spaced ws) (or-left (is_blank b) (list_any is_blank word) (or-right (is_quote b || (b == 60)) (list_any is_blank (b ∷ word)) bare)) ends, refl)
+    elim (needs_quotes (b ∷ word)) as (λ t. needs_quotes (b ∷ word) ≡ t → EndsDark (cond t (quoted_word (b ∷ word)) (b ∷ word) ++ words_behind_spaces ws) → IsClean (cond t (quoted_word (b ∷ word)) (b ∷ word) ++ words_behind_spaces ws)) [
+      | true ↦ λ _ ends. (trim_dark 34 ((b ∷ word ++ 34 ∷ []) ++ words_behind_spaces ws) refl ends, refl)
+      | false ↦ λ bare ends. (trim_dark b (word ++ words_behind_spaces ws) (or-left (is_blank b) (list_any is_blank word) (or-right (is_quote b || (b == 60)) (list_any is_blank (b ∷ word)) bare)) ends, refl)
     ] refl ends
 
 clean-variable : (e : Entry) → IsClean (variable_text e)

@@ -22,10 +22,10 @@ use Rattle.rda_meta.specs.declared.faults.MetaError.{MetaError}
 use Rattle.rda_meta.specs.Words.{words}
 use Rattle.rda_meta.specs.Keywords.{place_of, same_keyword, is_passed}
 use Rattle.rda_meta.specs.Arguments.{is_lead, is_zero, without_end_zeros, are_levels, only_word, decimals_argument, file_argument, lead_argument, numbers_of, levels_argument, argument_of}
-use Rattle.rda_meta.specs.Said.{says, argument_said, number_in as number_behind, word_in, levels_in, is_numeric, decimals_of, codes_of, lead_of, shape_from, shape_of, has_tree, is_clashing}
+use Rattle.rda_meta.specs.LineSettings.{has_keyword, argument_said, number_in as number_behind, word_in, levels_in, is_numeric, decimals_of, codes_of, lead_of, shape_from, shape_of, has_tree, is_clashing}
 use Rattle.rda_meta.specs.KeywordLines.{is_close, keyword_in, last_of, is_again, setting_in, with_setting}
 use Rattle.rda_meta.specs.VariableLines.{is_name, name_at, number_at, is_past, missing_of, is_named, variable_at}
-use Rattle.rda_meta.specs.Metadata.{after_setting, after_variable, keyword_line, variable_line, text_says, lines_say, no_clash, variable_of, nothing, meta_of}
+use Rattle.rda_meta.specs.Metadata.{after_setting, after_variable, keyword_line, variable_line, text_says, lines_say, no_clash, variable_of, no_lines, meta_of}
 use Rattle.rda_meta.specs.Limits.{IsShaped, IsVariable, IsMeta, weights}
 use Rattle.rda_meta.specs.declared.faults.MetaWhy.{MetaWhy}
 use Rattle.rda_meta.specs.declared.faults.MetaWhy.TheVariants.{BadName, BadPlace, BadValue, Twice, TooMany, Clash}
@@ -256,8 +256,8 @@ fresh-at line es ws e h =
 -- the last entry can take the setting
 abbrev LastTakes : Setting → List Entry → Type 0
 LastTakes s [] = Unit {0}
-LastTakes s (e ∷ []) = IsSaid e.width s × (same_keyword s.keyword Weight ≡ true → says Weight e.said ≡ false)
-LastTakes s (e ∷ next ∷ es) = LastTakes s (next ∷ es) × (same_keyword s.keyword Weight ≡ true → says Weight e.said ≡ false)
+LastTakes s (e ∷ []) = IsSaid e.width s × (same_keyword s.keyword Weight ≡ true → has_keyword Weight e.said ≡ false)
+LastTakes s (e ∷ next ∷ es) = LastTakes s (next ∷ es) × (same_keyword s.keyword Weight ≡ true → has_keyword Weight e.said ≡ false)
 
 last-next : (e next : Entry) (es : List Entry) → last_of (e ∷ next ∷ es) ≡ last_of (next ∷ es)
 last-next e next es =
@@ -266,16 +266,16 @@ last-next e next es =
     ap (slice_get (e ∷ next ∷ es)) long ∙ ap (slice_get (next ∷ es)) (sym short)
 
 abbrev NoWeight : List Entry → Type 0
-NoWeight es = list_any (λ e. says Weight e.said) es ≡ false
+NoWeight es = list_any (λ e. has_keyword Weight e.said) es ≡ false
 
 last-takes : (es : List Entry) (entry : Entry) (s : Setting) → last_of es ≡ Some entry → IsSaid entry.width s → (same_keyword s.keyword Weight ≡ true → NoWeight es) → LastTakes s es
 last-takes [] entry s last said none = tt
 last-takes (e ∷ []) entry s last said none =
     let same : e ≡ entry = cc in
-    (subst (λ (x : Entry). IsSaid x.width s) (sym same) said, λ is. or-left (says Weight e.said) false (none is))
+    (subst (λ (x : Entry). IsSaid x.width s) (sym same) said, λ is. or-left (has_keyword Weight e.said) false (none is))
 last-takes (e ∷ next ∷ es) entry s last said none = (
-  last-takes (next ∷ es) entry s (sym (last-next e next es) ∙ last) said (λ is. or-right (says Weight e.said) (list_any (λ x. says Weight x.said) (next ∷ es)) (none is)),
-  λ is. or-left (says Weight e.said) (list_any (λ x. says Weight x.said) (next ∷ es)) (none is),
+  last-takes (next ∷ es) entry s (sym (last-next e next es) ∙ last) said (λ is. or-right (has_keyword Weight e.said) (list_any (λ x. has_keyword Weight x.said) (next ∷ es)) (none is)),
+  λ is. or-left (has_keyword Weight e.said) (list_any (λ x. has_keyword Weight x.said) (next ∷ es)) (none is),
 )
 
 takes : (es : List Entry) (text : List ℕ) (s : Setting) → setting_in es text ≡ Ok s → LastTakes s es
@@ -287,7 +287,7 @@ takes es text s h =
     let o = bind_ok (refuse Twice (is_again k.0 e.0 es)) _ s a.2 in
     let made : record { keyword = k.0; argument = a.0 } ≡ s = cc in
     let again : is_again k.0 e.0 es ≡ false = refuse-ok Twice (is_again k.0 e.0 es) o.0 o.1 in
-    let none : same_keyword k.0 Weight ≡ true → NoWeight es = λ is. subst (λ (t : Bool). cond t (list_any (λ x. says Weight x.said) es) (says k.0 e.0.said) ≡ false) is again in
+    let none : same_keyword k.0 Weight ≡ true → NoWeight es = λ is. subst (λ (t : Bool). cond t (list_any (λ x. has_keyword Weight x.said) es) (has_keyword k.0 e.0.said) ≡ false) is again in
     subst (λ (x : Setting). LastTakes x es) made (last-takes es e.0 (record { keyword = k.0; argument = a.0 }) (fault-ok BadName (last_of es) e.0 e.1) (words (after_first is_close text), a.1) none)
 
 all-more : {X : Type 0} (P : X → Type 0) (xs : List X) (x : X) → AllByRecursion P xs → P x → AllByRecursion P (xs ++ x ∷ [])
@@ -312,16 +312,16 @@ count-stays (e ∷ next ∷ es) s = ap suc (count-stays (next ∷ es) s)
 
 -- how many entries are weights
 abbrev weighty : List Entry → List Entry
-weighty es = filter (λ e. says Weight e.said) es
+weighty es = filter (λ e. has_keyword Weight e.said) es
 
 none-weighty : (es : List Entry) → NoWeight es → length (weighty es) ≡ 0
 none-weighty [] h = refl
 none-weighty (e ∷ es) h =
-    rw (or-left (says Weight e.said) (list_any (λ x. says Weight x.said) es) h) (none-weighty es (or-right (says Weight e.said) (list_any (λ x. says Weight x.said) es) h))
+    rw (or-left (has_keyword Weight e.said) (list_any (λ x. has_keyword Weight x.said) es) h) (none-weighty es (or-right (has_keyword Weight e.said) (list_any (λ x. has_keyword Weight x.said) es) h))
 
-says-more : (said : List Setting) (s : Setting) → says Weight (said ++ s ∷ []) ≡ (says Weight said || same_keyword s.keyword Weight)
+says-more : (said : List Setting) (s : Setting) → has_keyword Weight (said ++ s ∷ []) ≡ (has_keyword Weight said || same_keyword s.keyword Weight)
 says-more [] s = elim (same_keyword s.keyword Weight) as (λ t. (t || false) ≡ t) [ true ↦ refl | false ↦ refl ]
-says-more (x ∷ said) s = elim (same_keyword x.keyword Weight) as (λ t. (t || says Weight (said ++ s ∷ [])) ≡ ((t || says Weight said) || same_keyword s.keyword Weight)) [ true ↦ refl | false ↦ says-more said s ]
+says-more (x ∷ said) s = elim (same_keyword x.keyword Weight) as (λ t. (t || has_keyword Weight (said ++ s ∷ [])) ≡ ((t || has_keyword Weight said) || same_keyword s.keyword Weight)) [ true ↦ refl | false ↦ says-more said s ]
 
 or-false : (t : Bool) → (t || false) ≡ t
 or-false true = refl
@@ -332,7 +332,7 @@ weighty-one : (es : List Entry) (s : Setting) → same_keyword s.keyword Weight 
 weighty-one [] s is last = omega arith
 weighty-one (e ∷ []) s is last =
     let new : Entry = record e { said = e.said ++ s ∷ [] } in
-    elim (says Weight new.said) as (λ t. length (cond t (new ∷ []) []) ≤ 1) [ true ↦ omega arith | false ↦ omega arith ]
+    elim (has_keyword Weight new.said) as (λ t. length (cond t (new ∷ []) []) ≤ 1) [ true ↦ omega arith | false ↦ omega arith ]
 weighty-one (e ∷ next ∷ es) s is last = rw (last.1 is) (weighty-one (next ∷ es) s is last.0)
 
 -- another setting changes no weight
@@ -340,17 +340,17 @@ weighty-same : (es : List Entry) (s : Setting) → same_keyword s.keyword Weight
 weighty-same [] s is = refl
 weighty-same (e ∷ []) s is =
     let new : Entry = record e { said = e.said ++ s ∷ [] } in
-    let same : says Weight new.said ≡ says Weight e.said = says-more e.said s ∙ ap (λ t. says Weight e.said || t) is ∙ or-false (says Weight e.said) in
-    rw same (elim (says Weight e.said) as (λ t. length (cond t (new ∷ []) []) ≡ length (cond t (e ∷ []) [])) [ true ↦ refl | false ↦ refl ])
+    let same : has_keyword Weight new.said ≡ has_keyword Weight e.said = says-more e.said s ∙ ap (λ t. has_keyword Weight e.said || t) is ∙ or-false (has_keyword Weight e.said) in
+    rw same (elim (has_keyword Weight e.said) as (λ t. length (cond t (new ∷ []) []) ≡ length (cond t (e ∷ []) [])) [ true ↦ refl | false ↦ refl ])
 weighty-same (e ∷ next ∷ es) s is =
     let rest = weighty-same (next ∷ es) s is in
-    elim (says Weight e.said) as (λ t. length (cond t (e ∷ weighty (with_setting s (next ∷ es))) (weighty (with_setting s (next ∷ es)))) ≡ length (cond t (e ∷ weighty (next ∷ es)) (weighty (next ∷ es)))) [ true ↦ ap suc rest | false ↦ rest ]
+    elim (has_keyword Weight e.said) as (λ t. length (cond t (e ∷ weighty (with_setting s (next ∷ es))) (weighty (with_setting s (next ∷ es)))) ≡ length (cond t (e ∷ weighty (next ∷ es)) (weighty (next ∷ es)))) [ true ↦ ap suc rest | false ↦ rest ]
 
-weighty-push : (es : List Entry) (e : Entry) → says Weight e.said ≡ false → length (weighty (es ++ e ∷ [])) ≡ length (weighty es)
+weighty-push : (es : List Entry) (e : Entry) → has_keyword Weight e.said ≡ false → length (weighty (es ++ e ∷ [])) ≡ length (weighty es)
 weighty-push [] e h = rw h refl
 weighty-push (x ∷ es) e h =
     let rest = weighty-push es e h in
-    elim (says Weight x.said) as (λ t. length (cond t (x ∷ weighty (es ++ e ∷ [])) (weighty (es ++ e ∷ []))) ≡ length (cond t (x ∷ weighty es) (weighty es))) [ true ↦ ap suc rest | false ↦ rest ]
+    elim (has_keyword Weight x.said) as (λ t. length (cond t (x ∷ weighty (es ++ e ∷ [])) (weighty (es ++ e ∷ []))) ≡ length (cond t (x ∷ weighty es) (weighty es))) [ true ↦ ap suc rest | false ↦ rest ]
 
 -- ---- line by line
 
@@ -402,7 +402,7 @@ variable-keeps line s next text h kept =
     let e = one.0 in
     let fresh = fresh-at line s.entries (words text) e one.1 in
     let made : after_variable s e ≡ next = cc in
-    let light : says Weight e.said ≡ false = rw fresh.none refl in
+    let light : has_keyword Weight e.said ≡ false = rw fresh.none refl in
     let named : map (λ (x : Entry). x.name) s.entries ++ e.name ∷ [] ≡ map (λ (x : Entry). x.name) (s.entries ++ e ∷ []) = sym (map-append (λ (x : Entry). x.name) s.entries (e ∷ [])) in
     subst IsSoFar made (record {
       each = all-more IsEntry s.entries e kept.each fresh.entry;
@@ -502,8 +502,8 @@ is-variable e entry fine = record {
   inside = entry.inside;
   few_missing = entry.few_missing;
   fine = few-decimals (argument_said Decimals e.said) (said-fits e.width Decimals FewDecimals (decimals-fit e.width) e.said entry.each);
-  weight_fine = weight-clash (says Weight e.said) (says HierLevels e.said && says HierCodeList e.said) (says Hierarchical e.said && not (has_tree e.said)) (is_numeric e.said && has_tree e.said) (decimals_of e.said) fine;
-  weight_numeric = or-true (says Numeric e.said) (says Weight e.said);
+  weight_fine = weight-clash (has_keyword Weight e.said) (has_keyword HierLevels e.said && has_keyword HierCodeList e.said) (has_keyword Hierarchical e.said && not (has_tree e.said)) (is_numeric e.said && has_tree e.said) (decimals_of e.said) fine;
+  weight_numeric = or-true (has_keyword Numeric e.said) (has_keyword Weight e.said);
   list = file-list (argument_said CodeList e.said) (said-fits e.width CodeList IsFile (list-fits e.width) e.said entry.each);
   shaped = shaped-from e.width (argument_said HierLevels e.said) (argument_said HierCodeList e.said) (lead_of e.said) entry.some_width
       (said-fits e.width HierLevels (AreLevels e.width) (levels-fit e.width) e.said entry.each)
@@ -526,7 +526,7 @@ unfolding variable_of
 variable-weights [] = refl
 variable-weights (e ∷ es) =
     let rest = variable-weights es in
-    elim (says Weight e.said) as (λ t. length (cond t (variable_of e ∷ weights (map variable_of es)) (weights (map variable_of es))) ≡ length (cond t (e ∷ weighty es) (weighty es))) [ true ↦ ap suc rest | false ↦ rest ]
+    elim (has_keyword Weight e.said) as (λ t. length (cond t (variable_of e ∷ weights (map variable_of es)) (weights (map variable_of es))) ≡ length (cond t (e ∷ weighty es) (weighty es))) [ true ↦ ap suc rest | false ↦ rest ]
 
 none-twice : IsDistinct {K = List ℕ} bytes_eq []
 unfolding IsDistinct
@@ -535,10 +535,10 @@ none-twice = tt
 pub within_limits : (bytes : List ℕ) (meta : Meta) → meta_of bytes ≡ Ok meta → IsMeta meta
 unfolding meta_of
 within_limits bytes meta h =
-    let all = bind_ok (lines_say 0 nothing (lines bytes)) _ meta h in
+    let all = bind_ok (lines_say 0 no_lines (lines bytes)) _ meta h in
     let fine = bind_ok (no_clash all.0.entries) _ meta all.2 in
     let made : record { variables = map variable_of all.0.entries; passed_over = all.0.passed_over } ≡ meta = cc in
-    let kept = lines-keep 0 nothing all.0 (lines bytes) all.1 (record { each = tt; few = omega arith; distinct = none-twice; one = omega arith }) in
+    let kept = lines-keep 0 no_lines all.0 (lines bytes) all.1 (record { each = tt; few = omega arith; distinct = none-twice; one = omega arith }) in
     let es = all.0.entries in
     subst IsMeta made (record {
       few = rw length-map kept.few;

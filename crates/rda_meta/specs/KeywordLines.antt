@@ -11,7 +11,7 @@ use Rattle.rda_meta.specs.declared.entry.Entry.{Entry}
 use Rattle.rda_meta.specs.Words.{words}
 use Rattle.rda_meta.specs.Keywords.{keyword_of, same_keyword}
 use Rattle.rda_meta.specs.Arguments.{argument_of}
-use Rattle.rda_meta.specs.Said.{says}
+use Rattle.rda_meta.specs.LineSettings.{has_keyword}
 
 -- a byte is >
 abbrev pub is_close : ℕ → Bool
@@ -27,11 +27,15 @@ keyword_in text = do
 abbrev pub last_of : List Entry → Option Entry
 last_of entries = slice_get entries (length entries - 1)
 
--- The keyword stands again: WEIGHT for any variable, every other for this one. Those that are passed over are never kept, so they are never said before.
+-- The keyword stands again: WEIGHT for any variable, every other for this one. Those that are passed over are never
+-- kept, so they are never said before.
 abbrev pub is_again : Keyword → Entry → List Entry → Bool
-is_again keyword entry entries = if same_keyword keyword Weight then list_any (λ e. says Weight e.said) entries else says keyword entry.said
+is_again keyword entry entries =
+    if same_keyword keyword Weight then list_any (λ e. has_keyword Weight e.said) entries
+    else has_keyword keyword entry.said
 
--- The setting of a keyword line, or its first fault: no keyword, no variable before it, an argument that the keyword does not take, or the keyword again.
+-- The setting of a keyword line, or its first fault: no keyword, no variable before it, an argument that the keyword
+-- does not take, or the keyword again.
 unfoldable pub setting_in : List Entry → List ℕ → Result Setting MetaWhy
 setting_in entries text = do
   keyword ← keyword_in text

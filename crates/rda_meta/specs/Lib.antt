@@ -2,12 +2,12 @@ pub mod Words
 pub mod Faults
 pub mod Keywords
 pub mod Arguments
-pub mod Said
+pub mod LineSettings
 pub mod KeywordLines
 pub mod VariableLines
 pub mod Metadata
 pub mod Spelling
-pub mod Canonical
+pub mod CanonicalMetadata
 pub mod Meaning
 pub mod Limits
 pub mod Laws

@@ -10,10 +10,12 @@ use Rattle.rda_meta.specs.declared.meta.Shape.TheVariants as shape
 use Rattle.rda_meta.specs.declared.meta.Variable.{Variable}
 use Rattle.rda_meta.specs.declared.meta.Meta.{Meta}
 
--- one to nine levels of a byte or more make up the width; a hierarchy file has a file's name, and its lead string is 1 to 8 bytes
+-- one to nine levels of a byte or more make up the width; a hierarchy file has a file's name, and its lead string is 1
+-- to 8 bytes
 abbrev pub IsShaped : ℕ → Shape → Type 0
 IsShaped width shape.Flat = Unit {0}
-IsShaped width (shape.Levels widths) = (0 < length widths) × (length widths ≤ 9) × All (λ level. 0 < level) widths × (sum widths ≡ width)
+IsShaped width (shape.Levels widths) = (0 < length widths) × (length widths ≤ 9) × All (λ level. 0 < level) widths
+    × (sum widths ≡ width)
 IsShaped width (shape.Listed file lead) = (is_file_name file ≡ true) × (is_lead lead ≡ true)
 
 -- a variable within its limits: its field ends at position 1,000 at the latest

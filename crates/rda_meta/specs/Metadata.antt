@@ -14,7 +14,7 @@ use Rattle.rda_meta.specs.declared.meta.Meta.{Meta}
 use Rattle.rda_meta.specs.Faults.{at_line}
 use Rattle.rda_meta.specs.Words.{words}
 use Rattle.rda_meta.specs.Keywords.{is_passed}
-use Rattle.rda_meta.specs.Said.{says, is_numeric, decimals_of, total_of, codes_of, shape_of, is_clashing}
+use Rattle.rda_meta.specs.LineSettings.{has_keyword, is_numeric, decimals_of, total_of, codes_of, shape_of, is_clashing}
 use Rattle.rda_meta.specs.KeywordLines.{setting_in, with_setting}
 use Rattle.rda_meta.specs.VariableLines.{variable_at}
 
@@ -65,7 +65,7 @@ variable_of entry = record {
   width = entry.width;
   missing = entry.missing;
   numeric = is_numeric entry.said;
-  weight = says Weight entry.said;
+  weight = has_keyword Weight entry.said;
   decimals = decimals_of entry.said;
   total = total_of entry.said;
   codes = codes_of entry.said;
@@ -73,12 +73,12 @@ variable_of entry = record {
 }
 
 -- before the first line
-abbrev pub nothing : SoFar
-nothing = record { entries = []; passed_over = 0 }
+abbrev pub no_lines : SoFar
+no_lines = record { entries = []; passed_over = 0 }
 
 -- the metadata that a text states, or its first fault with its line
 unfoldable pub meta_of : List ℕ → Result Meta (ℕ × MetaWhy)
 meta_of bytes = do
-  all ← lines_say 0 nothing (lines bytes)
+  all ← lines_say 0 no_lines (lines bytes)
   fine ← no_clash all.entries
   Ok (record { variables = map variable_of all.entries; passed_over = all.passed_over })

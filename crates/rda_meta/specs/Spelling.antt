@@ -11,8 +11,8 @@ use Rattle.rda_meta.specs.declared.entry.Entry.{Entry}
 use Rattle.sdc_base.specs.Tokens.{is_quote}
 
 -- between double quotes
-abbrev pub quoted : List ℕ → List ℕ
-quoted word = 34 ∷ word ++ 34 ∷ []
+abbrev pub quoted_word : List ℕ → List ℕ
+quoted_word word = 34 ∷ word ++ 34 ∷ []
 
 -- an empty word, one with a blank in it, and one that begins with a quote or <
 abbrev pub needs_quotes : List ℕ → Bool
@@ -20,13 +20,13 @@ needs_quotes [] = true
 needs_quotes (b ∷ word) = is_quote b || (b == 60) || list_any is_blank (b ∷ word)
 
 -- a word, in quotes where it needs them
-abbrev pub spelled : List ℕ → List ℕ
-spelled word = if needs_quotes word then quoted word else word
+abbrev pub spelling_of_word : List ℕ → List ℕ
+spelling_of_word word = if needs_quotes word then quoted_word word else word
 
 -- each word behind a space
-abbrev pub spaced : List (List ℕ) → List ℕ
-spaced [] = []
-spaced (word ∷ words) = 32 ∷ spelled word ++ spaced words
+abbrev pub words_behind_spaces : List (List ℕ) → List ℕ
+words_behind_spaces [] = []
+words_behind_spaces (word ∷ words) = 32 ∷ spelling_of_word word ++ words_behind_spaces words
 
 -- the spelling of a keyword
 abbrev pub name_of : Keyword → List ℕ
@@ -54,7 +54,7 @@ argument_words (Levels widths) = map decimal widths
 
 -- a keyword line, behind its <
 abbrev pub setting_text : Setting → List ℕ
-setting_text setting = name_of setting.keyword ++ 62 ∷ spaced (argument_words setting.argument)
+setting_text setting = name_of setting.keyword ++ 62 ∷ words_behind_spaces (argument_words setting.argument)
 
 -- a keyword line
 abbrev pub setting_line : Setting → List ℕ
@@ -62,7 +62,8 @@ setting_line setting = 60 ∷ setting_text setting
 
 -- a variable line
 abbrev pub variable_text : Entry → List ℕ
-variable_text entry = spelled entry.name ++ spaced (decimal entry.first ∷ decimal entry.width ∷ entry.missing)
+variable_text entry =
+    spelling_of_word entry.name ++ words_behind_spaces (decimal entry.first ∷ decimal entry.width ∷ entry.missing)
 
 -- a variable line, and a line for each keyword
 abbrev pub entry_lines : Entry → List (List ℕ)

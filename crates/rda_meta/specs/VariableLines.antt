@@ -39,7 +39,8 @@ missing_of words = if nat_lt 2 (length words) then Err BadValue else Ok (map tri
 abbrev pub is_named : List ℕ → List Entry → Bool
 is_named name entries = list_any (λ entry. bytes_eq entry.name name) entries
 
--- The variable of the words of a line behind these variables, or its first fault: its name, its place, its missing codes, the name again, or no room for one more.
+-- The variable of the words of a line behind these variables, or its first fault: its name, its place, its missing
+-- codes, the name again, or no room for one more.
 unfoldable pub variable_at : ℕ → List Entry → List (List ℕ) → Result Entry MetaWhy
 variable_at line entries words = do
   name ← name_at words

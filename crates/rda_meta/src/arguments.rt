@@ -3,7 +3,8 @@ ghost use Rattle.std.specs.List.{list_any};
 ghost use Rattle.sdc_base.specs.Blanks.{is_blank};
 ghost use Rattle.sdc_base.specs.Answers.{Gives};
 ghost use Rattle.rda_meta.specs.Faults.{why_of};
-ghost use Rattle.rda_meta.specs.Arguments.{is_lead as leads, no_argument as none, only_word as only, decimals_argument as decimals, file_argument as file, lead_argument as lead, code_argument as code, numbers_of as numbered, is_zero, without_end_zeros, are_levels as levels_are, levels_argument as leveled, argument_of as argued};
+ghost use Rattle.rda_meta.specs.Arguments.{is_zero, without_end_zeros};
+ghost use Rattle.rda_meta.specs.Arguments as spec;
 
 use crate::faults::{LineError, MetaWhy};
 use crate::numbers::number_in;
@@ -22,7 +23,7 @@ pub(crate) fn argument_of(
     width: u32,
     words: &mut Words,
 ) -> Result<Argument, LineError>
-    ensures { Gives why_of (λ argument. argument) result (argued keyword width words.old) }
+    ensures { Gives why_of (λ argument. argument) result (spec.argument_of keyword width words.old) }
 {
     match keyword {
         Keyword::Decimals => decimals_argument(words),
@@ -38,7 +39,7 @@ pub(crate) fn argument_of(
 
 // No word at all.
 fn no_argument(words: &mut Words) -> Result<Argument, LineError>
-    ensures { Gives why_of (λ argument. argument) result (none words.old) }
+    ensures { Gives why_of (λ argument. argument) result (spec.no_argument words.old) }
 {
     let word = words.next_word();
     if word.is_some() {
@@ -49,7 +50,7 @@ fn no_argument(words: &mut Words) -> Result<Argument, LineError>
 
 // Exactly one word.
 fn only_word<'a>(words: &mut Words<'a>) -> Result<&'a [u8], LineError>
-    ensures { Gives why_of (λ word. word.now) result (only words.old) }
+    ensures { Gives why_of (λ word. word.now) result (spec.only_word words.old) }
 {
     let Some(word) = words.next_word() else {
         return Err(LineError::Fault(MetaWhy::BadValue));
@@ -64,7 +65,7 @@ fn only_word<'a>(words: &mut Words<'a>) -> Result<&'a [u8], LineError>
 // One word, a number from 0 to 9.
 #[tactic(auto, unfolding(crate::specs::Arguments::decimals_argument))]
 fn decimals_argument(words: &mut Words) -> Result<Argument, LineError>
-    ensures { Gives why_of (λ argument. argument) result (decimals words.old) }
+    ensures { Gives why_of (λ argument. argument) result (spec.decimals_argument words.old) }
 {
     let word = only_word(words)?;
     let Some(number) = number_in(0, 9, word) else {
@@ -76,7 +77,7 @@ fn decimals_argument(words: &mut Words) -> Result<Argument, LineError>
 // One word, a file name.
 #[tactic(auto, unfolding(crate::specs::Arguments::file_argument))]
 fn file_argument(alloc: Global, words: &mut Words) -> Result<Argument, LineError>
-    ensures { Gives why_of (λ argument. argument) result (file words.old) }
+    ensures { Gives why_of (λ argument. argument) result (spec.file_argument words.old) }
 {
     let word = only_word(words)?;
     if !is_file_name(word) {
@@ -88,7 +89,7 @@ fn file_argument(alloc: Global, words: &mut Words) -> Result<Argument, LineError
 // One word, a lead string.
 #[tactic(auto, unfolding(crate::specs::Arguments::lead_argument))]
 fn lead_argument(alloc: Global, words: &mut Words) -> Result<Argument, LineError>
-    ensures { Gives why_of (λ argument. argument) result (lead words.old) }
+    ensures { Gives why_of (λ argument. argument) result (spec.lead_argument words.old) }
 {
     let word = only_word(words)?;
     if !is_lead(word) {
@@ -100,7 +101,7 @@ fn lead_argument(alloc: Global, words: &mut Words) -> Result<Argument, LineError
 // One word, a code; blanks at its ends are taken off.
 #[tactic(auto, unfolding(crate::specs::Arguments::code_argument))]
 fn code_argument(alloc: Global, words: &mut Words) -> Result<Argument, LineError>
-    ensures { Gives why_of (λ argument. argument) result (code words.old) }
+    ensures { Gives why_of (λ argument. argument) result (spec.code_argument words.old) }
 {
     let word = only_word(words)?;
     Ok(Argument::Word(Text::new(trim(word).to_vec(alloc)?)))
@@ -109,7 +110,7 @@ fn code_argument(alloc: Global, words: &mut Words) -> Result<Argument, LineError
 // The widths of levels; zeros at the end add none.
 #[tactic(auto, unfolding(crate::specs::Arguments::levels_argument))]
 fn levels_argument(alloc: Global, width: u32, words: &mut Words) -> Result<Argument, LineError>
-    ensures { Gives why_of (λ argument. argument) result (leveled width words.old) }
+    ensures { Gives why_of (λ argument. argument) result (spec.levels_argument width words.old) }
 {
     let numbers = numbers_of(alloc, words)?;
     let levels = without_zeros(numbers.as_slice());
@@ -121,7 +122,7 @@ fn levels_argument(alloc: Global, width: u32, words: &mut Words) -> Result<Argum
 
 // Each word as a number.
 fn numbers_of(alloc: Global, words: &mut Words) -> Result<Items<u8>, LineError>
-    ensures { Gives why_of (λ numbers. numbers) result (numbered words.old) }
+    ensures { Gives why_of (λ numbers. numbers) result (spec.numbers_of words.old) }
 {
     let mut numbers = Items::empty(alloc);
     'words: while let Some(word) = words.next_word() {
@@ -153,7 +154,7 @@ fn without_zeros(numbers: &[u8]) -> &[u8]
 
 // At most 9 levels, none of them 0, that make up the width.
 fn are_levels(width: u32, levels: &[u8]) -> bool
-    ensures { result ≡ levels_are width levels.now }
+    ensures { result ≡ spec.are_levels width levels.now }
 {
     if levels.len() > 9 {
         return false;
@@ -192,7 +193,7 @@ fn has_blank(word: &[u8]) -> bool
 
 // 1 to 8 bytes without a blank.
 fn is_lead(word: &[u8]) -> bool
-    ensures { result ≡ leads word.now }
+    ensures { result ≡ spec.is_lead word.now }
 {
     if word.is_empty() {
         return false;

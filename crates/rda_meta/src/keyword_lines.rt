@@ -2,14 +2,15 @@ ghost use Rattle.std.specs.Prelude.{◌≡◌, OnOk};
 ghost use Rattle.std.specs.List.{after_first, list_any};
 ghost use Rattle.sdc_base.specs.Answers.{Gives};
 ghost use Rattle.rda_meta.specs.Faults.{why_of};
-ghost use Rattle.rda_meta.specs.KeywordLines.{is_close, keyword_in as meant, is_again as again, setting_in as set, with_setting};
-ghost use Rattle.rda_meta.specs.Said.{says as stated};
+ghost use Rattle.rda_meta.specs.KeywordLines.{is_close, with_setting};
+ghost use Rattle.rda_meta.specs.KeywordLines as keyword_lines;
+ghost use Rattle.rda_meta.specs.LineSettings as line_settings;
 
 use crate::arguments::argument_of;
 use crate::entry::Entry;
 use crate::faults::{LineError, MetaWhy};
 use crate::keywords::{keyword_of, same_keyword};
-use crate::said::says;
+use crate::said::has_keyword;
 use crate::setting::{Keyword, Setting};
 use crate::words::words_in;
 use plain_text::cut_at;
@@ -36,7 +37,7 @@ pub(crate) fn setting_in(
     entries: &[Entry],
     text: &[u8],
 ) -> Result<Setting, LineError>
-    ensures { Gives why_of (λ setting. setting) result (set entries.now text.now) }
+    ensures { Gives why_of (λ setting. setting) result (keyword_lines.setting_in entries.now text.now) }
 {
     let keyword = keyword_in(text)?;
     let Some(entry) = entries.last() else {
@@ -52,27 +53,27 @@ pub(crate) fn setting_in(
 
 // Whether the keyword stood before, for this variable or, where it is the weight, for any.
 fn is_again(keyword: Keyword, entry: &Entry, entries: &[Entry]) -> bool
-    ensures { result ≡ again keyword entry.now entries.now }
+    ensures { result ≡ keyword_lines.is_again keyword entry.now entries.now }
 {
     if same_keyword(keyword, Keyword::Weight) {
         return some_weight(entries);
     }
-    says(entry.said.as_slice(), keyword)
+    has_keyword(entry.said.as_slice(), keyword)
 }
 
 // Whether some variable is the weight.
 fn some_weight(entries: &[Entry]) -> bool
-    ensures { result ≡ list_any (λ e. stated Keyword.Weight e.said) entries.now }
+    ensures { result ≡ list_any (λ e. line_settings.has_keyword Keyword.Weight e.said) entries.now }
 {
     entries
         .iter()
-        .any(|e| says(e.said.as_slice(), Keyword::Weight))
+        .any(|e| has_keyword(e.said.as_slice(), Keyword::Weight))
 }
 
 // The keyword that stands before the first `>`.
 #[tactic(auto, unfolding(crate::specs::KeywordLines::keyword_in))]
 fn keyword_in(text: &[u8]) -> Result<Keyword, LineError>
-    ensures { Gives why_of (λ keyword. keyword) result (meant text.now) }
+    ensures { Gives why_of (λ keyword. keyword) result (keyword_lines.keyword_in text.now) }
 {
     if !text.contains(&b'>') {
         return Err(LineError::Fault(MetaWhy::UnknownKeyword));

@@ -1,6 +1,6 @@
 ghost use Rattle.std.specs.Prelude.{◌≡◌};
 ghost use Rattle.std.specs.Str.{str_eq_ignore_ascii_case};
-ghost use Rattle.rda_meta.specs.Keywords.{keyword_of as meant, is_passed as passed, place_of as placed, same_keyword as same};
+ghost use Rattle.rda_meta.specs.Keywords as spec;
 
 use crate::setting::Keyword;
 
@@ -14,7 +14,7 @@ fn spells(word: &[u8], name: &[u8]) -> bool
 /// The keyword of this spelling, in letters of any case.
 #[tactic(auto, unfolding(crate::specs::Keywords::keyword_of))]
 pub(crate) fn keyword_of(word: &[u8]) -> Option<Keyword>
-    ensures { result ≡ meant word.now }
+    ensures { result ≡ spec.keyword_of word.now }
 {
     if spells(word, b"RECODEABLE") {
         return Some(Keyword::Recodeable);
@@ -63,7 +63,7 @@ pub(crate) fn keyword_of(word: &[u8]) -> Option<Keyword>
 
 /// Whether lines of this keyword are passed over and counted.
 pub(crate) fn is_passed(keyword: Keyword) -> bool
-    ensures { result ≡ passed keyword }
+    ensures { result ≡ spec.is_passed keyword }
 {
     match keyword {
         Keyword::Request | Keyword::Holding | Keyword::Distance => true,
@@ -73,7 +73,7 @@ pub(crate) fn is_passed(keyword: Keyword) -> bool
 
 // The place of the keyword in the table.
 fn place_of(keyword: Keyword) -> u8
-    ensures { result ≡ placed keyword }
+    ensures { result ≡ spec.place_of keyword }
 {
     match keyword {
         Keyword::Recodeable => 0,
@@ -95,7 +95,7 @@ fn place_of(keyword: Keyword) -> u8
 
 /// Whether both are one keyword.
 pub(crate) fn same_keyword(a: Keyword, b: Keyword) -> bool
-    ensures { result ≡ same a b }
+    ensures { result ≡ spec.same_keyword a b }
 {
     place_of(a) == place_of(b)
 }

@@ -1,6 +1,6 @@
 //! Laws of metadata, as contracts of functions that do nothing.
 
-ghost use Rattle.rda_meta.specs.Rows.{FourLines, Realistic, Files, LateClash, SomeCanonical};
+ghost use Rattle.rda_meta.specs.Rows.{FourLines, ReadsRealisticMetadata, Files, LateClash, SomeCanonical};
 ghost use Rattle.rda_meta.specs.Laws.{IsLenient, IsLenientToEnds, IsLenientToLineEnds, IsInOrder, IsReadAgain, IsRoundTrip, IsSpelling};
 ghost use Rattle.rda_meta.specs.Meaning.{IsMeant, IsCounted};
 
@@ -43,7 +43,7 @@ pub fn spelling()
 #[tactic(auto, using(crate::proofs::RowsHold::four_lines, crate::proofs::RowsHold::realistic, crate::proofs::RowsHold::files, crate::proofs::RowsHold::late_clash, crate::proofs::RowsHold::some_canonical))]
 pub fn rows()
     ensures four_lines { FourLines }
-    ensures realistic { Realistic }
+    ensures realistic { ReadsRealisticMetadata }
     ensures files { Files }
     ensures late_clash { LateClash }
     ensures canonical { SomeCanonical }

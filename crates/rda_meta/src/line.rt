@@ -1,8 +1,9 @@
 ghost use Rattle.std.specs.Prelude.{◌≡◌, ◌≤◌, ◌+◌, ◌<◌, ◌^◌, OnOk};
 ghost use Rattle.sdc_base.specs.Answers.{Gives};
-ghost use Rattle.sdc_base.specs.Blanks.{trim as trimmed};
+ghost use Rattle.sdc_base.specs.Blanks as blanks_specs;
 ghost use Rattle.rda_meta.specs.Faults.{why_of, fault_of, at_line};
-ghost use Rattle.rda_meta.specs.Metadata.{after_setting, keyword_line as keyword_said, variable_line as variable_said, text_says as says_text};
+ghost use Rattle.rda_meta.specs.Metadata.{after_setting};
+ghost use Rattle.rda_meta.specs.Metadata as metadata;
 
 use crate::entry::SoFar;
 use crate::faults::{LineError, MetaError, error_at};
@@ -25,7 +26,8 @@ pub(crate) fn read_line(
     so_far: &mut SoFar,
 ) -> Result<(), MetaError>
     requires { so_far.old.passed_over + 1 < 2 ^ 32 }
-    ensures said { Gives fault_of (λ _. so_far.new) result (at_line line (says_text line so_far.old (trimmed text.now))) }
+    ensures said { Gives fault_of (λ _. so_far.new) result
+        (at_line line (metadata.text_says line so_far.old (blanks_specs.trim text.now))) }
     ensures passed { OnOk result (so_far.new.passed_over ≤ so_far.old.passed_over + 1) }
 {
     match text_says(alloc, line, trim(text), so_far) {
@@ -38,7 +40,7 @@ pub(crate) fn read_line(
 #[tactic(auto, unfolding(crate::specs::Metadata::text_says))]
 fn text_says(alloc: Global, line: u32, text: &[u8], so_far: &mut SoFar) -> Result<(), LineError>
     requires { so_far.old.passed_over + 1 < 2 ^ 32 }
-    ensures said { Gives why_of (λ _. so_far.new) result (says_text line so_far.old text.now) }
+    ensures said { Gives why_of (λ _. so_far.new) result (metadata.text_says line so_far.old text.now) }
     ensures passed { OnOk result (so_far.new.passed_over ≤ so_far.old.passed_over + 1) }
 {
     if text.is_empty() {
@@ -53,7 +55,7 @@ fn text_says(alloc: Global, line: u32, text: &[u8], so_far: &mut SoFar) -> Resul
 // One variable more.
 #[tactic(auto, unfolding(crate::specs::Metadata::variable_line))]
 fn variable_line(alloc: Global, line: u32, text: &[u8], so_far: &mut SoFar) -> Result<(), LineError>
-    ensures said { Gives why_of (λ _. so_far.new) result (variable_said line so_far.old text.now) }
+    ensures said { Gives why_of (λ _. so_far.new) result (metadata.variable_line line so_far.old text.now) }
     ensures passed { OnOk result (so_far.new.passed_over ≤ so_far.old.passed_over + 1) }
 {
     let mut words = words_in(text);
@@ -67,7 +69,7 @@ fn variable_line(alloc: Global, line: u32, text: &[u8], so_far: &mut SoFar) -> R
 #[tactic(auto, unfolding(crate::specs::Metadata::keyword_line))]
 fn keyword_line(alloc: Global, text: &[u8], so_far: &mut SoFar) -> Result<(), LineError>
     requires { so_far.old.passed_over + 1 < 2 ^ 32 }
-    ensures said { Gives why_of (λ _. so_far.new) result (keyword_said so_far.old text.now) }
+    ensures said { Gives why_of (λ _. so_far.new) result (metadata.keyword_line so_far.old text.now) }
     ensures passed { OnOk result (so_far.new.passed_over ≤ so_far.old.passed_over + 1) }
 {
     let setting = setting_in(alloc, so_far.entries.as_slice(), text)?;

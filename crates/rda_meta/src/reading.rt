@@ -1,15 +1,18 @@
 ghost use Rattle.std.specs.Prelude.{◌≡◌, ◌<◌, ◌^◌, length, map, IfOk};
-ghost use Rattle.sdc_base.specs.Lines.{lines as lines_of};
+ghost use Rattle.sdc_base.specs.Lines as lines_specs;
 ghost use Rattle.sdc_base.specs.Answers.{Gives};
 ghost use Rattle.rda_meta.specs.Faults.{fault_of};
 ghost use Rattle.rda_meta.specs.Limits.{IsMeta};
-ghost use Rattle.rda_meta.specs.Metadata.{lines_say, nothing, no_clash as clashless, variable_of as meant, meta_of};
+ghost use Rattle.rda_meta.specs.Metadata.{lines_say, no_lines, meta_of};
+ghost use Rattle.rda_meta.specs.Metadata as metadata_specs;
 
 use crate::entry::{Entry, SoFar};
 use crate::faults::{MetaError, MetaWhy};
 use crate::line::read_line;
 use crate::meta::{Meta, Variable};
-use crate::said::{codes_of, decimals_of, is_clashing, is_numeric, says, shape_of, total_of};
+use crate::said::{
+    codes_of, decimals_of, has_keyword, is_clashing, is_numeric, shape_of, total_of,
+};
 use crate::setting::Keyword;
 use plain_text::lines;
 use sdc_base::{Items, Memory};
@@ -55,7 +58,7 @@ fn meta_in(alloc: Global, bytes: &[u8]) -> Result<Meta, MetaError>
 // What all lines say.
 fn read_lines(alloc: Global, bytes: &[u8]) -> Result<SoFar, MetaError>
     requires { length bytes.now < 2 ^ 32 }
-    ensures { Gives fault_of (λ so_far. so_far) result (lines_say 0 nothing (lines_of bytes.now)) }
+    ensures { Gives fault_of (λ so_far. so_far) result (lines_say 0 no_lines (lines_specs.lines bytes.now)) }
 {
     let mut reader = lines(bytes);
     let mut so_far = SoFar {
@@ -71,7 +74,7 @@ fn read_lines(alloc: Global, bytes: &[u8]) -> Result<SoFar, MetaError>
 // The first variable of which the lines say what doesn't go together is a fault of its line.
 #[tactic(auto, unfolding(crate::specs::Metadata::no_clash))]
 fn no_clash(entries: &[Entry]) -> Result<(), MetaError>
-    ensures { Gives fault_of (λ fine. fine) result (clashless entries.now) }
+    ensures { Gives fault_of (λ fine. fine) result (metadata_specs.no_clash entries.now) }
 {
     'entries: for entry in entries {
         if is_clashing(entry.said.as_slice()) {
@@ -86,7 +89,7 @@ fn no_clash(entries: &[Entry]) -> Result<(), MetaError>
 
 // The variable of each entry.
 fn variables_of(alloc: Global, entries: Items<Entry>) -> Result<Items<Variable>, Memory>
-    ensures { IfOk result (λ variables. variables ≡ map meant entries) }
+    ensures { IfOk result (λ variables. variables ≡ map metadata_specs.variable_of entries) }
 {
     let mut variables = Items::empty(alloc);
     'entries: for entry in entries.into_vec() {
@@ -98,11 +101,11 @@ fn variables_of(alloc: Global, entries: Items<Entry>) -> Result<Items<Variable>,
 // The variable of an entry, with its defaults.
 #[tactic(auto, unfolding(crate::specs::Metadata::variable_of))]
 fn variable_of(alloc: Global, entry: Entry) -> Result<Variable, Memory>
-    ensures { IfOk result (λ variable. variable ≡ meant entry) }
+    ensures { IfOk result (λ variable. variable ≡ metadata_specs.variable_of entry) }
 {
     let said = entry.said.as_slice();
     let numeric = is_numeric(said);
-    let weight = says(said, Keyword::Weight);
+    let weight = has_keyword(said, Keyword::Weight);
     let decimals = decimals_of(said);
     let total = total_of(alloc, said)?;
     let codes = codes_of(alloc, said)?;

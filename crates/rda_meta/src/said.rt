@@ -1,6 +1,6 @@
 ghost use Rattle.std.specs.Prelude.{◌≡◌, IfOk, unwrap_or, option_map};
 ghost use Rattle.std.specs.Option.{option_copied};
-ghost use Rattle.rda_meta.specs.Said.{says as stated, argument_said as argued, number_in as numbered, word_in as worded, levels_in as leveled, is_numeric as numeric, has_tree as treed, decimals_of as decimals, total_of as total, codes_of as codes, lead_of as lead, shape_of as shape, is_clashing as clashing};
+ghost use Rattle.rda_meta.specs.LineSettings as spec;
 
 use crate::keywords::same_keyword;
 use crate::meta::Shape;
@@ -9,15 +9,15 @@ use sdc_base::{Items, Memory, Text};
 use std::alloc::Global;
 
 /// Whether a line has this keyword.
-pub(crate) fn says(said: &[Setting], keyword: Keyword) -> bool
-    ensures { result ≡ stated keyword said.now }
+pub(crate) fn has_keyword(said: &[Setting], keyword: Keyword) -> bool
+    ensures { result ≡ spec.has_keyword keyword said.now }
 {
     said.iter().any(|s| same_keyword(s.keyword, keyword))
 }
 
 // What stands behind the keyword, where a line has it.
 fn argument_said(said: &[Setting], keyword: Keyword) -> Option<&Argument>
-    ensures { option_copied result ≡ argued keyword said.now }
+    ensures { option_copied result ≡ spec.argument_said keyword said.now }
 {
     'said: for s in said {
         if same_keyword(s.keyword, keyword) {
@@ -29,7 +29,7 @@ fn argument_said(said: &[Setting], keyword: Keyword) -> Option<&Argument>
 
 // The number behind the keyword.
 fn number_said(said: &[Setting], keyword: Keyword) -> Option<u8>
-    ensures { result ≡ numbered (argued keyword said.now) }
+    ensures { result ≡ spec.number_in (spec.argument_said keyword said.now) }
 {
     match argument_said(said, keyword)? {
         Argument::Number(number) => Some(*number),
@@ -39,7 +39,7 @@ fn number_said(said: &[Setting], keyword: Keyword) -> Option<u8>
 
 // The word behind the keyword.
 fn word_said(said: &[Setting], keyword: Keyword) -> Option<&Text>
-    ensures { option_copied result ≡ worded (argued keyword said.now) }
+    ensures { option_copied result ≡ spec.word_in (spec.argument_said keyword said.now) }
 {
     match argument_said(said, keyword)? {
         Argument::Word(word) => Some(word),
@@ -49,7 +49,7 @@ fn word_said(said: &[Setting], keyword: Keyword) -> Option<&Text>
 
 // The levels behind the keyword.
 fn levels_said(said: &[Setting], keyword: Keyword) -> Option<&Items<u8>>
-    ensures { option_copied result ≡ leveled (argued keyword said.now) }
+    ensures { option_copied result ≡ spec.levels_in (spec.argument_said keyword said.now) }
 {
     match argument_said(said, keyword)? {
         Argument::Levels(levels) => Some(levels),
@@ -59,27 +59,27 @@ fn levels_said(said: &[Setting], keyword: Keyword) -> Option<&Items<u8>>
 
 /// Whether the variable is a number; a weight is one.
 pub(crate) fn is_numeric(said: &[Setting]) -> bool
-    ensures { result ≡ numeric said.now }
+    ensures { result ≡ spec.is_numeric said.now }
 {
-    if says(said, Keyword::Numeric) {
+    if has_keyword(said, Keyword::Numeric) {
         return true;
     }
-    says(said, Keyword::Weight)
+    has_keyword(said, Keyword::Weight)
 }
 
 // Levels or a hierarchy file.
 fn has_tree(said: &[Setting]) -> bool
-    ensures { result ≡ treed said.now }
+    ensures { result ≡ spec.has_tree said.now }
 {
-    if says(said, Keyword::HierLevels) {
+    if has_keyword(said, Keyword::HierLevels) {
         return true;
     }
-    says(said, Keyword::HierCodeList)
+    has_keyword(said, Keyword::HierCodeList)
 }
 
 /// The digits behind the point, 0 by default.
 pub(crate) fn decimals_of(said: &[Setting]) -> u8
-    ensures { result ≡ decimals said.now }
+    ensures { result ≡ spec.decimals_of said.now }
 {
     let number = number_said(said, Keyword::Decimals);
     number.unwrap_or(0)
@@ -97,7 +97,7 @@ fn copy_or(alloc: Global, word: Option<&Text>, default: &[u8]) -> Result<Text, M
 
 /// The code of the total, `Total` by default.
 pub(crate) fn total_of(alloc: Global, said: &[Setting]) -> Result<Text, Memory>
-    ensures { IfOk result (λ text. text ≡ total said.now) }
+    ensures { IfOk result (λ text. text ≡ spec.total_of said.now) }
 {
     let word = word_said(said, Keyword::TotCode);
     copy_or(alloc, word, b"Total")
@@ -105,7 +105,7 @@ pub(crate) fn total_of(alloc: Global, said: &[Setting]) -> Result<Text, Memory>
 
 // The lead string, `@` by default.
 fn lead_of(alloc: Global, said: &[Setting]) -> Result<Text, Memory>
-    ensures { IfOk result (λ text. text ≡ lead said.now) }
+    ensures { IfOk result (λ text. text ≡ spec.lead_of said.now) }
 {
     let word = word_said(said, Keyword::HierLeadString);
     copy_or(alloc, word, b"@")
@@ -113,7 +113,7 @@ fn lead_of(alloc: Global, said: &[Setting]) -> Result<Text, Memory>
 
 /// The file with the list of codes, where a line names one.
 pub(crate) fn codes_of(alloc: Global, said: &[Setting]) -> Result<Option<Text>, Memory>
-    ensures { IfOk result (λ text. text ≡ codes said.now) }
+    ensures { IfOk result (λ text. text ≡ spec.codes_of said.now) }
 {
     let Some(word) = word_said(said, Keyword::CodeList) else {
         return Ok(None);
@@ -123,7 +123,7 @@ pub(crate) fn codes_of(alloc: Global, said: &[Setting]) -> Result<Option<Text>, 
 
 /// How the codes are arranged: by levels, else by a hierarchy file, else flat.
 pub(crate) fn shape_of(alloc: Global, said: &[Setting]) -> Result<Shape, Memory>
-    ensures { IfOk result (λ made. made ≡ shape said.now) }
+    ensures { IfOk result (λ made. made ≡ spec.shape_of said.now) }
 {
     if let Some(levels) = levels_said(said, Keyword::HierLevels) {
         return Ok(Shape::Levels(Items::new(levels.as_slice().to_vec(alloc)?)));
@@ -138,16 +138,16 @@ pub(crate) fn shape_of(alloc: Global, said: &[Setting]) -> Result<Shape, Memory>
 
 /// Whether what is said doesn't go together.
 pub(crate) fn is_clashing(said: &[Setting]) -> bool
-    ensures { result ≡ clashing said.now }
+    ensures { result ≡ spec.is_clashing said.now }
 {
-    if says(said, Keyword::HierLevels) && says(said, Keyword::HierCodeList) {
+    if has_keyword(said, Keyword::HierLevels) && has_keyword(said, Keyword::HierCodeList) {
         return true;
     }
-    if says(said, Keyword::Hierarchical) && !has_tree(said) {
+    if has_keyword(said, Keyword::Hierarchical) && !has_tree(said) {
         return true;
     }
     if is_numeric(said) && has_tree(said) {
         return true;
     }
-    says(said, Keyword::Weight) && decimals_of(said) > 4
+    has_keyword(said, Keyword::Weight) && decimals_of(said) > 4
 }

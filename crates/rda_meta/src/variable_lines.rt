@@ -1,7 +1,7 @@
 ghost use Rattle.std.specs.Prelude.{◌≡◌, ◌≤◌, ◌<◌, ◌^◌, IfOk, length, []};
 ghost use Rattle.sdc_base.specs.Answers.{Gives};
 ghost use Rattle.rda_meta.specs.Faults.{why_of};
-ghost use Rattle.rda_meta.specs.VariableLines.{is_name as names, name_at as named, number_at as numbered, missing_of as missed, is_named as taken, variable_at as stated};
+ghost use Rattle.rda_meta.specs.VariableLines as spec;
 
 use crate::entry::Entry;
 use crate::faults::{LineError, MetaWhy};
@@ -20,7 +20,7 @@ pub(crate) fn variable_at(
     entries: &[Entry],
     words: &mut Words,
 ) -> Result<Entry, LineError>
-    ensures { Gives why_of (λ entry. entry) result (stated line entries.now words.old) }
+    ensures { Gives why_of (λ entry. entry) result (spec.variable_at line entries.now words.old) }
 {
     let name = name_at(words)?;
     let first = number_at(1000, words)?;
@@ -47,7 +47,8 @@ fn new_entry(
     width: u32,
     missing: Items<Text>,
 ) -> Result<Entry, Memory>
-    ensures { IfOk result (λ entry. entry ≡ record { line = line; name = name.now; first = first; width = width; missing = missing; said = [] }) }
+    ensures { IfOk result (λ entry. entry
+        ≡ record { line = line; name = name.now; first = first; width = width; missing = missing; said = [] }) }
 {
     let name = Text::new(name.to_vec(alloc)?);
     Ok(Entry {
@@ -62,7 +63,7 @@ fn new_entry(
 
 // 1 to 64 bytes.
 fn is_name(word: &[u8]) -> bool
-    ensures { result ≡ names word.now }
+    ensures { result ≡ spec.is_name word.now }
 {
     if word.is_empty() {
         return false;
@@ -73,7 +74,7 @@ fn is_name(word: &[u8]) -> bool
 // The next word as a name.
 #[tactic(auto, unfolding(crate::specs::VariableLines::name_at))]
 fn name_at<'a>(words: &mut Words<'a>) -> Result<&'a [u8], LineError>
-    ensures { Gives why_of (λ name. (name.now, words.new)) result (named words.old) }
+    ensures { Gives why_of (λ name. (name.now, words.new)) result (spec.name_at words.old) }
 {
     let Some(word) = words.next_word() else {
         return Err(LineError::Fault(MetaWhy::BadName));
@@ -88,7 +89,7 @@ fn name_at<'a>(words: &mut Words<'a>) -> Result<&'a [u8], LineError>
 #[tactic(auto, unfolding(crate::specs::VariableLines::number_at))]
 fn number_at(most: u32, words: &mut Words) -> Result<u32, LineError>
     requires { most < 2 ^ 16 }
-    ensures number { Gives why_of (λ number. (number, words.new)) result (numbered most words.old) }
+    ensures number { Gives why_of (λ number. (number, words.new)) result (spec.number_at most words.old) }
     ensures some { IfOk result (λ number. 0 < number) }
     ensures within { IfOk result (λ number. number ≤ most) }
 {
@@ -104,7 +105,7 @@ fn number_at(most: u32, words: &mut Words) -> Result<u32, LineError>
 // All words that are left as missing codes, at most two.
 #[tactic(auto, unfolding(crate::specs::VariableLines::missing_of))]
 fn missing_of(alloc: Global, words: &mut Words) -> Result<Items<Text>, LineError>
-    ensures { Gives why_of (λ codes. codes) result (missed words.old) }
+    ensures { Gives why_of (λ codes. codes) result (spec.missing_of words.old) }
 {
     let mut codes = Items::empty(alloc);
     'words: while let Some(word) = words.next_word() {
@@ -118,7 +119,7 @@ fn missing_of(alloc: Global, words: &mut Words) -> Result<Items<Text>, LineError
 
 // Whether a variable has this name.
 fn is_named(name: &[u8], entries: &[Entry]) -> bool
-    ensures { result ≡ taken name.now entries.now }
+    ensures { result ≡ spec.is_named name.now entries.now }
 {
     entries.iter().any(|entry| entry.name.as_slice() == name)
 }

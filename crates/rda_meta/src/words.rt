@@ -1,5 +1,6 @@
 ghost use Rattle.std.specs.Prelude.{◌≡◌, ◌<◌, length, [], ◌∷◌, IfNone, IfSome};
-ghost use Rattle.rda_meta.specs.Words.{is_quoted as quoted, first_word, behind_word, words as words_of};
+ghost use Rattle.rda_meta.specs.Words.{first_word, behind_word};
+ghost use Rattle.rda_meta.specs.Words as spec;
 
 use plain_text::{cut_at, cut_at_blank, trim};
 use std::marker::Model;
@@ -12,16 +13,16 @@ pub(crate) struct Words<'a> {
 
 impl<'a> Model for Words<'a> {
     ghost use Rattle.std.specs.Prelude.{List, ℕ};
-    ghost use Rattle.rda_meta.specs.Words.{words as words_of};
+    ghost use Rattle.rda_meta.specs.Words as spec;
 
     ghost Value = { List (List ℕ) };
 
-    ghost view = { λ s. words_of s.rest.now };
+    ghost view = { λ s. spec.words s.rest.now };
 }
 
 /// The words of a line.
 pub(crate) fn words_in<'a>(line: &'a [u8]) -> Words<'a>
-    ensures { result ≡ words_of line.now }
+    ensures { result ≡ spec.words line.now }
 {
     Words { rest: line }
 }
@@ -59,7 +60,7 @@ fn cut_word(line: &[u8]) -> (&[u8], &[u8])
 // Whether the line begins with a quote that another one follows.
 fn is_quoted(line: &[u8]) -> bool
     requires { 0 < length line.now }
-    ensures { result ≡ quoted line.now }
+    ensures { result ≡ spec.is_quoted line.now }
 {
     line[0] == b'"' && line[1..].contains(&b'"')
 }

@@ -22,8 +22,8 @@ use Rattle.sdc_base.proofs.AddingUp.{tables_add_up}
 use Rattle.sdc_base.proofs.FirstNames.{names_are_first}
 use Rattle.sdc_base.proofs.TotalLemmas.{sum_of-cons}
 use Rattle.linked_tables.specs.declared.mark.Mark.{Mark}
-use Rattle.linked_tables.specs.Held.{Held}
-use Rattle.linked_tables.specs.Shared.{cells, IsBook, IsTable}
+use Rattle.linked_tables.specs.BookViews.{BookView}
+use Rattle.linked_tables.specs.BookCells.{cells, IsBook, IsTable}
 use Rattle.linked_tables.proofs.Finding.{named-found, found-name}
 use Rattle.relations.specs.Having.{has_spanned}
 use Rattle.relations.specs.Holding.{AreTruths, HaveNoChildren, sum_in, truth_at}
@@ -83,11 +83,11 @@ at-named names k name at = among names k at
         either true = refl
         either false = refl
 
-pub tables-of : (book : Held) → IsBook book → (t : ℕ) (table : List ℕ) → slice_get book.tables t ≡ Some table → IsTable (length book.trees) table
+pub tables-of : (book : BookView) → IsBook book → (t : ℕ) (table : List ℕ) → slice_get book.tables t ≡ Some table → IsTable (length book.trees) table
 tables-of book is t table at = subst (IsTable (length book.trees)) (get_or_from_slice_get book.tables t table table at) (is.tables t table (slice_get_within book.tables t table at))
 
 -- the number of a cell leads to its truth
-truth-is : (book : Held) (rows : List Row) (cell : ℕ) (name : Name) → IsBook book → AreTruths book rows → slice_get (cells book) cell ≡ Some name → truth_at book.marks cell ≡ truth book.trees name rows
+truth-is : (book : BookView) (rows : List Row) (cell : ℕ) (name : Name) → IsBook book → AreTruths book rows → slice_get (cells book) cell ≡ Some name → truth_at book.marks cell ≡ truth book.trees name rows
 truth-is book rows cell name is true_ at =
     let inside : cell < length book.marks = omega (arith, slice_get_within (cells book) cell name at, is.one_each) in
     by (slice_get book.marks cell) refl (λ none. absurd (no-mark book.marks cell none inside))
@@ -103,7 +103,7 @@ truth-is book rows cell name is true_ at =
 
 -- ---- one relation
 
-parts-sum : (book : Held) (rows : List Row) (name : Name) (variable : ℕ) (codes : List ℕ) → IsBook book → AreTruths book rows → list_any (has_spanned book.trees name variable) book.tables ≡ true
+parts-sum : (book : BookView) (rows : List Row) (name : Name) (variable : ℕ) (codes : List ℕ) → IsBook book → AreTruths book rows → list_any (has_spanned book.trees name variable) book.tables ≡ true
     → All (λ code. code < length (slice_index_or book.trees variable [])) codes
     → sum_of (truth_at book.marks) (parts_among (cells book) name variable codes) ≡ sum_of (λ code. truth book.trees (slice_set name variable code) rows) codes
 parts-sum book rows name variable [] is told spanned inside = refl
@@ -124,7 +124,7 @@ parts-sum book rows name variable (code ∷ codes) is told spanned inside =
 abbrev Adds : List Mark → Sum → Type 0
 Adds marks sum = (truth_at marks sum.0 -ℤ sum_of (truth_at marks) sum.1) ≡ pos 0
 
-one-holds : (book : Held) (rows : List Row) (cell : ℕ) (name : Name) (variable : ℕ) (sum : Sum) → IsBook book → All (IsCoded book.trees) rows → HaveNoChildren book.trees rows → AreTruths book rows
+one-holds : (book : BookView) (rows : List Row) (cell : ℕ) (name : Name) (variable : ℕ) (sum : Sum) → IsBook book → All (IsCoded book.trees) rows → HaveNoChildren book.trees rows → AreTruths book rows
     → slice_get (cells book) cell ≡ Some name → variable < length book.trees → relation_for book.trees book.tables cell name variable ≡ Some sum → Adds book.marks sum
 one-holds book rows cell name variable sum is coded bare told at known = by (is_spanned book.trees book.tables name variable) (not (length codes == 0)) refl refl
   where
@@ -152,7 +152,7 @@ one-holds book rows cell name variable sum is coded bare told at known = by (is_
 
 -- ---- all relations
 
-pub relations-hold : (book : Held) (rows : List Row) (relations : List Relation) → IsBook book → All (IsCoded book.trees) rows → HaveNoChildren book.trees rows → AreTruths book rows
+pub relations-hold : (book : BookView) (rows : List Row) (relations : List Relation) → IsBook book → All (IsCoded book.trees) rows → HaveNoChildren book.trees rows → AreTruths book rows
     → map sum_in relations ≡ relations_among book.trees book.tables → HoldOn (truth_at book.marks) relations
 relations-hold book rows relations is coded bare told made =
     all-back (Adds book.marks) relations

@@ -11,15 +11,15 @@ use Rattle.sdc_base.specs.Records.{Name}
 use Rattle.sdc_base.specs.Cells.{cells_of, is_named, named_by, spans}
 use Rattle.sdc_base.specs.Relations.{Sum, is_spanned, relation_for, relations_among}
 use Rattle.sdc_base.specs.Forms.{count_of}
-use Rattle.sdc_base.specs.Signs.{AreSigns, counted, sign_of, signed, signed_count}
+use Rattle.sdc_base.specs.Signs.{AreSigns, times_counted, sign_of, number_with_sign, signed_count}
 use Rattle.sdc_base.specs.declared.relation.Relation.{Relation}
 use Rattle.sdc_base.specs.declared.system.System.{System}
 use Rattle.sdc_base.proofs.GrowingLists.{read-at}
 use Rattle.sdc_base.proofs.ListReads.{read-some}
 use Rattle.sdc_base.proofs.Walks.{parent_is_earlier}
 use Rattle.sdc_base.proofs.FirstNames.{names_are_first}
-use Rattle.linked_tables.specs.Held.{Held}
-use Rattle.linked_tables.specs.Shared.{cells, tree_of, IsBook}
+use Rattle.linked_tables.specs.BookViews.{BookView}
+use Rattle.linked_tables.specs.BookCells.{cells, tree_of, IsBook}
 use Rattle.linked_tables.specs.Tables.{has_twice}
 use Rattle.relations.specs.Holding.{IsSystemOf, sum_in}
 use Rattle.relations.specs.TableSigns.{HaveSigns, IsFlat, OneVariableHasSigns, TwoFlatVariablesHaveSigns}
@@ -32,19 +32,19 @@ some-same : {X : Type 0} {a b : X} → Some a ≡ Some b → a ≡ b
 some-same h = cc
 
 -- the name of a cell; none where there is no such cell
-abbrev name_in : Held → ℕ → Name
+abbrev name_in : BookView → ℕ → Name
 name_in book cell = slice_index_or (cells book) cell []
 
 -- ---- what is known of one relation and one cell
 
-record IsKnown (book : Held) (number variable cell : ℕ) (r : Relation) : Type 0 where
+record IsKnown (book : BookView) (number variable cell : ℕ) (r : Relation) : Type 0 where
   pub inside : variable < length (name_in book number)
   pub at : slice_get (cells book) number ≡ Some (name_in book number)
   pub is_made : IsMade book.trees book.tables number variable (name_in book number) r
   pub good : IsCodeTree (tree_of book variable)
   pub each : Counts (cells book) (tree_of book variable) (name_in book number) number variable cell (count_of r cell)
 
-known : (book : Held) (number variable cell : ℕ) (r : Relation) → IsBook book → IsRelationFor book.trees book.tables number variable r → IsKnown book number variable cell r
+known : (book : BookView) (number variable cell : ℕ) (r : Relation) → IsBook book → IsRelationFor book.trees book.tables number variable r → IsKnown book number variable cell r
 known book number variable cell r is one =
     let name = name_in book number in
     let at : slice_get (cells book) number ≡ Some name = read-at (cells book) number [] one.cell_known in
@@ -54,37 +54,37 @@ known book number variable cell r is one =
     let its = made book.trees book.tables number variable name r one.is in
     record { inside = inside; at = at; is_made = its; good = good; each = counts book.trees book.tables number variable cell name r good inside at its }
 
-once-cells : (book : Held) → IsDistinct bytes_eq (cells book)
+once-cells : (book : BookView) → IsDistinct bytes_eq (cells book)
 once-cells book = names_are_first.once (flat_map (named_by book.trees) book.tables)
 
 -- ---- signs by cell and variable
 
 -- two relations that count a cell alike, each with its sign, are that of one cell for one variable
-abbrev AreAlone : Held → (ℕ → ℕ → Bool) → Type 0
+abbrev AreAlone : BookView → (ℕ → ℕ → Bool) → Type 0
 AreAlone book plus =
     (cell one first other second : ℕ) (r s : Relation) (z : ℤ) → IsRelationFor book.trees book.tables one first r → IsRelationFor book.trees book.tables other second s → z ≢ pos 0
-    → signed (plus one first) (count_of r cell) ≡ z → signed (plus other second) (count_of s cell) ≡ z → (one ≡ other) × (first ≡ second)
+    → number_with_sign (plus one first) (count_of r cell) ≡ z → number_with_sign (plus other second) (count_of s cell) ≡ z → (one ≡ other) × (first ≡ second)
 
-abbrev relation_at : Held → ℕ → ℕ → Option Sum
+abbrev relation_at : BookView → ℕ → ℕ → Option Sum
 relation_at book number variable = relation_for book.trees book.tables number (name_in book number) variable
 
-abbrev keys_of : Held → List (Sum × (ℕ × ℕ))
+abbrev keys_of : BookView → List (Sum × (ℕ × ℕ))
 keys_of book = keyed (relation_at book) (length (cells book)) (length book.trees)
 
-abbrev signs_by : Held → (ℕ → ℕ → Bool) → List Bool
+abbrev signs_by : BookView → (ℕ → ℕ → Bool) → List Bool
 signs_by book plus = map (λ (key : Sum × (ℕ × ℕ)). plus key.1.0 key.1.1) (keys_of book)
 
-keys-are : (book : Held) (system : System) → IsSystemOf book system → map sum_in system.relations ≡ map (λ (key : Sum × (ℕ × ℕ)). key.0) (keys_of book)
+keys-are : (book : BookView) (system : System) → IsSystemOf book system → map sum_in system.relations ≡ map (λ (key : Sum × (ℕ × ℕ)). key.0) (keys_of book)
 keys-are book system is = is.relations ∙ sym (map-keyed (relation_at book) (length (cells book)) (length book.trees))
 
 -- the relation with a number, with its cell, its variable and its sign
-record IsKeyed (book : Held) (relations : List Relation) (plus : ℕ → ℕ → Bool) (k number variable : ℕ) (r : Relation) : Type 0 where
+record IsKeyed (book : BookView) (relations : List Relation) (plus : ℕ → ℕ → Bool) (k number variable : ℕ) (r : Relation) : Type 0 where
   pub at : slice_get relations k ≡ Some r
   pub is_for : IsRelationFor book.trees book.tables number variable r
   pub sign : sign_of (signs_by book plus) k ≡ plus number variable
   pub place : k ≡ place_of (relation_at book) (length book.trees) number variable
 
-keyed-by : (book : Held) (system : System) (plus : ℕ → ℕ → Bool) (k : ℕ) (r : Relation) → IsSystemOf book system → slice_get system.relations k ≡ Some r → (number : ℕ) × (variable : ℕ) × IsKeyed book system.relations plus k number variable r
+keyed-by : (book : BookView) (system : System) (plus : ℕ → ℕ → Bool) (k : ℕ) (r : Relation) → IsSystemOf book system → slice_get system.relations k ≡ Some r → (number : ℕ) × (variable : ℕ) × IsKeyed book system.relations plus k number variable r
 keyed-by book system plus k r is at = by (slice_get (keys_of book) k) refl (sym same ∙ slice_get-map sum_in system.relations k ∙ ap (option_map sum_in) at)
   where
     same : slice_get (map sum_in system.relations) k ≡ option_map (λ (key : Sum × (ℕ × ℕ)). key.0) (slice_get (keys_of book) k)
@@ -111,7 +111,7 @@ keyed-by book system plus k r is at = by (slice_get (keys_of book) k) refl (sym 
 abbrev IsOnce : ℤ → Type 0
 IsOnce z = (z ≡ pos 0) ⊎ ((z ≡ pos 1) ⊎ (z ≡ negsuc 0))
 
-signed-once : (sign : Bool) (z : ℤ) → IsOnce z → IsOnce (signed sign z)
+signed-once : (sign : Bool) (z : ℤ) → IsOnce z → IsOnce (number_with_sign sign z)
 signed-once true z h = h
 signed-once false z (inl h) = inl (omega (arith, ints, h))
 signed-once false z (inr (inl h)) = inr (inr (omega (arith, ints, h)))
@@ -123,12 +123,12 @@ counts-once cells tree name number variable cell z (inr (inl total)) = inr (inl 
 counts-once cells tree name number variable cell z (inr (inr part)) = inr (inr part.0)
 
 -- a relation with its sign counts as its cell and variable say
-counted-by : (book : Held) (relations : List Relation) (plus : ℕ → ℕ → Bool) (k number variable cell : ℕ) (r : Relation) → IsKeyed book relations plus k number variable r → signed_count relations (signs_by book plus) k cell ≡ signed (plus number variable) (count_of r cell)
+counted-by : (book : BookView) (relations : List Relation) (plus : ℕ → ℕ → Bool) (k number variable cell : ℕ) (r : Relation) → IsKeyed book relations plus k number variable r → signed_count relations (signs_by book plus) k cell ≡ number_with_sign (plus number variable) (count_of r cell)
 counted-by book relations plus k number variable cell r is =
-    ap (λ (found : Option Relation). signed (sign_of (signs_by book plus) k) (option_map_or (λ one. count_of one cell) found (pos 0))) is.at
-    ∙ ap (λ (sign : Bool). signed sign (count_of r cell)) is.sign
+    ap (λ (found : Option Relation). number_with_sign (sign_of (signs_by book plus) k) (option_map_or (λ one. count_of one cell) found (pos 0))) is.at
+    ∙ ap (λ (sign : Bool). number_with_sign sign (count_of r cell)) is.sign
 
-signed-by : (book : Held) (system : System) (plus : ℕ → ℕ → Bool) → IsBook book → IsSystemOf book system → AreAlone book plus → HaveSigns system.relations
+signed-by : (book : BookView) (system : System) (plus : ℕ → ℕ → Bool) → IsBook book → IsSystemOf book system → AreAlone book plus → HaveSigns system.relations
 signed-by book system plus is of alone = (
   signs_by book plus,
   record {
@@ -146,9 +146,9 @@ signed-by book system plus is of alone = (
     signs = signs_by book plus
 
     none-is : (k cell : ℕ) → slice_get system.relations k ≡ None → signed_count system.relations signs k cell ≡ pos 0
-    none-is k cell found = ap (λ (one : Option Relation). signed (sign_of signs k) (option_map_or (λ r. count_of r cell) one (pos 0))) found ∙ zero (sign_of signs k)
+    none-is k cell found = ap (λ (one : Option Relation). number_with_sign (sign_of signs k) (option_map_or (λ r. count_of r cell) one (pos 0))) found ∙ zero (sign_of signs k)
       where
-        zero : (sign : Bool) → signed sign (pos 0) ≡ pos 0
+        zero : (sign : Bool) → number_with_sign sign (pos 0) ≡ pos 0
         zero true = refl
         zero false = refl
 
@@ -188,7 +188,7 @@ spanned-one table variable named h = by (spans table variable) h
     by false h = cc
 
 -- the table of a book with one table spans each variable that there is a relation for
-spans-it : (book : Held) (table : List ℕ) (number variable cell : ℕ) (r : Relation) → book.tables ≡ table ∷ [] → IsKnown book number variable cell r → spans table variable ≡ true
+spans-it : (book : BookView) (table : List ℕ) (number variable cell : ℕ) (r : Relation) → book.tables ≡ table ∷ [] → IsKnown book number variable cell r → spans table variable ≡ true
 spans-it book table number variable cell r one is =
     spanned-one table variable (is_named (named_by book.trees table) (name_in book number))
     (subst (λ (tables : List (List ℕ)). is_spanned book.trees tables (name_in book number) variable ≡ true) one is.is_made.spanned)
@@ -204,7 +204,7 @@ same-above cells tree one other variable cell inside within first second =
     ∙ set-back other variable second.code (slice_index one variable) (sym above) within
 
 -- two relations for one variable that count a cell alike are one cell's
-same-total : (book : Held) (one other variable cell : ℕ) (r s : Relation) (z : ℤ) → IsKnown book one variable cell r → IsKnown book other variable cell s → z ≢ pos 0 → count_of r cell ≡ z → count_of s cell ≡ z → one ≡ other
+same-total : (book : BookView) (one other variable cell : ℕ) (r s : Relation) (z : ℤ) → IsKnown book one variable cell r → IsKnown book other variable cell s → z ≢ pos 0 → count_of r cell ≡ z → count_of s cell ≡ z → one ≡ other
 same-total book one other variable cell r s z first second some is also = by first.each second.each
   where
     by : Counts (cells book) (tree_of book variable) (name_in book one) one variable cell (count_of r cell) → Counts (cells book) (tree_of book variable) (name_in book other) other variable cell (count_of s cell) → one ≡ other
@@ -241,7 +241,7 @@ differ false b = b
 
 -- The sign of the relation of a cell for a variable: of the lines along the first variable plus, but minus for the line of totals;
 -- of those along the second one minus, but plus for the line of totals.
-abbrev plus_in : Held → ℕ → ℕ → ℕ → ℕ → Bool
+abbrev plus_in : BookView → ℕ → ℕ → ℕ → ℕ → Bool
 plus_in book a b number variable = if variable == a then not (slice_index (name_in book number) b == 0) else (slice_index (name_in book number) a == 0)
 
 -- the sign with which a line along the variable counts the cell of a name
@@ -249,26 +249,26 @@ abbrev sign_along : Name → ℕ → ℕ → ℕ → Bool
 sign_along name a b variable = if variable == a then differ (slice_index name a == 0) (slice_index name b == 0) else not (differ (slice_index name a == 0) (slice_index name b == 0))
 
 -- a cell that a line along a variable counts: the line's own name has the total's code in place of the cell's
-record IsOnLine (book : Held) (a b number variable cell : ℕ) (r : Relation) : Type 0 where
+record IsOnLine (book : BookView) (a b number variable cell : ℕ) (r : Relation) : Type 0 where
   pub name : Name
   pub at : slice_get (cells book) cell ≡ Some name
   pub line : name_in book number ≡ slice_set name variable 0
-  pub sign : signed (plus_in book a b number variable) (count_of r cell) ≡ signed (sign_along name a b variable) (pos 1)
+  pub sign : number_with_sign (plus_in book a b number variable) (count_of r cell) ≡ number_with_sign (sign_along name a b variable) (pos 1)
 
-total-second : (x : Bool) → signed x (pos 1) ≡ signed (not (differ x true)) (pos 1)
+total-second : (x : Bool) → number_with_sign x (pos 1) ≡ number_with_sign (not (differ x true)) (pos 1)
 total-second true = refl
 total-second false = refl
 
-part-first : (x : Bool) → signed (not x) (negsuc 0) ≡ signed (differ false x) (pos 1)
+part-first : (x : Bool) → number_with_sign (not x) (negsuc 0) ≡ number_with_sign (differ false x) (pos 1)
 part-first true = refl
 part-first false = refl
 
-part-second : (x : Bool) → signed x (negsuc 0) ≡ signed (not (differ x false)) (pos 1)
+part-second : (x : Bool) → number_with_sign x (negsuc 0) ≡ number_with_sign (not (differ x false)) (pos 1)
 part-second true = refl
 part-second false = refl
 
 -- the total of a line
-total-sign : (book : Held) (a b number variable : ℕ) → a ≢ b → (variable ≡ a) ⊎ (variable ≡ b) → slice_index (name_in book number) variable ≡ 0 → signed (plus_in book a b number variable) (pos 1) ≡ signed (sign_along (name_in book number) a b variable) (pos 1)
+total-sign : (book : BookView) (a b number variable : ℕ) → a ≢ b → (variable ≡ a) ⊎ (variable ≡ b) → slice_index (name_in book number) variable ≡ 0 → number_with_sign (plus_in book a b number variable) (pos 1) ≡ number_with_sign (sign_along (name_in book number) a b variable) (pos 1)
 total-sign book a b number variable apart (inl is) none =
     let along : (variable == a) ≡ true = eq-eqb variable a is in
     let test : (slice_index (name_in book number) a == 0) ≡ true = eq-eqb (slice_index (name_in book number) a) 0 (subst (λ (v : ℕ). slice_index (name_in book number) v ≡ 0) is none) in
@@ -279,8 +279,8 @@ total-sign book a b number variable apart (inr is) none =
     rw (along, test) (total-second (slice_index (name_in book number) a == 0))
 
 -- a part of a line
-part-sign : (book : Held) (a b number variable code : ℕ) → a ≢ b → (variable ≡ a) ⊎ (variable ≡ b) → variable < length (name_in book number) → code ≢ 0
-    → signed (plus_in book a b number variable) (negsuc 0) ≡ signed (sign_along (slice_set (name_in book number) variable code) a b variable) (pos 1)
+part-sign : (book : BookView) (a b number variable code : ℕ) → a ≢ b → (variable ≡ a) ⊎ (variable ≡ b) → variable < length (name_in book number) → code ≢ 0
+    → number_with_sign (plus_in book a b number variable) (negsuc 0) ≡ number_with_sign (sign_along (slice_set (name_in book number) variable code) a b variable) (pos 1)
 part-sign book a b number variable code apart (inl is) inside some =
     let name = name_in book number in
     let along : (variable == a) ≡ true = eq-eqb variable a is in
@@ -296,7 +296,7 @@ part-sign book a b number variable code apart (inr is) inside some =
     let there : slice_index (slice_set name variable code) a ≡ slice_index name a = get_or-set_other name variable a code 0 (λ same. apart (same ∙ is)) in
     rw (along, test, there) (part-second (slice_index name a == 0))
 
-on-line : (book : Held) (a b number variable cell : ℕ) (r : Relation) → a ≢ b → (variable ≡ a) ⊎ (variable ≡ b) → IsFlat (tree_of book variable) → IsKnown book number variable cell r → count_of r cell ≢ pos 0 → IsOnLine book a b number variable cell r
+on-line : (book : BookView) (a b number variable cell : ℕ) (r : Relation) → a ≢ b → (variable ≡ a) ⊎ (variable ≡ b) → IsFlat (tree_of book variable) → IsKnown book number variable cell r → count_of r cell ≢ pos 0 → IsOnLine book a b number variable cell r
 on-line book a b number variable cell r apart two flat is some = by is.each
   where
     name : Name
@@ -311,7 +311,7 @@ on-line book a b number variable cell r apart two flat is some = by is.each
       name = name;
       at = ap (slice_get (cells book)) total.1 ∙ is.at;
       line = sym (set-itself name variable 0 none is.inside);
-      sign = ap (signed (plus_in book a b number variable)) total.0 ∙ total-sign book a b number variable apart two none;
+      sign = ap (number_with_sign (plus_in book a b number variable)) total.0 ∙ total-sign book a b number variable apart two none;
     }
     by (inr (inr part)) =
         let later : slice_index name variable < part.1.code = parent_is_earlier (tree_of book variable) is.good part.1.code (slice_index name variable) part.1.child in
@@ -319,10 +319,10 @@ on-line book a b number variable cell r apart two flat is some = by is.each
           name = slice_set name variable part.1.code;
           at = part.1.at;
           line = sym (set-back name variable part.1.code 0 none is.inside);
-          sign = ap (signed (plus_in book a b number variable)) part.0 ∙ part-sign book a b number variable part.1.code apart two is.inside (λ zero. absurd (omega (arith, zero, later)));
+          sign = ap (number_with_sign (plus_in book a b number variable)) part.0 ∙ part-sign book a b number variable part.1.code apart two is.inside (λ zero. absurd (omega (arith, zero, later)));
         }
 
-signed-alike : (x y : Bool) → signed x (pos 1) ≡ signed y (pos 1) → x ≡ y
+signed-alike : (x y : Bool) → number_with_sign x (pos 1) ≡ number_with_sign y (pos 1) → x ≡ y
 signed-alike true true h = refl
 signed-alike true false h = absurd (omega (arith, ints, h))
 signed-alike false true h = absurd (omega (arith, ints, h))
@@ -345,7 +345,7 @@ along-one name a b first second apart (inr is) (inl also) same =
     absurd (not-other (differ (slice_index name a == 0) (slice_index name b == 0)) (sym (rw (one, two) at same)))
 along-one name a b first second apart (inr is) (inr also) same = is ∙ sym also
 
-signed-zero : (sign : Bool) (z : ℤ) → z ≡ pos 0 → signed sign z ≡ pos 0
+signed-zero : (sign : Bool) (z : ℤ) → z ≡ pos 0 → number_with_sign sign z ≡ pos 0
 signed-zero true z h = h
 signed-zero false z h = omega (arith, ints, h)
 
@@ -380,7 +380,7 @@ two_flat_variables_have_signs book a b system is one flat_first flat_second of =
     let name : up.name ≡ down.name = some-same (sym up.at ∙ down.at) in
     let alike : sign_along up.name a b v ≡ sign_along up.name a b w =
     signed-alike (sign_along up.name a b v) (sign_along up.name a b w)
-    (sym up.sign ∙ left ∙ sym right ∙ down.sign ∙ ap (λ (n : Name). signed (sign_along n a b w) (pos 1)) (sym name))
+    (sym up.sign ∙ left ∙ sym right ∙ down.sign ∙ ap (λ (n : Name). number_with_sign (sign_along n a b w) (pos 1)) (sym name))
     in
     let same : v ≡ w = along-one up.name a b v w apart v_is w_is alike in
     let line : name_in book c ≡ name_in book d = up.line ∙ ap (λ (u : ℕ). slice_set up.name u 0) same ∙ ap (λ (n : Name). slice_set n w 0) name ∙ sym down.line in

@@ -12,7 +12,7 @@ use Rattle.sdc_base.specs.Records.{Name}
 use Rattle.sdc_base.specs.Cells.{cells_of, is_named, named_by, spans}
 use Rattle.sdc_base.proofs.FirstNames.{names_are_first}
 use Rattle.linked_tables.specs.Laws.{is_code}
-use Rattle.linked_tables.specs.Shared.{IsTable}
+use Rattle.linked_tables.specs.BookCells.{IsTable}
 use Rattle.linked_tables.proofs.Sharing.{cells_by_code, known-below, name-long}
 use Rattle.relations.specs.Having.{is_total_beside, has_spanned}
 

@@ -7,7 +7,8 @@ use Rattle.sdc_base.specs.Cells.{is_named, named_by, spans}
 -- from this variable on, each code is the total's where the table doesn't span the variable
 abbrev pub is_total_beside : List ℕ → ℕ → Name → Bool
 is_total_beside table variable [] = true
-is_total_beside table variable (code ∷ name) = (code == 0 || spans table variable) && is_total_beside table (variable + 1) name
+is_total_beside table variable (code ∷ name) = (code == 0 || spans table variable)
+    && is_total_beside table (variable + 1) name
 
 -- the table spans the variable and has the cell with this name
 abbrev pub has_spanned : List Tree → Name → ℕ → List ℕ → Bool

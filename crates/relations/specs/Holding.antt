@@ -10,15 +10,15 @@ use Rattle.sdc_base.specs.declared.relation.Relation.{Relation}
 use Rattle.sdc_base.specs.declared.rows.Row.{Row}
 use Rattle.sdc_base.specs.declared.system.System.{System}
 use Rattle.linked_tables.specs.declared.mark.Mark.{Mark}
-use Rattle.linked_tables.specs.Held.{Held}
-use Rattle.linked_tables.specs.Shared.{cells}
+use Rattle.linked_tables.specs.BookViews.{BookView}
+use Rattle.linked_tables.specs.BookCells.{cells}
 
 -- a relation as a total and its parts
 abbrev pub sum_in : Relation → Sum
 sum_in r = (r.total, r.parts)
 
 -- the system has the relations between the cells of the book
-pub record IsSystemOf (book : Held) (system : System) : Type 0 where
+pub record IsSystemOf (book : BookView) (system : System) : Type 0 where
   pub cells : system.cells ≡ length (cells book)
   pub relations : map sum_in system.relations ≡ relations_among book.trees book.tables
 
@@ -28,8 +28,12 @@ truth_at marks cell = option_map_or (λ mark. mark.facts.truth) (slice_get marks
 
 -- no record's code has children, for any variable
 abbrev pub HaveNoChildren : List Tree → List Row → Type 0
-HaveNoChildren trees rows = All (λ row. (variable : ℕ) → variable < length trees → children (slice_index_or trees variable []) (slice_index row.codes variable) ≡ []) rows
+HaveNoChildren trees rows =
+    All (λ row. (variable : ℕ) → variable < length trees
+    → children (slice_index_or trees variable []) (slice_index row.codes variable) ≡ []) rows
 
 -- each mark's truth is that of its cell over these records
-abbrev pub AreTruths : Held → List Row → Type 0
-AreTruths book rows = (cell : ℕ) (name : Name) (mark : Mark) → slice_get (cells book) cell ≡ Some name → slice_get book.marks cell ≡ Some mark → mark.facts.truth ≡ truth book.trees name rows
+abbrev pub AreTruths : BookView → List Row → Type 0
+AreTruths book rows =
+    (cell : ℕ) (name : Name) (mark : Mark) → slice_get (cells book) cell ≡ Some name
+    → slice_get book.marks cell ≡ Some mark → mark.facts.truth ≡ truth book.trees name rows

@@ -1,6 +1,7 @@
 ghost use Rattle.std.specs.Prelude.{◌≡◌, ◌<◌, ◌^◌, ◌++◌, ◌==◌, [], not, length, slice_index, slice_set, option_to_list, All, IfOk, OnOk};
 ghost use Rattle.sdc_base.specs.Relations.{codes_below, number_among, parts_among};
-ghost use Rattle.linked_tables.specs.Shared.{cells as cells_in, IsBook};
+ghost use Rattle.linked_tables.specs.BookCells.{IsBook};
+ghost use Rattle.linked_tables.specs.BookCells as spec;
 
 use arrayvec::ArrayVec;
 use linked_tables::Book;
@@ -18,7 +19,8 @@ pub(crate) fn parts_of(
     requires book { IsBook book.now }
     requires long { length name.now ≡ length book.now.trees }
     requires known { variable < length book.now.trees }
-    ensures parts { IfOk result (λ parts. parts ≡ parts_among (cells_in book.now) name.now variable (codes_below book.now.trees name.now variable)) }
+    ensures parts { IfOk result (λ parts. parts
+        ≡ parts_among (spec.cells book.now) name.now variable (codes_below book.now.trees name.now variable)) }
     ensures few { IfOk result (λ parts. length parts < 2 ^ 32) }
     ensures named { IfOk result (λ parts. All (λ part. part < length book.now.marks) parts) }
 {
@@ -50,7 +52,8 @@ fn add_part(
 ) -> Result<(), Memory>
     requires known { variable < length name.now }
     requires named { All (λ part. part < length book.now.marks) parts.old.items }
-    ensures added { OnOk result (parts.new.items ≡ parts.old.items ++ option_to_list (number_among (cells_in book.now) (slice_set name.now variable code))) }
+    ensures added { OnOk result (parts.new.items
+        ≡ parts.old.items ++ option_to_list (number_among (spec.cells book.now) (slice_set name.now variable code))) }
     ensures within { OnOk result (All (λ part. part < length book.now.marks) parts.new.items) }
 {
     let other = with_code(name, variable, code);

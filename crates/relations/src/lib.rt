@@ -1,5 +1,5 @@
-//! The relations between the cells of linked tables, the connected parts of a hidden set with their relations, and signs for the
-//! relations.
+//! The relations between the cells of linked tables, the connected parts of a hidden set with their relations, and
+//! signs for the relations.
 #![tactic(auto)]
 
 mod below;

@@ -1,10 +1,12 @@
 ghost use Rattle.std.specs.Prelude.{◌≡◌, ◌<◌, ◌≤◌, ◌+◌, ◌++◌, ◌==◌, ◌&&◌, List, Some, [], true, not, length, map, slice_get, slice_index_or, option_to_list, All, IfOk, OnOk};
 ghost use Rattle.sdc_base.specs.AddingUp.{IsCoded};
 ghost use Rattle.sdc_base.specs.Cells.{is_named};
-ghost use Rattle.sdc_base.specs.Relations.{codes_below, is_spanned as spanned, relation_for, relations_among, relations_for};
+ghost use Rattle.sdc_base.specs.Relations.{codes_below, relation_for, relations_among, relations_for};
+ghost use Rattle.sdc_base.specs.Relations as relations_specs;
 ghost use Rattle.sdc_base.specs.Systems.{HoldOn, NamesCells};
 ghost use Rattle.sdc_base.specs.declared.rows.Row.{Row as Record};
-ghost use Rattle.linked_tables.specs.Shared.{cells as cells_in, IsBook};
+ghost use Rattle.linked_tables.specs.BookCells.{IsBook};
+ghost use Rattle.linked_tables.specs.BookCells as book_cells;
 ghost use Rattle.relations.specs.Holding.{AreTruths, HaveNoChildren, sum_in, truth_at};
 
 use crate::below::{has_below, parts_of};
@@ -21,9 +23,10 @@ use std::alloc::Global;
 /// for each part of each relation, and for each pair of a cell and a variable a look at each code of the name for
 /// each table; its one refusal is want of memory.
 pub fn relations_of(alloc: Global, book: &Book) -> Result<System, Memory>
-    ensures cells { IfOk result (λ system. system.cells ≡ length (cells_in book.now)) }
+    ensures cells { IfOk result (λ system. system.cells ≡ length (book_cells.cells book.now)) }
     ensures exact { IfOk result (λ system. map sum_in system.relations ≡ relations_among book.now.trees book.now.tables) }
-    ensures hold { (rows : List Record) → All (IsCoded book.now.trees) rows → HaveNoChildren book.now.trees rows → AreTruths book.now rows → IfOk result (λ system. HoldOn (truth_at book.now.marks) system.relations) }
+    ensures hold { (rows : List Record) → All (IsCoded book.now.trees) rows → HaveNoChildren book.now.trees rows
+        → AreTruths book.now rows → IfOk result (λ system. HoldOn (truth_at book.now.marks) system.relations) }
 {
     let cells = book.cells();
     let mut relations = Vec::new(alloc);
@@ -46,7 +49,9 @@ fn add_cell(
     requires book { IsBook book.now }
     requires known { cell < length book.now.marks }
     requires named { All (NamesCells (length book.now.marks)) relations.old.items }
-    ensures added { OnOk result (map sum_in relations.new.items ≡ map sum_in relations.old.items ++ relations_for book.now.trees book.now.tables cell (slice_index_or (cells_in book.now) cell [])) }
+    ensures added { OnOk result (map sum_in relations.new.items
+        ≡ map sum_in relations.old.items
+        ++ relations_for book.now.trees book.now.tables cell (slice_index_or (book_cells.cells book.now) cell [])) }
     ensures within { OnOk result (All (NamesCells (length book.now.marks)) relations.new.items) }
     ensures few { OnOk result (length relations.new.items ≤ length relations.old.items + 8) }
 {
@@ -69,10 +74,12 @@ fn add_relation(
     relations: &mut Vec<Relation>,
 ) -> Result<(), Memory>
     requires book { IsBook book.now }
-    requires at { slice_get (cells_in book.now) cell ≡ Some name.now }
+    requires at { slice_get (book_cells.cells book.now) cell ≡ Some name.now }
     requires known { variable < length book.now.trees }
     requires named { All (NamesCells (length book.now.marks)) relations.old.items }
-    ensures added { OnOk result (map sum_in relations.new.items ≡ map sum_in relations.old.items ++ option_to_list (relation_for book.now.trees book.now.tables cell name.now variable)) }
+    ensures added { OnOk result (map sum_in relations.new.items
+        ≡ map sum_in relations.old.items
+        ++ option_to_list (relation_for book.now.trees book.now.tables cell name.now variable)) }
     ensures within { OnOk result (All (NamesCells (length book.now.marks)) relations.new.items) }
     ensures few { OnOk result (length relations.new.items ≤ length relations.old.items + 1) }
 {
@@ -86,9 +93,10 @@ fn add_relation(
 // Whether some table has the cell with this name and spans the variable, and there are codes right below the cell's.
 fn has_relation(book: &Book, name: &Place, variable: u32) -> bool
     requires book { IsBook book.now }
-    requires cell { is_named (cells_in book.now) name.now ≡ true }
+    requires cell { is_named (book_cells.cells book.now) name.now ≡ true }
     requires known { variable < length name.now }
-    ensures { result ≡ (spanned book.now.trees book.now.tables name.now variable && not (length (codes_below book.now.trees name.now variable) == 0)) }
+    ensures { result ≡ (relations_specs.is_spanned book.now.trees book.now.tables name.now variable
+        && not (length (codes_below book.now.trees name.now variable) == 0)) }
 {
     is_spanned(book, name, variable) && has_below(book, name, variable)
 }

@@ -7,23 +7,23 @@ use Rattle.sdc_base.specs.Trees.{Tree}
 use Rattle.sdc_base.specs.Cells.{places, trees_of}
 use Rattle.sdc_base.specs.CellOrder.{is_place_in}
 use Rattle.sdc_base.proofs.PlaceLists.{begun, begun_more}
-use Rattle.linked_tables.specs.Held.{Held}
+use Rattle.linked_tables.specs.BookViews.{BookView}
 use Rattle.release_writer.specs.Lines.{place_line, lines_below}
 use Rattle.release_writer.specs.declared.shown.Shown.{Shown}
 
 -- the lines of those places that go on with one of the first n codes
-abbrev pub lines_begun : Held → List ℕ → ℕ → Shown → List ℕ → ℕ → List ℕ
+abbrev pub lines_begun : BookView → List ℕ → ℕ → Shown → List ℕ → ℕ → List ℕ
 lines_begun book table decimals how place n = flat_map (λ rest. place_line book table decimals how (place ++ rest)) (begun (places (trees_of book.trees (drop (length place + 1) table))) n)
 
 -- a whole place has its line alone
-pub below-whole : (book : Held) (table : List ℕ) (decimals : ℕ) (how : Shown) (place : List ℕ) → length table ≤ length place → lines_below book table decimals how place ≡ place_line book table decimals how place
+pub below-whole : (book : BookView) (table : List ℕ) (decimals : ℕ) (how : Shown) (place : List ℕ) → length table ≤ length place → lines_below book table decimals how place ≡ place_line book table decimals how place
 below-whole book table decimals how place h =
     ap (λ left. flat_map (λ rest. place_line book table decimals how (place ++ rest)) (places (trees_of book.trees left))) (drop_all (length place) table h)
     ∙ append-nil (place_line book table decimals how (place ++ []))
     ∙ ap (λ whole. place_line book table decimals how whole) (append-nil place)
 
 -- a shorter one those of all codes of the next variable
-pub below-begun : (book : Held) (table : List ℕ) (decimals : ℕ) (how : Shown) (place : List ℕ) → length place < length table
+pub below-begun : (book : BookView) (table : List ℕ) (decimals : ℕ) (how : Shown) (place : List ℕ) → length place < length table
     → lines_below book table decimals how place ≡ lines_begun book table decimals how place (length (slice_index_or book.trees (get_or table (length place) 0) []))
 below-begun book table decimals how place h = ap (λ left. flat_map (λ rest. place_line book table decimals how (place ++ rest)) (places (trees_of book.trees left))) (drop_more table (length place) 0 h)
 
@@ -39,7 +39,7 @@ one-code line place code (rest ∷ rests) =
     ∙ ap (λ t. line ((place ++ code ∷ []) ++ rest) ++ t) (one-code line place code rests)
 
 -- with one code more
-pub begun-next : (book : Held) (table : List ℕ) (decimals : ℕ) (how : Shown) (place : List ℕ) (code : ℕ)
+pub begun-next : (book : BookView) (table : List ℕ) (decimals : ℕ) (how : Shown) (place : List ℕ) (code : ℕ)
     → lines_begun book table decimals how place (code + 1) ≡ lines_begun book table decimals how place code ++ lines_below book table decimals how (place ++ code ∷ [])
 begun-next book table decimals how place code =
     let line : List ℕ → List ℕ = place_line book table decimals how in

@@ -7,8 +7,8 @@ use Rattle.std.proofs.Math.Seq.{take-append_seam, drop-append_seam}
 use Rattle.std.proofs.lemmas.Nat.{mod_below}
 use Rattle.std.proofs.lemmas.Bool.Decides.{nat_tests}
 use Rattle.std.proofs.lemmas.Slice.Eq.{bytes_eq-Decides}
-use Rattle.sdc_base.specs.Numbers.{units_text, padded}
-use Rattle.sdc_base.specs.TableText.{comma, quote, field_text, line_text, is_special, doubled, shown_text}
+use Rattle.sdc_base.specs.Numbers.{units_text, padded_digits}
+use Rattle.sdc_base.specs.TableText.{comma, quote, field_text, line_text, is_special, quotes_doubled, shown_text}
 use Rattle.release_writer.specs.ReleaseReading.{rest_behind}
 
 bytes-same : (xs : List ℕ) → bytes_eq xs xs ≡ true
@@ -60,12 +60,12 @@ front-low (b ∷ xs) ys low = low
 
 units-low : (n decimals : ℕ) → BeginsLow (units_text n decimals)
 units-low n decimals =
-    let back : List ℕ = 46 ∷ padded decimals (n % 10 ^ decimals) in
+    let back : List ℕ = 46 ∷ padded_digits decimals (n % 10 ^ decimals) in
     let front : List ℕ = decimal (n / 10 ^ decimals) in
     elim (decimals == 0) as (λ b. BeginsLow (if b then decimal n else front ++ back)) [ true ↦ decimal-low n | false ↦ front-low front back (decimal-low (n / 10 ^ decimals)) ]
 
 field-low : (text : List ℕ) → BeginsLow text → BeginsLow (field_text text)
-field-low text low = elim (list_any is_special text) as (λ b. BeginsLow (if b then quote ∷ (doubled text ++ quote ∷ []) else text)) [ true ↦ omega arith | false ↦ low ]
+field-low text low = elim (list_any is_special text) as (λ b. BeginsLow (if b then quote ∷ (quotes_doubled text ++ quote ∷ []) else text)) [ true ↦ omega arith | false ↦ low ]
 
 -- the fields before the last one, each with its comma
 abbrev pub fields_before : List (List ℕ) → List ℕ

@@ -8,8 +8,8 @@ use Rattle.sdc_base.specs.Cells.{cells_of, places, trees_of, name_of}
 use Rattle.sdc_base.specs.Places.{first_place}
 use Rattle.sdc_base.specs.TableText.{line_text, codes_of_place, shown_text, table_text}
 use Rattle.std.specs.Prelude.{bytes_eq}
-use Rattle.linked_tables.specs.Shared.{number_of}
-use Rattle.release_writer.specs.Shown.{shown_in, shows}
+use Rattle.linked_tables.specs.BookCells.{number_of}
+use Rattle.release_writer.specs.ShownCells.{shown_in, number_shown}
 use Rattle.release_writer.specs.Laws.{OnlyWhatIsShownEnters, HiddenShowNothing}
 
 same-lines : (f g : List ℕ → List ℕ) (xs : List (List ℕ)) → ((x : List ℕ) → f x ≡ g x) → flat_map f xs ≡ flat_map g xs
@@ -33,11 +33,11 @@ pub only_what_is_shown_enters : OnlyWhatIsShownEnters
 only_what_is_shown_enters book other how others t names decimals trees tables same =
     let numbers : (name : Name) → number_of other name ≡ number_of book name = λ name.
     ap (λ x. first_place (bytes_eq name) (cells_of x other.tables)) trees ∙ ap (λ x. first_place (bytes_eq name) (cells_of book.trees x)) tables in
-    let shown : (name : Name) → shows other others name ≡ shows book how name = λ name.
+    let shown : (name : Name) → number_shown other others name ≡ number_shown book how name = λ name.
     ap (λ cell. option_and_then (shown_in other others) cell) (numbers name) ∙ then-same (shown_in other others) (shown_in book how) (number_of book name) same in
-    ap (λ x. table_text x (slice_index_or other.tables t []) names decimals (shows other others)) trees
-    ∙ ap (λ x. table_text book.trees (slice_index_or x t []) names decimals (shows other others)) tables
-    ∙ same-text book.trees (slice_index_or book.tables t []) names decimals (shows other others) (shows book how) shown
+    ap (λ x. table_text x (slice_index_or other.tables t []) names decimals (number_shown other others)) trees
+    ∙ ap (λ x. table_text book.trees (slice_index_or x t []) names decimals (number_shown other others)) tables
+    ∙ same-text book.trees (slice_index_or book.tables t []) names decimals (number_shown other others) (number_shown book how) shown
 
 pub hidden_show_nothing : HiddenShowNothing
 hidden_show_nothing marks flags cell hidden = rw hidden refl

@@ -14,10 +14,10 @@ use Rattle.sdc_base.specs.Cells.{places, trees_of, name_of, named_by, is_named, 
 use Rattle.sdc_base.specs.TableText.{line_text, codes_of_place}
 use Rattle.sdc_base.proofs.FirstNames.{stay}
 use Rattle.linked_tables.specs.declared.mark.Mark.{Mark}
-use Rattle.linked_tables.specs.Held.{Held}
-use Rattle.linked_tables.specs.Shared.{cells, named, number_of}
-use Rattle.release_writer.specs.Shown.{open_truth}
-use Rattle.release_writer.specs.ReleaseReading.{Template, Reading, LinePlace, rest_behind, line_showing, choice_there, new_value, value_there, next_line, with_value, reading_after, read_place, read_places, read_table, read_tables, release_read, is_left, flags_of, truth_of, or_second}
+use Rattle.linked_tables.specs.BookViews.{BookView}
+use Rattle.linked_tables.specs.BookCells.{cells, name_in_table, number_of}
+use Rattle.release_writer.specs.ShownCells.{open_truth}
+use Rattle.release_writer.specs.ReleaseReading.{Template, ReleaseSoFar, LinePlace, rest_behind, line_showing, choice_there, new_value, value_there, next_line, with_value, reading_after, read_place, read_places, read_table, read_tables, release_read, is_left, flags_of, truth_of, or_second}
 use Rattle.release_writer.specs.ReadingLaws.{AreTexts, HiddenHaveTexts}
 use Rattle.release_writer.proofs.Entering.{same-text, then-same}
 use Rattle.release_writer.proofs.ReadBack.{place-in, place-new, place-known, shows_of}
@@ -45,7 +45,7 @@ fitting-some form place bytes value found h = go (rest_behind (line_showing form
         subst (λ (f : Option ℤ × List ℕ). (f.0 ≡ value) × Shows form place bytes f) same (refl, behind-some (line_showing form place value) bytes rest is)
 
 -- a new cell's value is one that it may have
-abbrev pub GivesNew : Held → ℕ → Bool → (ℕ → Option ℤ → Type 0) → Type 0
+abbrev pub GivesNew : BookView → ℕ → Bool → (ℕ → Option ℤ → Type 0) → Type 0
 GivesNew book decimals rounded P =
     (t : ℕ) (table place bytes : List ℕ) (cell : ℕ) (found : Option ℤ × List ℕ)
     → let form : Template = record { book = book; t = t; table = table; decimals = decimals; rounded = rounded } in
@@ -80,38 +80,38 @@ at-front [] more k value h = cc
 at-front (first ∷ values) more zero value h = cc
 at-front (first ∷ values) more (suc k) value h = at-front values more k value h
 
-taken : (reading : Reading) (cell : ℕ) (w : LinePlace) (o : Option (Option ℤ × List ℕ)) (next : Reading) → (or_fault w o >>= λ found. reading_after reading cell found) ≡ Ok next
+taken : (reading : ReleaseSoFar) (cell : ℕ) (w : LinePlace) (o : Option (Option ℤ × List ℕ)) (next : ReleaseSoFar) → (or_fault w o >>= λ found. reading_after reading cell found) ≡ Ok next
     → (found : Option ℤ × List ℕ) × (o ≡ Some found) × (next ≡ record { shown = with_value reading.shown cell found.0; rest = found.1; line = next_line reading.line })
 taken reading cell w None next h = cc
 taken reading cell w (Some found) next h = (found, refl, cc)
 
-opened : (form : Template) (reading : Reading) (place : List ℕ) (cell : ℕ) (known : Option (Option ℤ)) → number_of form.book (named form.book form.table place) ≡ Some cell → slice_get reading.shown cell ≡ known
+opened : (form : Template) (reading : ReleaseSoFar) (place : List ℕ) (cell : ℕ) (known : Option (Option ℤ)) → number_of form.book (name_in_table form.book form.table place) ≡ Some cell → slice_get reading.shown cell ≡ known
     → read_place form reading place ≡ (or_fault (form.t, reading.line) (value_there form place reading.rest cell known) >>= λ found. reading_after reading cell found)
 unfolding read_place
 opened form reading place cell known number there = rw (number, there) refl
 
-line-taken : (form : Template) (reading next : Reading) (place : List ℕ) (cell : ℕ) (known : Option (Option ℤ)) → number_of form.book (named form.book form.table place) ≡ Some cell → slice_get reading.shown cell ≡ known → read_place form reading place ≡ Ok next
+line-taken : (form : Template) (reading next : ReleaseSoFar) (place : List ℕ) (cell : ℕ) (known : Option (Option ℤ)) → number_of form.book (name_in_table form.book form.table place) ≡ Some cell → slice_get reading.shown cell ≡ known → read_place form reading place ≡ Ok next
     → (found : Option ℤ × List ℕ) × (value_there form place reading.rest cell known ≡ Some found) × (next ≡ record { shown = with_value reading.shown cell found.0; rest = found.1; line = next_line reading.line })
 line-taken form reading next place cell known number there h =
     taken reading cell (form.t, reading.line) (value_there form place reading.rest cell known) next (sym (opened form reading place cell known number there) ∙ h)
 
 -- what a line that is read says: its cell's value, with which what is shown grows
-pub record Read (form : Template) (P : ℕ → Option ℤ → Type 0) (reading next : Reading) (place : List ℕ) (size : ℕ) : Type 0 where
+pub record Read (form : Template) (P : ℕ → Option ℤ → Type 0) (reading next : ReleaseSoFar) (place : List ℕ) (size : ℕ) : Type 0 where
   pub cell : ℕ
   pub value : Option ℤ
   pub new : List (Option ℤ)
-  pub number : number_of form.book (named form.book form.table place) ≡ Some cell
+  pub number : number_of form.book (name_in_table form.book form.table place) ≡ Some cell
   pub line : reading.rest ≡ line_showing form place value ++ next.rest
   pub there : slice_get next.shown cell ≡ Some value
   pub grown : next.shown ≡ reading.shown ++ new
   pub long : length next.shown ≡ size
   pub all : AllFrom P 0 next.shown
 
-known-read : (form : Template) (P : ℕ → Option ℤ → Type 0) (done later : List Name) (reading next : Reading) (place : List ℕ)
-    → cells form.book ≡ done ++ later → is_named done (named form.book form.table place) ≡ true → length reading.shown ≡ length done → AllFrom P 0 reading.shown → read_place form reading place ≡ Ok next
+known-read : (form : Template) (P : ℕ → Option ℤ → Type 0) (done later : List Name) (reading next : ReleaseSoFar) (place : List ℕ)
+    → cells form.book ≡ done ++ later → is_named done (name_in_table form.book form.table place) ≡ true → length reading.shown ≡ length done → AllFrom P 0 reading.shown → read_place form reading place ≡ Ok next
     → Read form P reading next place (length done)
 known-read form P done later reading next place all is long each h =
-    let name = named form.book form.table place in
+    let name = name_in_table form.book form.table place in
     let at = place-known name done is in
     let number : number_of form.book name ≡ Some at.0 = ap (λ names. first_place (bytes_eq name) names) all ∙ place-in name done later at.0 at.1 in
     let small : at.0 < length reading.shown = omega (arith, at.2, long) in
@@ -120,8 +120,8 @@ known-read form P done later reading next place all is long each h =
     let fits = fitting-some form place reading.rest held.0 got.0 got.1 in
     let test : nat_lt at.0 (length reading.shown) ≡ true = grind (arith, nat_tests, small) in
     let stays : with_value reading.shown at.0 got.0.0 ≡ reading.shown = rw test refl in
-    let shown : next.shown ≡ reading.shown = ap (λ (r : Reading). r.shown) got.2 ∙ stays in
-    let rest : next.rest ≡ got.0.1 = ap (λ (r : Reading). r.rest) got.2 in
+    let shown : next.shown ≡ reading.shown = ap (λ (r : ReleaseSoFar). r.shown) got.2 ∙ stays in
+    let rest : next.rest ≡ got.0.1 = ap (λ (r : ReleaseSoFar). r.rest) got.2 in
     record {
       cell = at.0;
       value = got.0.0;
@@ -134,13 +134,13 @@ known-read form P done later reading next place all is long each h =
       all = subst (λ (values : List (Option ℤ)). AllFrom P 0 values) (sym shown) each;
     }
 
-new-read : (book : Held) (t : ℕ) (table : List ℕ) (decimals : ℕ) (rounded : Bool) (P : ℕ → Option ℤ → Type 0) (done later : List Name) (reading next : Reading) (place : List ℕ) → GivesNew book decimals rounded P
+new-read : (book : BookView) (t : ℕ) (table : List ℕ) (decimals : ℕ) (rounded : Bool) (P : ℕ → Option ℤ → Type 0) (done later : List Name) (reading next : ReleaseSoFar) (place : List ℕ) → GivesNew book decimals rounded P
     → let form : Template = record { book = book; t = t; table = table; decimals = decimals; rounded = rounded } in
-    cells book ≡ (done ++ named book table place ∷ []) ++ later → is_named done (named book table place) ≡ false → length reading.shown ≡ length done → AllFrom P 0 reading.shown → read_place form reading place ≡ Ok next
-    → Read form P reading next place (length (done ++ named book table place ∷ []))
+    cells book ≡ (done ++ name_in_table book table place ∷ []) ++ later → is_named done (name_in_table book table place) ≡ false → length reading.shown ≡ length done → AllFrom P 0 reading.shown → read_place form reading place ≡ Ok next
+    → Read form P reading next place (length (done ++ name_in_table book table place ∷ []))
 new-read book t table decimals rounded P done later reading next place gives all is long each h =
     let form : Template = record { book = book; t = t; table = table; decimals = decimals; rounded = rounded } in
-    let name = named book table place in
+    let name = name_in_table book table place in
     let cell = length reading.shown in
     let number : number_of book name ≡ Some cell = ap (λ names. first_place (bytes_eq name) names) all ∙ place-new name done later is ∙ ap Some (sym long) in
     let none : slice_get reading.shown cell ≡ None = slice_get_past reading.shown cell (omega arith) in
@@ -148,8 +148,8 @@ new-read book t table decimals rounded P done later reading next place gives all
     let fits = gives t table place reading.rest cell got.0 got.1 in
     let test : nat_lt cell (length reading.shown) ≡ false = grind (arith, nat_tests) in
     let grows : with_value reading.shown cell got.0.0 ≡ reading.shown ++ got.0.0 ∷ [] = rw test refl in
-    let shown : next.shown ≡ reading.shown ++ got.0.0 ∷ [] = ap (λ (r : Reading). r.shown) got.2 ∙ grows in
-    let rest : next.rest ≡ got.0.1 = ap (λ (r : Reading). r.rest) got.2 in
+    let shown : next.shown ≡ reading.shown ++ got.0.0 ∷ [] = ap (λ (r : ReleaseSoFar). r.shown) got.2 ∙ grows in
+    let rest : next.rest ≡ got.0.1 = ap (λ (r : ReleaseSoFar). r.rest) got.2 in
     let size : length next.shown ≡ cell + 1 = ap (λ (values : List (Option ℤ)). length values) shown ∙ length-append reading.shown (got.0.0 ∷ []) in
     let same : cell ≡ 0 + cell = omega arith in
     record {
@@ -164,13 +164,13 @@ new-read book t table decimals rounded P done later reading next place gives all
       all = subst (λ (values : List (Option ℤ)). AllFrom P 0 values) (sym shown) (all-more P 0 reading.shown got.0.0 each (subst (λ k. P k got.0.0) same fits.1));
     }
 
-some-read : (book : Held) (t : ℕ) (table : List ℕ) (decimals : ℕ) (rounded : Bool) (P : ℕ → Option ℤ → Type 0) (done later : List Name) (reading next : Reading) (place : List ℕ) → GivesNew book decimals rounded P
+some-read : (book : BookView) (t : ℕ) (table : List ℕ) (decimals : ℕ) (rounded : Bool) (P : ℕ → Option ℤ → Type 0) (done later : List Name) (reading next : ReleaseSoFar) (place : List ℕ) → GivesNew book decimals rounded P
     → let form : Template = record { book = book; t = t; table = table; decimals = decimals; rounded = rounded } in
-    cells book ≡ with_name done (named book table place) ++ later → length reading.shown ≡ length done → AllFrom P 0 reading.shown → read_place form reading place ≡ Ok next
-    → Read form P reading next place (length (with_name done (named book table place)))
+    cells book ≡ with_name done (name_in_table book table place) ++ later → length reading.shown ≡ length done → AllFrom P 0 reading.shown → read_place form reading place ≡ Ok next
+    → Read form P reading next place (length (with_name done (name_in_table book table place)))
 some-read book t table decimals rounded P done later reading next place gives all long each h =
     let form : Template = record { book = book; t = t; table = table; decimals = decimals; rounded = rounded } in
-    let name = named book table place in
+    let name = name_in_table book table place in
     elim (is_named done name) as (λ b. is_named done name ≡ b → cells book ≡ (if b then done else done ++ name ∷ []) ++ later → Read form P reading next place (length (if b then done else done ++ name ∷ []))) [
       | true ↦ λ is all. known-read form P done later reading next place all is long each h
       | false ↦ λ is all. new-read book t table decimals rounded P done later reading next place gives all is long each h
@@ -188,34 +188,34 @@ shown_by values cell = slice_index_or values cell None
 
 -- the lines of places that show these values
 abbrev pub lines_by : Template → List (Option ℤ) → List (List ℕ) → List ℕ
-lines_by form values found = flat_map (λ place. line_showing form place (shows_of form.book (shown_by values) (named form.book form.table place))) found
+lines_by form values found = flat_map (λ place. line_showing form place (shows_of form.book (shown_by values) (name_in_table form.book form.table place))) found
 
 -- what lines that are read say: what is shown has grown, and the lines show it, whatever it grows to
-pub record ReadAll (form : Template) (P : ℕ → Option ℤ → Type 0) (reading next : Reading) (found : List (List ℕ)) (size : ℕ) : Type 0 where
+pub record ReadAll (form : Template) (P : ℕ → Option ℤ → Type 0) (reading next : ReleaseSoFar) (found : List (List ℕ)) (size : ℕ) : Type 0 where
   pub new : List (Option ℤ)
   pub lines : (more : List (Option ℤ)) → reading.rest ≡ lines_by form (next.shown ++ more) found ++ next.rest
   pub grown : next.shown ≡ reading.shown ++ new
   pub long : length next.shown ≡ size
   pub all : AllFrom P 0 next.shown
 
-lines-read : (book : Held) (t : ℕ) (table : List ℕ) (decimals : ℕ) (rounded : Bool) (P : ℕ → Option ℤ → Type 0) → GivesNew book decimals rounded P
+lines-read : (book : BookView) (t : ℕ) (table : List ℕ) (decimals : ℕ) (rounded : Bool) (P : ℕ → Option ℤ → Type 0) → GivesNew book decimals rounded P
     → let form : Template = record { book = book; t = t; table = table; decimals = decimals; rounded = rounded } in
-    (found : List (List ℕ)) (done more : List Name) (reading last : Reading)
-    → cells book ≡ fold with_name done (map (named book table) found ++ more) → length reading.shown ≡ length done → AllFrom P 0 reading.shown → read_places form reading found ≡ Ok last
-    → ReadAll form P reading last found (length (fold with_name done (map (named book table) found)))
+    (found : List (List ℕ)) (done more : List Name) (reading last : ReleaseSoFar)
+    → cells book ≡ fold with_name done (map (name_in_table book table) found ++ more) → length reading.shown ≡ length done → AllFrom P 0 reading.shown → read_places form reading found ≡ Ok last
+    → ReadAll form P reading last found (length (fold with_name done (map (name_in_table book table) found)))
 lines-read book t table decimals rounded P gives [] done more reading last all long each h =
     let same : reading ≡ last = cc in
     record {
       new = [];
-      lines = λ more. ap (λ (r : Reading). r.rest) same;
-      grown = ap (λ (r : Reading). r.shown) (sym same) ∙ sym (append-nil reading.shown);
-      long = ap (λ (r : Reading). length r.shown) (sym same) ∙ long;
-      all = subst (λ (r : Reading). AllFrom P 0 r.shown) same each;
+      lines = λ more. ap (λ (r : ReleaseSoFar). r.rest) same;
+      grown = ap (λ (r : ReleaseSoFar). r.shown) (sym same) ∙ sym (append-nil reading.shown);
+      long = ap (λ (r : ReleaseSoFar). length r.shown) (sym same) ∙ long;
+      all = subst (λ (r : ReleaseSoFar). AllFrom P 0 r.shown) same each;
     }
 lines-read book t table decimals rounded P gives (place ∷ found) done more reading last all long each h =
     let form : Template = record { book = book; t = t; table = table; decimals = decimals; rounded = rounded } in
-    let name = named book table place in
-    let later = stay (with_name done name) (map (named book table) found ++ more) in
+    let name = name_in_table book table place in
+    let later = stay (with_name done name) (map (name_in_table book table) found ++ more) in
     let step = step-ok (read_place form reading place) (λ now. read_places form now found) last h in
     let next = step.0 in
     let one = some-read book t table decimals rounded P done later.0 reading next place gives (all ∙ later.1) long each step.1 in
@@ -252,7 +252,7 @@ left-none (b ∷ bytes) h = cc
 -- a table that is read has its line of names, the lines of its places, and no more
 pub record TableRead (form : Template) (names : List (List ℕ)) (bytes : List ℕ) (shown last : List (Option ℤ)) : Type 0 where
   pub rest : List ℕ
-  pub behind_all : Reading
+  pub behind_all : ReleaseSoFar
   pub first : bytes ≡ line_text names ++ rest
   pub lines : read_places form (record { shown = shown; rest = rest; line = 2 }) (places (trees_of form.book.trees form.table)) ≡ Ok behind_all
   pub end : behind_all.rest ≡ []
@@ -274,14 +274,14 @@ table-read form names bytes shown last h =
     }
 
 -- what tables that are read say
-pub record TablesRead (book : Held) (decimals : ℕ) (P : ℕ → Option ℤ → Type 0) (shown last : List (Option ℤ)) (tables : List (List ℕ)) (names : List (List (List ℕ))) (files : List (List ℕ)) : Type 0 where
+pub record TablesRead (book : BookView) (decimals : ℕ) (P : ℕ → Option ℤ → Type 0) (shown last : List (Option ℤ)) (tables : List (List ℕ)) (names : List (List (List ℕ))) (files : List (List ℕ)) : Type 0 where
   pub new : List (Option ℤ)
   pub grown : last ≡ shown ++ new
   pub long : length last ≡ length (cells book)
   pub all : AllFrom P 0 last
   pub texts : AreTexts book decimals (shown_by last) tables names files
 
-tables-read : (book : Held) (decimals : ℕ) (rounded : Bool) (P : ℕ → Option ℤ → Type 0) → GivesNew book decimals rounded P
+tables-read : (book : BookView) (decimals : ℕ) (rounded : Bool) (P : ℕ → Option ℤ → Type 0) → GivesNew book decimals rounded P
     → (t : ℕ) (tables : List (List ℕ)) (names : List (List (List ℕ))) (files : List (List ℕ)) (done : List Name) (shown last : List (Option ℤ))
     → length names ≡ length tables → length files ≡ length tables
     → cells book ≡ fold with_name done (flat_map (named_by book.trees) tables) → length shown ≡ length done → AllFrom P 0 shown
@@ -322,11 +322,11 @@ tables-read book decimals rounded P gives t (table ∷ tables) (own ∷ names) (
       );
     }
 
-pub release-read : (book : Held) (decimals : ℕ) (rounded : Bool) (P : ℕ → Option ℤ → Type 0) (names : List (List (List ℕ))) (files : List (List ℕ)) (last : List (Option ℤ)) → GivesNew book decimals rounded P
+pub release-read : (book : BookView) (decimals : ℕ) (rounded : Bool) (P : ℕ → Option ℤ → Type 0) (names : List (List (List ℕ))) (files : List (List ℕ)) (last : List (Option ℤ)) → GivesNew book decimals rounded P
     → length names ≡ length book.tables → length files ≡ length book.tables → release_read book names decimals rounded files ≡ Ok last → TablesRead book decimals P [] last book.tables names files
 release-read book decimals rounded P names files last gives one_name one_file h = tables-read book decimals rounded P gives 0 book.tables names files [] [] last one_name one_file refl refl tt h
 
-pub texts-same : (book : Held) (decimals : ℕ) (f g : ℕ → Option ℤ) → ((cell : ℕ) → f cell ≡ g cell) → (tables : List (List ℕ)) (names : List (List (List ℕ))) (files : List (List ℕ)) → AreTexts book decimals f tables names files → AreTexts book decimals g tables names files
+pub texts-same : (book : BookView) (decimals : ℕ) (f g : ℕ → Option ℤ) → ((cell : ℕ) → f cell ≡ g cell) → (tables : List (List ℕ)) (names : List (List (List ℕ))) (files : List (List ℕ)) → AreTexts book decimals f tables names files → AreTexts book decimals g tables names files
 texts-same book decimals f g same [] names files texts = tt
 texts-same book decimals f g same (table ∷ tables) [] files texts = texts
 texts-same book decimals f g same (table ∷ tables) (own ∷ names) [] texts = texts
@@ -349,7 +349,7 @@ none-choice : (truth value : Option ℤ) → value ≡ None → value ≡ (if no
 none-choice truth None h = refl
 none-choice truth (Some number) h = cc
 
-hidden-gives : (book : Held) (decimals : ℕ) → GivesNew book decimals false (IsChoice book.marks)
+hidden-gives : (book : BookView) (decimals : ℕ) → GivesNew book decimals false (IsChoice book.marks)
 hidden-gives book decimals t table place bytes cell found h =
     let form : Template = record { book = book; t = t; table = table; decimals = decimals; rounded = false } in
     go form (choice_there form place bytes (truth_of book.marks cell)) refl h

@@ -14,10 +14,10 @@ use Rattle.sdc_base.specs.Cells.{places, trees_of, name_of, named_by, is_named, 
 use Rattle.sdc_base.specs.TableText.{line_text, codes_of_place}
 use Rattle.sdc_base.proofs.FirstNames.{stay}
 use Rattle.linked_tables.specs.declared.mark.Mark.{Mark}
-use Rattle.linked_tables.specs.Held.{Held}
-use Rattle.linked_tables.specs.Shared.{cells, named, number_of}
-use Rattle.release_writer.specs.Shown.{open_truth}
-use Rattle.release_writer.specs.ReleaseReading.{Template, Reading, LinePlace, rest_behind, line_showing, choice_there, new_value, value_there, next_line, with_value, read_place, read_places, read_table, read_tables, release_read, is_left, flags_of, truth_of, or_second}
+use Rattle.linked_tables.specs.BookViews.{BookView}
+use Rattle.linked_tables.specs.BookCells.{cells, name_in_table, number_of}
+use Rattle.release_writer.specs.ShownCells.{open_truth}
+use Rattle.release_writer.specs.ReleaseReading.{Template, ReleaseSoFar, LinePlace, rest_behind, line_showing, choice_there, new_value, value_there, next_line, with_value, read_place, read_places, read_table, read_tables, release_read, is_left, flags_of, truth_of, or_second}
 use Rattle.release_writer.specs.ReadingLaws.{AreTexts, first_shown, HiddenAreReadBack}
 use Rattle.release_writer.proofs.Behind.{behind-self, crossed-differs}
 
@@ -77,7 +77,7 @@ place-known name (other ∷ names) h =
 -- ---- one line
 
 -- how a new cell is read where the bytes have what it shows
-abbrev pub ReadsNew : Held → ℕ → Bool → (ℕ → Option ℤ) → Type 0
+abbrev pub ReadsNew : BookView → ℕ → Bool → (ℕ → Option ℤ) → Type 0
 ReadsNew book decimals rounded f =
     (t : ℕ) (table place rest : List ℕ) (cell : ℕ) → cell < length (cells book)
     → let form : Template = record { book = book; t = t; table = table; decimals = decimals; rounded = rounded } in
@@ -86,22 +86,22 @@ ReadsNew book decimals rounded f =
 fits-self : (form : Template) (place rest : List ℕ) (value : Option ℤ) → choice_there form place (line_showing form place value ++ rest) value ≡ Some (value, rest)
 fits-self form place rest value = ap (λ r. option_map (λ left. (value, left)) r) (behind-self (line_showing form place value) rest)
 
-one-line : (form : Template) (reading : Reading) (place rest : List ℕ) (cell : ℕ) (known : Option (Option ℤ)) (value : Option ℤ)
-    → number_of form.book (named form.book form.table place) ≡ Some cell → slice_get reading.shown cell ≡ known → value_there form place reading.rest cell known ≡ Some (value, rest)
+one-line : (form : Template) (reading : ReleaseSoFar) (place rest : List ℕ) (cell : ℕ) (known : Option (Option ℤ)) (value : Option ℤ)
+    → number_of form.book (name_in_table form.book form.table place) ≡ Some cell → slice_get reading.shown cell ≡ known → value_there form place reading.rest cell known ≡ Some (value, rest)
     → read_place form reading place ≡ Ok (record { shown = with_value reading.shown cell value; rest = rest; line = next_line reading.line })
 unfolding read_place
 one-line form reading place rest cell known value number there found = rw (number, there, found) refl
 
 -- what the cell of a name shows
-abbrev pub shows_of : Held → (ℕ → Option ℤ) → Name → Option ℤ
+abbrev pub shows_of : BookView → (ℕ → Option ℤ) → Name → Option ℤ
 shows_of book f name = option_and_then f (number_of book name)
 
 known-line : (form : Template) (f : ℕ → Option ℤ) (done later : List Name) (place rest : List ℕ) (line : ℕ)
-    → cells form.book ≡ done ++ later → is_named done (named form.book form.table place) ≡ true
-    → read_place form (record { shown = first_shown f (length done); rest = line_showing form place (shows_of form.book f (named form.book form.table place)) ++ rest; line = line }) place
+    → cells form.book ≡ done ++ later → is_named done (name_in_table form.book form.table place) ≡ true
+    → read_place form (record { shown = first_shown f (length done); rest = line_showing form place (shows_of form.book f (name_in_table form.book form.table place)) ++ rest; line = line }) place
     ≡ Ok (record { shown = first_shown f (length done); rest = rest; line = next_line line })
 known-line form f done later place rest line all is =
-    let name = named form.book form.table place in
+    let name = name_in_table form.book form.table place in
     let at = place-known name done is in
     let cell = at.0 in
     let number : number_of form.book name ≡ Some cell = ap (λ names. first_place (bytes_eq name) names) all ∙ place-in name done later cell at.1 in
@@ -113,14 +113,14 @@ known-line form f done later place rest line all is =
     ∙ one-line form (record { shown = first_shown f (length done); rest = line_showing form place (f cell) ++ rest; line = line }) place rest cell (Some (f cell)) (f cell) number there (fits-self form place rest (f cell))
     ∙ ap (λ shown. Ok (record { shown = shown; rest = rest; line = next_line line })) stays
 
-new-line : (book : Held) (t : ℕ) (table : List ℕ) (decimals : ℕ) (rounded : Bool) (f : ℕ → Option ℤ) (done later : List Name) (place rest : List ℕ) (line : ℕ) → ReadsNew book decimals rounded f
+new-line : (book : BookView) (t : ℕ) (table : List ℕ) (decimals : ℕ) (rounded : Bool) (f : ℕ → Option ℤ) (done later : List Name) (place rest : List ℕ) (line : ℕ) → ReadsNew book decimals rounded f
     → let form : Template = record { book = book; t = t; table = table; decimals = decimals; rounded = rounded } in
-    cells book ≡ (done ++ named book table place ∷ []) ++ later → is_named done (named book table place) ≡ false
-    → read_place form (record { shown = first_shown f (length done); rest = line_showing form place (shows_of book f (named book table place)) ++ rest; line = line }) place
-    ≡ Ok (record { shown = first_shown f (length (done ++ named book table place ∷ [])); rest = rest; line = next_line line })
+    cells book ≡ (done ++ name_in_table book table place ∷ []) ++ later → is_named done (name_in_table book table place) ≡ false
+    → read_place form (record { shown = first_shown f (length done); rest = line_showing form place (shows_of book f (name_in_table book table place)) ++ rest; line = line }) place
+    ≡ Ok (record { shown = first_shown f (length (done ++ name_in_table book table place ∷ [])); rest = rest; line = next_line line })
 new-line book t table decimals rounded f done later place rest line reads all is =
     let form : Template = record { book = book; t = t; table = table; decimals = decimals; rounded = rounded } in
-    let name = named book table place in
+    let name = name_in_table book table place in
     let cell = length done in
     let number : number_of book name ≡ Some cell = ap (λ names. first_place (bytes_eq name) names) all ∙ place-new name done later is in
     let shows : shows_of book f name ≡ f cell = ap (λ o. option_and_then f o) number in
@@ -133,14 +133,14 @@ new-line book t table decimals rounded f done later place rest line reads all is
     ∙ one-line form (record { shown = first_shown f cell; rest = line_showing form place (f cell) ++ rest; line = line }) place rest cell None (f cell) number there (reads t table place rest cell small)
     ∙ ap (λ shown. Ok (record { shown = shown; rest = rest; line = next_line line })) more
 
-some-line : (book : Held) (t : ℕ) (table : List ℕ) (decimals : ℕ) (rounded : Bool) (f : ℕ → Option ℤ) (done later : List Name) (place rest : List ℕ) (line : ℕ) → ReadsNew book decimals rounded f
+some-line : (book : BookView) (t : ℕ) (table : List ℕ) (decimals : ℕ) (rounded : Bool) (f : ℕ → Option ℤ) (done later : List Name) (place rest : List ℕ) (line : ℕ) → ReadsNew book decimals rounded f
     → let form : Template = record { book = book; t = t; table = table; decimals = decimals; rounded = rounded } in
-    cells book ≡ with_name done (named book table place) ++ later
-    → read_place form (record { shown = first_shown f (length done); rest = line_showing form place (shows_of book f (named book table place)) ++ rest; line = line }) place
-    ≡ Ok (record { shown = first_shown f (length (with_name done (named book table place))); rest = rest; line = next_line line })
+    cells book ≡ with_name done (name_in_table book table place) ++ later
+    → read_place form (record { shown = first_shown f (length done); rest = line_showing form place (shows_of book f (name_in_table book table place)) ++ rest; line = line }) place
+    ≡ Ok (record { shown = first_shown f (length (with_name done (name_in_table book table place))); rest = rest; line = next_line line })
 some-line book t table decimals rounded f done later place rest line reads all =
     let form : Template = record { book = book; t = t; table = table; decimals = decimals; rounded = rounded } in
-    let name = named book table place in
+    let name = name_in_table book table place in
     elim (is_named done name) as (λ b. is_named done name ≡ b → cells book ≡ (if b then done else done ++ name ∷ []) ++ later
     → read_place form (record { shown = first_shown f (length done); rest = line_showing form place (shows_of book f name) ++ rest; line = line }) place
     ≡ Ok (record { shown = first_shown f (length (if b then done else done ++ name ∷ [])); rest = rest; line = next_line line })) [
@@ -155,29 +155,29 @@ abbrev pub line_behind : ℕ → List (List ℕ) → ℕ
 line_behind line [] = line
 line_behind line (place ∷ rest) = line_behind (next_line line) rest
 
-lines-read : (book : Held) (t : ℕ) (table : List ℕ) (decimals : ℕ) (rounded : Bool) (f : ℕ → Option ℤ) → ReadsNew book decimals rounded f
+lines-read : (book : BookView) (t : ℕ) (table : List ℕ) (decimals : ℕ) (rounded : Bool) (f : ℕ → Option ℤ) → ReadsNew book decimals rounded f
     → let form : Template = record { book = book; t = t; table = table; decimals = decimals; rounded = rounded } in
     (found : List (List ℕ)) (done more : List Name) (line : ℕ)
-    → cells book ≡ fold with_name done (map (named book table) found ++ more)
-    → read_places form (record { shown = first_shown f (length done); rest = flat_map (λ place. line_showing form place (shows_of book f (named book table place))) found; line = line }) found
-    ≡ Ok (record { shown = first_shown f (length (fold with_name done (map (named book table) found))); rest = []; line = line_behind line found })
+    → cells book ≡ fold with_name done (map (name_in_table book table) found ++ more)
+    → read_places form (record { shown = first_shown f (length done); rest = flat_map (λ place. line_showing form place (shows_of book f (name_in_table book table place))) found; line = line }) found
+    ≡ Ok (record { shown = first_shown f (length (fold with_name done (map (name_in_table book table) found))); rest = []; line = line_behind line found })
 lines-read book t table decimals rounded f reads [] done more line all = refl
 lines-read book t table decimals rounded f reads (place ∷ found) done more line all =
     let form : Template = record { book = book; t = t; table = table; decimals = decimals; rounded = rounded } in
-    let name = named book table place in
-    let rest = flat_map (λ p. line_showing form p (shows_of book f (named book table p))) found in
+    let name = name_in_table book table place in
+    let rest = flat_map (λ p. line_showing form p (shows_of book f (name_in_table book table p))) found in
     let next = with_name done name in
-    let later = stay next (map (named book table) found ++ more) in
+    let later = stay next (map (name_in_table book table) found ++ more) in
     ap (λ r. r >>= λ now. read_places form now found) (some-line book t table decimals rounded f done later.0 place rest line reads (all ∙ later.1))
     ∙ lines-read book t table decimals rounded f reads found next more (next_line line) all
 
-table-steps : (form : Template) (names : List (List ℕ)) (bytes rest : List ℕ) (shown : List (Option ℤ)) (all : Reading)
+table-steps : (form : Template) (names : List (List ℕ)) (bytes rest : List ℕ) (shown : List (Option ℤ)) (all : ReleaseSoFar)
     → rest_behind (line_text names) bytes ≡ Some rest → read_places form (record { shown = shown; rest = rest; line = 2 }) (places (trees_of form.book.trees form.table)) ≡ Ok all → is_left all.rest ≡ false
     → read_table form names bytes shown ≡ Ok all.shown
 unfolding read_table
 table-steps form names bytes rest shown all first lines end = rw (first, lines, end) refl
 
-tables-read : (book : Held) (decimals : ℕ) (rounded : Bool) (f : ℕ → Option ℤ) → ReadsNew book decimals rounded f
+tables-read : (book : BookView) (decimals : ℕ) (rounded : Bool) (f : ℕ → Option ℤ) → ReadsNew book decimals rounded f
     → (t : ℕ) (tables : List (List ℕ)) (names : List (List (List ℕ))) (files : List (List ℕ)) (done : List Name)
     → cells book ≡ fold with_name done (flat_map (named_by book.trees) tables) → AreTexts book decimals f tables names files
     → read_tables book decimals rounded t tables names files (first_shown f (length done)) ≡ Ok (first_shown f (length (cells book)))
@@ -188,7 +188,7 @@ tables-read book decimals rounded f reads t (table ∷ tables) (own ∷ names) [
 tables-read book decimals rounded f reads t (table ∷ tables) (own ∷ names) (bytes ∷ files) done all texts =
     let form : Template = record { book = book; t = t; table = table; decimals = decimals; rounded = rounded } in
     let found = places (trees_of book.trees table) in
-    let lines = flat_map (λ p. line_showing form p (shows_of book f (named book table p))) found in
+    let lines = flat_map (λ p. line_showing form p (shows_of book f (name_in_table book table p))) found in
     let next = fold with_name done (named_by book.trees table) in
     let one : read_table form own bytes (first_shown f (length done)) ≡ Ok (first_shown f (length next)) =
     ap (λ b. read_table form own b (first_shown f (length done))) texts.0
@@ -197,13 +197,13 @@ tables-read book decimals rounded f reads t (table ∷ tables) (own ∷ names) (
     ap (λ r. r >>= λ now. read_tables book decimals rounded (t + 1) tables names files now) one
     ∙ tables-read book decimals rounded f reads (t + 1) tables names files next (all ∙ fold-append with_name done (named_by book.trees table) (flat_map (named_by book.trees) tables)) texts.1
 
-pub release-read : (book : Held) (decimals : ℕ) (rounded : Bool) (f : ℕ → Option ℤ) (names : List (List (List ℕ))) (files : List (List ℕ)) → ReadsNew book decimals rounded f → AreTexts book decimals f book.tables names files
+pub release-read : (book : BookView) (decimals : ℕ) (rounded : Bool) (f : ℕ → Option ℤ) (names : List (List (List ℕ))) (files : List (List ℕ)) → ReadsNew book decimals rounded f → AreTexts book decimals f book.tables names files
     → release_read book names decimals rounded files ≡ Ok (first_shown f (length (cells book)))
 release-read book decimals rounded f names files reads texts = tables-read book decimals rounded f reads 0 book.tables names files [] refl texts
 
 -- ---- hidden sets
 
-hidden-new : (book : Held) (decimals : ℕ) (flags : List Bool) → ReadsNew book decimals false (open_truth book.marks flags)
+hidden-new : (book : BookView) (decimals : ℕ) (flags : List Bool) → ReadsNew book decimals false (open_truth book.marks flags)
 hidden-new book decimals flags t table place rest cell small =
     let form : Template = record { book = book; t = t; table = table; decimals = decimals; rounded = false } in
     elim (slice_index_or flags cell false) as (λ b. new_value form place (line_showing form place (if b then None else truth_of book.marks cell) ++ rest) cell ≡ Some (if b then None else truth_of book.marks cell, rest)) [

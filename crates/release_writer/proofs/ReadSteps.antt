@@ -5,7 +5,7 @@ use Rattle.std.proofs.lemmas.List.{drop_more, drop_all, map-id}
 use Rattle.sdc_base.specs.Answers.{Fails}
 use Rattle.sdc_base.specs.Steps.{◌>>=◌}
 use Rattle.sdc_base.specs.Cells.{places, trees_of}
-use Rattle.release_writer.specs.ReleaseReading.{Template, Reading, LinePlace, read_place, read_places}
+use Rattle.release_writer.specs.ReleaseReading.{Template, ReleaseSoFar, LinePlace, read_place, read_places}
 use Rattle.release_writer.specs.Sheets.{places_below}
 
 pub step-end : {A F : Type 0} (r : Result A F) → (r >>= λ x. Ok x) ≡ r
@@ -21,7 +21,7 @@ step-same (Ok x) f g h = h x
 step-same (Err e) f g h = refl
 
 -- the lines of some places, and then those of others
-pub read-more : (form : Template) (reading : Reading) (xs ys : List (List ℕ)) → read_places form reading (xs ++ ys) ≡ (read_places form reading xs >>= λ next. read_places form next ys)
+pub read-more : (form : Template) (reading : ReleaseSoFar) (xs ys : List (List ℕ)) → read_places form reading (xs ++ ys) ≡ (read_places form reading xs >>= λ next. read_places form next ys)
 read-more form reading [] ys = refl
 read-more form reading (x ∷ xs) ys =
     step-same (read_place form reading x) (λ next. read_places form next (xs ++ ys)) (λ next. read_places form next xs >>= λ last. read_places form last ys) (λ next. read-more form next xs ys)
@@ -90,7 +90,7 @@ from-end form place code h =
     ap (λ n. flat_map (λ c. map (λ rest. place ++ c ∷ rest) (places (trees_of form.book.trees (drop (length place + 1) form.table)))) (range_with_len code n)) none
 
 -- after the lines of one code the others are read
-pub code-read : (form : Template) (now next : Reading) (place : List ℕ) (code : ℕ) (whole : Result Reading LinePlace)
+pub code-read : (form : Template) (now next : ReleaseSoFar) (place : List ℕ) (code : ℕ) (whole : Result ReleaseSoFar LinePlace)
     → code < length (slice_index_or form.book.trees (get_or form.table (length place) 0) [])
     → read_places form now (places_from form place code) ≡ whole → read_places form now (places_below form (place ++ code ∷ [])) ≡ Ok next → read_places form next (places_from form place (code + 1)) ≡ whole
 code-read form now next place code whole small before read =
@@ -100,7 +100,7 @@ code-read form now next place code whole small before read =
     ∙ before
 
 -- a bad line among those of one code is the first bad line of all
-pub code-bad : (form : Template) (now : Reading) (place : List ℕ) (code : ℕ) (whole : Result Reading LinePlace) (fault : Option LinePlace)
+pub code-bad : (form : Template) (now : ReleaseSoFar) (place : List ℕ) (code : ℕ) (whole : Result ReleaseSoFar LinePlace) (fault : Option LinePlace)
     → code < length (slice_index_or form.book.trees (get_or form.table (length place) 0) [])
     → read_places form now (places_from form place code) ≡ whole → Fails fault (read_places form now (places_below form (place ++ code ∷ []))) → Fails fault whole
 code-bad form now place code whole None small before bad = tt

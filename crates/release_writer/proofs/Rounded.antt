@@ -12,15 +12,15 @@ use Rattle.std.proofs.lemmas.List.{length-replicate}
 use Rattle.std.proofs.lemmas.Option.{slice_get_past}
 use Rattle.std.proofs.lemmas.Bool.Decides.{nat_tests}
 use Rattle.sdc_base.specs.Lines.{is_line_feed}
-use Rattle.sdc_base.specs.Numbers.{units_text, padded, read_units, units_of_parts, unless_wide, unless_stray, narrow, too_wide, stray, whole, fraction}
+use Rattle.sdc_base.specs.Numbers.{units_text, padded_digits, read_units, units_of_parts, unless_wide, unless_stray, number_within, too_wide, place_of_stray_byte, whole_digits, fraction}
 use Rattle.sdc_base.specs.declared.number_fault.NumberFault.{NumberFault}
 use Rattle.sdc_base.specs.declared.number_fault.NumberFault.TheVariants.{Empty, TooManyDecimals}
 use Rattle.sdc_base.specs.Steps.{◌>>=◌, map_ok}
-use Rattle.sdc_base.specs.TableText.{comma, quote, field_text, line_text, is_special, doubled, shown_text, codes_of_place}
+use Rattle.sdc_base.specs.TableText.{comma, quote, field_text, line_text, is_special, quotes_doubled, shown_text, codes_of_place}
 use Rattle.sdc_base.specs.Cells.{trees_of}
 use Rattle.linked_tables.specs.declared.mark.Mark.{Mark}
-use Rattle.linked_tables.specs.Held.{Held}
-use Rattle.linked_tables.specs.Shared.{cells}
+use Rattle.linked_tables.specs.BookViews.{BookView}
+use Rattle.linked_tables.specs.BookCells.{cells}
 use Rattle.release_writer.specs.ReleaseReading.{Template, LinePlace, rest_behind, line_showing, choice_there, new_value, rounded_value, number_there, number_behind, value_read, numbers_of, release_read}
 use Rattle.release_writer.specs.ReadingLaws.{AreTexts, RoundedHaveTexts, IsReleased}
 use Rattle.release_writer.proofs.HaveTexts.{Shows, GivesNew, AllFrom, all-at, fitting-some, release-read, shown_by, texts-same}
@@ -31,7 +31,7 @@ use Rattle.release_writer.proofs.HaveTexts.{Shows, GivesNew, AllFrom, all-at, fi
 abbrev pub IsNumber : ℕ → Option ℤ → Type 0
 IsNumber cell value = (n : ℕ) × (value ≡ Some (pos n)) × (n < too_wide)
 
-narrow-ok : (n : ℕ) (z : ℤ) → unless_wide (narrow n) ≡ Ok z → (m : ℕ) × (z ≡ pos m) × (m < too_wide)
+narrow-ok : (n : ℕ) (z : ℤ) → unless_wide (number_within n) ≡ Ok z → (m : ℕ) × (z ≡ pos m) × (m < too_wide)
 narrow-ok n z h =
     elim (nat_lt n too_wide) as (λ b. nat_lt n too_wide ≡ b → unless_wide (if b then Some n else None) ≡ Ok z → (m : ℕ) × (z ≡ pos m) × (m < too_wide)) [
       | true ↦ λ is h. (n, cc, grind (arith, nat_tests, is))
@@ -41,16 +41,16 @@ narrow-ok n z h =
 parts-ok : (front back : List ℕ) (decimals : ℕ) (z : ℤ) → units_of_parts front back decimals ≡ Ok z → (m : ℕ) × (z ≡ pos m) × (m < too_wide)
 parts-ok front back decimals z h = go (length (front ++ back) == 0) (nat_lt decimals (length back)) _ h
   where
-    go : (empty many : Bool) (n : ℕ) → (if empty then Err Empty else if many then Err TooManyDecimals else unless_wide (narrow n)) ≡ Ok z → (m : ℕ) × (z ≡ pos m) × (m < too_wide)
+    go : (empty many : Bool) (n : ℕ) → (if empty then Err Empty else if many then Err TooManyDecimals else unless_wide (number_within n)) ≡ Ok z → (m : ℕ) × (z ≡ pos m) × (m < too_wide)
     go true many n h = cc
     go false true n h = cc
     go false false n h = narrow-ok n z h
 
 units-ok : (bytes : List ℕ) (decimals : ℕ) (z : ℤ) → read_units bytes decimals ≡ Ok z → (m : ℕ) × (z ≡ pos m) × (m < too_wide)
-units-ok bytes decimals z h = go (stray false bytes) h
+units-ok bytes decimals z h = go (place_of_stray_byte false bytes) h
   where
-    go : (o : Option ℕ) → unless_stray o (units_of_parts (whole bytes) (fraction bytes) decimals) ≡ Ok z → (m : ℕ) × (z ≡ pos m) × (m < too_wide)
-    go None h = parts-ok (whole bytes) (fraction bytes) decimals z h
+    go : (o : Option ℕ) → unless_stray o (units_of_parts (whole_digits bytes) (fraction bytes) decimals) ≡ Ok z → (m : ℕ) × (z ≡ pos m) × (m < too_wide)
+    go None h = parts-ok (whole_digits bytes) (fraction bytes) decimals z h
     go (Some place) h = cc
 
 number-ok : (line : ℕ) (bytes : List ℕ) (decimals : ℕ) (z : ℤ) → number_behind line bytes decimals ≡ Some z → (m : ℕ) × (z ≡ pos m) × (m < too_wide)
@@ -61,7 +61,7 @@ number-ok line bytes decimals z h =
       | Err e ↦ λ is h. cc
     ] refl h
 
-rounded-gives : (book : Held) (decimals : ℕ) → GivesNew book decimals true IsNumber
+rounded-gives : (book : BookView) (decimals : ℕ) → GivesNew book decimals true IsNumber
 rounded-gives book decimals t table place bytes cell found h =
     let form : Template = record { book = book; t = t; table = table; decimals = decimals; rounded = true } in
     go form (number_there form place bytes) refl h

@@ -2,7 +2,7 @@
 use Rattle.std.proofs.Common.{ℕ, zero, suc, ◌<◌, ◌==◌, ◌/◌, ◌%◌, ◌^◌, true, false, List, [], ◌∷◌, ◌++◌, length, Option, None, Some, ℤ, arith, length-append, if◌then◌else◌}
 use Rattle.std.specs.Prelude.{decimal, unsigned_abs}
 use Rattle.std.specs.Fmt.{digits, digits_onto, digit_glyph}
-use Rattle.sdc_base.specs.Numbers.{units_text, padded}
+use Rattle.sdc_base.specs.Numbers.{units_text, padded_digits}
 use Rattle.sdc_base.specs.TableText.{shown_text}
 
 onto-some : (k n : ℕ) (acc : List ℕ) → 0 < length acc → 0 < length (digits_onto k 10 false n acc)
@@ -22,7 +22,7 @@ number n = first-digit 63 n
 
 units : (n decimals : ℕ) → 0 < length (units_text n decimals)
 units n decimals =
-    let back : List ℕ = 46 ∷ padded decimals (n % 10 ^ decimals) in
+    let back : List ℕ = 46 ∷ padded_digits decimals (n % 10 ^ decimals) in
     let front : List ℕ = decimal (n / 10 ^ decimals) in
     elim (decimals == 0) as (λ b. 0 < length (if b then decimal n else front ++ back)) [
       | true ↦ number n

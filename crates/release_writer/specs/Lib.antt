@@ -1,4 +1,4 @@
-pub mod Shown
+pub mod ShownCells
 pub mod Lines
 pub mod Pages
 pub mod Laws

@@ -6,18 +6,22 @@ use Rattle.csv.specs.declared.writer.Writer.{Writer}
 use Rattle.csv.specs.Writing.{default_writer, writer_setup, fields_written, has_written, text_written}
 use Rattle.sdc_base.specs.Cells.{places, trees_of}
 use Rattle.sdc_base.specs.TableText.{comma, field_text, line_text, codes_of_place, shown_text}
-use Rattle.linked_tables.specs.Held.{Held}
-use Rattle.linked_tables.specs.Shared.{named}
-use Rattle.release_writer.specs.Shown.{shows}
+use Rattle.linked_tables.specs.BookViews.{BookView}
+use Rattle.linked_tables.specs.BookCells.{name_in_table}
+use Rattle.release_writer.specs.ShownCells.{number_shown}
 use Rattle.release_writer.specs.declared.shown.Shown.{Shown}
 
 -- the line of a place: its codes and what its cell shows
-abbrev pub place_line : Held → List ℕ → ℕ → Shown → List ℕ → List ℕ
-place_line book table decimals how place = line_text (codes_of_place (trees_of book.trees table) place ++ shown_text decimals (shows book how (named book table place)) ∷ [])
+abbrev pub place_line : BookView → List ℕ → ℕ → Shown → List ℕ → List ℕ
+place_line book table decimals how place =
+    line_text (codes_of_place (trees_of book.trees table) place
+    ++ shown_text decimals (number_shown book how (name_in_table book table place)) ∷ [])
 
 -- the lines of the places that begin with this one
-abbrev pub lines_below : Held → List ℕ → ℕ → Shown → List ℕ → List ℕ
-lines_below book table decimals how place = flat_map (λ rest. place_line book table decimals how (place ++ rest)) (places (trees_of book.trees (drop (length place) table)))
+abbrev pub lines_below : BookView → List ℕ → ℕ → Shown → List ℕ → List ℕ
+lines_below book table decimals how place =
+    flat_map (λ rest. place_line book table decimals how (place ++ rest))
+    (places (trees_of book.trees (drop (length place) table)))
 
 -- a line so far: the fields with commas between them
 abbrev pub begun_line : List (List ℕ) → List ℕ
@@ -30,5 +34,5 @@ pub record IsReady (writer : Writer (Vec ℕ Global)) : Type 0 where
   pub clean : has_written writer ≡ false
 
 -- the bytes that a csv writer has written
-abbrev pub written : Writer (Vec ℕ Global) → Option (List ℕ)
-written writer = text_written (λ bytes. Some bytes.items) writer
+abbrev pub bytes_written : Writer (Vec ℕ Global) → Option (List ℕ)
+bytes_written writer = text_written (λ bytes. Some bytes.items) writer

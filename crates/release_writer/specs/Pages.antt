@@ -1,6 +1,6 @@
 -- What the lines of a release table are written from (own).
 use Rattle.std.specs.Prelude.{◌≡◌, ◌≤◌, slice_get, Some}
-use Rattle.release_writer.specs.Shown.{CanBeShown}
+use Rattle.release_writer.specs.ShownCells.{CanBeShown}
 use Rattle.release_writer.specs.declared.tables.Page.{Page}
 
 -- the table is one of the book, the decimals are those of a number, and each cell can be shown

@@ -8,8 +8,8 @@ use Rattle.sdc_base.specs.Cells.{places, trees_of}
 use Rattle.sdc_base.specs.Steps.{◌>>=◌, or_fault, refuse, map_ok}
 use Rattle.sdc_base.specs.TableText.{line_text, codes_of_place, shown_text}
 use Rattle.linked_tables.specs.declared.mark.Mark.{Mark}
-use Rattle.linked_tables.specs.Held.{Held}
-use Rattle.linked_tables.specs.Shared.{named, number_of}
+use Rattle.linked_tables.specs.BookViews.{BookView}
+use Rattle.linked_tables.specs.BookCells.{name_in_table, number_of}
 
 -- what is left of bytes behind a line with which they begin
 abbrev pub rest_behind : List ℕ → List ℕ → Option (List ℕ)
@@ -17,14 +17,15 @@ rest_behind line bytes = if bytes_eq (take (length line) bytes) line then Some (
 
 -- a table of a release less what its cells show: rounded numbers, or truths and nothing
 pub record Template : Type 0 where
-  pub book : Held
+  pub book : BookView
   pub t : ℕ
   pub table : List ℕ
   pub decimals : ℕ
   pub rounded : Bool
 
--- what the lines so far show of the cells, in the order of their numbers, the bytes that are left, and the number of their first line
-pub record Reading : Type 0 where
+-- what the lines so far show of the cells, in the order of their numbers, the bytes that are left, and the number of
+-- their first line
+pub record ReleaseSoFar : Type 0 where
   pub shown : List (Option ℤ)
   pub rest : List ℕ
   pub line : ℕ
@@ -35,11 +36,14 @@ LinePlace = ℕ × ℕ
 
 -- the line of a place whose cell shows this
 abbrev pub line_showing : Template → List ℕ → Option ℤ → List ℕ
-line_showing form place value = line_text (codes_of_place (trees_of form.book.trees form.table) place ++ shown_text form.decimals value ∷ [])
+line_showing form place value =
+    line_text (codes_of_place (trees_of form.book.trees form.table) place ++ shown_text form.decimals value ∷ [])
 
--- a choice for the cell of a place, and what is left behind the line that shows it; none where the bytes don't begin with that line
+-- a choice for the cell of a place, and what is left behind the line that shows it; none where the bytes don't begin
+-- with that line
 abbrev pub choice_there : Template → List ℕ → List ℕ → Option ℤ → Option (Option ℤ × List ℕ)
-choice_there form place bytes value = option_map (λ rest. (value, rest)) (rest_behind (line_showing form place value) bytes)
+choice_there form place bytes value =
+    option_map (λ rest. (value, rest)) (rest_behind (line_showing form place value) bytes)
 
 -- the first, or the second where there is none
 abbrev pub or_second : {X : Type 0} → Option X → Option X → Option X
@@ -53,7 +57,8 @@ value_read (Err fault) = None
 
 -- the number whose text begins where the last two bytes of a line so long begin: up to LF, and in 60 bytes at most
 abbrev pub number_behind : ℕ → List ℕ → ℕ → Option ℤ
-number_behind line bytes decimals = value_read (read_units (before_first is_line_feed (take 60 (drop (line - 2) bytes))) decimals)
+number_behind line bytes decimals =
+    value_read (read_units (before_first is_line_feed (take 60 (drop (line - 2) bytes))) decimals)
 
 -- the number whose text stands where the line of a hidden cell has its `x`
 abbrev pub number_there : Template → List ℕ → List ℕ → Option ℤ
@@ -65,9 +70,11 @@ truth_of marks cell = option_map (λ mark. mark.facts.truth) (slice_get marks ce
 
 -- the number that a cell of a rounded release shows
 abbrev pub rounded_value : Template → List ℕ → List ℕ → Option (Option ℤ × List ℕ)
-rounded_value form place bytes = option_and_then (λ number. choice_there form place bytes (Some number)) (number_there form place bytes)
+rounded_value form place bytes =
+    option_and_then (λ number. choice_there form place bytes (Some number)) (number_there form place bytes)
 
--- what a cell shows that no earlier line shows: its truth, or else nothing; in a rounded release the number that stands there
+-- what a cell shows that no earlier line shows: its truth, or else nothing; in a rounded release the number that stands
+-- there
 abbrev pub new_value : Template → List ℕ → List ℕ → ℕ → Option (Option ℤ × List ℕ)
 new_value form place bytes cell =
     if form.rounded then rounded_value form place bytes
@@ -87,18 +94,19 @@ abbrev pub with_value : List (Option ℤ) → ℕ → Option ℤ → List (Optio
 with_value shown cell value = if nat_lt cell (length shown) then shown else shown ++ value ∷ []
 
 -- the reading behind a line that shows this of a cell, with these bytes behind it
-abbrev pub reading_after : Reading → ℕ → Option ℤ × List ℕ → Result Reading LinePlace
-reading_after reading cell found = Ok (record { shown = with_value reading.shown cell found.0; rest = found.1; line = next_line reading.line })
+abbrev pub reading_after : ReleaseSoFar → ℕ → Option ℤ × List ℕ → Result ReleaseSoFar LinePlace
+reading_after reading cell found =
+    Ok (record { shown = with_value reading.shown cell found.0; rest = found.1; line = next_line reading.line })
 
 -- the line of a place is read: its choice is taken in, unless no choice gives the line
-unfoldable pub read_place : Template → Reading → List ℕ → Result Reading LinePlace
+unfoldable pub read_place : Template → ReleaseSoFar → List ℕ → Result ReleaseSoFar LinePlace
 read_place form reading place = do
-  cell ← or_fault (form.t, reading.line) (number_of form.book (named form.book form.table place))
+  cell ← or_fault (form.t, reading.line) (number_of form.book (name_in_table form.book form.table place))
   found ← or_fault (form.t, reading.line) (value_there form place reading.rest cell (slice_get reading.shown cell))
   reading_after reading cell found
 
 -- the lines of places are read, one after another
-abbrev pub read_places : Template → Reading → List (List ℕ) → Result Reading LinePlace
+abbrev pub read_places : Template → ReleaseSoFar → List (List ℕ) → Result ReleaseSoFar LinePlace
 read_places form reading [] = Ok reading
 read_places form reading (place ∷ rest) = read_place form reading place >>= λ next. read_places form next rest
 
@@ -112,20 +120,24 @@ is_left (b ∷ bytes) = true
 unfoldable pub read_table : Template → List (List ℕ) → List ℕ → List (Option ℤ) → Result (List (Option ℤ)) LinePlace
 read_table form names bytes shown = do
   rest ← or_fault (form.t, 1) (rest_behind (line_text names) bytes)
-  all ← read_places form (record { shown = shown; rest = rest; line = 2 }) (places (trees_of form.book.trees form.table))
+  all ← read_places form (record { shown = shown; rest = rest; line = 2 })
+      (places (trees_of form.book.trees form.table))
   end ← refuse (form.t, all.line) (is_left all.rest)
   Ok all.shown
 
 -- Tables from number t on are read, each with its names and its bytes: what their cells show, or the first bad line.
 -- A cell that several tables have shows the same in each.
-unfoldable pub read_tables : Held → ℕ → Bool → ℕ → List (List ℕ) → List (List (List ℕ)) → List (List ℕ) → List (Option ℤ) → Result (List (Option ℤ)) LinePlace
+unfoldable pub read_tables : BookView → ℕ → Bool → ℕ → List (List ℕ) → List (List (List ℕ)) → List (List ℕ)
+    → List (Option ℤ) → Result (List (Option ℤ)) LinePlace
 read_tables book decimals rounded t (table ∷ tables) (names ∷ others) (bytes ∷ files) shown = do
-  next ← read_table (record { book = book; t = t; table = table; decimals = decimals; rounded = rounded }) names bytes shown
+  next ← read_table (record { book = book; t = t; table = table; decimals = decimals; rounded = rounded }) names bytes
+      shown
   read_tables book decimals rounded (t + 1) tables others files next
 read_tables book decimals rounded t tables names files shown = Ok shown
 
 -- what the cells of a release show, or its first bad line
-abbrev pub release_read : Held → List (List (List ℕ)) → ℕ → Bool → List (List ℕ) → Result (List (Option ℤ)) LinePlace
+abbrev pub release_read : BookView → List (List (List ℕ)) → ℕ → Bool → List (List ℕ)
+    → Result (List (Option ℤ)) LinePlace
 release_read book names decimals rounded files = read_tables book decimals rounded 0 book.tables names files []
 
 -- the flags of cells that show this: a cell that shows nothing is hidden
@@ -137,9 +149,9 @@ abbrev pub numbers_of : List (Option ℤ) → List ℤ
 numbers_of shown = map (λ value. unwrap_or value (pos 0)) shown
 
 -- the hidden set, by a flag for each cell, whose texts these bytes are, or the first bad line
-abbrev pub hidden_read : Held → List (List (List ℕ)) → ℕ → List (List ℕ) → Result (List Bool) LinePlace
+abbrev pub hidden_read : BookView → List (List (List ℕ)) → ℕ → List (List ℕ) → Result (List Bool) LinePlace
 hidden_read book names decimals files = map_ok flags_of (release_read book names decimals false files)
 
 -- the numbers whose texts these bytes are, or the first bad line
-abbrev pub rounded_read : Held → List (List (List ℕ)) → ℕ → List (List ℕ) → Result (List ℤ) LinePlace
+abbrev pub rounded_read : BookView → List (List (List ℕ)) → ℕ → List (List ℕ) → Result (List ℤ) LinePlace
 rounded_read book names decimals files = map_ok numbers_of (release_read book names decimals true files)

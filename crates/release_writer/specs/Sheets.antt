@@ -2,8 +2,8 @@
 use Rattle.std.specs.Prelude.{◌≡◌, ◌≤◌, ◌<◌, ◌+◌, ℕ, [], slice_index_or, length, drop, map, ◌++◌, slice_get, List, All, Option, None, Some, option_map, ℤ, pos, ◌≤ℤ◌}
 use Rattle.std.specs.Option.{ForSome}
 use Rattle.sdc_base.specs.Cells.{places, trees_of}
-use Rattle.linked_tables.specs.Held.{Held}
-use Rattle.release_writer.specs.ReleaseReading.{Template, Reading, LinePlace}
+use Rattle.linked_tables.specs.BookViews.{BookView}
+use Rattle.release_writer.specs.ReleaseReading.{Template, ReleaseSoFar, LinePlace}
 use Rattle.release_writer.specs.declared.release_fault.ReleaseFault.{ReleaseFault}
 use Rattle.release_writer.specs.declared.release_fault.ReleaseFault.TheVariants as fault
 use Rattle.release_writer.specs.declared.sheet.Sheet.{Sheet}
@@ -16,9 +16,16 @@ fault_of fault.Memory = None
 fault_of (fault.At table line) = Some (table, line)
 
 abbrev pub form_of : Sheet → Template
-form_of sheet = record { book = sheet.book.now; t = sheet.t; table = sheet.table.now; decimals = sheet.decimals; rounded = sheet.rounded }
+form_of sheet =
+    record {
+      book = sheet.book.now;
+      t = sheet.t;
+      table = sheet.table.now;
+      decimals = sheet.decimals;
+      rounded = sheet.rounded;
+    }
 
-abbrev pub reading_of : Progress → Reading
+abbrev pub reading_of : Progress → ReleaseSoFar
 reading_of progress = record { shown = progress.shown; rest = progress.rest.now; line = progress.line }
 
 abbrev pub fit_of : Option Fit → Option (Option ℤ × List ℕ)
@@ -29,7 +36,7 @@ abbrev pub IsFromZero : Option ℤ → Type 0
 IsFromZero value = ForSome value (λ number. pos 0 ≤ℤ number)
 
 -- the truths of a book are from 0
-abbrev pub HasTruthsFromZero : Held → Type 0
+abbrev pub HasTruthsFromZero : BookView → Type 0
 HasTruthsFromZero book = All (λ mark. pos 0 ≤ℤ mark.facts.truth) book.marks
 
 -- the table is one of the book, the decimals are those of a number, and truths are from 0
@@ -40,7 +47,8 @@ pub record IsSheet (sheet : Sheet) : Type 0 where
 
 -- the places of a table that begin with this one
 abbrev pub places_below : Template → List ℕ → List (List ℕ)
-places_below form place = map (λ rest. place ++ rest) (places (trees_of form.book.trees (drop (length place) form.table)))
+places_below form place =
+    map (λ rest. place ++ rest) (places (trees_of form.book.trees (drop (length place) form.table)))
 
 -- there is one list of names for each table: one name for each of its variables and one for the response
 pub record HaveNames (names : List (List (List ℕ))) (tables : List (List ℕ)) : Type 0 where

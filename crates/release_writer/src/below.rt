@@ -19,7 +19,9 @@ pub(crate) fn read_all<'a>(
 ) -> Result<(), ReleaseFault>
     requires sheet { IsSheet sheet.now }
     requires shown { All IsFromZero progress.old.shown }
-    ensures exact { Gives fault_of (λ _. reading_of progress.new) result (spec.read_places (form_of sheet.now) (reading_of progress.old) (places (trees_of sheet.now.book.now.trees sheet.now.table.now))) }
+    ensures exact { Gives fault_of (λ _. reading_of progress.new) result
+        (spec.read_places (form_of sheet.now) (reading_of progress.old)
+        (places (trees_of sheet.now.book.now.trees sheet.now.table.now))) }
     ensures shown { OnOk result (All IsFromZero progress.new.shown) }
 {
     read_below(alloc, sheet, progress, &[])
@@ -34,9 +36,11 @@ fn read_below<'a>(
 ) -> Result<(), ReleaseFault>
     requires sheet { IsSheet sheet.now }
     requires begun { length place.now ≤ length sheet.now.table.now }
-    requires place { is_place_in (trees_of sheet.now.book.now.trees (take (length place.now) sheet.now.table.now)) place.now ≡ true }
+    requires place { is_place_in (trees_of sheet.now.book.now.trees (take (length place.now) sheet.now.table.now))
+        place.now ≡ true }
     requires shown { All IsFromZero progress.old.shown }
-    ensures exact { Gives fault_of (λ _. reading_of progress.new) result (spec.read_places (form_of sheet.now) (reading_of progress.old) (places_below (form_of sheet.now) place.now)) }
+    ensures exact { Gives fault_of (λ _. reading_of progress.new) result
+        (spec.read_places (form_of sheet.now) (reading_of progress.old) (places_below (form_of sheet.now) place.now)) }
     ensures shown { OnOk result (All IsFromZero progress.new.shown) }
 {
     if place.len() >= sheet.table.len() {

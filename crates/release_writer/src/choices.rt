@@ -15,8 +15,8 @@ use plain_text::{cut_at, read_units};
 use sdc_base::Memory;
 use std::alloc::Global;
 
-/// What the cell of a place shows, by the line with which these bytes begin: what is known of it, or else a choice that the
-/// line gives.
+/// What the cell of a place shows, by the line with which these bytes begin: what is known of it, or else a choice that
+/// the line gives.
 pub(crate) fn value_there<'a>(
     alloc: Global,
     sheet: &Sheet<'_>,

@@ -10,7 +10,8 @@ pub fn only_what_is_shown_enters()
     ensures hidden { HiddenShowNothing }
 {}
 
-/// The texts that are written for a hidden set are read as that set, and bytes that are read as a hidden set are its texts.
+/// The texts that are written for a hidden set are read as that set, and bytes that are read as a hidden set are its
+/// texts.
 pub fn hidden_sets_are_read_back()
     ensures written { HiddenAreReadBack }
     ensures read { HiddenHaveTexts }

@@ -1,9 +1,9 @@
 ghost use Rattle.std.specs.Prelude.{◌≡◌, ◌≤◌, ◌<◌, [], true, false, length, slice_get, slice_index_or, All, IfOk, pos, ◌≤ℤ◌};
 ghost use Rattle.std.specs.Option.{ForSome};
 ghost use Rattle.sdc_base.specs.TableText.{shown_text};
-ghost use Rattle.linked_tables.specs.Shared.{named, is_in};
+ghost use Rattle.linked_tables.specs.BookCells.{name_in_table, is_in};
 ghost use Rattle.release_writer.specs.Sheets.{IsFromZero};
-ghost use Rattle.release_writer.specs.Shown.{CanBeShown, open_truth, shown_in, shows};
+ghost use Rattle.release_writer.specs.ShownCells.{CanBeShown, open_truth, shown_in, number_shown};
 
 use crate::shown::Shown;
 use linked_tables::{Book, Mark};
@@ -24,7 +24,9 @@ pub(crate) fn number_text(
     requires place { is_in book.now (slice_index_or book.now.tables t []) place.now ≡ true }
     requires decimals { decimals ≤ 13 }
     requires shown { CanBeShown book.now shown }
-    ensures text { IfOk result (λ text. text ≡ shown_text decimals (shows book.now shown.entry (named book.now (slice_index_or book.now.tables t []) place.now))) }
+    ensures text { IfOk result (λ text. text
+        ≡ shown_text decimals (number_shown book.now shown.entry
+        (name_in_table book.now (slice_index_or book.now.tables t []) place.now))) }
 {
     value_text(alloc, decimals, shown_at(book, t, place, shown))
 }
@@ -47,7 +49,8 @@ fn shown_at(book: &Book, t: u32, place: &[u32], shown: Shown<'_>) -> Option<i128
     requires place { is_in book.now (slice_index_or book.now.tables t []) place.now ≡ true }
     requires shown { CanBeShown book.now shown }
     ensures from_zero { ForSome result (λ number. pos 0 ≤ℤ number) }
-    ensures value { result ≡ shows book.now shown.entry (named book.now (slice_index_or book.now.tables t []) place.now) }
+    ensures value { result ≡ number_shown book.now shown.entry
+        (name_in_table book.now (slice_index_or book.now.tables t []) place.now) }
 {
     let cell = book.id(t, place)?;
     shown_of(book, cell, shown)

@@ -23,7 +23,8 @@ pub(crate) fn read_place<'a>(
     requires whole { length place.now ≡ length sheet.now.table.now }
     requires place { is_place_in (trees_of sheet.now.book.now.trees sheet.now.table.now) place.now ≡ true }
     requires shown { All IsFromZero progress.old.shown }
-    ensures exact { Gives fault_of (λ _. reading_of progress.new) result (spec.read_place (form_of sheet.now) (reading_of progress.old) place.now) }
+    ensures exact { Gives fault_of (λ _. reading_of progress.new) result
+        (spec.read_place (form_of sheet.now) (reading_of progress.old) place.now) }
     ensures shown { OnOk result (All IsFromZero progress.new.shown) }
 {
     let Some(cell) = sheet.book.id(sheet.t, place) else {
@@ -60,7 +61,8 @@ fn value_at(shown: &[Option<i128>], cell: usize) -> Option<Option<i128>>
 fn take_in<'a>(progress: &mut Progress<'a>, cell: u32, fit: Fit<'a>) -> Result<(), ReleaseFault>
     requires shown { All IsFromZero progress.old.shown }
     requires fit { IsFromZero fit.value }
-    ensures exact { Gives fault_of (λ _. reading_of progress.new) result (spec.reading_after (reading_of progress.old) cell (fit.entry.value, fit.entry.rest.now)) }
+    ensures exact { Gives fault_of (λ _. reading_of progress.new) result
+        (spec.reading_after (reading_of progress.old) cell (fit.entry.value, fit.entry.rest.now)) }
     ensures shown { OnOk result (All IsFromZero progress.new.shown) }
 {
     if cell as usize >= progress.shown.as_slice().len() {

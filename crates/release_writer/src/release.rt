@@ -18,9 +18,9 @@ use std::alloc::Global;
 /// The hidden set whose texts these bytes are, or the first bad line.
 ///
 /// The line of a place is that of its truth or that of `x`; a cell that several tables have shows the same in each. The
-/// first line that isn't so, that isn't a table's line of names, or that is missing or too many, is refused as `At`, by its
-/// table from 0 and its line from 1. Nothing is cut into lines: a line is as long as the text that it has to be, so that a
-/// name or a code may hold line ends; CRLF is no line's end.
+/// first line that isn't so, that isn't a table's line of names, or that is missing or too many, is refused as `At`, by
+/// its table from 0 and its line from 1. Nothing is cut into lines: a line is as long as the text that it has to be, so
+/// that a name or a code may hold line ends; CRLF is no line's end.
 ///
 /// It takes a list of names and a list of bytes for each table; the names are those of the table's variables and of the
 /// response, and truths are from 0. Want of memory is `Memory`. It writes at most two lines for each place.
@@ -35,7 +35,8 @@ pub fn hidden_of(
     requires truths { HasTruthsFromZero book.now }
     requires names { HaveNames names.now book.now.tables }
     requires tables { length tables.now ≡ length book.now.tables }
-    ensures exact { Gives fault_of (λ hidden. hidden.flags) result (spec.hidden_read book.now names.now decimals tables.now) }
+    ensures exact { Gives fault_of (λ hidden. hidden.flags) result
+        (spec.hidden_read book.now names.now decimals tables.now) }
 {
     let shown = release_shown(alloc, book, names, decimals, false, tables)?;
     let flags = flags_of(alloc, shown.as_slice())?;
@@ -56,7 +57,8 @@ pub fn rounded_of(
     requires truths { HasTruthsFromZero book.now }
     requires names { HaveNames names.now book.now.tables }
     requires tables { length tables.now ≡ length book.now.tables }
-    ensures exact { Gives fault_of (λ numbers. numbers) result (spec.rounded_read book.now names.now decimals tables.now) }
+    ensures exact { Gives fault_of (λ numbers. numbers) result
+        (spec.rounded_read book.now names.now decimals tables.now) }
 {
     let shown = release_shown(alloc, book, names, decimals, true, tables)?;
     let numbers = numbers_of(alloc, shown.as_slice())?;
@@ -98,7 +100,8 @@ fn release_shown(
     requires truths { HasTruthsFromZero book.now }
     requires names { HaveNames names.now book.now.tables }
     requires tables { length tables.now ≡ length book.now.tables }
-    ensures exact { Gives fault_of (λ shown. shown) result (spec.release_read book.now names.now decimals rounded tables.now) }
+    ensures exact { Gives fault_of (λ shown. shown) result
+        (spec.release_read book.now names.now decimals rounded tables.now) }
 {
     let mut shown = Items::empty(alloc);
     'tables: for t in 0..book.tables() {
@@ -131,7 +134,8 @@ fn read_table(
     requires sheet { IsSheet sheet.now }
     requires names { 0 < length names.now }
     requires shown { All IsFromZero shown }
-    ensures exact { Gives fault_of (λ shown. shown) result (spec.read_table (form_of sheet.now) names.now bytes.now shown) }
+    ensures exact { Gives fault_of (λ shown. shown) result
+        (spec.read_table (form_of sheet.now) names.now bytes.now shown) }
     ensures shown { IfOk result (λ shown. All IsFromZero shown) }
 {
     let line = names_line(alloc, names)?;

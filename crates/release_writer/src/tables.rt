@@ -2,8 +2,8 @@ ghost use Rattle.std.specs.Prelude.{◌≡◌, ◌≤◌, ◌<◌, ◌+◌, ◌+
 ghost use Rattle.sdc_base.specs.Cells.{trees_of};
 ghost use Rattle.sdc_base.specs.CellOrder.{is_place_in};
 ghost use Rattle.sdc_base.specs.TableText.{line_text};
-ghost use Rattle.release_writer.specs.Shown.{CanBeShown, release_text};
-ghost use Rattle.release_writer.specs.Lines.{IsReady, written, lines_below, place_line};
+ghost use Rattle.release_writer.specs.ShownCells.{CanBeShown, release_text};
+ghost use Rattle.release_writer.specs.Lines.{IsReady, bytes_written, lines_below, place_line};
 ghost use Rattle.release_writer.specs.Pages.{IsPage};
 
 use crate::lines::{write_names, write_place};
@@ -15,8 +15,8 @@ use sdc_base::{Memory, Place, Text, with_code};
 use std::alloc::Global;
 
 /// The bytes of table `t` of a release: a line of `names`, and then a line for each place of the table in lexicographic
-/// order, with its codes and what its cell shows. Each line ends in LF, its fields have commas between them, and a field
-/// stands in quotes exactly where it has a comma, a quote, CR or LF, with each quote inside doubled.
+/// order, with its codes and what its cell shows. Each line ends in LF, its fields have commas between them, and a
+/// field stands in quotes exactly where it has a comma, a quote, CR or LF, with each quote inside doubled.
 ///
 /// `t` is a table of the book, numbered from 0. `names` are those of the table's variables and of the response. `decimals`
 /// are those of a unit, at most 13. `shown` has a flag for each cell, and truths are from 0, or a number for each cell, from
@@ -57,7 +57,7 @@ pub fn table_bytes(
 
 /// The bytes that a writer has written.
 pub(crate) fn bytes_of(writer: Writer<Vec<u8>>) -> Result<Vec<u8>, Memory>
-    ensures text { IfOk result (λ bytes. Some bytes.items ≡ written writer) }
+    ensures text { IfOk result (λ bytes. Some bytes.items ≡ bytes_written writer) }
 {
     match writer.into_inner() {
         Ok(bytes) => Ok(bytes),
@@ -69,7 +69,7 @@ pub(crate) fn bytes_of(writer: Writer<Vec<u8>>) -> Result<Vec<u8>, Memory>
 pub(crate) fn begin(alloc: Global, names: &[Text]) -> Result<Writer<Vec<u8>>, Memory>
     requires some { 0 < length names.now }
     ensures ready { IfOk result IsReady }
-    ensures text { IfOk result (λ writer. written writer ≡ Some (line_text names.now)) }
+    ensures text { IfOk result (λ writer. bytes_written writer ≡ Some (line_text names.now)) }
 {
     let mut start = Vec::new(alloc);
     if is_empty_line(names) {
@@ -110,9 +110,12 @@ fn write_below(
     requires ready { IsReady writer.old }
     requires page { IsPage page.now }
     requires begun { length place.now ≤ length page.now.table.now }
-    requires place { is_place_in (trees_of page.now.book.now.trees (take (length place.now) page.now.table.now)) place.now ≡ true }
+    requires place { is_place_in (trees_of page.now.book.now.trees (take (length place.now) page.now.table.now))
+        place.now ≡ true }
     ensures ready { OnOk result (IsReady writer.new) }
-    ensures text { OnOk result (written writer.new ≡ option_map (λ text. text ++ lines_below page.now.book.now page.now.table.now page.now.decimals page.now.shown place.now) (written writer.old)) }
+    ensures text { OnOk result (bytes_written writer.new
+        ≡ option_map (λ text. text ++ lines_below page.now.book.now page.now.table.now page.now.decimals page.now.shown
+        place.now) (bytes_written writer.old)) }
 {
     if place.len() >= page.table.len() {
         return write_whole(alloc, writer, page, place);
@@ -138,7 +141,9 @@ fn write_whole(
     requires whole { length place.now ≡ length page.now.table.now }
     requires place { is_place_in (trees_of page.now.book.now.trees page.now.table.now) place.now ≡ true }
     ensures ready { OnOk result (IsReady writer.new) }
-    ensures text { OnOk result (written writer.new ≡ option_map (λ text. text ++ place_line page.now.book.now page.now.table.now page.now.decimals page.now.shown place.now) (written writer.old)) }
+    ensures text { OnOk result (bytes_written writer.new
+        ≡ option_map (λ text. text ++ place_line page.now.book.now page.now.table.now page.now.decimals page.now.shown
+        place.now) (bytes_written writer.old)) }
 {
     let number = number_text(alloc, page.book, page.t, place, page.decimals, page.shown)?;
     write_place(

@@ -1,6 +1,6 @@
 ghost use Rattle.std.specs.Prelude.{◌≡◌, true, All, pos, ◌≤ℤ◌, ◌<ℤ◌};
 ghost use Rattle.sdc_base.specs.Numbers.{too_wide};
-ghost use Rattle.release_writer.specs.Shown.{CanBeShown};
+ghost use Rattle.release_writer.specs.ShownCells.{CanBeShown};
 
 use crate::{Shown, table_bytes};
 use linked_tables::{Book, Mark};

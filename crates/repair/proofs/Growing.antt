@@ -6,9 +6,9 @@ use Rattle.sdc_base.specs.declared.cell.Cell.{Cell}
 use Rattle.sdc_base.specs.declared.side.Side.{Side}
 use Rattle.sdc_base.specs.declared.system.System.{System}
 use Rattle.sdc_base.specs.Systems.{Numbers}
-use Rattle.sdc_base.specs.Worlds.{IsWorld, Protects, level, level_at, toward}
+use Rattle.sdc_base.specs.Worlds.{IsWorld, Protects, level, level_at, amount_toward}
 use Rattle.worlds.specs.declared.world.World.{World}
-use Rattle.worlds.specs.Listed.{terms_of, given}
+use Rattle.worlds.specs.NumberLists.{terms_of, number_given}
 use Rattle.worlds.specs.WorldFaults.{IsGivenWorld}
 use Rattle.worlds.proofs.Bounds.{decides_le}
 use Rattle.repair.specs.HidingOrder.{Case}
@@ -24,7 +24,7 @@ world_more system cells flags more den moves within is = record {
 }
 
 pub given_more : (system : System) (cells : List Cell) (flags more : List Bool) (world : World) → IsWithin flags more → IsGivenWorld system cells flags world → IsGivenWorld system cells more world
-given_more system cells flags more world within is = record { listed = is.listed; is_world = world_more system cells flags more world.den (given (terms_of world.moves)) within is.is_world }
+given_more system cells flags more world within is = record { listed = is.listed; is_world = world_more system cells flags more world.den (number_given (terms_of world.moves)) within is.is_world }
 
 pub protects_more : (system : System) (cells : List Cell) (flags more : List Bool) (number : ℕ) (side : Side) → IsWithin flags more → Protects system cells flags number side → Protects system cells more number side
 protects_more system cells flags more number side within is = (is.0, is.1, is.2, world_more system cells flags more is.0 is.1 within is.3, is.4, is.5)
@@ -50,10 +50,10 @@ served_push c flags (q ∷ asked) (w ∷ worlds) one world are is = (are.0, serv
 pub serving_protects : (c : Case) (flags : List Bool) (asked : ℕ × Side) (world : World) → IsServing c flags asked world → Protects c.system c.cells flags asked.0 asked.1
 serving_protects c flags asked world is =
     let cell : Cell = is.is_primary.cell in
-    let moves : Numbers = given (terms_of world.moves) in
+    let moves : Numbers = number_given (terms_of world.moves) in
     let least : level_at c.cells asked.1 asked.0 ≡ level asked.1 cell = ap (λ o. option_map_or (level asked.1) o (pos 0)) is.is_primary.found in
-    let reach : (world.den *ℤ level_at c.cells asked.1 asked.0) ≤ℤ toward asked.1 (moves asked.0) = (decides_le (world.den *ℤ level_at c.cells asked.1 asked.0) (toward asked.1 (moves asked.0))).0 is.reaching in
-    (world.den, moves, cell, is.is_world.is_world, is.is_primary.found, subst (λ l. (world.den *ℤ l) ≤ℤ toward asked.1 (moves asked.0)) least reach)
+    let reach : (world.den *ℤ level_at c.cells asked.1 asked.0) ≤ℤ amount_toward asked.1 (moves asked.0) = (decides_le (world.den *ℤ level_at c.cells asked.1 asked.0) (amount_toward asked.1 (moves asked.0))).0 is.reaching in
+    (world.den, moves, cell, is.is_world.is_world, is.is_primary.found, subst (λ l. (world.den *ℤ l) ≤ℤ amount_toward asked.1 (moves asked.0)) least reach)
 
 pub served_protect : (c : Case) (flags : List Bool) (asked : List (ℕ × Side)) (worlds : List World) → AreServed c flags asked worlds → All (λ (q : ℕ × Side). Protects c.system c.cells flags q.0 q.1) asked
 served_protect c flags [] [] are = All-nil (λ (q : ℕ × Side). Protects c.system c.cells flags q.0 q.1)

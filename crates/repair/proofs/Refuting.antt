@@ -18,13 +18,13 @@ use Rattle.sdc_base.specs.Totals.{sum_below}
 use Rattle.sdc_base.specs.Forms.{coefficient}
 use Rattle.sdc_base.specs.Systems.{Numbers}
 use Rattle.sdc_base.specs.HiddenSets.{is_hidden, may_hide, full_set, IsPermitted}
-use Rattle.sdc_base.specs.Worlds.{level_at, toward}
+use Rattle.sdc_base.specs.Worlds.{level_at, amount_toward}
 use Rattle.sdc_base.specs.Refutations.{share, share_at, bound_sum, AreBounded}
 use Rattle.worlds.specs.declared.multipliers.Multipliers.{Multipliers}
 use Rattle.worlds.specs.declared.world.World.{World}
-use Rattle.worlds.specs.Listed.{terms_of, given}
+use Rattle.worlds.specs.NumberLists.{terms_of, number_given}
 use Rattle.worlds.specs.ProtectFaults.{is_reaching}
-use Rattle.worlds.specs.RefutationFaults.{added, IsGivenRefutation}
+use Rattle.worlds.specs.RefutationFaults.{terms_added, IsGivenRefutation}
 use Rattle.worlds.proofs.Bounds.{decides_le}
 use Rattle.interval_audit.specs.declared.question.Question.{Question}
 use Rattle.interval_audit.specs.declared.answer.Fraction.{Fraction}
@@ -46,7 +46,7 @@ pub stopping_refutes : (system : System) (cells : List Cell) (flags : List Bool)
 stopping_refutes system cells flags asked question best world m is does =
     let target : question.target ≡ level_at cells question.side question.cell = is.target_is ∙ ap (λ n. level_at cells asked.1 n) (sym is.cell_is) ∙ ap (λ s. level_at cells s question.cell) (sym is.side_is) in
     let whole : pos 1 ≤ℤ best.den = omega (arith, ints, does.den, does.is_world.is_world.positive) in
-    let sum : ℤ = bound_sum cells flags (coefficient (added system question.cell question.side m)) in
+    let sum : ℤ = bound_sum cells flags (coefficient (terms_added system question.cell question.side m)) in
     let own : IsGivenRefutation system cells flags question.cell question.side m = record {
       listed = does.is_sum.listed;
       is_refutation = record {
@@ -62,10 +62,10 @@ stopping_refutes system cells flags asked question best world m is does =
 -- a world at the level reaches it
 pub reaching_test : (system : System) (cells : List Cell) (flags : List Bool) (asked : ℕ × Side) (question : Question) (world : World) → IsLevelQuestion cells asked question → ReachesTarget system cells flags question world → is_reaching cells asked world ≡ true
 reaching_test system cells flags asked question world is does =
-    let moves : Numbers = given (terms_of world.moves) in
-    let moved : toward asked.1 (moves asked.0) ≡ world.den *ℤ level_at cells asked.1 asked.0 =
-    ap (λ n. toward asked.1 (moves n)) (sym is.cell_is) ∙ ap (λ s. toward s (moves question.cell)) (sym is.side_is) ∙ does.exactly ∙ ap (λ t. world.den *ℤ t) is.target_is in
-    (decides_le (world.den *ℤ level_at cells asked.1 asked.0) (toward asked.1 (moves asked.0))).1 (omega (arith, ints, moved))
+    let moves : Numbers = number_given (terms_of world.moves) in
+    let moved : amount_toward asked.1 (moves asked.0) ≡ world.den *ℤ level_at cells asked.1 asked.0 =
+    ap (λ n. amount_toward asked.1 (moves n)) (sym is.cell_is) ∙ ap (λ s. amount_toward s (moves question.cell)) (sym is.side_is) ∙ does.exactly ∙ ap (λ t. world.den *ℤ t) is.target_is in
+    (decides_le (world.den *ℤ level_at cells asked.1 asked.0) (amount_toward asked.1 (moves asked.0))).1 (omega (arith, ints, moved))
 
 -- ---- the full set
 
@@ -108,9 +108,9 @@ bounded_full cells flags k permitted none bounded n cell found hidden up =
     bounded n cell found (hidden_or_none cell.kind (is_hidden flags n) (k n) (permitted.primary_hidden n cell found) own full up) up
 
 -- two sets in which each cell adds as much to the bound sum have the same refutations
-pub refutation_alike : (system : System) (cells : List Cell) (flags more : List Bool) (asked : ℕ) (side : Side) (m : Multipliers) → ((n : ℕ) → share_at cells flags (coefficient (added system asked side m)) n ≡ share_at cells more (coefficient (added system asked side m)) n) → AreBounded cells more (coefficient (added system asked side m)) → IsGivenRefutation system cells flags asked side m → IsGivenRefutation system cells more asked side m
+pub refutation_alike : (system : System) (cells : List Cell) (flags more : List Bool) (asked : ℕ) (side : Side) (m : Multipliers) → ((n : ℕ) → share_at cells flags (coefficient (terms_added system asked side m)) n ≡ share_at cells more (coefficient (terms_added system asked side m)) n) → AreBounded cells more (coefficient (terms_added system asked side m)) → IsGivenRefutation system cells flags asked side m → IsGivenRefutation system cells more asked side m
 refutation_alike system cells flags more asked side m same bounded is =
-    let k : Numbers = coefficient (added system asked side m) in
+    let k : Numbers = coefficient (terms_added system asked side m) in
     let sums : (n : ℕ) → sum_below n (share_at cells flags k) ≡ sum_below n (share_at cells more k) = λ n. sum_below-same n (share_at cells flags k) (share_at cells more k) (λ c h. same c) in
     record {
       listed = is.listed;
@@ -128,7 +128,7 @@ refutation_alike system cells flags more asked side m same bounded is =
     }
 
 -- where no cell would break them, multipliers refute for the full set
-pub refutes_full : (system : System) (cells : List Cell) (flags : List Bool) (asked : ℕ) (side : Side) (m : Multipliers) → IsPermitted cells flags → ((n : ℕ) → breaks_at cells flags (coefficient (added system asked side m)) n ≡ false) → IsGivenRefutation system cells flags asked side m → IsGivenRefutation system cells (full_set cells) asked side m
+pub refutes_full : (system : System) (cells : List Cell) (flags : List Bool) (asked : ℕ) (side : Side) (m : Multipliers) → IsPermitted cells flags → ((n : ℕ) → breaks_at cells flags (coefficient (terms_added system asked side m)) n ≡ false) → IsGivenRefutation system cells flags asked side m → IsGivenRefutation system cells (full_set cells) asked side m
 refutes_full system cells flags asked side m permitted none is =
-    let k : Numbers = coefficient (added system asked side m) in
+    let k : Numbers = coefficient (terms_added system asked side m) in
     refutation_alike system cells flags (full_set cells) asked side m (share_at_full cells flags k permitted none) (bounded_full cells flags k permitted none is.is_refutation.bounded) is

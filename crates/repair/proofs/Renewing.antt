@@ -7,7 +7,7 @@ use Rattle.sdc_base.specs.Worlds.{Protects}
 use Rattle.sdc_base.specs.Forms.{Term}
 use Rattle.worlds.specs.declared.world.Move.{Move}
 use Rattle.worlds.specs.declared.world.World.{World}
-use Rattle.worlds.specs.Listed.{terms_of, given}
+use Rattle.worlds.specs.NumberLists.{terms_of, number_given}
 use Rattle.worlds.specs.WorldFaults.{IsGivenWorld}
 use Rattle.repair.specs.HidingOrder.{Case, hide}
 use Rattle.repair.specs.KeptWorlds.{IsServing, AreServed}
@@ -27,17 +27,17 @@ unmoved_from cell a (one ∷ moves) none =
     let both : ((one.cell == cell) ≡ false) × (list_any (λ (m : Move). m.cell == cell) moves ≡ false) = or_false (one.cell == cell) (list_any (λ (m : Move). m.cell == cell) moves) none in
     ap (λ b. fold (λ number (term : Term). if term.0 == cell then term.1 else number) (if b then one.by else a) (terms_of moves)) both.0 ∙ unmoved_from cell a moves both.1
 
-pub unmoved : (cell : ℕ) (moves : List Move) → list_any (λ one. one.cell == cell) moves ≡ false → given (terms_of moves) cell ≡ pos 0
+pub unmoved : (cell : ℕ) (moves : List Move) → list_any (λ one. one.cell == cell) moves ≡ false → number_given (terms_of moves) cell ≡ pos 0
 unmoved cell moves none = unmoved_from cell (pos 0) moves none
 
 -- a world in which the cell doesn't move stays one where the cell is shown
-still_world : (c : Case) (flags : List Bool) (cell : ℕ) (world : World) → given (terms_of world.moves) cell ≡ pos 0 → IsGivenWorld c.system c.cells (hide flags cell) world → IsGivenWorld c.system c.cells flags world
+still_world : (c : Case) (flags : List Bool) (cell : ℕ) (world : World) → number_given (terms_of world.moves) cell ≡ pos 0 → IsGivenWorld c.system c.cells (hide flags cell) world → IsGivenWorld c.system c.cells flags world
 still_world c flags cell world none is = record {
   listed = is.listed;
   is_world = record {
     positive = is.is_world.positive;
     shown_stay = λ k inside shown. elim (same_or_other k cell) [
-      | inl same ↦ ap (given (terms_of world.moves)) same ∙ none
+      | inl same ↦ ap (number_given (terms_of world.moves)) same ∙ none
       | inr other ↦ is.is_world.shown_stay k inside (hidden_other flags cell k other ∙ shown)
     ];
     relations_hold = is.is_world.relations_hold;
@@ -45,7 +45,7 @@ still_world c flags cell world none is = record {
   };
 }
 
-still_serving : (c : Case) (flags : List Bool) (cell : ℕ) (asked : ℕ × Side) (world : World) → given (terms_of world.moves) cell ≡ pos 0 → IsServing c (hide flags cell) asked world → IsServing c flags asked world
+still_serving : (c : Case) (flags : List Bool) (cell : ℕ) (asked : ℕ × Side) (world : World) → number_given (terms_of world.moves) cell ≡ pos 0 → IsServing c (hide flags cell) asked world → IsServing c flags asked world
 still_serving c flags cell asked world none is = record { is_primary = is.is_primary; is_world = still_world c flags cell world none is.is_world; reaching = is.reaching; is_given = is.is_given }
 
 -- ---- all questions
@@ -64,9 +64,9 @@ tail c flags cell q questions w worlds n news are = record { each = λ place new
 -- the first question is served
 head : (c : Case) (flags : List Bool) (cell : ℕ) (q : ℕ × Side) (questions : List (ℕ × Side)) (w : World) (worlds : List World) (n : Option World) (news : List (Option World)) → IsServing c (hide flags cell) q w → AreRenewed c flags cell (q ∷ questions) (w ∷ worlds) (n ∷ news) → (world : World) × IsServing c flags q world × (renew_worlds (w ∷ worlds) (n ∷ news) ≡ world ∷ renew_worlds worlds news)
 head c flags cell q questions w worlds None news is are =
-    let own : (world : World) × (slice_get (w ∷ worlds) 0 ≡ Some world) × (given (terms_of world.moves) cell ≡ pos 0) = are.each 0 None refl in
+    let own : (world : World) × (slice_get (w ∷ worlds) 0 ≡ Some world) × (number_given (terms_of world.moves) cell ≡ pos 0) = are.each 0 None refl in
     let same : own.0 ≡ w = let both : Some w ≡ Some own.0 = own.1 in cc in
-    (w, still_serving c flags cell q w (subst (λ (v : World). given (terms_of v.moves) cell ≡ pos 0) same own.2) is, refl)
+    (w, still_serving c flags cell q w (subst (λ (v : World). number_given (terms_of v.moves) cell ≡ pos 0) same own.2) is, refl)
 head c flags cell q questions w worlds (Some new) news is are =
     let own : (question : ℕ × Side) × (slice_get (q ∷ questions) 0 ≡ Some question) × IsServing c flags question new = are.each 0 (Some new) refl in
     let same : own.0 ≡ q = let both : Some q ≡ Some own.0 = own.1 in cc in

@@ -5,7 +5,7 @@ use Rattle.sdc_base.specs.declared.side.Side.{Side}
 use Rattle.sdc_base.specs.HiddenSets.{is_hidden}
 use Rattle.worlds.specs.declared.refuted.Refuted.{Refuted}
 use Rattle.worlds.specs.declared.world.World.{World}
-use Rattle.worlds.specs.Listed.{terms_of, given}
+use Rattle.worlds.specs.NumberLists.{terms_of, number_given}
 use Rattle.worlds.specs.ProtectFaults.{asked_of}
 use Rattle.worlds.specs.RefutationFaults.{IsGivenRefutation}
 use Rattle.interval_audit.specs.declared.answer.AskFault.{AskFault}
@@ -34,10 +34,13 @@ pub record IsRefuted (c : Case) (flags : List Bool) (refuted : Refuted) : Type 0
   pub refutes : IsGivenRefutation c.system c.cells flags refuted.cell refuted.side refuted.multipliers
   pub gives : AreGiven c.system c.cells flags (cell_and_side refuted) refuted.multipliers
 
--- what a question at a place comes to while a cell is tried: its kept world doesn't move the cell, or this new world serves it
+-- what a question at a place comes to while a cell is tried: its kept world doesn't move the cell, or this new world
+-- serves it
 abbrev pub IsRenewed : Case → List Bool → ℕ → List (ℕ × Side) → List World → ℕ → Option World → Type 0
-IsRenewed c flags cell questions worlds place None = (world : World) × (slice_get worlds place ≡ Some world) × (given (terms_of world.moves) cell ≡ pos 0)
-IsRenewed c flags cell questions worlds place (Some new) = (question : ℕ × Side) × (slice_get questions place ≡ Some question) × IsServing c flags question new
+IsRenewed c flags cell questions worlds place None =
+    (world : World) × (slice_get worlds place ≡ Some world) × (number_given (terms_of world.moves) cell ≡ pos 0)
+IsRenewed c flags cell questions worlds place (Some new) = (question : ℕ × Side)
+    × (slice_get questions place ≡ Some question) × IsServing c flags question new
 
 -- the same, or multipliers that refute it
 abbrev pub IsRenewal : Case → List Bool → ℕ → List World → ℕ → Renewal → Type 0
@@ -46,7 +49,8 @@ IsRenewal c flags cell worlds place (Refuses need) = (need.subject ≡ cell) × 
 
 -- what trying to show a cell comes to: new worlds with which all that is asked is served, or a refutation
 abbrev pub IsTrial : Case → List Bool → ℕ → List World → Trial → Type 0
-IsTrial c flags cell worlds (Reached news) = (length news.items ≡ length worlds) × AreServed c flags (asked_of 0 c.cells) (renew_worlds worlds news.items)
+IsTrial c flags cell worlds (Reached news) = (length news.items ≡ length worlds)
+    × AreServed c flags (asked_of 0 c.cells) (renew_worlds worlds news.items)
 IsTrial c flags cell worlds (Stopped need) = (need.subject ≡ cell) × IsRefuted c flags need
 
 -- a question has a fault, and all that is asked before it is protected
@@ -58,9 +62,10 @@ pub record IsNeedBelow (c : Case) (flags larger : List Bool) (n : ℕ) (need : R
   pub below : need.subject < n
   pub refuted : IsRefuted c (set_when_tried flags larger need.subject) need
 
--- The cells below a number have been tried, from the set of all open cells on: the hidden set is what is left without those that
--- were shown, all that is asked has its world, and each hidden cell that isn't primary has its need.
-pub record IsTried (c : Case) (larger : List Bool) (n : ℕ) (flags : List Bool) (worlds : List World) (needs : List Refuted) (shown : List ℕ) : Type 0 where
+-- The cells below a number have been tried, from the set of all open cells on: the hidden set is what is left without
+-- those that were shown, all that is asked has its world, and each hidden cell that isn't primary has its need.
+pub record IsTried (c : Case) (larger : List Bool) (n : ℕ) (flags : List Bool) (worlds : List World)
+    (needs : List Refuted) (shown : List ℕ) : Type 0 where
   pub hidden_is : flags ≡ show_all larger shown
   pub within : (cell : ℕ) → is_hidden flags cell ≡ true → is_hidden larger cell ≡ true
   pub rest : drop n flags ≡ drop n larger

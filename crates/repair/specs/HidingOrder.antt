@@ -19,7 +19,7 @@ use Rattle.linked_tables.specs.declared.mark.Mark.{Mark}
 use Rattle.worlds.specs.declared.refuted.Refuted.{Refuted}
 use Rattle.worlds.specs.declared.multipliers.Multipliers.{Multipliers}
 use Rattle.worlds.specs.ProtectFaults.{asked_of}
-use Rattle.worlds.specs.RefutationFaults.{added}
+use Rattle.worlds.specs.RefutationFaults.{terms_added}
 
 -- What is to be protected: the cells of a system.
 pub record Case : Type 0 where
@@ -86,7 +86,8 @@ StandsAt cells asked place = slice_get (asked_of 0 cells) place ≡ Some asked
 
 -- the set protects every cell and side whose question stands before this place
 abbrev pub ProtectsBefore : Case → List Bool → ℕ → Type 0
-ProtectsBefore c flags place = All (λ asked. Protects c.system c.cells flags asked.0 asked.1) (take place (asked_of 0 c.cells))
+ProtectsBefore c flags place =
+    All (λ asked. Protects c.system c.cells flags asked.0 asked.1) (take place (asked_of 0 c.cells))
 
 -- the set protects every primary cell to both sides
 abbrev pub ProtectsAll : Case → List Bool → Type 0
@@ -96,7 +97,7 @@ ProtectsAll c flags = All (λ asked. Protects c.system c.cells flags asked.0 ask
 
 -- how often a cell counts among the forms that multipliers add up against another
 abbrev pub coefficients_for : System → ℕ × Side → Multipliers → Numbers
-coefficients_for system asked multipliers = coefficient (added system asked.0 asked.1 multipliers)
+coefficients_for system asked multipliers = coefficient (terms_added system asked.0 asked.1 multipliers)
 
 -- whether hiding the cell would break a refutation: it is free, shown, and counts
 abbrev pub breaks : Bool → ℤ → Cell → Bool
@@ -104,13 +105,17 @@ breaks hidden count cell = is_free cell.kind && (not hidden && not (int_eq count
 
 -- the same of the cell with this number
 abbrev pub breaks_at : List Cell → List Bool → Numbers → ℕ → Bool
-breaks_at cells flags counts number = option_map_or (breaks (is_hidden flags number) (counts number)) (slice_get cells number) false
+breaks_at cells flags counts number =
+    option_map_or (breaks (is_hidden flags number) (counts number)) (slice_get cells number) false
 
 -- the one comes before the other: it has the lower price, or the same price and no higher number
 abbrev pub ComesFirst : List ℕ → ℕ → ℕ → Type 0
-ComesFirst prices one other = (slice_index prices one < slice_index prices other) ⊎ ((slice_index prices one ≡ slice_index prices other) × (one ≤ other))
+ComesFirst prices one other =
+    (slice_index prices one < slice_index prices other)
+    ⊎ ((slice_index prices one ≡ slice_index prices other) × (one ≤ other))
 
 -- the cell would break a refutation, and comes before all others that would
-pub record IsCheapest (cells : List Cell) (prices : List ℕ) (flags : List Bool) (counts : Numbers) (number : ℕ) : Type 0 where
+pub record IsCheapest (cells : List Cell) (prices : List ℕ) (flags : List Bool) (counts : Numbers)
+    (number : ℕ) : Type 0 where
   pub breaking : breaks_at cells flags counts number ≡ true
   pub first : (other : ℕ) → breaks_at cells flags counts other ≡ true → ComesFirst prices number other

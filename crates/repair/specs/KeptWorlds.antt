@@ -19,16 +19,18 @@ pub record HasModestLevels (cell : Cell) : Type 0 where
   pub up : cell.up ≤ℤ pos (2 ^ 110)
   pub down : cell.down ≤ℤ pos (2 ^ 110)
 
--- what a protection works on fits together: one entry for each cell of the system, modest levels, and the order of questions
-pub record IsTask (system : System) (cells : List Cell) (prices : List ℕ) (questions : List (ℕ × Side)) (limit : ℕ) : Type 0 where
+-- what a protection works on fits together: one entry for each cell of the system, modest levels, and the order of
+-- questions
+pub record IsTask (system : System) (cells : List Cell) (prices : List ℕ) (questions : List (ℕ × Side))
+    (limit : ℕ) : Type 0 where
   pub one_each : length cells ≡ system.cells
   pub priced : length prices ≡ system.cells
   pub modest : All HasModestLevels cells
   pub in_order : questions ≡ asked_of 0 cells
   pub some_steps : 1 ≤ limit
 
--- the world is one for the hidden set, takes the primary cell that is asked about at least its level to the side, and is an answer
--- of that question
+-- the world is one for the hidden set, takes the primary cell that is asked about at least its level to the side, and
+-- is an answer of that question
 pub record IsServing (c : Case) (flags : List Bool) (asked : ℕ × Side) (world : World) : Type 0 where
   pub is_primary : IsOfKind c.cells asked.0 Primary
   pub is_world : IsGivenWorld c.system c.cells flags world
@@ -46,9 +48,10 @@ AreServed c flags (asked ∷ more) (world ∷ worlds) = IsServing c flags asked 
 abbrev pub AreServedBefore : Case → List Bool → ℕ → List World → Type 0
 AreServedBefore c flags place worlds = AreServed c flags (take place (asked_of 0 c.cells)) worlds
 
--- repairing has come so far from the planned set: the hidden set is what the repairs made of it, they are justified and in order, and
--- none is of a question behind this place
-pub record IsRepaired (c : Case) (prices : List ℕ) (planned flags : List Bool) (repairs : List Refuted) (place : ℕ) : Type 0 where
+-- repairing has come so far from the planned set: the hidden set is what the repairs made of it, they are justified and
+-- in order, and none is of a question behind this place
+pub record IsRepaired (c : Case) (prices : List ℕ) (planned flags : List Bool) (repairs : List Refuted)
+    (place : ℕ) : Type 0 where
   pub hidden_is : flags ≡ hide_subjects planned repairs
   pub are_repairs : AreRepairs c prices planned repairs
   pub onward : LastIsNotBehind c.cells repairs place

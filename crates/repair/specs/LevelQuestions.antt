@@ -22,7 +22,8 @@ pub record IsLevelQuestion (cells : List Cell) (asked : ℕ × Side) (question :
   pub target_is : question.target ≡ level_at cells asked.1 asked.0
 
 -- these are the multipliers of an answer of that question for the hidden set
-pub record AreGiven (system : System) (cells : List Cell) (flags : List Bool) (asked : ℕ × Side) (multipliers : Multipliers) : Type 0 where
+pub record AreGiven (system : System) (cells : List Cell) (flags : List Bool) (asked : ℕ × Side)
+    (multipliers : Multipliers) : Type 0 where
   pub question : Question
   pub best : Fraction
   pub world : World
@@ -38,7 +39,8 @@ pub record IsGiven (system : System) (cells : List Cell) (asked : ℕ × Side) (
   pub is_read : IsWalkAnswer system cells set question (Reaches world)
 
 -- that question, asked of the hidden set, is why there is this fault
-pub record IsCausing (system : System) (cells : List Cell) (flags : List Bool) (asked : ℕ × Side) (limit : ℕ) (fault : AskFault) : Type 0 where
+pub record IsCausing (system : System) (cells : List Cell) (flags : List Bool) (asked : ℕ × Side) (limit : ℕ)
+    (fault : AskFault) : Type 0 where
   pub question : Question
   pub is_asked : IsLevelQuestion cells asked question
   pub cause : IsCauseOf system cells flags question limit fault
@@ -48,4 +50,5 @@ abbrev pub HasCause : System → List Cell → List Bool → ℕ × Side → ℕ
 HasCause system cells flags asked limit Memory = Unit {0}
 HasCause system cells flags asked limit (Work walk) = IsCausing system cells flags asked limit (Work walk)
 HasCause system cells flags asked limit (Wide walk place) = IsCausing system cells flags asked limit (Wide walk place)
-HasCause system cells flags asked limit (Size question hidden) = IsCausing system cells flags asked limit (Size question hidden)
+HasCause system cells flags asked limit (Size question hidden) = IsCausing system cells flags asked limit
+    (Size question hidden)

@@ -18,7 +18,8 @@ IsImpossible c found = IsCannot c found.cell found.side found.multipliers
 -- what a question at a place comes to: a world more; or a hidden cell more; or that its cell can't be protected
 abbrev pub IsStep : Case → ℕ → List Bool → List Bool → List World → Step → Type 0
 IsStep c place before flags worlds Served = AreServedBefore c flags (place + 1) worlds
-IsStep c place before flags worlds Repaired = AreServedBefore c flags place worlds × (shown_count flags < shown_count before)
+IsStep c place before flags worlds Repaired =
+    AreServedBefore c flags place worlds × (shown_count flags < shown_count before)
 IsStep c place before flags worlds (Cannot found) = IsImpossible c found
 
 -- the questions before a place have their worlds, or a cell can't be protected
@@ -27,7 +28,8 @@ AreServedOr c place flags worlds None = AreServedBefore c flags place worlds
 AreServedOr c place flags worlds (Some found) = IsImpossible c found
 
 -- a question at some place has a fault, and repairing from the planned set has come to it
-pub record IsHalted (c : Case) (prices : List ℕ) (planned flags : List Bool) (repairs : List Refuted) (limit : ℕ) (fault : AskFault) : Type 0 where
+pub record IsHalted (c : Case) (prices : List ℕ) (planned flags : List Bool) (repairs : List Refuted) (limit : ℕ)
+    (fault : AskFault) : Type 0 where
   pub place : ℕ
   pub question : IsQuestion c flags limit fault place
   pub is_repaired : IsRepaired c prices planned flags repairs place

@@ -13,8 +13,8 @@ use Rattle.repair.specs.HidingOrder.{Case, IsOfKind, hide, StandsAt, ProtectsBef
 abbrev pub cell_and_side : Refuted → ℕ × Side
 cell_and_side refuted = (refuted.cell, refuted.side)
 
--- A repair is justified for a hidden set: its subject is free and shown, its cell is primary, and its multipliers refute the
--- cell's level for the set in a way in which the subject counts.
+-- A repair is justified for a hidden set: its subject is free and shown, its cell is primary, and its multipliers
+-- refute the cell's level for the set in a way in which the subject counts.
 pub record IsJustified (c : Case) (flags : List Bool) (repair : Refuted) : Type 0 where
   pub subject_free : IsOfKind c.cells repair.subject Free
   pub subject_shown : is_hidden flags repair.subject ≡ false
@@ -22,14 +22,15 @@ pub record IsJustified (c : Case) (flags : List Bool) (repair : Refuted) : Type 
   pub refutes : IsGivenRefutation c.system c.cells flags repair.cell repair.side repair.multipliers
   pub subject_counts : coefficients_for c.system (cell_and_side repair) repair.multipliers repair.subject ≢ pos 0
 
--- A repair is in order for a hidden set: the set protects all that is asked before it; its multipliers are what the question of
--- its cell gives; and its subject is the cheapest of the cells that would break them.
+-- A repair is in order for a hidden set: the set protects all that is asked before it; its multipliers are what the
+-- question of its cell gives; and its subject is the cheapest of the cells that would break them.
 pub record IsInOrder (c : Case) (prices : List ℕ) (flags : List Bool) (repair : Refuted) : Type 0 where
   pub place : ℕ
   pub stands : StandsAt c.cells (cell_and_side repair) place
   pub before : ProtectsBefore c flags place
   pub gives : AreGiven c.system c.cells flags (cell_and_side repair) repair.multipliers
-  pub cheapest : IsCheapest c.cells prices flags (coefficients_for c.system (cell_and_side repair) repair.multipliers) repair.subject
+  pub cheapest : IsCheapest c.cells prices flags (coefficients_for c.system (cell_and_side repair) repair.multipliers)
+      repair.subject
 
 -- each repair is so for the hidden set that the earlier ones made of this one
 abbrev pub EachRepair : (List Bool → Refuted → Type 0) → List Bool → List Refuted → Type 0
@@ -43,4 +44,6 @@ pub record AreRepairs (c : Case) (prices : List ℕ) (flags : List Bool) (repair
 
 -- the last repair, where there is one, is of a question that doesn't stand behind this place
 abbrev pub LastIsNotBehind : List Cell → List Refuted → ℕ → Type 0
-LastIsNotBehind cells repairs place = (earlier : List Refuted) (last : Refuted) → repairs ≡ earlier ++ last ∷ [] → (own : ℕ) × StandsAt cells (cell_and_side last) own × (own ≤ place)
+LastIsNotBehind cells repairs place =
+    (earlier : List Refuted) (last : Refuted) → repairs ≡ earlier ++ last ∷ []
+    → (own : ℕ) × StandsAt cells (cell_and_side last) own × (own ≤ place)

@@ -15,20 +15,21 @@ use Rattle.repair.specs.HidingOrder.{Case, hide_subjects, IsSubset, StandsAt, Pr
 use Rattle.repair.specs.Repairs.{AreRepairs}
 use Rattle.repair.specs.Needs.{others_hidden, IsNeed}
 
--- A cell can't be protected to a side: multipliers refute its level for the full set, so that no permitted set protects it; and the
--- full set protects all that is asked before it.
+-- A cell can't be protected to a side: multipliers refute its level for the full set, so that no permitted set protects
+-- it; and the full set protects all that is asked before it.
 pub record IsCannot (c : Case) (cell : ℕ) (side : Side) (multipliers : Multipliers) : Type 0 where
   pub place : ℕ
   pub stands : StandsAt c.cells (cell, side) place
   pub before : ProtectsBefore c (full_set c.cells) place
   pub refutes : IsGivenRefutation c.system c.cells (full_set c.cells) cell side multipliers
   pub unprotected : ¬ Protects c.system c.cells (full_set c.cells) cell side
-  pub none_protects : (flags : List Bool) → length flags ≡ length c.cells → IsPermitted c.cells flags → ¬ Protects c.system c.cells flags cell side
+  pub none_protects : (flags : List Bool) → length flags ≡ length c.cells → IsPermitted c.cells flags
+      → ¬ Protects c.system c.cells flags cell side
 
--- A hidden set, with a flag for each cell, protects every primary cell, as worlds show that are answers of what is asked: it holds
--- primary cells, corners and
--- subjects of repairs alone, and the repairs are justified and in order.
-pub record IsProtected (c : Case) (prices : List ℕ) (planned : List Bool) (protected : Protection) (repairs : List Refuted) : Type 0 where
+-- A hidden set, with a flag for each cell, protects every primary cell, as worlds show that are answers of what is
+-- asked: it holds primary cells, corners and subjects of repairs alone, and the repairs are justified and in order.
+pub record IsProtected (c : Case) (prices : List ℕ) (planned : List Bool) (protected : Protection)
+    (repairs : List Refuted) : Type 0 where
   pub of_system : protected.system ≡ c.system
   pub of_cells : protected.cells ≡ c.cells
   pub each_flag : length protected.hidden.flags ≡ length c.cells
@@ -45,7 +46,8 @@ pub record AreNeeds (c : Case) (flags larger : List Bool) (needs : List Refuted)
 
 -- what a protection that began with this set comes to
 abbrev pub IsVerdict : Case → List ℕ → List Bool → Verdict → Type 0
-IsVerdict c prices planned (Protected protected repairs needs) = IsProtected c prices planned protected repairs × AreNeeds c protected.hidden.flags (hide_subjects planned repairs) needs
+IsVerdict c prices planned (Protected protected repairs needs) = IsProtected c prices planned protected repairs
+    × AreNeeds c protected.hidden.flags (hide_subjects planned repairs) needs
 IsVerdict c prices planned (Cannot cell side multipliers) = IsCannot c cell side multipliers
 
 -- whether the verdict is that a cell can't be protected

@@ -1,6 +1,6 @@
 ghost use Rattle.std.specs.Prelude.{◌≡◌, ℕ, ◌<◌, ◌^◌, false, length, IfNone, IfSome};
 ghost use Rattle.std.specs.Option.{ForSome};
-ghost use Rattle.worlds.specs.Gathered.{at};
+ghost use Rattle.worlds.specs.BoundedNumbers.{number_at};
 ghost use Rattle.worlds.specs.RefutationFaults.{IsGivenRefutation};
 ghost use Rattle.repair.specs.HidingOrder.{breaks, breaks_at, coefficients_for, IsCheapest};
 ghost use Rattle.repair.specs.Choices.{cheaper_of};
@@ -20,10 +20,14 @@ pub(crate) fn subject_of(
     requires flags { length hidden.now.flags ≡ task.now.system.now.cells }
     requires scratch { length scratch.old ≡ task.now.system.now.cells }
     requires asked { asked.0 < task.now.system.now.cells }
-    requires refutes { IsGivenRefutation task.now.system.now task.now.cells.now hidden.now.flags asked.0 asked.1 multipliers.now }
+    requires refutes { IsGivenRefutation task.now.system.now task.now.cells.now hidden.now.flags asked.0 asked.1
+        multipliers.now }
     ensures length { length scratch.new ≡ length scratch.old }
-    ensures none { IfNone result ((number : ℕ) → breaks_at task.now.cells.now hidden.now.flags (coefficients_for task.now.system.now asked multipliers.now) number ≡ false) }
-    ensures some { IfSome result (λ number. IsCheapest task.now.cells.now task.now.prices.now hidden.now.flags (coefficients_for task.now.system.now asked multipliers.now) number) }
+    ensures none { IfNone result ((number : ℕ)
+        → breaks_at task.now.cells.now hidden.now.flags (coefficients_for task.now.system.now asked multipliers.now)
+        number ≡ false) }
+    ensures some { IfSome result (λ number. IsCheapest task.now.cells.now task.now.prices.now hidden.now.flags
+        (coefficients_for task.now.system.now asked multipliers.now) number) }
 {
     // for the proof: read, so that it is known to be a number of 32 bits
     let _cells = task.system.cells;
@@ -47,8 +51,8 @@ fn find_cheapest(cells: &[Cell], flags: &[bool], prices: &[u64], counts: &[i128]
     requires prices { length prices.now ≡ length cells.now }
     requires counts { length counts.now ≡ length cells.now }
     requires few { length cells.now < 2 ^ 32 }
-    ensures none { IfNone result ((number : ℕ) → breaks_at cells.now flags.now (at counts.now) number ≡ false) }
-    ensures some { IfSome result (λ number. IsCheapest cells.now prices.now flags.now (at counts.now) number) }
+    ensures none { IfNone result ((number : ℕ) → breaks_at cells.now flags.now (number_at counts.now) number ≡ false) }
+    ensures some { IfSome result (λ number. IsCheapest cells.now prices.now flags.now (number_at counts.now) number) }
 {
     let mut best = None;
     for (number, cell) in cells.iter().enumerate() {

@@ -2,7 +2,8 @@
 
 ghost use Rattle.repair.specs.Laws.{OpenSetHolds, QuestionsAreInOrder};
 
-/// The cells that a protection hides before any is shown again are the primary cells, the corners and the subjects of repairs.
+/// The cells that a protection hides before any is shown again are the primary cells, the corners and the subjects of
+/// repairs.
 #[tactic(auto, using(crate::proofs::Sayings::open_set_holds))]
 pub fn open_set_holds()
     ensures { OpenSetHolds }

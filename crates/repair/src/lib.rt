@@ -1,4 +1,5 @@
-//! Protection: hides cells until every primary cell is open to both sides by its levels, and shows those that needn't be hidden.
+//! Protection: hides cells until every primary cell is open to both sides by its levels, and shows those that needn't
+//! be hidden.
 #![tactic(auto)]
 
 mod cheapest;

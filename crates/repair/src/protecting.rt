@@ -67,9 +67,13 @@ pub fn protect<'a, F: TellsCosts>(
     requires modest { All HasModestLevels cells.now }
     requires corners { All (MayHide cells.now) (corners_of trail.now.steps) }
     requires limit { 1 ≤ limit }
-    ensures verdict { IfOk result (λ verdict. IsVerdict (case system.now cells.now) (prices_of rule.now cells.now marks.now) (planned_set cells.now (corners_of trail.now.steps)) verdict) }
-    ensures cannot { IfOk result (λ verdict. IsTrue (is_cannot verdict) ↔ ¬ ProtectsAll (case system.now cells.now) (full_set cells.now)) }
-    ensures stopped { IfErr result (λ stopped. StopsFor (case system.now cells.now) (prices_of rule.now cells.now marks.now) (planned_set cells.now (corners_of trail.now.steps)) limit stopped.fault stopped.repairs stopped.shown) }
+    ensures verdict { IfOk result (λ verdict. IsVerdict (case system.now cells.now)
+        (prices_of rule.now cells.now marks.now) (planned_set cells.now (corners_of trail.now.steps)) verdict) }
+    ensures cannot { IfOk result (λ verdict. IsTrue (is_cannot verdict) ↔ ¬ ProtectsAll (case system.now cells.now)
+        (full_set cells.now)) }
+    ensures stopped { IfErr result (λ stopped. StopsFor (case system.now cells.now)
+        (prices_of rule.now cells.now marks.now) (planned_set cells.now (corners_of trail.now.steps)) limit
+        stopped.fault stopped.repairs stopped.shown) }
 {
     // for the proof: read, so that it is known to be a number of 32 bits
     let _cells = system.cells;
@@ -106,7 +110,8 @@ fn settle<'a>(
     requires each { length hidden.flags ≡ task.now.system.now.cells }
     requires permitted { IsPermitted task.now.cells.now hidden.flags }
     ensures verdict { IfOk result (λ verdict. IsVerdict (case_of task.now) task.now.prices.now hidden.flags verdict) }
-    ensures stopped { IfErr result (λ stopped. StopsFor (case_of task.now) task.now.prices.now hidden.flags task.now.limit stopped.fault stopped.repairs stopped.shown) }
+    ensures stopped { IfErr result (λ stopped. StopsFor (case_of task.now) task.now.prices.now hidden.flags
+        task.now.limit stopped.fault stopped.repairs stopped.shown) }
 {
     let mut progress = Progress {
         hidden,
@@ -126,12 +131,12 @@ fn settle<'a>(
             side: impossible.side,
             multipliers: impossible.multipliers,
         }),
-        None => narrow(alloc, task, progress, scratch),
+        None => narrowed_question(alloc, task, progress, scratch),
     }
 }
 
 // Shows again what needn't be hidden, where a hidden set serves all that is asked.
-fn narrow<'a>(
+fn narrowed_question<'a>(
     alloc: Global,
     task: &Task<'a, '_>,
     repaired: Progress,
@@ -141,9 +146,13 @@ fn narrow<'a>(
     requires each { length repaired.hidden.flags ≡ task.now.system.now.cells }
     requires permitted { IsPermitted task.now.cells.now repaired.hidden.flags }
     requires served { AreServed (case_of task.now) repaired.hidden.flags (asked_of 0 task.now.cells.now) repaired.worlds }
-    ensures verdict { IfOk result (λ verdict. (planned : List Bool) → IsRepaired (case_of task.now) task.now.prices.now planned repaired.hidden.flags repaired.repairs (length (asked_of 0 task.now.cells.now))
+    ensures verdict { IfOk result (λ verdict. (planned : List Bool)
+        → IsRepaired (case_of task.now) task.now.prices.now planned repaired.hidden.flags repaired.repairs
+        (length (asked_of 0 task.now.cells.now))
         → IsVerdict (case_of task.now) task.now.prices.now planned verdict) }
-    ensures stopped { IfErr result (λ stopped. (planned : List Bool) → IsRepaired (case_of task.now) task.now.prices.now planned repaired.hidden.flags repaired.repairs (length (asked_of 0 task.now.cells.now))
+    ensures stopped { IfErr result (λ stopped. (planned : List Bool)
+        → IsRepaired (case_of task.now) task.now.prices.now planned repaired.hidden.flags repaired.repairs
+        (length (asked_of 0 task.now.cells.now))
         → StopsFor (case_of task.now) task.now.prices.now planned task.now.limit stopped.fault stopped.repairs stopped.shown) }
 {
     let mut progress = repaired;

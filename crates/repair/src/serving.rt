@@ -51,9 +51,12 @@ pub(crate) fn serve_all(
     ensures scratch { length scratch.new ≡ length scratch.old }
     ensures each { length progress.new.hidden.flags ≡ task.now.system.now.cells }
     ensures permitted { IsPermitted task.now.cells.now progress.new.hidden.flags }
-    ensures ok { IfOk result (λ found. AreServedOr (case_of task.now) (length task.now.questions.now) progress.new.hidden.flags progress.new.worlds found) }
-    ensures repaired { IfOk result (λ _. IsRepaired (case_of task.now) task.now.prices.now progress.old.hidden.flags progress.new.hidden.flags progress.new.repairs (length task.now.questions.now)) }
-    ensures err { IfErr result (λ fault. IsHalted (case_of task.now) task.now.prices.now progress.old.hidden.flags progress.new.hidden.flags progress.new.repairs task.now.limit fault) }
+    ensures ok { IfOk result (λ found. AreServedOr (case_of task.now) (length task.now.questions.now)
+        progress.new.hidden.flags progress.new.worlds found) }
+    ensures repaired { IfOk result (λ _. IsRepaired (case_of task.now) task.now.prices.now progress.old.hidden.flags
+        progress.new.hidden.flags progress.new.repairs (length task.now.questions.now)) }
+    ensures err { IfErr result (λ fault. IsHalted (case_of task.now) task.now.prices.now progress.old.hidden.flags
+        progress.new.hidden.flags progress.new.repairs task.now.limit fault) }
 {
     'places: for place in 0..task.questions.len() {
         let found = serve(alloc, task, place, scratch, progress)?;
@@ -80,10 +83,13 @@ fn serve(
     ensures scratch { length scratch.new ≡ length scratch.old }
     ensures each { length progress.new.hidden.flags ≡ task.now.system.now.cells }
     ensures permitted { IsPermitted task.now.cells.now progress.new.hidden.flags }
-    ensures repaired { (planned : List Bool) → IsRepaired (case_of task.now) task.now.prices.now planned progress.old.hidden.flags progress.old.repairs place
+    ensures repaired { (planned : List Bool)
+        → IsRepaired (case_of task.now) task.now.prices.now planned progress.old.hidden.flags progress.old.repairs place
         → IsRepaired (case_of task.now) task.now.prices.now planned progress.new.hidden.flags progress.new.repairs place }
-    ensures ok { IfOk result (λ found. AreServedOr (case_of task.now) (place + 1) progress.new.hidden.flags progress.new.worlds found) }
-    ensures err { IfErr result (λ fault. IsQuestion (case_of task.now) progress.new.hidden.flags task.now.limit fault place) }
+    ensures ok { IfOk result (λ found. AreServedOr (case_of task.now) (place + 1) progress.new.hidden.flags
+        progress.new.worlds found) }
+    ensures err { IfErr result (λ fault. IsQuestion (case_of task.now) progress.new.hidden.flags task.now.limit fault
+        place) }
 {
     'repairs: loop {
         let step = ask_once(alloc, task, place, scratch, progress)?;
@@ -111,10 +117,13 @@ fn ask_once(
     ensures scratch { length scratch.new ≡ length scratch.old }
     ensures each { length progress.new.hidden.flags ≡ task.now.system.now.cells }
     ensures permitted { IsPermitted task.now.cells.now progress.new.hidden.flags }
-    ensures repaired { (planned : List Bool) → IsRepaired (case_of task.now) task.now.prices.now planned progress.old.hidden.flags progress.old.repairs place
+    ensures repaired { (planned : List Bool)
+        → IsRepaired (case_of task.now) task.now.prices.now planned progress.old.hidden.flags progress.old.repairs place
         → IsRepaired (case_of task.now) task.now.prices.now planned progress.new.hidden.flags progress.new.repairs place }
-    ensures ok { IfOk result (λ step. IsStep (case_of task.now) place progress.old.hidden.flags progress.new.hidden.flags progress.new.worlds step) }
-    ensures err { IfErr result (λ fault. IsQuestion (case_of task.now) progress.new.hidden.flags task.now.limit fault place) }
+    ensures ok { IfOk result (λ step. IsStep (case_of task.now) place progress.old.hidden.flags
+        progress.new.hidden.flags progress.new.worlds step) }
+    ensures err { IfErr result (λ fault. IsQuestion (case_of task.now) progress.new.hidden.flags task.now.limit fault
+        place) }
 {
     let asked = task.questions[place];
     let question = level_question(task.cells, asked);
@@ -157,9 +166,11 @@ fn hide_one(
     ensures scratch { length scratch.new ≡ length scratch.old }
     ensures each { length progress.new.hidden.flags ≡ task.now.system.now.cells }
     ensures permitted { IsPermitted task.now.cells.now progress.new.hidden.flags }
-    ensures repaired { (planned : List Bool) → IsRepaired (case_of task.now) task.now.prices.now planned progress.old.hidden.flags progress.old.repairs place
+    ensures repaired { (planned : List Bool)
+        → IsRepaired (case_of task.now) task.now.prices.now planned progress.old.hidden.flags progress.old.repairs place
         → IsRepaired (case_of task.now) task.now.prices.now planned progress.new.hidden.flags progress.new.repairs place }
-    ensures ok { IfOk result (λ step. IsStep (case_of task.now) place progress.old.hidden.flags progress.new.hidden.flags progress.new.worlds step) }
+    ensures ok { IfOk result (λ step. IsStep (case_of task.now) place progress.old.hidden.flags
+        progress.new.hidden.flags progress.new.worlds step) }
     ensures err { OnErr result (progress.new.hidden.flags ≡ progress.old.hidden.flags) }
 {
     let subject = subject_of(task, &progress.hidden, asked, &multipliers, scratch);

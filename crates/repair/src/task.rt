@@ -2,8 +2,8 @@ ghost use Rattle.repair.specs.KeptWorlds.{IsTask};
 
 use sdc_base::{Cell, Side, System};
 
-/// What is to be protected: a system with its cells, what it costs to hide each, what is asked in its order, and how many
-/// steps each question may take.
+/// What is to be protected: a system with its cells, what it costs to hide each, what is asked in its order, and how
+/// many steps each question may take.
 #[derive(Drop)]
 pub(crate) struct Task<'a, 'b> {
     pub(crate) system: &'a System,

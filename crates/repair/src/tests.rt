@@ -394,8 +394,8 @@ fn stop_lines(alloc: Global, stopped: &Stopped) -> Result<String, Fail> {
 fn two_by_two_with_shown_margins(rt: HostRuntime) -> Result<(), Fail> {
     let alloc = rt.alloc();
     let rows = inner_and_margins(Kind::Fixed, None);
-    // Without 5, relation 4 alone holds the primary cell. Without 8, cell 5 can't move, by relation 3, and so neither can
-    // cell 4. Without 7, cell 8 can't, by relation 5, and so neither can 5 and 4.
+    // Without 5, relation 4 alone holds the primary cell. Without 8, cell 5 can't move, by relation 3, and so neither
+    // can cell 4. Without 7, cell 8 can't, by relation 5, and so neither can 5 and 4.
     let planned = "hidden 4 5 7 8\n\
 need 5 4 above 1 4:1\n\
 need 7 4 above 1 3:-1 4:1 5:1\n\
@@ -424,8 +424,8 @@ world 1 4:-6 5:6 7:6 8:-6\n";
 #[test]
 fn two_by_two_without_a_trail(rt: HostRuntime) -> Result<(), Fail> {
     let alloc = rt.alloc();
-    // Relation 4 holds cell 4, and among the cells that count in it 5 has the lowest price: with free margins 51, before
-    // the 71 of cell 3. Then 5 is held by relation 3, where 8 counts, and 8 by relation 5, where 7 does.
+    // Relation 4 holds cell 4, and among the cells that count in it 5 has the lowest price: with free margins 51,
+    // before the 71 of cell 3. Then 5 is held by relation 3, where 8 counts, and 8 by relation 5, where 7 does.
     let repaired = "hidden 4 5 7 8\n\
 repair 5 4 above 1 4:1\n\
 repair 8 4 above 1 3:-1 4:1\n\
@@ -542,8 +542,8 @@ world 1 1:-5 2:5\n";
 #[test]
 fn corner_that_a_repair_makes_needless(rt: HostRuntime) -> Result<(), Fail> {
     let alloc = rt.alloc();
-    // Corner 2 can fall by 2, which is less than 5, so 3 is hidden as well. Then 2 isn't needed any more: with 2 shown, 3
-    // falls by 5. Without 3 nothing moves.
+    // Corner 2 can fall by 2, which is less than 5, so 3 is hidden as well. Then 2 isn't needed any more: with 2 shown,
+    // 3 falls by 5. Without 3 nothing moves.
     let job = Job {
         rows: &[
             (17, Kind::Fixed, 0, None),

@@ -44,7 +44,8 @@ pub(crate) fn ask_anew(
 ) -> Result<Trial, AskFault>
     requires each { length hidden.now.flags ≡ task.now.system.now.cells }
     requires permitted { IsPermitted task.now.cells.now hidden.now.flags }
-    requires served { AreServed (case_of task.now) (hide hidden.now.flags cell) (asked_of 0 task.now.cells.now) worlds.now }
+    requires served { AreServed (case_of task.now) (hide hidden.now.flags cell) (asked_of 0 task.now.cells.now)
+        worlds.now }
     ensures ok { IfOk result (λ trial. IsTrial (case_of task.now) hidden.now.flags cell worlds.now trial) }
     ensures err { IfErr result (λ fault. HasFault (case_of task.now) hidden.now.flags task.now.limit fault) }
 {
@@ -76,7 +77,8 @@ fn renew(
     requires permitted { IsPermitted task.now.cells.now hidden.now.flags }
     requires worlds { length worlds.now ≡ length task.now.questions.now }
     ensures ok { IfOk result (λ renewal. IsRenewal (case_of task.now) hidden.now.flags cell worlds.now place renewal) }
-    ensures err { IfErr result (λ fault. (asked : ℕ × AnySide) × StandsAt task.now.cells.now asked place × HasCause task.now.system.now task.now.cells.now hidden.now.flags asked task.now.limit fault) }
+    ensures err { IfErr result (λ fault. (asked : ℕ × AnySide) × StandsAt task.now.cells.now asked place
+        × HasCause task.now.system.now task.now.cells.now hidden.now.flags asked task.now.limit fault) }
 {
     if !is_moved(&worlds[place], cell) {
         return Ok(Renewal::Renewed(None));

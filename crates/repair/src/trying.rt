@@ -33,14 +33,17 @@ pub(crate) fn try_all(
 ) -> Result<(), AskFault>
     requires each { length progress.old.hidden.flags ≡ task.now.system.now.cells }
     requires permitted { IsPermitted task.now.cells.now progress.old.hidden.flags }
-    requires served { AreServed (case_of task.now) progress.old.hidden.flags (asked_of 0 task.now.cells.now) progress.old.worlds }
+    requires served { AreServed (case_of task.now) progress.old.hidden.flags (asked_of 0 task.now.cells.now)
+        progress.old.worlds }
     requires no_needs { tried.old.needs ≡ [] }
     requires none_shown { tried.old.shown ≡ [] }
     ensures repairs { progress.new.repairs ≡ progress.old.repairs }
     ensures each { OnOk result (length progress.new.hidden.flags ≡ task.now.system.now.cells) }
     ensures permitted { OnOk result (IsPermitted task.now.cells.now progress.new.hidden.flags) }
-    ensures ok { OnOk result (IsTried (case_of task.now) progress.old.hidden.flags (length task.now.cells.now) progress.new.hidden.flags progress.new.worlds tried.new.needs tried.new.shown) }
-    ensures err { IfErr result (λ fault. TriesStopFor (case_of task.now) progress.old.hidden.flags task.now.limit fault tried.new.shown) }
+    ensures ok { OnOk result (IsTried (case_of task.now) progress.old.hidden.flags (length task.now.cells.now)
+        progress.new.hidden.flags progress.new.worlds tried.new.needs tried.new.shown) }
+    ensures err { IfErr result (λ fault. TriesStopFor (case_of task.now) progress.old.hidden.flags task.now.limit fault
+        tried.new.shown) }
 {
     // for the proof: read, so that it is known to be a number of 32 bits
     let _cells = task.system.cells;
@@ -61,13 +64,18 @@ fn try_next(
     requires inside { cell < length task.now.cells.now }
     requires each { length progress.old.hidden.flags ≡ task.now.system.now.cells }
     requires permitted { IsPermitted task.now.cells.now progress.old.hidden.flags }
-    requires served { AreServed (case_of task.now) progress.old.hidden.flags (asked_of 0 task.now.cells.now) progress.old.worlds }
+    requires served { AreServed (case_of task.now) progress.old.hidden.flags (asked_of 0 task.now.cells.now)
+        progress.old.worlds }
     ensures repairs { progress.new.repairs ≡ progress.old.repairs }
     ensures each { OnOk result (length progress.new.hidden.flags ≡ task.now.system.now.cells) }
     ensures permitted { OnOk result (IsPermitted task.now.cells.now progress.new.hidden.flags) }
-    ensures ok { OnOk result ((larger : List Bool) → IsTried (case_of task.now) larger cell progress.old.hidden.flags progress.old.worlds tried.old.needs tried.old.shown
+    ensures ok { OnOk result ((larger : List Bool)
+        → IsTried (case_of task.now) larger cell progress.old.hidden.flags progress.old.worlds tried.old.needs
+        tried.old.shown
         → IsTried (case_of task.now) larger (cell + 1) progress.new.hidden.flags progress.new.worlds tried.new.needs tried.new.shown) }
-    ensures err { IfErr result (λ fault. (larger : List Bool) → IsTried (case_of task.now) larger cell progress.old.hidden.flags progress.old.worlds tried.old.needs tried.old.shown
+    ensures err { IfErr result (λ fault. (larger : List Bool)
+        → IsTried (case_of task.now) larger cell progress.old.hidden.flags progress.old.worlds tried.old.needs
+        tried.old.shown
         → TriesStopFor (case_of task.now) larger task.now.limit fault tried.new.shown) }
 {
     let place = cell as usize;
@@ -93,13 +101,18 @@ fn try_one(
     requires hidden { is_hidden progress.old.hidden.flags cell ≡ true }
     requires each { length progress.old.hidden.flags ≡ task.now.system.now.cells }
     requires permitted { IsPermitted task.now.cells.now progress.old.hidden.flags }
-    requires served { AreServed (case_of task.now) progress.old.hidden.flags (asked_of 0 task.now.cells.now) progress.old.worlds }
+    requires served { AreServed (case_of task.now) progress.old.hidden.flags (asked_of 0 task.now.cells.now)
+        progress.old.worlds }
     ensures repairs { progress.new.repairs ≡ progress.old.repairs }
     ensures each { OnOk result (length progress.new.hidden.flags ≡ task.now.system.now.cells) }
     ensures permitted { OnOk result (IsPermitted task.now.cells.now progress.new.hidden.flags) }
-    ensures ok { OnOk result ((larger : List Bool) → IsTried (case_of task.now) larger cell progress.old.hidden.flags progress.old.worlds tried.old.needs tried.old.shown
+    ensures ok { OnOk result ((larger : List Bool)
+        → IsTried (case_of task.now) larger cell progress.old.hidden.flags progress.old.worlds tried.old.needs
+        tried.old.shown
         → IsTried (case_of task.now) larger (cell + 1) progress.new.hidden.flags progress.new.worlds tried.new.needs tried.new.shown) }
-    ensures err { IfErr result (λ fault. (larger : List Bool) → IsTried (case_of task.now) larger cell progress.old.hidden.flags progress.old.worlds tried.old.needs tried.old.shown
+    ensures err { IfErr result (λ fault. (larger : List Bool)
+        → IsTried (case_of task.now) larger cell progress.old.hidden.flags progress.old.worlds tried.old.needs
+        tried.old.shown
         → TriesStopFor (case_of task.now) larger task.now.limit fault tried.new.shown) }
 {
     let Ok(()) = tried.shown.push(cell) else {
@@ -134,7 +147,8 @@ fn put_back(
     ensures worlds { progress.new.worlds ≡ progress.old.worlds }
     ensures repairs { progress.new.repairs ≡ progress.old.repairs }
     ensures needs { OnOk result (tried.new.needs ≡ tried.old.needs ++ need ∷ []) }
-    ensures shown { OnOk result ((earlier : List ℕ) (last : ℕ) → tried.old.shown ≡ earlier ++ last ∷ [] → tried.new.shown ≡ earlier) }
+    ensures shown { OnOk result ((earlier : List ℕ) (last : ℕ) → tried.old.shown ≡ earlier ++ last ∷ []
+        → tried.new.shown ≡ earlier) }
     ensures err { IfErr result (λ fault. fault ≡ AskFault.Memory) }
 {
     progress.hidden.flags.set(cell as usize, true);

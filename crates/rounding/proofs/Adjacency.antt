@@ -6,7 +6,7 @@ use Rattle.std.proofs.lemmas.Int.{ints, by_lt_z, quot-rem}
 use Rattle.std.proofs.lemmas.Bool.Decides.{Decides-int_eq}
 use Rattle.sdc_base.proofs.WholeNumbers.{distrib, distrib_right, times_up, minus_times}
 use Rattle.sdc_base.specs.Roundings.{IsMultiple, IsAdjacent}
-use Rattle.rounding.specs.Neighbours.{is_multiple, down, neighbour}
+use Rattle.rounding.specs.Neighbours.{is_multiple, multiple_down, neighbour}
 
 -- what is left of a truth above the multiple below it is from 0 and below the base
 pub left_within : (base truth : ℤ) → pos 1 ≤ℤ base → pos 0 ≤ℤ truth → (pos 0 ≤ℤ int_rem truth base) × (int_rem truth base <ℤ base)
@@ -25,7 +25,7 @@ some_rest base truth positive from is =
     let clash : false ≡ true = sym is ∙ (Decides-int_eq (int_rem truth base) (pos 0)).1 none in
     absurd cc)
 
-pub down_is : (base truth : ℤ) → down base truth ≡ int_div truth base *ℤ base
+pub down_is : (base truth : ℤ) → multiple_down base truth ≡ int_div truth base *ℤ base
 down_is base truth = omega (arith, ints, quot-rem truth base)
 
 pub neighbour_is_multiple : (base truth : ℤ) (choice : Bool) → IsMultiple base (neighbour base truth choice)
@@ -55,18 +55,18 @@ none_or_one base d positive low high =
     (λ to. by_lt_z d (pos 1) (λ less. inl (omega (arith, ints))) (λ not_less. inr (omega (arith, ints)))))
 
 -- an adjacent multiple is the one below, or one base above that
-adjacent_either : (base truth value : ℤ) → pos 1 ≤ℤ base → pos 0 ≤ℤ truth → IsAdjacent base truth value → (value ≡ down base truth) ⊎ (value ≡ down base truth +ℤ base)
+adjacent_either : (base truth value : ℤ) → pos 1 ≤ℤ base → pos 0 ≤ℤ truth → IsAdjacent base truth value → (value ≡ multiple_down base truth) ⊎ (value ≡ multiple_down base truth +ℤ base)
 adjacent_either base truth value positive from adjacent =
     let within = left_within base truth positive from in
     let times : ℤ = adjacent.multiple.0 in
     let quotient : ℤ = int_div truth base in
     let d : ℤ = times -ℤ quotient in
-    let apart : base *ℤ d ≡ value -ℤ down base truth = distrib base times (neg_ℤ quotient) ∙ omega (arith, ints, *ℤ_comm base (neg_ℤ quotient), minus_times quotient base, *ℤ_comm base times, adjacent.multiple.1, down_is base truth) in
+    let apart : base *ℤ d ≡ value -ℤ multiple_down base truth = distrib base times (neg_ℤ quotient) ∙ omega (arith, ints, *ℤ_comm base (neg_ℤ quotient), minus_times quotient base, *ℤ_comm base times, adjacent.multiple.1, down_is base truth) in
     let low = adjacent.not_below in
     let high = adjacent.not_above in
     found base d value truth apart (none_or_one base d positive (omega (arith, ints, apart, low, within.0, within.1)) (omega (arith, ints, apart, high, within.0, within.1)))
   where
-    found : (base d value truth : ℤ) → base *ℤ d ≡ value -ℤ down base truth → (d ≡ pos 0) ⊎ (d ≡ pos 1) → (value ≡ down base truth) ⊎ (value ≡ down base truth +ℤ base)
+    found : (base d value truth : ℤ) → base *ℤ d ≡ value -ℤ multiple_down base truth → (d ≡ pos 0) ⊎ (d ≡ pos 1) → (value ≡ multiple_down base truth) ⊎ (value ≡ multiple_down base truth +ℤ base)
     found base d value truth apart (inl none) = inl (let zero_times : base *ℤ d ≡ base *ℤ pos 0 = ap (λ k. base *ℤ k) none in omega (arith, ints, apart, zero_times))
     found base d value truth apart (inr one) = inr (let one_times : base *ℤ d ≡ base *ℤ pos 1 = ap (λ k. base *ℤ k) one in omega (arith, ints, apart, one_times))
 

@@ -7,10 +7,10 @@ use Rattle.std.proofs.lemmas.Bool.Decides.{nat_tests}
 use Rattle.std.proofs.lemmas.Option.{slice_get-get_or}
 use Rattle.sdc_base.specs.declared.relation.Relation.{Relation}
 use Rattle.sdc_base.specs.Forms.{count_of}
-use Rattle.sdc_base.specs.Signs.{AreSigns, signed, signed_count}
+use Rattle.sdc_base.specs.Signs.{AreSigns, number_with_sign, signed_count}
 use Rattle.rounding.specs.declared.arcs.Arc.{Arc}
-use Rattle.rounding.specs.Namings.{IsNamingOf, Lacks}
-use Rattle.rounding.specs.Arcs.{at_point, brought, IsArcOf, arc_at, AreArcsOf}
+use Rattle.rounding.specs.Namings.{IsNamingOf, IsNotIn}
+use Rattle.rounding.specs.Arcs.{at_point, brings_to, IsArcOf, arc_at, AreArcsOf}
 use Rattle.rounding.proofs.SumSteps.{find_number, get_or_any}
 
 pub at_own : (point number : ℕ) → point ≡ number → at_point point number ≡ pos 1
@@ -24,15 +24,15 @@ pub item_there : {X : Type 0} (xs : List X) (n : ℕ) → n < length xs → (x :
 item_there {X} [] n inside = absurd (omega arith)
 item_there {X} (x ∷ xs) n inside = (get_or (x ∷ xs) n x, slice_get-get_or (x ∷ xs) n x inside)
 
-pub count_is : (relations : List Relation) (signs : List Bool) (number cell : ℕ) (r : Relation) → slice_get relations number ≡ Some r → signed_count relations signs number cell ≡ signed (get_or signs number true) (count_of r cell)
-count_is relations signs number cell r found = ap (λ o. signed (get_or signs number true) (option_map_or (λ (q : Relation). count_of q cell) o (pos 0))) found
+pub count_is : (relations : List Relation) (signs : List Bool) (number cell : ℕ) (r : Relation) → slice_get relations number ≡ Some r → signed_count relations signs number cell ≡ number_with_sign (get_or signs number true) (count_of r cell)
+count_is relations signs number cell r found = ap (λ o. number_with_sign (get_or signs number true) (option_map_or (λ (q : Relation). count_of q cell) o (pos 0))) found
 
-signed_none : (s : Bool) (n : ℤ) → n ≡ pos 0 → signed s n ≡ pos 0
+signed_none : (s : Bool) (n : ℤ) → n ≡ pos 0 → number_with_sign s n ≡ pos 0
 signed_none true n none = none
 signed_none false n none = omega (arith, ints, none)
 
 -- a relation that doesn't name the cell doesn't count it
-unnamed : (relations : List Relation) (signs : List Bool) (number cell : ℕ) (named : List ℕ) → IsNamingOf relations cell named → number < length relations → Lacks named number → signed_count relations signs number cell ≡ pos 0
+unnamed : (relations : List Relation) (signs : List Bool) (number cell : ℕ) (named : List ℕ) → IsNamingOf relations cell named → number < length relations → IsNotIn named number → signed_count relations signs number cell ≡ pos 0
 unnamed relations signs number cell named naming below lacks =
     let one = item_there relations number below in
     count_is relations signs number cell one.0 one.1 ∙ signed_none (get_or signs number true) (count_of one.0 cell) (naming.whole number one.0 one.1 lacks)
@@ -125,7 +125,7 @@ joined_is_arc relations signs cell named arc k are naming past joined = record {
   to_point = joined.to_point;
   counted = λ number below.
       let count : ℤ = signed_count relations signs number cell in
-      elim (are.once number cell) as (λ _. signed_count relations signs number cell ≡ brought arc number) [
+      elim (are.once number cell) as (λ _. signed_count relations signs number cell ≡ brings_to arc number) [
         | inl none ↦
             let not_to : arc.to ≢ number = λ same. none_apart count (pos 1) none (ap (λ (p : ℕ). signed_count relations signs p cell) (sym same) ∙ joined.to_is (omega (arith, same, below))) (inl refl) in
             let not_from : arc.from ≢ number = λ same. none_apart count (negsuc 0) none (ap (λ (p : ℕ). signed_count relations signs p cell) (sym same) ∙ joined.from_is (omega (arith, same, below))) (inr refl) in
@@ -143,9 +143,9 @@ joined_is_arc relations signs cell named arc k are naming past joined = record {
       ];
 }
 
-pub read_count : (relations : List Relation) (signs : List Bool) (number cell : ℕ) (item : Relation) (count : ℤ) (d : Bool) → length signs ≡ length relations → number < length relations → slice_get relations number ≡ Some item → count ≡ signed (get_or signs number d) (count_of item cell) → count ≡ signed_count relations signs number cell
+pub read_count : (relations : List Relation) (signs : List Bool) (number cell : ℕ) (item : Relation) (count : ℤ) (d : Bool) → length signs ≡ length relations → number < length relations → slice_get relations number ≡ Some item → count ≡ number_with_sign (get_or signs number d) (count_of item cell) → count ≡ signed_count relations signs number cell
 read_count relations signs number cell item count d each below found is =
-    is ∙ ap (λ (s : Bool). signed s (count_of item cell)) (get_or_any signs number d true (omega (arith, each, below))) ∙ sym (count_is relations signs number cell item found)
+    is ∙ ap (λ (s : Bool). number_with_sign s (count_of item cell)) (get_or_any signs number d true (omega (arith, each, below))) ∙ sym (count_is relations signs number cell item found)
 
 -- ---- one arc more
 

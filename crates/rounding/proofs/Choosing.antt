@@ -2,14 +2,14 @@
 use Rattle.std.proofs.Common.{◌≡◌, ℕ, zero, suc, ◌+◌, ◌-◌, ◌<◌, ◌≤◌, Bool, true, false, List, [], ◌∷◌, ◌++◌, length, get_or, ℤ, pos, arith, refl, ap, sym, subst, ◌∙◌, if◌then◌else◌}
 use Rattle.std.proofs.Math.ListN.{set}
 use Rattle.rounding.specs.Neighbours.{is_multiple, neighbour}
-use Rattle.rounding.specs.Choices.{Choices, unrounded_cells, first_or, behind, by_choices}
+use Rattle.rounding.specs.Choices.{Choices, unrounded_cells, first_or, choices_behind, by_choices}
 
 pub length-by_choices : (side : Bool) (base : ℤ) (truths : List ℤ) (choices : Choices) → length (by_choices side base truths choices) ≡ length truths
 length-by_choices side base [] choices = refl
 length-by_choices side base (truth ∷ truths) choices =
-    elim (is_multiple base truth) as (λ b. length (if b then truth ∷ by_choices side base truths choices else neighbour base truth (first_or side choices) ∷ by_choices side base truths (behind choices)) ≡ suc (length truths)) [
+    elim (is_multiple base truth) as (λ b. length (if b then truth ∷ by_choices side base truths choices else neighbour base truth (first_or side choices) ∷ by_choices side base truths (choices_behind choices)) ≡ suc (length truths)) [
       | true ↦ ap suc (length-by_choices side base truths choices)
-      | false ↦ ap suc (length-by_choices side base truths (behind choices))
+      | false ↦ ap suc (length-by_choices side base truths (choices_behind choices))
     ]
 
 -- the numbers of the cells that aren't multiples lie from the first number on, below the last

@@ -13,7 +13,7 @@ use Rattle.sdc_base.specs.Roundings.{IsMultiple, IsRounding, number_at}
 use Rattle.rounding.specs.declared.arcs.Arc.{Arc}
 use Rattle.rounding.specs.declared.steps.Step.{Step}
 use Rattle.rounding.specs.Neighbours.{is_multiple}
-use Rattle.rounding.specs.Arcs.{brought, arc_at, cells_at, Touches, AreArcsOf, IsNetwork, IsBalanced}
+use Rattle.rounding.specs.Arcs.{brings_to, arc_at, cells_at, Touches, AreArcsOf, IsNetwork, IsBalanced}
 use Rattle.rounding.specs.Rings.{AreBeside, KeepMultiples}
 use Rattle.rounding.specs.Tasks.{IsTruth, IsProper}
 use Rattle.rounding.specs.Circuits.{IsAlong, IsMove, AreMoves, GoesRound}
@@ -47,17 +47,17 @@ found_touches arcs touching point cell arc network has read =
     (one.0, subst (λ (a : Arc). Touches a point) (sym same) one.1, same)
 
 -- what the last step brings to the point where it ends
-last_brings : (arc : Arc) (step : Step) → IsAlong arc step → step.start ≢ step.end → (brought arc step.end ≡ pos 1) ⊎ (brought arc step.end ≡ negsuc 0)
+last_brings : (arc : Arc) (step : Step) → IsAlong arc step → step.start ≢ step.end → (brings_to arc step.end ≡ pos 1) ⊎ (brings_to arc step.end ≡ negsuc 0)
 last_brings arc step (inl (_, start, end)) apart = inl (let to = at_own arc.to step.end (sym end) in let from = at_other arc.from step.end (λ same. apart (start ∙ same)) in omega (arith, ints, to, from))
 last_brings arc step (inr (_, start, end)) apart = inr (let from = at_own arc.from step.end (sym end) in let to = at_other arc.to step.end (λ same. apart (start ∙ same)) in omega (arith, ints, to, from))
 
-untouched_brings : (arc : Arc) (point : ℕ) → Touches arc point ⊎ (brought arc point ≡ pos 0)
+untouched_brings : (arc : Arc) (point : ℕ) → Touches arc point ⊎ (brings_to arc point ≡ pos 0)
 untouched_brings arc point =
-    elim (arc.from == point) as (λ b. (arc.from == point) ≡ b → Touches arc point ⊎ (brought arc point ≡ pos 0)) [
+    elim (arc.from == point) as (λ b. (arc.from == point) ≡ b → Touches arc point ⊎ (brings_to arc point ≡ pos 0)) [
       | true ↦ λ test. inl (inl ((Decides-eqb arc.from point).0 test))
       | false ↦ λ test.
           let not_from : arc.from ≢ point = grind (arith, nat_tests, test) in
-          elim (arc.to == point) as (λ b. (arc.to == point) ≡ b → Touches arc point ⊎ (brought arc point ≡ pos 0)) [
+          elim (arc.to == point) as (λ b. (arc.to == point) ≡ b → Touches arc point ⊎ (brings_to arc point ≡ pos 0)) [
             | true ↦ λ other. inl (inr ((Decides-eqb arc.to point).0 other))
             | false ↦ λ other.
                 let not_to : arc.to ≢ point = grind (arith, nat_tests, other) in
@@ -75,11 +75,11 @@ never_stuck truths base arcs touching numbers step network each balanced are mov
     let whole = is_multiple_from base (number_at numbers step.cell) are.from_one (number_from truths base numbers step.cell are (omega (arith, are.each, moved.inside))) multiple in
     let clash : true ≡ false = sym whole ∙ moved.partly in cc
   where
-    others : (other : ℕ) → other < length arcs → other ≢ step.cell → (brought (arc_at arcs other) step.end ≡ pos 0) ⊎ IsMultiple base (number_at numbers other)
+    others : (other : ℕ) → other < length arcs → other ≢ step.cell → (brings_to (arc_at arcs other) step.end ≡ pos 0) ⊎ IsMultiple base (number_at numbers other)
     others other inside apart_from =
-        elim (untouched_brings (arc_at arcs other) step.end) as (λ _. (brought (arc_at arcs other) step.end ≡ pos 0) ⊎ IsMultiple base (number_at numbers other)) [
+        elim (untouched_brings (arc_at arcs other) step.end) as (λ _. (brings_to (arc_at arcs other) step.end ≡ pos 0) ⊎ IsMultiple base (number_at numbers other)) [
           | inl touches ↦
-              elim (All-contains (λ (cell : ℕ). (cell ≡ step.cell) ⊎ (is_multiple base (number_at numbers cell) ≡ true)) (cells_at touching step.end) other all (network.touched.whole step.end other inside touches)) as (λ _. (brought (arc_at arcs other) step.end ≡ pos 0) ⊎ IsMultiple base (number_at numbers other)) [
+              elim (All-contains (λ (cell : ℕ). (cell ≡ step.cell) ⊎ (is_multiple base (number_at numbers cell) ≡ true)) (cells_at touching step.end) other all (network.touched.whole step.end other inside touches)) as (λ _. (brings_to (arc_at arcs other) step.end ≡ pos 0) ⊎ IsMultiple base (number_at numbers other)) [
                 | inl same ↦ absurd (apart_from same)
                 | inr is ↦ inr (whole_multiple base (number_at numbers other) is)
               ]

@@ -3,21 +3,21 @@ use Rattle.std.proofs.Common.{◌≡◌, ℕ, zero, suc, ◌+◌, ◌<◌, Bool,
 use Rattle.std.proofs.lemmas.List.Elements.{All-head, All-tail}
 use Rattle.sdc_base.specs.Roundings.{number_at, IsAdjacent}
 use Rattle.rounding.specs.Neighbours.{is_multiple, neighbour}
-use Rattle.rounding.specs.Choices.{Choices, unrounded_cells, first_or, behind, by_choices}
+use Rattle.rounding.specs.Choices.{Choices, unrounded_cells, first_or, choices_behind, by_choices}
 use Rattle.rounding.specs.Tasks.{IsTruth}
 use Rattle.rounding.proofs.Adjacency.{neighbour_is_adjacent, multiple_is_adjacent, adjacent_is_neighbour, multiple_stays}
 
 pub by_choices_adjacent : (side : Bool) (base : ℤ) (truths : List ℤ) (choices : Choices) → pos 1 ≤ℤ base → All IsTruth truths → (k : ℕ) → k < length truths → IsAdjacent base (number_at truths k) (number_at (by_choices side base truths choices) k)
 by_choices_adjacent side base [] choices positive all k below = absurd (omega arith)
 by_choices_adjacent side base (truth ∷ truths) choices positive all zero below =
-    elim (is_multiple base truth) as (λ b. is_multiple base truth ≡ b → IsAdjacent base truth (number_at (if b then truth ∷ by_choices side base truths choices else neighbour base truth (first_or side choices) ∷ by_choices side base truths (behind choices)) 0)) [
+    elim (is_multiple base truth) as (λ b. is_multiple base truth ≡ b → IsAdjacent base truth (number_at (if b then truth ∷ by_choices side base truths choices else neighbour base truth (first_or side choices) ∷ by_choices side base truths (choices_behind choices)) 0)) [
       | true ↦ λ is. multiple_is_adjacent base truth positive is
       | false ↦ λ is. neighbour_is_adjacent base truth (first_or side choices) positive (All-head IsTruth truth truths all).from is
     ] refl
 by_choices_adjacent side base (truth ∷ truths) choices positive all (suc k) below =
-    elim (is_multiple base truth) as (λ b. IsAdjacent base (number_at truths k) (number_at (if b then truth ∷ by_choices side base truths choices else neighbour base truth (first_or side choices) ∷ by_choices side base truths (behind choices)) (suc k))) [
+    elim (is_multiple base truth) as (λ b. IsAdjacent base (number_at truths k) (number_at (if b then truth ∷ by_choices side base truths choices else neighbour base truth (first_or side choices) ∷ by_choices side base truths (choices_behind choices)) (suc k))) [
       | true ↦ by_choices_adjacent side base truths choices positive (All-tail IsTruth truth truths all) k (omega arith)
-      | false ↦ by_choices_adjacent side base truths (behind choices) positive (All-tail IsTruth truth truths all) k (omega arith)
+      | false ↦ by_choices_adjacent side base truths (choices_behind choices) positive (All-tail IsTruth truth truths all) k (omega arith)
     ]
 
 -- choices that make these values

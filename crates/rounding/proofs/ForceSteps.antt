@@ -19,9 +19,9 @@ use Rattle.sdc_base.proofs.WholeNumbers.{times_up, minus_times}
 use Rattle.rounding.specs.Neighbours.{neighbour}
 use Rattle.rounding.specs.Choices.{by_choices}
 use Rattle.sdc_base.specs.Forms.{count_of}
-use Rattle.rounding.specs.Extremes.{extreme_numbers, extreme, change}
+use Rattle.rounding.specs.Extremes.{extreme_numbers, extreme_of_form, change}
 use Rattle.rounding.specs.Tasks.{IsProper}
-use Rattle.rounding.specs.Fixes.{Fix, with_fix, by_fixes, FixedCells, number_left, IsFree, IsWithin, NoneWithin, can_hold, Untouched, Counts, IsForced, HoldFrom, HoldOf}
+use Rattle.rounding.specs.Fixes.{Fix, with_fix, by_fixes, FixedCells, number_left, IsFree, IsWithin, NoneWithin, can_hold, FixesNone, CountsCell, IsForced, HoldFrom, HoldOf}
 use Rattle.rounding.specs.Namings.{IsNaming}
 use Rattle.rounding.proofs.Adjacency.{adjacent_is_neighbour}
 use Rattle.rounding.proofs.Betweenness.{neighbour_lies}
@@ -34,7 +34,7 @@ use Rattle.rounding.proofs.SearchLemmas.{of_front, of_back}
 
 -- ---- fixes that touch no cell of a relation
 
-untouched_at : (r : Relation) (base : ℤ) (truths xs : List ℤ) (more : List Fix) (c : ℕ) → Untouched r more → (count_of r c ≡ pos 0) ⊎ (number_at (fold (with_fix base truths) xs more) c ≡ number_at xs c)
+untouched_at : (r : Relation) (base : ℤ) (truths xs : List ℤ) (more : List Fix) (c : ℕ) → FixesNone r more → (count_of r c ≡ pos 0) ⊎ (number_at (fold (with_fix base truths) xs more) c ≡ number_at xs c)
 untouched_at r base truths xs [] c untouched = inr refl
 untouched_at r base truths xs (fix ∷ more) c untouched =
     let z : ℤ = neighbour base (number_at truths fix.0) fix.1 in
@@ -49,7 +49,7 @@ untouched_at r base truths xs (fix ∷ more) c untouched =
     ] refl
 
 -- where the numbers that a form counts are the same, its extreme is
-extreme_agrees : (n : ℕ) (r : Relation) (one other one' other' : Numbers) → NamesCells n r → ((c : ℕ) → (count_of r c ≡ pos 0) ⊎ ((one' c ≡ one c) × (other' c ≡ other c))) → extreme one' other' r ≡ extreme one other r
+extreme_agrees : (n : ℕ) (r : Relation) (one other one' other' : Numbers) → NamesCells n r → ((c : ℕ) → (count_of r c ≡ pos 0) ⊎ ((one' c ≡ one c) × (other' c ≡ other c))) → extreme_of_form one' other' r ≡ extreme_of_form one other r
 extreme_agrees n r one other one' other' named agree =
     form_by_cells n (extreme_numbers r one' other') r named
     ∙ sum_below-same n (λ c. count_of r c *ℤ extreme_numbers r one' other' c) (λ c. count_of r c *ℤ extreme_numbers r one other c)
@@ -63,7 +63,7 @@ extreme_agrees n r one other one' other' named agree =
     nothing k x y none = ap (λ t. t *ℤ x) none ∙ omega (arith, ints) ∙ sym (ap (λ t. t *ℤ y) none)
 
 -- the relation can hold as before
-pub untouched_holds : (b : FixedCells) (more : List Fix) (r : Relation) → NamesCells b.system.cells r → Untouched r more → can_hold b r ≡ true → can_hold (record b { fixes = b.fixes ++ more }) r ≡ true
+pub untouched_holds : (b : FixedCells) (more : List Fix) (r : Relation) → NamesCells b.system.cells r → FixesNone r more → can_hold b r ≡ true → can_hold (record b { fixes = b.fixes ++ more }) r ≡ true
 untouched_holds b more r named untouched holds =
     let after : FixedCells = record b { fixes = b.fixes ++ more } in
     let at_side : (side : Bool) (c : ℕ) → (count_of r c ≡ pos 0) ⊎ (number_left side after c ≡ number_left side b c) = λ side c.
@@ -74,8 +74,8 @@ untouched_holds b more r named untouched holds =
       | inl none ↦ inl none
       | inr first ↦ elim (at_side other c) as (λ _. (count_of r c ≡ pos 0) ⊎ ((number_left one after c ≡ number_left one b c) × (number_left other after c ≡ number_left other b c))) [ inl none ↦ inl none | inr second ↦ inr (first, second) ]
     ] in
-    let low : extreme (number_left false after) (number_left true after) r ≡ extreme (number_left false b) (number_left true b) r = extreme_agrees b.system.cells r (number_left false b) (number_left true b) (number_left false after) (number_left true after) named (both false true) in
-    let high : extreme (number_left true after) (number_left false after) r ≡ extreme (number_left true b) (number_left false b) r = extreme_agrees b.system.cells r (number_left true b) (number_left false b) (number_left true after) (number_left false after) named (both true false) in
+    let low : extreme_of_form (number_left false after) (number_left true after) r ≡ extreme_of_form (number_left false b) (number_left true b) r = extreme_agrees b.system.cells r (number_left false b) (number_left true b) (number_left false after) (number_left true after) named (both false true) in
+    let high : extreme_of_form (number_left true after) (number_left false after) r ≡ extreme_of_form (number_left true b) (number_left false b) r = extreme_agrees b.system.cells r (number_left true b) (number_left false b) (number_left true after) (number_left false after) named (both true false) in
     (λ i. int_le (low i) (pos 0) && int_le (pos 0) (high i)) ∙ holds
 
 -- ---- nothing is forced, or one thing after another
@@ -102,12 +102,12 @@ form_none : (b : FixedCells) (n : ℕ) (r : Relation) (values : List ℤ) → sl
 form_none b n r values there rounding =
     subst (λ (one : Relation). form (number_at values) one ≡ pos 0) (get_or_from_slice_get b.system.relations n r r there) (All-get_or (λ r. form (number_at values) r ≡ pos 0) b.system.relations n r (slice_get_within b.system.relations n r there) rounding.hold)
 
-pub too_high : (b : FixedCells) (n : ℕ) (r : Relation) → slice_get b.system.relations n ≡ Some r → pos 0 <ℤ extreme (number_left false b) (number_left true b) r → NoneWithin b
+pub too_high : (b : FixedCells) (n : ℕ) (r : Relation) → slice_get b.system.relations n ≡ Some r → pos 0 <ℤ extreme_of_form (number_left false b) (number_left true b) r → NoneWithin b
 too_high b n r there above values rounding within =
     let low = least_is b.system.cells r (number_left false b) (number_left true b) (number_at values) (named_at b.system.cells b.system.relations n r b.system.named there) within in
     omega (arith, ints, low, above, form_none b n r values there rounding)
 
-pub too_low : (b : FixedCells) (n : ℕ) (r : Relation) → slice_get b.system.relations n ≡ Some r → extreme (number_left true b) (number_left false b) r <ℤ pos 0 → NoneWithin b
+pub too_low : (b : FixedCells) (n : ℕ) (r : Relation) → slice_get b.system.relations n ≡ Some r → extreme_of_form (number_left true b) (number_left false b) r <ℤ pos 0 → NoneWithin b
 too_low b n r there below values rounding within =
     let high = greatest_is b.system.cells r (number_left false b) (number_left true b) (number_at values) (named_at b.system.cells b.system.relations n r b.system.named there) within in
     omega (arith, ints, high, below, form_none b n r values there rounding)
@@ -174,12 +174,12 @@ forced_fix b after cell side up proper free bars other made =
 
 extreme_after : (one other : Bool) (b : FixedCells) (r : Relation) (cell : ℕ) (up : Bool) (by_one by_other : ℤ) → NamesCells b.system.cells r → IsProper b.system b.truths b.base → cell < length b.truths
     → by_one ≡ neighbour b.base (number_at b.truths cell) up -ℤ number_left one b cell → by_other ≡ neighbour b.base (number_at b.truths cell) up -ℤ number_left other b cell
-    → extreme (number_left one (record b { fixes = b.fixes ++ (cell, up) ∷ [] })) (number_left other (record b { fixes = b.fixes ++ (cell, up) ∷ [] })) r ≡ extreme (number_left one b) (number_left other b) r +ℤ change r cell by_one by_other
+    → extreme_of_form (number_left one (record b { fixes = b.fixes ++ (cell, up) ∷ [] })) (number_left other (record b { fixes = b.fixes ++ (cell, up) ∷ [] })) r ≡ extreme_of_form (number_left one b) (number_left other b) r +ℤ change r cell by_one by_other
 extreme_after one other b r cell up by_one by_other named proper below is_one is_other =
     let z : ℤ = neighbour b.base (number_at b.truths cell) up in
     let first : List ℤ = by_fixes one b.base b.truths b.fixes in
     let second : List ℤ = by_fixes other b.base b.truths b.fixes in
-    (λ i. extreme (number_at (one_more_fix one b.base b.truths b.fixes (cell, up) i)) (number_at (one_more_fix other b.base b.truths b.fixes (cell, up) i)) r)
+    (λ i. extreme_of_form (number_at (one_more_fix one b.base b.truths b.fixes (cell, up) i)) (number_at (one_more_fix other b.base b.truths b.fixes (cell, up) i)) r)
     ∙ extreme_changed b.system.cells r cell by_one by_other (number_at first) (number_at second) (number_at (set first cell z)) (number_at (set second cell z)) named (omega (arith, below, proper.each))
     (changed_by_set first cell z by_one (omega (arith, length-by_fixes one b.base b.truths b.fixes, below)) is_one)
     (changed_by_set second cell z by_other (omega (arith, length-by_fixes other b.base b.truths b.fixes, below)) is_other)
@@ -212,7 +212,7 @@ below_down k base positive below = let less = times_up base k (negsuc 0) (omega 
 -- ---- what the extremes bar
 
 -- where the least with a base more is above 0, a cell counted above 0 times isn't up, and one counted below isn't down
-pub least_bars : (b : FixedCells) (n : ℕ) (r : Relation) (cell : ℕ) (above : Bool) → IsProper b.system b.truths b.base → slice_get b.system.relations n ≡ Some r → IsFree b cell → Counts above r cell → pos 0 <ℤ (extreme (number_left false b) (number_left true b) r +ℤ b.base) → Bars b cell above
+pub least_bars : (b : FixedCells) (n : ℕ) (r : Relation) (cell : ℕ) (above : Bool) → IsProper b.system b.truths b.base → slice_get b.system.relations n ≡ Some r → IsFree b cell → CountsCell above r cell → pos 0 <ℤ (extreme_of_form (number_left false b) (number_left true b) r +ℤ b.base) → Bars b cell above
 least_bars b n r cell true proper there free counted high values rounding within is =
     let named = named_at b.system.cells b.system.relations n r b.system.named there in
     let low = least_is b.system.cells r _ _ (number_at values) named (within_fixed b cell true values free.inside is within) in
@@ -227,7 +227,7 @@ least_bars b n r cell false proper there free counted high values rounding withi
     omega (arith, ints, low, moved, change_below r cell (pos 0) (neg_ℤ b.base) counted, more, high, form_none b n r values there rounding)
 
 -- where the greatest with a base less is below 0, a cell counted above 0 times isn't down, and one counted below isn't up
-pub greatest_bars : (b : FixedCells) (n : ℕ) (r : Relation) (cell : ℕ) (above : Bool) → IsProper b.system b.truths b.base → slice_get b.system.relations n ≡ Some r → IsFree b cell → Counts above r cell → (extreme (number_left true b) (number_left false b) r -ℤ b.base) <ℤ pos 0 → Bars b cell (not above)
+pub greatest_bars : (b : FixedCells) (n : ℕ) (r : Relation) (cell : ℕ) (above : Bool) → IsProper b.system b.truths b.base → slice_get b.system.relations n ≡ Some r → IsFree b cell → CountsCell above r cell → (extreme_of_form (number_left true b) (number_left false b) r -ℤ b.base) <ℤ pos 0 → Bars b cell (not above)
 greatest_bars b n r cell true proper there free counted low values rounding within is =
     let named = named_at b.system.cells b.system.relations n r b.system.named there in
     let high = greatest_is b.system.cells r _ _ (number_at values) named (within_fixed b cell false values free.inside is within) in
@@ -243,7 +243,7 @@ greatest_bars b n r cell false proper there free counted low values rounding wit
 
 -- ---- how a relation counts its cells
 
-pub total_counts : (r : Relation) (n : ℕ) (parts : List ℕ) → parts ≡ r.parts → n ≡ count_by (λ part. part == r.total) parts → n ≡ 0 → Counts true r r.total
+pub total_counts : (r : Relation) (n : ℕ) (parts : List ℕ) → parts ≡ r.parts → n ≡ count_by (λ part. part == r.total) parts → n ≡ 0 → CountsCell true r r.total
 total_counts r n parts same is none =
     let times = counted_total r r.total 0 refl (sym none ∙ is ∙ ap (λ (ps : List ℕ). count_by (λ part. part == r.total) ps) same) in
     omega (arith, ints, times)
@@ -260,7 +260,7 @@ part_taken (part ∷ parts) (suc k) below =
     let more = sum_by-cons (λ one. if one == get_or parts k 0 then 1 else 0) part parts in
     omega (arith, later, more)
 
-pub part_counts : (r : Relation) (k cell : ℕ) → k < length r.parts → cell ≡ get_or r.parts k 0 → (cell ≡ r.total → ⊥) → Counts false r cell
+pub part_counts : (r : Relation) (k cell : ℕ) → k < length r.parts → cell ≡ get_or r.parts k 0 → (cell ≡ r.total → ⊥) → CountsCell false r cell
 part_counts r k cell below is apart =
     let taken = part_taken r.parts k below in
     let times = counted_other r cell (count_by (λ part. part == cell) r.parts) (λ same. apart (sym same)) refl in
@@ -282,12 +282,12 @@ twice_not false = refl
 pub same_relation : (before after : FixedCells) (n : ℕ) (r : Relation) → IsForced before after → slice_get after.system.relations n ≡ Some r → slice_get before.system.relations n ≡ Some r
 same_relation before after n r forced there = ap (λ (a : FixedCells). slice_get a.system.relations n) (sym forced.grown) ∙ there
 
-holds_on : (before after : FixedCells) (n : ℕ) (r : Relation) (forced : IsForced before after) → slice_get before.system.relations n ≡ Some r → Untouched r forced.more → can_hold before r ≡ true → can_hold after r ≡ true
+holds_on : (before after : FixedCells) (n : ℕ) (r : Relation) (forced : IsForced before after) → slice_get before.system.relations n ≡ Some r → FixesNone r forced.more → can_hold before r ≡ true → can_hold after r ≡ true
 holds_on before after n r forced there untouched holds =
     subst (λ (a : FixedCells). can_hold a r ≡ true) (sym forced.grown) (untouched_holds before forced.more r (named_at before.system.cells before.system.relations n r before.system.named there) untouched holds)
 
 -- the cells fixed since a place, then and later
-fixed_since : (before after : FixedCells) (from : ℕ) (r : Relation) (forced : IsForced before after) → from ≤ length before.fixes → Untouched r (drop from after.fixes) → Untouched r (drop from before.fixes) × Untouched r forced.more
+fixed_since : (before after : FixedCells) (from : ℕ) (r : Relation) (forced : IsForced before after) → from ≤ length before.fixes → FixesNone r (drop from after.fixes) → FixesNone r (drop from before.fixes) × FixesNone r forced.more
 fixed_since before after from r forced inside untouched =
     let P : Fix → Type 0 = λ fix. count_of r fix.0 ≡ pos 0 in
     let parts : drop from after.fixes ≡ drop from before.fixes ++ forced.more = ap (λ (a : FixedCells). drop from a.fixes) forced.grown ∙ drop-append-le from before.fixes forced.more inside in
@@ -298,8 +298,8 @@ pub grown_long : (before after : FixedCells) → IsForced before after → lengt
 grown_long before after forced = omega (arith, ap (λ (a : FixedCells). length a.fixes) forced.grown, length-append before.fixes forced.more)
 
 -- a relation that could hold and isn't touched can hold after more is fixed
-pub hold_further : (first before after : FixedCells) (n : ℕ) (r : Relation) → IsForced first before → IsForced before after → slice_get after.system.relations n ≡ Some r → Untouched r (drop (length first.fixes) after.fixes)
-    → (slice_get before.system.relations n ≡ Some r → Untouched r (drop (length first.fixes) before.fixes) → can_hold before r ≡ true) → can_hold after r ≡ true
+pub hold_further : (first before after : FixedCells) (n : ℕ) (r : Relation) → IsForced first before → IsForced before after → slice_get after.system.relations n ≡ Some r → FixesNone r (drop (length first.fixes) after.fixes)
+    → (slice_get before.system.relations n ≡ Some r → FixesNone r (drop (length first.fixes) before.fixes) → can_hold before r ≡ true) → can_hold after r ≡ true
 hold_further first before after n r one two there untouched holds =
     let both = fixed_since before after (length first.fixes) r two (grown_long first before one) untouched in
     let found = same_relation before after n r two there in
@@ -315,10 +315,10 @@ ready_on before after naming next cell item numbers forced is inside cell_is bel
     elim (find_number numbers n) as (λ _. can_hold after r ≡ true) [
       | inl at_place ↦
           let more : drop (length before.fixes) after.fixes ≡ forced.more = ap (λ (a : FixedCells). drop (length before.fixes) a.fixes) forced.grown ∙ drop-append_seam before.fixes forced.more in
-          hold at_place.0 r at_place.1.0 (ap (λ (j : ℕ). slice_get after.system.relations j) at_place.1.1 ∙ there) (subst (λ (fs : List Fix). Untouched r fs) (sym more) both.1)
+          hold at_place.0 r at_place.1.0 (ap (λ (j : ℕ). slice_get after.system.relations j) at_place.1.1 ∙ there) (subst (λ (fs : List Fix). FixesNone r fs) (sym more) both.1)
       | inr lacks ↦
           let fix = found_at before.fixes next inside in
           let none : count_of r fix.0.0 ≡ pos 0 = ap (λ (j : ℕ). count_of r j) (sym (cell_is fix.0 fix.1)) ∙ listed.whole n r found lacks in
           let here : drop next before.fixes ≡ fix.0 ∷ drop (next + 1) before.fixes = drop-cons before.fixes next fix.0 inside ∙ ap (λ (f : Fix). f ∷ drop (suc next) before.fixes) (get_or_from_slice_get before.fixes next fix.0 fix.0 fix.1) ∙ ap (λ (k : ℕ). fix.0 ∷ drop k before.fixes) (sym (add-one next)) in
-          holds_on before after n r forced found both.1 (ready n r found (subst (λ (fs : List Fix). Untouched r fs) (sym here) (All-cons (λ (f : Fix). count_of r f.0 ≡ pos 0) fix.0 (drop (next + 1) before.fixes) none both.0)))
+          holds_on before after n r forced found both.1 (ready n r found (subst (λ (fs : List Fix). FixesNone r fs) (sym here) (All-cons (λ (f : Fix). count_of r f.0 ≡ pos 0) fix.0 (drop (next + 1) before.fixes) none both.0)))
     ]

@@ -9,7 +9,7 @@ use Rattle.sdc_base.specs.Systems.{Numbers, form, NamesCells}
 use Rattle.sdc_base.proofs.WholeNumbers.{distrib, times_up, times_down}
 use Rattle.sdc_base.proofs.TotalLemmas.{sum_below-add, sum_below-le, sum_below-same, only}
 use Rattle.sdc_base.proofs.WeakDual.{value_of-form_times, by_cells, terms_inside}
-use Rattle.rounding.specs.Extremes.{extreme_numbers, extreme, change, ExtremesAreBounds}
+use Rattle.rounding.specs.Extremes.{extreme_numbers, extreme_of_form, change, ExtremesAreBounds}
 
 -- what a cell adds to a form
 abbrev added : Relation → Numbers → Numbers
@@ -57,7 +57,7 @@ mixed_changed r cell by_one by_other one other one' other' first second c =
     (λ is. ap (λ k. int_lt (pos 0) (count_of r k)) (sym ((Decides-eqb cell c).0 is)))
 
 -- where a cell's numbers change, the extreme of a form changes by what the form counts of it
-pub extreme_changed : (n : ℕ) (r : Relation) (cell : ℕ) (by_one by_other : ℤ) (one other one' other' : Numbers) → NamesCells n r → cell < n → Changed cell by_one one one' → Changed cell by_other other other' → extreme one' other' r ≡ extreme one other r +ℤ change r cell by_one by_other
+pub extreme_changed : (n : ℕ) (r : Relation) (cell : ℕ) (by_one by_other : ℤ) (one other one' other' : Numbers) → NamesCells n r → cell < n → Changed cell by_one one one' → Changed cell by_other other other' → extreme_of_form one' other' r ≡ extreme_of_form one other r +ℤ change r cell by_one by_other
 extreme_changed n r cell by_one by_other one other one' other' named below first second =
     form_changed n (extreme_numbers r one other) (extreme_numbers r one' other') r cell (if int_lt (pos 0) (count_of r cell) then by_one else by_other) named below
     (mixed_changed r cell by_one by_other one other one' other' first second)
@@ -80,18 +80,18 @@ most_added k lower x upper low high =
 abbrev pub Between : Numbers → Numbers → Numbers → Type 0
 Between lower upper numbers = (c : ℕ) → (lower c ≤ℤ numbers c) × (numbers c ≤ℤ upper c)
 
-pub least_is : (n : ℕ) (r : Relation) (lower upper numbers : Numbers) → NamesCells n r → Between lower upper numbers → extreme lower upper r ≤ℤ form numbers r
+pub least_is : (n : ℕ) (r : Relation) (lower upper numbers : Numbers) → NamesCells n r → Between lower upper numbers → extreme_of_form lower upper r ≤ℤ form numbers r
 least_is n r lower upper numbers named between =
     let sums = sum_below-le n (added r (extreme_numbers r lower upper)) (added r numbers) (λ c inside. least_added (count_of r c) (lower c) (numbers c) (upper c) (between c).0 (between c).1) in
     omega (arith, ints, sums, form_by_cells n numbers r named, form_by_cells n (extreme_numbers r lower upper) r named)
 
-pub greatest_is : (n : ℕ) (r : Relation) (lower upper numbers : Numbers) → NamesCells n r → Between lower upper numbers → form numbers r ≤ℤ extreme upper lower r
+pub greatest_is : (n : ℕ) (r : Relation) (lower upper numbers : Numbers) → NamesCells n r → Between lower upper numbers → form numbers r ≤ℤ extreme_of_form upper lower r
 greatest_is n r lower upper numbers named between =
     let sums = sum_below-le n (added r numbers) (added r (extreme_numbers r upper lower)) (λ c inside. most_added (count_of r c) (lower c) (numbers c) (upper c) (between c).0 (between c).1) in
     omega (arith, ints, sums, form_by_cells n numbers r named, form_by_cells n (extreme_numbers r upper lower) r named)
 
 -- where each cell has one number, the extremes are the form
-pub extreme_same : (r : Relation) (numbers : Numbers) → extreme numbers numbers r ≡ form numbers r
+pub extreme_same : (r : Relation) (numbers : Numbers) → extreme_of_form numbers numbers r ≡ form numbers r
 extreme_same r numbers = ap (λ (x : Numbers). form x r) (λ i c. alike (int_lt (pos 0) (count_of r c)) (numbers c) i)
   where
     alike : (b : Bool) (z : ℤ) → (if b then z else z) ≡ z

@@ -14,7 +14,7 @@ use Rattle.sdc_base.specs.Systems.{NamesCells}
 use Rattle.sdc_base.specs.Roundings.{number_at}
 use Rattle.rounding.specs.Neighbours.{neighbour}
 use Rattle.rounding.specs.Choices.{by_choices}
-use Rattle.rounding.specs.Extremes.{extreme}
+use Rattle.rounding.specs.Extremes.{extreme_of_form}
 use Rattle.rounding.specs.Namings.{IsNamingOf, IsNaming}
 use Rattle.rounding.specs.Sums.{IsNear, AreExtremes, AreSmall}
 use Rattle.rounding.specs.Tasks.{IsProper}
@@ -36,11 +36,11 @@ lows_long b lows highs mins maxs kept = ap (λ (xs : List ℤ). length xs) kept.
 pub highs_long : (b : FixedCells) (lows highs mins maxs : List ℤ) → IsKept b lows highs mins maxs → length highs ≡ b.system.cells
 highs_long b lows highs mins maxs kept = ap (λ (xs : List ℤ). length xs) kept.upper ∙ length-by_fixes true b.base b.truths b.fixes ∙ kept.proper.each
 
-pub least_left : (b : FixedCells) (lows highs mins maxs : List ℤ) → IsKept b lows highs mins maxs → (n : ℕ) (r : Relation) → slice_get b.system.relations n ≡ Some r → number_at mins n ≡ extreme (number_left false b) (number_left true b) r
-least_left b lows highs mins maxs kept n r there = kept.least.extremes n r there ∙ (λ i. extreme (number_at (kept.lower i)) (number_at (kept.upper i)) r)
+pub least_left : (b : FixedCells) (lows highs mins maxs : List ℤ) → IsKept b lows highs mins maxs → (n : ℕ) (r : Relation) → slice_get b.system.relations n ≡ Some r → number_at mins n ≡ extreme_of_form (number_left false b) (number_left true b) r
+least_left b lows highs mins maxs kept n r there = kept.least.extremes n r there ∙ (λ i. extreme_of_form (number_at (kept.lower i)) (number_at (kept.upper i)) r)
 
-pub greatest_left : (b : FixedCells) (lows highs mins maxs : List ℤ) → IsKept b lows highs mins maxs → (n : ℕ) (r : Relation) → slice_get b.system.relations n ≡ Some r → number_at maxs n ≡ extreme (number_left true b) (number_left false b) r
-greatest_left b lows highs mins maxs kept n r there = kept.greatest.extremes n r there ∙ (λ i. extreme (number_at (kept.upper i)) (number_at (kept.lower i)) r)
+pub greatest_left : (b : FixedCells) (lows highs mins maxs : List ℤ) → IsKept b lows highs mins maxs → (n : ℕ) (r : Relation) → slice_get b.system.relations n ≡ Some r → number_at maxs n ≡ extreme_of_form (number_left true b) (number_left false b) r
+greatest_left b lows highs mins maxs kept n r there = kept.greatest.extremes n r there ∙ (λ i. extreme_of_form (number_at (kept.upper i)) (number_at (kept.lower i)) r)
 
 pub kept_small : (b : FixedCells) (lows highs mins maxs : List ℤ) → IsKept b lows highs mins maxs → AreSmall mins × AreSmall maxs
 kept_small b lows highs mins maxs kept =

@@ -13,8 +13,8 @@ use Rattle.sdc_base.specs.Roundings.{number_at}
 use Rattle.rounding.specs.Neighbours.{is_multiple, neighbour}
 use Rattle.rounding.specs.Choices.{Choices, unrounded_cells, by_choices}
 use Rattle.sdc_base.specs.Forms.{count_of}
-use Rattle.rounding.specs.Extremes.{extreme_numbers, extreme, spans_none, is_open}
-use Rattle.rounding.specs.Searches.{Rounds, NoneExtends, unrounded_count}
+use Rattle.rounding.specs.Extremes.{extreme_numbers, extreme_of_form, spans_none, is_open}
+use Rattle.rounding.specs.Searches.{IsRoundingList, NoneExtends, unrounded_count}
 use Rattle.rounding.specs.Tasks.{IsProper}
 use Rattle.rounding.specs.Fixes.{Fix, with_fix, by_fixes, FixedCells, number_left, allows, IsWithin, NoneWithin, AllCanHold, IsForced, IsTaken}
 use Rattle.rounding.specs.PartialLists.{AreLeft}
@@ -98,10 +98,10 @@ left_open b choices proper left hold =
     let r : Relation = get_or b.system.relations n d in
     let there : slice_get b.system.relations n ≡ Some r = slice_get-get_or b.system.relations n d below in
     let named : NamesCells b.system.cells r = named_at b.system.cells b.system.relations n r b.system.named there in
-    let both = spans_both (extreme (number_left false b) (number_left true b) r) (extreme (number_left true b) (number_left false b) r) (hold n r there) in
+    let both = spans_both (extreme_of_form (number_left false b) (number_left true b) r) (extreme_of_form (number_left true b) (number_left false b) r) (hold n r there) in
     let least = least_is b.system.cells r lows highs (extreme_numbers r (number_left false b) (number_left true b)) named (λ c. picked_lies (int_lt (pos 0) (count_of r c)) (lows c) (highs c) (number_left false b c) (number_left true b c) (low_lies c) (high_lies c)) in
     let greatest = greatest_is b.system.cells r lows highs (extreme_numbers r (number_left true b) (number_left false b)) named (λ c. picked_lies (int_lt (pos 0) (count_of r c)) (lows c) (highs c) (number_left true b c) (number_left false b c) (high_lies c) (low_lies c)) in
-    spans (extreme lows highs r) (extreme highs lows r) (omega (arith, ints, least, both.0)) (omega (arith, ints, greatest, both.1)))
+    spans (extreme_of_form lows highs r) (extreme_of_form highs lows r) (omega (arith, ints, least, both.0)) (omega (arith, ints, greatest, both.1)))
   where
     picked_lies : (p : Bool) (low high x y : ℤ) → (low ≤ℤ x) × (x ≤ℤ high) → (low ≤ℤ y) × (y ≤ℤ high) → (low ≤ℤ (if p then x else y)) × ((if p then x else y) ≤ℤ high)
     picked_lies true low high x y first second = first
@@ -126,7 +126,7 @@ barred_extends b choices cell side proper left short is barred rest rounds =
     let truth = between b.base (number_at b.truths cell) proper.from_one (proper.within cell (pos 0) inside).from off in
     let here = made_here side b.base b.truths choices rest cell proper.from_one short is in
     let same : (choices ++ side ∷ []) ++ rest ≡ choices ++ (side ∷ rest) = append_assoc choices (side ∷ []) rest in
-    let within = subst (λ (list : Choices). IsWithin b (by_choices false b.base b.truths list)) (sym same) (left.sound (side ∷ rest) (subst (λ (list : Choices). Rounds b.system b.truths b.base list) same rounds)) cell in
+    let within = subst (λ (list : Choices). IsWithin b (by_choices false b.base b.truths list)) (sym same) (left.sound (side ∷ rest) (subst (λ (list : Choices). IsRoundingList b.system b.truths b.base list) same rounds)) cell in
     excluded side (number_at b.truths cell) (number_left false b cell) (number_left true b cell) (number_at (by_choices false b.base b.truths ((choices ++ side ∷ []) ++ rest)) cell) truth here within barred
   where
     excluded : (up : Bool) (t low high value : ℤ) → (neighbour b.base t false <ℤ t) × (t <ℤ neighbour b.base t true) → value ≡ neighbour b.base t up → (low ≤ℤ value) × (value ≤ℤ high) → (if up then int_lt t high else int_lt low t) ≡ false → ⊥
@@ -181,8 +181,8 @@ left_taken b after choices cell up proper left short is taken =
       sound = λ rest rounds c.
           let list : Choices = (choices ++ up ∷ []) ++ rest in
           let longer : list ≡ choices ++ (up ∷ rest) = append_assoc choices (up ∷ []) rest in
-          let before : Rounds b.system b.truths b.base list = subst (λ (a : FixedCells). Rounds a.system a.truths a.base list) taken.grown rounds in
-          let within = subst (λ (one : Choices). IsWithin b (by_choices false b.base b.truths one)) (sym longer) (left.sound (up ∷ rest) (subst (λ (one : Choices). Rounds b.system b.truths b.base one) longer before)) in
+          let before : IsRoundingList b.system b.truths b.base list = subst (λ (a : FixedCells). IsRoundingList a.system a.truths a.base list) taken.grown rounds in
+          let within = subst (λ (one : Choices). IsWithin b (by_choices false b.base b.truths one)) (sym longer) (left.sound (up ∷ rest) (subst (λ (one : Choices). IsRoundingList b.system b.truths b.base one) longer before)) in
           subst (λ (xs : List ℤ). (number_left false after c ≤ℤ number_at xs c) × (number_at xs c ≤ℤ number_left true after c)) (sym (same false list))
           (elim (at_cell c) as (λ _. (number_left false after c ≤ℤ number_at (by_choices false b.base b.truths list) c) × (number_at (by_choices false b.base b.truths list) c ≤ℤ number_left true after c)) [
             | inl here ↦
@@ -201,7 +201,7 @@ left_forced b after choices left forced =
       inside = λ c. let inside = left.inside c in let narrower = forced.narrower c in (omega (arith, ints, inside.0, narrower.0, same false choices c), omega (arith, ints, inside.1, narrower.1, same true choices c));
       sound = λ rest rounds.
           let list : Choices = choices ++ rest in
-          let before : Rounds b.system b.truths b.base list = subst (λ (a : FixedCells). Rounds a.system a.truths a.base list) forced.grown rounds in
+          let before : IsRoundingList b.system b.truths b.base list = subst (λ (a : FixedCells). IsRoundingList a.system a.truths a.base list) forced.grown rounds in
           let within = forced.keeps (by_choices false b.base b.truths list) before.rounding (left.sound rest before) in
           subst (λ (a : FixedCells). IsWithin after (by_choices false a.base a.truths list)) (sym forced.grown) within;
     }

@@ -19,7 +19,7 @@ use Rattle.rounding.specs.Neighbours.{is_multiple}
 use Rattle.rounding.specs.Choices.{unrounded_cells}
 use Rattle.rounding.specs.Tasks.{IsTruth}
 use Rattle.rounding.specs.Arcs.{IsBalanced}
-use Rattle.rounding.specs.Rings.{IsBeside, AreBeside, KeepMultiples, IsTurn, room, gone}
+use Rattle.rounding.specs.Rings.{IsBeside, AreBeside, KeepMultiples, IsTurn, room, numbers_after_turns}
 use Rattle.rounding.specs.Circuits.{IsMove, AreMoves, IsWalk, step_at, room_of, turns_of}
 use Rattle.rounding.proofs.Adjacency.{left_within}
 use Rattle.rounding.proofs.FormLemmas.{Changed}
@@ -156,7 +156,7 @@ pub record HasGone (truths : List ℤ) (base : ℤ) (before after : List ℤ) (s
   pub fewer : length (unrounded_cells base 0 after) < length (unrounded_cells base 0 before)
 
 pub goes : (truths : List ℤ) (base by : ℤ) (before after : List ℤ) (steps : List Step) (place : ℕ) → AreBeside truths base before → AreMoves base before steps → place < length steps → All (λ (s : Step). room_of base before (step_at steps place) ≤ℤ room_of base before s) steps
-    → by ≡ room_of base before (step_at steps place) → length after ≡ length before → ((c : ℕ) → number_at after c ≡ gone by (number_at before) (coefficient (turns_of steps)) c) → HasGone truths base before after steps
+    → by ≡ room_of base before (step_at steps place) → length after ≡ length before → ((c : ℕ) → number_at after c ≡ numbers_after_turns by (number_at before) (coefficient (turns_of steps)) c) → HasGone truths base before after steps
 goes truths base by before after steps place are moves inside least is each gone_is =
     let one : Step = step_at steps place in
     let own = at_place (IsMove base before) steps place inside moves.each in
@@ -180,14 +180,14 @@ goes truths base by before after steps place are moves inside least is each gone
       fewer = fewer_from base 0 before after one.cell each keeps own.inside own.partly becomes;
     }
 
-pub goes_balanced : (arcs : List Arc) (points point : ℕ) (by : ℤ) (before after : List ℤ) (steps : List Step) → IsWalk arcs point steps point → IsBalanced arcs points (number_at before) → ((c : ℕ) → number_at after c ≡ gone by (number_at before) (coefficient (turns_of steps)) c) → IsBalanced arcs points (number_at after)
+pub goes_balanced : (arcs : List Arc) (points point : ℕ) (by : ℤ) (before after : List ℤ) (steps : List Step) → IsWalk arcs point steps point → IsBalanced arcs points (number_at before) → ((c : ℕ) → number_at after c ≡ numbers_after_turns by (number_at before) (coefficient (turns_of steps)) c) → IsBalanced arcs points (number_at after)
 goes_balanced arcs points point by before after steps walk balanced is =
-    balanced_same arcs points (gone by (number_at before) (coefficient (turns_of steps))) (number_at after) is
+    balanced_same arcs points (numbers_after_turns by (number_at before) (coefficient (turns_of steps))) (number_at after) is
     (gone_balanced arcs points by (number_at before) (coefficient (turns_of steps)) balanced (circuit_balanced arcs points point steps walk))
 
 -- ---- the loop over the steps
 
-pub none_gone : (by : ℤ) (numbers : List ℤ) (c : ℕ) → number_at numbers c ≡ gone by (number_at numbers) (coefficient (turns_of [])) c
+pub none_gone : (by : ℤ) (numbers : List ℤ) (c : ℕ) → number_at numbers c ≡ numbers_after_turns by (number_at numbers) (coefficient (turns_of [])) c
 none_gone by numbers c = let none : by *ℤ pos 0 ≡ pos 0 = *ℤ_comm by (pos 0) ∙ omega (arith, ints) in omega (arith, ints, none)
 
 one_further : (by number turned turn : ℤ) (b : Bool) → (number +ℤ by *ℤ turned) +ℤ (if b then by *ℤ turn else pos 0) ≡ number +ℤ by *ℤ (turned +ℤ (if b then turn else pos 0))
@@ -195,7 +195,7 @@ one_further by number turned turn true = omega (arith, ints, distrib by turned t
 one_further by number turned turn false = let none : by *ℤ pos 0 ≡ pos 0 = *ℤ_comm by (pos 0) ∙ omega (arith, ints) in omega (arith, ints, distrib by turned (pos 0), none)
 
 pub gone_more : (by : ℤ) (before now : List ℤ) (steps : List Step) (k : ℕ) (to : ℤ) → k < length steps → (step_at steps k).cell < length now → to ≡ number_at now (step_at steps k).cell +ℤ by *ℤ (step_at steps k).turn
-    → ((c : ℕ) → number_at now c ≡ gone by (number_at before) (coefficient (turns_of (take k steps))) c) → (c : ℕ) → number_at (set now (step_at steps k).cell to) c ≡ gone by (number_at before) (coefficient (turns_of (take (k + 1) steps))) c
+    → ((c : ℕ) → number_at now c ≡ numbers_after_turns by (number_at before) (coefficient (turns_of (take k steps))) c) → (c : ℕ) → number_at (set now (step_at steps k).cell to) c ≡ numbers_after_turns by (number_at before) (coefficient (turns_of (take (k + 1) steps))) c
 gone_more by before now steps k to inside below is gone_is c =
     let step : Step = step_at steps k in
     let changed : Changed step.cell (by *ℤ step.turn) (number_at now) (number_at (set now step.cell to)) = changed_by_set now step.cell to (by *ℤ step.turn) below (omega (arith, ints, is)) in
@@ -204,8 +204,8 @@ gone_more by before now steps k to inside below is gone_is c =
     ∙ one_further by (number_at before c) (coefficient (turns_of (take k steps)) c) step.turn (step.cell == c)
     ∙ ap (λ (z : ℤ). number_at before c +ℤ by *ℤ z) (sym (turns_push (take k steps) step c) ∙ ap (λ (ss : List Step). coefficient (turns_of ss) c) (sym (take_more steps k (record { cell = 0; turn = pos 0; start = 0; end = 0 }) inside)))
 
-pub gone_whole : (by : ℤ) (before now : List ℤ) (steps : List Step) (k : ℕ) → length steps ≤ k → ((c : ℕ) → number_at now c ≡ gone by (number_at before) (coefficient (turns_of (take k steps))) c) → (c : ℕ) → number_at now c ≡ gone by (number_at before) (coefficient (turns_of steps)) c
-gone_whole by before now steps k past gone_is c = gone_is c ∙ ap (λ (ss : List Step). gone by (number_at before) (coefficient (turns_of ss)) c) (take_all k steps past)
+pub gone_whole : (by : ℤ) (before now : List ℤ) (steps : List Step) (k : ℕ) → length steps ≤ k → ((c : ℕ) → number_at now c ≡ numbers_after_turns by (number_at before) (coefficient (turns_of (take k steps))) c) → (c : ℕ) → number_at now c ≡ numbers_after_turns by (number_at before) (coefficient (turns_of steps)) c
+gone_whole by before now steps k past gone_is c = gone_is c ∙ ap (λ (ss : List Step). numbers_after_turns by (number_at before) (coefficient (turns_of ss)) c) (take_all k steps past)
 
 -- so much, up or down
 pub moved_within : (by turn : ℤ) → (turn ≡ pos 1) ⊎ (turn ≡ negsuc 0) → pos 0 ≤ℤ by → by ≤ℤ pos (10 ^ 22) → (neg_ℤ (pos (10 ^ 22)) ≤ℤ (by *ℤ turn)) × ((by *ℤ turn) ≤ℤ pos (10 ^ 22))

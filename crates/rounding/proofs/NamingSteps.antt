@@ -9,7 +9,7 @@ use Rattle.std.proofs.lemmas.Option.{same_Some, slice_get_within}
 use Rattle.sdc_base.specs.declared.relation.Relation.{Relation}
 use Rattle.sdc_base.specs.declared.system.System.{System}
 use Rattle.sdc_base.specs.Forms.{count_of}
-use Rattle.rounding.specs.Namings.{Lacks, Ascends, IsNamingOf, IsNaming, AreNoted, IsNotedMore, IsNotedWhole}
+use Rattle.rounding.specs.Namings.{IsNotIn, Ascends, IsNamingOf, IsNaming, AreNoted, IsNotedMore, IsNotedWhole}
 use Rattle.rounding.proofs.Counting.{counted_other}
 use Rattle.rounding.proofs.SumSteps.{get_or_any}
 
@@ -23,7 +23,7 @@ pub read_list : (lists : List (List ℕ)) (k : ℕ) (one : List ℕ) → k < len
 read_list lists k one inside is = is ∙ get_or_any lists k one [] inside
 
 -- a list is put in the place of one with fewer numbers
-pub noted_set : (number : ℕ) (naming : List (List ℕ)) (cell : ℕ) (before after : List ℕ) → cell < length naming → before ≡ get_or naming cell [] → AreNoted (number + 1) naming → Ascends (number + 1) after → ((other : ℕ) → Lacks after other → Lacks before other) → IsNotedMore number naming (set naming cell after)
+pub noted_set : (number : ℕ) (naming : List (List ℕ)) (cell : ℕ) (before after : List ℕ) → cell < length naming → before ≡ get_or naming cell [] → AreNoted (number + 1) naming → Ascends (number + 1) after → ((other : ℕ) → IsNotIn after other → IsNotIn before other) → IsNotedMore number naming (set naming cell after)
 noted_set number naming cell before after inside is noted ascends stays = record {
   each = length-set naming cell after;
   ascends = λ c.
@@ -36,19 +36,19 @@ noted_set number naming cell before after inside is noted ascends stays = record
             subst (λ (xs : List ℕ). Ascends (number + 1) xs) (sym (get_or-set_other naming cell c after [] apart)) (noted c)
       ] refl;
   stays = λ c other lacks.
-      elim (c == cell) as (λ b. (c == cell) ≡ b → Lacks (get_or naming c []) other) [
+      elim (c == cell) as (λ b. (c == cell) ≡ b → IsNotIn (get_or naming c []) other) [
         | true ↦ λ test.
             let same : c ≡ cell = (Decides-eqb c cell).0 test in
-            let here : Lacks after other = subst (λ (xs : List ℕ). Lacks xs other) (ap (λ (i : ℕ). get_or (set naming cell after) i []) same ∙ get_or-set_same naming cell after [] inside) lacks in
-            subst (λ (xs : List ℕ). Lacks xs other) (is ∙ ap (λ (i : ℕ). get_or naming i []) (sym same)) (stays other here)
+            let here : IsNotIn after other = subst (λ (xs : List ℕ). IsNotIn xs other) (ap (λ (i : ℕ). get_or (set naming cell after) i []) same ∙ get_or-set_same naming cell after [] inside) lacks in
+            subst (λ (xs : List ℕ). IsNotIn xs other) (is ∙ ap (λ (i : ℕ). get_or naming i []) (sym same)) (stays other here)
         | false ↦ λ test.
             let apart : c ≢ cell = grind (arith, nat_tests, test) in
-            subst (λ (xs : List ℕ). Lacks xs other) (get_or-set_other naming cell c after [] apart) lacks
+            subst (λ (xs : List ℕ). IsNotIn xs other) (get_or-set_other naming cell c after [] apart) lacks
       ] refl;
 }
 
-pub noted_here : (number : ℕ) (naming : List (List ℕ)) (cell : ℕ) (after : List ℕ) → cell < length naming → (Lacks after number → ⊥) → Lacks (get_or (set naming cell after) cell []) number → ⊥
-noted_here number naming cell after inside here lacks = here (subst (λ (xs : List ℕ). Lacks xs number) (get_or-set_same naming cell after [] inside) lacks)
+pub noted_here : (number : ℕ) (naming : List (List ℕ)) (cell : ℕ) (after : List ℕ) → cell < length naming → (IsNotIn after number → ⊥) → IsNotIn (get_or (set naming cell after) cell []) number → ⊥
+noted_here number naming cell after inside here lacks = here (subst (λ (xs : List ℕ). IsNotIn xs number) (get_or-set_same naming cell after [] inside) lacks)
 
 pub noted_then : (number : ℕ) (first second third : List (List ℕ)) → IsNotedMore number first second → IsNotedMore number second third → IsNotedMore number first third
 noted_then number first second third one two = record {
@@ -68,16 +68,16 @@ none_counted cell (part ∷ parts) apart =
     count_none part parts test = rw test refl
 
 -- a relation whose number is noted at its total and its parts counts no other cell
-pub whole_noted : (number : ℕ) (r : Relation) (parts : List ℕ) (naming : List (List ℕ)) (k : ℕ) → parts ≡ r.parts → length parts ≤ k → (Lacks (get_or naming r.total []) number → ⊥) → ((j : ℕ) → j < k → Lacks (get_or naming (get_or r.parts j 0) []) number → ⊥) → IsNotedWhole number r naming
+pub whole_noted : (number : ℕ) (r : Relation) (parts : List ℕ) (naming : List (List ℕ)) (k : ℕ) → parts ≡ r.parts → length parts ≤ k → (IsNotIn (get_or naming r.total []) number → ⊥) → ((j : ℕ) → j < k → IsNotIn (get_or naming (get_or r.parts j 0) []) number → ⊥) → IsNotedWhole number r naming
 whole_noted number r parts naming k same past total each cell lacks =
-    let not_total : r.total ≡ cell → ⊥ = λ is. total (subst (λ (c : ℕ). Lacks (get_or naming c []) number) (sym is) lacks) in
+    let not_total : r.total ≡ cell → ⊥ = λ is. total (subst (λ (c : ℕ). IsNotIn (get_or naming c []) number) (sym is) lacks) in
     let long = ap (λ (ps : List ℕ). length ps) same in
-    let apart : (j : ℕ) → j < length r.parts → get_or r.parts j 0 ≢ cell = λ j below is. each j (omega (arith, long)) (subst (λ (c : ℕ). Lacks (get_or naming c []) number) (sym is) lacks) in
+    let apart : (j : ℕ) → j < length r.parts → get_or r.parts j 0 ≢ cell = λ j below is. each j (omega (arith, long)) (subst (λ (c : ℕ). IsNotIn (get_or naming c []) number) (sym is) lacks) in
     counted_other r cell 0 not_total (none_counted cell r.parts apart) ∙ omega (arith, ints)
 
 -- what is known of all relations so far
 abbrev pub AreNotedWhole : List Relation → ℕ → List (List ℕ) → Type 0
-AreNotedWhole relations passed naming = (cell n : ℕ) (r : Relation) → n < passed → slice_get relations n ≡ Some r → Lacks (get_or naming cell []) n → count_of r cell ≡ pos 0
+AreNotedWhole relations passed naming = (cell n : ℕ) (r : Relation) → n < passed → slice_get relations n ≡ Some r → IsNotIn (get_or naming cell []) n → count_of r cell ≡ pos 0
 
 pub one_more_noted : (relations : List Relation) (number : ℕ) (item : Relation) (before after : List (List ℕ)) → slice_get relations number ≡ Some item → AreNotedWhole relations number before → IsNotedMore number before after → IsNotedWhole number item after → AreNotedWhole relations (number + 1) after
 one_more_noted relations number item before after found are more whole cell n r below there lacks =
@@ -86,7 +86,7 @@ one_more_noted relations number item before after found are more whole cell n r 
       | inr not_less ↦
           let same : n ≡ number = omega arith in
           let one_item : item ≡ r = same_Some item r (sym found ∙ ap (λ (j : ℕ). slice_get relations j) (sym same) ∙ there) in
-          subst (λ (q : Relation). count_of q cell ≡ pos 0) one_item (whole cell (subst (λ (j : ℕ). Lacks (get_or after cell []) j) same lacks))
+          subst (λ (q : Relation). count_of q cell ≡ pos 0) one_item (whole cell (subst (λ (j : ℕ). IsNotIn (get_or after cell []) j) same lacks))
     ]
 
 ascends_below : (one other : ℕ) (numbers : List ℕ) → one ≤ other → Ascends one numbers → Ascends other numbers

@@ -9,8 +9,8 @@ use Rattle.sdc_base.specs.declared.system.System.{System}
 use Rattle.sdc_base.specs.Systems.{Numbers, form, NamesCells, HoldOn}
 use Rattle.sdc_base.specs.Roundings.{number_at, IsRounding}
 use Rattle.rounding.specs.Choices.{Choices, by_choices}
-use Rattle.rounding.specs.Extremes.{extreme, spans_none, is_open}
-use Rattle.rounding.specs.Searches.{lists_of, unrounded_count, Rounds}
+use Rattle.rounding.specs.Extremes.{extreme_of_form, spans_none, is_open}
+use Rattle.rounding.specs.Searches.{lists_of, unrounded_count, IsRoundingList}
 use Rattle.rounding.specs.Tasks.{IsProper}
 use Rattle.rounding.proofs.FormLemmas.{Between, least_is, greatest_is, extreme_same}
 use Rattle.rounding.proofs.Choosing.{length-by_choices, whole_leaves_one}
@@ -36,7 +36,7 @@ each_spans n lower upper numbers (r ∷ relations) between named hold =
     let low = least_is n r lower upper numbers here between in
     let high = greatest_is n r lower upper numbers here between in
     All-cons (λ r. spans_none lower upper r ≡ true) r relations
-    (spans (extreme lower upper r) (extreme upper lower r) (omega (arith, ints, low, holds)) (omega (arith, ints, high, holds)))
+    (spans (extreme_of_form lower upper r) (extreme_of_form upper lower r) (omega (arith, ints, low, holds)) (omega (arith, ints, high, holds)))
     (each_spans n lower upper numbers relations between (All-tail (NamesCells n) r relations named) (All-tail (λ r. form numbers r ≡ pos 0) r relations hold))
 
 -- a list that choices with relations that hold extend is open
@@ -48,7 +48,7 @@ extended_is_open system truths base list rest positive hold =
     (each_spans system.cells lower upper (number_at (by_choices false base truths (list ++ rest))) system.relations (λ c. longer_lies false base truths list rest positive c) system.named hold)
 
 -- the choices of a whole open list are a rounding
-pub open_whole_rounds : (system : System) (truths : List ℤ) (base : ℤ) (list : Choices) → IsProper system truths base → length list ≡ unrounded_count truths base → is_open system truths base list ≡ true → Rounds system truths base list
+pub open_whole_rounds : (system : System) (truths : List ℤ) (base : ℤ) (list : Choices) → IsProper system truths base → length list ≡ unrounded_count truths base → is_open system truths base list ≡ true → IsRoundingList system truths base list
 open_whole_rounds system truths base list proper whole is =
     let values : List ℤ = by_choices false base truths list in
     let one : by_choices true base truths list ≡ values = whole_leaves_one base 0 truths list (omega (arith, whole)) in
@@ -59,17 +59,17 @@ open_whole_rounds system truths base list proper whole is =
       rounding = record {
         each = length-by_choices false base truths list ∙ proper.each;
         adjacent = λ cell below. by_choices_adjacent false base truths list proper.from_one proper.within cell (omega (arith, proper.each));
-        hold = All-weaker (λ r. spans_none (number_at values) (number_at values) r ≡ true) (λ r. form (number_at values) r ≡ pos 0) (λ r spans. sym (extreme_same r (number_at values)) ∙ span_is_none (extreme (number_at values) (number_at values) r) spans) system.relations each;
+        hold = All-weaker (λ r. spans_none (number_at values) (number_at values) r ≡ true) (λ r. form (number_at values) r ≡ pos 0) (λ r spans. sym (extreme_same r (number_at values)) ∙ span_is_none (extreme_of_form (number_at values) (number_at values) r) spans) system.relations each;
       };
     }
 
 -- where no list of the search is a rounding, there is none
-pub none_left : (system : System) (truths : List ℤ) (base : ℤ) → IsProper system truths base → All (λ list. Rounds system truths base list → ⊥) (lists_of system truths base) → (values : List ℤ) → IsRounding system truths base values → ⊥
+pub none_left : (system : System) (truths : List ℤ) (base : ℤ) → IsProper system truths base → All (λ list. IsRoundingList system truths base list → ⊥) (lists_of system truths base) → (values : List ℤ) → IsRounding system truths base values → ⊥
 none_left system truths base proper none values rounding =
     let found = adjacent_are_made base 0 truths values proper.from_one proper.within (rounding.each ∙ sym proper.each) (λ k below. rounding.adjacent k (omega (arith, proper.each))) in
     let list : Choices = found.0 in
     let made : by_choices false base truths list ≡ values = found.1.made in
-    let P : Choices → Type 0 = λ list. Rounds system truths base list → ⊥ in
+    let P : Choices → Type 0 = λ list. IsRoundingList system truths base list → ⊥ in
     let hold : HoldOn (number_at (by_choices false base truths list)) system.relations = subst (λ (numbers : List ℤ). HoldOn (number_at numbers) system.relations) (sym made) rounding.hold in
     each_reached P (is_open system truths base) (unrounded_count truths base) [] list found.1.whole
     (λ first last is. extended_is_open system truths base first last proper.from_one (subst (λ (whole : Choices). HoldOn (number_at (by_choices false base truths whole)) system.relations) is hold))

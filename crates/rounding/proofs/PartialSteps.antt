@@ -11,7 +11,7 @@ use Rattle.rounding.specs.Neighbours.{is_multiple}
 use Rattle.rounding.specs.Choices.{Choices, unrounded_cells, by_choices}
 use Rattle.rounding.specs.Namings.{IsNaming}
 use Rattle.rounding.specs.Tasks.{IsProper}
-use Rattle.rounding.specs.Fixes.{Fix, by_fixes, FixedCells, number_left, NoneWithin, can_hold, AllCanHold, IsForced, IsTaken, HoldFrom, Untouched}
+use Rattle.rounding.specs.Fixes.{Fix, by_fixes, FixedCells, number_left, NoneWithin, can_hold, AllCanHold, IsForced, IsTaken, HoldFrom, FixesNone}
 use Rattle.rounding.specs.PartialLists.{Step, choices_of, AreLeft, fixed_before, IsPartial}
 use Rattle.rounding.proofs.LeftSteps.{next_cell, next_inside, next_off, left_none, left_taken, left_forced}
 use Rattle.rounding.proofs.FixSteps.{truths_between}
@@ -128,7 +128,7 @@ taken_ready b mid cell up mark mark_is hold taken n r there untouched =
     let more : drop mark mid.fixes ≡ taken.more = (λ i. drop (mark_is i) (taken.grown i).fixes) ∙ drop-append_seam b.fixes taken.more in
     let found : slice_get b.system.relations n ≡ Some r = ap (λ (a : FixedCells). slice_get a.system.relations n) (sym taken.grown) ∙ there in
     subst (λ (a : FixedCells). can_hold a r ≡ true) (sym taken.grown)
-    (untouched_holds b taken.more r (named_at b.system.cells b.system.relations n r b.system.named found) (subst (λ (fs : List Fix). Untouched r fs) more untouched) (hold n r found))
+    (untouched_holds b taken.more r (named_at b.system.cells b.system.relations n r b.system.named found) (subst (λ (fs : List Fix). FixesNone r fs) more untouched) (hold n r found))
 
 pub taken_from : (b mid : FixedCells) (cell : ℕ) (up : Bool) (mark : ℕ) → mark ≡ length b.fixes → IsTaken cell up b mid → mark ≤ length mid.fixes
 taken_from b mid cell up mark mark_is taken = omega (arith, mark_is, ap (λ (a : FixedCells). length a.fixes) taken.grown, length-append b.fixes taken.more)

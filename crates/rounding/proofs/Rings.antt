@@ -6,7 +6,7 @@ use Rattle.std.proofs.lemmas.Int.{ints, quot-rem}
 use Rattle.std.proofs.lemmas.Bool.Decides.{Decides-int_eq}
 use Rattle.sdc_base.proofs.WholeNumbers.{distrib, minus_times}
 use Rattle.sdc_base.specs.Roundings.{IsMultiple, IsAdjacent}
-use Rattle.rounding.specs.Neighbours.{is_multiple, down, neighbour}
+use Rattle.rounding.specs.Neighbours.{is_multiple, multiple_down, neighbour}
 use Rattle.rounding.specs.Rings.{IsBeside, IsTurn, room}
 use Rattle.rounding.proofs.Adjacency.{left_within, none_or_one, neighbour_is_multiple, no_rest, some_rest, down_is, multiple_is_adjacent}
 
@@ -25,21 +25,21 @@ is_multiple_from base number positive from (times, is) =
     ])
 
 -- a number beside its truth that is no multiple lies above the multiple below the truth by what is left of it
-rest_is : (base truth number : ℤ) → pos 1 ≤ℤ base → pos 0 ≤ℤ truth → pos 0 ≤ℤ number → IsBeside base truth number → is_multiple base number ≡ false → int_rem number base ≡ number -ℤ down base truth
+rest_is : (base truth number : ℤ) → pos 1 ≤ℤ base → pos 0 ≤ℤ truth → pos 0 ≤ℤ number → IsBeside base truth number → is_multiple base number ≡ false → int_rem number base ≡ number -ℤ multiple_down base truth
 rest_is base truth number positive from from' beside not =
     let within = left_within base number positive from' in
     let some = some_rest base number positive from' not in
     let d : ℤ = int_div number base -ℤ int_div truth base in
-    let apart : base *ℤ d ≡ (number -ℤ int_rem number base) -ℤ down base truth =
+    let apart : base *ℤ d ≡ (number -ℤ int_rem number base) -ℤ multiple_down base truth =
     distrib base (int_div number base) (neg_ℤ (int_div truth base)) ∙ omega (arith, ints, *ℤ_comm base (neg_ℤ (int_div truth base)), minus_times (int_div truth base) base, *ℤ_comm base (int_div number base), quot-rem number base, down_is base truth) in
     let low = beside.low in
     let high = beside.high in
-    elim (none_or_one base d positive (omega (arith, ints, apart, low, within.1)) (omega (arith, ints, apart, high, within.0))) as (λ _. int_rem number base ≡ number -ℤ down base truth) [
+    elim (none_or_one base d positive (omega (arith, ints, apart, low, within.1)) (omega (arith, ints, apart, high, within.0))) as (λ _. int_rem number base ≡ number -ℤ multiple_down base truth) [
       | inl none ↦ (let zero_times : base *ℤ d ≡ pos 0 = ap (λ z. base *ℤ z) none ∙ *ℤ_comm base (pos 0) ∙ omega (arith, ints) in omega (arith, ints, apart, zero_times))
       | inr one ↦ absurd (let whole : base *ℤ d ≡ base = ap (λ z. base *ℤ z) one ∙ *ℤ_comm base (pos 1) ∙ omega (arith, ints) in omega (arith, ints, apart, whole, high, some))
     ]
 
-pub down_from : (base truth : ℤ) → pos 1 ≤ℤ base → pos 0 ≤ℤ truth → pos 0 ≤ℤ down base truth
+pub down_from : (base truth : ℤ) → pos 1 ≤ℤ base → pos 0 ≤ℤ truth → pos 0 ≤ℤ multiple_down base truth
 down_from (pos b) (pos t) positive from = omega (arith, ints)
 down_from (negsuc b) truth positive from = absurd (omega (arith, ints))
 down_from (pos b) (negsuc t) positive from = absurd (omega (arith, ints))

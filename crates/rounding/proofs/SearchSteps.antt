@@ -4,7 +4,7 @@ use Rattle.sdc_base.specs.Roundings.{number_at, IsRounding}
 use Rattle.rounding.specs.Neighbours.{is_multiple}
 use Rattle.rounding.specs.Choices.{Choices}
 use Rattle.rounding.specs.Extremes.{is_open}
-use Rattle.rounding.specs.Searches.{Rounds, Stops, HasSeen, NoneExtends, unrounded_count}
+use Rattle.rounding.specs.Searches.{IsRoundingList, Stops, HasSeen, NoneExtends, unrounded_count}
 use Rattle.rounding.specs.Tasks.{IsProper}
 use Rattle.rounding.specs.Fixes.{by_fixes, FixedCells, allows}
 use Rattle.rounding.specs.PartialLists.{Step, choices_of, IsPartial, IsSameTask, LeadsTo, ahead_of, after_of}
@@ -29,15 +29,15 @@ found_values first b naming cells steps viable kept same is whole =
     (subst (λ (values : List ℤ). IsRounding b.system b.truths b.base values) (sym (whole_left b (choices_of steps) kept.proper kept.left count)) rounds.rounding)
 
 -- a list that isn't whole, or isn't viable, is no rounding
-pub not_whole : (b : FixedCells) (naming : List (List ℕ)) (cells : List ℕ) (steps : List Step) (viable : Bool) → IsPartial b naming cells steps viable → (length steps ≡ length cells → ⊥) → Rounds b.system b.truths b.base (choices_of steps) → ⊥
+pub not_whole : (b : FixedCells) (naming : List (List ℕ)) (cells : List ℕ) (steps : List Step) (viable : Bool) → IsPartial b naming cells steps viable → (length steps ≡ length cells → ⊥) → IsRoundingList b.system b.truths b.base (choices_of steps) → ⊥
 not_whole b naming cells steps viable kept partly rounds = partly (omega (arith, rounds.whole, length-choices_of steps, ap (λ (ns : List ℕ). length ns) kept.unrounded))
 
-pub not_viable : (b : FixedCells) (naming : List (List ℕ)) (cells : List ℕ) (steps : List Step) (viable : Bool) → IsPartial b naming cells steps viable → viable ≡ false → Rounds b.system b.truths b.base (choices_of steps) → ⊥
-not_viable b naming cells steps viable kept is rounds = none_extends b (choices_of steps) kept.left (kept.none is) [] (subst (λ (list : Choices). Rounds b.system b.truths b.base list) (sym (append-nil (choices_of steps))) rounds)
+pub not_viable : (b : FixedCells) (naming : List (List ℕ)) (cells : List ℕ) (steps : List Step) (viable : Bool) → IsPartial b naming cells steps viable → viable ≡ false → IsRoundingList b.system b.truths b.base (choices_of steps) → ⊥
+not_viable b naming cells steps viable kept is rounds = none_extends b (choices_of steps) kept.left (kept.none is) [] (subst (λ (list : Choices). IsRoundingList b.system b.truths b.base list) (sym (append-nil (choices_of steps))) rounds)
 
-pub stops_here : (first b : FixedCells) (list : Choices) (seen nodes n : ℕ) → IsSameTask first b → (Rounds b.system b.truths b.base list → ⊥) → HasSeen first.system first.truths first.base seen (ahead_of first list) → seen + 1 ≡ nodes → nodes ≡ n → (n ≡ nodes) × Stops first.system first.truths first.base n
+pub stops_here : (first b : FixedCells) (list : Choices) (seen nodes n : ℕ) → IsSameTask first b → (IsRoundingList b.system b.truths b.base list → ⊥) → HasSeen first.system first.truths first.base seen (ahead_of first list) → seen + 1 ≡ nodes → nodes ≡ n → (n ≡ nodes) × Stops first.system first.truths first.base n
 stops_here first b list seen nodes n same not has is at_nodes =
-    (sym at_nodes, subst (λ (k : ℕ). Stops first.system first.truths first.base k) (is ∙ at_nodes) (looked_stops first.system first.truths first.base seen list (λ rounds. not (subst (λ (a : FixedCells). Rounds a.system a.truths a.base list) (sym same) rounds)) has))
+    (sym at_nodes, subst (λ (k : ℕ). Stops first.system first.truths first.base k) (is ∙ at_nodes) (looked_stops first.system first.truths first.base seen list (λ rounds. not (subst (λ (a : FixedCells). IsRoundingList a.system a.truths a.base list) (sym same) rounds)) has))
 
 -- on to one more choice
 pub leads_on : (b : FixedCells) (naming : List (List ℕ)) (cells : List ℕ) (steps steps' : List Step) (viable down up : Bool) (cell : ℕ) → IsPartial b naming cells steps viable → viable ≡ true → IsNext b naming steps cell → down ≡ allows b cell false → up ≡ not down → choices_of steps' ≡ choices_of steps ++ up ∷ [] → LeadsTo b (choices_of steps) (ahead_of b (choices_of steps'))

@@ -7,7 +7,7 @@ use Rattle.sdc_base.specs.Roundings.{IsRounding}
 use Rattle.rounding.specs.Choices.{Choices}
 use Rattle.rounding.specs.Extremes.{is_open}
 use Rattle.rounding.specs.Tasks.{IsProper}
-use Rattle.rounding.specs.Searches.{lists_from, lists_of, after_in, ahead_in, unrounded_count, Rounds, Stops, HasSeen, NoneExtends}
+use Rattle.rounding.specs.Searches.{lists_from, lists_of, after_in, ahead_in, unrounded_count, IsRoundingList, Stops, HasSeen, NoneExtends}
 use Rattle.rounding.proofs.SearchLemmas.{lists_few, ahead_open, after_up, after_down}
 use Rattle.rounding.proofs.Opening.{none_left}
 
@@ -20,7 +20,7 @@ nothing_seen system truths base =
       front = [];
       whole = ap (λ (k : ℕ). lists_from (is_open system truths base) k []) whole ∙ sym (append-nil (lists_from (is_open system truths base) (cells - 0) []));
       many = omega arith;
-      none = All-nil (λ list. Rounds system truths base list → ⊥);
+      none = All-nil (λ list. IsRoundingList system truths base list → ⊥);
     }
 
 all_both : {X : Type 0} (P : X → Type 0) (xs ys : List X) → All P xs → All P ys → All P (xs ++ ys)
@@ -28,12 +28,12 @@ all_both {X} P [] ys first second = second
 all_both {X} P (x ∷ xs) ys first second = All-cons P x (xs ++ ys) (All-head P x xs first) (all_both P xs ys (All-tail P x xs first) second)
 
 -- further lists are behind, none of them a rounding, and so many of them are counted
-pub pass : (system : System) (truths : List ℤ) (base : ℤ) (seen more : ℕ) (part rest lists : List Choices) → HasSeen system truths base seen lists → lists ≡ part ++ rest → All (λ list. Rounds system truths base list → ⊥) part → more ≤ length part → HasSeen system truths base (seen + more) rest
+pub pass : (system : System) (truths : List ℤ) (base : ℤ) (seen more : ℕ) (part rest lists : List Choices) → HasSeen system truths base seen lists → lists ≡ part ++ rest → All (λ list. IsRoundingList system truths base list → ⊥) part → more ≤ length part → HasSeen system truths base (seen + more) rest
 pass system truths base seen more part rest lists has is none few = record {
   front = has.front ++ part;
   whole = has.whole ∙ ap (λ (xs : List Choices). has.front ++ xs) is ∙ sym (append_assoc has.front part rest);
   many = omega (arith, has.many, few, length-append has.front part);
-  none = all_both (λ list. Rounds system truths base list → ⊥) has.front part has.none none;
+  none = all_both (λ list. IsRoundingList system truths base list → ⊥) has.front part has.none none;
 }
 
 all_taken : {X : Type 0} (P : X → Type 0) (n : ℕ) (xs : List X) → All P xs → All P (take n xs)
@@ -44,7 +44,7 @@ all_taken {X} P (suc n) (x ∷ xs) all = All-cons P x (take n xs) (All-head P x 
 -- so a search that stops here has its cause
 pub seen_stops : (system : System) (truths : List ℤ) (base : ℤ) (seen : ℕ) (lists : List Choices) → HasSeen system truths base seen lists → Stops system truths base seen
 seen_stops system truths base seen lists has =
-    let P : Choices → Type 0 = λ list. Rounds system truths base list → ⊥ in
+    let P : Choices → Type 0 = λ list. IsRoundingList system truths base list → ⊥ in
     let all : lists_of system truths base ≡ has.front ++ lists = has.whole in
     record {
       many = omega (arith, ap (λ (xs : List Choices). length xs) all, length-append has.front lists, has.many);
@@ -73,7 +73,7 @@ pub left_out : (system : System) (truths : List ℤ) (base : ℤ) (seen more : �
 left_out system truths base seen more list none few has =
     let part : List Choices = lists_from (is_open system truths base) (unrounded_count truths base - length list) list in
     pass system truths base seen more part (after_in system truths base list) (ahead_in system truths base list) has refl
-    (each_extends (λ one. Rounds system truths base one → ⊥) (is_open system truths base) (unrounded_count truths base - length list) list none)
+    (each_extends (λ one. IsRoundingList system truths base one → ⊥) (is_open system truths base) (unrounded_count truths base - length list) list none)
     (omega (arith, few, from_list (is_open system truths base) (unrounded_count truths base - length list) list))
 
 plus_none : (system : System) (truths : List ℤ) (base : ℤ) (seen : ℕ) (lists : List Choices) → HasSeen system truths base (seen + 0) lists → HasSeen system truths base seen lists
@@ -83,7 +83,7 @@ plus_none system truths base seen lists has = let same : seen + 0 ≡ seen = ome
 pub on_down : (system : System) (truths : List ℤ) (base : ℤ) (seen : ℕ) (list : Choices) → is_open system truths base list ≡ true → length list < unrounded_count truths base → HasSeen system truths base seen (ahead_in system truths base list) → HasSeen system truths base (seen + 1) (ahead_in system truths base (list ++ false ∷ []))
 on_down system truths base seen list opens short has =
     pass system truths base seen 1 (list ∷ []) (ahead_in system truths base (list ++ false ∷ [])) (ahead_in system truths base list) has (ahead_open (is_open system truths base) (unrounded_count truths base) list short opens)
-    (All-cons (λ one. Rounds system truths base one → ⊥) list [] (λ rounds. omega (arith, rounds.whole, short)) (All-nil (λ one. Rounds system truths base one → ⊥))) (omega arith)
+    (All-cons (λ one. IsRoundingList system truths base one → ⊥) list [] (λ rounds. omega (arith, rounds.whole, short)) (All-nil (λ one. IsRoundingList system truths base one → ⊥))) (omega arith)
 
 -- or to the one with up, where no rounding extends the other
 pub on_up : (system : System) (truths : List ℤ) (base : ℤ) (seen : ℕ) (list : Choices) → is_open system truths base list ≡ true → length list < unrounded_count truths base → NoneExtends system truths base (list ++ false ∷ []) → HasSeen system truths base seen (ahead_in system truths base list) → HasSeen system truths base (seen + 1) (ahead_in system truths base (list ++ true ∷ []))
@@ -107,13 +107,13 @@ back_past system truths base seen list none has =
     (plus_none system truths base seen (after_in system truths base (list ++ true ∷ [])) (left_out system truths base seen 0 (list ++ true ∷ []) none (omega arith) ahead))
 
 -- one list is looked at
-pub looked_stops : (system : System) (truths : List ℤ) (base : ℤ) (seen : ℕ) (list : Choices) → (Rounds system truths base list → ⊥) → HasSeen system truths base seen (ahead_in system truths base list) → Stops system truths base (seen + 1)
+pub looked_stops : (system : System) (truths : List ℤ) (base : ℤ) (seen : ℕ) (list : Choices) → (IsRoundingList system truths base list → ⊥) → HasSeen system truths base seen (ahead_in system truths base list) → Stops system truths base (seen + 1)
 looked_stops system truths base seen list not has =
     let whole = first_of (is_open system truths base) (unrounded_count truths base - length list) list in
     let lists : List Choices = whole.0 ++ after_in system truths base list in
     seen_stops system truths base (seen + 1) lists
     (pass system truths base seen 1 (list ∷ []) lists (ahead_in system truths base list) has (ap (λ (xs : List Choices). xs ++ after_in system truths base list) whole.1)
-    (All-cons (λ one. Rounds system truths base one → ⊥) list [] not (All-nil (λ one. Rounds system truths base one → ⊥))) (omega arith))
+    (All-cons (λ one. IsRoundingList system truths base one → ⊥) list [] not (All-nil (λ one. IsRoundingList system truths base one → ⊥))) (omega arith))
   where
     first_of : (opens : Choices → Bool) (left : ℕ) (list : Choices) → (later : List Choices) × (lists_from opens left list ≡ list ∷ later)
     first_of opens zero list = ([], refl)
@@ -124,7 +124,7 @@ looked_stops system truths base seen list not has =
 -- where nothing is ahead, there is no rounding
 pub none_ahead : (system : System) (truths : List ℤ) (base : ℤ) (seen : ℕ) → IsProper system truths base → HasSeen system truths base seen [] → (values : List ℤ) → IsRounding system truths base values → ⊥
 none_ahead system truths base seen proper has values rounding =
-    none_left system truths base proper (subst (λ (lists : List Choices). All (λ list. Rounds system truths base list → ⊥) lists) (sym (has.whole ∙ append-nil has.front)) has.none) values rounding
+    none_left system truths base proper (subst (λ (lists : List Choices). All (λ list. IsRoundingList system truths base list → ⊥) lists) (sym (has.whole ∙ append-nil has.front)) has.none) values rounding
 
 -- a search has fewer lists than twice 2 to the number of its cells
 pub stops_below : (system : System) (truths : List ℤ) (base : ℤ) (nodes : ℕ) → 2 ^ (unrounded_count truths base + 1) ≤ nodes → Stops system truths base nodes → ⊥

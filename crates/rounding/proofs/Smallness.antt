@@ -11,7 +11,7 @@ use Rattle.sdc_base.specs.Systems.{Numbers, form, HoldOn}
 use Rattle.sdc_base.specs.Roundings.{number_at}
 use Rattle.rounding.specs.Choices.{Choices, by_choices}
 use Rattle.sdc_base.specs.Forms.{count_of}
-use Rattle.rounding.specs.Extremes.{extreme_numbers, extreme}
+use Rattle.rounding.specs.Extremes.{extreme_numbers, extreme_of_form}
 use Rattle.rounding.specs.Tasks.{IsTruth}
 use Rattle.rounding.specs.Sums.{IsNear, AreExtremes, AreSmall}
 use Rattle.rounding.proofs.Nearness.{form_near}
@@ -34,7 +34,7 @@ choices_near side base truths choices positive most all c =
     let no_truth : number_at truths c ≡ pos 0 = get_or_past truths c (pos 0) past in
     record { low = omega (arith, ints, none, no_truth); high = omega (arith, ints, none, no_truth) })
 
-extreme_small : (one other t : Numbers) (r : Relation) → ((c : ℕ) → IsNear (10 ^ 22) (one c) (t c)) → ((c : ℕ) → IsNear (10 ^ 22) (other c) (t c)) → form t r ≡ pos 0 → (neg_ℤ (pos (2 ^ 120)) ≤ℤ extreme one other r) × (extreme one other r ≤ℤ pos (2 ^ 120))
+extreme_small : (one other t : Numbers) (r : Relation) → ((c : ℕ) → IsNear (10 ^ 22) (one c) (t c)) → ((c : ℕ) → IsNear (10 ^ 22) (other c) (t c)) → form t r ≡ pos 0 → (neg_ℤ (pos (2 ^ 120)) ≤ℤ extreme_of_form one other r) × (extreme_of_form one other r ≤ℤ pos (2 ^ 120))
 extreme_small one other t r first second holds =
     let near = form_near (10 ^ 22) (extreme_numbers r one other) t r (λ c. mixed_near (10 ^ 22) r one other t c (first c) (second c)) in
     let few : 1 + length r.parts ≤ 2 ^ 32 = omega (arith, r.few) in

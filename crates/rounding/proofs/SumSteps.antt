@@ -14,9 +14,9 @@ use Rattle.sdc_base.specs.Systems.{Numbers, NamesCells}
 use Rattle.sdc_base.proofs.WholeNumbers.{times_up, times_down}
 use Rattle.sdc_base.specs.Roundings.{number_at}
 use Rattle.sdc_base.specs.Forms.{count_of}
-use Rattle.rounding.specs.Extremes.{extreme, change}
+use Rattle.rounding.specs.Extremes.{extreme_of_form, change}
 use Rattle.rounding.specs.Sums.{AreExtremes}
-use Rattle.rounding.specs.Namings.{Lacks, IsNamingOf}
+use Rattle.rounding.specs.Namings.{IsNotIn, IsNamingOf}
 use Rattle.rounding.proofs.FormLemmas.{Changed, extreme_changed}
 
 -- ---- one product
@@ -50,19 +50,19 @@ product_within t b low high modest =
 -- ---- the sums of the first relations that name a cell have moved
 
 -- a number is in a list, or isn't
-pub find_number : (numbers : List ℕ) (n : ℕ) → ((j : ℕ) × ((j < length numbers) × (get_or numbers j 0 ≡ n))) ⊎ Lacks numbers n
+pub find_number : (numbers : List ℕ) (n : ℕ) → ((j : ℕ) × ((j < length numbers) × (get_or numbers j 0 ≡ n))) ⊎ IsNotIn numbers n
 find_number [] n = inr (λ place below. absurd (omega arith))
 find_number (x ∷ numbers) n =
-    elim (x == n) as (λ b. (x == n) ≡ b → ((j : ℕ) × ((j < suc (length numbers)) × (get_or (x ∷ numbers) j 0 ≡ n))) ⊎ Lacks (x ∷ numbers) n) [
+    elim (x == n) as (λ b. (x == n) ≡ b → ((j : ℕ) × ((j < suc (length numbers)) × (get_or (x ∷ numbers) j 0 ≡ n))) ⊎ IsNotIn (x ∷ numbers) n) [
       | true ↦ λ test. inl (0, (omega arith, (Decides-eqb x n).0 test))
       | false ↦ λ test. later x numbers n (grind (arith, nat_tests, test)) (find_number numbers n)
     ] refl
   where
-    lacks_more : (x : ℕ) (numbers : List ℕ) (n : ℕ) → x ≢ n → Lacks numbers n → Lacks (x ∷ numbers) n
+    lacks_more : (x : ℕ) (numbers : List ℕ) (n : ℕ) → x ≢ n → IsNotIn numbers n → IsNotIn (x ∷ numbers) n
     lacks_more x numbers n apart lacks zero below = apart
     lacks_more x numbers n apart lacks (suc place) below = lacks place (omega arith)
 
-    later : (x : ℕ) (numbers : List ℕ) (n : ℕ) → x ≢ n → ((j : ℕ) × ((j < length numbers) × (get_or numbers j 0 ≡ n))) ⊎ Lacks numbers n → ((j : ℕ) × ((j < suc (length numbers)) × (get_or (x ∷ numbers) j 0 ≡ n))) ⊎ Lacks (x ∷ numbers) n
+    later : (x : ℕ) (numbers : List ℕ) (n : ℕ) → x ≢ n → ((j : ℕ) × ((j < length numbers) × (get_or numbers j 0 ≡ n))) ⊎ IsNotIn numbers n → ((j : ℕ) × ((j < suc (length numbers)) × (get_or (x ∷ numbers) j 0 ≡ n))) ⊎ IsNotIn (x ∷ numbers) n
     later x numbers n apart (inl found) = inl (suc found.0, (omega (arith, found.1.0), found.1.1))
     later x numbers n apart (inr lacks) = inr (lacks_more x numbers n apart lacks)
 
@@ -171,19 +171,19 @@ sum_of_all f xs items k same past = ap (λ (ys : List ℕ). sum_of f ys) (take_a
 
 pub record AreFirstExtremes (one other : Numbers) (relations : List Relation) (sums : List ℤ) (passed : ℕ) : Type 0 where
   pub each : length sums ≡ passed
-  pub extremes : (n : ℕ) (r : Relation) → n < passed → slice_get relations n ≡ Some r → number_at sums n ≡ extreme one other r
+  pub extremes : (n : ℕ) (r : Relation) → n < passed → slice_get relations n ≡ Some r → number_at sums n ≡ extreme_of_form one other r
 
-pub one_more_extreme : (one other : Numbers) (relations : List Relation) (sums : List ℤ) (k : ℕ) (item : Relation) (x : ℤ) → slice_get relations k ≡ Some item → x ≡ extreme one other item → AreFirstExtremes one other relations sums k → AreFirstExtremes one other relations (sums ++ x ∷ []) (k + 1)
+pub one_more_extreme : (one other : Numbers) (relations : List Relation) (sums : List ℤ) (k : ℕ) (item : Relation) (x : ℤ) → slice_get relations k ≡ Some item → x ≡ extreme_of_form one other item → AreFirstExtremes one other relations sums k → AreFirstExtremes one other relations (sums ++ x ∷ []) (k + 1)
 one_more_extreme one other relations sums k item x found is are = record {
   each = length-append sums (x ∷ []) ∙ omega (arith, are.each);
   extremes = λ n r below there.
-      elim (cases_lt n k) as (λ _. number_at (sums ++ x ∷ []) n ≡ extreme one other r) [
+      elim (cases_lt n k) as (λ _. number_at (sums ++ x ∷ []) n ≡ extreme_of_form one other r) [
         | inl less ↦ get_or_append_left sums (x ∷ []) (pos 0) n (omega (arith, are.each)) ∙ are.extremes n r less there
         | inr not_less ↦
             let same : n ≡ k = omega arith in
             let place : n ≡ length sums = omega (arith, are.each) in
             let one_item : item ≡ r = same_Some item r (sym found ∙ ap (λ (j : ℕ). slice_get relations j) (sym same) ∙ there) in
-            ap (λ (j : ℕ). number_at (sums ++ x ∷ []) j) place ∙ last_of sums x ∙ is ∙ ap (λ (q : Relation). extreme one other q) one_item
+            ap (λ (j : ℕ). number_at (sums ++ x ∷ []) j) place ∙ last_of sums x ∙ is ∙ ap (λ (q : Relation). extreme_of_form one other q) one_item
       ];
 }
   where

@@ -9,7 +9,7 @@ use Rattle.std.proofs.lemmas.Map.Steps.{length-le_from_distinct_below}
 use Rattle.rounding.specs.declared.arcs.Arc.{Arc}
 use Rattle.rounding.specs.declared.steps.Step.{Step}
 use Rattle.rounding.specs.Arcs.{Touches, arc_at}
-use Rattle.rounding.specs.Circuits.{IsMove, AreMoves, IsAlong, Chained, start_at, GoesRound}
+use Rattle.rounding.specs.Circuits.{IsMove, AreMoves, IsAlong, IsChainOfSteps, start_at, GoesRound}
 
 abbrev pub Walked : List Arc → Step → Type 0
 Walked arcs step = (step.cell < length arcs) × IsAlong (arc_at arcs step.cell) step
@@ -19,21 +19,21 @@ Apart one other = one.cell ≢ other.cell
 
 -- ---- chains
 
-chained_push : (from to : ℕ) (steps : List Step) (step : Step) → Chained from steps to → step.start ≡ to → Chained from (steps ++ step ∷ []) step.end
+chained_push : (from to : ℕ) (steps : List Step) (step : Step) → IsChainOfSteps from steps to → step.start ≡ to → IsChainOfSteps from (steps ++ step ∷ []) step.end
 chained_push from to [] step chained is = (is ∙ sym chained, refl)
 chained_push from to (first ∷ steps) step chained is = (chained.0, chained_push first.end to steps step chained.1 is)
 
-chained_drop : (from to : ℕ) (steps : List Step) (place : ℕ) → place < length steps → Chained from steps to → Chained (start_at steps place) (drop place steps) to
+chained_drop : (from to : ℕ) (steps : List Step) (place : ℕ) → place < length steps → IsChainOfSteps from steps to → IsChainOfSteps (start_at steps place) (drop place steps) to
 chained_drop from to [] place inside chained = absurd (omega arith)
 chained_drop from to (step ∷ steps) zero inside chained = (refl, chained.1)
 chained_drop from to (step ∷ steps) (suc place) inside chained = chained_drop step.end to steps place (omega arith) chained.1
 
-first_unmet : (from to point : ℕ) (steps : List Step) → Chained from steps to → All (λ (s : Step). s.start ≢ point) steps → to ≢ point → from ≢ point
+first_unmet : (from to point : ℕ) (steps : List Step) → IsChainOfSteps from steps to → All (λ (s : Step). s.start ≢ point) steps → to ≢ point → from ≢ point
 first_unmet from to point [] chained unmet last = λ same. last (sym chained ∙ same)
 first_unmet from to point (step ∷ steps) chained unmet last = λ same. All-head (λ (s : Step). s.start ≢ point) step steps unmet (chained.0 ∙ same)
 
 -- a point from which no step starts, and at which they don't end up, is one where none ends
-ends_unmet : (from to point : ℕ) (steps : List Step) → Chained from steps to → All (λ (s : Step). s.start ≢ point) steps → to ≢ point → All (λ (s : Step). s.end ≢ point) steps
+ends_unmet : (from to point : ℕ) (steps : List Step) → IsChainOfSteps from steps to → All (λ (s : Step). s.start ≢ point) steps → to ≢ point → All (λ (s : Step). s.end ≢ point) steps
 ends_unmet from to point [] chained unmet last = All-nil (λ (s : Step). s.end ≢ point)
 ends_unmet from to point (step ∷ steps) chained unmet last =
     let rest : All (λ (s : Step). s.start ≢ point) steps = All-tail (λ (s : Step). s.start ≢ point) step steps unmet in
@@ -96,7 +96,7 @@ steps_few n steps apart below =
 -- steps to a point where the next starts, which wasn't met and whose cell isn't among them
 pub record IsOnTheWay (arcs : List Arc) (base : ℤ) (numbers : List ℤ) (from : ℕ) (steps : List Step) (step : Step) : Type 0 where
   pub along : All (Walked arcs) steps
-  pub chained : Chained from steps step.start
+  pub chained : IsChainOfSteps from steps step.start
   pub moved : AreMoves base numbers steps
   pub next_along : Walked arcs step
   pub next_moved : IsMove base numbers step
@@ -106,7 +106,7 @@ pub record IsOnTheWay (arcs : List Arc) (base : ℤ) (numbers : List ℤ) (from 
 -- the steps with the next one
 record AreWalked (arcs : List Arc) (base : ℤ) (numbers : List ℤ) (from : ℕ) (steps : List Step) (to : ℕ) : Type 0 where
   along : All (Walked arcs) steps
-  chained : Chained from steps to
+  chained : IsChainOfSteps from steps to
   moved : AreMoves base numbers steps
 
 pushed : (arcs : List Arc) (base : ℤ) (numbers : List ℤ) (from : ℕ) (steps : List Step) (step : Step) → IsOnTheWay arcs base numbers from steps step → AreWalked arcs base numbers from (steps ++ step ∷ []) step.end
@@ -142,7 +142,7 @@ goes_round arcs base numbers from steps after step place way is inside at =
     let walked : AreWalked arcs base numbers from after step.end = subst (λ (ss : List Step). AreWalked arcs base numbers from ss step.end) (sym is) (pushed arcs base numbers from steps step way) in
     record {
       place_inside = inside;
-      walked = record { along = All-drop (Walked arcs) place after walked.along; chained = subst (λ (p : ℕ). Chained (start_at after place) (drop place after) p) (sym at) (chained_drop from step.end after place inside walked.chained) };
+      walked = record { along = All-drop (Walked arcs) place after walked.along; chained = subst (λ (p : ℕ). IsChainOfSteps (start_at after place) (drop place after) p) (sym at) (chained_drop from step.end after place inside walked.chained) };
       moved = record { each = All-drop (IsMove base numbers) place after walked.moved.each; once = pairs_drop place after walked.moved.once };
     }
 
@@ -161,7 +161,7 @@ goes_on arcs base numbers from steps after step next way is unmet at other along
     let ends : All (λ (s : Step). s.end ≢ step.end) steps = ends_unmet from step.start step.end steps way.chained both.0 both.1 in
     record {
       along = walked.along;
-      chained = subst (λ (p : ℕ). Chained from after p) (sym at) walked.chained;
+      chained = subst (λ (p : ℕ). IsChainOfSteps from after p) (sym at) walked.chained;
       moved = walked.moved;
       next_along = along;
       next_moved = moved;

@@ -14,15 +14,16 @@ abbrev pub at_point : ℕ → ℕ → ℤ
 at_point point number = if point == number then pos 1 else pos 0
 
 -- what an arc brings to a point: 1 where it ends, -1 where it begins
-abbrev pub brought : Arc → ℕ → ℤ
-brought arc point = at_point arc.to point -ℤ at_point arc.from point
+abbrev pub brings_to : Arc → ℕ → ℤ
+brings_to arc point = at_point arc.to point -ℤ at_point arc.from point
 
--- The arc of a cell begins at the point that counts the cell with -1 and ends at the one that counts it with 1, the outside where no
--- relation does.
+-- The arc of a cell begins at the point that counts the cell with -1 and ends at the one that counts it with 1, the
+-- outside where no relation does.
 pub record IsArcOf (relations : List Relation) (signs : List Bool) (cell : ℕ) (arc : Arc) : Type 0 where
   pub from_point : arc.from ≤ length relations
   pub to_point : arc.to ≤ length relations
-  pub counted : (number : ℕ) → number < length relations → signed_count relations signs number cell ≡ brought arc number
+  pub counted : (number : ℕ) → number < length relations
+      → signed_count relations signs number cell ≡ brings_to arc number
 
 -- the arc of a cell in a list with one for each
 abbrev pub arc_at : List Arc → ℕ → Arc
@@ -35,7 +36,9 @@ pub record AreArcsOf (relations : List Relation) (signs : List Bool) (cells : �
 
 -- what goes out at each point comes in, where each cell's arc carries its number
 abbrev pub IsBalanced : List Arc → ℕ → Numbers → Type 0
-IsBalanced arcs points numbers = (point : ℕ) → point < points → sum_below (length arcs) (λ cell. numbers cell *ℤ brought (arc_at arcs cell) point) ≡ pos 0
+IsBalanced arcs points numbers =
+    (point : ℕ) → point < points → sum_below (length arcs) (λ cell. numbers cell *ℤ brings_to (arc_at arcs cell) point)
+    ≡ pos 0
 
 -- an arc begins or ends at a point
 abbrev pub Touches : Arc → ℕ → Type 0
@@ -47,12 +50,15 @@ cells_at touching point = slice_index_or touching point []
 
 -- for each point those of the first cells whose arcs touch it, ascending
 pub record AreTouching (arcs : List Arc) (cells : ℕ) (touching : List (List ℕ)) : Type 0 where
-  pub whole : (point cell : ℕ) → cell < cells → Touches (arc_at arcs cell) point → Contains (cells_at touching point) cell
+  pub whole : (point cell : ℕ) → cell < cells → Touches (arc_at arcs cell) point
+      → Contains (cells_at touching point) cell
   pub ascending : (point : ℕ) → IsNonDecreasing (cells_at touching point)
-  pub only : (point cell : ℕ) → Contains (cells_at touching point) cell → (cell < cells) × Touches (arc_at arcs cell) point
+  pub only : (point cell : ℕ) → Contains (cells_at touching point) cell
+      → (cell < cells) × Touches (arc_at arcs cell) point
 
 -- arcs between points, and for each point the cells whose arcs touch it
 pub record IsNetwork (arcs : List Arc) (touching : List (List ℕ)) : Type 0 where
   pub few : length arcs < 2 ^ 32
-  pub within : (cell : ℕ) → cell < length arcs → ((arc_at arcs cell).from < length touching) × ((arc_at arcs cell).to < length touching)
+  pub within : (cell : ℕ) → cell < length arcs
+      → ((arc_at arcs cell).from < length touching) × ((arc_at arcs cell).to < length touching)
   pub touched : AreTouching arcs (length arcs) touching

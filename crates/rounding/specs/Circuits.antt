@@ -22,17 +22,19 @@ pub record AreMoves (base : ℤ) (numbers : List ℤ) (steps : List Step) : Type
 
 -- a step along an arc, by which the cell's number goes up, or against it, by which it goes down
 abbrev pub IsAlong : Arc → Step → Type 0
-IsAlong arc step = ((step.turn ≡ pos 1) × (step.start ≡ arc.from) × (step.end ≡ arc.to)) ⊎ ((step.turn ≡ negsuc 0) × (step.start ≡ arc.to) × (step.end ≡ arc.from))
+IsAlong arc step =
+    ((step.turn ≡ pos 1) × (step.start ≡ arc.from) × (step.end ≡ arc.to))
+    ⊎ ((step.turn ≡ negsuc 0) × (step.start ≡ arc.to) × (step.end ≡ arc.from))
 
 -- each step starts where the one before it ends
-abbrev pub Chained : ℕ → List Step → ℕ → Type 0
-Chained from [] to = from ≡ to
-Chained from (step ∷ steps) to = (step.start ≡ from) × Chained step.end steps to
+abbrev pub IsChainOfSteps : ℕ → List Step → ℕ → Type 0
+IsChainOfSteps from [] to = from ≡ to
+IsChainOfSteps from (step ∷ steps) to = (step.start ≡ from) × IsChainOfSteps step.end steps to
 
 -- a walk along arcs from one point to another
 pub record IsWalk (arcs : List Arc) (from : ℕ) (steps : List Step) (to : ℕ) : Type 0 where
   pub along : All (λ step. (step.cell < length arcs) × IsAlong (arc_at arcs step.cell) step) steps
-  pub chained : Chained from steps to
+  pub chained : IsChainOfSteps from steps to
 
 -- the step at a place
 abbrev pub step_at : List Step → ℕ → Step

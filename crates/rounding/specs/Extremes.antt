@@ -13,8 +13,8 @@ abbrev pub extreme_numbers : Relation → Numbers → Numbers → Numbers
 extreme_numbers r one other cell = if int_lt (pos 0) (count_of r cell) then one cell else other cell
 
 -- the least of a form, from lower and upper numbers; from upper and lower ones, the greatest
-abbrev pub extreme : Numbers → Numbers → Relation → ℤ
-extreme one other r = form (extreme_numbers r one other) r
+abbrev pub extreme_of_form : Numbers → Numbers → Relation → ℤ
+extreme_of_form one other r = form (extreme_numbers r one other) r
 
 -- by how much the extreme of a form changes where a cell's number in the first list and in the other change by so much
 abbrev pub change : Relation → ℕ → ℤ → ℤ → ℤ
@@ -22,15 +22,25 @@ change r cell by_one by_other = count_of r cell *ℤ (if int_lt (pos 0) (count_o
 
 -- whether 0 lies between the least and the greatest of a form
 abbrev pub spans_none : Numbers → Numbers → Relation → Bool
-spans_none lower upper r = int_le (extreme lower upper r) (pos 0) && int_le (pos 0) (extreme upper lower r)
+spans_none lower upper r =
+    int_le (extreme_of_form lower upper r) (pos 0) && int_le (pos 0) (extreme_of_form upper lower r)
 
--- a list of choices is open: for each relation, 0 lies between the least and the greatest that its form takes over the choices left
+-- a list of choices is open: for each relation, 0 lies between the least and the greatest that its form takes over the
+-- choices left
 abbrev pub is_open : System → List ℤ → ℤ → Choices → Bool
 is_open system truths base choices =
-    list_all (spans_none (number_at (by_choices false base truths choices)) (number_at (by_choices true base truths choices))) system.relations
+    list_all (spans_none (number_at (by_choices false base truths choices))
+    (number_at (by_choices true base truths choices))) system.relations
 
--- The extremes of a form bound it on all numbers between the lower and the upper ones. Each is what it takes on some of them.
+-- The extremes of a form bound it on all numbers between the lower and the upper ones. Each is what it takes on some of
+-- them.
 pub record ExtremesAreBounds : Type 0 where
-  pub least : (cells : ℕ) (r : Relation) (lower upper numbers : Numbers) → NamesCells cells r → ((cell : ℕ) → (lower cell ≤ℤ numbers cell) × (numbers cell ≤ℤ upper cell)) → extreme lower upper r ≤ℤ form numbers r
-  pub greatest : (cells : ℕ) (r : Relation) (lower upper numbers : Numbers) → NamesCells cells r → ((cell : ℕ) → (lower cell ≤ℤ numbers cell) × (numbers cell ≤ℤ upper cell)) → form numbers r ≤ℤ extreme upper lower r
-  pub taken : (r : Relation) (one other : Numbers) → (numbers : Numbers) × ((cell : ℕ) → (numbers cell ≡ one cell) ⊎ (numbers cell ≡ other cell)) × (form numbers r ≡ extreme one other r)
+  pub least : (cells : ℕ) (r : Relation) (lower upper numbers : Numbers) → NamesCells cells r
+      → ((cell : ℕ) → (lower cell ≤ℤ numbers cell) × (numbers cell ≤ℤ upper cell))
+      → extreme_of_form lower upper r ≤ℤ form numbers r
+  pub greatest : (cells : ℕ) (r : Relation) (lower upper numbers : Numbers) → NamesCells cells r
+      → ((cell : ℕ) → (lower cell ≤ℤ numbers cell) × (numbers cell ≤ℤ upper cell))
+      → form numbers r ≤ℤ extreme_of_form upper lower r
+  pub taken : (r : Relation) (one other : Numbers)
+      → (numbers : Numbers) × ((cell : ℕ) → (numbers cell ≡ one cell) ⊎ (numbers cell ≡ other cell))
+      × (form numbers r ≡ extreme_of_form one other r)

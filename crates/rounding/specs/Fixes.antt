@@ -20,8 +20,8 @@ Fix = ℕ × Bool
 abbrev pub with_fix : ℤ → List ℤ → List ℤ → Fix → List ℤ
 with_fix base truths numbers fix = slice_set numbers fix.0 (neighbour base (number_at truths fix.0) fix.1)
 
--- A number for each cell: a fixed cell where it is fixed, a multiple as it is, and the others to one side. So these are the least
--- numbers that are left, for down, and the greatest, for up.
+-- A number for each cell: a fixed cell where it is fixed, a multiple as it is, and the others to one side. So these are
+-- the least numbers that are left, for down, and the greatest, for up.
 abbrev pub by_fixes : Bool → ℤ → List ℤ → List Fix → List ℤ
 by_fixes side base truths fixes = fold (with_fix base truths) (by_choices side base truths []) fixes
 
@@ -49,11 +49,15 @@ pub record IsFree (b : FixedCells) (cell : ℕ) : Type 0 where
 
 -- whether the numbers left allow a cell this neighbour of its truth
 abbrev pub allows : FixedCells → ℕ → Bool → Bool
-allows b cell up = if up then int_lt (number_at b.truths cell) (number_left true b cell) else int_lt (number_left false b cell) (number_at b.truths cell)
+allows b cell up =
+    if up then int_lt (number_at b.truths cell) (number_left true b cell)
+    else int_lt (number_left false b cell) (number_at b.truths cell)
 
 -- values between the numbers left
 abbrev pub IsWithin : FixedCells → List ℤ → Type 0
-IsWithin b values = (cell : ℕ) → (number_left false b cell ≤ℤ number_at values cell) × (number_at values cell ≤ℤ number_left true b cell)
+IsWithin b values =
+    (cell : ℕ) → (number_left false b cell ≤ℤ number_at values cell)
+    × (number_at values cell ≤ℤ number_left true b cell)
 
 -- no rounding is between the numbers left
 abbrev pub NoneWithin : FixedCells → Type 0
@@ -68,28 +72,35 @@ abbrev pub AllCanHold : FixedCells → Type 0
 AllCanHold b = (number : ℕ) (r : Relation) → slice_get b.system.relations number ≡ Some r → can_hold b r ≡ true
 
 -- none of these fixes is of a cell that a relation counts
-abbrev pub Untouched : Relation → List Fix → Type 0
-Untouched r fixes = All (λ fix. count_of r fix.0 ≡ pos 0) fixes
+abbrev pub FixesNone : Relation → List Fix → Type 0
+FixesNone r fixes = All (λ fix. count_of r fix.0 ≡ pos 0) fixes
 
 -- each relation can hold whose cells weren't fixed from this place on
 abbrev pub HoldFrom : ℕ → FixedCells → Type 0
-HoldFrom from b = (number : ℕ) (r : Relation) → slice_get b.system.relations number ≡ Some r → Untouched r (drop from b.fixes) → can_hold b r ≡ true
+HoldFrom from b =
+    (number : ℕ) (r : Relation) → slice_get b.system.relations number ≡ Some r → FixesNone r (drop from b.fixes)
+    → can_hold b r ≡ true
 
 -- the same of the relations with these numbers
 abbrev pub HoldOf : List ℕ → ℕ → FixedCells → Type 0
-HoldOf numbers from b = (place : ℕ) (r : Relation) → place < length numbers → slice_get b.system.relations (slice_index numbers place) ≡ Some r → Untouched r (drop from b.fixes) → can_hold b r ≡ true
+HoldOf numbers from b =
+    (place : ℕ) (r : Relation) → place < length numbers
+    → slice_get b.system.relations (slice_index numbers place) ≡ Some r → FixesNone r (drop from b.fixes)
+    → can_hold b r ≡ true
 
 -- a relation's form counts a cell above 0 times, or below
-abbrev pub Counts : Bool → Relation → ℕ → Type 0
-Counts true r cell = pos 1 ≤ℤ count_of r cell
-Counts false r cell = count_of r cell ≤ℤ negsuc 0
+abbrev pub CountsCell : Bool → Relation → ℕ → Type 0
+CountsCell true r cell = pos 1 ≤ℤ count_of r cell
+CountsCell false r cell = count_of r cell ≤ℤ negsuc 0
 
 -- Further cells are fixed: the numbers left lie between those before, and no rounding is lost.
 pub record IsForced (before after : FixedCells) : Type 0 where
   pub more : List Fix
   pub grown : after ≡ record before { fixes = before.fixes ++ more }
-  pub narrower : (cell : ℕ) → (number_left false before cell ≤ℤ number_left false after cell) × (number_left true after cell ≤ℤ number_left true before cell)
-  pub keeps : (values : List ℤ) → IsRounding before.system before.truths before.base values → IsWithin before values → IsWithin after values
+  pub narrower : (cell : ℕ) → (number_left false before cell ≤ℤ number_left false after cell)
+      × (number_left true after cell ≤ℤ number_left true before cell)
+  pub keeps : (values : List ℤ) → IsRounding before.system before.truths before.base values → IsWithin before values
+      → IsWithin after values
 
 -- a cell is fixed at a neighbour of its truth, and only that cell, or it was there already
 pub record IsTaken (cell : ℕ) (up : Bool) (before after : FixedCells) : Type 0 where
@@ -99,7 +110,8 @@ pub record IsTaken (cell : ℕ) (up : Bool) (before after : FixedCells) : Type 0
   pub here : (side : Bool) → number_left side after cell ≡ neighbour before.base (number_at before.truths cell) up
 
 -- what a change of one cell's number needs: the relations that name it, a number near, and small sums
-pub record IsSettable (relations : List Relation) (named : List ℕ) (numbers : List ℤ) (cell : ℕ) (to : ℤ) (first second : List ℤ) : Type 0 where
+pub record IsSettable (relations : List Relation) (named : List ℕ) (numbers : List ℤ) (cell : ℕ) (to : ℤ)
+    (first second : List ℤ) : Type 0 where
   pub naming : IsNamingOf relations cell named
   pub names : All (NamesCells (length numbers)) relations
   pub inside : cell < length numbers
@@ -113,7 +125,8 @@ pub record IsSettable (relations : List Relation) (named : List ℕ) (numbers : 
 -- The numbers and sums that are kept beside fixed cells. Each cell was free before it was fixed.
 pub record IsKept (b : FixedCells) (lows highs mins maxs : List ℤ) : Type 0 where
   pub proper : IsProper b.system b.truths b.base
-  pub free : (place : ℕ) (fix : Fix) → slice_get b.fixes place ≡ Some fix → IsFree (record b { fixes = take place b.fixes }) fix.0
+  pub free : (place : ℕ) (fix : Fix) → slice_get b.fixes place ≡ Some fix
+      → IsFree (record b { fixes = take place b.fixes }) fix.0
   pub lower : lows ≡ by_fixes false b.base b.truths b.fixes
   pub upper : highs ≡ by_fixes true b.base b.truths b.fixes
   pub least : AreExtremes lows highs b.system.relations mins

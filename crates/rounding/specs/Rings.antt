@@ -3,13 +3,13 @@ use Rattle.std.specs.Prelude.{◌≡◌, ◌⊎◌, ℕ, ◌<◌, ◌^◌, true,
 use Rattle.std.specs.Int.RustNames.{int_rem}
 use Rattle.sdc_base.specs.Systems.{Numbers}
 use Rattle.sdc_base.specs.Roundings.{number_at}
-use Rattle.rounding.specs.Neighbours.{is_multiple, down}
+use Rattle.rounding.specs.Neighbours.{is_multiple, multiple_down}
 use Rattle.rounding.specs.Tasks.{IsTruth}
 
 -- a number on its way from a truth to one of its neighbours; a truth that is a multiple stays
 pub record IsBeside (base truth number : ℤ) : Type 0 where
-  pub low : down base truth ≤ℤ number
-  pub high : number ≤ℤ (down base truth +ℤ base)
+  pub low : multiple_down base truth ≤ℤ number
+  pub high : number ≤ℤ (multiple_down base truth +ℤ base)
   pub stays : is_multiple base truth ≡ true → number ≡ truth
 
 -- a number for each truth, beside it
@@ -22,7 +22,9 @@ pub record AreBeside (truths : List ℤ) (base : ℤ) (numbers : List ℤ) : Typ
 
 -- what was a multiple is one
 abbrev pub KeepMultiples : ℤ → List ℤ → List ℤ → Type 0
-KeepMultiples base before after = (cell : ℕ) → cell < length before → is_multiple base (number_at before cell) ≡ true → is_multiple base (number_at after cell) ≡ true
+KeepMultiples base before after =
+    (cell : ℕ) → cell < length before → is_multiple base (number_at before cell) ≡ true
+    → is_multiple base (number_at after cell) ≡ true
 
 -- the cells below this one are multiples
 abbrev pub AreWholeBelow : ℤ → List ℤ → ℕ → Type 0
@@ -37,5 +39,5 @@ abbrev pub room : ℤ → ℤ → ℤ → ℤ
 room base number turn = if int_lt (pos 0) turn then base -ℤ int_rem number base else int_rem number base
 
 -- the numbers after so much of the turns
-abbrev pub gone : ℤ → Numbers → Numbers → Numbers
-gone by numbers turns cell = numbers cell +ℤ by *ℤ turns cell
+abbrev pub numbers_after_turns : ℤ → Numbers → Numbers → Numbers
+numbers_after_turns by numbers turns cell = numbers cell +ℤ by *ℤ turns cell

@@ -1,6 +1,6 @@
 ghost use Rattle.std.specs.Prelude.{◌≡◌, ◌≢◌, ◌<◌, ◌^◌, length, pos, negsuc, IfOk};
-ghost use Rattle.sdc_base.specs.Forms.{count_of as times_in_form};
-ghost use Rattle.sdc_base.specs.Signs.{AreSigns, signed};
+ghost use Rattle.sdc_base.specs.Forms as spec;
+ghost use Rattle.sdc_base.specs.Signs.{AreSigns, number_with_sign};
 ghost use Rattle.rounding.specs.Namings.{IsNamingOf};
 ghost use Rattle.rounding.specs.Arcs.{IsArcOf, AreArcsOf};
 
@@ -47,21 +47,21 @@ fn arc_of(relations: &[Relation], signs: &[bool], named: &[u32], cell: u32) -> A
     };
     'named: for number in named {
         let count = signed_count(&relations[*number as usize], signs[*number as usize], cell);
-        arc = joined(arc, *number, count);
+        arc = arc_with(arc, *number, count);
     }
     arc
 }
 
 // How often a relation's form, taken with its sign, counts a cell.
 fn signed_count(relation: &Relation, sign: bool, cell: u32) -> i128
-    ensures { result ≡ signed sign (times_in_form relation.now cell) }
+    ensures { result ≡ number_with_sign sign (spec.count_of relation.now cell) }
 {
     let count = count_of(relation, cell);
     if sign { count } else { -count }
 }
 
 // An arc, joined to a relation that counts the cell so often.
-fn joined(arc: Arc, number: u32, count: i128) -> Arc
+fn arc_with(arc: Arc, number: u32, count: i128) -> Arc
     ensures up { count ≡ pos 1 → (result.from ≡ arc.from) × (result.to ≡ number) }
     ensures down { count ≡ negsuc 0 → (result.from ≡ number) × (result.to ≡ arc.to) }
     ensures same { count ≢ pos 1 → count ≢ negsuc 0 → (result.from ≡ arc.from) × (result.to ≡ arc.to) }

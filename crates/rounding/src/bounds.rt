@@ -1,8 +1,9 @@
 ghost use Rattle.std.specs.Prelude.{◌≡◌, ◌<◌, ◌≤◌, ◌-◌, ◌^◌, ◌++◌, ◌∷◌, [], ◌≤ℤ◌, neg_ℤ, pos, false, true, length, take, slice_get, Some, IsTrue, IfOk, OnOk, OnErr};
 ghost use Rattle.sdc_base.specs.declared.relation.Relation.{Relation as AnyRelation};
 ghost use Rattle.sdc_base.specs.Roundings.{number_at};
-ghost use Rattle.rounding.specs.Extremes.{extreme};
-ghost use Rattle.rounding.specs.Fixes.{Fix, by_fixes, fixed_cells, number_left, IsFree, IsTaken, allows as allows_side};
+ghost use Rattle.rounding.specs.Extremes.{extreme_of_form};
+ghost use Rattle.rounding.specs.Fixes.{Fix, by_fixes, fixed_cells, number_left, IsFree, IsTaken};
+ghost use Rattle.rounding.specs.Fixes as spec;
 ghost use Rattle.rounding.specs.Namings.{IsNaming, IsNamingOf};
 ghost use Rattle.rounding.specs.Neighbours.{is_multiple};
 ghost use Rattle.rounding.specs.Tasks.{IsProper};
@@ -12,8 +13,8 @@ use sdc_base::{Items, Memory, Relation, System};
 use std::alloc::Global;
 use std::marker::Model;
 
-// Cells that are fixed one after another, with the least and the greatest number that this leaves each cell, and the least and the
-// greatest that it leaves each relation's form.
+// Cells that are fixed one after another, with the least and the greatest number that this leaves each cell, and the
+// least and the greatest that it leaves each relation's form.
 #[derive(Drop)]
 pub(crate) struct Bounds<'a> {
     system: &'a System,
@@ -92,7 +93,8 @@ impl<'a> Bounds<'a> {
     // The least that a relation's form takes on the numbers left.
     pub fn least_of(&self, number: u32) -> i128
         requires { number < length self.now.system.relations }
-        ensures value { (r : AnyRelation) → slice_get self.now.system.relations number ≡ Some r → result ≡ extreme (number_left false self.now) (number_left true self.now) r }
+        ensures value { (r : AnyRelation) → slice_get self.now.system.relations number ≡ Some r
+            → result ≡ extreme_of_form (number_left false self.now) (number_left true self.now) r }
         ensures low { neg_ℤ (pos (2 ^ 120)) ≤ℤ result }
         ensures high { result ≤ℤ pos (2 ^ 120) }
     {
@@ -102,7 +104,8 @@ impl<'a> Bounds<'a> {
     // The greatest that a relation's form takes on the numbers left.
     pub fn greatest_of(&self, number: u32) -> i128
         requires { number < length self.now.system.relations }
-        ensures value { (r : AnyRelation) → slice_get self.now.system.relations number ≡ Some r → result ≡ extreme (number_left true self.now) (number_left false self.now) r }
+        ensures value { (r : AnyRelation) → slice_get self.now.system.relations number ≡ Some r
+            → result ≡ extreme_of_form (number_left true self.now) (number_left false self.now) r }
         ensures low { neg_ℤ (pos (2 ^ 120)) ≤ℤ result }
         ensures high { result ≤ℤ pos (2 ^ 120) }
     {
@@ -121,7 +124,7 @@ impl<'a> Bounds<'a> {
     // Whether a cell that isn't a multiple can be at this neighbour of its truth.
     pub fn allows(&self, cell: u32, up: bool) -> bool
         requires { cell < self.now.system.cells }
-        ensures { result ≡ allows_side self.now cell up }
+        ensures { result ≡ spec.allows self.now cell up }
     {
         let truth = self.truths[cell as usize];
         if up {
@@ -172,7 +175,7 @@ impl<'a> Bounds<'a> {
         requires proper { IsProper self.old.system self.old.truths self.old.base }
         requires cell { cell < self.old.system.cells }
         requires unrounded { is_multiple self.old.base (number_at self.old.truths cell) ≡ false }
-        requires allowed { allows_side self.old cell up ≡ true }
+        requires allowed { spec.allows self.old cell up ≡ true }
         requires naming { IsNamingOf self.old.system.relations cell named.now }
         ensures { OnOk result (IsTaken cell up self.old self.new) }
     {

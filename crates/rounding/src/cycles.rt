@@ -1,7 +1,7 @@
 ghost use Rattle.std.specs.Prelude.{◌≡◌, ◌<◌, ℕ, true, length, IfOk, OnOk};
 ghost use Rattle.sdc_base.specs.Roundings.{IsRounding, number_at};
 ghost use Rattle.sdc_base.specs.Signs.{AreSigns};
-ghost use Rattle.rounding.specs.Neighbours.{is_multiple as is_multiple_of};
+ghost use Rattle.rounding.specs.Neighbours as spec;
 ghost use Rattle.rounding.specs.Arcs.{IsBalanced, IsNetwork};
 ghost use Rattle.rounding.specs.Rings.{AreBeside, AreWholeBelow, KeepMultiples};
 ghost use Rattle.rounding.specs.Tasks.{IsProper};
@@ -42,9 +42,11 @@ fn round_cells(
     requires each { length network.now.arcs.items ≡ length numbers.old }
     requires balanced { IsBalanced network.now.arcs.items (length network.now.touching.items) (number_at numbers.old) }
     requires beside { AreBeside task.now.truths.now task.now.base numbers.old }
-    ensures balanced { OnOk result (IsBalanced network.now.arcs.items (length network.now.touching.items) (number_at numbers.new)) }
+    ensures balanced { OnOk result (IsBalanced network.now.arcs.items (length network.now.touching.items)
+        (number_at numbers.new)) }
     ensures beside { OnOk result (AreBeside task.now.truths.now task.now.base numbers.new) }
-    ensures whole { OnOk result ((cell : ℕ) → cell < length numbers.new → is_multiple_of task.now.base (number_at numbers.new cell) ≡ true) }
+    ensures whole { OnOk result ((cell : ℕ) → cell < length numbers.new
+        → spec.is_multiple task.now.base (number_at numbers.new cell) ≡ true) }
 {
     let cells = network.arcs.as_slice().len() as u32;
     'cells: for cell in 0..cells {
@@ -67,10 +69,11 @@ fn round_cell(
     requires beside { AreBeside task.now.truths.now task.now.base numbers.old }
     requires cell { cell < length numbers.old }
     requires first { AreWholeBelow task.now.base numbers.old cell }
-    ensures balanced { OnOk result (IsBalanced network.now.arcs.items (length network.now.touching.items) (number_at numbers.new)) }
+    ensures balanced { OnOk result (IsBalanced network.now.arcs.items (length network.now.touching.items)
+        (number_at numbers.new)) }
     ensures beside { OnOk result (AreBeside task.now.truths.now task.now.base numbers.new) }
     ensures multiples { OnOk result (KeepMultiples task.now.base numbers.old numbers.new) }
-    ensures whole { OnOk result (is_multiple_of task.now.base (number_at numbers.new cell) ≡ true) }
+    ensures whole { OnOk result (spec.is_multiple task.now.base (number_at numbers.new cell) ≡ true) }
 {
     'rounds: while !is_whole(task, numbers, cell) {
         let walk = walk_from(alloc, network, task, numbers, cell)?;

@@ -1,6 +1,6 @@
 ghost use Rattle.std.specs.Prelude.{◌≡◌, ◌<◌, ◌≤◌, ◌^◌, ◌≤ℤ◌, neg_ℤ, pos, false, true, ℕ, length, slice_get, slice_index, Some, IsTrue, IfOk, OnOk};
 ghost use Rattle.sdc_base.specs.declared.relation.Relation.{Relation as AnyRelation};
-ghost use Rattle.rounding.specs.Fixes.{IsForced, NoneWithin, AllCanHold, HoldFrom, HoldOf, Counts, can_hold};
+ghost use Rattle.rounding.specs.Fixes.{IsForced, NoneWithin, AllCanHold, HoldFrom, HoldOf, CountsCell, can_hold};
 ghost use Rattle.rounding.specs.Namings.{IsNaming};
 ghost use Rattle.rounding.specs.Tasks.{IsProper};
 
@@ -42,7 +42,8 @@ fn settle_each(
 ) -> Result<bool, Memory>
     requires proper { IsProper bounds.old.system bounds.old.truths bounds.old.base }
     requires naming { IsNaming bounds.old.system naming.now }
-    requires within { (place : ℕ) → place < length numbers.now → slice_index numbers.now place < length bounds.old.system.relations }
+    requires within { (place : ℕ) → place < length numbers.now
+        → slice_index numbers.now place < length bounds.old.system.relations }
     ensures forced { IfOk result (λ _. IsForced bounds.old bounds.new) }
     ensures hold { IfOk result (λ all. IsTrue all → HoldOf numbers.now (length bounds.old.fixes) bounds.new) }
     ensures none { IfOk result (λ all. all ≡ false → NoneWithin bounds.new) }
@@ -62,7 +63,8 @@ fn settle(bounds: &mut Bounds<'_>, naming: &[Items<u32>], number: u32) -> Result
     requires naming { IsNaming bounds.old.system naming.now }
     requires number { number < length bounds.old.system.relations }
     ensures forced { IfOk result (λ _. IsForced bounds.old bounds.new) }
-    ensures hold { IfOk result (λ holds. IsTrue holds → (r : AnyRelation) → slice_get bounds.old.system.relations number ≡ Some r → can_hold bounds.old r ≡ true) }
+    ensures hold { IfOk result (λ holds. IsTrue holds → (r : AnyRelation)
+        → slice_get bounds.old.system.relations number ≡ Some r → can_hold bounds.old r ≡ true) }
     ensures none { IfOk result (λ holds. holds ≡ false → NoneWithin bounds.new) }
 {
     let least = bounds.least_of(number);
@@ -143,7 +145,8 @@ fn force(
     requires naming { IsNaming bounds.old.system naming.now }
     requires cell { cell < bounds.old.system.cells }
     requires number { number < length bounds.old.system.relations }
-    requires counted { (r : AnyRelation) → slice_get bounds.old.system.relations number ≡ Some r → Counts above r cell }
+    requires counted { (r : AnyRelation) → slice_get bounds.old.system.relations number ≡ Some r
+        → CountsCell above r cell }
     ensures { OnOk result (IsForced bounds.old bounds.new) }
 {
     if !bounds.is_free(cell) {

@@ -1,12 +1,12 @@
 ghost use Rattle.std.specs.Prelude.{◌≡◌, ◌==◌, ◌≤◌, ◌≤ℤ◌, ◌^◌, neg_ℤ, pos, length};
 ghost use Rattle.std.specs.List.{count_by};
-ghost use Rattle.sdc_base.specs.Forms.{count_of as times_in_form};
+ghost use Rattle.sdc_base.specs.Forms as spec;
 
 use sdc_base::Relation;
 
 // How often a relation's form counts a cell.
 pub(crate) fn count_of(relation: &Relation, cell: u32) -> i128
-    ensures value { result ≡ times_in_form relation.now cell }
+    ensures value { result ≡ spec.count_of relation.now cell }
     ensures low { neg_ℤ (pos (2 ^ 32)) ≤ℤ result }
     ensures high { result ≤ℤ pos 1 }
 {

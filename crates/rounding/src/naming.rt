@@ -1,5 +1,5 @@
 ghost use Rattle.std.specs.Prelude.{◌≡◌, ◌<◌, ◌+◌, ℕ, length, IfOk, OnOk, slice_set, slice_index_or, []};
-ghost use Rattle.rounding.specs.Namings.{IsNaming, AreNoted, IsNotedMore, IsNotedWhole, Lacks, Ascends};
+ghost use Rattle.rounding.specs.Namings.{IsNaming, AreNoted, IsNotedMore, IsNotedWhole, IsNotIn, Ascends};
 ghost use Rattle.sdc_base.specs.Systems.{NamesCells};
 
 use sdc_base::{Items, Memory, Relation, System};
@@ -48,7 +48,7 @@ fn note(naming: &mut Vec<Items<u32>>, cell: u32, number: u32) -> Result<(), Memo
     requires cell { cell < length naming.old.items }
     requires noted { AreNoted (number + 1) naming.old.items }
     ensures more { OnOk result (IsNotedMore number naming.old.items naming.new.items) }
-    ensures here { OnOk result (Lacks (slice_index_or naming.new.items cell []) number → ⊥) }
+    ensures here { OnOk result (IsNotIn (slice_index_or naming.new.items cell []) number → ⊥) }
 {
     add_number(&mut naming[cell as usize], number)?;
     Ok(())
@@ -58,8 +58,8 @@ fn note(naming: &mut Vec<Items<u32>>, cell: u32, number: u32) -> Result<(), Memo
 fn add_number(numbers: &mut Items<u32>, number: u32) -> Result<(), Memory>
     requires { Ascends (number + 1) numbers.old }
     ensures ascends { OnOk result (Ascends (number + 1) numbers.new) }
-    ensures stays { OnOk result ((other : ℕ) → Lacks numbers.new other → Lacks numbers.old other) }
-    ensures here { OnOk result (Lacks numbers.new number → ⊥) }
+    ensures stays { OnOk result ((other : ℕ) → IsNotIn numbers.new other → IsNotIn numbers.old other) }
+    ensures here { OnOk result (IsNotIn numbers.new number → ⊥) }
 {
     let count = numbers.as_slice().len();
     if count > 0 && numbers.as_slice()[count - 1] == number {

@@ -30,7 +30,8 @@ pub(crate) fn network_of(alloc: Global, system: &System, signs: &[bool]) -> Resu
 // For each point the cells whose arcs touch it.
 fn touching_of(alloc: Global, arcs: &[Arc], points: u32) -> Result<Vec<Items<u32>>, Memory>
     requires few { length arcs.now < 2 ^ 32 }
-    requires within { (cell : ℕ) → cell < length arcs.now → ((arc_at arcs.now cell).from < points) × ((arc_at arcs.now cell).to < points) }
+    requires within { (cell : ℕ) → cell < length arcs.now
+        → ((arc_at arcs.now cell).from < points) × ((arc_at arcs.now cell).to < points) }
     ensures each { IfOk result (λ touching. length touching.items ≡ points) }
     ensures touched { IfOk result (λ touching. AreTouching arcs.now (length arcs.now) touching.items) }
 {
@@ -46,7 +47,10 @@ fn touching_of(alloc: Global, arcs: &[Arc], points: u32) -> Result<Vec<Items<u32
 fn add_cell(touching: &mut Vec<Items<u32>>, point: u32, cell: u32) -> Result<(), Memory>
     requires point { point < length touching.old.items }
     ensures each { OnOk result (length touching.new.items ≡ length touching.old.items) }
-    ensures added { OnOk result ((other : ℕ) → cells_at touching.new.items other ≡ (if other == point then cells_at touching.old.items other ++ cell ∷ [] else cells_at touching.old.items other)) }
+    ensures added { OnOk result ((other : ℕ)
+        → cells_at touching.new.items other
+        ≡ (if other == point then cells_at touching.old.items other ++ cell ∷ []
+        else cells_at touching.old.items other)) }
 {
     touching[point as usize].push(cell)?;
     Ok(())

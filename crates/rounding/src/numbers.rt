@@ -2,10 +2,11 @@ ghost use Rattle.std.specs.Prelude.{◌≡◌, ◌<◌, ◌≤◌, ◌^◌, ◌�
 ghost use Rattle.sdc_base.specs.declared.relation.Relation.{Relation as AnyRelation};
 ghost use Rattle.sdc_base.specs.Systems.{NamesCells, HoldOn, form};
 ghost use Rattle.sdc_base.specs.Roundings.{number_at};
-ghost use Rattle.rounding.specs.Neighbours.{is_multiple as is_multiple_of, neighbour};
+ghost use Rattle.rounding.specs.Neighbours.{neighbour};
+ghost use Rattle.rounding.specs.Neighbours as neighbours_specs;
 ghost use Rattle.rounding.specs.Choices.{unrounded_cells, by_choices};
-ghost use Rattle.sdc_base.specs.Forms.{count_of as times_in_form};
-ghost use Rattle.rounding.specs.Extremes.{change, extreme_numbers, extreme};
+ghost use Rattle.sdc_base.specs.Forms as forms_specs;
+ghost use Rattle.rounding.specs.Extremes.{change, extreme_numbers, extreme_of_form};
 ghost use Rattle.rounding.specs.Tasks.{IsTruth};
 ghost use Rattle.rounding.specs.Sums.{IsNear, AreExtremes, AreSmall};
 ghost use Rattle.rounding.specs.Namings.{IsNamingOf};
@@ -62,7 +63,7 @@ fn number_to(base: i128, truth: i128, side: bool) -> i128
     requires base { pos 1 ≤ℤ base }
     requires most { base ≤ℤ pos (10 ^ 22) }
     requires truth { IsTruth truth }
-    ensures { result ≡ (if is_multiple_of base truth then truth else neighbour base truth side) }
+    ensures { result ≡ (if neighbours_specs.is_multiple base truth then truth else neighbour base truth side) }
 {
     if is_multiple(base, truth) {
         truth
@@ -73,8 +74,8 @@ fn number_to(base: i128, truth: i128, side: bool) -> i128
     }
 }
 
-// Sets the number of a cell to another near it, and the extremes of the forms that name it with it: the first ones take these
-// numbers for the cells that a form counts above 0 times, the second ones for the others.
+// Sets the number of a cell to another near it, and the extremes of the forms that name it with it: the first ones take
+// these numbers for the cells that a form counts above 0 times, the second ones for the others.
 pub(crate) fn set_number(
     relations: &[Relation],
     named: &[u32],
@@ -86,8 +87,10 @@ pub(crate) fn set_number(
 )
     requires { IsSettable relations.now named.now numbers.old.items cell to first.old.items second.old.items }
     ensures numbers { numbers.new.items ≡ slice_set numbers.old.items cell to }
-    ensures first { (other : List ℤ) → AreExtremes numbers.old.items other relations.now first.old.items → AreExtremes numbers.new.items other relations.now first.new.items }
-    ensures second { (other : List ℤ) → AreExtremes other numbers.old.items relations.now second.old.items → AreExtremes other numbers.new.items relations.now second.new.items }
+    ensures first { (other : List ℤ) → AreExtremes numbers.old.items other relations.now first.old.items
+        → AreExtremes numbers.new.items other relations.now first.new.items }
+    ensures second { (other : List ℤ) → AreExtremes other numbers.old.items relations.now second.old.items
+        → AreExtremes other numbers.new.items relations.now second.new.items }
 {
     let by = to - numbers[cell as usize];
     numbers[cell as usize] = to;
@@ -95,8 +98,8 @@ pub(crate) fn set_number(
     move_sums(relations, named, second, cell, 0, by);
 }
 
-// Moves the extremes of the forms that name a cell as its numbers move: by the first amount where a form counts it above 0 times,
-// else by the other one.
+// Moves the extremes of the forms that name a cell as its numbers move: by the first amount where a form counts it
+// above 0 times, else by the other one.
 fn move_sums(
     relations: &[Relation],
     named: &[u32],
@@ -111,7 +114,8 @@ fn move_sums(
     requires one { (neg_ℤ (pos (2 ^ 74)) ≤ℤ one) × (one ≤ℤ pos (2 ^ 74)) }
     requires other { (neg_ℤ (pos (2 ^ 74)) ≤ℤ other) × (other ≤ℤ pos (2 ^ 74)) }
     ensures each { length sums.new.items ≡ length sums.old.items }
-    ensures moved { (number : ℕ) (r : AnyRelation) → slice_get relations.now number ≡ Some r → number_at sums.new.items number ≡ number_at sums.old.items number +ℤ change r cell one other }
+    ensures moved { (number : ℕ) (r : AnyRelation) → slice_get relations.now number ≡ Some r
+        → number_at sums.new.items number ≡ number_at sums.old.items number +ℤ change r cell one other }
 {
     'named: for number in named {
         sums[*number as usize] += sum_change(&relations[*number as usize], cell, one, other);
@@ -153,15 +157,15 @@ pub(crate) fn extremes_of(
     Ok(sums)
 }
 
-// The extreme of one form. The relation holds on the truths, so this is what the form takes on how far the numbers are from
-// them, and these sums stay within 128 bits.
+// The extreme of one form. The relation holds on the truths, so this is what the form takes on how far the numbers are
+// from them, and these sums stay within 128 bits.
 fn extreme_of(relation: &Relation, truths: &[i128], one: &[i128], other: &[i128]) -> i128
     requires named { NamesCells (length truths.now) relation.now }
     requires lengths { (length one.now ≡ length truths.now) × (length other.now ≡ length truths.now) }
     requires near_one { (c : ℕ) → IsNear (10 ^ 22) (number_at one.now c) (number_at truths.now c) }
     requires near_other { (c : ℕ) → IsNear (10 ^ 22) (number_at other.now c) (number_at truths.now c) }
     requires holds { form (number_at truths.now) relation.now ≡ pos 0 }
-    ensures { result ≡ extreme (number_at one.now) (number_at other.now) relation.now }
+    ensures { result ≡ extreme_of_form (number_at one.now) (number_at other.now) relation.now }
 {
     let mut sum = distance(relation, relation.total, truths, one, other);
     'parts: for part in relation.parts.as_slice() {
@@ -176,7 +180,8 @@ fn distance(relation: &Relation, cell: u32, truths: &[i128], one: &[i128], other
     requires lengths { (length one.now ≡ length truths.now) × (length other.now ≡ length truths.now) }
     requires near_one { IsNear (10 ^ 22) (number_at one.now cell) (number_at truths.now cell) }
     requires near_other { IsNear (10 ^ 22) (number_at other.now cell) (number_at truths.now cell) }
-    ensures value { result ≡ extreme_numbers relation.now (number_at one.now) (number_at other.now) cell -ℤ number_at truths.now cell }
+    ensures value { result ≡ extreme_numbers relation.now (number_at one.now) (number_at other.now) cell -ℤ number_at
+        truths.now cell }
     ensures low { neg_ℤ (pos (10 ^ 22)) ≤ℤ result }
     ensures high { result ≤ℤ pos (10 ^ 22) }
 {

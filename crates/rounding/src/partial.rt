@@ -1,5 +1,6 @@
 ghost use Rattle.std.specs.Prelude.{◌≡◌, ◌<◌, ◌↔◌, ◌++◌, ◌∷◌, [], true, false, length, slice_index, IsTrue, IfOk, OnOk, IfNone, IfSome};
-ghost use Rattle.rounding.specs.Fixes.{by_fixes, fixed_cells, allows as allows_side};
+ghost use Rattle.rounding.specs.Fixes.{by_fixes, fixed_cells};
+ghost use Rattle.rounding.specs.Fixes as spec;
 ghost use Rattle.rounding.specs.PartialLists.{IsPartial, IsSameTask, LeadsTo, ahead_of, choices_of};
 ghost use Rattle.rounding.specs.Tasks.{IsProper};
 
@@ -10,7 +11,8 @@ use crate::numbers::cells_to_round;
 use sdc_base::{Items, Memory, System};
 use std::alloc::Global;
 
-// Choices for the first cells that aren't multiples of the base, with the numbers that they and the relations leave each cell.
+// Choices for the first cells that aren't multiples of the base, with the numbers that they and the relations leave
+// each cell.
 #[derive(Drop)]
 pub(crate) struct Partial<'a> {
     bounds: Bounds<'a>,
@@ -66,12 +68,15 @@ impl<'a> Partial<'a> {
 
     // Makes one more choice, down where the relations leave that way.
     pub fn go_on(&mut self) -> Result<(), Memory>
-        requires kept { IsPartial self.old.bounds self.old.naming.items self.old.cells.items self.old.steps.items self.old.viable }
+        requires kept { IsPartial self.old.bounds self.old.naming.items self.old.cells.items self.old.steps.items
+            self.old.viable }
         requires viable { self.old.viable ≡ true }
         requires room { length self.old.steps.items < length self.old.cells.items }
-        ensures kept { OnOk result (IsPartial self.new.bounds self.new.naming.items self.new.cells.items self.new.steps.items self.new.viable) }
+        ensures kept { OnOk result (IsPartial self.new.bounds self.new.naming.items self.new.cells.items
+            self.new.steps.items self.new.viable) }
         ensures same { OnOk result (IsSameTask self.old.bounds self.new.bounds) }
-        ensures on { OnOk result (LeadsTo self.old.bounds (choices_of self.old.steps.items) (ahead_of self.old.bounds (choices_of self.new.steps.items))) }
+        ensures on { OnOk result (LeadsTo self.old.bounds (choices_of self.old.steps.items)
+            (ahead_of self.old.bounds (choices_of self.new.steps.items))) }
     {
         let cell = self.cells[self.steps.len()];
         let down = self.bounds.allows(cell, false);
@@ -81,11 +86,15 @@ impl<'a> Partial<'a> {
 
     // Takes choices back to the last one that is down and can be up, and makes it up. False where there is none.
     pub fn go_beside(&mut self) -> Result<bool, Memory>
-        requires kept { IsPartial self.old.bounds self.old.naming.items self.old.cells.items self.old.steps.items self.old.viable }
+        requires kept { IsPartial self.old.bounds self.old.naming.items self.old.cells.items self.old.steps.items
+            self.old.viable }
         requires barred { self.old.viable ≡ false }
-        ensures kept { IfOk result (λ more. IsTrue more → IsPartial self.new.bounds self.new.naming.items self.new.cells.items self.new.steps.items self.new.viable) }
+        ensures kept { IfOk result (λ more. IsTrue more
+            → IsPartial self.new.bounds self.new.naming.items self.new.cells.items self.new.steps.items self.new.viable) }
         ensures same { IfOk result (λ more. IsTrue more → IsSameTask self.old.bounds self.new.bounds) }
-        ensures on { IfOk result (λ more. IsTrue more → LeadsTo self.old.bounds (choices_of self.old.steps.items) (ahead_of self.old.bounds (choices_of self.new.steps.items))) }
+        ensures on { IfOk result (λ more. IsTrue more
+            → LeadsTo self.old.bounds (choices_of self.old.steps.items)
+            (ahead_of self.old.bounds (choices_of self.new.steps.items))) }
         ensures end { IfOk result (λ more. more ≡ false → LeadsTo self.old.bounds (choices_of self.old.steps.items) []) }
     {
         'back: loop {
@@ -107,11 +116,14 @@ impl<'a> Partial<'a> {
 
     // Makes one more choice, and fixes what it forces.
     fn choose(&mut self, up: bool) -> Result<(), Memory>
-        requires kept { IsPartial self.old.bounds self.old.naming.items self.old.cells.items self.old.steps.items self.old.viable }
+        requires kept { IsPartial self.old.bounds self.old.naming.items self.old.cells.items self.old.steps.items
+            self.old.viable }
         requires viable { self.old.viable ≡ true }
         requires room { length self.old.steps.items < length self.old.cells.items }
-        requires allowed { allows_side self.old.bounds (slice_index self.old.cells.items (length self.old.steps.items)) up ≡ true }
-        ensures kept { OnOk result (IsPartial self.new.bounds self.new.naming.items self.new.cells.items self.new.steps.items self.new.viable) }
+        requires allowed { spec.allows self.old.bounds (slice_index self.old.cells.items (length self.old.steps.items))
+            up ≡ true }
+        ensures kept { OnOk result (IsPartial self.new.bounds self.new.naming.items self.new.cells.items
+            self.new.steps.items self.new.viable) }
         ensures same { OnOk result (IsSameTask self.old.bounds self.new.bounds) }
         ensures choices { OnOk result (choices_of self.new.steps.items ≡ choices_of self.old.steps.items ++ up ∷ []) }
     {
@@ -127,10 +139,13 @@ impl<'a> Partial<'a> {
 
     // Takes the last choice back, with all that it forced, and gives it.
     fn take_back(&mut self) -> Option<bool>
-        requires { IsPartial self.old.bounds self.old.naming.items self.old.cells.items self.old.steps.items self.old.viable }
+        requires { IsPartial self.old.bounds self.old.naming.items self.old.cells.items self.old.steps.items
+            self.old.viable }
         ensures none { IfNone result (self.old.steps.items ≡ []) }
-        ensures some { IfSome result (λ up. choices_of self.old.steps.items ≡ choices_of self.new.steps.items ++ up ∷ []) }
-        ensures kept { IfSome result (λ _. IsPartial self.new.bounds self.new.naming.items self.new.cells.items self.new.steps.items self.new.viable) }
+        ensures some { IfSome result (λ up. choices_of self.old.steps.items
+            ≡ choices_of self.new.steps.items ++ up ∷ []) }
+        ensures kept { IfSome result (λ _. IsPartial self.new.bounds self.new.naming.items self.new.cells.items
+            self.new.steps.items self.new.viable) }
         ensures viable { IfSome result (λ _. self.new.viable ≡ true) }
         ensures same { IfSome result (λ _. IsSameTask self.old.bounds self.new.bounds) }
         ensures fewer { IfSome result (λ _. length self.new.steps.items < length self.old.steps.items) }

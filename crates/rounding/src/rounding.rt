@@ -51,23 +51,24 @@ impl<'a> Rounding<'a> {
 /// units; `nodes` is how many lists of choices may be looked at where there are no signs, from 1. A truth that is a multiple of
 /// the base stays. Which of several roundings is given is free. `Memory` leaves nothing behind.
 ///
-/// Where the relations have signs, as those of a table of one variable and of two flat ones have, each cell is an arc between two
-/// points, which are the relations and one more outside. No point has just one cell that isn't a multiple, so from such a cell
-/// one can walk on over others until a point comes again. The cells on the way round go up where they are passed along their arcs
-/// and down where against, by the least amount at which one of them comes to a multiple. The relations still hold, and fewer
-/// cells are left. So there is always a rounding, no list is looked at, and `Memory` is the one refusal. Cells are rounded in
-/// ascending number, and at each point a walk goes on over the first other cell that isn't a multiple.
+/// Where the relations have signs, as those of a table of one variable and of two flat ones have, each cell is an arc
+/// between two points, which are the relations and one more outside. No point has just one cell that isn't a multiple,
+/// so from such a cell one can walk on over others until a point comes again. The cells on the way round go up where
+/// they are passed along their arcs and down where against, by the least amount at which one of them comes to a
+/// multiple. The relations still hold, and fewer cells are left. So there is always a rounding, no list is looked at,
+/// and `Memory` is the one refusal. Cells are rounded in ascending number, and at each point a walk goes on over the
+/// first other cell that isn't a multiple.
 ///
-/// Else the cells that aren't multiples, in ascending number, are tried at the multiple below and then at the one above. A list of
-/// such choices goes on as long as each relation can hold on the numbers left; what a relation forces is fixed before more is
-/// chosen, and lists that no rounding extends are left out. `NoRounding` comes only where there is none. `Nodes` comes where so
-/// many lists were looked at and none was a rounding, and never where `nodes` is at least twice 2 to the number of cells that
-/// aren't multiples.
+/// Else the cells that aren't multiples, in ascending number, are tried at the multiple below and then at the one
+/// above. A list of such choices goes on as long as each relation can hold on the numbers left; what a relation forces
+/// is fixed before more is chosen, and lists that no rounding extends are left out. `NoRounding` comes only where there
+/// is none. `Nodes` comes where so many lists were looked at and none was a rounding, and never where `nodes` is at
+/// least twice 2 to the number of cells that aren't multiples.
 ///
-/// With signs there are at most as many walks as cells that aren't multiples. A walk looks at the cells at each of its points,
-/// but for those below the cell that is being rounded, until it finds one, and at its own steps for a point that comes again. In
-/// the search each cell that is fixed or freed costs one look at each part of each relation that names it, and each relation that
-/// has come to one of its extremes one look at each of its parts.
+/// With signs there are at most as many walks as cells that aren't multiples. A walk looks at the cells at each of its
+/// points, but for those below the cell that is being rounded, until it finds one, and at its own steps for a point
+/// that comes again. In the search each cell that is fixed or freed costs one look at each part of each relation that
+/// names it, and each relation that has come to one of its extremes one look at each of its parts.
 pub fn round<'a>(
     alloc: Global,
     system: &'a System,
@@ -79,10 +80,12 @@ pub fn round<'a>(
     requires nodes { 1 ≤ nodes }
     ensures value { IfOk result (λ r. r ≡ rounded_values system.now truths.now base r.values) }
     ensures rounding { IfOk result (λ r. IsRounding system.now truths.now base r.values) }
-    ensures none { result ≡ Err RoundFault.NoRounding → (values : List ℤ) → IsRounding system.now truths.now base values → ⊥ }
+    ensures none { result ≡ Err RoundFault.NoRounding → (values : List ℤ) → IsRounding system.now truths.now base values
+        → ⊥ }
     ensures limit { (n : ℕ) → result ≡ Err (RoundFault.Nodes n) → (n ≡ nodes) × Stops system.now truths.now base n }
     ensures enough { 2 ^ (unrounded_count truths.now base + 1) ≤ nodes → (n : ℕ) → result ≢ Err (RoundFault.Nodes n) }
-    ensures signed { (signs : List Bool) → AreSigns system.now.relations signs → (fault : AnyFault) → result ≡ Err fault → fault ≡ RoundFault.Memory }
+    ensures signed { (signs : List Bool) → AreSigns system.now.relations signs → (fault : AnyFault) → result ≡ Err fault
+        → fault ≡ RoundFault.Memory }
 {
     match find_values(alloc, system, truths, base, nodes) {
         Ok(values) => Ok(Rounding {
@@ -106,9 +109,11 @@ fn find_values(
     requires proper { IsProper system.now truths.now base }
     requires nodes { 1 ≤ nodes }
     ensures rounding { IfOk result (λ values. IsRounding system.now truths.now base values) }
-    ensures none { result ≡ Err RoundFault.NoRounding → (values : List ℤ) → IsRounding system.now truths.now base values → ⊥ }
+    ensures none { result ≡ Err RoundFault.NoRounding → (values : List ℤ) → IsRounding system.now truths.now base values
+        → ⊥ }
     ensures limit { (n : ℕ) → result ≡ Err (RoundFault.Nodes n) → (n ≡ nodes) × Stops system.now truths.now base n }
-    ensures signed { (signs : List Bool) → AreSigns system.now.relations signs → (fault : AnyFault) → result ≡ Err fault → fault ≡ RoundFault.Memory }
+    ensures signed { (signs : List Bool) → AreSigns system.now.relations signs → (fault : AnyFault) → result ≡ Err fault
+        → fault ≡ RoundFault.Memory }
 {
     let Ok(found) = signs(alloc, system) else {
         return Err(RoundFault::Memory);

@@ -21,7 +21,8 @@ pub(crate) fn search_values(
     requires proper { IsProper system.now truths.now base }
     requires nodes { 1 ≤ nodes }
     ensures rounding { IfOk result (λ values. IsRounding system.now truths.now base values) }
-    ensures none { result ≡ Err RoundFault.NoRounding → (values : List ℤ) → IsRounding system.now truths.now base values → ⊥ }
+    ensures none { result ≡ Err RoundFault.NoRounding → (values : List ℤ) → IsRounding system.now truths.now base values
+        → ⊥ }
     ensures limit { (n : ℕ) → result ≡ Err (RoundFault.Nodes n) → (n ≡ nodes) × Stops system.now truths.now base n }
 {
     let Ok(mut partial) = Partial::new(alloc, system, truths, base) else {
@@ -33,15 +34,19 @@ pub(crate) fn search_values(
     }
 }
 
-// Goes through lists of choices in the order of the search, until one is a rounding, or so many have been looked at. Lists that no
-// rounding extends may be left out.
+// Goes through lists of choices in the order of the search, until one is a rounding, or so many have been looked at.
+// Lists that no rounding extends may be left out.
 fn search(partial: &mut Partial<'_>, nodes: u64) -> Result<(), RoundFault>
-    requires kept { IsPartial partial.old.bounds partial.old.naming.items partial.old.cells.items partial.old.steps.items partial.old.viable }
+    requires kept { IsPartial partial.old.bounds partial.old.naming.items partial.old.cells.items
+        partial.old.steps.items partial.old.viable }
     requires start { partial.old.steps.items ≡ [] }
     requires nodes { 1 ≤ nodes }
-    ensures found { OnOk result (IsRounding partial.old.bounds.system partial.old.bounds.truths partial.old.bounds.base (by_fixes false partial.new.bounds.base partial.new.bounds.truths partial.new.bounds.fixes)) }
-    ensures none { result ≡ Err RoundFault.NoRounding → (values : List ℤ) → IsRounding partial.old.bounds.system partial.old.bounds.truths partial.old.bounds.base values → ⊥ }
-    ensures limit { (n : ℕ) → result ≡ Err (RoundFault.Nodes n) → (n ≡ nodes) × Stops partial.old.bounds.system partial.old.bounds.truths partial.old.bounds.base n }
+    ensures found { OnOk result (IsRounding partial.old.bounds.system partial.old.bounds.truths partial.old.bounds.base
+        (by_fixes false partial.new.bounds.base partial.new.bounds.truths partial.new.bounds.fixes)) }
+    ensures none { result ≡ Err RoundFault.NoRounding → (values : List ℤ)
+        → IsRounding partial.old.bounds.system partial.old.bounds.truths partial.old.bounds.base values → ⊥ }
+    ensures limit { (n : ℕ) → result ≡ Err (RoundFault.Nodes n)
+        → (n ≡ nodes) × Stops partial.old.bounds.system partial.old.bounds.truths partial.old.bounds.base n }
 {
     let mut seen: u64 = 0;
     'lists: loop {

@@ -2,10 +2,10 @@ ghost use Rattle.std.specs.Prelude.{◌≡◌, ◌⊎◌, ◌<◌, ◌≤◌, �
 ghost use Rattle.sdc_base.specs.Forms.{coefficient};
 ghost use Rattle.sdc_base.specs.Roundings.{number_at};
 ghost use Rattle.rounding.specs.declared.arcs.Arc.{Arc as AnyArc};
-ghost use Rattle.rounding.specs.Neighbours.{is_multiple as is_multiple_of};
+ghost use Rattle.rounding.specs.Neighbours as spec;
 ghost use Rattle.rounding.specs.Choices.{unrounded_cells};
 ghost use Rattle.rounding.specs.Arcs.{IsBalanced};
-ghost use Rattle.rounding.specs.Rings.{AreBeside, KeepMultiples, gone};
+ghost use Rattle.rounding.specs.Rings.{AreBeside, KeepMultiples, numbers_after_turns};
 ghost use Rattle.rounding.specs.Circuits.{AreMoves, IsMove, IsWalk, room_of, step_at, turns_of};
 
 use crate::neighbours::{is_multiple, room};
@@ -23,7 +23,7 @@ pub(crate) struct Task<'a> {
 pub(crate) fn is_whole(task: &Task<'_>, numbers: &[i128], cell: u32) -> bool
     requires beside { AreBeside task.now.truths.now task.now.base numbers.now }
     requires cell { cell < length numbers.now }
-    ensures { result ≡ is_multiple_of task.now.base (number_at numbers.now cell) }
+    ensures { result ≡ spec.is_multiple task.now.base (number_at numbers.now cell) }
 {
     is_multiple(task.base, numbers[cell as usize])
 }
@@ -35,9 +35,11 @@ pub(crate) fn go_round(task: &Task<'_>, numbers: &mut [i128], steps: &[Step])
     requires some { 1 ≤ length steps.now }
     requires few { length steps.now ≤ 2 ^ 32 }
     ensures beside { AreBeside task.now.truths.now task.now.base numbers.new }
-    ensures balanced { (arcs : List AnyArc) (points point : ℕ) → IsWalk arcs point steps.now point → IsBalanced arcs points (number_at numbers.old) → IsBalanced arcs points (number_at numbers.new) }
+    ensures balanced { (arcs : List AnyArc) (points point : ℕ) → IsWalk arcs point steps.now point
+        → IsBalanced arcs points (number_at numbers.old) → IsBalanced arcs points (number_at numbers.new) }
     ensures multiples { KeepMultiples task.now.base numbers.old numbers.new }
-    ensures fewer { length (unrounded_cells task.now.base 0 numbers.new) < length (unrounded_cells task.now.base 0 numbers.old) }
+    ensures fewer { length (unrounded_cells task.now.base 0 numbers.new)
+        < length (unrounded_cells task.now.base 0 numbers.old) }
 {
     let tightest = tightest(task, numbers, steps);
     let by = room_for(task, numbers, steps[tightest]);
@@ -50,7 +52,8 @@ fn tightest(task: &Task<'_>, numbers: &[i128], steps: &[Step]) -> usize
     requires moves { All (IsMove task.now.base numbers.now) steps.now }
     requires some { 1 ≤ length steps.now }
     ensures place { result < length steps.now }
-    ensures least { All (λ step. room_of task.now.base numbers.now (step_at steps.now result) ≤ℤ room_of task.now.base numbers.now step) steps.now }
+    ensures least { All (λ step. room_of task.now.base numbers.now (step_at steps.now result)
+        ≤ℤ room_of task.now.base numbers.now step) steps.now }
 {
     let mut least = 0;
     'places: for place in 0..steps.len() {
@@ -65,8 +68,10 @@ fn tighter(task: &Task<'_>, numbers: &[i128], steps: &[Step], one: usize, other:
     requires moves { All (IsMove task.now.base numbers.now) steps.now }
     requires places { (one < length steps.now) × (other < length steps.now) }
     ensures inside { result < length steps.now }
-    ensures one { room_of task.now.base numbers.now (step_at steps.now result) ≤ℤ room_of task.now.base numbers.now (step_at steps.now one) }
-    ensures other { room_of task.now.base numbers.now (step_at steps.now result) ≤ℤ room_of task.now.base numbers.now (step_at steps.now other) }
+    ensures one { room_of task.now.base numbers.now (step_at steps.now result)
+        ≤ℤ room_of task.now.base numbers.now (step_at steps.now one) }
+    ensures other { room_of task.now.base numbers.now (step_at steps.now result)
+        ≤ℤ room_of task.now.base numbers.now (step_at steps.now other) }
 {
     if room_for(task, numbers, steps[other]) < room_for(task, numbers, steps[one]) {
         other
@@ -88,19 +93,22 @@ fn room_for(task: &Task<'_>, numbers: &[i128], step: Step) -> i128
 
 // Moves the cells of steps by so much, each its way.
 fn go(numbers: &mut [i128], steps: &[Step], by: i128)
-    requires each { All (λ step. (step.cell < length numbers.old) × ((step.turn ≡ pos 1) ⊎ (step.turn ≡ negsuc 0))) steps.now }
+    requires each { All (λ step. (step.cell < length numbers.old) × ((step.turn ≡ pos 1) ⊎ (step.turn ≡ negsuc 0)))
+        steps.now }
     requires few { length steps.now ≤ 2 ^ 32 }
     requires by { (pos 0 ≤ℤ by) × (by ≤ℤ pos (10 ^ 22)) }
-    requires numbers { (cell : ℕ) → (pos 0 ≤ℤ number_at numbers.old cell) × (number_at numbers.old cell ≤ℤ pos (2 ^ 100)) }
-    ensures { (cell : ℕ) → number_at numbers.new cell ≡ gone by (number_at numbers.old) (coefficient (turns_of steps.now)) cell }
+    requires numbers { (cell : ℕ) → (pos 0 ≤ℤ number_at numbers.old cell)
+        × (number_at numbers.old cell ≤ℤ pos (2 ^ 100)) }
+    ensures { (cell : ℕ) → number_at numbers.new cell
+        ≡ numbers_after_turns by (number_at numbers.old) (coefficient (turns_of steps.now)) cell }
 {
     'steps: for step in steps {
-        numbers[step.cell as usize] += moved(step.turn, by);
+        numbers[step.cell as usize] += turn_after(step.turn, by);
     }
 }
 
 // So much up or down.
-fn moved(turn: i128, by: i128) -> i128
+fn turn_after(turn: i128, by: i128) -> i128
     requires turn { (turn ≡ pos 1) ⊎ (turn ≡ negsuc 0) }
     requires by { (pos 0 ≤ℤ by) × (by ≤ℤ pos (10 ^ 22)) }
     ensures { result ≡ by *ℤ turn }

@@ -2,7 +2,7 @@ ghost use Rattle.std.specs.Prelude.{◌≡◌, ◌≢◌, ◌⊎◌, ◌<◌, �
 ghost use Rattle.std.specs.List.{Contains};
 ghost use Rattle.std.specs.List.Sorted.{IsNonDecreasing};
 ghost use Rattle.sdc_base.specs.Roundings.{number_at};
-ghost use Rattle.rounding.specs.Neighbours.{is_multiple as is_multiple_of};
+ghost use Rattle.rounding.specs.Neighbours as spec;
 ghost use Rattle.rounding.specs.Arcs.{IsBalanced, IsNetwork, arc_at};
 ghost use Rattle.rounding.specs.Rings.{AreBeside, AreWholeBelow};
 ghost use Rattle.rounding.specs.Circuits.{IsMove, IsAlong, GoesRound};
@@ -42,8 +42,9 @@ pub(crate) fn walk_from(
     requires beside { AreBeside task.now.truths.now task.now.base numbers.now }
     requires cell { cell < length numbers.now }
     requires first { AreWholeBelow task.now.base numbers.now cell }
-    requires partly { is_multiple_of task.now.base (number_at numbers.now cell) ≡ false }
-    ensures { IfOk result (λ walk. GoesRound network.now.arcs.items task.now.base numbers.now walk.steps.items walk.place) }
+    requires partly { spec.is_multiple task.now.base (number_at numbers.now cell) ≡ false }
+    ensures { IfOk result (λ walk. GoesRound network.now.arcs.items task.now.base numbers.now walk.steps.items
+        walk.place) }
 {
     let mut steps = Vec::new(alloc);
     let arc = network.arcs[cell as usize];
@@ -73,7 +74,7 @@ fn next_step(network: &Network, task: &Task<'_>, numbers: &[i128], first: u32, s
     ensures along { IsAlong (arc_at network.now.arcs.items result.cell) result }
 {
     let cells = network.touching[step.end as usize].as_slice();
-    let left = behind(cells, place_from(cells, first));
+    let left = cells_behind(cells, place_from(cells, first));
     let Some(cell) = other_cell(task, numbers, left, step.cell) else {
         // For the proof: what comes in here goes out, and multiples alone don't make up for one that is none.
         unreachable!()
@@ -85,8 +86,10 @@ fn next_step(network: &Network, task: &Task<'_>, numbers: &[i128], first: u32, s
 fn other_cell(task: &Task<'_>, numbers: &[i128], cells: &[u32], last: u32) -> Option<u32>
     requires beside { AreBeside task.now.truths.now task.now.base numbers.now }
     requires within { All (λ cell. cell < length numbers.now) cells.now }
-    ensures some { IfSome result (λ cell. Contains cells.now cell × (cell ≢ last) × (is_multiple_of task.now.base (number_at numbers.now cell) ≡ false)) }
-    ensures none { IfNone result (All (λ cell. (cell ≡ last) ⊎ (is_multiple_of task.now.base (number_at numbers.now cell) ≡ true)) cells.now) }
+    ensures some { IfSome result (λ cell. Contains cells.now cell × (cell ≢ last)
+        × (spec.is_multiple task.now.base (number_at numbers.now cell) ≡ false)) }
+    ensures none { IfNone result (All (λ cell. (cell ≡ last)
+        ⊎ (spec.is_multiple task.now.base (number_at numbers.now cell) ≡ true)) cells.now) }
 {
     'cells: for cell in cells {
         if *cell == last {
@@ -101,7 +104,7 @@ fn other_cell(task: &Task<'_>, numbers: &[i128], cells: &[u32], last: u32) -> Op
 }
 
 // The cells from a place on.
-fn behind(cells: &[u32], place: usize) -> &[u32]
+fn cells_behind(cells: &[u32], place: usize) -> &[u32]
     requires { place ≤ length cells.now }
     ensures { result.now ≡ drop place cells.now }
 {

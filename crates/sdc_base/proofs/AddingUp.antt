@@ -8,7 +8,7 @@ use Rattle.std.proofs.lemmas.List.{set-get_or}
 use Rattle.std.proofs.lemmas.List.Elements.{All-head, All-tail}
 use Rattle.sdc_base.specs.Trees.{Tree, IsCodeTree, children, is_child, is_under, met_in, parent_at}
 use Rattle.sdc_base.specs.Records.{Name, falls_in, row_falls}
-use Rattle.sdc_base.specs.Sums.{share, truth, weighted}
+use Rattle.sdc_base.specs.Sums.{share_of_record, truth, weighted_value}
 use Rattle.sdc_base.specs.declared.rows.Row.{Row}
 use Rattle.sdc_base.proofs.Walks.{count-none, met-none, parent_is_earlier}
 use Rattle.sdc_base.specs.Places.{count}
@@ -201,17 +201,17 @@ falls-set (tree ∷ trees) (above ∷ name) (code ∷ codes) (suc variable) chil
 
 -- ---- sums
 
-shift : (sum : ℤ) (rows : List Row) → fold (λ sum row. sum +ℤ weighted row) sum rows ≡ sum +ℤ fold (λ sum row. sum +ℤ weighted row) (pos 0) rows
+shift : (sum : ℤ) (rows : List Row) → fold (λ sum row. sum +ℤ weighted_value row) sum rows ≡ sum +ℤ fold (λ sum row. sum +ℤ weighted_value row) (pos 0) rows
 shift sum [] = omega (arith, ints)
 shift sum (row ∷ rows) =
-    let one = shift (sum +ℤ weighted row) rows in
-    let none = shift (pos 0 +ℤ weighted row) rows in
+    let one = shift (sum +ℤ weighted_value row) rows in
+    let none = shift (pos 0 +ℤ weighted_value row) rows in
     omega (arith, ints, one, none)
 
-truth-cons : (trees : List Tree) (name : Name) (row : Row) (rows : List Row) → truth trees name (row ∷ rows) ≡ share trees name row +ℤ truth trees name rows
+truth-cons : (trees : List Tree) (name : Name) (row : Row) (rows : List Row) → truth trees name (row ∷ rows) ≡ share_of_record trees name row +ℤ truth trees name rows
 truth-cons trees name row rows =
-    elim (row_falls trees name row) as (λ b. fold (λ sum row. sum +ℤ weighted row) (pos 0) (cond b (row ∷ filter (row_falls trees name) rows) (filter (row_falls trees name) rows)) ≡ (if b then weighted row else pos 0) +ℤ truth trees name rows) [
-      | true ↦ let one = shift (pos 0 +ℤ weighted row) (filter (row_falls trees name) rows) in omega (arith, ints, one)
+    elim (row_falls trees name row) as (λ b. fold (λ sum row. sum +ℤ weighted_value row) (pos 0) (cond b (row ∷ filter (row_falls trees name) rows) (filter (row_falls trees name) rows)) ≡ (if b then weighted_value row else pos 0) +ℤ truth trees name rows) [
+      | true ↦ let one = shift (pos 0 +ℤ weighted_value row) (filter (row_falls trees name) rows) in omega (arith, ints, one)
       | false ↦ omega (arith, ints)
     ]
 
@@ -279,17 +279,17 @@ add-up trees (row ∷ rows) name variable each coded long within bare some =
     let once : count (λ child. is_under tree code child) kids ≡ (if is_under tree code above then 1 else 0) =
     count-filter (λ child. is_under tree code child) (is_child tree above) (range_with_len 0 (length tree)) ∙ through-child tree (each variable [] within) above (length tree) code here here apart
     in
-    let part : (child : ℕ) → share trees (slice_set name variable child) row ≡ (if fits && is_under tree code child then weighted row else pos 0) =
-    λ child. ap (λ b. if b then weighted row else pos 0) (falls-set trees name row.codes variable child within long good.coded)
+    let part : (child : ℕ) → share_of_record trees (slice_set name variable child) row ≡ (if fits && is_under tree code child then weighted_value row else pos 0) =
+    λ child. ap (λ b. if b then weighted_value row else pos 0) (falls-set trees name row.codes variable child within long good.coded)
     in
-    let whole : share trees name row ≡ (if fits && is_under tree code above then weighted row else pos 0) =
-    ap (λ n. share trees n row) (sym (set-get_or name variable 0)) ∙ part above
+    let whole : share_of_record trees name row ≡ (if fits && is_under tree code above then weighted_value row else pos 0) =
+    ap (λ n. share_of_record trees n row) (sym (set-get_or name variable 0)) ∙ part above
     in
     truth-cons trees name row rows
-    ∙ ap (λ v. v +ℤ truth trees name rows) (whole ∙ sym (picks fits (λ child. is_under tree code child) (weighted row) kids (is_under tree code above) once) ∙ sym (sum-same (λ child. share trees (slice_set name variable child) row) (λ child. if fits && is_under tree code child then weighted row else pos 0) kids part))
-    ∙ ap (λ v. sum_over (λ child. share trees (slice_set name variable child) row) kids +ℤ v) rest
-    ∙ sym (sum-both (λ child. share trees (slice_set name variable child) row) (λ child. truth trees (slice_set name variable child) rows) kids)
-    ∙ sum-same (λ child. share trees (slice_set name variable child) row +ℤ truth trees (slice_set name variable child) rows) (λ child. truth trees (slice_set name variable child) (row ∷ rows)) kids (λ child. sym (truth-cons trees (slice_set name variable child) row rows))
+    ∙ ap (λ v. v +ℤ truth trees name rows) (whole ∙ sym (picks fits (λ child. is_under tree code child) (weighted_value row) kids (is_under tree code above) once) ∙ sym (sum-same (λ child. share_of_record trees (slice_set name variable child) row) (λ child. if fits && is_under tree code child then weighted_value row else pos 0) kids part))
+    ∙ ap (λ v. sum_over (λ child. share_of_record trees (slice_set name variable child) row) kids +ℤ v) rest
+    ∙ sym (sum-both (λ child. share_of_record trees (slice_set name variable child) row) (λ child. truth trees (slice_set name variable child) rows) kids)
+    ∙ sum-same (λ child. share_of_record trees (slice_set name variable child) row +ℤ truth trees (slice_set name variable child) rows) (λ child. truth trees (slice_set name variable child) (row ∷ rows)) kids (λ child. sym (truth-cons trees (slice_set name variable child) row rows))
   where
     other : (b : Bool) → (slice_index row.codes variable == slice_index name variable) ≡ b → (slice_index row.codes variable ≡ slice_index name variable → ⊥) → (slice_index row.codes variable == slice_index name variable) ≡ false
     other true is differ = absurd (differ ((Decides-eqb (slice_index row.codes variable) (slice_index name variable)).0 is))

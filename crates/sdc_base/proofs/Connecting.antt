@@ -8,7 +8,7 @@ use Rattle.std.proofs.lemmas.List.{get_or_past, take_all, take_more}
 use Rattle.std.proofs.lemmas.List.FromFn.{get_or-range_with_len, length-range_with_len}
 use Rattle.sdc_base.specs.declared.relation.Relation.{Relation}
 use Rattle.sdc_base.specs.HiddenSets.{is_hidden}
-use Rattle.sdc_base.specs.Components.{AreComponents, IsChain, Linked, component, names}
+use Rattle.sdc_base.specs.Components.{AreComponents, IsChain, AreLinked, component, names}
 use Rattle.sdc_base.specs.Forests.{AreNumbered, IsForest, Joins, LeadsTo, Meet, ascend}
 use Rattle.sdc_base.proofs.Chains.{linked-same}
 use Rattle.sdc_base.proofs.Forest.{leads-to_end, meet-linked, meet-then, meet-turned}
@@ -25,7 +25,7 @@ hidden-inside flags cell h = by (lt_or_le cell (length flags))
     by (inr past) = let shown : false ≡ true = sym (get_or_past flags cell false past) ∙ h in absurd cc
 
 -- relations link hidden cells to hidden cells
-pub linked-hidden : (relations : List Relation) (flags : List Bool) (one other : ℕ) → Linked relations flags one other → is_hidden flags one ≡ true → is_hidden flags other ≡ true
+pub linked-hidden : (relations : List Relation) (flags : List Bool) (one other : ℕ) → AreLinked relations flags one other → is_hidden flags one ≡ true → is_hidden flags other ≡ true
 linked-hidden relations flags one other h hidden = by h.0 one h.1 hidden
   where
     by : (steps one : ℕ) → IsChain relations flags steps one other → is_hidden flags one ≡ true → is_hidden flags other ≡ true
@@ -80,7 +80,7 @@ components-are relations flags cells lower of sizes forest joined is each long =
     leads : (cell root : ℕ) → is_hidden flags cell ≡ true → LeadsTo lower cell root → component of cell ≡ component of root
     leads = leads-component relations flags cells lower of sizes forest is each long
 
-    to : (one other : ℕ) → is_hidden flags one ≡ true → is_hidden flags other ≡ true → component of one ≡ component of other → Linked relations flags one other
+    to : (one other : ℕ) → is_hidden flags one ≡ true → is_hidden flags other ≡ true → component of one ≡ component of other → AreLinked relations flags one other
     to one other hidden hidden_other same =
         let first = leads-to_end lower forest.falls one in
         let second = leads-to_end lower forest.falls other in

@@ -12,8 +12,8 @@ use Rattle.sdc_base.specs.declared.ends.End.{End}
 use Rattle.sdc_base.specs.declared.ends.Ends.{Ends}
 use Rattle.sdc_base.specs.declared.ends.Ends.TheVariants.{Free, One, Two}
 use Rattle.sdc_base.specs.Forms.{count_of}
-use Rattle.sdc_base.specs.Signs.{HasNone, counted, signed}
-use Rattle.sdc_base.specs.Ends.{AreApart, AreEnds, IsCounting, by_end, by_ends, ends_at, joined}
+use Rattle.sdc_base.specs.Signs.{HasNone, times_counted, number_with_sign}
+use Rattle.sdc_base.specs.Ends.{AreApart, AreEnds, IsCounting, by_end, by_ends, ends_at, with_end}
 use Rattle.sdc_base.proofs.Counted.{count-front, counted_is}
 use Rattle.sdc_base.proofs.SignLemmas.{no-three, no-twice}
 
@@ -38,19 +38,19 @@ all-free (suc cells) (suc cell) = all-free cells cell
 
 -- ---- one end
 
-pub end-this : (end : End) (number : ℕ) → end.relation ≡ number → by_end end number ≡ signed end.plus (pos 1)
+pub end-this : (end : End) (number : ℕ) → end.relation ≡ number → by_end end number ≡ number_with_sign end.plus (pos 1)
 end-this end number same = let test : (end.relation == number) ≡ true = eq-eqb end.relation number same in rw test refl
 
 pub end-other : (end : End) (number : ℕ) → end.relation ≢ number → by_end end number ≡ pos 0
 end-other end number other = let test : (end.relation == number) ≡ false = ne_eqb end.relation number other in rw test refl
 
-pub signed-some : (plus : Bool) → signed plus (pos 1) ≢ pos 0
+pub signed-some : (plus : Bool) → number_with_sign plus (pos 1) ≢ pos 0
 signed-some true h = absurd (omega (arith, ints, h))
 signed-some false h = absurd (omega (arith, ints, h))
 
 -- ---- an end more
 
-pub joined-counts : (e : Ends) (end : End) (new : Ends) (number : ℕ) → joined e end ≡ Some new → by_ends new number ≡ by_ends e number +ℤ by_end end number
+pub joined-counts : (e : Ends) (end : End) (new : Ends) (number : ℕ) → with_end e end ≡ Some new → by_ends new number ≡ by_ends e number +ℤ by_end end number
 joined-counts Free end new number h = let same : new ≡ One end = cc in rw same (omega (arith, ints))
 joined-counts (One one) end new number h =
     elim (one.relation == end.relation) as (λ b. (if b then None else Some (Two one end)) ≡ Some new → by_ends new number ≡ by_end one number +ℤ by_end end number) [
@@ -59,7 +59,7 @@ joined-counts (One one) end new number h =
     ] h
 joined-counts (Two one other) end new number h = absurd cc
 
-pub joined-apart : (e : Ends) (end : End) (new : Ends) → joined e end ≡ Some new → AreApart e → AreApart new
+pub joined-apart : (e : Ends) (end : End) (new : Ends) → with_end e end ≡ Some new → AreApart e → AreApart new
 joined-apart Free end new h apart = let same : new ≡ One end = cc in rw same tt
 joined-apart (One one) end new h apart =
     elim (one.relation == end.relation) as (λ b. (one.relation == end.relation) ≡ b → (if b then None else Some (Two one end)) ≡ Some new → AreApart new) [
@@ -69,7 +69,7 @@ joined-apart (One one) end new h apart =
 joined-apart (Two one other) end new h apart = absurd cc
 
 -- an end of the relation that is read is added
-pub counting-joined : (relations : List Relation) (number : ℕ) (own more : ℕ → ℤ) (ends : List Ends) (cell : ℕ) (end : End) (new : Ends) → IsCounting relations number own ends → end.relation ≡ number → cell < length ends → joined (ends_at ends cell) end ≡ Some new → ((other : ℕ) → cell ≢ other → own other ≡ more other) → own cell +ℤ signed end.plus (pos 1) ≡ more cell → IsCounting relations number more (slice_set ends cell new)
+pub counting-joined : (relations : List Relation) (number : ℕ) (own more : ℕ → ℤ) (ends : List Ends) (cell : ℕ) (end : End) (new : Ends) → IsCounting relations number own ends → end.relation ≡ number → cell < length ends → with_end (ends_at ends cell) end ≡ Some new → ((other : ℕ) → cell ≢ other → own other ≡ more other) → own cell +ℤ number_with_sign end.plus (pos 1) ≡ more cell → IsCounting relations number more (slice_set ends cell new)
 counting-joined relations number own more ends cell end new are of_this known some others here =
     let read : ends_at (slice_set ends cell new) cell ≡ new = index-here ends cell new Free known in
     record {
@@ -77,8 +77,8 @@ counting-joined relations number own more ends cell end new are of_this known so
         | true ↦ λ test. subst (λ n. AreApart (ends_at (slice_set ends cell new) n)) (eqb-true cell at test) (rw read (joined-apart (ends_at ends cell) end new some (are.apart cell)))
         | false ↦ λ test. rw (index-there ends cell at new Free (eqb-false cell at test)) (are.apart at)
       ] refl;
-      before = λ at other low. elim (cell == at) as (λ b. (cell == at) ≡ b → by_ends (ends_at (slice_set ends cell new) at) other ≡ counted relations other at) [
-        | true ↦ λ test. subst (λ n. by_ends (ends_at (slice_set ends cell new) n) other ≡ counted relations other n) (eqb-true cell at test) (rw read (unchanged other (λ same. absurd (omega (arith, low, same))) ∙ are.before cell other low))
+      before = λ at other low. elim (cell == at) as (λ b. (cell == at) ≡ b → by_ends (ends_at (slice_set ends cell new) at) other ≡ times_counted relations other at) [
+        | true ↦ λ test. subst (λ n. by_ends (ends_at (slice_set ends cell new) n) other ≡ times_counted relations other n) (eqb-true cell at test) (rw read (unchanged other (λ same. absurd (omega (arith, low, same))) ∙ are.before cell other low))
         | false ↦ λ test. rw (index-there ends cell at new Free (eqb-false cell at test)) (are.before at other low)
       ] refl;
       this = λ at. elim (cell == at) as (λ b. (cell == at) ≡ b → by_ends (ends_at (slice_set ends cell new) at) number ≡ more at) [
@@ -102,7 +102,7 @@ counting-same relations number own more ends are same = record { apart = are.apa
 apart_cases : (a b : ℕ) → a ≢ b → (a < b) ⊎ (b < a)
 apart_cases a b apart = grind (arith, apart)
 
-pub refused : (relations : List Relation) (number cell : ℕ) (e : Ends) (end : End) → end.relation ≡ number → joined e end ≡ None → AreApart e → ((other : ℕ) → other < number → by_ends e other ≡ counted relations other cell) → ((other : ℕ) → number < other → by_ends e other ≡ pos 0) → counted relations number cell ≢ pos 0 → (by_ends e number ≢ pos 0 → counted relations number cell ≤ℤ negsuc 1) → HasNone relations
+pub refused : (relations : List Relation) (number cell : ℕ) (e : Ends) (end : End) → end.relation ≡ number → with_end e end ≡ None → AreApart e → ((other : ℕ) → other < number → by_ends e other ≡ times_counted relations other cell) → ((other : ℕ) → number < other → by_ends e other ≡ pos 0) → times_counted relations number cell ≢ pos 0 → (by_ends e number ≢ pos 0 → times_counted relations number cell ≤ℤ negsuc 1) → HasNone relations
 refused relations number cell Free end of_this none apart before after some twice = absurd cc
 refused relations number cell (One one) end of_this none apart before after some twice =
     elim (one.relation == end.relation) as (λ b. (one.relation == end.relation) ≡ b → (if b then None else Some (Two one end)) ≡ None → HasNone relations) [
@@ -127,7 +127,7 @@ refused relations number cell (Two one other) end of_this none apart before afte
           ] refl
     ] refl
   where
-    counts : (n : ℕ) → by_end one n +ℤ by_end other n ≢ pos 0 → n ≢ number → counted relations n cell ≢ pos 0
+    counts : (n : ℕ) → by_end one n +ℤ by_end other n ≢ pos 0 → n ≢ number → times_counted relations n cell ≢ pos 0
     counts n here not_this zero_count =
         elim (apart_cases n number not_this) as (λ _. ⊥) [
           | inl low ↦ here (before n low ∙ zero_count)
@@ -213,15 +213,15 @@ pub met-first : (met : Bool) (total k : ℕ) (parts : List ℕ) → k < length p
 met-first true total k parts inside test = absurd cc
 met-first false total k parts inside test = met-now total parts k inside (eqb-true (get_or parts k 0) total test)
 
-pub step-part : (relations : List Relation) (number total k : ℕ) (parts : List ℕ) (ends : List Ends) (met : Bool) (new : Ends) → k < length parts → get_or parts k 0 < length ends → joined (ends_at ends (get_or parts k 0)) (record { relation = number; plus = false }) ≡ Some new → IsCounting relations number (own met total (take k parts)) ends → IsCounting relations number (own met total (take (k + 1) parts)) (slice_set ends (get_or parts k 0) new)
+pub step-part : (relations : List Relation) (number total k : ℕ) (parts : List ℕ) (ends : List Ends) (met : Bool) (new : Ends) → k < length parts → get_or parts k 0 < length ends → with_end (ends_at ends (get_or parts k 0)) (record { relation = number; plus = false }) ≡ Some new → IsCounting relations number (own met total (take k parts)) ends → IsCounting relations number (own met total (take (k + 1) parts)) (slice_set ends (get_or parts k 0) new)
 step-part relations number total k parts ends met new inside known some are =
     counting-joined relations number (own met total (take k parts)) (own met total (take (k + 1) parts)) ends (get_or parts k 0) (record { relation = number; plus = false }) new are refl known some
     (λ other apart. own-there met total parts k other inside apart) (own-here met total parts k inside)
 
-counted-at : (relations : List Relation) (number cell : ℕ) (r : Relation) → slice_get relations number ≡ Some r → counted relations number cell ≡ count_of r cell
+counted-at : (relations : List Relation) (number cell : ℕ) (r : Relation) → slice_get relations number ≡ Some r → times_counted relations number cell ≡ count_of r cell
 counted-at relations number cell r at = ap (λ found. option_map_or (λ (one : Relation). count_of one cell) found (pos 0)) at
 
-pub part-refused : (relations : List Relation) (number k : ℕ) (r : Relation) (ends : List Ends) (met : Bool) → slice_get relations number ≡ Some r → k < length r.parts → (not met && (get_or r.parts k 0 == r.total)) ≡ false → joined (ends_at ends (get_or r.parts k 0)) (record { relation = number; plus = false }) ≡ None → IsCounting relations number (own met r.total (take k r.parts)) ends → IsMet met r.total (take k r.parts) → HasNone relations
+pub part-refused : (relations : List Relation) (number k : ℕ) (r : Relation) (ends : List Ends) (met : Bool) → slice_get relations number ≡ Some r → k < length r.parts → (not met && (get_or r.parts k 0 == r.total)) ≡ false → with_end (ends_at ends (get_or r.parts k 0)) (record { relation = number; plus = false }) ≡ None → IsCounting relations number (own met r.total (take k r.parts)) ends → IsMet met r.total (take k r.parts) → HasNone relations
 part-refused relations number k r ends met at inside test none are is_met =
     let cell = get_or r.parts k 0 in
     let less = counts-less met r k inside test is_met in
@@ -229,7 +229,7 @@ part-refused relations number k r ends met at inside test none are is_met =
     let so_far = are.this cell in
     refused relations number cell (ends_at ends cell) (record { relation = number; plus = false }) refl none (are.apart cell) (are.before cell) (are.after cell)
     (λ zero_count. absurd (omega (arith, ints, zero_count, here, less.0, less.1)))
-    (λ some. below (own met r.total (take k r.parts) cell) (counted relations number cell) less.1 (omega (arith, ints, here, less.0)) (λ zero_count. some (so_far ∙ zero_count)))
+    (λ some. below (own met r.total (take k r.parts) cell) (times_counted relations number cell) less.1 (omega (arith, ints, here, less.0)) (λ zero_count. some (so_far ∙ zero_count)))
   where
     below : (z w : ℤ) → z ≤ℤ pos 0 → w ≤ℤ (z +ℤ negsuc 0) → z ≢ pos 0 → w ≤ℤ negsuc 1
     below (pos zero) w low less some = absurd (some refl)
@@ -239,13 +239,13 @@ part-refused relations number k r ends met at inside test none are is_met =
 pub last-met : (relations : List Relation) (number : ℕ) (r : Relation) (ends : List Ends) → IsCounting relations number (own true r.total r.parts) ends → IsCounting relations number (count_of r) ends
 last-met relations number r ends are = counting-same relations number (own true r.total r.parts) (count_of r) ends are (λ cell. sym (counted_is r cell))
 
-pub last-total : (relations : List Relation) (number : ℕ) (r : Relation) (ends : List Ends) (new : Ends) → r.total < length ends → joined (ends_at ends r.total) (record { relation = number; plus = true }) ≡ Some new → IsCounting relations number (own false r.total r.parts) ends → IsCounting relations number (count_of r) (slice_set ends r.total new)
+pub last-total : (relations : List Relation) (number : ℕ) (r : Relation) (ends : List Ends) (new : Ends) → r.total < length ends → with_end (ends_at ends r.total) (record { relation = number; plus = true }) ≡ Some new → IsCounting relations number (own false r.total r.parts) ends → IsCounting relations number (count_of r) (slice_set ends r.total new)
 last-total relations number r ends new known some are =
     counting-joined relations number (own false r.total r.parts) (count_of r) ends r.total (record { relation = number; plus = true }) new are refl known some
     (λ other apart. let test : (r.total == other) ≡ false = ne_eqb r.total other apart in sym (counted_is r other ∙ rw test refl))
     (let test : (r.total == r.total) ≡ true = eq-eqb r.total r.total refl in let whole : count_of r r.total ≡ pos 1 +ℤ neg_ℤ (pos (count_by (λ part. part == r.total) r.parts)) = counted_is r r.total ∙ rw test refl in omega (arith, ints, whole))
 
-pub total-refused : (relations : List Relation) (number : ℕ) (r : Relation) (ends : List Ends) → slice_get relations number ≡ Some r → joined (ends_at ends r.total) (record { relation = number; plus = true }) ≡ None → IsCounting relations number (own false r.total r.parts) ends → IsMet false r.total r.parts → HasNone relations
+pub total-refused : (relations : List Relation) (number : ℕ) (r : Relation) (ends : List Ends) → slice_get relations number ≡ Some r → with_end (ends_at ends r.total) (record { relation = number; plus = true }) ≡ None → IsCounting relations number (own false r.total r.parts) ends → IsMet false r.total r.parts → HasNone relations
 total-refused relations number r ends at none are is_met =
     let test : (r.total == r.total) ≡ true = eq-eqb r.total r.total refl in
     let whole : count_of r r.total ≡ pos 1 +ℤ neg_ℤ (pos (count_by (λ part. part == r.total) r.parts)) = counted_is r r.total ∙ rw test refl in
@@ -262,8 +262,8 @@ pub counting-next : (relations : List Relation) (number : ℕ) (r : Relation) (e
 counting-next relations number r ends at are =
     record {
       apart = are.apart;
-      before = λ cell other low. elim (other == number) as (λ b. (other == number) ≡ b → by_ends (ends_at ends cell) other ≡ counted relations other cell) [
-        | true ↦ λ test. subst (λ n. by_ends (ends_at ends cell) n ≡ counted relations n cell) (sym (eqb-true other number test)) (are.this cell ∙ sym (counted-at relations number cell r at))
+      before = λ cell other low. elim (other == number) as (λ b. (other == number) ≡ b → by_ends (ends_at ends cell) other ≡ times_counted relations other cell) [
+        | true ↦ λ test. subst (λ n. by_ends (ends_at ends cell) n ≡ times_counted relations n cell) (sym (eqb-true other number test)) (are.this cell ∙ sym (counted-at relations number cell r at))
         | false ↦ λ test. are.before cell other (lower other (eqb-false other number test) low)
       ] refl;
       this = λ cell. are.after cell (number + 1) (omega arith);
@@ -286,7 +286,7 @@ pub counting-all : (relations : List Relation) (ends : List Ends) → IsCounting
 counting-all relations ends are =
     record {
       apart = are.apart;
-      all = λ cell number. elim (nat_lt number (length relations)) as (λ b. nat_lt number (length relations) ≡ b → by_ends (ends_at ends cell) number ≡ counted relations number cell) [
+      all = λ cell number. elim (nat_lt number (length relations)) as (λ b. nat_lt number (length relations) ≡ b → by_ends (ends_at ends cell) number ≡ times_counted relations number cell) [
         | true ↦ λ test. are.before cell number (grind (arith, nat_tests, test))
         | false ↦ λ test. let high : length relations ≤ number = grind (arith, nat_tests, test) in beyond cell number high ∙ sym (ap (λ found. option_map_or (λ (one : Relation). count_of one cell) found (pos 0)) (slice_get_past relations number high))
       ] refl;

@@ -5,7 +5,7 @@ use Rattle.std.proofs.lemmas.Int.{ints}
 use Rattle.std.proofs.lemmas.List.{append-nil}
 use Rattle.std.proofs.lemmas.List.Sums.{fold_push, sum_by-cons, sum_by_push}
 use Rattle.sdc_base.specs.declared.tops.Unit.{Unit as Contribution}
-use Rattle.sdc_base.specs.Largest.{placed, ranked, first_steps}
+use Rattle.sdc_base.specs.Largest.{with_contribution, ranking_of, first_steps}
 use Rattle.sdc_base.specs.Shares.{weight_from, weight_above, shares_from, RankingIsFair}
 
 -- f of each with the weight before it, in the order of a ranked list
@@ -51,10 +51,10 @@ all_moved f new before (x ∷ xs) lower =
     rw (test, rest) (ap (λ t. f x (before + new.weight) +ℤ t) (all_moved f new (before + x.weight) xs lower.1))
 
 -- placing one more
-pub along_placed : (f : Contribution → ℕ → ℤ) (before : ℕ) (xs : List Contribution) (new : Contribution) → IsDown xs → along f before (placed xs new) ≡ f new (before + weight_from new.value xs) +ℤ along (moved_by new f) before xs
+pub along_placed : (f : Contribution → ℕ → ℤ) (before : ℕ) (xs : List Contribution) (new : Contribution) → IsDown xs → along f before (with_contribution xs new) ≡ f new (before + weight_from new.value xs) +ℤ along (moved_by new f) before xs
 along_placed f before [] new down = let none : before + 0 ≡ before = omega arith in rw none refl
 along_placed f before (x ∷ xs) new down =
-    elim (int_lt x.value new.value) as (λ b. int_lt x.value new.value ≡ b → along f before (if b then new ∷ x ∷ xs else x ∷ placed xs new) ≡ f new (before + weight_from new.value (x ∷ xs)) +ℤ along (moved_by new f) before (x ∷ xs)) [
+    elim (int_lt x.value new.value) as (λ b. int_lt x.value new.value ≡ b → along f before (if b then new ∷ x ∷ xs else x ∷ with_contribution xs new) ≡ f new (before + weight_from new.value (x ∷ xs)) +ℤ along (moved_by new f) before (x ∷ xs)) [
       | true ↦ λ is.
           let less : x.value <ℤ new.value = grind (arith, ints, is) in
           let lower : AllLower new (x ∷ xs) = (less, lower_from new x xs less down.0) in
@@ -63,7 +63,7 @@ along_placed f before (x ∷ xs) new down =
       | false ↦ λ is.
           let head : (if int_lt x.value new.value then 0 else x.weight) ≡ x.weight = rw is refl in
           let whole : before + weight_from new.value (x ∷ xs) ≡ (before + x.weight) + weight_from new.value xs = omega (arith, sum_by-cons (λ (u : Contribution). if int_lt u.value new.value then 0 else u.weight) x xs, head) in
-          let rest : along f (before + x.weight) (placed xs new) ≡ f new ((before + x.weight) + weight_from new.value xs) +ℤ along (moved_by new f) (before + x.weight) xs = along_placed f (before + x.weight) xs new down.1 in
+          let rest : along f (before + x.weight) (with_contribution xs new) ≡ f new ((before + x.weight) + weight_from new.value xs) +ℤ along (moved_by new f) (before + x.weight) xs = along_placed f (before + x.weight) xs new down.1 in
           let own : moved_by new f x before ≡ f x before = rw is refl in
           let there : f new (before + weight_from new.value (x ∷ xs)) ≡ f new ((before + x.weight) + weight_from new.value xs) = ap (λ n. f new n) whole in
           ap (λ t. f x before +ℤ t) rest ∙ omega (arith, ints, own, there)
@@ -89,49 +89,49 @@ each_push f earlier (x ∷ later) new =
     let joined : (earlier ++ x ∷ []) ++ later ≡ earlier ++ x ∷ later = append_assoc earlier (x ∷ []) later in
     omega (arith, ints, own, each_push f (earlier ++ x ∷ []) later new, ap (λ t. f new (weight_from new.value t)) joined)
 
-pub sum_by-placed : (f : Contribution → ℕ) (xs : List Contribution) (new : Contribution) → sum_by f (placed xs new) ≡ f new + sum_by f xs
+pub sum_by-placed : (f : Contribution → ℕ) (xs : List Contribution) (new : Contribution) → sum_by f (with_contribution xs new) ≡ f new + sum_by f xs
 sum_by-placed f [] new = omega (arith, sum_by-cons f new [])
 sum_by-placed f (x ∷ xs) new =
-    elim (int_lt x.value new.value) as (λ b. sum_by f (if b then new ∷ x ∷ xs else x ∷ placed xs new) ≡ f new + sum_by f (x ∷ xs)) [
+    elim (int_lt x.value new.value) as (λ b. sum_by f (if b then new ∷ x ∷ xs else x ∷ with_contribution xs new) ≡ f new + sum_by f (x ∷ xs)) [
       | true ↦ sum_by-cons f new (x ∷ xs)
-      | false ↦ omega (arith, sum_by-cons f x (placed xs new), sum_by-cons f x xs, sum_by-placed f xs new)
+      | false ↦ omega (arith, sum_by-cons f x (with_contribution xs new), sum_by-cons f x xs, sum_by-placed f xs new)
     ]
 
-at_most_placed : (most : ℤ) (xs : List Contribution) (new : Contribution) → AllByRecursion (λ y. y.value ≤ℤ most) xs → new.value ≤ℤ most → AllByRecursion (λ y. y.value ≤ℤ most) (placed xs new)
+at_most_placed : (most : ℤ) (xs : List Contribution) (new : Contribution) → AllByRecursion (λ y. y.value ≤ℤ most) xs → new.value ≤ℤ most → AllByRecursion (λ y. y.value ≤ℤ most) (with_contribution xs new)
 at_most_placed most [] new all here = (here, tt)
 at_most_placed most (x ∷ xs) new all here =
-    let rest : AllByRecursion (λ y. y.value ≤ℤ most) (placed xs new) = at_most_placed most xs new all.1 here in
-    elim (int_lt x.value new.value) as (λ b. AllByRecursion (λ y. y.value ≤ℤ most) (if b then new ∷ x ∷ xs else x ∷ placed xs new)) [ true ↦ (here, all) | false ↦ (all.0, rest) ]
+    let rest : AllByRecursion (λ y. y.value ≤ℤ most) (with_contribution xs new) = at_most_placed most xs new all.1 here in
+    elim (int_lt x.value new.value) as (λ b. AllByRecursion (λ y. y.value ≤ℤ most) (if b then new ∷ x ∷ xs else x ∷ with_contribution xs new)) [ true ↦ (here, all) | false ↦ (all.0, rest) ]
 
 lower_all : (new x : Contribution) (xs : List Contribution) → x.value <ℤ new.value → AllByRecursion (λ y. y.value ≤ℤ x.value) xs → AllByRecursion (λ y. y.value ≤ℤ new.value) xs
 lower_all new x [] less all = tt
 lower_all new x (y ∷ xs) less all = (omega (arith, ints, all.0), lower_all new x xs less all.1)
 
-pub down_placed : (xs : List Contribution) (new : Contribution) → IsDown xs → IsDown (placed xs new)
+pub down_placed : (xs : List Contribution) (new : Contribution) → IsDown xs → IsDown (with_contribution xs new)
 down_placed [] new down = (tt, tt)
 down_placed (x ∷ xs) new down =
-    let rest : IsDown (placed xs new) = down_placed xs new down.1 in
-    elim (int_lt x.value new.value) as (λ b. int_lt x.value new.value ≡ b → IsDown (if b then new ∷ x ∷ xs else x ∷ placed xs new)) [
+    let rest : IsDown (with_contribution xs new) = down_placed xs new down.1 in
+    elim (int_lt x.value new.value) as (λ b. int_lt x.value new.value ≡ b → IsDown (if b then new ∷ x ∷ xs else x ∷ with_contribution xs new)) [
       | true ↦ λ is. let less : x.value <ℤ new.value = grind (arith, ints, is) in ((omega (arith, ints), lower_all new x xs less down.0), down)
       | false ↦ λ is. let not_less : new.value ≤ℤ x.value = grind (arith, ints, is) in (at_most_placed x.value xs new down.0 not_less, rest)
     ] refl
 
 -- what holds of those that came so far holds with the rest
-fair_rest : (done rest : List Contribution) → IsDown (ranked done) → ((v : ℤ) → weight_from v (ranked done) ≡ weight_from v done) → ((f : Contribution → ℕ → ℤ) → along f 0 (ranked done) ≡ each f [] done) → (f : Contribution → ℕ → ℤ) → along f 0 (ranked (done ++ rest)) ≡ each f [] (done ++ rest)
-fair_rest done [] down weights fair f = ap (λ t. along f 0 (ranked t)) (append-nil done) ∙ fair f ∙ sym (ap (λ t. each f [] t) (append-nil done))
+fair_rest : (done rest : List Contribution) → IsDown (ranking_of done) → ((v : ℤ) → weight_from v (ranking_of done) ≡ weight_from v done) → ((f : Contribution → ℕ → ℤ) → along f 0 (ranking_of done) ≡ each f [] done) → (f : Contribution → ℕ → ℤ) → along f 0 (ranking_of (done ++ rest)) ≡ each f [] (done ++ rest)
+fair_rest done [] down weights fair f = ap (λ t. along f 0 (ranking_of t)) (append-nil done) ∙ fair f ∙ sym (ap (λ t. each f [] t) (append-nil done))
 fair_rest done (new ∷ rest) down weights fair f =
     let one : List Contribution = done ++ new ∷ [] in
-    let placing : ranked one ≡ placed (ranked done) new = fold_push placed [] done new in
+    let placing : ranking_of one ≡ with_contribution (ranking_of done) new = fold_push with_contribution [] done new in
     let joined : one ++ rest ≡ done ++ new ∷ rest = append_assoc done (new ∷ []) rest in
-    let next_down : IsDown (ranked one) = subst IsDown (sym placing) (down_placed (ranked done) new down) in
-    let next_weights : (v : ℤ) → weight_from v (ranked one) ≡ weight_from v one = λ v.
+    let next_down : IsDown (ranking_of one) = subst IsDown (sym placing) (down_placed (ranking_of done) new down) in
+    let next_weights : (v : ℤ) → weight_from v (ranking_of one) ≡ weight_from v one = λ v.
     let g : Contribution → ℕ = λ u. if int_lt u.value v then 0 else u.weight in
-    ap (λ t. sum_by g t) placing ∙ omega (arith, sum_by-placed g (ranked done) new, sum_by_push g done new, weights v) in
-    let next_fair : (g : Contribution → ℕ → ℤ) → along g 0 (ranked one) ≡ each g [] one = λ g.
+    ap (λ t. sum_by g t) placing ∙ omega (arith, sum_by-placed g (ranking_of done) new, sum_by_push g done new, weights v) in
+    let next_fair : (g : Contribution → ℕ → ℤ) → along g 0 (ranking_of one) ≡ each g [] one = λ g.
     ap (λ t. along g 0 t) placing
-    ∙ along_placed g 0 (ranked done) new down
-    ∙ omega (arith, ints, fair (moved_by new g), each_push g [] done new, ap (λ n. g new n) (zero_and (weight_from new.value (ranked done)) (weight_from new.value done) (weights new.value))) in
-    ap (λ t. along f 0 (ranked t)) (sym joined) ∙ fair_rest one rest next_down next_weights next_fair f ∙ ap (λ t. each f [] t) joined
+    ∙ along_placed g 0 (ranking_of done) new down
+    ∙ omega (arith, ints, fair (moved_by new g), each_push g [] done new, ap (λ n. g new n) (zero_and (weight_from new.value (ranking_of done)) (weight_from new.value done) (weights new.value))) in
+    ap (λ t. along f 0 (ranking_of t)) (sym joined) ∙ fair_rest one rest next_down next_weights next_fair f ∙ ap (λ t. each f [] t) joined
 
 -- ---- the steps
 
@@ -148,7 +148,7 @@ each_shares steps earlier (x ∷ later) = ap (λ t. pos (min x.weight (steps - (
 pub ranking_is_fair : RankingIsFair
 ranking_is_fair steps units =
     let none : steps - 0 ≡ steps = omega arith in
-    sym (ap (λ n. first_steps n (ranked units)) none)
-    ∙ first_along steps 0 (ranked units)
+    sym (ap (λ n. first_steps n (ranking_of units)) none)
+    ∙ first_along steps 0 (ranking_of units)
     ∙ fair_rest [] units tt (λ v. refl) (λ f. refl) (λ unit n. pos (min unit.weight (steps - n)) *ℤ unit.value)
     ∙ each_shares steps [] units

@@ -3,7 +3,7 @@ use Rattle.std.proofs.Common.{◌≡◌, ◌≢◌, ℕ, zero, suc, ◌<◌, ◌
 use Rattle.std.proofs.lemmas.Bool.Decides.{Decides-eqb}
 use Rattle.std.proofs.lemmas.List.{get_or-set_other, get_or-set_same, length-set, set_past}
 use Rattle.sdc_base.specs.declared.relation.Relation.{Relation}
-use Rattle.sdc_base.specs.Components.{Linked}
+use Rattle.sdc_base.specs.Components.{AreLinked}
 use Rattle.sdc_base.specs.Forests.{ascend, IsForest, LeadsTo, Meet}
 use Rattle.sdc_base.proofs.Chains.{linked-same, linked-then, linked-turned}
 
@@ -101,16 +101,16 @@ meet-joined lower root next one other inside end first second =
     (next, leads-then (slice_set lower root next) one root next (leads-kept lower root next end one root first) link, leads-kept lower root next end other next second)
 
 -- steps lead to cells that relations link
-pub leads-linked : (relations : List Relation) (flags : List Bool) (cells : ℕ) (lower : List ℕ) → IsForest relations flags cells lower → (cell root : ℕ) → cell < cells → LeadsTo lower cell root → Linked relations flags cell root
+pub leads-linked : (relations : List Relation) (flags : List Bool) (cells : ℕ) (lower : List ℕ) → IsForest relations flags cells lower → (cell root : ℕ) → cell < cells → LeadsTo lower cell root → AreLinked relations flags cell root
 leads-linked relations flags cells lower is cell root inside h = by h.0 cell inside h.1
   where
-    by : (steps cell : ℕ) → cell < cells → ascend lower steps cell ≡ root → Linked relations flags cell root
+    by : (steps cell : ℕ) → cell < cells → ascend lower steps cell ≡ root → AreLinked relations flags cell root
     by zero cell inside same = linked-same relations flags cell root same
     by (suc steps) cell inside up =
         let under = is.falls cell in
         linked-then relations flags cell (slice_index lower cell) root (is.links cell inside) (by steps (slice_index lower cell) (omega (arith, under, inside)) up)
 
-pub meet-linked : (relations : List Relation) (flags : List Bool) (cells : ℕ) (lower : List ℕ) → IsForest relations flags cells lower → (one other : ℕ) → one < cells → other < cells → Meet lower one other → Linked relations flags one other
+pub meet-linked : (relations : List Relation) (flags : List Bool) (cells : ℕ) (lower : List ℕ) → IsForest relations flags cells lower → (one other : ℕ) → one < cells → other < cells → Meet lower one other → AreLinked relations flags one other
 meet-linked relations flags cells lower is one other inside within h =
     linked-then relations flags one h.0 other (leads-linked relations flags cells lower is one h.0 inside h.1) (linked-turned relations flags other h.0 (leads-linked relations flags cells lower is other h.0 within h.2))
 
@@ -145,24 +145,24 @@ falls-set lower root next falls under cell =
         omega (arith, kept, old)
 
 -- a cell that points to another lower one, which relations link to it
-pub forest-set : (relations : List Relation) (flags : List Bool) (cells : ℕ) (lower : List ℕ) (root next : ℕ) → IsForest relations flags cells lower → next ≤ root → Linked relations flags root next → IsForest relations flags cells (slice_set lower root next)
+pub forest-set : (relations : List Relation) (flags : List Bool) (cells : ℕ) (lower : List ℕ) (root next : ℕ) → IsForest relations flags cells lower → next ≤ root → AreLinked relations flags root next → IsForest relations flags cells (slice_set lower root next)
 forest-set relations flags cells lower root next is under linked = record {
   each = length-set lower root next ∙ is.each;
   falls = falls-set lower root next is.falls under;
   links = to;
 }
   where
-    to : (cell : ℕ) → cell < cells → Linked relations flags cell (slice_index (slice_set lower root next) cell)
+    to : (cell : ℕ) → cell < cells → AreLinked relations flags cell (slice_index (slice_set lower root next) cell)
     to cell inside =
-        elim (cell == root) as (λ b. (cell == root) ≡ b → Linked relations flags cell (slice_index (slice_set lower root next) cell)) [
+        elim (cell == root) as (λ b. (cell == root) ≡ b → AreLinked relations flags cell (slice_index (slice_set lower root next) cell)) [
           | true ↦ λ is_root.
               let same : cell ≡ root = (Decides-eqb cell root).0 is_root in
               let each : length lower ≡ cells = is.each in
               let here : slice_index (slice_set lower root next) root ≡ next = get_or-set_same lower root next 0 (omega (arith, same, inside, each)) in
-              subst (λ one. Linked relations flags one (slice_index (slice_set lower root next) one)) (sym same) (subst (λ there. Linked relations flags root there) (sym here) linked)
+              subst (λ one. AreLinked relations flags one (slice_index (slice_set lower root next) one)) (sym same) (subst (λ there. AreLinked relations flags root there) (sym here) linked)
           | false ↦ λ other.
               let apart : cell ≢ root = λ same. absurd (differ other ((Decides-eqb cell root).1 same)) in
-              subst (λ there. Linked relations flags cell there) (sym (get_or-set_other lower root cell next 0 apart)) (is.links cell inside)
+              subst (λ there. AreLinked relations flags cell there) (sym (get_or-set_other lower root cell next 0 apart)) (is.links cell inside)
         ] refl
 
 -- a cell that meets an end leads to it

@@ -6,8 +6,8 @@ use Rattle.std.proofs.lemmas.List.Sorted.{IsPermutation-keeps}
 use Rattle.std.proofs.lemmas.List.Edits.{swap_is}
 use Rattle.sdc_base.specs.declared.tops.Unit.{Unit as Contribution}
 use Rattle.sdc_base.specs.declared.tops.Tops.{Tops}
-use Rattle.sdc_base.specs.Largest.{placed, ranked, first_steps, largest, AreHeavy}
-use Rattle.sdc_base.specs.Tells.{Tells}
+use Rattle.sdc_base.specs.Largest.{with_contribution, ranking_of, first_steps, largest_sum, AreHeavy}
+use Rattle.sdc_base.specs.LargestKept.{KeepsLargest}
 use Rattle.sdc_base.proofs.Kept.{kept_are_enough}
 use Rattle.sdc_base.specs.Shares.{weight_from}
 use Rattle.sdc_base.proofs.WholeNumbers.{distrib_right}
@@ -45,10 +45,10 @@ alike-refl zs down = record { down = down; other = down; weights = λ v. refl; s
 alike-trans : (xs ys zs : List Contribution) → Alike xs ys → Alike ys zs → Alike xs zs
 alike-trans xs ys zs a b = record { down = a.down; other = b.other; weights = λ v. a.weights v ∙ b.weights v; sums = λ f each before. a.sums f each before ∙ b.sums f each before }
 
-weight-placed : (v : ℤ) (zs : List Contribution) (x : Contribution) → weight_from v (placed zs x) ≡ (if int_lt x.value v then 0 else x.weight) + weight_from v zs
+weight-placed : (v : ℤ) (zs : List Contribution) (x : Contribution) → weight_from v (with_contribution zs x) ≡ (if int_lt x.value v then 0 else x.weight) + weight_from v zs
 weight-placed v zs x = sum_by-placed (λ (u : Contribution). if int_lt u.value v then 0 else u.weight) zs x
 
-alike-placed : (zs ys : List Contribution) (x : Contribution) → Alike zs ys → Alike (placed zs x) (placed ys x)
+alike-placed : (zs ys : List Contribution) (x : Contribution) → Alike zs ys → Alike (with_contribution zs x) (with_contribution ys x)
 alike-placed zs ys x alike = record {
   down = down_placed zs x alike.down;
   other = down_placed ys x alike.other;
@@ -78,9 +78,9 @@ moved-both a b f u n = by (int_lt u.value a.value) (int_lt u.value b.value)
 
 -- two that are placed one after the other
 along-both : (f : Contribution → ℕ → ℤ) (before : ℕ) (zs : List Contribution) (a b : Contribution) → IsDown zs
-    → along f before (placed (placed zs a) b) ≡ (f b (before + ((if int_lt a.value b.value then 0 else a.weight) + weight_from b.value zs)) +ℤ f a (if int_lt a.value b.value then (before + weight_from a.value zs) + b.weight else before + weight_from a.value zs)) +ℤ along (moved_by a (moved_by b f)) before zs
+    → along f before (with_contribution (with_contribution zs a) b) ≡ (f b (before + ((if int_lt a.value b.value then 0 else a.weight) + weight_from b.value zs)) +ℤ f a (if int_lt a.value b.value then (before + weight_from a.value zs) + b.weight else before + weight_from a.value zs)) +ℤ along (moved_by a (moved_by b f)) before zs
 along-both f before zs a b down =
-    let first = along_placed f before (placed zs a) b (down_placed zs a down) in
+    let first = along_placed f before (with_contribution zs a) b (down_placed zs a down) in
     let second = along_placed (moved_by b f) before zs a down in
     let weight = ap (λ n. f b (before + n)) (weight-placed b.value zs a) in
     omega (arith, ints, first, second, weight)
@@ -91,14 +91,14 @@ none n m = omega arith
 more : (n w m : ℕ) → (n + m) + w ≡ n + (w + m)
 more n w m = omega arith
 
-alike-turned : (zs : List Contribution) (a b : Contribution) → IsDown zs → Alike (placed (placed zs a) b) (placed (placed zs b) a)
+alike-turned : (zs : List Contribution) (a b : Contribution) → IsDown zs → Alike (with_contribution (with_contribution zs a) b) (with_contribution (with_contribution zs b) a)
 alike-turned zs a b down = record {
-  down = down_placed (placed zs a) b (down_placed zs a down);
-  other = down_placed (placed zs b) a (down_placed zs b down);
+  down = down_placed (with_contribution zs a) b (down_placed zs a down);
+  other = down_placed (with_contribution zs b) a (down_placed zs b down);
   weights = λ v.
-      let one = weight-placed v (placed zs a) b in
+      let one = weight-placed v (with_contribution zs a) b in
       let two = weight-placed v zs a in
-      let three = weight-placed v (placed zs b) a in
+      let three = weight-placed v (with_contribution zs b) a in
       let four = weight-placed v zs b in
       omega (arith, one, two, three, four);
   sums = λ f each before.
@@ -132,56 +132,56 @@ alike-turned zs a b down = record {
         let four = ap (λ n. f b (before + n)) weight in
         omega (arith, ints, turned, one, two, three, four)
 
-fold-alike : (us zs ys : List Contribution) → Alike zs ys → Alike (fold placed zs us) (fold placed ys us)
+fold-alike : (us zs ys : List Contribution) → Alike zs ys → Alike (fold with_contribution zs us) (fold with_contribution ys us)
 fold-alike [] zs ys alike = alike
-fold-alike (u ∷ us) zs ys alike = fold-alike us (placed zs u) (placed ys u) (alike-placed zs ys u alike)
+fold-alike (u ∷ us) zs ys alike = fold-alike us (with_contribution zs u) (with_contribution ys u) (alike-placed zs ys u alike)
 
 -- ---- two of a list change places
 
-far : (l : List Contribution) (j : ℕ) (x d : Contribution) (zs : List Contribution) → IsDown zs → j < length l → Alike (fold placed zs (get_or l j d ∷ set l j x)) (fold placed zs (x ∷ l))
+far : (l : List Contribution) (j : ℕ) (x d : Contribution) (zs : List Contribution) → IsDown zs → j < length l → Alike (fold with_contribution zs (get_or l j d ∷ set l j x)) (fold with_contribution zs (x ∷ l))
 far [] j x d zs down h = absurd (omega (arith, h))
-far (y ∷ l) zero x d zs down h = fold-alike l (placed (placed zs y) x) (placed (placed zs x) y) (alike-turned zs y x down)
+far (y ∷ l) zero x d zs down h = fold-alike l (with_contribution (with_contribution zs y) x) (with_contribution (with_contribution zs x) y) (alike-turned zs y x down)
 far (y ∷ l) (suc j) x d zs down h =
     let z : Contribution = get_or l j d in
     let rest : List Contribution = set l j x in
-    alike-trans (fold placed (placed (placed zs z) y) rest) (fold placed (placed (placed zs y) z) rest) (fold placed (placed (placed zs x) y) l)
-    (fold-alike rest (placed (placed zs z) y) (placed (placed zs y) z) (alike-turned zs z y down))
-    (alike-trans (fold placed (placed (placed zs y) z) rest) (fold placed (placed (placed zs y) x) l) (fold placed (placed (placed zs x) y) l)
-    (far l j x d (placed zs y) (down_placed zs y down) (omega (arith, h)))
-    (fold-alike l (placed (placed zs y) x) (placed (placed zs x) y) (alike-turned zs y x down)))
+    alike-trans (fold with_contribution (with_contribution (with_contribution zs z) y) rest) (fold with_contribution (with_contribution (with_contribution zs y) z) rest) (fold with_contribution (with_contribution (with_contribution zs x) y) l)
+    (fold-alike rest (with_contribution (with_contribution zs z) y) (with_contribution (with_contribution zs y) z) (alike-turned zs z y down))
+    (alike-trans (fold with_contribution (with_contribution (with_contribution zs y) z) rest) (fold with_contribution (with_contribution (with_contribution zs y) x) l) (fold with_contribution (with_contribution (with_contribution zs x) y) l)
+    (far l j x d (with_contribution zs y) (down_placed zs y down) (omega (arith, h)))
+    (fold-alike l (with_contribution (with_contribution zs y) x) (with_contribution (with_contribution zs x) y) (alike-turned zs y x down)))
 
-exchanged : (l : List Contribution) (i j : ℕ) (d : Contribution) (zs : List Contribution) → IsDown zs → i < length l → j < length l → Alike (fold placed zs (set (set l i (get_or l j d)) j (get_or l i d))) (fold placed zs l)
+exchanged : (l : List Contribution) (i j : ℕ) (d : Contribution) (zs : List Contribution) → IsDown zs → i < length l → j < length l → Alike (fold with_contribution zs (set (set l i (get_or l j d)) j (get_or l i d))) (fold with_contribution zs l)
 exchanged [] i j d zs down h k = absurd (omega (arith, h))
-exchanged (x ∷ l) zero zero d zs down h k = alike-refl (fold placed zs (x ∷ l)) (down-fold (x ∷ l) zs down)
+exchanged (x ∷ l) zero zero d zs down h k = alike-refl (fold with_contribution zs (x ∷ l)) (down-fold (x ∷ l) zs down)
   where
-    down-fold : (us zs : List Contribution) → IsDown zs → IsDown (fold placed zs us)
+    down-fold : (us zs : List Contribution) → IsDown zs → IsDown (fold with_contribution zs us)
     down-fold [] zs down = down
-    down-fold (u ∷ us) zs down = down-fold us (placed zs u) (down_placed zs u down)
+    down-fold (u ∷ us) zs down = down-fold us (with_contribution zs u) (down_placed zs u down)
 exchanged (x ∷ l) zero (suc j) d zs down h k = far l j x d zs down (omega (arith, k))
 exchanged (x ∷ l) (suc i) zero d zs down h k = far l i x d zs down (omega (arith, h))
-exchanged (x ∷ l) (suc i) (suc j) d zs down h k = exchanged l i j d (placed zs x) (down_placed zs x down) (omega (arith, h)) (omega (arith, k))
+exchanged (x ∷ l) (suc i) (suc j) d zs down h k = exchanged l i j d (with_contribution zs x) (down_placed zs x down) (omega (arith, h)) (omega (arith, k))
 
-down-ranked : (us zs : List Contribution) → IsDown zs → IsDown (fold placed zs us)
+down-ranked : (us zs : List Contribution) → IsDown zs → IsDown (fold with_contribution zs us)
 down-ranked [] zs down = down
-down-ranked (u ∷ us) zs down = down-ranked us (placed zs u) (down_placed zs u down)
+down-ranked (u ∷ us) zs down = down-ranked us (with_contribution zs u) (down_placed zs u down)
 
-alike_ranked : (xs ys : List Contribution) → IsPermutation xs ys → Alike (ranked ys) (ranked xs)
-alike_ranked xs ys = IsPermutation-keeps xs (λ l. Alike (ranked l) (ranked xs)) (alike-refl (ranked xs) (down-ranked xs [] tt)) (λ l i j p q h.
+alike_ranked : (xs ys : List Contribution) → IsPermutation xs ys → Alike (ranking_of ys) (ranking_of xs)
+alike_ranked xs ys = IsPermutation-keeps xs (λ l. Alike (ranking_of l) (ranking_of xs)) (alike-refl (ranking_of xs) (down-ranked xs [] tt)) (λ l i j p q h.
     let d : Contribution = record { value = pos 0; weight = 0 } in
     let turned = exchanged l i j d [] tt p q in
-    alike-trans _ (ranked l) (ranked xs) (subst (λ t. Alike (ranked t) (ranked l)) (swap_is l i j d p q) turned) h) ys
+    alike-trans _ (ranking_of l) (ranking_of xs) (subst (λ t. Alike (ranking_of t) (ranking_of l)) (swap_is l i j d p q) turned) h) ys
 
 -- ---- the steps
 
-pub same_steps : (steps : ℕ) (xs ys : List Contribution) → IsPermutation xs ys → first_steps steps (ranked xs) ≡ first_steps steps (ranked ys)
+pub same_steps : (steps : ℕ) (xs ys : List Contribution) → IsPermutation xs ys → first_steps steps (ranking_of xs) ≡ first_steps steps (ranking_of ys)
 same_steps steps xs ys permuted =
     let none : steps - 0 ≡ steps = omega arith in
     let f : Contribution → ℕ → ℤ = λ unit n. pos (min unit.weight (steps - n)) *ℤ unit.value in
-    ap (λ n. first_steps n (ranked xs)) (sym none)
-    ∙ first_along steps 0 (ranked xs)
+    ap (λ n. first_steps n (ranking_of xs)) (sym none)
+    ∙ first_along steps 0 (ranking_of xs)
     ∙ sym ((alike_ranked xs ys permuted).sums f (exchanges_steps steps) 0)
-    ∙ sym (first_along steps 0 (ranked ys))
-    ∙ ap (λ n. first_steps n (ranked ys)) none
+    ∙ sym (first_along steps 0 (ranking_of ys))
+    ∙ ap (λ n. first_steps n (ranking_of ys)) none
   where
     exchanges_steps : (steps : ℕ) → Exchanges (λ unit n. pos (min unit.weight (steps - n)) *ℤ unit.value)
     exchanges_steps steps a b n same =
@@ -193,8 +193,8 @@ same_steps steps xs ys permuted =
 
 -- ---- what a short list tells
 
-pub tells_largest : (n : ℕ) (units : List Contribution) (tops : Tops) → Tells tops units → AreHeavy tops.scale tops.list → n ≤ tops.keep → first_steps (n * tops.scale) tops.list ≡ largest tops.scale n units
+pub tells_largest : (n : ℕ) (units : List Contribution) (tops : Tops) → KeepsLargest tops units → AreHeavy tops.scale tops.list → n ≤ tops.keep → first_steps (n * tops.scale) tops.list ≡ largest_sum tops.scale n units
 tells_largest n units tops told heavy few =
     ap (first_steps (n * tops.scale)) told.kept
-    ∙ kept_are_enough tops.scale tops.keep (n * tops.scale) (ranked told.order) (subst (AreHeavy tops.scale) told.kept heavy) (mul-le-mul_right tops.scale few)
+    ∙ kept_are_enough tops.scale tops.keep (n * tops.scale) (ranking_of told.order) (subst (AreHeavy tops.scale) told.kept heavy) (mul-le-mul_right tops.scale few)
     ∙ sym (same_steps (n * tops.scale) units told.order told.same)

@@ -3,7 +3,7 @@ use Rattle.std.proofs.Common.{◌≡◌, ◌≢◌, ℕ, zero, suc, ◌<◌, ◌
 use Rattle.std.proofs.lemmas.Bool.Decides.{Decides-eqb}
 use Rattle.std.proofs.lemmas.List.{get_or-set_other, get_or-set_same}
 use Rattle.sdc_base.specs.declared.relation.Relation.{Relation}
-use Rattle.sdc_base.specs.Components.{Linked}
+use Rattle.sdc_base.specs.Components.{AreLinked}
 use Rattle.sdc_base.specs.Forests.{ascend, IsForest, LeadsTo, Meet}
 use Rattle.sdc_base.proofs.Chains.{linked-then}
 use Rattle.sdc_base.proofs.Forest.{ends-stay, forest-set, leads-on, leads-then, leads-to_end}
@@ -99,4 +99,4 @@ forest-past relations flags cells lower cell past is forest =
     let inside = is.inside in
     forest-set relations flags cells lower cell past forest (omega (arith, low, next, past_is))
     (linked-then relations flags cell (slice_index lower cell) past (forest.links cell (omega (arith, inside, each)))
-    (subst (λ there. Linked relations flags (slice_index lower cell) there) past_is (forest.links (slice_index lower cell) (omega (arith, inside, each, next)))))
+    (subst (λ there. AreLinked relations flags (slice_index lower cell) there) past_is (forest.links (slice_index lower cell) (omega (arith, inside, each, next)))))

@@ -5,11 +5,11 @@ use Rattle.std.proofs.lemmas.List.Elements.{filter_more, All-head, All-tail}
 use Rattle.std.proofs.lemmas.List.Sums.{fold-append}
 use Rattle.sdc_base.specs.Trees.{Tree}
 use Rattle.sdc_base.specs.Records.{Name, falls_in, row_falls}
-use Rattle.sdc_base.specs.Sums.{truth, weighted, share, rows_in}
+use Rattle.sdc_base.specs.Sums.{truth, weighted_value, share_of_record, rows_in}
 use Rattle.sdc_base.specs.declared.rows.Row.{Row}
 
 -- one record more
-pub truth_more : (trees : List Tree) (name : List ℕ) (rows : List Row) (i : ℕ) (d : Row) → i < length rows → truth trees name (take (i + 1) rows) ≡ truth trees name (take i rows) +ℤ share trees name (get_or rows i d)
+pub truth_more : (trees : List Tree) (name : List ℕ) (rows : List Row) (i : ℕ) (d : Row) → i < length rows → truth trees name (take (i + 1) rows) ≡ truth trees name (take i rows) +ℤ share_of_record trees name (get_or rows i d)
 truth_more trees name rows i d within =
     let add : ℤ → Row → ℤ = λ sum row. sum +ℤ pos row.weight *ℤ row.value in
     let one : Row = get_or rows i d in
@@ -21,13 +21,13 @@ product_from_zero : (weight : ℕ) (value : ℤ) → pos 0 ≤ℤ value → pos 
 product_from_zero weight (pos n) h = omega (arith, ints)
 product_from_zero weight (negsuc n) h = absurd (omega (arith, ints))
 
-sum_from_zero : (falls : Row → Bool) (sum : ℤ) (rows : List Row) → pos 0 ≤ℤ sum → All (λ row. pos 0 ≤ℤ row.value) rows → pos 0 ≤ℤ fold (λ sum row. sum +ℤ weighted row) sum (filter falls rows)
+sum_from_zero : (falls : Row → Bool) (sum : ℤ) (rows : List Row) → pos 0 ≤ℤ sum → All (λ row. pos 0 ≤ℤ row.value) rows → pos 0 ≤ℤ fold (λ sum row. sum +ℤ weighted_value row) sum (filter falls rows)
 sum_from_zero falls sum [] h all = h
 sum_from_zero falls sum (row ∷ rows) h all =
-    let here : pos 0 ≤ℤ weighted row = product_from_zero row.weight row.value (All-head (λ (r : Row). pos 0 ≤ℤ r.value) row rows all) in
+    let here : pos 0 ≤ℤ weighted_value row = product_from_zero row.weight row.value (All-head (λ (r : Row). pos 0 ≤ℤ r.value) row rows all) in
     let rest : All (λ (r : Row). pos 0 ≤ℤ r.value) rows = All-tail (λ (r : Row). pos 0 ≤ℤ r.value) row rows all in
-    elim (falls row) as (λ b. pos 0 ≤ℤ fold (λ (s : ℤ) (r : Row). s +ℤ weighted r) sum (cond b (row ∷ filter falls rows) (filter falls rows))) [
-      | true ↦ sum_from_zero falls (sum +ℤ weighted row) rows (omega (arith, ints)) rest
+    elim (falls row) as (λ b. pos 0 ≤ℤ fold (λ (s : ℤ) (r : Row). s +ℤ weighted_value r) sum (cond b (row ∷ filter falls rows) (filter falls rows))) [
+      | true ↦ sum_from_zero falls (sum +ℤ weighted_value row) rows (omega (arith, ints)) rest
       | false ↦ sum_from_zero falls sum rows h rest
     ]
 

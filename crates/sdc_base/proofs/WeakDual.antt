@@ -15,8 +15,8 @@ use Rattle.sdc_base.specs.Totals.{sum_of, sum_below}
 use Rattle.sdc_base.specs.Systems.{Numbers, form, HoldOn, NamesCells}
 use Rattle.sdc_base.specs.Forms.{Term, form_times, weighted_forms, coefficient}
 use Rattle.sdc_base.specs.HiddenSets.{is_hidden}
-use Rattle.sdc_base.specs.Worlds.{IsWithinBounds, toward}
-use Rattle.sdc_base.specs.Refutations.{WeakDuality, refuting, share, share_at}
+use Rattle.sdc_base.specs.Worlds.{IsWithinBounds, amount_toward}
+use Rattle.sdc_base.specs.Refutations.{WeakDuality, refuting_terms, share, share_at}
 
 -- what multiples of cells come to on the numbers of the cells
 abbrev pub value_of : Numbers → List Term → ℤ
@@ -115,29 +115,29 @@ bounded_at cells flags k n den move inside shown within bounded =
       | Some cell ↦ λ found. bounded_share (is_hidden flags n) cell (k n) den move shown (within cell found) (bounded cell found)
     ] refl
 
-toward_times : (side : Side) (q move : ℤ) → toward side q *ℤ move ≡ q *ℤ toward side move
+toward_times : (side : Side) (q move : ℤ) → amount_toward side q *ℤ move ≡ q *ℤ amount_toward side move
 toward_times Above q move = refl
 toward_times Below q move = minus_times q move ∙ omega (arith, ints, *ℤ_comm q (neg_ℤ move), minus_times move q, *ℤ_comm q move)
 
 pub duality : WeakDuality
 duality system cells flags asked side least q multipliers one_each asked_inside refutation den moves world =
     let n : ℕ = length cells in
-    let terms : List Term = refuting system.relations asked side q multipliers in
+    let terms : List Term = refuting_terms system.relations asked side q multipliers in
     let k : Numbers = coefficient terms in
     let Inside : Term → Type 0 = λ t. t.0 < n in
     let inside : asked < n = omega (arith, one_each) in
     let names : All (NamesCells n) system.relations = subst (λ m. All (NamesCells m) system.relations) (sym one_each) system.named in
-    let added : value_of moves terms ≡ toward side q *ℤ moves asked =
-    sum_of-cons (λ (t : Term). t.1 *ℤ moves t.0) (asked, toward side q) (weighted_forms system.relations multipliers)
+    let added : value_of moves terms ≡ amount_toward side q *ℤ moves asked =
+    sum_of-cons (λ (t : Term). t.1 *ℤ moves t.0) (asked, amount_toward side q) (weighted_forms system.relations multipliers)
     ∙ omega (arith, ints, weighted_is_none moves system.relations multipliers world.relations_hold) in
     let apart : sum_below n (λ c. k c *ℤ moves c) ≡ value_of moves terms =
-    by_cells n moves terms (All-cons Inside (asked, toward side q) (weighted_forms system.relations multipliers) inside (weighted_inside n system.relations multipliers names)) in
+    by_cells n moves terms (All-cons Inside (asked, amount_toward side q) (weighted_forms system.relations multipliers) inside (weighted_inside n system.relations multipliers names)) in
     let shares : Numbers = share_at cells flags k in
     let most : sum_below n (λ c. k c *ℤ moves c) ≤ℤ sum_below n (λ c. den *ℤ shares c) =
     sum_below-le n (λ c. k c *ℤ moves c) (λ c. den *ℤ shares c)
     (λ c below. bounded_at cells flags k c den (moves c) below (world.shown_stay c (omega (arith, one_each))) (world.bounds_hold c) (refutation.bounded c)) in
     let whole : sum_below n (λ c. den *ℤ shares c) ≡ den *ℤ sum_below n shares = sum_below-times n den shares in
     let strict : (den *ℤ sum_below n shares) <ℤ (den *ℤ (q *ℤ least)) = times_more den (sum_below n shares) (q *ℤ least) world.positive refutation.below in
-    let left : toward side q *ℤ moves asked ≡ q *ℤ toward side (moves asked) = toward_times side q (moves asked) in
+    let left : amount_toward side q *ℤ moves asked ≡ q *ℤ amount_toward side (moves asked) = toward_times side q (moves asked) in
     let right : den *ℤ (q *ℤ least) ≡ q *ℤ (den *ℤ least) = swap_times den q least in
-    below_from_times q (toward side (moves asked)) (den *ℤ least) refutation.q_positive (omega (arith, ints))
+    below_from_times q (amount_toward side (moves asked)) (den *ℤ least) refutation.q_positive (omega (arith, ints))

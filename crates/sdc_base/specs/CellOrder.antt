@@ -24,4 +24,5 @@ pub record PlacesAreLexicographic : Type 0 where
 pub record NamesAreFirst : Type 0 where
   pub all : (names : List Name) (name : Name) → is_named (first_names names) name ≡ is_named names name
   pub once : (names : List Name) → IsDistinct bytes_eq (first_names names)
-  pub first : (names more : List Name) → (later : List Name) × (first_names (names ++ more) ≡ first_names names ++ later)
+  pub first : (names more : List Name) → (later : List Name)
+      × (first_names (names ++ more) ≡ first_names names ++ later)

@@ -8,11 +8,14 @@ use Rattle.sdc_base.specs.Components.{component, is_of}
 
 -- a cell of the component with this number stands in the relation, as its total or as one of its parts
 abbrev pub stands_in : List (Option ℕ) → ℕ → Relation → Bool
-stands_in of number r = is_of number (component of r.total) || list_any (λ part. is_of number (component of part)) r.parts
+stands_in of number r =
+    is_of number (component of r.total) || list_any (λ part. is_of number (component of part)) r.parts
 
 -- the relations, ascending, in which a cell of the component with this number stands
 abbrev pub rows_in : List Relation → List (Option ℕ) → ℕ → List ℕ
-rows_in relations of number = filter (λ row. option_map_or (stands_in of number) (slice_get relations row) false) (range_with_len 0 (length relations))
+rows_in relations of number =
+    filter (λ row. option_map_or (stands_in of number) (slice_get relations row) false)
+    (range_with_len 0 (length relations))
 
 -- these for each component, by its number
 abbrev pub rows_of : List Relation → List (Option ℕ) → ℕ → List (List ℕ)

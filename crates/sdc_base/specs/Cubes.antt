@@ -16,7 +16,8 @@ use Rattle.sdc_base.specs.declared.facts.Levels.{Levels}
 abbrev pub codes_in : Tree → ℕ → List ℕ
 codes_in tree parent = parent ∷ children tree parent
 
--- The edge from a code to its partner. Where one of both is the parent the ends have one sign; two children have opposite ones.
+-- The edge from a code to its partner. Where one of both is the parent the ends have one sign; two children have
+-- opposite ones.
 abbrev pub edge_to : ℕ → ℕ → ℕ → Edge
 edge_to parent code other = record { code = code; other = other; equal = code == parent || other == parent }
 
@@ -67,7 +68,8 @@ corner_places (edge ∷ edges) = map (own_end edge) (corner_places edges) ++ map
 -- a corner behind all that have no higher number
 abbrev pub with_corner : List Corner → Corner → List Corner
 with_corner [] new = new ∷ []
-with_corner (corner ∷ corners) new = if nat_lt new.cell corner.cell then new ∷ corner ∷ corners else corner ∷ with_corner corners new
+with_corner (corner ∷ corners) new = if nat_lt new.cell corner.cell then new ∷ corner ∷ corners
+    else corner ∷ with_corner corners new
 
 -- the corner at a place, where a cell stands there
 abbrev pub corner_at : (List ℕ → Option ℕ) → List ℕ × Bool → Option Corner
@@ -84,18 +86,20 @@ abbrev pub is_within : Cell → ℤ → Bool
 is_within cell value = int_le cell.low value && option_map_or (λ high. int_le value high) cell.high true
 
 -- an amount along a sign
-abbrev pub along : Bool → ℤ → ℤ
-along plus amount = if plus then amount else neg_ℤ amount
+abbrev pub amount_along : Bool → ℤ → ℤ
+amount_along plus amount = if plus then amount else neg_ℤ amount
 
--- the cell may be hidden, and stays within its bounds both where it moves upwards by the one level along its sign and where it
--- moves by the other against it
+-- the cell may be hidden, and stays within its bounds both where it moves upwards by the one level along its sign and
+-- where it moves by the other against it
 abbrev pub bears : Levels → Bool → Cell → Bool
 bears levels plus cell =
-    not (is_fixed cell.kind) && (is_within cell (cell.truth +ℤ along plus levels.up) && is_within cell (cell.truth +ℤ along plus (neg_ℤ levels.down)))
+    not (is_fixed cell.kind) && (is_within cell (cell.truth +ℤ amount_along plus levels.up)
+    && is_within cell (cell.truth +ℤ amount_along plus (neg_ℤ levels.down)))
 
 -- each corner bears the levels
 abbrev pub serve : List Cell → Levels → List Corner → Bool
-serve cells levels corners = list_all (λ corner. option_map_or (bears levels corner.plus) (slice_get cells corner.cell) false) corners
+serve cells levels corners =
+    list_all (λ corner. option_map_or (bears levels corner.plus) (slice_get cells corner.cell) false) corners
 
 -- ---- the least
 
@@ -132,8 +136,12 @@ offer_of number hidden price edges = (price_of_hiding hidden price (corners_of n
 
 -- those of the cubes that serve
 abbrev pub offers : (List ℕ → Option ℕ) → (ℕ → Bool) → (ℕ → ℕ) → List Cell → Levels → List (List Edge) → List Offer
-offers number hidden price cells levels cubes = filter (λ offer. serve cells levels offer.1) (map (offer_of number hidden price) cubes)
+offers number hidden price cells levels cubes =
+    filter (λ offer. serve cells levels offer.1) (map (offer_of number hidden price) cubes)
 
--- the corners of the least of the cubes that serve: the one that costs least, and of those the one with the lowest numbers
-abbrev pub least_of : (List ℕ → Option ℕ) → (ℕ → Bool) → (ℕ → ℕ) → List Cell → Levels → List (List Edge) → Option (List Corner)
-least_of number hidden price cells levels cubes = option_map (λ offer. offer.1) (first_by comes_before (offers number hidden price cells levels cubes))
+-- the corners of the least of the cubes that serve: the one that costs least, and of those the one with the lowest
+-- numbers
+abbrev pub least_of : (List ℕ → Option ℕ) → (ℕ → Bool) → (ℕ → ℕ) → List Cell → Levels → List (List Edge)
+    → Option (List Corner)
+least_of number hidden price cells levels cubes =
+    option_map (λ offer. offer.1) (first_by comes_before (offers number hidden price cells levels cubes))

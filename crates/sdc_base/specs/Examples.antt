@@ -1,6 +1,6 @@
 -- The definitions on small tables that can be reckoned by hand (own).
 use Rattle.std.specs.Prelude.{◌≡◌, ℕ, zero, suc, Bool, true, false, List, [], ◌∷◌, codes, map, Option, None, Some, ℤ, pos, ◌+ℤ◌}
-use Rattle.sdc_base.specs.Trees.{Tree, flat_tree, is_under, upward}
+use Rattle.sdc_base.specs.Trees.{Tree, flat_tree, is_under, places_upward}
 use Rattle.sdc_base.specs.Records.{Name}
 use Rattle.sdc_base.specs.Cells.{cells_of}
 use Rattle.sdc_base.specs.Relations.{number_among, relations_among}
@@ -62,8 +62,8 @@ pub record FlatTable : Type 0 where
 abbrev pub largest_three : ℕ → List Row → List ℤ
 largest_three scale rows = map (largest_in (two_codes ∷ []) (0 ∷ []) rows scale) (1 ∷ 2 ∷ 3 ∷ [])
 
--- Value 10 with weight 3 and value 4 with weight 1: both of the two largest are of value 10, also with the records reversed.
--- A sum over records in place of weight steps would give 14 for two.
+-- Value 10 with weight 3 and value 4 with weight 1: both of the two largest are of value 10, also with the records
+-- reversed. A sum over records in place of weight steps would give 14 for two.
 pub record WeightSteps : Type 0 where
   pub sum : truth (two_codes ∷ []) (0 ∷ []) (row_of 1 10 3 ∷ row_of 2 4 1 ∷ []) ≡ pos 34
   pub count : freq (two_codes ∷ []) (0 ∷ []) (row_of 1 10 3 ∷ row_of 2 4 1 ∷ []) ≡ 2
@@ -78,25 +78,33 @@ pub record LastInPart : Type 0 where
 
 -- Total, Nr, 1 and 2 under Nr, Os, 3 under Os
 abbrev pub two_levels : Tree
-two_levels = (codes "Total", None) ∷ (codes "Nr", Some 0) ∷ (codes "1", Some 1) ∷ (codes "2", Some 1) ∷ (codes "Os", Some 0) ∷ (codes "3", Some 4) ∷ []
+two_levels =
+    (codes "Total", None) ∷ (codes "Nr", Some 0) ∷ (codes "1", Some 1) ∷ (codes "2", Some 1) ∷ (codes "Os", Some 0)
+    ∷ (codes "3", Some 4) ∷ []
 
 -- Two levels of codes: 2 is under itself, Nr and the total, and not under its sibling 1 or under Os.
 pub record TwoLevels : Type 0 where
-  pub walk : upward two_levels 3 ≡ 3 ∷ 1 ∷ 0 ∷ []
+  pub walk : places_upward two_levels 3 ≡ 3 ∷ 1 ∷ 0 ∷ []
   pub under : map (is_under two_levels 3) (0 ∷ 1 ∷ 2 ∷ 3 ∷ 4 ∷ 5 ∷ []) ≡ true ∷ true ∷ false ∷ true ∷ false ∷ false ∷ []
 
 -- Tables that share margins: what an earlier table named isn't named again, and names aren't sorted.
 -- A table that spans the second variable first goes through its own places in lexicographic order.
 pub record SharedMargins : Type 0 where
-  pub margin_first : cells_of (two_codes ∷ two_codes ∷ []) ((0 ∷ []) ∷ (0 ∷ 1 ∷ []) ∷ []) ≡ (0 ∷ 0 ∷ []) ∷ (1 ∷ 0 ∷ []) ∷ (2 ∷ 0 ∷ []) ∷ (0 ∷ 1 ∷ []) ∷ (0 ∷ 2 ∷ []) ∷ (1 ∷ 1 ∷ []) ∷ (1 ∷ 2 ∷ []) ∷ (2 ∷ 1 ∷ []) ∷ (2 ∷ 2 ∷ []) ∷ []
-  pub turned : cells_of (two_codes ∷ two_codes ∷ []) ((1 ∷ 0 ∷ []) ∷ []) ≡ (0 ∷ 0 ∷ []) ∷ (1 ∷ 0 ∷ []) ∷ (2 ∷ 0 ∷ []) ∷ (0 ∷ 1 ∷ []) ∷ (1 ∷ 1 ∷ []) ∷ (2 ∷ 1 ∷ []) ∷ (0 ∷ 2 ∷ []) ∷ (1 ∷ 2 ∷ []) ∷ (2 ∷ 2 ∷ []) ∷ []
+  pub margin_first : cells_of (two_codes ∷ two_codes ∷ []) ((0 ∷ []) ∷ (0 ∷ 1 ∷ []) ∷ [])
+      ≡ (0 ∷ 0 ∷ []) ∷ (1 ∷ 0 ∷ []) ∷ (2 ∷ 0 ∷ []) ∷ (0 ∷ 1 ∷ []) ∷ (0 ∷ 2 ∷ []) ∷ (1 ∷ 1 ∷ []) ∷ (1 ∷ 2 ∷ [])
+      ∷ (2 ∷ 1 ∷ []) ∷ (2 ∷ 2 ∷ []) ∷ []
+  pub turned : cells_of (two_codes ∷ two_codes ∷ []) ((1 ∷ 0 ∷ []) ∷ [])
+      ≡ (0 ∷ 0 ∷ []) ∷ (1 ∷ 0 ∷ []) ∷ (2 ∷ 0 ∷ []) ∷ (0 ∷ 1 ∷ []) ∷ (1 ∷ 1 ∷ []) ∷ (2 ∷ 1 ∷ []) ∷ (0 ∷ 2 ∷ [])
+      ∷ (1 ∷ 2 ∷ []) ∷ (2 ∷ 2 ∷ []) ∷ []
 
--- Relations by cell and then by variable: of a table of two variables; of two tables that share a margin; of two levels of
--- codes, where all codes below a code in the place of those right below would give the total five parts; and of a table
--- that doesn't span the second variable, which has none for it.
+-- Relations by cell and then by variable: of a table of two variables; of two tables that share a margin; of two levels
+-- of codes, where all codes below a code in the place of those right below would give the total five parts; and of a
+-- table that doesn't span the second variable, which has none for it.
 pub record RelationRows : Type 0 where
-  pub two_way : relations_among (two_codes ∷ two_codes ∷ []) ((0 ∷ 1 ∷ []) ∷ []) ≡ (0, 3 ∷ 6 ∷ []) ∷ (0, 1 ∷ 2 ∷ []) ∷ (1, 4 ∷ 7 ∷ []) ∷ (2, 5 ∷ 8 ∷ []) ∷ (3, 4 ∷ 5 ∷ []) ∷ (6, 7 ∷ 8 ∷ []) ∷ []
-  pub linked : relations_among (two_codes ∷ two_codes ∷ []) ((0 ∷ []) ∷ (1 ∷ []) ∷ []) ≡ (0, 1 ∷ 2 ∷ []) ∷ (0, 3 ∷ 4 ∷ []) ∷ []
+  pub two_way : relations_among (two_codes ∷ two_codes ∷ []) ((0 ∷ 1 ∷ []) ∷ [])
+      ≡ (0, 3 ∷ 6 ∷ []) ∷ (0, 1 ∷ 2 ∷ []) ∷ (1, 4 ∷ 7 ∷ []) ∷ (2, 5 ∷ 8 ∷ []) ∷ (3, 4 ∷ 5 ∷ []) ∷ (6, 7 ∷ 8 ∷ []) ∷ []
+  pub linked : relations_among (two_codes ∷ two_codes ∷ []) ((0 ∷ []) ∷ (1 ∷ []) ∷ [])
+      ≡ (0, 1 ∷ 2 ∷ []) ∷ (0, 3 ∷ 4 ∷ []) ∷ []
   pub levels : relations_among (two_levels ∷ []) ((0 ∷ []) ∷ []) ≡ (0, 1 ∷ 4 ∷ []) ∷ (1, 2 ∷ 3 ∷ []) ∷ (4, 5 ∷ []) ∷ []
   pub not_spanned : relations_among (two_codes ∷ two_codes ∷ []) ((0 ∷ []) ∷ []) ≡ (0, 1 ∷ 2 ∷ []) ∷ []
 
@@ -108,14 +116,16 @@ sum_of_first (suc n) (number ∷ numbers) = number +ℤ sum_of_first n numbers
 
 -- the figures of a cell with these contributions of weight 1
 abbrev pub figures : ℕ → ℕ → ℕ → ℕ → ℕ → Figures
-figures truth freq first second third = record { truth = pos truth; freq = freq; largest = λ n. sum_of_first n (pos first ∷ pos second ∷ pos third ∷ []) }
+figures truth freq first second third =
+    record { truth = pos truth; freq = freq; largest = λ n. sum_of_first n (pos first ∷ pos second ∷ pos third ∷ []) }
 
 -- Levels by the rules: dominance with 8000 / 75 rounded up, less 100; the greatest level holds; exactly 75 percent and
 -- exactly 10 percent name no cell; and a level of 0 percent is still a unit.
 pub record RuleRows : Type 0 where
   pub dominance : level_of (rule.Nk 1 75 ∷ []) (figures 100 3 80 15 5) ≡ Some (record { up = pos 7; down = pos 7 })
   pub percent : level_of (rule.Percent 10 ∷ []) (figures 100 3 80 15 5) ≡ Some (record { up = pos 3; down = pos 3 })
-  pub both : level_of (rule.Percent 10 ∷ rule.Nk 1 75 ∷ []) (figures 100 3 80 15 5) ≡ Some (record { up = pos 7; down = pos 7 })
+  pub both : level_of (rule.Percent 10 ∷ rule.Nk 1 75 ∷ []) (figures 100 3 80 15 5)
+      ≡ Some (record { up = pos 7; down = pos 7 })
   pub at_bound : level_of (rule.Nk 1 75 ∷ []) (figures 100 3 75 15 10) ≡ None
   pub at_percent : level_of (rule.Percent 10 ∷ []) (figures 100 3 80 12 8) ≡ None
   pub frequency : level_of (rule.Freq 3 30 ∷ []) (figures 20 2 10 10 0) ≡ Some (record { up = pos 6; down = pos 6 })
@@ -134,11 +144,15 @@ corner_of cell plus = record { cell = cell; plus = plus }
 abbrev pub number_in_nine : List ℕ → Option ℕ
 number_in_nine place = number_among (cells_of (two_codes ∷ two_codes ∷ []) ((0 ∷ 1 ∷ []) ∷ [])) place
 
--- Cubes in a table of two variables with two codes each. A code and its total have one sign, two codes opposite ones: with
--- one sign for all, the corners of the two inner codes would all be plus. And the order of the subtables of two levels of codes.
+-- Cubes in a table of two variables with two codes each. A code and its total have one sign, two codes opposite ones:
+-- with one sign for all, the corners of the two inner codes would all be plus. And the order of the subtables of two
+-- levels of codes.
 pub record CubeRows : Type 0 where
   pub of_code : edges_from two_codes 0 1 ≡ edge_of 1 0 true ∷ edge_of 1 2 false ∷ []
   pub of_total : edges_from two_codes 0 0 ≡ edge_of 0 1 true ∷ edge_of 0 2 true ∷ []
-  pub inner : corners_of number_in_nine (edge_of 1 2 false ∷ edge_of 1 2 false ∷ []) ≡ corner_of 4 true ∷ corner_of 5 false ∷ corner_of 7 false ∷ corner_of 8 true ∷ []
-  pub outer : corners_of number_in_nine (edge_of 1 2 false ∷ edge_of 1 0 true ∷ []) ≡ corner_of 3 true ∷ corner_of 4 true ∷ corner_of 6 false ∷ corner_of 7 false ∷ []
-  pub order : map (λ subtable. subtable.parents) (ordered_subtables (two_levels ∷ []) ((0 ∷ []) ∷ [])) ≡ (0 ∷ []) ∷ (1 ∷ []) ∷ (4 ∷ []) ∷ []
+  pub inner : corners_of number_in_nine (edge_of 1 2 false ∷ edge_of 1 2 false ∷ [])
+      ≡ corner_of 4 true ∷ corner_of 5 false ∷ corner_of 7 false ∷ corner_of 8 true ∷ []
+  pub outer : corners_of number_in_nine (edge_of 1 2 false ∷ edge_of 1 0 true ∷ [])
+      ≡ corner_of 3 true ∷ corner_of 4 true ∷ corner_of 6 false ∷ corner_of 7 false ∷ []
+  pub order : map (λ subtable. subtable.parents) (ordered_subtables (two_levels ∷ []) ((0 ∷ []) ∷ []))
+      ≡ (0 ∷ []) ∷ (1 ∷ []) ∷ (4 ∷ []) ∷ []

@@ -2,7 +2,7 @@
 use Rattle.std.specs.Prelude.{◌≡◌, ℕ, zero, suc, ◌<◌, ◌≤◌, Bool, true, false, List, length, slice_index, Option, None, Some}
 use Rattle.sdc_base.specs.Places.{count}
 use Rattle.sdc_base.specs.HiddenSets.{is_hidden}
-use Rattle.sdc_base.specs.Components.{Linked, component, is_of, names}
+use Rattle.sdc_base.specs.Components.{AreLinked, component, is_of, names}
 use Rattle.sdc_base.specs.declared.relation.Relation.{Relation}
 
 -- the cell that so many steps lead to
@@ -22,20 +22,26 @@ Meet lower one other = (root : ℕ) × LeadsTo lower one root × LeadsTo lower o
 pub record IsForest (relations : List Relation) (flags : List Bool) (cells : ℕ) (lower : List ℕ) : Type 0 where
   pub each : length lower ≡ cells
   pub falls : (cell : ℕ) → slice_index lower cell ≤ cell
-  pub links : (cell : ℕ) → cell < cells → Linked relations flags cell (slice_index lower cell)
+  pub links : (cell : ℕ) → cell < cells → AreLinked relations flags cell (slice_index lower cell)
 
 -- the hidden cells that the relation names meet
 abbrev pub Joins : List Bool → List ℕ → Relation → Type 0
-Joins flags lower r = (one other : ℕ) → is_hidden flags one ≡ true → is_hidden flags other ≡ true → names r one ≡ true → names r other ≡ true → Meet lower one other
+Joins flags lower r =
+    (one other : ℕ) → is_hidden flags one ≡ true → is_hidden flags other ≡ true → names r one ≡ true
+    → names r other ≡ true → Meet lower one other
 
 -- the numbers of the cells' components so far, and how many cells each has
 pub record AreNumbered (flags : List Bool) (lower : List ℕ) (of : List (Option ℕ)) (sizes : List ℕ) : Type 0 where
   pub few : length sizes ≤ length of
   pub shown : (cell : ℕ) → is_hidden flags cell ≡ false → component of cell ≡ None
-  pub hidden : (cell : ℕ) → cell < length of → is_hidden flags cell ≡ true → (number : ℕ) × (component of cell ≡ Some number)
+  pub hidden : (cell : ℕ) → cell < length of → is_hidden flags cell ≡ true
+      → (number : ℕ) × (component of cell ≡ Some number)
   pub below : (cell number : ℕ) → component of cell ≡ Some number → number < length sizes
-  pub same : (cell : ℕ) → cell < length of → is_hidden flags cell ≡ true → component of cell ≡ component of (slice_index lower cell)
-  pub apart : (one other number : ℕ) → slice_index lower one ≡ one → slice_index lower other ≡ other → component of one ≡ Some number → component of other ≡ Some number → one ≡ other
+  pub same : (cell : ℕ) → cell < length of → is_hidden flags cell ≡ true
+      → component of cell ≡ component of (slice_index lower cell)
+  pub apart : (one other number : ℕ) → slice_index lower one ≡ one → slice_index lower other ≡ other
+      → component of one ≡ Some number → component of other ≡ Some number → one ≡ other
   pub all : (number : ℕ) → number < length sizes → (cell : ℕ) × (component of cell ≡ Some number)
-  pub first : (cell number before : ℕ) → component of cell ≡ Some number → before < number → (lowest : ℕ) × (lowest < cell) × (component of lowest ≡ Some before)
+  pub first : (cell number before : ℕ) → component of cell ≡ Some number → before < number
+      → (lowest : ℕ) × (lowest < cell) × (component of lowest ≡ Some before)
   pub counted : (number : ℕ) → slice_index sizes number ≡ count (is_of number) of

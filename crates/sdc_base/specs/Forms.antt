@@ -14,7 +14,8 @@ form_times times r = (r.total, times) ∷ map (λ part. (part, neg_ℤ times)) r
 
 -- the forms of relations, each as many times as its multiplier says
 abbrev pub weighted_forms : List Relation → List Term → List Term
-weighted_forms relations multipliers = flat_map (λ m. option_map_or (form_times m.1) (slice_get relations m.0) []) multipliers
+weighted_forms relations multipliers =
+    flat_map (λ m. option_map_or (form_times m.1) (slice_get relations m.0) []) multipliers
 
 -- a cell's coefficient: its multiples, added up
 abbrev pub coefficient : List Term → ℕ → ℤ

@@ -10,8 +10,10 @@ is_hidden flags cell = slice_index_or flags cell false
 
 -- the set is permitted: it holds every primary cell and no fixed cell
 pub record IsPermitted (cells : List Cell) (flags : List Bool) : Type 0 where
-  pub primary_hidden : (number : ℕ) (cell : Cell) → slice_get cells number ≡ Some cell → cell.kind ≡ Primary → is_hidden flags number ≡ true
-  pub fixed_shown : (number : ℕ) (cell : Cell) → slice_get cells number ≡ Some cell → cell.kind ≡ Fixed → is_hidden flags number ≡ false
+  pub primary_hidden : (number : ℕ) (cell : Cell) → slice_get cells number ≡ Some cell → cell.kind ≡ Primary
+      → is_hidden flags number ≡ true
+  pub fixed_shown : (number : ℕ) (cell : Cell) → slice_get cells number ≡ Some cell → cell.kind ≡ Fixed
+      → is_hidden flags number ≡ false
 
 -- a cell of this kind may be hidden
 abbrev pub may_hide : Kind → Bool

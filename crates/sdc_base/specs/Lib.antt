@@ -1,5 +1,5 @@
 pub mod Counts
-pub mod Told
+pub mod WhereTold
 pub mod Sides
 pub mod Steps
 pub mod Answers
@@ -14,7 +14,7 @@ pub mod Cells
 pub mod CellOrder
 pub mod Sums
 pub mod Largest
-pub mod Tells
+pub mod LargestKept
 pub mod Shares
 pub mod Rules
 pub mod Roundings

@@ -36,9 +36,9 @@ pub record IsLine (line : List ℕ) : Type 0 where
   pub no_return : strip_carriage_return line ≡ line
 
 -- the text of lines, each ended by LF
-abbrev pub joined : List (List ℕ) → List ℕ
-joined [] = []
-joined (line ∷ rest) = line ++ 10 ∷ joined rest
+abbrev pub text_of_lines : List (List ℕ) → List ℕ
+text_of_lines [] = []
+text_of_lines (line ∷ rest) = line ++ 10 ∷ text_of_lines rest
 
 -- the text of lines, each ended by CR and LF
 abbrev pub joined_with_returns : List (List ℕ) → List ℕ

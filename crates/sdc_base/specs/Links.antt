@@ -6,9 +6,9 @@ use Rattle.sdc_base.specs.declared.links.Link.{Link}
 use Rattle.sdc_base.specs.Signs.{sign_of}
 
 -- a sign, or the other one where it isn't to be the same
-abbrev pub turned : Bool → Bool → Bool
-turned true sign = sign
-turned false sign = not sign
+abbrev pub sign_by_link : Bool → Bool → Bool
+sign_by_link true sign = sign
+sign_by_link false sign = not sign
 
 -- each link is to the relation itself or to a lower one, and to itself with the same sign
 pub record AreLinks (links : List Link) : Type 0 where
@@ -17,9 +17,12 @@ pub record AreLinks (links : List Link) : Type 0 where
 
 -- the signs are as the links say: each relation's is that of the one that it is linked to, or the other one
 abbrev pub Follow : List Bool → List Link → Type 0
-Follow signs links = (number : ℕ) (link : Link) → slice_get links number ≡ Some link → sign_of signs number ≡ turned link.same (sign_of signs link.to)
+Follow signs links =
+    (number : ℕ) (link : Link) → slice_get links number ≡ Some link
+    → sign_of signs number ≡ sign_by_link link.same (sign_of signs link.to)
 
 -- the relations that count a cell count it with opposite signs
 abbrev pub Oppose : List Bool → Ends → Type 0
-Oppose signs (Two one other) = sign_of signs one.relation ≡ turned (turned one.plus (not other.plus)) (sign_of signs other.relation)
+Oppose signs (Two one other) = sign_of signs one.relation
+    ≡ sign_by_link (sign_by_link one.plus (not other.plus)) (sign_of signs other.relation)
 Oppose signs fewer = Unit {0}

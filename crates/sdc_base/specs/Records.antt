@@ -20,8 +20,12 @@ row_falls trees name row = falls_in trees name row.codes
 
 -- variable by variable: the code is under the cell's
 abbrev pub IsUnderInEach : List Tree → Name → Name → Type 0
-IsUnderInEach trees name codes = (variable : ℕ) → variable < length trees → IsTrue (is_under (slice_index_or trees variable []) (slice_index codes variable) (slice_index name variable))
+IsUnderInEach trees name codes =
+    (variable : ℕ) → variable < length trees
+    → IsTrue (is_under (slice_index_or trees variable []) (slice_index codes variable) (slice_index name variable))
 
 -- a record falls in a cell exactly where each of its codes is under the cell's code
 abbrev pub FallsWhereUnderInEach : Type 0
-FallsWhereUnderInEach = (trees : List Tree) (name codes : Name) → length name ≡ length trees → length codes ≡ length trees → IsTrue (falls_in trees name codes) ↔ IsUnderInEach trees name codes
+FallsWhereUnderInEach =
+    (trees : List Tree) (name codes : Name) → length name ≡ length trees → length codes ≡ length trees
+    → IsTrue (falls_in trees name codes) ↔ IsUnderInEach trees name codes

@@ -17,7 +17,8 @@ codes_below trees name variable = children (slice_index_or trees variable []) (s
 
 -- some table has the cell and spans the variable
 abbrev pub is_spanned : List Tree → List (List ℕ) → Name → ℕ → Bool
-is_spanned trees tables name variable = list_any (λ table. spans table variable && is_named (named_by trees table) name) tables
+is_spanned trees tables name variable =
+    list_any (λ table. spans table variable && is_named (named_by trees table) name) tables
 
 -- the number of the cell with this name
 abbrev pub number_among : List Name → Name → Option ℕ
@@ -27,8 +28,8 @@ number_among cells name = first_place (bytes_eq name) cells
 abbrev pub parts_among : List Name → Name → ℕ → List ℕ → List ℕ
 parts_among cells name variable codes = filter_map (λ code. number_among cells (slice_set name variable code)) codes
 
--- the relation of a cell for a variable: there is one where some table has the cell and spans the variable, and there are codes
--- right below the cell's
+-- the relation of a cell for a variable: there is one where some table has the cell and spans the variable, and there
+-- are codes right below the cell's
 abbrev pub relation_for : List Tree → List (List ℕ) → ℕ → Name → ℕ → Option Sum
 relation_for trees tables cell name variable =
     if is_spanned trees tables name variable && not (length (codes_below trees name variable) == 0)
@@ -37,9 +38,11 @@ relation_for trees tables cell name variable =
 
 -- the relations of a cell, by variable
 abbrev pub relations_for : List Tree → List (List ℕ) → ℕ → Name → List Sum
-relations_for trees tables cell name = filter_map (relation_for trees tables cell name) (range_with_len 0 (length trees))
+relations_for trees tables cell name =
+    filter_map (relation_for trees tables cell name) (range_with_len 0 (length trees))
 
 -- the relations of the cells of tables, by cell and then by variable
 abbrev pub relations_among : List Tree → List (List ℕ) → List Sum
 relations_among trees tables =
-    flat_map (λ cell. relations_for trees tables cell (slice_index_or (cells_of trees tables) cell [])) (range_with_len 0 (length (cells_of trees tables)))
+    flat_map (λ cell. relations_for trees tables cell (slice_index_or (cells_of trees tables) cell []))
+    (range_with_len 0 (length (cells_of trees tables)))

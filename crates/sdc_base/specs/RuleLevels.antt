@@ -25,23 +25,24 @@ abbrev pub kept_largest : Tops → ℕ → ℤ
 kept_largest tops n = first_steps (n * tops.scale) tops.list
 
 -- the figures that are told of a cell
-abbrev pub told : CellFacts → Figures
-told facts = record { truth = facts.truth; freq = facts.freq; largest = kept_largest facts.tops }
+abbrev pub figures_of_facts : CellFacts → Figures
+figures_of_facts facts = record { truth = facts.truth; freq = facts.freq; largest = kept_largest facts.tops }
 
 -- the figures of a cell over the records
 abbrev pub figures_in : List Tree → Name → List Row → ℕ → Figures
-figures_in trees name rows scale = record { truth = truth trees name rows; freq = freq trees name rows; largest = largest_in trees name rows scale }
+figures_in trees name rows scale =
+    record { truth = truth trees name rows; freq = freq trees name rows; largest = largest_in trees name rows scale }
 
 -- what the truth has beside the two largest contributions
-abbrev pub rest : Figures → ℤ
-rest cell = cell.truth +ℤ neg_ℤ (cell.largest 2)
+abbrev pub rest_beside_two : Figures → ℤ
+rest_beside_two cell = cell.truth +ℤ neg_ℤ (cell.largest 2)
 
--- The rule names the cell: too few records; the n largest above k percent of the truth; or the rest below p percent of the
--- largest. All comparisons are strict, so exactly k percent, or exactly p percent, name no cell.
+-- The rule names the cell: too few records; the n largest above k percent of the truth; or the rest below p percent of
+-- the largest. All comparisons are strict, so exactly k percent, or exactly p percent, name no cell.
 abbrev pub names : Rule → Figures → Bool
 names (rule.Freq n r) cell = frequency_names n cell.freq
 names (rule.Nk n k) cell = int_lt (pos k *ℤ cell.truth) (pos 100 *ℤ cell.largest n)
-names (rule.Percent p) cell = int_lt (pos 100 *ℤ rest cell) (pos p *ℤ cell.largest 1)
+names (rule.Percent p) cell = int_lt (pos 100 *ℤ rest_beside_two cell) (pos p *ℤ cell.largest 1)
 
 -- a fraction of whole numbers, its denominator above 0
 pub record Fraction : Type 0 where
@@ -53,15 +54,15 @@ abbrev pub divided : ℤ → ℕ → Fraction
 divided over under = record { over = over; under = under }
 
 -- a fraction less a whole number
-abbrev pub less : Fraction → ℤ → Fraction
-less q n = divided (q.over +ℤ neg_ℤ (pos q.under *ℤ n)) q.under
+abbrev pub fraction_less : Fraction → ℤ → Fraction
+fraction_less q n = divided (q.over +ℤ neg_ℤ (pos q.under *ℤ n)) q.under
 
--- How far the rule wants a cell that it names to be open upwards: r percent of the truth; what the truth lacks for the n largest
--- to be k percent of it; or what the rest lacks for p percent of the largest.
-abbrev pub wanted : Rule → Figures → Fraction
-wanted (rule.Freq n r) cell = divided (pos r *ℤ cell.truth) 100
-wanted (rule.Nk n k) cell = less (divided (pos 100 *ℤ cell.largest n) k) cell.truth
-wanted (rule.Percent p) cell = less (divided (pos p *ℤ cell.largest 1) 100) (rest cell)
+-- How far the rule wants a cell that it names to be open upwards: r percent of the truth; what the truth lacks for the
+-- n largest to be k percent of it; or what the rest lacks for p percent of the largest.
+abbrev pub wanted_level : Rule → Figures → Fraction
+wanted_level (rule.Freq n r) cell = divided (pos r *ℤ cell.truth) 100
+wanted_level (rule.Nk n k) cell = fraction_less (divided (pos 100 *ℤ cell.largest n) k) cell.truth
+wanted_level (rule.Percent p) cell = fraction_less (divided (pos p *ℤ cell.largest 1) 100) (rest_beside_two cell)
 
 -- the least whole number that is not below the fraction, and a unit at least
 abbrev pub rounded_up : Fraction → ℤ
@@ -74,14 +75,15 @@ pub record IsRoundedUp (q : Fraction) (level : ℤ) : Type 0 where
   pub least : (other : ℤ) → pos 1 ≤ℤ other → q.over ≤ℤ (pos q.under *ℤ other) → level ≤ℤ other
 
 -- the greater of a number and one that may be there
-abbrev pub greater : ℤ → Option ℤ → ℤ
-greater n None = n
-greater n (Some m) = if int_lt n m then m else n
+abbrev pub greater_number : ℤ → Option ℤ → ℤ
+greater_number n None = n
+greater_number n (Some m) = if int_lt n m then m else n
 
 -- the greatest upper level of the rules that name the cell, where one does
 abbrev pub upper_of : List Rule → Figures → Option ℤ
 upper_of [] cell = None
-upper_of (one ∷ rules) cell = if names one cell then Some (greater (rounded_up (wanted one cell)) (upper_of rules cell)) else upper_of rules cell
+upper_of (one ∷ rules) cell = if names one cell
+    then Some (greater_number (rounded_up (wanted_level one cell)) (upper_of rules cell)) else upper_of rules cell
 
 -- levels with this upper one: the lower one is the lesser of it and the truth
 abbrev pub levels_up_to : ℤ → ℤ → Levels

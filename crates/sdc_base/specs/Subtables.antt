@@ -35,7 +35,8 @@ depth_in tree code = length (met_in (length tree) tree (parent_at tree code))
 abbrev pub summed_depth : List Tree → List ℕ → List ℕ → ℕ
 summed_depth trees [] place = 0
 summed_depth trees (variable ∷ table) [] = 0
-summed_depth trees (variable ∷ table) (code ∷ place) = depth_in (slice_index_or trees variable []) code + summed_depth trees table place
+summed_depth trees (variable ∷ table) (code ∷ place) = depth_in (slice_index_or trees variable []) code + summed_depth
+    trees table place
 
 -- the summed depth of a subtable's parents
 abbrev pub depth_of : List Tree → List (List ℕ) → Subtable → ℕ
@@ -55,7 +56,8 @@ by_depths trees tables subtables depths = flat_map (λ depth. of_depth trees tab
 
 -- all subtables: by the summed depth of their parents, then by their tables, then by the places of the parents
 abbrev pub ordered_subtables : List Tree → List (List ℕ) → List Subtable
-ordered_subtables trees tables = by_depths trees tables (subtables_from trees 0 tables) (range_with_len 0 (most_depth + 1))
+ordered_subtables trees tables =
+    by_depths trees tables (subtables_from trees 0 tables) (range_with_len 0 (most_depth + 1))
 
 -- the code is the parent or one of its children
 abbrev pub is_code_in : Tree → ℕ → ℕ → Bool

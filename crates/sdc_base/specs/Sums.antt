@@ -9,16 +9,16 @@ abbrev pub rows_in : List Tree → Name → List Row → List Row
 rows_in trees name rows = filter (row_falls trees name) rows
 
 -- weight times value of a record
-abbrev pub weighted : Row → ℤ
-weighted row = pos row.weight *ℤ row.value
+abbrev pub weighted_value : Row → ℤ
+weighted_value row = pos row.weight *ℤ row.value
 
 -- the truth of a cell: the sum of weight times value over the records that fall in it
 abbrev pub truth : List Tree → Name → List Row → ℤ
-truth trees name rows = fold (λ sum row. sum +ℤ weighted row) (pos 0) (rows_in trees name rows)
+truth trees name rows = fold (λ sum row. sum +ℤ weighted_value row) (pos 0) (rows_in trees name rows)
 
 -- what one record adds to the truth of a cell
-abbrev pub share : List Tree → Name → Row → ℤ
-share trees name row = if row_falls trees name row then weighted row else pos 0
+abbrev pub share_of_record : List Tree → Name → Row → ℤ
+share_of_record trees name row = if row_falls trees name row then weighted_value row else pos 0
 
 -- the frequency of a cell: how many records fall in it
 abbrev pub freq : List Tree → Name → List Row → ℕ

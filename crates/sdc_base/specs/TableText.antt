@@ -18,13 +18,13 @@ abbrev pub is_special : ℕ → Bool
 is_special b = (b == comma) || ((b == quote) || ((b == 13) || (b == 10)))
 
 -- each quote inside is doubled
-abbrev pub doubled : List ℕ → List ℕ
-doubled [] = []
-doubled (b ∷ field) = if b == quote then quote ∷ b ∷ doubled field else b ∷ doubled field
+abbrev pub quotes_doubled : List ℕ → List ℕ
+quotes_doubled [] = []
+quotes_doubled (b ∷ field) = if b == quote then quote ∷ b ∷ quotes_doubled field else b ∷ quotes_doubled field
 
 -- a field's text: in quotes exactly where it has a special byte
 abbrev pub field_text : List ℕ → List ℕ
-field_text field = if list_any is_special field then quote ∷ (doubled field ++ quote ∷ []) else field
+field_text field = if list_any is_special field then quote ∷ (quotes_doubled field ++ quote ∷ []) else field
 
 -- a line: the fields with commas between them, ended by LF
 abbrev pub line_text : List (List ℕ) → List ℕ
@@ -47,4 +47,5 @@ shown_text decimals (Some number) = units_text (unsigned_abs number) decimals
 abbrev pub table_text : List Tree → List ℕ → List (List ℕ) → ℕ → (List ℕ → Option ℤ) → List ℕ
 table_text trees table names decimals shown =
     line_text names
-    ++ flat_map (λ place. line_text (codes_of_place (trees_of trees table) place ++ shown_text decimals (shown (name_of (length trees) table place)) ∷ [])) (places (trees_of trees table))
+    ++ flat_map (λ place. line_text (codes_of_place (trees_of trees table) place
+    ++ shown_text decimals (shown (name_of (length trees) table place)) ∷ [])) (places (trees_of trees table))

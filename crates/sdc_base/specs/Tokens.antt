@@ -14,7 +14,9 @@ is_number digits = not (length digits == 0) && all_ascii_digits digits
 
 -- the number that the digits write, where it is from `low` to `high`; leading zeros are accepted
 abbrev pub number_in : ℕ → ℕ → List ℕ → Option ℕ
-number_in low high digits = if is_number digits && (nat_le low (digits_value 10 digits) && nat_le (digits_value 10 digits) high) then Some (digits_value 10 digits) else None
+number_in low high digits =
+    if is_number digits && (nat_le low (digits_value 10 digits) && nat_le (digits_value 10 digits) high)
+    then Some (digits_value 10 digits) else None
 
 -- printable ASCII, the space with it, but no double quote
 abbrev pub is_name_byte : ℕ → Bool

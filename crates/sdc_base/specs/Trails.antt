@@ -12,7 +12,9 @@ use Rattle.sdc_base.specs.declared.trail.PlanStep.{PlanStep}
 
 -- the levels of a cell's step: those of a primary cell; of another one a unit above, and a unit below where it has one
 abbrev pub step_levels : Cell → Levels
-step_levels cell = if is_primary cell.kind then record { up = cell.up; down = cell.down } else record { up = pos 1; down = int_min cell.truth (pos 1) }
+step_levels cell =
+    if is_primary cell.kind then record { up = cell.up; down = cell.down }
+    else record { up = pos 1; down = int_min cell.truth (pos 1) }
 
 -- the levels of the step of the cell with this number
 abbrev pub levels_at : List Cell → ℕ → Levels
@@ -28,9 +30,16 @@ hidden_after cells steps cell = is_primary_at cells cell || list_any (λ step. i
 
 -- the step of a cell in a subtable, with the corners of its cube
 abbrev pub step_of : Subtable → ℕ → List Corner → PlanStep
-step_of subtable cell corners = record { table = subtable.table; parents = subtable.parents; cell = cell; corners = map (λ corner. corner.cell) corners }
+step_of subtable cell corners =
+    record {
+      table = subtable.table;
+      parents = subtable.parents;
+      cell = cell;
+      corners = map (λ corner. corner.cell) corners;
+    }
 
 -- the steps and one more, where there is a cube and some corner of it isn't hidden yet
 abbrev pub with_step : (ℕ → Bool) → Subtable → ℕ → List PlanStep → Option (List Corner) → List PlanStep
 with_step hidden subtable cell steps None = steps
-with_step hidden subtable cell steps (Some corners) = if list_any (λ corner. not (hidden corner.cell)) corners then steps ++ step_of subtable cell corners ∷ [] else steps
+with_step hidden subtable cell steps (Some corners) = if list_any (λ corner. not (hidden corner.cell)) corners
+    then steps ++ step_of subtable cell corners ∷ [] else steps

@@ -45,12 +45,12 @@ met_in zero tree (Some place) = []
 met_in (suc steps) tree (Some place) = place ∷ met_in steps tree (parent_at tree place)
 
 -- the places met walking parents from a place, itself included; a tree has no longer walk than it has codes
-abbrev pub upward : Tree → ℕ → List ℕ
-upward tree place = met_in (length tree) tree (Some place)
+abbrev pub places_upward : Tree → ℕ → List ℕ
+places_upward tree place = met_in (length tree) tree (Some place)
 
 -- the test whether walking parents from `place`, itself included, meets `above`
 abbrev pub is_under : Tree → ℕ → ℕ → Bool
-is_under tree place above = list_any (λ met. met == above) (upward tree place)
+is_under tree place above = list_any (λ met. met == above) (places_upward tree place)
 
 -- the place's parent is this one
 abbrev pub is_child : Tree → ℕ → ℕ → Bool
@@ -68,7 +68,8 @@ HasEarlierParent tree place = (parent : ℕ) × (parent_at tree place ≡ Some p
 abbrev pub IsShallow : Tree → ℕ → Type 0
 IsShallow tree place = (depth : ℕ) × (depth ≤ 9) × (climb tree depth place ≡ Some 0)
 
--- a tree that a file can give: the total and at most 5,000 distinct codes below it, in preorder, at most nine levels deep
+-- a tree that a file can give: the total and at most 5,000 distinct codes below it, in preorder, at most nine levels
+-- deep
 pub record IsCodeTree (tree : Tree) : Type 0 where
   pub some : 0 < length tree
   pub few : length tree ≤ 5001
@@ -85,8 +86,12 @@ flat_tree total codes = (total, None) ∷ map (λ code. (code, Some 0)) codes
 
 -- in a code tree the test says of each place what the walk says
 abbrev pub UnderIsTested : Type 0
-UnderIsTested = (tree : Tree) → IsCodeTree tree → (place above : ℕ) → place < length tree → IsTrue (is_under tree place above) ↔ IsUnder tree place above
+UnderIsTested =
+    (tree : Tree) → IsCodeTree tree → (place above : ℕ) → place < length tree
+    → IsTrue (is_under tree place above) ↔ IsUnder tree place above
 
 -- distinct codes, with a total that is none of them, make a flat code tree
 abbrev pub FlatIsCodeTree : Type 0
-FlatIsCodeTree = (total : List ℕ) (below : List (List ℕ)) → IsDistinct bytes_eq (total ∷ below) → length below ≤ 5000 → IsCodeTree (flat_tree total below)
+FlatIsCodeTree =
+    (total : List ℕ) (below : List (List ℕ)) → IsDistinct bytes_eq (total ∷ below) → length below ≤ 5000
+    → IsCodeTree (flat_tree total below)

@@ -1,6 +1,7 @@
 ghost use Rattle.std.specs.Prelude.{◌≡◌, ◌<◌, [], ℕ, Bool, List, true, false, length, replicate, IfOk, IfSome, OnOk, None, Some};
 ghost use Rattle.sdc_base.specs.Components.{AreComponents};
-ghost use Rattle.sdc_base.specs.ComponentRows.{lists_in, put_in, rows_of as rows_meant, stands_in};
+ghost use Rattle.sdc_base.specs.ComponentRows.{lists_in, put_in, stands_in};
+ghost use Rattle.sdc_base.specs.ComponentRows as spec;
 
 use crate::connected::{Grouping, component_at};
 use crate::memory::Memory;
@@ -22,8 +23,10 @@ pub fn rows_of(
     system: &System,
     components: &Grouping,
 ) -> Result<Vec<Vec<u32>>, Memory>
-    requires components { (flags : List Bool) × (length flags ≡ system.now.cells) × AreComponents system.now.relations flags components.now.of components.now.sizes }
-    ensures { IfOk result (λ lists. lists_in lists.items ≡ rows_meant system.now.relations components.now.of (length components.now.sizes)) }
+    requires components { (flags : List Bool) × (length flags ≡ system.now.cells)
+        × AreComponents system.now.relations flags components.now.of components.now.sizes }
+    ensures { IfOk result (λ lists. lists_in lists.items
+        ≡ spec.rows_of system.now.relations components.now.of (length components.now.sizes)) }
 {
     let relations = system.relations.as_slice();
     let of = components.of.as_slice();

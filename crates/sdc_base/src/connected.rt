@@ -1,8 +1,8 @@
 ghost use Rattle.std.specs.Prelude.{◌≡◌, ◌<◌, ◌≤◌, ◌^◌, ◌+◌, ◌++◌, ◌∷◌, [], ℕ, Bool, List, true, false, length, slice_get, slice_index, slice_set, IfOk, IfSome, None, Some};
 ghost use Rattle.std.specs.List.{range_with_len};
 ghost use Rattle.sdc_base.specs.declared.relation.Relation.{Relation as AnyRelation};
-ghost use Rattle.sdc_base.specs.HiddenSets.{is_hidden as is_hidden_in};
-ghost use Rattle.sdc_base.specs.Components.{AreComponents, Linked, component, names};
+ghost use Rattle.sdc_base.specs.HiddenSets as spec;
+ghost use Rattle.sdc_base.specs.Components.{AreComponents, AreLinked, component, names};
 ghost use Rattle.sdc_base.specs.Forests.{AreNumbered, IsForest, Joins, LeadsTo, Meet};
 
 use crate::hidden::Hidden;
@@ -40,7 +40,8 @@ pub fn components(alloc: Global, system: &System, hidden: &Hidden) -> Result<Gro
 fn forest_of(alloc: Global, system: &System, flags: &[bool]) -> Result<Vec<u32>, Memory>
     requires each { length flags.now ≡ system.now.cells }
     ensures forest { IfOk result (λ lower. IsForest system.now.relations flags.now system.now.cells lower.items) }
-    ensures joined { IfOk result (λ lower. (number : ℕ) (one : AnyRelation) → slice_get system.now.relations number ≡ Some one → Joins flags.now lower.items one) }
+    ensures joined { IfOk result (λ lower. (number : ℕ) (one : AnyRelation)
+        → slice_get system.now.relations number ≡ Some one → Joins flags.now lower.items one) }
 {
     let mut lower = each_alone(alloc, system.cells)?;
     'relations: for relation in system.relations.as_slice() {
@@ -80,8 +81,8 @@ fn join_relation(system: &System, relation: &Relation, flags: &[bool], lower: &m
 
 // The first hidden cell that a relation names: its total, or else a part.
 fn first_hidden(relation: &Relation, flags: &[bool]) -> Option<u32>
-    ensures none { result ≡ None → (cell : ℕ) → names relation.now cell ≡ true → is_hidden_in flags.now cell ≡ false }
-    ensures hidden { IfSome result (λ cell. is_hidden_in flags.now cell ≡ true) }
+    ensures none { result ≡ None → (cell : ℕ) → names relation.now cell ≡ true → spec.is_hidden flags.now cell ≡ false }
+    ensures hidden { IfSome result (λ cell. spec.is_hidden flags.now cell ≡ true) }
     ensures named { IfSome result (λ cell. names relation.now cell ≡ true) }
 {
     if is_hidden(flags, relation.total) {
@@ -97,7 +98,7 @@ fn first_hidden(relation: &Relation, flags: &[bool]) -> Option<u32>
 
 // Whether a cell is hidden.
 fn is_hidden(flags: &[bool], cell: u32) -> bool
-    ensures { result ≡ is_hidden_in flags.now cell }
+    ensures { result ≡ spec.is_hidden flags.now cell }
 {
     match flags.get(cell as usize) {
         Some(flag) => *flag,
@@ -117,12 +118,12 @@ fn join_hidden(
     requires among { (number : ℕ) × (slice_get system.now.relations number ≡ Some relation.now) }
     requires each { length flags.now ≡ system.now.cells }
     requires forest { IsForest system.now.relations flags.now system.now.cells lower.old.items }
-    requires hidden { is_hidden_in flags.now first ≡ true }
+    requires hidden { spec.is_hidden flags.now first ≡ true }
     requires first_named { names relation.now first ≡ true }
     requires cell_named { names relation.now cell ≡ true }
     ensures forest { IsForest system.now.relations flags.now system.now.cells lower.new.items }
     ensures kept { (one other : ℕ) → Meet lower.old.items one other → Meet lower.new.items one other }
-    ensures joined { is_hidden_in flags.now cell ≡ true → Meet lower.new.items first cell }
+    ensures joined { spec.is_hidden flags.now cell ≡ true → Meet lower.new.items first cell }
 {
     if is_hidden(flags, cell) {
         join(system, flags, first, cell, lower);
@@ -134,7 +135,7 @@ fn join(system: &System, flags: &[bool], one: u32, other: u32, lower: &mut Vec<u
     requires forest { IsForest system.now.relations flags.now system.now.cells lower.old.items }
     requires one_known { one < system.now.cells }
     requires other_known { other < system.now.cells }
-    requires linked { Linked system.now.relations flags.now one other }
+    requires linked { AreLinked system.now.relations flags.now one other }
     ensures forest { IsForest system.now.relations flags.now system.now.cells lower.new.items }
     ensures kept { (first second : ℕ) → Meet lower.old.items first second → Meet lower.new.items first second }
     ensures joined { Meet lower.new.items one other }
@@ -153,7 +154,8 @@ fn join(system: &System, flags: &[bool], one: u32, other: u32, lower: &mut Vec<u
 fn lowest(lower: &mut Vec<u32>, cell: u32) -> u32
     requires falls { (one : ℕ) → slice_index lower.old.items one ≤ one }
     requires known { cell < length lower.old.items }
-    ensures forest { (relations : List AnyRelation) (flags : List Bool) (cells : ℕ) → IsForest relations flags cells lower.old.items → IsForest relations flags cells lower.new.items }
+    ensures forest { (relations : List AnyRelation) (flags : List Bool) (cells : ℕ)
+        → IsForest relations flags cells lower.old.items → IsForest relations flags cells lower.new.items }
     ensures kept { (one other : ℕ) → Meet lower.old.items one other → Meet lower.new.items one other }
     ensures ends { (root : ℕ) → slice_index lower.old.items root ≡ root → slice_index lower.new.items root ≡ root }
     ensures falls { (one : ℕ) → slice_index lower.new.items one ≤ one }
@@ -177,7 +179,8 @@ fn group(alloc: Global, cells: u32, flags: &[bool], lower: &[u32]) -> Result<Gro
     requires each { length flags.now ≡ cells }
     requires lower_each { length lower.now ≡ cells }
     requires falls { (cell : ℕ) → slice_index lower.now cell ≤ cell }
-    requires hidden { (cell : ℕ) → is_hidden_in flags.now cell ≡ true → is_hidden_in flags.now (slice_index lower.now cell) ≡ true }
+    requires hidden { (cell : ℕ) → spec.is_hidden flags.now cell ≡ true
+        → spec.is_hidden flags.now (slice_index lower.now cell) ≡ true }
     ensures numbered { IfOk result (λ grouping. AreNumbered flags.now lower.now grouping.of grouping.sizes) }
     ensures each { IfOk result (λ grouping. length grouping.of ≡ cells) }
 {
@@ -205,7 +208,8 @@ fn number_of(
     requires known { cell < length lower.now }
     requires few { cell + 1 < 2 ^ 32 }
     requires falls { (one : ℕ) → slice_index lower.now one ≤ one }
-    requires hidden { (one : ℕ) → is_hidden_in flags.now one ≡ true → is_hidden_in flags.now (slice_index lower.now one) ≡ true }
+    requires hidden { (one : ℕ) → spec.is_hidden flags.now one ≡ true
+        → spec.is_hidden flags.now (slice_index lower.now one) ≡ true }
     requires numbered { AreNumbered flags.now lower.now of.now sizes.old.items }
     ensures { IfOk result (λ number. AreNumbered flags.now lower.now (of.now ++ number ∷ []) sizes.new.items) }
 {
@@ -216,8 +220,8 @@ fn number_of(
     Ok(None)
 }
 
-// The number of the next cell's component, which counts it; the cell is hidden. It begins a component where the cell that
-// it points to has none so far, since that is the cell itself.
+// The number of the next cell's component, which counts it; the cell is hidden. It begins a component where the cell
+// that it points to has none so far, since that is the cell itself.
 fn number_hidden(
     cell: u32,
     flags: &[bool],
@@ -229,8 +233,9 @@ fn number_hidden(
     requires known { cell < length lower.now }
     requires few { cell + 1 < 2 ^ 32 }
     requires falls { (one : ℕ) → slice_index lower.now one ≤ one }
-    requires this_hidden { is_hidden_in flags.now cell ≡ true }
-    requires hidden { (one : ℕ) → is_hidden_in flags.now one ≡ true → is_hidden_in flags.now (slice_index lower.now one) ≡ true }
+    requires this_hidden { spec.is_hidden flags.now cell ≡ true }
+    requires hidden { (one : ℕ) → spec.is_hidden flags.now one ≡ true
+        → spec.is_hidden flags.now (slice_index lower.now one) ≡ true }
     requires numbered { AreNumbered flags.now lower.now of.now sizes.old.items }
     ensures { IfOk result (λ number. AreNumbered flags.now lower.now (of.now ++ Some number ∷ []) sizes.new.items) }
 {

@@ -1,7 +1,8 @@
 ghost use Rattle.std.specs.Prelude.{◌≡◌, ◌<◌, ◌==◌, ◌&&◌, not, pos, length, replicate, slice_get, slice_set, IfOk, IfNone, IfSome, None, Some, true, false};
 ghost use Rattle.sdc_base.specs.declared.ends.Ends.{Ends as AnyEnds};
 ghost use Rattle.sdc_base.specs.declared.ends.Ends.TheVariants.{Free};
-ghost use Rattle.sdc_base.specs.Ends.{AreEnds, IsCounting, ends_at, joined as joined_of};
+ghost use Rattle.sdc_base.specs.Ends.{AreEnds, IsCounting, ends_at};
+ghost use Rattle.sdc_base.specs.Ends as spec;
 ghost use Rattle.sdc_base.specs.Forms.{count_of};
 ghost use Rattle.sdc_base.specs.Signs.{HasNone};
 
@@ -95,11 +96,12 @@ fn meets_total(met: bool, part: u32, total: u32) -> bool
 // Notes an end of a cell. No where its relation has an end there already, and where there are two.
 fn add_end(cell: u32, end: End, ends: &mut Vec<Ends>) -> bool
     requires known { cell < length ends.old.items }
-    ensures joined { result ≡ true → (new : AnyEnds) × (joined_of (ends_at ends.old.items cell) end ≡ Some new) × (ends.new.items ≡ slice_set ends.old.items cell new) }
-    ensures none { result ≡ false → joined_of (ends_at ends.old.items cell) end ≡ None }
+    ensures joined { result ≡ true → (new : AnyEnds) × (spec.with_end (ends_at ends.old.items cell) end ≡ Some new)
+        × (ends.new.items ≡ slice_set ends.old.items cell new) }
+    ensures none { result ≡ false → spec.with_end (ends_at ends.old.items cell) end ≡ None }
     ensures each { length ends.new.items ≡ length ends.old.items }
 {
-    let Some(new) = joined(ends[cell as usize], end) else {
+    let Some(new) = with_end(ends[cell as usize], end) else {
         return false;
     };
     ends[cell as usize] = new;
@@ -107,8 +109,8 @@ fn add_end(cell: u32, end: End, ends: &mut Vec<Ends>) -> bool
 }
 
 // A cell's ends with an end more.
-fn joined(ends: Ends, end: End) -> Option<Ends>
-    ensures { result ≡ joined_of ends end }
+fn with_end(ends: Ends, end: End) -> Option<Ends>
+    ensures { result ≡ spec.with_end ends end }
 {
     match ends {
         Ends::Free => Some(Ends::One(end)),

@@ -50,7 +50,7 @@ pub use method::Method;
 pub use number_fault::NumberFault;
 pub use relation::Relation;
 pub use relation_signs::signs;
-pub use rows::{Row, weighed};
+pub use rows::{Row, weighted_value};
 pub use rule::{Rule, Rules};
 pub use rules::is_too_few;
 pub use side::Side;

@@ -1,7 +1,8 @@
 ghost use Rattle.std.specs.Prelude.{◌≡◌, ◌<◌, ◌≤◌, ◌^◌, ℕ, Bool, List, length, slice_get, IfOk, IfNone, IfSome, Some, true, false};
 ghost use Rattle.sdc_base.specs.declared.links.Link.{Link as AnyLink};
 ghost use Rattle.sdc_base.specs.Ends.{AreEnds, AreKnown, ends_at};
-ghost use Rattle.sdc_base.specs.Links.{AreLinks, Follow, Oppose, turned as turned_by};
+ghost use Rattle.sdc_base.specs.Links.{AreLinks, Follow, Oppose};
+ghost use Rattle.sdc_base.specs.Links as spec;
 ghost use Rattle.sdc_base.specs.Signs.{AreSigns, HasNone, sign_of};
 
 use crate::ends::Ends;
@@ -27,7 +28,8 @@ pub(crate) fn links_of(
     requires ends { AreEnds system.now.relations ends.now }
     ensures links { IfOk result (λ found. IfSome found (λ links. AreLinks links.items)) }
     ensures each { IfOk result (λ found. IfSome found (λ links. length links.items ≡ length system.now.relations)) }
-    ensures opposed { IfOk result (λ found. IfSome found (λ links. (signs : List Bool) → Follow signs links.items → (cell : ℕ) → Oppose signs (ends_at ends.now cell))) }
+    ensures opposed { IfOk result (λ found. IfSome found
+        (λ links. (signs : List Bool) → Follow signs links.items → (cell : ℕ) → Oppose signs (ends_at ends.now cell))) }
     ensures none { IfOk result (λ found. IfNone found (HasNone system.now.relations)) }
 {
     let mut links = each_itself(alloc, system.relations.as_slice().len() as u32)?;
@@ -68,7 +70,7 @@ fn link_ends(ends: Ends, links: &mut Vec<Link>) -> bool
             tie(
                 one.relation,
                 other.relation,
-                turned(one.plus, !other.plus),
+                sign_by_link(one.plus, !other.plus),
                 links,
             )
         }
@@ -83,14 +85,17 @@ fn tie(one: u32, other: u32, same: bool, links: &mut Vec<Link>) -> bool
     requires other { other < length links.old.items }
     ensures links { AreLinks links.new.items }
     ensures each { length links.new.items ≡ length links.old.items }
-    ensures on { (signs : List Bool) → Follow signs links.old.items → sign_of signs one ≡ turned_by same (sign_of signs other) → Follow signs links.new.items }
+    ensures on { (signs : List Bool) → Follow signs links.old.items
+        → sign_of signs one ≡ spec.sign_by_link same (sign_of signs other) → Follow signs links.new.items }
     ensures back { (signs : List Bool) → Follow signs links.new.items → Follow signs links.old.items }
-    ensures tied { result ≡ true → (signs : List Bool) → Follow signs links.new.items → sign_of signs one ≡ turned_by same (sign_of signs other) }
-    ensures none { result ≡ false → (signs : List Bool) → Follow signs links.old.items → sign_of signs one ≡ turned_by same (sign_of signs other) → ⊥ }
+    ensures tied { result ≡ true → (signs : List Bool) → Follow signs links.new.items
+        → sign_of signs one ≡ spec.sign_by_link same (sign_of signs other) }
+    ensures none { result ≡ false → (signs : List Bool) → Follow signs links.old.items
+        → sign_of signs one ≡ spec.sign_by_link same (sign_of signs other) → ⊥ }
 {
     let first = last_link(one, links);
     let second = last_link(other, links);
-    let between = turned(first.same, turned(same, second.same));
+    let between = sign_by_link(first.same, sign_by_link(same, second.same));
     if first.to == second.to {
         return between;
     }
@@ -108,8 +113,8 @@ fn tie(one: u32, other: u32, same: bool, links: &mut Vec<Link>) -> bool
     true
 }
 
-// The relation that links lead to from this one in the end, and whether it has the same sign. Each second relation on the
-// way is linked past the next one, so that later ways are shorter.
+// The relation that links lead to from this one in the end, and whether it has the same sign. Each second relation on
+// the way is linked past the next one, so that later ways are shorter.
 fn last_link(number: u32, links: &mut Vec<Link>) -> Link
     requires links { AreLinks links.old.items }
     requires known { number < length links.old.items }
@@ -117,9 +122,11 @@ fn last_link(number: u32, links: &mut Vec<Link>) -> Link
     ensures each { length links.new.items ≡ length links.old.items }
     ensures on { (signs : List Bool) → Follow signs links.old.items → Follow signs links.new.items }
     ensures back { (signs : List Bool) → Follow signs links.new.items → Follow signs links.old.items }
-    ensures tied { (signs : List Bool) → Follow signs links.new.items → sign_of signs number ≡ turned_by result.same (sign_of signs result.to) }
+    ensures tied { (signs : List Bool) → Follow signs links.new.items
+        → sign_of signs number ≡ spec.sign_by_link result.same (sign_of signs result.to) }
     ensures last { (link : AnyLink) × (slice_get links.new.items result.to ≡ Some link) × (link.to ≡ result.to) }
-    ensures lasts { (root : ℕ) (link : AnyLink) → slice_get links.old.items root ≡ Some link → link.to ≡ root → slice_get links.new.items root ≡ Some link }
+    ensures lasts { (root : ℕ) (link : AnyLink) → slice_get links.old.items root ≡ Some link → link.to ≡ root
+        → slice_get links.new.items root ≡ Some link }
     ensures within { result.to < length links.new.items }
 {
     let mut to = number;
@@ -127,20 +134,20 @@ fn last_link(number: u32, links: &mut Vec<Link>) -> Link
     'steps: while links[to as usize].to != to {
         let next = links[to as usize];
         let past = links[next.to as usize];
-        let over = turned(next.same, past.same);
+        let over = sign_by_link(next.same, past.same);
         links[to as usize] = Link {
             to: past.to,
             same: over,
         };
-        same = turned(same, over);
+        same = sign_by_link(same, over);
         to = past.to;
     }
     Link { to, same }
 }
 
 // A sign, or the other one where it isn't to be the same.
-pub(crate) fn turned(same: bool, sign: bool) -> bool
-    ensures { result ≡ turned_by same sign }
+pub(crate) fn sign_by_link(same: bool, sign: bool) -> bool
+    ensures { result ≡ spec.sign_by_link same sign }
 {
     if same { sign } else { !sign }
 }

@@ -1,17 +1,18 @@
 ghost use Rattle.std.specs.Prelude.{◌≡◌, IfOk, IfNone, IfSome, length, slice_get, true};
 ghost use Rattle.std.specs.Option.{option_map_or};
-ghost use Rattle.sdc_base.specs.Links.{AreLinks, Follow, turned as turned_by};
+ghost use Rattle.sdc_base.specs.Links.{AreLinks, Follow};
+ghost use Rattle.sdc_base.specs.Links as spec;
 ghost use Rattle.sdc_base.specs.Signs.{AreSigns, HasNone};
 
 use crate::ends::ends_of;
-use crate::links::{Link, links_of, turned};
+use crate::links::{Link, links_of, sign_by_link};
 use crate::memory::Memory;
 use crate::system::System;
 use std::alloc::Global;
 
-/// Signs for a system's relations, true for plus: with each relation's form, total less parts, taken with its sign, each
-/// cell stands with 1 in at most one form, with -1 in at most one, and with no other number but 0. So each cell is an arc
-/// between at most two relations, and numbers on which the relations hold are a flow.
+/// Signs for a system's relations, true for plus: with each relation's form, total less parts, taken with its sign,
+/// each cell stands with 1 in at most one form, with -1 in at most one, and with no other number but 0. So each cell is
+/// an arc between at most two relations, and numbers on which the relations hold are a flow.
 ///
 /// There is one sign for each relation, in the order of the relations. None says that there are no signs for them, as
 /// where three relations count one cell. One variable and two flat ones have signs; three flat ones have none.
@@ -49,10 +50,10 @@ fn signs_along(alloc: Global, links: &[Link]) -> Result<Vec<bool>, Memory>
 
 // A relation's sign by its link and by the signs of those before; plus where it is linked to none of these.
 fn sign_by(link: Link, signs: &[bool]) -> bool
-    ensures { result ≡ option_map_or (turned_by link.same) (slice_get signs.now link.to) true }
+    ensures { result ≡ option_map_or (spec.sign_by_link link.same) (slice_get signs.now link.to) true }
 {
     match signs.get(link.to as usize) {
-        Some(sign) => turned(link.same, *sign),
+        Some(sign) => sign_by_link(link.same, *sign),
         None => true,
     }
 }

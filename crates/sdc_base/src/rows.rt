@@ -1,5 +1,5 @@
 ghost use Rattle.std.specs.Prelude.{◌≡◌, ◌^◌, pos, neg_ℤ, ◌≤ℤ◌};
-ghost use Rattle.sdc_base.specs.Sums.{weighted};
+ghost use Rattle.sdc_base.specs.Sums.{weighted_value};
 
 use crate::few::Place;
 
@@ -13,8 +13,8 @@ pub struct Row {
 }
 
 /// Weight times value of a record.
-pub fn weighed(row: &Row) -> i128
-    ensures value { result ≡ weighted row.now }
+pub fn weighted_value(row: &Row) -> i128
+    ensures value { result ≡ weighted_value row.now }
     ensures low { neg_ℤ (pos (2 ^ 95)) ≤ℤ result }
     ensures high { result ≤ℤ pos (2 ^ 95) }
 {

@@ -1,5 +1,5 @@
 ghost use Rattle.std.specs.Prelude.{◌≡◌, ◌≤◌, ◌<◌, ◌*◌, ◌^◌, ◌++◌, ◌∷◌, [], List, ℕ, min, take, length, insert, ℤ, pos, neg_ℤ, ◌*ℤ◌, ◌≤ℤ◌};
-ghost use Rattle.sdc_base.specs.Largest.{placed, first_steps, largest, contribution, AreHeavy};
+ghost use Rattle.sdc_base.specs.Largest.{with_contribution, first_steps, largest_sum, contribution, AreHeavy};
 ghost use Rattle.sdc_base.specs.declared.tops.Unit.{Unit as Contribution};
 
 use crate::few::Few;
@@ -27,12 +27,14 @@ pub trait TopList {
         requires { scale self.old ≤ weight }
         ensures keep { keep self.new ≡ keep self.old }
         ensures scale { scale self.new ≡ scale self.old }
-        ensures tells { (units : List Contribution) → tells self.old units → tells self.new (units ++ contribution value weight ∷ []) };
+        ensures tells { (units : List Contribution) → tells self.old units
+            → tells self.new (units ++ contribution value weight ∷ []) };
 
-    /// The sum of value times weight over the n largest of those that were offered, with n at most the number that it tells.
+    /// The sum of value times weight over the n largest of those that were offered, with n at most the number that it
+    /// tells.
     fn top(&self, n: u8) -> i128
         requires { n ≤ keep self.now }
-        ensures { (units : List Contribution) → tells self.now units → result ≡ largest (scale self.now) n units };
+        ensures { (units : List Contribution) → tells self.now units → result ≡ largest_sum (scale self.now) n units };
 }
 
 /// The largest contributions of a cell by value, as many as it keeps. They are enough for the sums over
@@ -51,7 +53,7 @@ pub struct Tops {
 }
 
 impl Tops {
-    ghost use Rattle.sdc_base.specs.Tells.{Tells};
+    ghost use Rattle.sdc_base.specs.LargestKept.{KeepsLargest};
     ghost use Rattle.sdc_base.specs.RuleLevels.{kept_largest};
 
     /// None is offered yet. It keeps from 2 to 10, and `scale` weight steps make a whole one.
@@ -62,7 +64,7 @@ impl Tops {
         requires fine { scale ≤ 10000 }
         ensures keep { result.keep ≡ keep }
         ensures scale { result.scale ≡ scale }
-        ensures tells { Tells result [] }
+        ensures tells { KeepsLargest result [] }
         ensures empty { result.list ≡ [] }
     {
         Tops {
@@ -91,7 +93,8 @@ impl Tops {
         requires scale { self.old.scale ≤ other.now.scale }
         ensures keep { self.new.keep ≡ self.old.keep }
         ensures scale { self.new.scale ≡ self.old.scale }
-        ensures tells { (units more : List Contribution) → Tells self.old units → Tells other.now more → Tells self.new (units ++ more) }
+        ensures tells { (units more : List Contribution) → KeepsLargest self.old units → KeepsLargest other.now more
+            → KeepsLargest self.new (units ++ more) }
     {
         'units: for unit in other.list.as_slice() {
             self.put(*unit);
@@ -103,7 +106,7 @@ impl Tops {
         requires { self.old.scale ≤ new.weight }
         ensures keep { self.new.keep ≡ self.old.keep }
         ensures scale { self.new.scale ≡ self.old.scale }
-        ensures list { self.new.list ≡ take self.old.keep (placed self.old.list new) }
+        ensures list { self.new.list ≡ take self.old.keep (with_contribution self.old.list new) }
     {
         put_in(&mut self.list, self.keep as usize, new);
     }
@@ -124,14 +127,14 @@ impl Tops {
 
 impl TopList for Tops {
     ghost use Rattle.std.specs.Prelude.{◌≡◌, ◌≤◌, ◌++◌, ◌∷◌, []};
-    ghost use Rattle.sdc_base.specs.Largest.{contribution, largest};
-    ghost use Rattle.sdc_base.specs.Tells.{Tells};
+    ghost use Rattle.sdc_base.specs.Largest.{contribution, largest_sum};
+    ghost use Rattle.sdc_base.specs.LargestKept.{KeepsLargest};
 
     ghost keep = { λ tops. tops.keep };
 
     ghost scale = { λ tops. tops.scale };
 
-    ghost tells = { Tells };
+    ghost tells = { KeepsLargest };
 
     fn offer(&mut self, value: i64, weight: u32) {
         self.put(Unit { value, weight });
@@ -147,7 +150,7 @@ fn put_in(list: &mut Few<Unit, 10>, keep: usize, new: Unit)
     requires keep { 1 ≤ keep }
     requires most { keep ≤ 10 }
     requires few { length list.old ≤ keep }
-    ensures { list.new ≡ take keep (placed list.old new) }
+    ensures { list.new ≡ take keep (with_contribution list.old new) }
 {
     let at = place_of(list.as_slice(), new);
     if at < keep {
@@ -158,7 +161,7 @@ fn put_in(list: &mut Few<Unit, 10>, keep: usize, new: Unit)
 
 // How many stand before the first that has a lower value.
 fn place_of(units: &[Unit], new: Unit) -> usize
-    ensures place { insert units.now result new ≡ placed units.now new }
+    ensures place { insert units.now result new ≡ with_contribution units.now new }
     ensures within { result ≤ length units.now }
 {
     for (i, unit) in units.iter().enumerate() {

@@ -9,7 +9,7 @@ use Rattle.sdc_base.specs.Forms.{coefficient}
 use Rattle.tableau.specs.declared.problem.Problem.{Problem}
 use Rattle.tableau.specs.Tables.{Table, number_at}
 use Rattle.tableau.specs.Problems.{number_in, number_for}
-use Rattle.tableau.specs.Reads.{member_values, value_for}
+use Rattle.tableau.specs.Readings.{member_values, value_for}
 use Rattle.std.proofs.lemmas.List.{get_or-map, length-map}
 use Rattle.tableau.specs.RowLists.{IsLexPositive, list_of, list_size, lead}
 use Rattle.tableau.specs.Walks.{IsTableOf}

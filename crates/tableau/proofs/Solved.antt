@@ -18,7 +18,7 @@ use Rattle.tableau.specs.Tables.{Table, HasShape, Holds, dot, under_row, number_
 use Rattle.tableau.specs.Problems.{NamesColumns, rows_of, row_at, no_row, target_row, numbers_then_value, first_table, number_for}
 use Rattle.tableau.specs.RowLists.{IsLexPositive, IsBasis, list_of, list_size}
 use Rattle.tableau.specs.Walks.{IsTableOf}
-use Rattle.tableau.specs.Reads.{value_for, member_values}
+use Rattle.tableau.specs.Readings.{value_for, member_values}
 use Rattle.tableau.specs.Solutions.{AreFeasible, ValuesAreFeasible, TargetBounds, SomeMemberLeaves, NoneBelow, ComplementarySlackness, TargetIsFree}
 use Rattle.tableau.proofs.Exchanges.{times_none, by_place}
 use Rattle.tableau.proofs.Starts.{dot_range, minus_whole, none_and}

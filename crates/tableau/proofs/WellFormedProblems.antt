@@ -11,7 +11,7 @@ use Rattle.tableau.specs.Walks.{IsWalk, IsTableOf}
 use Rattle.tableau.proofs.Independent.{by_less}
 use Rattle.tableau.specs.Tables.{value, CannotImprove}
 use Rattle.tableau.specs.Problems.{number_for}
-use Rattle.tableau.specs.Reads.{value_for, values_of, slacks_of}
+use Rattle.tableau.specs.Readings.{value_for, values_of, slacks_of}
 use Rattle.tableau.specs.Steps.{Enters, IsStepOf, CanImprove, IsReached, IsBlocked}
 use Rattle.std.proofs.lemmas.List.FromFn.{length-map-range_with_len}
 use Rattle.std.proofs.lemmas.Int.{ints, by_lt_z}

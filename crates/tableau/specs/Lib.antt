@@ -6,7 +6,7 @@ pub mod RowLists
 pub mod Steps
 pub mod Widths
 pub mod Walks
-pub mod Reads
+pub mod Readings
 pub mod Solutions
 pub mod Tableaus
 pub mod WorkedRows

@@ -6,7 +6,7 @@ use Rattle.tableau.specs.Amounts.{value_of}
 use Rattle.tableau.specs.Tables.{Table, HasShape, CannotImprove, entry, number_at, value}
 use Rattle.tableau.specs.Problems.{NamesColumns, rows_of, row_at, number_for}
 use Rattle.tableau.specs.Walks.{IsTableOf}
-use Rattle.tableau.specs.Reads.{value_for}
+use Rattle.tableau.specs.Readings.{value_for}
 
 -- The values of a table, over its den, are amounts that the problem allows: none is below 0, in every row the entries
 -- and the slack come to the bound, and the objective comes to its value.

@@ -4,7 +4,7 @@ use Rattle.tableau.specs.declared.problem.Problem.{Problem}
 use Rattle.tableau.specs.Tables.{Table}
 use Rattle.tableau.specs.ProblemForm.{IsWellFormed}
 use Rattle.tableau.specs.Walks.{IsWalk}
-use Rattle.tableau.specs.Reads.{values_of, slacks_of}
+use Rattle.tableau.specs.Readings.{values_of, slacks_of}
 
 -- a walk on a problem: how many steps it made, and the table that it came to
 pub record TableauWalk : Type 0 where

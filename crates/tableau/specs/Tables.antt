@@ -138,7 +138,8 @@ pub record IsRowOperation (table after : Table) (row column : ℕ) (amounts : �
   pub pivot_row : form_at after amounts whole row ≡ table.den *ℤ form_at table amounts whole row
   pub other_rows : (k : ℕ) → k < length table.members → k ≢ row →
       form_at after amounts whole k
-      ≡ entry table row column *ℤ form_at table amounts whole k -ℤ entry table k column *ℤ form_at table amounts whole row
+      ≡ entry table row column *ℤ form_at table amounts whole k -ℤ entry table k column *ℤ form_at table amounts whole
+      row
   pub objective_row : objective_form after amounts objective whole
       ≡ entry table row column *ℤ objective_form table amounts objective whole
       -ℤ number_at table.objective column *ℤ form_at table amounts whole row

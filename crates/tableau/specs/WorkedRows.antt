@@ -5,7 +5,7 @@ use Rattle.tableau.specs.declared.problem.Problem.{Problem}
 use Rattle.tableau.specs.Tables.{Table, exchanged_table}
 use Rattle.tableau.specs.Problems.{first_table}
 use Rattle.tableau.specs.Widths.{is_wide, products_at, IsWideAt, name_in}
-use Rattle.tableau.specs.Reads.{values_of, slacks_of}
+use Rattle.tableau.specs.Readings.{values_of, slacks_of}
 
 -- twice the column is at most 4, and the column is to come to 3
 abbrev pub one_row : Problem
@@ -43,8 +43,8 @@ two_wide = record {
   target = pos (2 ^ 100);
 }
 
--- The exchange of the first slack for the first column is wide in the row of member 3 at column 1, and in that of member 4 at the
--- values' column, which is number 5; in the row of member 3 at the values' column it is not.
+-- The exchange of the first slack for the first column is wide in the row of member 3 at column 1, and in that of
+-- member 4 at the values' column, which is number 5; in the row of member 3 at the values' column it is not.
 pub record TwoWide : Type 0 where
   pub wide : IsWideAt (first_table two_wide) 0 0 1 1
   pub wide_value : IsWideAt (first_table two_wide) 0 0 2 2

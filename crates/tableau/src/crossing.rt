@@ -72,7 +72,9 @@ fn crossed_row(
     requires own { IsSparse 0 width own.now }
     requires column { coefficient pivot.now column ≡ pos 0 → f ≡ pos 0 }
     ensures ok { IfOk result (λ made. AreEntriesBelow width (crossed_at den p f column pivot.now own.now) made) }
-    ensures wide { (j : ℕ) → result ≡ Err (RowFault.Wide j) → (j < width) × (list_any is_wide (crossed_products den p f column j (coefficient own.now j) (coefficient pivot.now j)) ≡ true) }
+    ensures wide { (j : ℕ) → result ≡ Err (RowFault.Wide j)
+        → (j < width) × (list_any is_wide
+        (crossed_products den p f column j (coefficient own.now j) (coefficient pivot.now j)) ≡ true) }
 {
     let Ok(mut made) = Vec::with_capacity(alloc, own.len()) else {
         return Err(RowFault::Memory);
@@ -116,7 +118,8 @@ pub(crate) fn made_row(
     requires above { pos 1 ≤ℤ number_at (slice_index_or (table_of table.now).rows row []) column }
     requires within { k ≤ length table.now.members.items }
     ensures ok { IfOk result (λ new. IsNewRow table.now row column k new) }
-    ensures wide { (j : ℕ) → result ≡ Err (RowFault.Wide j) → (j ≤ length table.now.others.items) × IsWideAt (table_of table.now) row column k j }
+    ensures wide { (j : ℕ) → result ≡ Err (RowFault.Wide j)
+        → (j ≤ length table.now.others.items) × IsWideAt (table_of table.now) row column k j }
 {
     let pivot = row_of(table, row);
     let width = table.others.len() as u32 + 1;

@@ -94,7 +94,8 @@ fn parts_of(
     requires long { length news.now ≤ length olds.now }
     requires divides { DividesAll (unsigned_abs by) (whole_lists p olds.now news.now) }
     ensures long { IfOk result (λ parts. length parts.items ≡ length news.now) }
-    ensures ok { IfOk result (λ parts. map (map (times_entry by)) (placed_lists olds.now parts.items) ≡ whole_lists p olds.now news.now) }
+    ensures ok { IfOk result (λ parts. map (map (times_entry by)) (placed_lists olds.now parts.items)
+        ≡ whole_lists p olds.now news.now) }
     ensures wide { (k j : ℕ) → result ≡ Err (ExchangeFault.Wide k j) → IsWideKept p olds.now news.now k j }
 {
     let mut parts = Vec::new(alloc);
@@ -124,7 +125,8 @@ pub(crate) fn divided_rows(
     requires long { length news.items ≤ length olds.now }
     requires divides { DividesAll (unsigned_abs by) (whole_lists p olds.now news.items) }
     ensures long { IfOk result (λ parts. length parts.items ≡ length news.items) }
-    ensures ok { IfOk result (λ parts. map (map (times_entry by)) (placed_lists olds.now parts.items) ≡ whole_lists p olds.now news.items) }
+    ensures ok { IfOk result (λ parts. map (map (times_entry by)) (placed_lists olds.now parts.items)
+        ≡ whole_lists p olds.now news.items) }
     ensures wide { (k j : ℕ) → result ≡ Err (ExchangeFault.Wide k j) → IsWideKept p olds.now news.items k j }
 {
     if by == 1 {

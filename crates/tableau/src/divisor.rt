@@ -113,7 +113,8 @@ pub(crate) fn divisor(
     requires row { row < length news.now }
     requires long { length news.now ≤ length olds.now }
     ensures above { IfOk result (λ by. pos 1 ≤ℤ by) }
-    ensures ok { IfOk result (λ by. IsGreatestOfAll (unsigned_abs den) (whole_lists p olds.now news.now) (unsigned_abs by)) }
+    ensures ok { IfOk result (λ by. IsGreatestOfAll (unsigned_abs den) (whole_lists p olds.now news.now)
+        (unsigned_abs by)) }
     ensures wide { (k j : ℕ) → result ≡ Err (ExchangeFault.Wide k j) → IsWideKept p olds.now news.now k j }
 {
     let first = first_divisor(den, &news[row]);

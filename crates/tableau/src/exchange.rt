@@ -67,7 +67,9 @@ fn reduced_rows(
     requires column { column < length table.now.others.items }
     requires above { pos 1 ≤ℤ number_at (slice_index_or (table_of table.now).rows row []) column }
     ensures long { IfOk result (λ made. length made.rows.items ≡ length table.now.rows.items) }
-    ensures ok { IfOk result (λ made. AreInLowestTerms (length table.now.others.items + 1) (exchanged_table (table_of table.now) row column) made.den made.by (placed_lists table.now.rows.items made.rows.items)) }
+    ensures ok { IfOk result (λ made. AreInLowestTerms (length table.now.others.items + 1)
+        (exchanged_table (table_of table.now) row column) made.den made.by
+        (placed_lists table.now.rows.items made.rows.items)) }
     ensures wide { (k j : ℕ) → result ≡ Err (ExchangeFault.Wide k j) → IsWidePlace (table_of table.now) row column k j }
 {
     let p = entry(table, row, column);
@@ -105,7 +107,8 @@ pub(crate) fn exchange(
     requires row { row < length table.old.members.items }
     requires column { column < length table.old.others.items }
     requires above { pos 1 ≤ℤ number_at (slice_index_or (table_of table.old).rows row []) column }
-    ensures ok { OnOk result ((d : ℤ) × IsInLowestTerms d (exchanged_table (table_of table.old) row column) (table_of table.new)) }
+    ensures ok { OnOk result ((d : ℤ) × IsInLowestTerms d (exchanged_table (table_of table.old) row column)
+        (table_of table.new)) }
     ensures err { OnErr result (table.new ≡ table.old) }
     ensures wide { (k j : ℕ) → result ≡ Err (ExchangeFault.Wide k j) → IsWidePlace (table_of table.old) row column k j }
 {

@@ -21,7 +21,8 @@ fn slack_row(
 ) -> Result<Items<(u32, i128)>, Memory>
     requires entries { AreEntries columns entries.now }
     requires few { columns + 1 < 2 ^ 32 }
-    ensures { IfOk result (λ made. AreEntriesOf (columns + 1) (numbers_then_value columns (coefficient entries.now) bound) made) }
+    ensures { IfOk result (λ made. AreEntriesOf (columns + 1)
+        (numbers_then_value columns (coefficient entries.now) bound) made) }
 {
     let mut made = Vec::new(alloc);
     for entry in entries {
@@ -45,7 +46,8 @@ fn objective_row(
 ) -> Result<Items<(u32, i128)>, Memory>
     requires entries { AreEntries columns entries.now }
     requires few { columns + 1 < 2 ^ 32 }
-    ensures { IfOk result (λ made. AreEntriesOf (columns + 1) (numbers_then_value columns (λ column. neg_ℤ (coefficient entries.now column)) (pos 0)) made) }
+    ensures { IfOk result (λ made. AreEntriesOf (columns + 1)
+        (numbers_then_value columns (λ column. neg_ℤ (coefficient entries.now column)) (pos 0)) made) }
 {
     let mut made = Vec::new(alloc);
     for entry in entries {
@@ -65,7 +67,8 @@ fn slack_rows(
 ) -> Result<Vec<Items<(u32, i128)>>, Memory>
     requires rows { All (λ row. AreEntries columns row.entries) rows.now }
     requires few { columns + 1 < 2 ^ 32 }
-    ensures { IfOk result (λ lists. AreListsOf (columns + 1) (map (λ row. numbers_then_value columns (coefficient row.entries) row.bound) rows.now) lists.items) }
+    ensures { IfOk result (λ lists. AreListsOf (columns + 1)
+        (map (λ row. numbers_then_value columns (coefficient row.entries) row.bound) rows.now) lists.items) }
 {
     let mut lists = Vec::new(alloc);
     for row in rows {

@@ -21,7 +21,8 @@ pub(crate) fn leaving_row(
     requires kept { IsTableOf problem.now (table_of table.now) }
     requires places { AreSlackPlaces problem.now (table_of table.now) places.now }
     requires column { column < length table.now.others.items }
-    ensures none { IfNone result ((k : ℕ) → k < length table.now.members.items → number_at (slice_index_or (table_of table.now).rows k []) column ≤ℤ pos 0) }
+    ensures none { IfNone result ((k : ℕ) → k < length table.now.members.items
+        → number_at (slice_index_or (table_of table.now).rows k []) column ≤ℤ pos 0) }
     ensures some { IfSome result (λ row. Leaves problem.now (table_of table.now) row column) }
 {
     let mut best = None;

@@ -78,9 +78,12 @@ pub(crate) fn compare_lists(
     requires other { other < length table.now.members.items }
     requires above { pos 1 ≤ℤ number_at (slice_index_or (table_of table.now).rows one []) column }
     requires other_above { pos 1 ≤ℤ number_at (slice_index_or (table_of table.now).rows other []) column }
-    ensures less { result ≡ Ordering.Less → IsLexPositive (list_size problem.now) 0 (lead problem.now (table_of table.now) column one other) }
-    ensures equal { result ≡ Ordering.Equal → AreZeros (list_size problem.now) 0 (lead problem.now (table_of table.now) column other one) }
-    ensures greater { result ≡ Ordering.Greater → IsLexPositive (list_size problem.now) 0 (lead problem.now (table_of table.now) column other one) }
+    ensures less { result ≡ Ordering.Less
+        → IsLexPositive (list_size problem.now) 0 (lead problem.now (table_of table.now) column one other) }
+    ensures equal { result ≡ Ordering.Equal
+        → AreZeros (list_size problem.now) 0 (lead problem.now (table_of table.now) column other one) }
+    ensures greater { result ≡ Ordering.Greater
+        → IsLexPositive (list_size problem.now) 0 (lead problem.now (table_of table.now) column other one) }
 {
     let own = entry(table, one, column);
     let other_own = entry(table, other, column);

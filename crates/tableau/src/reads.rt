@@ -1,7 +1,7 @@
 ghost use Rattle.std.specs.Prelude.{◌≡◌, ◌+◌, ◌<◌, length};
 ghost use Rattle.tableau.specs.Problems.{rows_of};
 ghost use Rattle.tableau.specs.Walks.{IsTableOf};
-ghost use Rattle.tableau.specs.Reads.{values_of, slacks_of};
+ghost use Rattle.tableau.specs.Readings.{values_of, slacks_of};
 ghost use Rattle.tableau.specs.SparseTables.{table_of};
 
 use crate::entries::{number_here, past_place};

@@ -43,8 +43,11 @@ fn name_at(problem: &Problem, names: &[u32], k: usize) -> u32
 // What a fault of the exchange comes to, its place by names.
 fn answer(problem: &Problem, table: &SparseTable, fault: ExchangeFault) -> Result<Step, Memory>
     requires well_formed { IsWellFormed problem.now }
-    requires within { (k j : ℕ) → fault ≡ ExchangeFault.Wide k j → (k ≤ length table.now.members.items) × (j ≤ length table.now.others.items) }
-    ensures wide { (row column : ℕ) → result ≡ Ok (Step.Wide row column) → (k : ℕ) × (j : ℕ) × (fault ≡ ExchangeFault.Wide k j) × (row ≡ name_in problem.now table.now.members.items k) × (column ≡ name_in problem.now table.now.others.items j) }
+    requires within { (k j : ℕ) → fault ≡ ExchangeFault.Wide k j
+        → (k ≤ length table.now.members.items) × (j ≤ length table.now.others.items) }
+    ensures wide { (row column : ℕ) → result ≡ Ok (Step.Wide row column)
+        → (k : ℕ) × (j : ℕ) × (fault ≡ ExchangeFault.Wide k j) × (row ≡ name_in problem.now table.now.members.items k)
+        × (column ≡ name_in problem.now table.now.others.items j) }
     ensures improved { result ≢ Ok Step.Improved }
     ensures reached { result ≢ Ok Step.Reached }
     ensures blocked { result ≢ Ok Step.Blocked }
@@ -71,7 +74,8 @@ pub(crate) fn make_step(
     ensures kept { IsTableOf problem.now (table_of table.new) }
     ensures reached { IfOk result (λ step. (step ≡ Step.Reached) ↔ IsReached problem.now (table_of table.old)) }
     ensures blocked { IfOk result (λ step. (step ≡ Step.Blocked) ↔ IsBlocked problem.now (table_of table.old)) }
-    ensures wide { (row column : ℕ) → result ≡ Ok (Step.Wide row column) → IsWideStep problem.now (table_of table.old) row column }
+    ensures wide { (row column : ℕ) → result ≡ Ok (Step.Wide row column)
+        → IsWideStep problem.now (table_of table.old) row column }
 {
     if is_reached(problem, table) {
         return Ok(Step::Reached);

@@ -4,7 +4,7 @@ ghost use Rattle.tableau.specs.Problems.{first_table, numbers_of, number_for, Ar
 ghost use Rattle.tableau.specs.ProblemForm.{IsWellFormed};
 ghost use Rattle.tableau.specs.Steps.{IsStepOf, CanImprove, IsReached, IsBlocked};
 ghost use Rattle.tableau.specs.Widths.{IsWideStep};
-ghost use Rattle.tableau.specs.Reads.{values_of, slacks_of};
+ghost use Rattle.tableau.specs.Readings.{values_of, slacks_of};
 ghost use Rattle.tableau.specs.Solutions.{AreFeasible};
 ghost use Rattle.tableau.specs.Tableaus.{tableau_walk, IsTableauWalk};
 
@@ -102,7 +102,8 @@ impl Tableau {
         ensures slacks { result.now ≡ slacks_of self.now.problem self.now.table }
         ensures duals { AreDuals self.now.problem self.now.table }
         ensures above { IsBlocked self.now.problem self.now.table → (v : ℕ) → pos 0 ≤ℤ number_for self.now.table v }
-        ensures free { IsBlocked self.now.problem self.now.table → number_for self.now.table (self.now.problem.columns + length self.now.problem.rows) ≡ pos 0 }
+        ensures free { IsBlocked self.now.problem self.now.table
+            → number_for self.now.table (self.now.problem.columns + length self.now.problem.rows) ≡ pos 0 }
     {
         self.slacks.as_slice()
     }
@@ -111,7 +112,8 @@ impl Tableau {
     /// improves it. It goes once through the objective's row, and takes no memory.
     pub fn can_improve(&self) -> bool
         ensures step { IsTrue result ↔ CanImprove self.now.problem self.now.table }
-        ensures neither { IsTrue result ↔ ((IsReached self.now.problem self.now.table → ⊥) × (IsBlocked self.now.problem self.now.table → ⊥)) }
+        ensures neither { IsTrue result ↔
+            ((IsReached self.now.problem self.now.table → ⊥) × (IsBlocked self.now.problem self.now.table → ⊥)) }
     {
         if is_reached(&self.problem, &self.table) {
             return false;
@@ -139,7 +141,8 @@ impl Tableau {
         ensures same { result ≢ Ok Step.Improved → self.new ≡ self.old }
         ensures reached { IfOk result (λ step. (step ≡ Step.Reached) ↔ IsReached self.old.problem self.old.table) }
         ensures blocked { IfOk result (λ step. (step ≡ Step.Blocked) ↔ IsBlocked self.old.problem self.old.table) }
-        ensures wide { (row column : ℕ) → result ≡ Ok (Step.Wide row column) → IsWideStep self.old.problem self.old.table row column }
+        ensures wide { (row column : ℕ) → result ≡ Ok (Step.Wide row column)
+            → IsWideStep self.old.problem self.old.table row column }
     {
         let step = make_step(&self.problem, &mut self.table, self.alloc)?;
         let Step::Improved = step else {

@@ -10,8 +10,8 @@ use Rattle.sdc_base.specs.Trees.{Tree, IsCodeTree, is_under, parent_at}
 use Rattle.sdc_base.specs.Records.{Name}
 use Rattle.sdc_base.specs.Cells.{named_by, is_named, spans}
 use Rattle.sdc_base.specs.declared.rows.Row.{Row}
-use Rattle.linked_tables.specs.Held.{Held}
-use Rattle.linked_tables.specs.Shared.{IsBook, IsTable, cells, first_own, number_of}
+use Rattle.linked_tables.specs.BookViews.{BookView}
+use Rattle.linked_tables.specs.BookCells.{IsBook, IsTable, cells, first_own, number_of}
 use Rattle.linked_tables.proofs.Finding.{found-name}
 use Rattle.linked_tables.proofs.Sharing.{known-below, name-long}
 use Rattle.tabulate.specs.UpperCells.{after_cells, goes_to, after_cell, upper_of}
@@ -25,24 +25,24 @@ from cell found = option_map_or (λ number. nat_le cell number) found false
 
 -- The record came to the cell with this name, when the cells from `cell` on have passed on what they have: its code is the
 -- name's, or below a child of it whose cell is one of them.
-abbrev pub came : Held → ℕ → ℕ → Name → Row → Bool
+abbrev pub came : BookView → ℕ → ℕ → Name → Row → Bool
 came book variable cell name row =
     (slice_index row.codes variable == slice_index name variable)
     || option_map_or (λ code. from cell (number_of book (slice_set name variable code))) (step_below (slice_index_or book.trees variable []) (slice_index name variable) (slice_index row.codes variable)) false
 
 -- the record's code is one of the variable
-abbrev pub IsIn : Held → ℕ → Row → Type 0
+abbrev pub IsIn : BookView → ℕ → Row → Type 0
 IsIn book variable row = slice_index row.codes variable < length (slice_index_or book.trees variable [])
 
 -- each own cell has the records that pass the test and came to it
-abbrev pub HaveCome : Held → ℕ → ℕ → (Name → Row → Bool) → List Row → ℕ → (ℕ → List Row) → Type 0
+abbrev pub HaveCome : BookView → ℕ → ℕ → (Name → Row → Bool) → List Row → ℕ → (ℕ → List Row) → Type 0
 HaveCome book t variable test rows cell given =
     (own : ℕ) (name : Name) → IsOwn book t own name → IsPermutation (given own) (filter (λ row. test name row && came book variable cell name row) rows)
 
 some-same : {A : Type 0} {x y : A} → Some x ≡ Some y → x ≡ y
 some-same e = cc
 
-module _ (book : Held) (t : ℕ) (table : List ℕ) (variable : ℕ) (is : IsBook book) (at : slice_get book.tables t ≡ Some table) (variables_of : spans table variable ≡ true) where
+module _ (book : BookView) (t : ℕ) (table : List ℕ) (variable : ℕ) (is : IsBook book) (at : slice_get book.tables t ≡ Some table) (variables_of : spans table variable ≡ true) where
   sound : IsTable (length book.trees) table
   sound = subst (IsTable (length book.trees)) (get_or_from_slice_get book.tables t table [] at) (is.tables t [] (slice_get_within book.tables t table at))
 

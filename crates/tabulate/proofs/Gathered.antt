@@ -15,9 +15,9 @@ use Rattle.sdc_base.specs.Cells.{cells_of, named_by, is_named, spans}
 use Rattle.sdc_base.specs.declared.rows.Row.{Row}
 use Rattle.sdc_base.proofs.FirstNames.{all_named}
 use Rattle.sdc_base.proofs.Walks.{parent_is_earlier}
-use Rattle.linked_tables.specs.Held.{Held}
+use Rattle.linked_tables.specs.BookViews.{BookView}
 use Rattle.linked_tables.specs.Tables.{has_twice}
-use Rattle.linked_tables.specs.Shared.{IsBook, IsTable, cells, first_own, number_of}
+use Rattle.linked_tables.specs.BookCells.{IsBook, IsTable, cells, first_own, number_of}
 use Rattle.linked_tables.proofs.CellLists.{starts-within}
 use Rattle.linked_tables.proofs.Sharing.{known-below}
 use Rattle.linked_tables.proofs.TableSteps.{cells-next}
@@ -32,7 +32,7 @@ item-at [] k h = absurd (omega (arith, h))
 item-at (x ∷ xs) zero h = (x, refl)
 item-at (x ∷ xs) (suc k) h = item-at xs k (omega (arith, h))
 
-module _ (book : Held) (t : ℕ) (table : List ℕ) (variable : ℕ) (is : IsBook book) (at : slice_get book.tables t ≡ Some table) (variables_of : spans table variable ≡ true) where
+module _ (book : BookView) (t : ℕ) (table : List ℕ) (variable : ℕ) (is : IsBook book) (at : slice_get book.tables t ≡ Some table) (variables_of : spans table variable ≡ true) where
   sound : IsTable (length book.trees) table
   sound = subst (IsTable (length book.trees)) (get_or_from_slice_get book.tables t table [] at) (is.tables t [] (slice_get_within book.tables t table at))
 
@@ -210,10 +210,10 @@ under-more trees codes name (one ∷ done) variable =
     joined false b c = refl
 
 -- what the own cells have, where these variables are done and those are left
-abbrev pub HaveUnder : Held → ℕ → List Row → List ℕ → List ℕ → (ℕ → List Row) → Type 0
+abbrev pub HaveUnder : BookView → ℕ → List Row → List ℕ → List ℕ → (ℕ → List Row) → Type 0
 HaveUnder book t rows done left given = (own : ℕ) (name : Name) → IsOwn book t own name → IsPermutation (given own) (filter (λ row. under_all book.trees row.codes name done && same_all row.codes name left) rows)
 
-module _ (book : Held) (t : ℕ) (table : List ℕ) (is : IsBook book) (at : slice_get book.tables t ≡ Some table) (rows : List Row) (inside : (variable : ℕ) → spans table variable ≡ true → All (IsIn book variable) rows) where
+module _ (book : BookView) (t : ℕ) (table : List ℕ) (is : IsBook book) (at : slice_get book.tables t ≡ Some table) (rows : List Row) (inside : (variable : ℕ) → spans table variable ≡ true → All (IsIn book variable) rows) where
   here : (variable : ℕ) (left : List ℕ) → spans (variable ∷ left) variable ≡ true
   here variable left = let same : (variable == variable) ≡ true = (Decides-eqb variable variable).1 refl in rw same refl
 

@@ -20,10 +20,10 @@ use Rattle.sdc_base.specs.CellOrder.{is_place_in}
 use Rattle.sdc_base.proofs.Places.{places_are_lexicographic}
 use Rattle.sdc_base.proofs.FirstNames.{all_named, names_are_first, stay}
 use Rattle.sdc_base.proofs.Walks.{parent_is_earlier}
-use Rattle.linked_tables.specs.Held.{Held}
+use Rattle.linked_tables.specs.BookViews.{BookView}
 use Rattle.linked_tables.specs.Laws.{is_code}
 use Rattle.linked_tables.specs.Tables.{has_twice, has_unknown}
-use Rattle.linked_tables.specs.Shared.{IsBook, IsTable, cells, first_own, number_of}
+use Rattle.linked_tables.specs.BookCells.{IsBook, IsTable, cells, first_own, number_of}
 use Rattle.linked_tables.proofs.Finding.{found-name, named-found}
 use Rattle.linked_tables.proofs.Sharing.{cells_by_code, codes_at, known-below, name-long, named-codes, place-good}
 use Rattle.linked_tables.proofs.TableSteps.{cells-next}
@@ -160,22 +160,22 @@ split-at (r ∷ ps) p q sorted h above = by (bytes_eq p r) refl h (λ more. spli
 -- ---- the numbers of both
 
 -- the cell is one that table t is the first to name
-pub record IsOwn (book : Held) (t cell : ℕ) (name : Name) : Type 0 where
+pub record IsOwn (book : BookView) (t cell : ℕ) (name : Name) : Type 0 where
   pub at : slice_get (cells book) cell ≡ Some name
   pub late : first_own book t ≤ cell
   pub early : cell < first_own book (t + 1)
 
 -- with this code the cell is another one of them, and stands behind it
-pub record HasChild (book : Held) (t cell : ℕ) (name : Name) (variable code : ℕ) : Type 0 where
+pub record HasChild (book : BookView) (t cell : ℕ) (name : Name) (variable code : ℕ) : Type 0 where
   pub number : ℕ
   pub is : number_of book (slice_set name variable code) ≡ Some number
   pub later : cell < number
   pub early : number < first_own book (t + 1)
 
-pub own-number : (book : Held) (t cell : ℕ) (name : Name) → IsOwn book t cell name → number_of book name ≡ Some cell
+pub own-number : (book : BookView) (t cell : ℕ) (name : Name) → IsOwn book t cell name → number_of book name ≡ Some cell
 own-number book t cell name own = found-where (cells book) cell name (once-cells book) own.at
 
-pub own-of : (book : Held) (t cell : ℕ) (table : List ℕ) (name : Name) → slice_get book.tables t ≡ Some table → IsOwn book t cell name → is_named (named_by book.trees table) name ≡ true
+pub own-of : (book : BookView) (t cell : ℕ) (table : List ℕ) (name : Name) → slice_get book.tables t ≡ Some table → IsOwn book t cell name → is_named (named_by book.trees table) name ≡ true
 own-of book t cell table name at own = own-named book t cell table name at own.at own.late own.early
 
 unmapped : (variables : ℕ) (table : List ℕ) (found : List (List ℕ)) (name : Name) → is_named (map (name_of variables table) found) name ≡ true → (place : List ℕ) × (is_named found place ≡ true) × (name ≡ name_of variables table place)
@@ -204,7 +204,7 @@ mapped variables table (other ∷ found) place h = by (bytes_eq place other) ref
     by true is h rest = let same : bytes_eq (name_of variables table place) (name_of variables table other) ≡ true = (bytes_eq-Decides _ _).1 (ap (name_of variables table) ((bytes_eq-Decides place other).0 is)) in rw same refl
     by false is h rest = let more = rest h in rw more (either (bytes_eq (name_of variables table place) (name_of variables table other)))
 
-module _ (book : Held) (t cell : ℕ) (table : List ℕ) (name : Name) (variable code : ℕ) (is : IsBook book) (at : slice_get book.tables t ≡ Some table) (own : IsOwn book t cell name) (variables_of : spans table variable ≡ true) (up : parent_at (slice_index_or book.trees variable []) code ≡ Some (slice_index name variable)) where
+module _ (book : BookView) (t cell : ℕ) (table : List ℕ) (name : Name) (variable code : ℕ) (is : IsBook book) (at : slice_get book.tables t ≡ Some table) (own : IsOwn book t cell name) (variables_of : spans table variable ≡ true) (up : parent_at (slice_index_or book.trees variable []) code ≡ Some (slice_index name variable)) where
   trees : List Tree
   trees = book.trees
 

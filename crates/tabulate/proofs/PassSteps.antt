@@ -4,23 +4,23 @@ use Rattle.std.specs.Option.{option_map_or}
 use Rattle.std.proofs.lemmas.Bool.Decides.{nat_tests, Decides-eqb}
 use Rattle.sdc_base.specs.declared.rows.Row.{Row}
 use Rattle.linked_tables.specs.declared.mark.Mark.{Mark}
-use Rattle.linked_tables.specs.Held.{Held}
+use Rattle.linked_tables.specs.BookViews.{BookView}
 use Rattle.tabulate.specs.MarkRecords.{HoldsRecords, HaveOneScale, MarksHoldRecords, settings_of, settings_at}
 use Rattle.tabulate.specs.UpperCells.{PassedRecords, after_cells, after_variables, goes_to, after_cell, upper_of}
 use Rattle.sdc_base.proofs.ListReads.{set-here, set-there}
 
-pub passed-none : (book : Held) → PassedRecords book book (λ given. given)
+pub passed-none : (book : BookView) → PassedRecords book book (λ given. given)
 passed-none book = record { frame = refl; kept = λ cell. refl; given = λ given start. start }
 
-pub passed-then : (a b c : Held) (f g : (ℕ → List Row) → ℕ → List Row) → PassedRecords a b f → PassedRecords b c g → PassedRecords a c (λ given. g (f given))
+pub passed-then : (a b c : BookView) (f g : (ℕ → List Row) → ℕ → List Row) → PassedRecords a b f → PassedRecords b c g → PassedRecords a c (λ given. g (f given))
 passed-then a b c f g one two = record {
-  frame = two.frame ∙ ap (λ (x : Held). record x { marks = c.marks }) one.frame;
+  frame = two.frame ∙ ap (λ (x : BookView). record x { marks = c.marks }) one.frame;
   kept = λ cell. two.kept cell ∙ one.kept cell;
   given = λ given start. two.given (f given) (one.given given start);
 }
 
 -- in other words
-pub passed-as : (a b : Held) (f g : (ℕ → List Row) → ℕ → List Row) → ((given : ℕ → List Row) (cell : ℕ) → f given cell ≡ g given cell) → PassedRecords a b f → PassedRecords a b g
+pub passed-as : (a b : BookView) (f g : (ℕ → List Row) → ℕ → List Row) → ((given : ℕ → List Row) (cell : ℕ) → f given cell ≡ g given cell) → PassedRecords a b f → PassedRecords a b g
 passed-as a b f g same passed = record { frame = passed.frame; kept = passed.kept; given = λ given start cell mark at. subst (HoldsRecords mark) (same given cell) (passed.given given start cell mark at) }
 
 -- all keep as many and have one scale, as before
@@ -41,7 +41,7 @@ even-kept old new kept even = λ cell other mark one at there. by cell other mar
         (ap (λ (x : Bool × (ℕ × ℕ)). x.1.0) left ∙ both.0 ∙ sym (ap (λ (x : Bool × (ℕ × ℕ)). x.1.0) right), ap (λ (x : Bool × (ℕ × ℕ)). x.1.1) left ∙ both.1 ∙ sym (ap (λ (x : Bool × (ℕ × ℕ)). x.1.1) right))
 
 -- one mark was given what another has
-pub passed-one : (book : Held) (upper lower : ℕ) (old new : Mark) → slice_get book.marks upper ≡ Some old → settings_of new ≡ settings_of old
+pub passed-one : (book : BookView) (upper lower : ℕ) (old new : Mark) → slice_get book.marks upper ≡ Some old → settings_of new ≡ settings_of old
     → ((given : ℕ → List Row) → MarksHoldRecords book.marks given → HoldsRecords new (given upper ++ given lower)) → PassedRecords book (record book { marks = slice_set book.marks upper new }) (λ given cell. if upper == cell then given cell ++ given lower else given cell)
 passed-one book upper lower old new at kept more = record {
   frame = refl;
@@ -74,14 +74,14 @@ passed-one book upper lower old new at kept more = record {
         (start cell mark (sym (set-there book.marks upper cell new (apart cell other)) ∙ here))
 
 -- nothing is passed on
-pub passed-nowhere : (book : Held) (variable first cell : ℕ) → ((other : ℕ) → goes_to book variable first cell other ≡ false) → PassedRecords book book (after_cell book variable first cell)
+pub passed-nowhere : (book : BookView) (variable first cell : ℕ) → ((other : ℕ) → goes_to book variable first cell other ≡ false) → PassedRecords book book (after_cell book variable first cell)
 passed-nowhere book variable first cell none =
     passed-as book book (λ given. given) (after_cell book variable first cell) (λ given other. ap (λ (b : Bool). if b then given other ++ given cell else given other) (sym (none other))) (passed-none book)
 
-pub no-upper : (book : Held) (variable first cell : ℕ) → None ≡ upper_of book variable cell → (other : ℕ) → goes_to book variable first cell other ≡ false
+pub no-upper : (book : BookView) (variable first cell : ℕ) → None ≡ upper_of book variable cell → (other : ℕ) → goes_to book variable first cell other ≡ false
 no-upper book variable first cell none other = ap (λ found. option_map_or (λ upper. upper == other && nat_le first upper) found false) (sym none)
 
-pub early-upper : (book : Held) (variable first cell upper : ℕ) → Some upper ≡ upper_of book variable cell → upper < first → (other : ℕ) → goes_to book variable first cell other ≡ false
+pub early-upper : (book : BookView) (variable first cell upper : ℕ) → Some upper ≡ upper_of book variable cell → upper < first → (other : ℕ) → goes_to book variable first cell other ≡ false
 early-upper book variable first cell upper is early other =
     let test : nat_le first upper ≡ false = grind (arith, nat_tests) in
     ap (λ found. option_map_or (λ upper. upper == other && nat_le first upper) found false) (sym is) ∙ ap (λ b. (upper == other) && b) test ∙ never (upper == other)
@@ -90,7 +90,7 @@ early-upper book variable first cell upper is early other =
     never true = refl
     never false = refl
 
-pub to-upper : (book : Held) (variable first cell upper : ℕ) → Some upper ≡ upper_of book variable cell → first ≤ upper → (other : ℕ) → goes_to book variable first cell other ≡ (upper == other)
+pub to-upper : (book : BookView) (variable first cell upper : ℕ) → Some upper ≡ upper_of book variable cell → first ≤ upper → (other : ℕ) → goes_to book variable first cell other ≡ (upper == other)
 to-upper book variable first cell upper is late other =
     let test : nat_le first upper ≡ true = grind (arith, nat_tests) in
     ap (λ found. option_map_or (λ upper. upper == other && nat_le first upper) found false) (sym is) ∙ ap (λ b. (upper == other) && b) test ∙ whole (upper == other)
@@ -100,21 +100,21 @@ to-upper book variable first cell upper is late other =
     whole false = refl
 
 -- one cell more
-pub cells-next : (a b c : Held) (variable first past n : ℕ) → PassedRecords a b (after_cells a variable first past n) → PassedRecords b c (after_cell b variable first (past - (n + 1))) → PassedRecords a c (after_cells a variable first past (n + 1))
+pub cells-next : (a b c : BookView) (variable first past n : ℕ) → PassedRecords a b (after_cells a variable first past n) → PassedRecords b c (after_cell b variable first (past - (n + 1))) → PassedRecords a c (after_cells a variable first past (n + 1))
 cells-next a b c variable first past n one two =
-    let turned : PassedRecords b c (after_cell a variable first (past - (n + 1))) = subst (λ (x : Held). PassedRecords b c (after_cell x variable first (past - (n + 1)))) one.frame two in
+    let turned : PassedRecords b c (after_cell a variable first (past - (n + 1))) = subst (λ (x : BookView). PassedRecords b c (after_cell x variable first (past - (n + 1)))) one.frame two in
     subst (λ m. PassedRecords a c (after_cells a variable first past m)) (sym (add-one n))
     (passed-then a b c (after_cells a variable first past n) (after_cell a variable first (past - (n + 1))) one turned)
 
 -- one variable more
-variables-more : (book : Held) (first past : ℕ) (done : List ℕ) (variable : ℕ) (given : ℕ → List Row) (cell : ℕ)
+variables-more : (book : BookView) (first past : ℕ) (done : List ℕ) (variable : ℕ) (given : ℕ → List Row) (cell : ℕ)
     → after_cells book variable first past (past - first) (after_variables book first past done given) cell ≡ after_variables book first past (done ++ variable ∷ []) given cell
 variables-more book first past [] variable given cell = refl
 variables-more book first past (one ∷ done) variable given cell = variables-more book first past done variable (after_cells book one first past (past - first) given) cell
 
-pub variables-next : (a b c : Held) (first past : ℕ) (done : List ℕ) (variable : ℕ) → PassedRecords a b (after_variables a first past done) → PassedRecords b c (after_cells b variable first past (past - first)) → PassedRecords a c (after_variables a first past (done ++ variable ∷ []))
+pub variables-next : (a b c : BookView) (first past : ℕ) (done : List ℕ) (variable : ℕ) → PassedRecords a b (after_variables a first past done) → PassedRecords b c (after_cells b variable first past (past - first)) → PassedRecords a c (after_variables a first past (done ++ variable ∷ []))
 variables-next a b c first past done variable one two =
-    let turned : PassedRecords b c (after_cells a variable first past (past - first)) = subst (λ (x : Held). PassedRecords b c (after_cells x variable first past (past - first))) one.frame two in
+    let turned : PassedRecords b c (after_cells a variable first past (past - first)) = subst (λ (x : BookView). PassedRecords b c (after_cells x variable first past (past - first))) one.frame two in
     passed-as a c (λ given. after_cells a variable first past (past - first) (after_variables a first past done given)) (after_variables a first past (done ++ variable ∷ [])) (λ given cell. variables-more a first past done variable given cell)
     (passed-then a b c (after_variables a first past done) (after_cells a variable first past (past - first)) one turned)
 

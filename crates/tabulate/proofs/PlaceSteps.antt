@@ -5,8 +5,8 @@ use Rattle.std.proofs.lemmas.Bool.Decides.{nat_tests, Decides-eqb}
 use Rattle.std.proofs.lemmas.List.{append-nil, replicate-append-replicate}
 use Rattle.sdc_base.specs.declared.rows.Row.{Row}
 use Rattle.linked_tables.specs.declared.mark.Mark.{Mark}
-use Rattle.linked_tables.specs.Held.{Held}
-use Rattle.linked_tables.specs.Shared.{cell_at}
+use Rattle.linked_tables.specs.BookViews.{BookView}
+use Rattle.linked_tables.specs.BookCells.{cell_at}
 use Rattle.tabulate.specs.MarkRecords.{HoldsRecords, MarksHoldRecords, HaveScalesWithin, settings_of, settings_at}
 use Rattle.sdc_base.specs.Places.{count}
 use Rattle.tabulate.specs.RecordsByPlace.{GaveRecord, hits, is_at}
@@ -21,7 +21,7 @@ count-append test [] ys = omega arith
 count-append test (x ∷ xs) ys = let rest = count-append test xs ys in omega (arith, rest)
 
 -- nothing was given
-pub gave-nothing : (book : Held) (t first : ℕ) (row : Row) → GaveRecord book book t first row []
+pub gave-nothing : (book : BookView) (t first : ℕ) (row : Row) → GaveRecord book book t first row []
 gave-nothing book t first row = record {
   frame = refl;
   kept = λ cell. refl;
@@ -29,9 +29,9 @@ gave-nothing book t first row = record {
 }
 
 -- first to some places, then to others
-pub gave-then : (a b c : Held) (t first : ℕ) (row : Row) (places more : List (List ℕ)) → GaveRecord a b t first row places → GaveRecord b c t first row more → GaveRecord a c t first row (places ++ more)
+pub gave-then : (a b c : BookView) (t first : ℕ) (row : Row) (places more : List (List ℕ)) → GaveRecord a b t first row places → GaveRecord b c t first row more → GaveRecord a c t first row (places ++ more)
 gave-then a b c t first row places more one two = record {
-  frame = two.frame ∙ ap (λ (x : Held). record x { marks = c.marks }) one.frame;
+  frame = two.frame ∙ ap (λ (x : BookView). record x { marks = c.marks }) one.frame;
   kept = λ cell. two.kept cell ∙ one.kept cell;
   given = λ given start. given-as c.marks (λ cell. (given cell ++ replicate (hits a t first places cell) row) ++ replicate (hits b t first more cell) row) (λ cell. given cell ++ replicate (hits a t first (places ++ more) cell) row)
       (λ cell. all given cell) (two.given (λ cell. given cell ++ replicate (hits a t first places cell) row) (one.given given start));
@@ -40,22 +40,22 @@ gave-then a b c t first row places more one two = record {
     all : (given : ℕ → List Row) (cell : ℕ) → (given cell ++ replicate (hits a t first places cell) row) ++ replicate (hits b t first more cell) row ≡ given cell ++ replicate (hits a t first (places ++ more) cell) row
     all given cell =
         append_assoc (given cell) (replicate (hits a t first places cell) row) (replicate (hits b t first more cell) row)
-        ∙ ap (λ (x : Held). given cell ++ (replicate (hits a t first places cell) row ++ replicate (hits x t first more cell) row)) one.frame
+        ∙ ap (λ (x : BookView). given cell ++ (replicate (hits a t first places cell) row ++ replicate (hits x t first more cell) row)) one.frame
         ∙ ap (λ rows. given cell ++ rows) (replicate-append-replicate (hits a t first places cell) (hits a t first more cell) row)
         ∙ ap (λ n. given cell ++ replicate n row) (sym (count-append (λ place. is_at a t first place cell) places more))
 
 -- to a place where there is no cell to be given it
-pub gave-nowhere : (book : Held) (t first : ℕ) (row : Row) (place : List ℕ) → ((cell : ℕ) → is_at book t first place cell ≡ false) → GaveRecord book book t first row (place ∷ [])
+pub gave-nowhere : (book : BookView) (t first : ℕ) (row : Row) (place : List ℕ) → ((cell : ℕ) → is_at book t first place cell ≡ false) → GaveRecord book book t first row (place ∷ [])
 gave-nowhere book t first row place none = record {
   frame = refl;
   kept = λ cell. refl;
   given = λ given start. given-as book.marks given (λ cell. given cell ++ replicate (hits book t first (place ∷ []) cell) row) (λ cell. sym (ap (λ b. given cell ++ replicate ((if b then 1 else 0) + 0) row) (none cell) ∙ append-nil (given cell))) start;
 }
 
-pub not-found : (book : Held) (t first : ℕ) (place : List ℕ) → None ≡ cell_at book t place → (cell : ℕ) → is_at book t first place cell ≡ false
+pub not-found : (book : BookView) (t first : ℕ) (place : List ℕ) → None ≡ cell_at book t place → (cell : ℕ) → is_at book t first place cell ≡ false
 not-found book t first place none cell = ap (λ found. option_map_or (λ one. one == cell && nat_le first one) found false) (sym none)
 
-pub too-early : (book : Held) (t first : ℕ) (place : List ℕ) (found : ℕ) → Some found ≡ cell_at book t place → found < first → (cell : ℕ) → is_at book t first place cell ≡ false
+pub too-early : (book : BookView) (t first : ℕ) (place : List ℕ) (found : ℕ) → Some found ≡ cell_at book t place → found < first → (cell : ℕ) → is_at book t first place cell ≡ false
 too-early book t first place found is early cell =
     let test : nat_le first found ≡ false = grind (arith, nat_tests) in
     ap (λ at. option_map_or (λ one. one == cell && nat_le first one) at false) (sym is) ∙ ap (λ b. (found == cell) && b) test ∙ never (found == cell)
@@ -65,7 +65,7 @@ too-early book t first place found is early cell =
     never false = refl
 
 -- to the cell at a place
-pub gave-one : (book : Held) (t first : ℕ) (row : Row) (place : List ℕ) (found : ℕ) (old new : Mark) → Some found ≡ cell_at book t place → first ≤ found → slice_get book.marks found ≡ Some old → settings_of new ≡ settings_of old
+pub gave-one : (book : BookView) (t first : ℕ) (row : Row) (place : List ℕ) (found : ℕ) (old new : Mark) → Some found ≡ cell_at book t place → first ≤ found → slice_get book.marks found ≡ Some old → settings_of new ≡ settings_of old
     → ((rows : List Row) → HoldsRecords old rows → HoldsRecords new (rows ++ row ∷ [])) → GaveRecord book (record book { marks = slice_set book.marks found new }) t first row (place ∷ [])
 gave-one book t first row place found old new is late at kept more = record {
   frame = refl;

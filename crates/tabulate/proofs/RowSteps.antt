@@ -4,13 +4,13 @@ use Rattle.std.proofs.lemmas.Grind.{flat_map-append}
 use Rattle.std.proofs.lemmas.List.{append-nil}
 use Rattle.sdc_base.specs.declared.rows.Row.{Row}
 use Rattle.linked_tables.specs.declared.mark.Mark.{Mark}
-use Rattle.linked_tables.specs.Held.{Held}
+use Rattle.linked_tables.specs.BookViews.{BookView}
 use Rattle.tabulate.specs.RecordsByPlace.{GaveRecord, GaveRecords, hits, rows_for, own_places}
 use Rattle.tabulate.specs.EmptyLists.{HasEmptyList, HaveEmptyLists}
 use Rattle.tabulate.proofs.PlaceSteps.{given-as}
 
 -- no records
-pub gave-none : (book : Held) (t first : ℕ) → GaveRecords book book t first []
+pub gave-none : (book : BookView) (t first : ℕ) → GaveRecords book book t first []
 gave-none book t first = record {
   frame = refl;
   kept = λ cell. refl;
@@ -18,9 +18,9 @@ gave-none book t first = record {
 }
 
 -- one record more
-pub gave-row : (a b c : Held) (t first : ℕ) (rows : List Row) (row : Row) → GaveRecords a b t first rows → GaveRecord b c t first row (own_places b t row) → GaveRecords a c t first (rows ++ row ∷ [])
+pub gave-row : (a b c : BookView) (t first : ℕ) (rows : List Row) (row : Row) → GaveRecords a b t first rows → GaveRecord b c t first row (own_places b t row) → GaveRecords a c t first (rows ++ row ∷ [])
 gave-row a b c t first rows row all one = record {
-  frame = one.frame ∙ ap (λ (x : Held). record x { marks = c.marks }) all.frame;
+  frame = one.frame ∙ ap (λ (x : BookView). record x { marks = c.marks }) all.frame;
   kept = λ cell. one.kept cell ∙ all.kept cell;
   given = λ given start. given-as c.marks (λ cell. (given cell ++ rows_for a t first rows cell) ++ replicate (hits b t first (own_places b t row) cell) row) (λ cell. given cell ++ rows_for a t first (rows ++ row ∷ []) cell)
       (λ cell. more given cell) (one.given (λ cell. given cell ++ rows_for a t first rows cell) (all.given given start));
@@ -30,12 +30,12 @@ gave-row a b c t first rows row all one = record {
     more given cell =
         let each : Row → List Row = λ one. replicate (hits a t first (own_places a t one) cell) one in
         append_assoc (given cell) (rows_for a t first rows cell) (replicate (hits b t first (own_places b t row) cell) row)
-        ∙ ap (λ (x : Held). given cell ++ (rows_for a t first rows cell ++ replicate (hits x t first (own_places x t row) cell) row)) all.frame
+        ∙ ap (λ (x : BookView). given cell ++ (rows_for a t first rows cell ++ replicate (hits x t first (own_places x t row) cell) row)) all.frame
         ∙ ap (λ last. given cell ++ (rows_for a t first rows cell ++ last)) (sym (append-nil (each row)))
         ∙ ap (λ found. given cell ++ found) (sym (flat_map-append each rows (row ∷ [])))
 
 -- no list is ready
-pub started-none : (book : Held) (keep scale : ℕ) → HaveEmptyLists book book keep scale 0
+pub started-none : (book : BookView) (keep scale : ℕ) → HaveEmptyLists book book keep scale 0
 started-none book keep scale = record {
   frame = refl;
   long = refl;
@@ -44,10 +44,10 @@ started-none book keep scale = record {
 }
 
 -- one list more
-pub started-next : (a b c : Held) (keep scale cell : ℕ) → HaveEmptyLists a b keep scale cell → c ≡ record b { marks = c.marks } → length c.marks ≡ length b.marks
+pub started-next : (a b c : BookView) (keep scale cell : ℕ) → HaveEmptyLists a b keep scale cell → c ≡ record b { marks = c.marks } → length c.marks ≡ length b.marks
     → ((old new : Mark) → slice_get b.marks cell ≡ Some old → slice_get c.marks cell ≡ Some new → HasEmptyList keep scale old new) → ((other : ℕ) → other ≢ cell → slice_get c.marks other ≡ slice_get b.marks other) → HaveEmptyLists a c keep scale (cell + 1)
 started-next a b c keep scale cell so_far frame long here there = record {
-  frame = frame ∙ ap (λ (x : Held). record x { marks = c.marks }) so_far.frame;
+  frame = frame ∙ ap (λ (x : BookView). record x { marks = c.marks }) so_far.frame;
   long = long ∙ so_far.long;
   ready = λ one before after below at new. by one before after (less_or_same one cell below) at new;
   rest = λ one h. there one (λ same. absurd (omega (arith, h, same))) ∙ so_far.rest one (omega (arith, h));

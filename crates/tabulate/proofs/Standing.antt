@@ -13,9 +13,9 @@ use Rattle.sdc_base.specs.Cells.{cells_of, code_for, is_named, named_by, name_of
 use Rattle.sdc_base.specs.CellOrder.{is_place_in}
 use Rattle.sdc_base.proofs.FirstNames.{all_named, names_are_first}
 use Rattle.sdc_base.proofs.PlaceLists.{name_length}
-use Rattle.linked_tables.specs.Held.{Held}
+use Rattle.linked_tables.specs.BookViews.{BookView}
 use Rattle.linked_tables.specs.Tables.{has_twice, has_unknown}
-use Rattle.linked_tables.specs.Shared.{IsTable, cells, cell_at, first_own, is_in, name_at, named, number_of}
+use Rattle.linked_tables.specs.BookCells.{IsTable, cells, cell_at, first_own, is_in, name_at, name_in_table, number_of}
 use Rattle.linked_tables.proofs.CellLists.{cells-stay}
 use Rattle.linked_tables.proofs.TableSteps.{cells-next}
 use Rattle.linked_tables.proofs.Finding.{cell-found, cell-named, place-named}
@@ -76,17 +76,17 @@ at-front [] ys k h = absurd (omega (arith, h))
 at-front (x ∷ xs) ys zero h = refl
 at-front (x ∷ xs) ys (suc k) h = at-front xs ys k (omega (arith, h))
 
-pub once-cells : (book : Held) → IsDistinct bytes_eq (cells book)
+pub once-cells : (book : BookView) → IsDistinct bytes_eq (cells book)
 once-cells book = names_are_first.once (flat_map (named_by book.trees) book.tables)
 
 -- the cells of the tables before are the first ones
-pub front-cells : (book : Held) (t : ℕ) → (later : List Name) × (cells book ≡ cells_of book.trees (take t book.tables) ++ later)
+pub front-cells : (book : BookView) (t : ℕ) → (later : List Name) × (cells book ≡ cells_of book.trees (take t book.tables) ++ later)
 front-cells book t =
     let stay = cells-stay book.trees (take t book.tables) (drop t book.tables) in
     (stay.0, ap (cells_of book.trees) (sym (take-append-drop t book.tables)) ∙ stay.1)
 
 -- a cell that a table is the first to name is one of the table's
-pub own-named : (book : Held) (t cell : ℕ) (table : List ℕ) (name : Name) → slice_get book.tables t ≡ Some table → slice_get (cells book) cell ≡ Some name → first_own book t ≤ cell → cell < first_own book (t + 1) → is_named (named_by book.trees table) name ≡ true
+pub own-named : (book : BookView) (t cell : ℕ) (table : List ℕ) (name : Name) → slice_get book.tables t ≡ Some table → slice_get (cells book) cell ≡ Some name → first_own book t ≤ cell → cell < first_own book (t + 1) → is_named (named_by book.trees table) name ≡ true
 own-named book t cell table name at is late early =
     let front = front-cells book (t + 1) in
     let here : slice_get (cells_of book.trees (take (t + 1) book.tables)) cell ≡ Some name =
@@ -117,18 +117,18 @@ take-here tables t table at = ap (λ n. slice_get (take n tables) t) (add-one t)
     by (first ∷ tables) (suc t) at = by tables t at
 
 -- a cell at a place of a table is none behind the table's last
-pub cell-early : (book : Held) (t found : ℕ) (place : List ℕ) → cell_at book t place ≡ Some found → found < first_own book (t + 1)
+pub cell-early : (book : BookView) (t found : ℕ) (place : List ℕ) → cell_at book t place ≡ Some found → found < first_own book (t + 1)
 cell-early book t found place is = by_table (slice_get book.tables t) refl is
   where
-    inside : (table : List ℕ) → slice_get book.tables t ≡ Some table → (b : Bool) → is_in book table place ≡ b → (if b then number_of book (named book table place) else None) ≡ Some found → found < first_own book (t + 1)
+    inside : (table : List ℕ) → slice_get book.tables t ≡ Some table → (b : Bool) → is_in book table place ≡ b → (if b then number_of book (name_in_table book table place) else None) ≡ Some found → found < first_own book (t + 1)
     inside table at true good is =
         let front = front-cells book (t + 1) in
         let taken : slice_get (take (t + 1) book.tables) t ≡ Some table = take-here book.tables t table at in
-        let among : is_named (cells_of book.trees (take (t + 1) book.tables)) (named book table place) ≡ true = place-named book.trees (take (t + 1) book.tables) t table place taken good in
-        found-early (cells_of book.trees (take (t + 1) book.tables)) front.0 (named book table place) found among (ap (first_place (bytes_eq (named book table place))) (sym front.1) ∙ is)
+        let among : is_named (cells_of book.trees (take (t + 1) book.tables)) (name_in_table book table place) ≡ true = place-named book.trees (take (t + 1) book.tables) t table place taken good in
+        found-early (cells_of book.trees (take (t + 1) book.tables)) front.0 (name_in_table book table place) found among (ap (first_place (bytes_eq (name_in_table book table place))) (sym front.1) ∙ is)
     inside table at false good is = cc
 
-    by_table : (found_table : Option (List ℕ)) → slice_get book.tables t ≡ found_table → option_and_then (λ table. if is_in book table place then number_of book (named book table place) else None) found_table ≡ Some found → found < first_own book (t + 1)
+    by_table : (found_table : Option (List ℕ)) → slice_get book.tables t ≡ found_table → option_and_then (λ table. if is_in book table place then number_of book (name_in_table book table place) else None) found_table ≡ Some found → found < first_own book (t + 1)
     by_table None at is = cc
     by_table (Some table) at is = inside table at (is_in book table place) refl is
 
@@ -206,7 +206,7 @@ name-back trees table name h =
     back variable false good = sym ((Decides-eqb (get_or name variable 0) 0).0 good)
 
 -- a cell of a table stands at exactly one place
-pub stands-once : (book : Held) (t first cell : ℕ) (table : List ℕ) (name : Name) (place : List ℕ) → slice_get book.tables t ≡ Some table → IsTable (length book.trees) table → slice_get (cells book) cell ≡ Some name → first ≤ cell
+pub stands-once : (book : BookView) (t first cell : ℕ) (table : List ℕ) (name : Name) (place : List ℕ) → slice_get book.tables t ≡ Some table → IsTable (length book.trees) table → slice_get (cells book) cell ≡ Some name → first ≤ cell
     → is_named (named_by book.trees table) name ≡ true → is_at book t first place cell ≡ bytes_eq place (codes_at name table)
 stands-once book t first cell table name place at sound is late given = by (bytes_eq place (codes_at name table)) refl
   where
@@ -215,8 +215,8 @@ stands-once book t first cell table name place at sound is late given = by (byte
 
     here : cell_at book t (codes_at name table) ≡ Some cell
     here =
-        ap (λ found. option_and_then (λ one. if is_in book one (codes_at name table) then number_of book (named book one (codes_at name table)) else None) found) at
-        ∙ ap (λ b. if b then number_of book (named book table (codes_at name table)) else None) good
+        ap (λ found. option_and_then (λ one. if is_in book one (codes_at name table) then number_of book (name_in_table book one (codes_at name table)) else None) found) at
+        ∙ ap (λ b. if b then number_of book (name_in_table book table (codes_at name table)) else None) good
         ∙ ap (number_of book) (name-back book.trees table name given)
         ∙ found-where (cells book) cell name (once-cells book) is
 
@@ -241,7 +241,7 @@ stands-once book t first cell table name place at sound is late given = by (byte
     back h =
         let there : cell_at book t place ≡ Some cell = found (cell_at book t place) h in
         let same : name_at book t place ≡ name = some-same (sym (cell-named book t place cell there) ∙ is) in
-        let whole : named book table place ≡ name = ap (λ o. option_map_or (λ one. named book one place) o []) (sym at) ∙ same in
+        let whole : name_in_table book table place ≡ name = ap (λ o. option_map_or (λ one. name_in_table book one place) o []) (sym at) ∙ same in
         let inside : is_in book table place ≡ true = ap (λ o. option_map_or (λ one. is_in book one place) o false) (sym at) ∙ sym (cell-found book t place) ∙ ap is_some there in
         sym (place-of-name book.trees table place sound inside) ∙ ap (λ one. codes_at one table) whole
 

@@ -15,9 +15,9 @@ use Rattle.sdc_base.specs.Cells.{is_named, named_by, spans}
 use Rattle.sdc_base.specs.declared.rows.Row.{Row}
 use Rattle.sdc_base.proofs.Walks.{count-none, under_is_tested}
 use Rattle.sdc_base.proofs.InEach.{falls_where_under_in_each}
-use Rattle.linked_tables.specs.Held.{Held}
+use Rattle.linked_tables.specs.BookViews.{BookView}
 use Rattle.linked_tables.specs.Tables.{has_unknown}
-use Rattle.linked_tables.specs.Shared.{IsBook, IsTable, cells, cell_at, first_own}
+use Rattle.linked_tables.specs.BookCells.{IsBook, IsTable, cells, cell_at, first_own}
 use Rattle.linked_tables.proofs.CellLists.{starts-rise}
 use Rattle.linked_tables.proofs.Sharing.{codes_at, known-below, named-codes}
 use Rattle.tabulate.specs.RecordsByPlace.{codes_for, hits, is_at, rows_for, variables_of, own_places}
@@ -91,7 +91,7 @@ pub record IsOf (trees : List Tree) (row : Row) : Type 0 where
   pub coded : length row.codes ≡ length trees
   pub inside : (variable : ℕ) → variable < length trees → slice_index row.codes variable < length (slice_index_or trees variable [])
 
-pub spanned-is : (book : Held) (t : ℕ) (table : List ℕ) → slice_get book.tables t ≡ Some table → variables_of book t ≡ table
+pub spanned-is : (book : BookView) (t : ℕ) (table : List ℕ) → slice_get book.tables t ≡ Some table → variables_of book t ≡ table
 spanned-is book t table at = ap (λ found. option_map_or (λ one. one) found []) at
 
 -- a record is given to the cell that has its very codes, and to no other
@@ -99,7 +99,7 @@ same-codes : (codes name : Name) (table : List ℕ) → bytes_eq (codes_for code
 same-codes codes name [] = refl
 same-codes codes name (variable ∷ table) = ap (λ b. (slice_index codes variable == slice_index name variable) && b) (same-codes codes name table)
 
-hit-once : (book : Held) (t first cell : ℕ) (table : List ℕ) (name : Name) (row : Row) → IsTable (length book.trees) table → slice_get book.tables t ≡ Some table → slice_get (cells book) cell ≡ Some name → first ≤ cell
+hit-once : (book : BookView) (t first cell : ℕ) (table : List ℕ) (name : Name) (row : Row) → IsTable (length book.trees) table → slice_get book.tables t ≡ Some table → slice_get (cells book) cell ≡ Some name → first ≤ cell
     → is_named (named_by book.trees table) name ≡ true → hits book t first (own_places book t row) cell ≡ (if same_all row.codes name table then 1 else 0)
 hit-once book t first cell table name row sound at named late given =
     ap (λ one. count (λ place. is_at book t first place cell) (codes_for row.codes one ∷ [])) (spanned-is book t table at)
@@ -111,7 +111,7 @@ hit-once book t first cell table name row sound at named late given =
     whole false = omega arith
 
 -- the rows that a cell is given are those that fall in it
-rows-once : (book : Held) (t first cell : ℕ) (falls : Row → Bool) (rows : List Row) → ((row : Row) → IsOf book.trees row → hits book t first (own_places book t row) cell ≡ (if falls row then 1 else 0)) → All (IsOf book.trees) rows → rows_for book t first rows cell ≡ filter falls rows
+rows-once : (book : BookView) (t first cell : ℕ) (falls : Row → Bool) (rows : List Row) → ((row : Row) → IsOf book.trees row → hits book t first (own_places book t row) cell ≡ (if falls row then 1 else 0)) → All (IsOf book.trees) rows → rows_for book t first rows cell ≡ filter falls rows
 rows-once book t first cell falls [] each good = refl
 rows-once book t first cell falls (row ∷ rows) each good =
     let here = each row (All-head (IsOf book.trees) row rows good) in
@@ -121,19 +121,19 @@ rows-once book t first cell falls (row ∷ rows) each good =
     ∙ elim (falls row) as (λ b. replicate (if b then 1 else 0) row ++ filter falls rows ≡ cond b (row ∷ filter falls rows) (filter falls rows)) [ true ↦ refl | false ↦ refl ]
 
 -- no rows for a cell that stands at no place
-rows-never : (book : Held) (t first cell : ℕ) (rows : List Row) → ((place : List ℕ) → is_at book t first place cell ≡ false) → rows_for book t first rows cell ≡ []
+rows-never : (book : BookView) (t first cell : ℕ) (rows : List Row) → ((place : List ℕ) → is_at book t first place cell ≡ false) → rows_for book t first rows cell ≡ []
 rows-never book t first cell [] none = refl
 rows-never book t first cell (row ∷ rows) none =
     ap (λ n. replicate n row ++ rows_for book t first rows cell) (count-none (λ place. is_at book t first place cell) (own_places book t row) none) ∙ rows-never book t first cell rows none
 
-never-early : (book : Held) (t first cell : ℕ) (place : List ℕ) → cell < first → is_at book t first place cell ≡ false
+never-early : (book : BookView) (t first cell : ℕ) (place : List ℕ) → cell < first → is_at book t first place cell ≡ false
 never-early book t first cell place early = by (cell_at book t place)
   where
     by : (found : Option ℕ) → option_map_or (λ one. one == cell && nat_le first one) found false ≡ false
     by None = refl
     by (Some one) = grind (arith, nat_tests)
 
-never-late : (book : Held) (t first cell : ℕ) (place : List ℕ) → first_own book (t + 1) ≤ cell → is_at book t first place cell ≡ false
+never-late : (book : BookView) (t first cell : ℕ) (place : List ℕ) → first_own book (t + 1) ≤ cell → is_at book t first place cell ≡ false
 never-late book t first cell place late = by (cell_at book t place) refl
   where
     by : (found : Option ℕ) → cell_at book t place ≡ found → option_map_or (λ one. one == cell && nat_le first one) found false ≡ false
@@ -146,14 +146,14 @@ never-late book t first cell place late = by (cell_at book t place) refl
 -- ---- table after table
 
 -- what a cell was given by the first t tables
-abbrev pub given_to : Held → List Row → ℕ → ℕ → List Row
+abbrev pub given_to : BookView → List Row → ℕ → ℕ → List Row
 given_to book rows t cell = if nat_lt cell (first_own book t) then rows_in book.trees (slice_index_or (cells book) cell []) rows else []
 
 -- what the cells have, once the records were given to the cells with their very codes
-abbrev pub placed_in : Held → List Row → ℕ → ℕ → List Row
+abbrev pub placed_in : BookView → List Row → ℕ → ℕ → List Row
 placed_in book rows t cell = given_to book rows t cell ++ rows_for book t (first_own book t) rows cell
 
-pub given-next : (book : Held) (rows : List Row) (t : ℕ) (table : List ℕ) (cell : ℕ) (name : Name) → IsBook book → All (IsOf book.trees) rows → slice_get book.tables t ≡ Some table → slice_get (cells book) cell ≡ Some name → length name ≡ length book.trees
+pub given-next : (book : BookView) (rows : List Row) (t : ℕ) (table : List ℕ) (cell : ℕ) (name : Name) → IsBook book → All (IsOf book.trees) rows → slice_get book.tables t ≡ Some table → slice_get (cells book) cell ≡ Some name → length name ≡ length book.trees
     → IsPermutation (after_variables book (first_own book t) (first_own book (t + 1)) table (placed_in book rows t) cell) (given_to book rows (t + 1) cell)
 given-next book rows t table cell name is good at named long = by (below cell (first_own book t)) (below cell (first_own book (t + 1)))
   where

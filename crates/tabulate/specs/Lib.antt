@@ -2,4 +2,4 @@ pub mod MarkRecords
 pub mod RecordsByPlace
 pub mod EmptyLists
 pub mod UpperCells
-pub mod Tabulated
+pub mod TabulatedMarks

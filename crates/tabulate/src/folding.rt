@@ -83,7 +83,8 @@ fn join_cells(book: &mut Book, upper: u32, lower: u32)
     requires even { HaveOneScale book.old.marks }
     requires above { upper < length book.old.marks }
     requires within { lower < length book.old.marks }
-    ensures { PassedRecords book.old book.new (λ given cell. if upper == cell then given cell ++ given lower else given cell) }
+    ensures { PassedRecords book.old book.new
+        (λ given cell. if upper == cell then given cell ++ given lower else given cell) }
 {
     let other = mark_at(book, lower);
     if let Some(mark) = book.mark_mut(upper) {
@@ -94,7 +95,8 @@ fn join_cells(book: &mut Book, upper: u32, lower: u32)
 // A mark that was given what that of a cell was.
 fn mark_at(book: &Book, cell: u32) -> Mark
     requires { cell < length book.now.marks }
-    ensures given { (given : ℕ → List Record) → MarksHoldRecords book.now.marks given → HoldsRecords result (given cell) }
+    ensures given { (given : ℕ → List Record) → MarksHoldRecords book.now.marks given
+        → HoldsRecords result (given cell) }
     ensures kept { settings_at book.now.marks cell ≡ Some (settings_of result) }
 {
     let marks = book.marks();

@@ -1,9 +1,9 @@
 ghost use Rattle.std.specs.Prelude.{◌≡◌, ◌≢◌, ◌≤◌, ◌<◌, ℕ, Some, length, slice_get, pos, ◌≤ℤ◌, All};
 ghost use Rattle.linked_tables.specs.declared.mark.Mark.{Mark as Noted};
-ghost use Rattle.linked_tables.specs.Shared.{IsBook};
+ghost use Rattle.linked_tables.specs.BookCells.{IsBook};
 ghost use Rattle.tabulate.specs.MarkRecords.{hidden_at};
 ghost use Rattle.tabulate.specs.EmptyLists.{HasEmptyList, HaveEmptyLists};
-ghost use Rattle.tabulate.specs.Tabulated.{AreTabulated, HasNone, IsRow};
+ghost use Rattle.tabulate.specs.TabulatedMarks.{AreTabulated, HasNone, IsRow};
 
 use crate::folding::fold_table;
 use crate::placing::give_rows;
@@ -17,8 +17,8 @@ use sdc_base::{Row, Tops};
 /// It keeps from 2 to 10, and the scale, the weight steps of a whole contribution, is from 1 to 10,000. There are at
 /// most a million records, each with as many codes as the book has trees, a place in each of them, a value from 0 and
 /// below 10^15 units, and a weight below 10^8 steps and not below the scale; the marks have no records yet. It takes no
-/// memory and has no refusal, one look-up for each record and table, and one for each cell and variable of the table that
-/// is the first to name it. The sums are those of the handbook's magnitude tables, the weight steps argus's own.
+/// memory and has no refusal, one look-up for each record and table, and one for each cell and variable of the table
+/// that is the first to name it. The sums are those of the handbook's magnitude tables, the weight steps argus's own.
 pub fn tabulate(book: &mut Book, rows: &[Row], keep: u8, scale: u32)
     requires at_least_two { 2 ≤ keep }
     requires at_most_ten { keep ≤ 10 }
@@ -62,7 +62,8 @@ fn start_cell(book: &mut Book, cell: u32, keep: u8, scale: u32)
     requires whole { 1 ≤ scale }
     requires fine { scale ≤ 10000 }
     ensures frame { book.new ≡ record book.old { marks = book.new.marks } }
-    ensures here { (old new : Noted) → slice_get book.old.marks cell ≡ Some old → slice_get book.new.marks cell ≡ Some new → HasEmptyList keep scale old new }
+    ensures here { (old new : Noted) → slice_get book.old.marks cell ≡ Some old
+        → slice_get book.new.marks cell ≡ Some new → HasEmptyList keep scale old new }
     ensures there { (other : ℕ) → other ≢ cell → slice_get book.new.marks other ≡ slice_get book.old.marks other }
     ensures long { length book.new.marks ≡ length book.old.marks }
 {

@@ -1,5 +1,5 @@
 ghost use Rattle.std.specs.Prelude.{None, slice_get, ◌≡◌, ◌<◌, ◌≤◌, ◌^◌, ℕ, [], true, length, slice_index, slice_index_or, All, pos, ◌≤ℤ◌, ◌<ℤ◌};
-ghost use Rattle.tabulate.specs.Tabulated.{HasNone, IsRow};
+ghost use Rattle.tabulate.specs.TabulatedMarks.{HasNone, IsRow};
 
 use crate::{TopList, tabulate};
 use linked_tables::{Book, Mark};
@@ -19,7 +19,8 @@ fn rows_of(alloc: Global, records: &[Record<'_>], turned: bool) -> Result<Vec<Ro
 }
 
 fn are_inside(book: &Book, codes: &[u32]) -> bool
-    ensures { result ≡ true → (variable : ℕ) → variable < length codes.now → slice_index codes.now variable < length (slice_index_or book.now.trees variable []) }
+    ensures { result ≡ true → (variable : ℕ) → variable < length codes.now
+        → slice_index codes.now variable < length (slice_index_or book.now.trees variable []) }
 {
     for (k, code) in codes.iter().enumerate() {
         if k >= 8 {
@@ -46,7 +47,8 @@ fn ends_behind(book: &Book, codes: &Place) -> bool
 // There are as many codes as trees, and each is in its own.
 fn are_codes(book: &Book, codes: &Place) -> bool
     ensures each { result ≡ true → length codes.now ≡ length book.now.trees }
-    ensures inside { result ≡ true → (variable : ℕ) → variable < length codes.now → slice_index codes.now variable < length (slice_index_or book.now.trees variable []) }
+    ensures inside { result ≡ true → (variable : ℕ) → variable < length codes.now
+        → slice_index codes.now variable < length (slice_index_or book.now.trees variable []) }
 {
     if !ends_behind(book, codes) {
         return false;

@@ -13,7 +13,7 @@ use Rattle.sdc_base.specs.HiddenSets.{is_hidden}
 use Rattle.sdc_base.specs.Systems.{Numbers}
 use Rattle.sdc_base.specs.Refutations.{share, share_at}
 use Rattle.worlds.specs.declared.faults.RefutationFault.TheVariants as fault
-use Rattle.worlds.specs.Gathered.{held}
+use Rattle.worlds.specs.BoundedNumbers.{within_128_bits}
 use Rattle.worlds.specs.RefutationFaults.{share_or_fault, added_share, summed_from}
 use Rattle.worlds.proofs.WorldLaws.{then_ok, not_refused, passes}
 use Rattle.worlds.proofs.Held.{held_says, held_passes}
@@ -42,27 +42,27 @@ bounded_test true k None bounded =
 share_says : (hidden : Bool) (number : ℕ) (k : ℤ) (cell : Cell) (part : ℤ) → share_or_fault hidden number k cell ≡ Ok part → (part ≡ share hidden k cell) × FitsSigned w128 (share hidden k cell) × IsBounded hidden k cell
 share_says hidden number k cell part ok =
     let wrong : Bool = hidden && (int_lt (pos 0) k && not (is_some cell.high)) in
-    let parts = bind_ok (refuse (fault.Unbounded number) wrong) (λ _. held number (share hidden k cell)) part ok in
+    let parts = bind_ok (refuse (fault.Unbounded number) wrong) (λ _. within_128_bits number (share hidden k cell)) part ok in
     let own : (part ≡ share hidden k cell) × FitsSigned w128 (share hidden k cell) = held_says number (share hidden k cell) part parts.2 in
     (own.0, own.1, unbounded_says hidden k cell cell.high refl (not_refused (fault.Unbounded number) wrong parts.1))
 
 share_passes : (hidden : Bool) (number : ℕ) (k : ℤ) (cell : Cell) → FitsSigned w128 (share hidden k cell) → IsBounded hidden k cell → share_or_fault hidden number k cell ≡ Ok (share hidden k cell)
 share_passes hidden number k cell fits bounded =
     let wrong : Bool = hidden && (int_lt (pos 0) k && not (is_some cell.high)) in
-    then_ok (refuse (fault.Unbounded number) wrong) (λ _. held number (share hidden k cell)) tt (share hidden k cell)
+    then_ok (refuse (fault.Unbounded number) wrong) (λ _. within_128_bits number (share hidden k cell)) tt (share hidden k cell)
     (passes (fault.Unbounded number) wrong (bounded_test hidden k cell.high bounded)) (held_passes number (share hidden k cell) fits)
 
 added_says : (hidden : Bool) (number : ℕ) (k : ℤ) (cell : Cell) (sum next : ℤ) → added_share hidden number k cell sum ≡ Ok next → (next ≡ sum +ℤ share hidden k cell) × FitsSigned w128 (share hidden k cell) × FitsSigned w128 (sum +ℤ share hidden k cell) × IsBounded hidden k cell
 added_says hidden number k cell sum next ok =
-    let parts = bind_ok (share_or_fault hidden number k cell) (λ part. held number (sum +ℤ part)) next ok in
+    let parts = bind_ok (share_or_fault hidden number k cell) (λ part. within_128_bits number (sum +ℤ part)) next ok in
     let own : (parts.0 ≡ share hidden k cell) × FitsSigned w128 (share hidden k cell) × IsBounded hidden k cell = share_says hidden number k cell parts.0 parts.1 in
-    let later : held number (sum +ℤ share hidden k cell) ≡ Ok next = subst (λ p. held number (sum +ℤ p) ≡ Ok next) own.0 parts.2 in
+    let later : within_128_bits number (sum +ℤ share hidden k cell) ≡ Ok next = subst (λ p. within_128_bits number (sum +ℤ p) ≡ Ok next) own.0 parts.2 in
     let whole : (next ≡ sum +ℤ share hidden k cell) × FitsSigned w128 (sum +ℤ share hidden k cell) = held_says number (sum +ℤ share hidden k cell) next later in
     (whole.0, own.1, whole.1, own.2)
 
 added_passes : (hidden : Bool) (number : ℕ) (k : ℤ) (cell : Cell) (sum : ℤ) → FitsSigned w128 (share hidden k cell) → FitsSigned w128 (sum +ℤ share hidden k cell) → IsBounded hidden k cell → added_share hidden number k cell sum ≡ Ok (sum +ℤ share hidden k cell)
 added_passes hidden number k cell sum fits whole bounded =
-    then_ok (share_or_fault hidden number k cell) (λ part. held number (sum +ℤ part)) (share hidden k cell) (sum +ℤ share hidden k cell)
+    then_ok (share_or_fault hidden number k cell) (λ part. within_128_bits number (sum +ℤ part)) (share hidden k cell) (sum +ℤ share hidden k cell)
     (share_passes hidden number k cell fits bounded) (held_passes number (sum +ℤ share hidden k cell) whole)
 
 -- ---- all cells

@@ -9,34 +9,34 @@ use Rattle.sdc_base.proofs.StepLemmas.{bind_ok}
 use Rattle.sdc_base.proofs.TotalLemmas.{sum_of-cons, sum_of-append}
 use Rattle.sdc_base.specs.Forms.{Term, coefficient}
 use Rattle.worlds.specs.declared.faults.RefutationFault.TheVariants as fault
-use Rattle.worlds.specs.Gathered.{at, fits, held, gathered}
+use Rattle.worlds.specs.BoundedNumbers.{number_at, fits_128_bits, within_128_bits, numbers_with_terms}
 use Rattle.worlds.proofs.Bounds.{decides_le}
 use Rattle.worlds.proofs.TrueTests.{and_true, both_true}
 use Rattle.worlds.proofs.WorldLaws.{then_ok}
 
 -- ---- a number of 128 bits
 
-pub fits_says : (n : ℤ) → fits n ≡ true → FitsSigned w128 n
+pub fits_says : (n : ℤ) → fits_128_bits n ≡ true → FitsSigned w128 n
 fits_says n is =
     let both : (int_le (neg_ℤ (pos (2 ^ 127))) n ≡ true) × (int_lt n (pos (2 ^ 127)) ≡ true) = and_true (int_le (neg_ℤ (pos (2 ^ 127))) n) (int_lt n (pos (2 ^ 127))) is in
     let low : neg_ℤ (pos (2 ^ 127)) ≤ℤ n = (decides_le (neg_ℤ (pos (2 ^ 127))) n).0 both.0 in
     let high : n <ℤ pos (2 ^ 127) = grind (arith, ints, both.1) in
     omega (arith, ints, low, high)
 
-pub fits_test : (n : ℤ) → FitsSigned w128 n → fits n ≡ true
+pub fits_test : (n : ℤ) → FitsSigned w128 n → fits_128_bits n ≡ true
 fits_test n is =
     let low : neg_ℤ (pos (2 ^ 127)) ≤ℤ n = omega (arith, ints, is) in
     let high : n <ℤ pos (2 ^ 127) = omega (arith, ints, is) in
     both_true (int_le (neg_ℤ (pos (2 ^ 127))) n) (int_lt n (pos (2 ^ 127))) ((decides_le (neg_ℤ (pos (2 ^ 127))) n).1 low) (grind (arith, ints, high))
 
-pub held_says : (cell : ℕ) (n x : ℤ) → held cell n ≡ Ok x → (x ≡ n) × FitsSigned w128 n
+pub held_says : (cell : ℕ) (n x : ℤ) → within_128_bits cell n ≡ Ok x → (x ≡ n) × FitsSigned w128 n
 held_says cell n x ok =
-    elim (fits n) as (λ b. fits n ≡ b → (if b then Ok n else Err (fault.Wide cell)) ≡ Ok x → (x ≡ n) × FitsSigned w128 n) [
+    elim (fits_128_bits n) as (λ b. fits_128_bits n ≡ b → (if b then Ok n else Err (fault.Wide cell)) ≡ Ok x → (x ≡ n) × FitsSigned w128 n) [
       | true ↦ λ is same. (cc, fits_says n is)
       | false ↦ λ is same. absurd cc
     ] refl ok
 
-pub held_passes : (cell : ℕ) (n : ℤ) → FitsSigned w128 n → held cell n ≡ Ok n
+pub held_passes : (cell : ℕ) (n : ℤ) → FitsSigned w128 n → within_128_bits cell n ≡ Ok n
 held_passes cell n is = rw (fits_test n is) refl
 
 -- ---- coefficients as they grow
@@ -55,12 +55,12 @@ coefficient-more done term cell =
     sum_of-append (λ (t : Term). if t.0 == cell then t.1 else pos 0) done (term ∷ [])
     ∙ omega (arith, ints, sum_of-cons (λ (t : Term). if t.0 == cell then t.1 else pos 0) term [])
 
-at_set : (numbers : List ℤ) (place : ℕ) (number : ℤ) (cell : ℕ) → place < length numbers → at (slice_set numbers place number) cell ≡ (if place == cell then number else at numbers cell)
+at_set : (numbers : List ℤ) (place : ℕ) (number : ℤ) (cell : ℕ) → place < length numbers → number_at (slice_set numbers place number) cell ≡ (if place == cell then number else number_at numbers cell)
 at_set numbers place number cell within =
-    elim (place == cell) as (λ b. (place == cell) ≡ b → at (slice_set numbers place number) cell ≡ (if b then number else at numbers cell)) [
+    elim (place == cell) as (λ b. (place == cell) ≡ b → number_at (slice_set numbers place number) cell ≡ (if b then number else number_at numbers cell)) [
       | true ↦ λ is.
           let same : cell ≡ place = sym ((Decides-eqb place cell).0 is) in
-          ap (λ c. at (slice_set numbers place number) c) same ∙ get_or-set_same numbers place number (pos 0) within
+          ap (λ c. number_at (slice_set numbers place number) c) same ∙ get_or-set_same numbers place number (pos 0) within
       | false ↦ λ is.
           let other : cell ≢ place = grind (arith, nat_tests, is) in
           get_or-set_other numbers place cell number (pos 0) other
@@ -68,18 +68,18 @@ at_set numbers place number cell within =
 
 -- the numbers of the cells are the coefficients of what is done
 abbrev pub AreSums : List ℤ → List Term → Type 0
-AreSums numbers done = (cell : ℕ) → at numbers cell ≡ coefficient done cell
+AreSums numbers done = (cell : ℕ) → number_at numbers cell ≡ coefficient done cell
 
-sums_more : (numbers : List ℤ) (done : List Term) (term : Term) → term.0 < length numbers → AreSums numbers done → AreSums (slice_set numbers term.0 (at numbers term.0 +ℤ term.1)) (done ++ term ∷ [])
+sums_more : (numbers : List ℤ) (done : List Term) (term : Term) → term.0 < length numbers → AreSums numbers done → AreSums (slice_set numbers term.0 (number_at numbers term.0 +ℤ term.1)) (done ++ term ∷ [])
 sums_more numbers done term within are cell =
-    at_set numbers term.0 (at numbers term.0 +ℤ term.1) cell within
-    ∙ elim (term.0 == cell) as (λ b. (term.0 == cell) ≡ b → (if b then at numbers term.0 +ℤ term.1 else at numbers cell) ≡ coefficient done cell +ℤ (if b then term.1 else pos 0)) [
-      | true ↦ λ is. ap (λ c. at numbers c +ℤ term.1) ((Decides-eqb term.0 cell).0 is) ∙ ap (λ n. n +ℤ term.1) (are cell)
+    at_set numbers term.0 (number_at numbers term.0 +ℤ term.1) cell within
+    ∙ elim (term.0 == cell) as (λ b. (term.0 == cell) ≡ b → (if b then number_at numbers term.0 +ℤ term.1 else number_at numbers cell) ≡ coefficient done cell +ℤ (if b then term.1 else pos 0)) [
+      | true ↦ λ is. ap (λ c. number_at numbers c +ℤ term.1) ((Decides-eqb term.0 cell).0 is) ∙ ap (λ n. n +ℤ term.1) (are cell)
       | false ↦ λ is. are cell ∙ omega (arith, ints)
     ] refl
     ∙ sym (coefficient-more done term cell)
 
-own_sum : (numbers : List ℤ) (done : List Term) (term : Term) → AreSums numbers done → at numbers term.0 +ℤ term.1 ≡ coefficient (done ++ term ∷ []) term.0
+own_sum : (numbers : List ℤ) (done : List Term) (term : Term) → AreSums numbers done → number_at numbers term.0 +ℤ term.1 ≡ coefficient (done ++ term ∷ []) term.0
 own_sum numbers done term are =
     let same : (term.0 == term.0) ≡ true = (Decides-eqb term.0 term.0).1 refl in
     ap (λ n. n +ℤ term.1) (are term.0)
@@ -113,16 +113,16 @@ pub record Gathering (done : List Term) (terms : List Term) (after : List ℤ) :
   pub sums : AreSums after (done ++ terms)
   pub are_held : AreHeld done terms
 
-pub gathered_says : (numbers : List ℤ) (done terms : List Term) (after : List ℤ) → All (λ (t : Term). t.0 < length numbers) terms → AreSums numbers done → gathered numbers terms ≡ Ok after → Gathering done terms after
+pub gathered_says : (numbers : List ℤ) (done terms : List Term) (after : List ℤ) → All (λ (t : Term). t.0 < length numbers) terms → AreSums numbers done → numbers_with_terms numbers terms ≡ Ok after → Gathering done terms after
 gathered_says numbers done [] after inside are ok =
     let same : numbers ≡ after = cc in
-    record { sums = λ cell. ap (λ n. at n cell) (sym same) ∙ are cell ∙ ap (λ (l : List Term). coefficient l cell) (sym (append_nil done)); are_held = λ first term rest is. absurd (none_split first term rest is) }
+    record { sums = λ cell. ap (λ n. number_at n cell) (sym same) ∙ are cell ∙ ap (λ (l : List Term). coefficient l cell) (sym (append_nil done)); are_held = λ first term rest is. absurd (none_split first term rest is) }
 gathered_says numbers done (term ∷ terms) after inside are ok =
     let Inside : List ℤ → Term → Type 0 = λ n t. t.0 < length n in
-    let sum : ℤ = at numbers term.0 +ℤ term.1 in
-    let parts = bind_ok (held term.0 sum) (λ x. gathered (slice_set numbers term.0 x) terms) after ok in
+    let sum : ℤ = number_at numbers term.0 +ℤ term.1 in
+    let parts = bind_ok (within_128_bits term.0 sum) (λ x. numbers_with_terms (slice_set numbers term.0 x) terms) after ok in
     let own : (parts.0 ≡ sum) × FitsSigned w128 sum = held_says term.0 sum parts.0 parts.1 in
-    let later : gathered (slice_set numbers term.0 sum) terms ≡ Ok after = subst (λ x. gathered (slice_set numbers term.0 x) terms ≡ Ok after) own.0 parts.2 in
+    let later : numbers_with_terms (slice_set numbers term.0 sum) terms ≡ Ok after = subst (λ x. numbers_with_terms (slice_set numbers term.0 x) terms ≡ Ok after) own.0 parts.2 in
     let within : term.0 < length numbers = All-head (Inside numbers) term terms inside in
     let next : List ℤ = slice_set numbers term.0 sum in
     let long : length next ≡ length numbers = length-set numbers term.0 sum in
@@ -133,15 +133,15 @@ gathered_says numbers done (term ∷ terms) after inside are ok =
       are_held = held_both done term terms (subst (FitsSigned w128) (own_sum numbers done term are) own.1) all.are_held;
     }
 
-pub gathered_ends : (numbers : List ℤ) (done terms : List Term) → All (λ (t : Term). t.0 < length numbers) terms → AreSums numbers done → AreHeld done terms → (after : List ℤ) × (gathered numbers terms ≡ Ok after)
+pub gathered_ends : (numbers : List ℤ) (done terms : List Term) → All (λ (t : Term). t.0 < length numbers) terms → AreSums numbers done → AreHeld done terms → (after : List ℤ) × (numbers_with_terms numbers terms ≡ Ok after)
 gathered_ends numbers done [] inside are all = (numbers, refl)
 gathered_ends numbers done (term ∷ terms) inside are all =
     let Inside : List ℤ → Term → Type 0 = λ n t. t.0 < length n in
-    let sum : ℤ = at numbers term.0 +ℤ term.1 in
+    let sum : ℤ = number_at numbers term.0 +ℤ term.1 in
     let within : term.0 < length numbers = All-head (Inside numbers) term terms inside in
     let next : List ℤ = slice_set numbers term.0 sum in
     let long : length next ≡ length numbers = length-set numbers term.0 sum in
     let rest : All (λ (t : Term). t.0 < length next) terms = subst (λ n. All (λ (t : Term). t.0 < n) terms) (sym long) (All-tail (Inside numbers) term terms inside) in
     let own : FitsSigned w128 sum = subst (FitsSigned w128) (sym (own_sum numbers done term are)) (held_head done term terms all) in
-    let later : (after : List ℤ) × (gathered next terms ≡ Ok after) = gathered_ends next (done ++ term ∷ []) terms rest (sums_more numbers done term within are) (held_tail done term terms all) in
-    (later.0, then_ok (held term.0 sum) (λ x. gathered (slice_set numbers term.0 x) terms) sum later.0 (held_passes term.0 sum own) later.1)
+    let later : (after : List ℤ) × (numbers_with_terms next terms ≡ Ok after) = gathered_ends next (done ++ term ∷ []) terms rest (sums_more numbers done term within are) (held_tail done term terms all) in
+    (later.0, then_ok (within_128_bits term.0 sum) (λ x. numbers_with_terms (slice_set numbers term.0 x) terms) sum later.0 (held_passes term.0 sum own) later.1)

@@ -5,7 +5,7 @@ use Rattle.std.proofs.lemmas.Bool.Decides.{Decides-int_eq, Decides-eqb, nat_test
 use Rattle.std.proofs.lemmas.List.Elements.{All-nil, All-head, All-tail, All-cons}
 use Rattle.sdc_base.specs.Forms.{Term}
 use Rattle.sdc_base.specs.Systems.{Numbers}
-use Rattle.worlds.specs.Listed.{Ascend, IsListed, is_next, misplaced, given}
+use Rattle.worlds.specs.NumberLists.{Ascend, IsListed, is_next, first_misplaced, number_given}
 use Rattle.worlds.proofs.TrueTests.{and_true, not_true}
 
 -- ---- the first misplaced, and lists as they are to be
@@ -26,10 +26,10 @@ next_from size least term low named counts =
     elim (int_eq term.1 (pos 0)) as (λ t. int_eq term.1 (pos 0) ≡ t → t ≡ false) [ true ↦ λ is. absurd (counts ((Decides-int_eq term.1 (pos 0)).0 is)) | false ↦ λ _. refl ] refl in
     rw (a, b, c) refl
 
-pub listed_from : (size least place : ℕ) (terms : List Term) → misplaced size least place terms ≡ None → Ascend least terms × All (λ (t : Term). t.0 < size) terms × All (λ (t : Term). t.1 ≢ pos 0) terms
+pub listed_from : (size least place : ℕ) (terms : List Term) → first_misplaced size least place terms ≡ None → Ascend least terms × All (λ (t : Term). t.0 < size) terms × All (λ (t : Term). t.1 ≢ pos 0) terms
 listed_from size least place [] none = (tt, All-nil (λ (t : Term). t.0 < size), All-nil (λ (t : Term). t.1 ≢ pos 0))
 listed_from size least place (term ∷ terms) none =
-    elim (is_next size least term) as (λ b. is_next size least term ≡ b → (if b then misplaced size (term.0 + 1) (place + 1) terms else Some place) ≡ None → Ascend least (term ∷ terms) × All (λ (t : Term). t.0 < size) (term ∷ terms) × All (λ (t : Term). t.1 ≢ pos 0) (term ∷ terms)) [
+    elim (is_next size least term) as (λ b. is_next size least term ≡ b → (if b then first_misplaced size (term.0 + 1) (place + 1) terms else Some place) ≡ None → Ascend least (term ∷ terms) × All (λ (t : Term). t.0 < size) (term ∷ terms) × All (λ (t : Term). t.1 ≢ pos 0) (term ∷ terms)) [
       | true ↦ λ is later.
           let here : (least ≤ term.0) × (term.0 < size) × (term.1 ≢ pos 0) = next_says size least term is in
           let rest : Ascend (term.0 + 1) terms × All (λ (t : Term). t.0 < size) terms × All (λ (t : Term). t.1 ≢ pos 0) terms = listed_from size (term.0 + 1) (place + 1) terms later in
@@ -37,18 +37,18 @@ listed_from size least place (term ∷ terms) none =
       | false ↦ λ is later. absurd cc
     ] refl none
 
-pub misplaced_none : (size least place : ℕ) (terms : List Term) → Ascend least terms → All (λ (t : Term). t.0 < size) terms → All (λ (t : Term). t.1 ≢ pos 0) terms → misplaced size least place terms ≡ None
+pub misplaced_none : (size least place : ℕ) (terms : List Term) → Ascend least terms → All (λ (t : Term). t.0 < size) terms → All (λ (t : Term). t.1 ≢ pos 0) terms → first_misplaced size least place terms ≡ None
 misplaced_none size least place [] ascends named counts = refl
 misplaced_none size least place (term ∷ terms) ascends named counts =
     let next : is_next size least term ≡ true = next_from size least term ascends.0 (All-head (λ (t : Term). t.0 < size) term terms named) (All-head (λ (t : Term). t.1 ≢ pos 0) term terms counts) in
     rw next (misplaced_none size (term.0 + 1) (place + 1) terms ascends.1 (All-tail (λ (t : Term). t.0 < size) term terms named) (All-tail (λ (t : Term). t.1 ≢ pos 0) term terms counts))
 
-pub listed_where_none : (size : ℕ) (terms : List Term) → misplaced size 0 0 terms ≡ None → IsListed size terms
+pub listed_where_none : (size : ℕ) (terms : List Term) → first_misplaced size 0 0 terms ≡ None → IsListed size terms
 listed_where_none size terms none =
     let each : Ascend 0 terms × All (λ (t : Term). t.0 < size) terms × All (λ (t : Term). t.1 ≢ pos 0) terms = listed_from size 0 0 terms none in
     record { ascending = each.0; named = each.1; counting = each.2 }
 
-pub none_where_listed : (size : ℕ) (terms : List Term) → IsListed size terms → misplaced size 0 0 terms ≡ None
+pub none_where_listed : (size : ℕ) (terms : List Term) → IsListed size terms → first_misplaced size 0 0 terms ≡ None
 none_where_listed size terms listed = misplaced_none size 0 0 terms listed.ascending listed.named listed.counting
 
 -- ---- what is given for each number
@@ -68,7 +68,7 @@ given_from Q cell start (term ∷ terms) first all =
     ] refl
 
 -- what holds of 0, and of each that is given for the cell, holds of what is given for it
-pub of_given : (Q : ℤ → Type 0) (cell : ℕ) (terms : List Term) → Q (pos 0) → All (λ (t : Term). t.0 ≡ cell → Q t.1) terms → Q (given terms cell)
+pub of_given : (Q : ℤ → Type 0) (cell : ℕ) (terms : List Term) → Q (pos 0) → All (λ (t : Term). t.0 ≡ cell → Q t.1) terms → Q (number_given terms cell)
 of_given Q cell terms first all = given_from Q cell (pos 0) terms first all
 
 passed : (cell : ℕ) (start : ℤ) (least : ℕ) (terms : List Term) → Ascend least terms → cell < least → fold (step cell) start terms ≡ start
@@ -86,5 +86,5 @@ each_from starts least (term ∷ terms) ascends =
     (each_from (λ cell. step cell (starts cell) term) (term.0 + 1) terms ascends.1)
 
 -- a list that ascends gives what it says
-pub each_given : (least : ℕ) (terms : List Term) → Ascend least terms → All (λ (t : Term). given terms t.0 ≡ t.1) terms
+pub each_given : (least : ℕ) (terms : List Term) → Ascend least terms → All (λ (t : Term). number_given terms t.0 ≡ t.1) terms
 each_given least terms ascends = each_from (λ cell. pos 0) least terms ascends

@@ -15,12 +15,12 @@ use Rattle.sdc_base.specs.declared.side.Side.TheVariants.{Above, Below}
 use Rattle.sdc_base.specs.declared.system.System.{System}
 use Rattle.sdc_base.specs.Kinds.{is_primary, is_fixed}
 use Rattle.sdc_base.specs.HiddenSets.{is_hidden}
-use Rattle.sdc_base.specs.Worlds.{Protects, level, level_at, toward}
+use Rattle.sdc_base.specs.Worlds.{Protects, level, level_at, amount_toward}
 use Rattle.worlds.specs.declared.faults.ProtectFault.{ProtectFault}
 use Rattle.worlds.specs.declared.faults.ProtectFault.TheVariants as fault
 use Rattle.worlds.specs.declared.faults.WorldFault.{WorldFault}
 use Rattle.worlds.specs.declared.world.World.{World}
-use Rattle.worlds.specs.Listed.{terms_of, given}
+use Rattle.worlds.specs.NumberLists.{terms_of, number_given}
 use Rattle.worlds.specs.WorldFaults.{refuse_at, world_fault, IsGivenWorld}
 use Rattle.worlds.specs.ProtectFaults.{primary_shown, fixed_hidden, asked_of, is_reaching, line_number, line_fault, lines_fault, protect_fault, IsProtecting}
 use Rattle.worlds.proofs.Bounds.{decides_le}
@@ -155,10 +155,10 @@ protects_one : (system : System) (cells : List Cell) (flags : List Bool) (number
 protects_one system cells flags number cell side one_each found served =
     let world : World = served.0 in
     let given_world : IsGivenWorld system cells flags world = (world_law system cells flags world one_each).0 served.1 in
-    let moves : ℕ → ℤ = given (terms_of world.moves) in
+    let moves : ℕ → ℤ = number_given (terms_of world.moves) in
     let least : level_at cells side number ≡ level side cell = ap (λ o. option_map_or (level side) o (pos 0)) found in
-    let reach : (world.den *ℤ level_at cells side number) ≤ℤ toward side (moves number) = (decides_le (world.den *ℤ level_at cells side number) (toward side (moves number))).0 served.2 in
-    (world.den, moves, cell, given_world.is_world, found, subst (λ l. (world.den *ℤ l) ≤ℤ toward side (moves number)) least reach)
+    let reach : (world.den *ℤ level_at cells side number) ≤ℤ amount_toward side (moves number) = (decides_le (world.den *ℤ level_at cells side number) (amount_toward side (moves number))).0 served.2 in
+    (world.den, moves, cell, given_world.is_world, found, subst (λ l. (world.den *ℤ l) ≤ℤ amount_toward side (moves number)) least reach)
 
 pub by_side : (P : Side → Type 0) → P Above → P Below → (side : Side) → P side
 by_side P above below Above = above

@@ -21,8 +21,8 @@ use Rattle.worlds.specs.declared.faults.WorldFault.{WorldFault}
 use Rattle.worlds.specs.declared.faults.WorldFault.TheVariants as fault
 use Rattle.worlds.specs.declared.world.Move.{Move}
 use Rattle.worlds.specs.declared.world.World.{World}
-use Rattle.worlds.specs.Gathered.{at}
-use Rattle.worlds.specs.Listed.{IsListed, misplaced, terms_of, given}
+use Rattle.worlds.specs.BoundedNumbers.{number_at}
+use Rattle.worlds.specs.NumberLists.{IsListed, first_misplaced, terms_of, number_given}
 use Rattle.worlds.specs.WorldFaults.{refuse_at, is_within, move_fault, moves_fault, relations_fault, world_fault, IsGivenWorld}
 use Rattle.worlds.proofs.Bounds.{decides_le}
 use Rattle.worlds.proofs.TrueTests.{and_true, both_true, true_unless}
@@ -40,12 +40,12 @@ not_refused one false ok = refl
 pub passes : {F : Type 0} (one : F) (wrong : Bool) → wrong ≡ false → refuse one wrong ≡ Ok tt
 passes one wrong is = rw is refl
 
-pub none_refused : {F : Type 0} (at : ℕ → F) (place : Option ℕ) → refuse_at at place ≡ Ok tt → place ≡ None
-none_refused at None ok = refl
-none_refused at (Some place) ok = absurd cc
+pub none_refused : {F : Type 0} (number_at : ℕ → F) (place : Option ℕ) → refuse_at number_at place ≡ Ok tt → place ≡ None
+none_refused number_at None ok = refl
+none_refused number_at (Some place) ok = absurd cc
 
-pub passes_none : {F : Type 0} (at : ℕ → F) (place : Option ℕ) → place ≡ None → refuse_at at place ≡ Ok tt
-passes_none at place is = rw is refl
+pub passes_none : {F : Type 0} (number_at : ℕ → F) (place : Option ℕ) → place ≡ None → refuse_at number_at place ≡ Ok tt
+passes_none number_at place is = rw is refl
 
 pub from_one : (z : ℤ) → int_lt z (pos 1) ≡ false → pos 1 ≤ℤ z
 from_one z is = grind (arith, ints, is)
@@ -163,12 +163,12 @@ world_from : (system : System) (cells : List Cell) (flags : List Bool) (world : 
 world_from system cells flags world ok =
     let den : ℤ = world.den in
     let terms : List Term = terms_of world.moves in
-    let moves : Numbers = given terms in
-    let one = bind_ok (refuse fault.Den (int_lt den (pos 1))) (λ _. refuse_at fault.Order (misplaced system.cells 0 0 terms) >>= λ _. moves_fault cells flags den terms >>= λ _. relations_fault moves 0 system.relations) tt ok in
-    let two = bind_ok (refuse_at fault.Order (misplaced system.cells 0 0 terms)) (λ _. moves_fault cells flags den terms >>= λ _. relations_fault moves 0 system.relations) tt one.2 in
+    let moves : Numbers = number_given terms in
+    let one = bind_ok (refuse fault.Den (int_lt den (pos 1))) (λ _. refuse_at fault.Order (first_misplaced system.cells 0 0 terms) >>= λ _. moves_fault cells flags den terms >>= λ _. relations_fault moves 0 system.relations) tt ok in
+    let two = bind_ok (refuse_at fault.Order (first_misplaced system.cells 0 0 terms)) (λ _. moves_fault cells flags den terms >>= λ _. relations_fault moves 0 system.relations) tt one.2 in
     let three = bind_ok (moves_fault cells flags den terms) (λ _. relations_fault moves 0 system.relations) tt two.2 in
     let positive : pos 1 ≤ℤ den = from_one den (not_refused fault.Den (int_lt den (pos 1)) one.1) in
-    let listed : IsListed system.cells terms = listed_where_none system.cells terms (none_refused fault.Order (misplaced system.cells 0 0 terms) two.1) in
+    let listed : IsListed system.cells terms = listed_where_none system.cells terms (none_refused fault.Order (first_misplaced system.cells 0 0 terms) two.1) in
     let kept : All (λ (t : Term). Keeps cells flags den t.0 t.1) terms = moves_kept cells flags den terms three.1 in
     let each : (cell : ℕ) → Keeps cells flags den cell (moves cell) = λ cell.
     of_given (Keeps cells flags den cell) cell terms ((λ _. refl), λ one there. stays den one positive)
@@ -198,14 +198,14 @@ fault_none : (system : System) (cells : List Cell) (flags : List Bool) (world : 
 fault_none system cells flags world one_each is =
     let den : ℤ = world.den in
     let terms : List Term = terms_of world.moves in
-    let moves : Numbers = given terms in
+    let moves : Numbers = number_given terms in
     let own : IsWorld system cells flags den moves = is.is_world in
     let inside : All (λ (t : Term). t.0 < length cells) terms = subst (λ n. All (λ (t : Term). t.0 < n) terms) (sym one_each) is.listed.named in
     let kept : All (λ (t : Term). Keeps cells flags den t.0 t.1) terms = kept_each system cells flags den moves own terms is.listed.named (each_given 0 terms is.listed.ascending) in
-    then_ok (refuse fault.Den (int_lt den (pos 1))) (λ _. refuse_at fault.Order (misplaced system.cells 0 0 terms) >>= λ _. moves_fault cells flags den terms >>= λ _. relations_fault moves 0 system.relations) tt tt
+    then_ok (refuse fault.Den (int_lt den (pos 1))) (λ _. refuse_at fault.Order (first_misplaced system.cells 0 0 terms) >>= λ _. moves_fault cells flags den terms >>= λ _. relations_fault moves 0 system.relations) tt tt
     (passes fault.Den (int_lt den (pos 1)) (below_one den own.positive))
-    (then_ok (refuse_at fault.Order (misplaced system.cells 0 0 terms)) (λ _. moves_fault cells flags den terms >>= λ _. relations_fault moves 0 system.relations) tt tt
-    (passes_none fault.Order (misplaced system.cells 0 0 terms) (none_where_listed system.cells terms is.listed))
+    (then_ok (refuse_at fault.Order (first_misplaced system.cells 0 0 terms)) (λ _. moves_fault cells flags den terms >>= λ _. relations_fault moves 0 system.relations) tt tt
+    (passes_none fault.Order (first_misplaced system.cells 0 0 terms) (none_where_listed system.cells terms is.listed))
     (then_ok (moves_fault cells flags den terms) (λ _. relations_fault moves 0 system.relations) tt tt
     (moves_pass cells flags den terms inside is.listed.counting kept)
     (relations_pass moves 0 system.relations own.relations_hold)))
@@ -214,13 +214,13 @@ pub world_law : (system : System) (cells : List Cell) (flags : List Bool) (world
 world_law system cells flags world one_each = (world_from system cells flags world, fault_none system cells flags world one_each)
 
 -- what the checker comes to behind the moves
-pub fault_behind_moves : (system : System) (cells : List Cell) (flags : List Bool) (world : World) (moves : List Move) (numbers : List ℤ) → moves ≡ world.moves → int_lt world.den (pos 1) ≡ false → misplaced system.cells 0 0 (terms_of moves) ≡ None → moves_fault cells flags world.den (terms_of moves) ≡ Ok tt → ((cell : ℕ) → at numbers cell ≡ given (terms_of moves) cell) → relations_fault (at numbers) 0 system.relations ≡ world_fault system cells flags world
+pub fault_behind_moves : (system : System) (cells : List Cell) (flags : List Bool) (world : World) (moves : List Move) (numbers : List ℤ) → moves ≡ world.moves → int_lt world.den (pos 1) ≡ false → first_misplaced system.cells 0 0 (terms_of moves) ≡ None → moves_fault cells flags world.den (terms_of moves) ≡ Ok tt → ((cell : ℕ) → number_at numbers cell ≡ number_given (terms_of moves) cell) → relations_fault (number_at numbers) 0 system.relations ≡ world_fault system cells flags world
 fault_behind_moves system cells flags world moves numbers same positive placed kept each =
     let terms : List Term = terms_of world.moves in
-    let placed_own : misplaced system.cells 0 0 terms ≡ None = subst (λ ms. misplaced system.cells 0 0 (terms_of ms) ≡ None) same placed in
+    let placed_own : first_misplaced system.cells 0 0 terms ≡ None = subst (λ ms. first_misplaced system.cells 0 0 (terms_of ms) ≡ None) same placed in
     let kept_own : moves_fault cells flags world.den terms ≡ Ok tt = subst (λ ms. moves_fault cells flags world.den (terms_of ms) ≡ Ok tt) same kept in
-    let each_own : (cell : ℕ) → at numbers cell ≡ given terms cell = subst (λ (ms : List Move). (cell : ℕ) → at numbers cell ≡ given (terms_of ms) cell) same each in
-    rw (positive, placed_own, kept_own) (relations_same (at numbers) (given terms) 0 system.relations each_own)
+    let each_own : (cell : ℕ) → number_at numbers cell ≡ number_given terms cell = subst (λ (ms : List Move). (cell : ℕ) → number_at numbers cell ≡ number_given (terms_of ms) cell) same each in
+    rw (positive, placed_own, kept_own) (relations_same (number_at numbers) (number_given terms) 0 system.relations each_own)
 
 -- the cells that moves name
 inside_from : (size : ℕ) (moves : List Move) → All (λ (t : Term). t.0 < size) (terms_of moves) → All (λ (one : Move). one.cell < size) moves
@@ -229,7 +229,7 @@ inside_from size (one ∷ moves) all =
     let In : Term → Type 0 = λ t. t.0 < size in
     All-cons (λ (m : Move). m.cell < size) one moves (All-head In (one.cell, one.by) (terms_of moves) all) (inside_from size moves (All-tail In (one.cell, one.by) (terms_of moves) all))
 
-pub moves_inside : (size n : ℕ) (moves : List Move) → misplaced size 0 0 (terms_of moves) ≡ None → n ≡ size → All (λ (one : Move). one.cell < n) moves
+pub moves_inside : (size n : ℕ) (moves : List Move) → first_misplaced size 0 0 (terms_of moves) ≡ None → n ≡ size → All (λ (one : Move). one.cell < n) moves
 moves_inside size n moves placed same =
     let listed : IsListed size (terms_of moves) = listed_where_none size (terms_of moves) placed in
     subst (λ k. All (λ (one : Move). one.cell < k) moves) (sym same) (inside_from size moves listed.named)

@@ -1,7 +1,7 @@
-pub mod Wide
-pub mod Listed
+pub mod WideNumbers
+pub mod NumberLists
 pub mod WorldFaults
-pub mod Gathered
+pub mod BoundedNumbers
 pub mod RefutationFaults
 pub mod ProtectFaults
 pub mod Protection

@@ -13,7 +13,7 @@ use Rattle.sdc_base.specs.Worlds.{IsWorld, value_over}
 use Rattle.worlds.specs.declared.faults.WorldFault.{WorldFault}
 use Rattle.worlds.specs.declared.faults.WorldFault.TheVariants as fault
 use Rattle.worlds.specs.declared.world.World.{World}
-use Rattle.worlds.specs.Listed.{IsListed, misplaced, terms_of, given}
+use Rattle.worlds.specs.NumberLists.{IsListed, first_misplaced, terms_of, number_given}
 
 -- a fault at a place, where there is one
 abbrev pub refuse_at : {F : Type 0} → (ℕ → F) → Option ℕ → Result (Unit {0}) F
@@ -42,17 +42,18 @@ moves_fault cells flags den (move ∷ moves) = move_fault cells flags den move >
 abbrev pub relations_fault : Numbers → ℕ → List Relation → Result (Unit {0}) WorldFault
 relations_fault numbers number [] = Ok tt
 relations_fault numbers number (r ∷ relations) =
-    if int_eq (form numbers r) (pos 0) then relations_fault numbers (number + 1) relations else Err (fault.Relation number)
+    if int_eq (form numbers r) (pos 0) then relations_fault numbers (number + 1) relations
+    else Err (fault.Relation number)
 
 -- the first fault of a world for a hidden set
 abbrev pub world_fault : System → List Cell → List Bool → World → Result (Unit {0}) WorldFault
 world_fault system cells flags world =
     refuse fault.Den (int_lt world.den (pos 1)) >>= λ _.
-    refuse_at fault.Order (misplaced system.cells 0 0 (terms_of world.moves)) >>= λ _.
+    refuse_at fault.Order (first_misplaced system.cells 0 0 (terms_of world.moves)) >>= λ _.
     moves_fault cells flags world.den (terms_of world.moves) >>= λ _.
-    relations_fault (given (terms_of world.moves)) 0 system.relations
+    relations_fault (number_given (terms_of world.moves)) 0 system.relations
 
 -- what is given is a world for the hidden set: its moves are listed, and with 0 for all other cells they make a world
 pub record IsGivenWorld (system : System) (cells : List Cell) (flags : List Bool) (world : World) : Type 0 where
   pub listed : IsListed system.cells (terms_of world.moves)
-  pub is_world : IsWorld system cells flags world.den (given (terms_of world.moves))
+  pub is_world : IsWorld system cells flags world.den (number_given (terms_of world.moves))

@@ -1,9 +1,10 @@
 ghost use Rattle.std.specs.Prelude.{◌≡◌, ◌<◌, ℕ, length, All, true, pos, ◌*ℤ◌, int_le};
 ghost use Rattle.std.specs.Option.{option_map_or};
 ghost use Rattle.sdc_base.specs.Worlds.{value_over};
-ghost use Rattle.worlds.specs.Gathered.{at};
-ghost use Rattle.worlds.specs.Listed.{terms_of, given};
-ghost use Rattle.worlds.specs.WorldFaults.{is_within as within_meant, move_fault, moves_fault};
+ghost use Rattle.worlds.specs.BoundedNumbers.{number_at};
+ghost use Rattle.worlds.specs.NumberLists.{terms_of, number_given};
+ghost use Rattle.worlds.specs.WorldFaults.{move_fault, moves_fault};
+ghost use Rattle.worlds.specs.WorldFaults as spec;
 
 use crate::faults::WorldFault;
 use crate::pattern::Pattern;
@@ -45,7 +46,7 @@ fn check_move(cells: &[Cell], flags: &[bool], den: i128, one: Move) -> Result<()
 
 // Whether a move keeps a cell's value within its bounds.
 fn is_within(cell: &Cell, den: i128, by: i128) -> bool
-    ensures { result ≡ within_meant den by cell.now }
+    ensures { result ≡ spec.is_within den by cell.now }
 {
     is_low_kept(cell, den, by) && is_high_kept(cell, den, by)
 }
@@ -71,7 +72,7 @@ fn is_high_kept(cell: &Cell, den: i128, by: i128) -> bool
 pub(crate) fn write_moves(moves: &[Move], numbers: &mut [i128])
     requires { All (λ one. one.cell < length numbers.old) moves.now }
     ensures length { length numbers.new ≡ length numbers.old }
-    ensures each { (cell : ℕ) → at numbers.new cell ≡ given (terms_of moves.now) cell }
+    ensures each { (cell : ℕ) → number_at numbers.new cell ≡ number_given (terms_of moves.now) cell }
 {
     clear(numbers);
     for one in moves {
@@ -82,7 +83,7 @@ pub(crate) fn write_moves(moves: &[Move], numbers: &mut [i128])
 // Makes all numbers 0.
 pub(crate) fn clear(numbers: &mut [i128])
     ensures length { length numbers.new ≡ length numbers.old }
-    ensures none { (cell : ℕ) → at numbers.new cell ≡ pos 0 }
+    ensures none { (cell : ℕ) → number_at numbers.new cell ≡ pos 0 }
 {
     'cells: for cell in 0..numbers.len() {
         numbers[cell] = 0;
@@ -91,7 +92,7 @@ pub(crate) fn clear(numbers: &mut [i128])
 
 // The move that is given for a cell, of several the last; 0 where none is given.
 pub(crate) fn move_of(moves: &[Move], cell: u32) -> i128
-    ensures { result ≡ given (terms_of moves.now) cell }
+    ensures { result ≡ number_given (terms_of moves.now) cell }
 {
     let mut by = 0;
     for one in moves {

@@ -34,11 +34,11 @@ impl<'a> Model for Protected<'a> {
 impl<'a> Protected<'a> {
     /// A hidden set, with two worlds for each primary cell in ascending order, above and then below.
     ///
-    /// There are a cell, a flag and a number of the scratch for each cell of the system; afterwards the scratch may hold any
-    /// numbers. The fault is the first in this order: the first primary cell that is shown; the first fixed cell that is
-    /// hidden; the count of the worlds; world by world, its first fault with the number of its line from 0, or else that it
-    /// doesn't take its cell as far as its level. A line beyond the numbers of 32 bits has the greatest of them. It goes once
-    /// through the cells and checks each world, and takes no memory.
+    /// There are a cell, a flag and a number of the scratch for each cell of the system; afterwards the scratch may
+    /// hold any numbers. The fault is the first in this order: the first primary cell that is shown; the first fixed
+    /// cell that is hidden; the count of the worlds; world by world, its first fault with the number of its line from
+    /// 0, or else that it doesn't take its cell as far as its level. A line beyond the numbers of 32 bits has the
+    /// greatest of them. It goes once through the cells and checks each world, and takes no memory.
     pub fn new(
         system: &'a System,
         cells: &'a [Cell],

@@ -14,7 +14,8 @@ pub(crate) fn check_protection(
     scratch: &mut [i128],
 ) -> Result<(), ProtectFault>
     requires scratch { length scratch.old ≡ pattern.now.system.now.cells }
-    ensures { result ≡ protect_fault pattern.now.system.now pattern.now.cells.now pattern.now.hidden.now.flags worlds.now }
+    ensures { result ≡ protect_fault pattern.now.system.now pattern.now.cells.now pattern.now.hidden.now.flags
+        worlds.now }
 {
     if let Some(number) = shown_primary(pattern) {
         return Err(ProtectFault::PrimaryShown(number));
@@ -89,7 +90,8 @@ fn check_lines(
 ) -> Result<(), ProtectFault>
     requires scratch { length scratch.old ≡ pattern.now.system.now.cells }
     requires count { length worlds.now ≡ length (asked_of 0 pattern.now.cells.now) }
-    ensures { result ≡ lines_fault pattern.now.system.now pattern.now.cells.now pattern.now.hidden.now.flags 0 (asked_of 0 pattern.now.cells.now) worlds.now }
+    ensures { result ≡ lines_fault pattern.now.system.now pattern.now.cells.now pattern.now.hidden.now.flags 0
+        (asked_of 0 pattern.now.cells.now) worlds.now }
 {
     let mut line = 0;
     'cells: for number in 0..pattern.cells.len() {
@@ -110,10 +112,14 @@ fn check_cell(
     requires number { number < length pattern.now.cells.now }
     requires count { line + length (asked_of number (drop number pattern.now.cells.now)) ≡ length worlds.now }
     ensures length { length scratch.new ≡ length scratch.old }
-    ensures ok { IfOk result (λ next. lines_fault pattern.now.system.now pattern.now.cells.now pattern.now.hidden.now.flags line (asked_of number (drop number pattern.now.cells.now)) (drop line worlds.now)
+    ensures ok { IfOk result (λ next. lines_fault pattern.now.system.now pattern.now.cells.now
+        pattern.now.hidden.now.flags line (asked_of number (drop number pattern.now.cells.now)) (drop line worlds.now)
         ≡ lines_fault pattern.now.system.now pattern.now.cells.now pattern.now.hidden.now.flags next (asked_of (number + 1) (drop (number + 1) pattern.now.cells.now)) (drop next worlds.now)) }
-    ensures count { IfOk result (λ next. next + length (asked_of (number + 1) (drop (number + 1) pattern.now.cells.now)) ≡ length worlds.now) }
-    ensures err { IfErr result (λ fault. lines_fault pattern.now.system.now pattern.now.cells.now pattern.now.hidden.now.flags line (asked_of number (drop number pattern.now.cells.now)) (drop line worlds.now) ≡ Err fault) }
+    ensures count { IfOk result (λ next. next + length (asked_of (number + 1) (drop (number + 1) pattern.now.cells.now))
+        ≡ length worlds.now) }
+    ensures err { IfErr result (λ fault. lines_fault pattern.now.system.now pattern.now.cells.now
+        pattern.now.hidden.now.flags line (asked_of number (drop number pattern.now.cells.now)) (drop line worlds.now)
+        ≡ Err fault) }
 {
     // for the proof: read, so that it is known to be a number of 32 bits.
     let _cells = pattern.system.cells;
@@ -139,7 +145,8 @@ fn check_line(
     requires scratch { length scratch.old ≡ pattern.now.system.now.cells }
     requires cell { cell < length pattern.now.cells.now }
     ensures length { length scratch.new ≡ length scratch.old }
-    ensures exact { result ≡ line_fault pattern.now.system.now pattern.now.cells.now pattern.now.hidden.now.flags line (cell, side) world.now }
+    ensures exact { result ≡ line_fault pattern.now.system.now pattern.now.cells.now pattern.now.hidden.now.flags line
+        (cell, side) world.now }
 {
     if let Err(fault) = first_fault(pattern, world, scratch) {
         return Err(ProtectFault::World(number_of(line), fault));

@@ -1,12 +1,13 @@
 ghost use Rattle.std.specs.Prelude.{◌≡◌, ◌↔◌, ℕ, ◌<◌, ◌≤ℤ◌, ℤ, pos, length, replicate, All, Err, IsOk, IfOk, OnOk, IfErr, Ok};
 ghost use Rattle.sdc_base.specs.Forms.{coefficient};
 ghost use Rattle.sdc_base.specs.Grounds.{IsGround};
-ghost use Rattle.sdc_base.specs.Refutations.{refuting, bound_sum as sum_meant, AreBounded};
-ghost use Rattle.worlds.specs.Listed.{IsListed};
+ghost use Rattle.sdc_base.specs.Refutations.{refuting_terms, AreBounded};
+ghost use Rattle.sdc_base.specs.Refutations as spec;
+ghost use Rattle.worlds.specs.NumberLists.{IsListed};
 ghost use Rattle.sdc_base.specs.Systems.{NamesCells};
-ghost use Rattle.sdc_base.specs.Worlds.{Protects, toward};
-ghost use Rattle.worlds.specs.Gathered.{at, gathered};
-ghost use Rattle.worlds.specs.RefutationFaults.{added, summed, refutation_fault, IsGivenSum, IsGivenRefutation, IsWideFault};
+ghost use Rattle.sdc_base.specs.Worlds.{Protects, amount_toward};
+ghost use Rattle.worlds.specs.BoundedNumbers.{number_at, numbers_with_terms};
+ghost use Rattle.worlds.specs.RefutationFaults.{terms_added, sum_of_bounds, refutation_fault, IsGivenSum, IsGivenRefutation, IsWideFault};
 
 use crate::adding::{add_at, add_forms};
 use crate::faults::RefutationFault;
@@ -17,18 +18,19 @@ use crate::pattern::Pattern;
 use crate::shares::{held_product, level_of, sum_shares};
 use sdc_base::{Cell, Hidden, Relation, Side, System};
 
-/// The bound sum of multipliers for a cell and a side: how far, times their denominator, they let the cell move at most.
+/// The bound sum of multipliers for a cell and a side: how far, times their denominator, they let the cell move at
+/// most.
 ///
-/// The forms of relations, each as many times as its multiplier says, are added to the cell, as many times as the denominator
-/// says, or below to as many times its opposite. A hidden cell adds to the sum its coefficient times how far it can rise where
-/// the coefficient is above 0, and else times how far it can fall.
+/// The forms of relations, each as many times as its multiplier says, are added to the cell, as many times as the
+/// denominator says, or below to as many times its opposite. A hidden cell adds to the sum its coefficient times how
+/// far it can rise where the coefficient is above 0, and else times how far it can fall.
 ///
-/// There are a cell, a flag and a number of the scratch for each cell of the system, and the cell that is asked about is one of
-/// them; afterwards the scratch may hold any numbers. The fault is the first in this order: the denominator; the first
-/// multiplier that isn't ascending, names no relation or is 0; the first cell whose coefficient leaves 128 bits as it grows,
-/// relation by relation and in each the total before its parts; cell by cell, that a coefficient above 0 meets no upper bound,
-/// or that its share or the sum leaves 128 bits. It goes once through the parts of the relations that have a multiplier and
-/// through all cells, and takes no memory.
+/// There are a cell, a flag and a number of the scratch for each cell of the system, and the cell that is asked about
+/// is one of them; afterwards the scratch may hold any numbers. The fault is the first in this order: the denominator;
+/// the first multiplier that isn't ascending, names no relation or is 0; the first cell whose coefficient leaves 128
+/// bits as it grows, relation by relation and in each the total before its parts; cell by cell, that a coefficient
+/// above 0 meets no upper bound, or that its share or the sum leaves 128 bits. It goes once through the parts of the
+/// relations that have a multiplier and through all cells, and takes no memory.
 ///
 /// Bound sums are those of linear duality.
 pub fn bound_sum(
@@ -43,10 +45,14 @@ pub fn bound_sum(
     requires ground { IsGround system.now cells.now hidden.now.flags }
     requires scratch { length scratch.old ≡ system.now.cells }
     requires asked { cell < system.now.cells }
-    ensures exact { result ≡ summed system.now cells.now hidden.now.flags cell side multipliers.now }
+    ensures exact { result ≡ sum_of_bounds system.now cells.now hidden.now.flags cell side multipliers.now }
     ensures given { IsOk result ↔ IsGivenSum system.now cells.now hidden.now.flags cell side multipliers.now }
-    ensures sum { IfOk result (λ sum. sum ≡ sum_meant cells.now hidden.now.flags (coefficient (added system.now cell side multipliers.now))) }
-    ensures wide { IfErr result (λ fault. pos 1 ≤ℤ multipliers.now.den → IsListed (length system.now.relations) multipliers.now.by_relation → AreBounded cells.now hidden.now.flags (coefficient (added system.now cell side multipliers.now)) → IsWideFault fault) }
+    ensures sum { IfOk result (λ sum. sum
+        ≡ spec.bound_sum cells.now hidden.now.flags (coefficient (terms_added system.now cell side multipliers.now))) }
+    ensures wide { IfErr result (λ fault. pos 1 ≤ℤ multipliers.now.den
+        → IsListed (length system.now.relations) multipliers.now.by_relation
+        → AreBounded cells.now hidden.now.flags (coefficient (terms_added system.now cell side multipliers.now))
+        → IsWideFault fault) }
     ensures length { length scratch.new ≡ length scratch.old }
 {
     let pattern = Pattern {
@@ -59,9 +65,9 @@ pub fn bound_sum(
 
 /// Whether multipliers refute that a cell lies in some world for a hidden set as far as its level to a side.
 ///
-/// The conditions and faults are those of [`bound_sum`], and behind them that the denominator times the level leaves 128 bits,
-/// and that the sum isn't below it. Where the answer is good no world of any denominator takes the cell as far as its level, and
-/// the scratch holds each cell's coefficient. It takes no memory.
+/// The conditions and faults are those of [`bound_sum`], and behind them that the denominator times the level leaves
+/// 128 bits, and that the sum isn't below it. Where the answer is good no world of any denominator takes the cell as
+/// far as its level, and the scratch holds each cell's coefficient. It takes no memory.
 ///
 /// Refutations are those of linear duality.
 pub fn check_refutation(
@@ -80,7 +86,8 @@ pub fn check_refutation(
     ensures refutation { IsOk result ↔ IsGivenRefutation system.now cells.now hidden.now.flags cell side multipliers.now }
     ensures unprotected { IsOk result → ¬ Protects system.now cells.now hidden.now.flags cell side }
     ensures length { length scratch.new ≡ length scratch.old }
-    ensures coefficients { OnOk result ((number : ℕ) → at scratch.new number ≡ coefficient (added system.now cell side multipliers.now) number) }
+    ensures coefficients { OnOk result ((number : ℕ)
+        → number_at scratch.new number ≡ coefficient (terms_added system.now cell side multipliers.now) number) }
 {
     let pattern = Pattern {
         system,
@@ -100,9 +107,12 @@ fn first_fault(
 ) -> Result<(), RefutationFault>
     requires scratch { length scratch.old ≡ pattern.now.system.now.cells }
     requires asked { cell < pattern.now.system.now.cells }
-    ensures exact { result ≡ refutation_fault pattern.now.system.now pattern.now.cells.now pattern.now.hidden.now.flags cell side multipliers.now }
+    ensures exact { result ≡ refutation_fault pattern.now.system.now pattern.now.cells.now pattern.now.hidden.now.flags
+        cell side multipliers.now }
     ensures length { length scratch.new ≡ length scratch.old }
-    ensures coefficients { OnOk result ((number : ℕ) → at scratch.new number ≡ coefficient (added pattern.now.system.now cell side multipliers.now) number) }
+    ensures coefficients { OnOk result ((number : ℕ)
+        → number_at scratch.new number ≡ coefficient (terms_added pattern.now.system.now cell side multipliers.now)
+        number) }
 {
     let sum = first_sum(pattern, cell, side, multipliers, scratch)?;
     let cells = pattern.cells;
@@ -125,9 +135,12 @@ fn first_sum(
 ) -> Result<i128, RefutationFault>
     requires scratch { length scratch.old ≡ pattern.now.system.now.cells }
     requires asked { cell < pattern.now.system.now.cells }
-    ensures exact { result ≡ summed pattern.now.system.now pattern.now.cells.now pattern.now.hidden.now.flags cell side multipliers.now }
+    ensures exact { result ≡ sum_of_bounds pattern.now.system.now pattern.now.cells.now pattern.now.hidden.now.flags
+        cell side multipliers.now }
     ensures length { length scratch.new ≡ length scratch.old }
-    ensures coefficients { OnOk result ((number : ℕ) → at scratch.new number ≡ coefficient (added pattern.now.system.now cell side multipliers.now) number) }
+    ensures coefficients { OnOk result ((number : ℕ)
+        → number_at scratch.new number ≡ coefficient (terms_added pattern.now.system.now cell side multipliers.now)
+        number) }
 {
     if multipliers.den < 1 {
         return Err(RefutationFault::Den);
@@ -157,8 +170,10 @@ fn gather(
     requires relations { All (λ m. m.0 < length relations.now) multipliers.now }
     requires positive { pos 1 ≤ℤ den }
     ensures length { length numbers.new ≡ length numbers.old }
-    ensures ok { OnOk result (gathered (replicate (length numbers.old) (pos 0)) (refuting relations.now asked side den multipliers.now) ≡ Ok numbers.new) }
-    ensures err { IfErr result (λ fault. gathered (replicate (length numbers.old) (pos 0)) (refuting relations.now asked side den multipliers.now) ≡ Err fault) }
+    ensures ok { OnOk result (numbers_with_terms (replicate (length numbers.old) (pos 0))
+        (refuting_terms relations.now asked side den multipliers.now) ≡ Ok numbers.new) }
+    ensures err { IfErr result (λ fault. numbers_with_terms (replicate (length numbers.old) (pos 0))
+        (refuting_terms relations.now asked side den multipliers.now) ≡ Err fault) }
 {
     clear(numbers);
     add_at(numbers, asked, toward_side(side, den))?;
@@ -168,7 +183,7 @@ fn gather(
 // An amount toward a side.
 fn toward_side(side: Side, amount: i128) -> i128
     requires { pos 1 ≤ℤ amount }
-    ensures { result ≡ toward side amount }
+    ensures { result ≡ amount_toward side amount }
 {
     match side {
         Side::Above => amount,

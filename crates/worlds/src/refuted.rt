@@ -1,7 +1,8 @@
 use crate::multipliers::Multipliers;
 use sdc_base::Side;
 
-/// A refutation for which a cell is hidden, or stays hidden: with that cell shown, it refutes one side of a primary cell.
+/// A refutation for which a cell is hidden, or stays hidden: with that cell shown, it refutes one side of a primary
+/// cell.
 #[derive(Drop)]
 pub struct Refuted {
     /// The number of the cell that is hidden for it.

@@ -1,7 +1,7 @@
 ghost use Rattle.std.specs.Prelude.{◌≡◌, ◌<◌, ◌^◌, length, All, pos};
 ghost use Rattle.std.specs.Ordering.{int_eq};
 ghost use Rattle.sdc_base.specs.Systems.{NamesCells, form};
-ghost use Rattle.worlds.specs.Gathered.{at};
+ghost use Rattle.worlds.specs.BoundedNumbers.{number_at};
 ghost use Rattle.worlds.specs.WorldFaults.{relations_fault};
 
 use crate::faults::WorldFault;
@@ -12,7 +12,7 @@ use sdc_base::Relation;
 pub(crate) fn check_relations(relations: &[Relation], numbers: &[i128]) -> Result<(), WorldFault>
     requires named { All (NamesCells (length numbers.now)) relations.now }
     requires few { length relations.now < 2 ^ 32 }
-    ensures { result ≡ relations_fault (at numbers.now) 0 relations.now }
+    ensures { result ≡ relations_fault (number_at numbers.now) 0 relations.now }
 {
     for (number, relation) in relations.iter().enumerate() {
         if !holds(relation, numbers) {
@@ -25,7 +25,7 @@ pub(crate) fn check_relations(relations: &[Relation], numbers: &[i128]) -> Resul
 // Whether a relation's form is 0 on the numbers of the cells.
 fn holds(relation: &Relation, numbers: &[i128]) -> bool
     requires { NamesCells (length numbers.now) relation.now }
-    ensures { result ≡ int_eq (form (at numbers.now) relation.now) (pos 0) }
+    ensures { result ≡ int_eq (form (number_at numbers.now) relation.now) (pos 0) }
 {
     let mut sum = Sum::zero();
     for part in relation.parts.as_slice() {

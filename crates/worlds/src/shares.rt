@@ -1,7 +1,7 @@
 ghost use Rattle.std.specs.Prelude.{◌≡◌, ◌<◌, ◌^◌, length, pos, ◌+ℤ◌, ◌*ℤ◌};
 ghost use Rattle.sdc_base.specs.HiddenSets.{is_hidden};
 ghost use Rattle.sdc_base.specs.Worlds.{level};
-ghost use Rattle.worlds.specs.Gathered.{at, held};
+ghost use Rattle.worlds.specs.BoundedNumbers.{number_at, within_128_bits};
 ghost use Rattle.worlds.specs.RefutationFaults.{share_or_fault, summed_from};
 
 use crate::faults::RefutationFault;
@@ -16,7 +16,7 @@ pub(crate) fn sum_shares(
     requires flags { length flags.now ≡ length cells.now }
     requires coefficients { length coefficients.now ≡ length cells.now }
     requires few { length cells.now < 2 ^ 32 }
-    ensures { result ≡ summed_from flags.now (at coefficients.now) 0 (pos 0) cells.now }
+    ensures { result ≡ summed_from flags.now (number_at coefficients.now) 0 (pos 0) cells.now }
 {
     let mut sum = 0;
     for (number, cell) in cells.iter().enumerate() {
@@ -35,7 +35,7 @@ fn share_of(
 ) -> Result<i128, RefutationFault>
     requires flag { number < length flags.now }
     requires coefficient { number < length coefficients.now }
-    ensures { result ≡ share_or_fault (is_hidden flags.now number) number (at coefficients.now number) cell.now }
+    ensures { result ≡ share_or_fault (is_hidden flags.now number) number (number_at coefficients.now number) cell.now }
 {
     let place = number as usize;
     if !flags[place] {
@@ -55,7 +55,7 @@ fn share_of(
 
 // A sum, or the cell where it leaves 128 bits.
 fn held_sum(number: u32, one: i128, other: i128) -> Result<i128, RefutationFault>
-    ensures { result ≡ held number (one +ℤ other) }
+    ensures { result ≡ within_128_bits number (one +ℤ other) }
 {
     let Some(sum) = one.checked_add(other) else {
         return Err(RefutationFault::Wide(number));
@@ -65,7 +65,7 @@ fn held_sum(number: u32, one: i128, other: i128) -> Result<i128, RefutationFault
 
 // A product, or the cell where it leaves 128 bits.
 pub(crate) fn held_product(number: u32, one: i128, other: i128) -> Result<i128, RefutationFault>
-    ensures { result ≡ held number (one *ℤ other) }
+    ensures { result ≡ within_128_bits number (one *ℤ other) }
 {
     let Some(product) = one.checked_mul(other) else {
         return Err(RefutationFault::Wide(number));

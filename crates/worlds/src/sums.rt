@@ -12,11 +12,11 @@ pub(crate) struct Sum {
 
 impl Model for Sum {
     ghost use Rattle.std.specs.Prelude.{ℤ};
-    ghost use Rattle.worlds.specs.Wide.{wide};
+    ghost use Rattle.worlds.specs.WideNumbers.{wide_number};
 
     ghost Value = { ℤ };
 
-    ghost view = { λ s. wide s.low s.carry };
+    ghost view = { λ s. wide_number s.low s.carry };
 }
 
 impl Sum {
@@ -34,12 +34,12 @@ impl Sum {
         match self.low.checked_add(x) {
             Some(low) => self.low = low,
             None if x < 0 => {
-                self.low = carried(self.low, x, i128::MAX, 1);
-                self.carry = counted(self.carry, -1);
+                self.low = low_part(self.low, x, i128::MAX, 1);
+                self.carry = carry_after(self.carry, -1);
             }
             None => {
-                self.low = carried(self.low, x, -i128::MAX, -1);
-                self.carry = counted(self.carry, 1);
+                self.low = low_part(self.low, x, -i128::MAX, -1);
+                self.carry = carry_after(self.carry, 1);
             }
         }
     }
@@ -60,7 +60,7 @@ impl Sum {
 }
 
 // The sum of two numbers of one sign, brought back by a carry.
-fn carried(low: i128, x: i128, most: i128, one: i128) -> i128
+fn low_part(low: i128, x: i128, most: i128, one: i128) -> i128
     requires once { FitsSigned w128 (low +ℤ most) }
     requires twice { FitsSigned w128 ((low +ℤ most) +ℤ one) }
     requires whole { FitsSigned w128 (((low +ℤ most) +ℤ one) +ℤ x) }
@@ -69,7 +69,7 @@ fn carried(low: i128, x: i128, most: i128, one: i128) -> i128
     low + most + one + x
 }
 
-fn counted(carry: i64, by: i64) -> i64
+fn carry_after(carry: i64, by: i64) -> i64
     requires { FitsSigned w64 (carry +ℤ by) }
     ensures { result ≡ carry +ℤ by }
 {

@@ -1,7 +1,7 @@
 ghost use Rattle.std.specs.Prelude.{◌≡◌, ◌↔◌, length, IsOk, IsTrue};
 ghost use Rattle.sdc_base.specs.Grounds.{IsGround};
 ghost use Rattle.sdc_base.specs.Worlds.{Reaches};
-ghost use Rattle.worlds.specs.Listed.{terms_of, given};
+ghost use Rattle.worlds.specs.NumberLists.{terms_of, number_given};
 ghost use Rattle.worlds.specs.WorldFaults.{world_fault, IsGivenWorld};
 
 use crate::faults::WorldFault;
@@ -13,16 +13,16 @@ use crate::relations::check_relations;
 use crate::world::World;
 use sdc_base::{Cell, Hidden, Side, System};
 
-/// Whether a world is one for a hidden set: a complete table in which no shown cell moves, every relation holds and every
-/// value is within the attacker's bounds.
+/// Whether a world is one for a hidden set: a complete table in which no shown cell moves, every relation holds and
+/// every value is within the attacker's bounds.
 ///
-/// There are a cell, a flag and a number of the scratch for each cell of the system; afterwards the scratch may hold any
-/// numbers. The fault is the first in this order: the denominator; the first move that isn't ascending, names no cell or is 0;
-/// move by move, that its cell is shown, or else is outside its bounds; the first relation that doesn't hold. It goes once
-/// through the moves and the parts of all relations, and takes no memory.
+/// There are a cell, a flag and a number of the scratch for each cell of the system; afterwards the scratch may hold
+/// any numbers. The fault is the first in this order: the denominator; the first move that isn't ascending, names no
+/// cell or is 0; move by move, that its cell is shown, or else is outside its bounds; the first relation that doesn't
+/// hold. It goes once through the moves and the parts of all relations, and takes no memory.
 ///
-/// Worlds are the tables of the feasibility interval in Hundepool et al., Statistical Disclosure Control, chapter on magnitude
-/// tables.
+/// Worlds are the tables of the feasibility interval in Hundepool et al., Statistical Disclosure Control, chapter on
+/// magnitude tables.
 pub fn check_world(
     system: &System,
     cells: &[Cell],
@@ -51,7 +51,8 @@ pub(crate) fn first_fault(
     scratch: &mut [i128],
 ) -> Result<(), WorldFault>
     requires scratch { length scratch.old ≡ pattern.now.system.now.cells }
-    ensures exact { result ≡ world_fault pattern.now.system.now pattern.now.cells.now pattern.now.hidden.now.flags world.now }
+    ensures exact { result ≡ world_fault pattern.now.system.now pattern.now.cells.now pattern.now.hidden.now.flags
+        world.now }
     ensures length { length scratch.new ≡ length scratch.old }
 {
     if world.den < 1 {
@@ -70,7 +71,7 @@ pub(crate) fn first_fault(
 ///
 /// The number is that of the cell. It goes once through the moves, and takes no memory.
 pub fn reaches(cell: &Cell, side: Side, number: u32, world: &World) -> bool
-    ensures { IsTrue result ↔ Reaches side cell.now world.now.den (given (terms_of world.now.moves) number) }
+    ensures { IsTrue result ↔ Reaches side cell.now world.now.den (number_given (terms_of world.now.moves) number) }
 {
     let by = move_of(world.moves.as_slice(), number);
     match side {

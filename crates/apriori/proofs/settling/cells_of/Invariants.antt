@@ -1,11 +1,11 @@
 use Rattle.std.proofs.Common.{◌≡◌, take, map, length, All}
 use Rattle.std.specs.List.{zip}
-use Rattle.apriori.specs.Settling.{seen, told_of, settled, HasLevelsInRange}
+use Rattle.apriori.specs.Settling.{view_of_cell, told_of, settled_cell, HasLevelsInRange}
 use Rattle.apriori.proofs.settling.cells_of.Given as goal
 
 abbrev pub invariant-cells : goal.invariant-cells
 invariant-cells l = record {
-  told : map seen l.cells.items ≡ map (λ pair. settled l.rules pair.0 pair.1) (take l.cell (zip (told_of l.marks) l.priors));
+  told : map view_of_cell l.cells.items ≡ map (λ pair. settled_cell l.rules pair.0 pair.1) (take l.cell (zip (told_of l.marks) l.priors));
   count : length l.cells.items ≡ l.cell;
   levels : All HasLevelsInRange l.cells.items;
 }

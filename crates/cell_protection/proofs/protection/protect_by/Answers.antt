@@ -26,17 +26,17 @@ returns-in-Ok-clause-outcome g c =
     let all = case c.args.system.now c.args.cells.now in
     let Outcome : Protection → Type 0 = IsProtectionOf all (prices_of c.args.cost c.args.cells.now c.args.book.now.marks) c.args.method (trail_of c.args.book.now c.args.cells.now c.args.cost (passes_of c.args.method)) c.args.limit in
     let by = protection_by c.args.method all c.in_ok-trail.trail.steps c.in-Ok.verdict in
-    if-ok (λ made. made ≡ by) Outcome c.certified.result
+    if-ok (λ made. made ≡ by) Outcome c.certificate_of.result
     (λ made is. subst Outcome (sym is)
     (outcome-moves c.args.system.now c.args.cells.now c.new-rule.result c.args.cost c.args.book.now c.plan.new.book.marks c.marks.result.now c.args.method c.passes_in.result c.args.limit c.in_ok-trail.trail.steps c.in-Ok.verdict
     c.new-rule.ensures.kind c.marks.ensures c.plan.ensures.same.facts c.passes_in.ensures c.in_ok-trail.ensures.trail c.in-Ok.ensures.verdict))
-    c.certified.ensures
+    c.certificate_of.ensures
 
 pub returns-in-Ok-clause-text : goal.returns-in-Ok-clause-text
 returns-in-Ok-clause-text g c =
     let all = case c.args.system.now c.args.cells.now in
     let by = protection_by c.args.method all c.in_ok-trail.trail.steps c.in-Ok.verdict in
-    if-ok (λ made. made ≡ by) HasText c.certified.result
+    if-ok (λ made. made ≡ by) HasText c.certificate_of.result
     (λ made is. subst HasText (sym is)
     (text-by c.args.book.now c.args.system.now c.args.cells.now (prices_of c.new-rule.result c.args.cells.now c.marks.result.now) c.args.method c.in_ok-trail.trail.steps c.in-Ok.verdict c.requires.narrow c.in_ok-trail.ensures.whole c.in-Ok.ensures.verdict))
-    c.certified.ensures
+    c.certificate_of.ensures

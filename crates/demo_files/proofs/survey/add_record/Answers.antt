@@ -1,7 +1,7 @@
 use Rattle.std.proofs.Common.{◌≡◌, ◌∙◌, ◌+◌, ◌++◌, ◌∷◌, ℕ, List, [], ap, arith, rules, decimal}
 use Rattle.std.proofs.Math.Utf8.{encode}
-use Rattle.demo_files.specs.Draws.{next_state, below}
-use Rattle.demo_files.specs.Surveys.{filled, turnover}
+use Rattle.demo_files.specs.Draws.{next_state, draw_below}
+use Rattle.demo_files.specs.Surveys.{filled_number, turnover}
 use Rattle.demo_files.proofs.Drawing.{six-draws, line-is}
 use Rattle.demo_files.proofs.survey.add_record.Goals as goal
 
@@ -20,10 +20,10 @@ returns-clause-text c =
     let letter : c.from-industry.result ≡ 65 + c.draw-2.result = c.from-industry.ensures in
     let added : c.push_str.new.self.bytes.items ≡ c.args.text.now.bytes.items ++ c.in_ok-line.line.bytes.items = search rules in
     added ∙ ap (λ (more : List ℕ). c.args.text.now.bytes.items ++ more) (line-is _ _ _ _ _ _ _ _ _ _ _ _ c.args.state.now line
-    (c.in_ok-region.ensures ∙ ap (λ n. filled 48 2 (1 + n)) c.draw.ensures.number)
+    (c.in_ok-region.ensures ∙ ap (λ n. filled_number 48 2 (1 + n)) c.draw.ensures.number)
     (letter ∙ ap (λ n. 65 + n) c.draw-2.ensures.number)
     (omega (arith, letter, c.draw-2.ensures.below))
     (ap (λ n. 1 + n) c.draw-3.ensures.number)
     (ap (λ n. 1 + n) c.draw-4.ensures.number)
-    (c.in_ok-turnover.ensures ∙ ap (filled 32 7) (c.turnover_of.ensures ∙ ap (λ n. turnover n c.draw-rare.result) c.draw-amount.ensures.number ∙ ap (turnover (below 10000 c.draw-amount.new.state)) c.draw-rare.ensures.number))
+    (c.in_ok-turnover.ensures ∙ ap (filled_number 32 7) (c.turnover_of.ensures ∙ ap (λ n. turnover n c.draw-rare.result) c.draw-amount.ensures.number ∙ ap (turnover (draw_below 10000 c.draw-amount.new.state)) c.draw-rare.ensures.number))
     one two three four five six)

@@ -2,9 +2,9 @@ use Rattle.std.proofs.Common.{◌≡◌, ℕ, ◌+◌, ◌-◌, List, ◌∷◌,
 use Rattle.std.proofs.lemmas.Option.{slice_get_read}
 use Rattle.std.proofs.lemmas.Result.{err_from_is_err_and}
 use Rattle.sdc_base.specs.Trees.{Tree, codes}
-use Rattle.hierarchy.specs.Growing.{grown}
+use Rattle.hierarchy.specs.Growing.{tree_with_node}
 use Rattle.hierarchy.specs.Faults.{code_fault, Names}
-use Rattle.hierarchy.specs.Flat.{flat_tree}
+use Rattle.hierarchy.specs.FlatForm.{flat_tree}
 use Rattle.hierarchy.proofs.FlatSteps.{flat-grown, codes-flat, flat-next, flat-stop, take-at}
 use Rattle.hierarchy.proofs.flat_form.flat.Goals as goal
 
@@ -29,8 +29,8 @@ codes-preserved c =
     record {
       tree = c.in_ok-add.ensures.tree;
       nodes = c.in_ok-add.ensures.grows
-          ∙ ap (λ (tree : Tree). grown tree c.as_slice-in-codes.result.now 0) c.codes.invariant.nodes
-          ∙ ap (λ (code : List ℕ). grown (flat_tree c.args.total.now (take c.codes.i all)) code 0) c.as_slice-in-codes.ensures
+          ∙ ap (λ (tree : Tree). tree_with_node tree c.as_slice-in-codes.result.now 0) c.codes.invariant.nodes
+          ∙ ap (λ (code : List ℕ). tree_with_node (flat_tree c.args.total.now (take c.codes.i all)) code 0) c.as_slice-in-codes.ensures
           ∙ flat-grown c.args.total.now (take c.codes.i all) c.index-codes-i.result
           ∙ ap (flat_tree c.args.total.now) (sym (take-at all c.codes.i c.index-codes-i.result at));
       rest = c.codes.invariant.rest ∙ flat-next c.args.total.now all c.codes.i c.index-codes-i.result at (sym same ∙ c.in_ok-add.ensures.told);

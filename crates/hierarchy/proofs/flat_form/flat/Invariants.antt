@@ -1,7 +1,7 @@
 use Rattle.std.proofs.Common.{◌≡◌, ◌+◌, [], ◌∷◌, take, drop}
 use Rattle.sdc_base.specs.Trees.{IsCodeTree}
 use Rattle.hierarchy.specs.Faults.{first_fault}
-use Rattle.hierarchy.specs.Flat.{flat_tree}
+use Rattle.hierarchy.specs.FlatForm.{flat_tree}
 use Rattle.hierarchy.proofs.flat_form.flat.Given as goal
 
 abbrev pub invariant-codes : goal.invariant-codes

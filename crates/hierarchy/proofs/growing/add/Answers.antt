@@ -8,7 +8,7 @@ use Rattle.hierarchy.proofs.growing.add.Goals as goal
 pub returns-in-Some-clause-told : goal.returns-in-Some-clause-told
 returns-in-Some-clause-told c =
     let told = fault-known c.args.nodes.now c.args.code.now c.args.number c.in-Some.place (sym c.in-Some.ensures.place) in
-    rw c.known.ensures.fault (tells-known c.in-Some.place c.args.number (code_fault (codes c.args.nodes.now) c.args.code.now c.args.number) told)
+    rw c.known_code.ensures.fault (tells-known c.in-Some.place c.args.number (code_fault (codes c.args.nodes.now) c.args.code.now c.args.number) told)
 
 pub returns-then-len-gt-MOST-clause-told : goal.returns-then-len-gt-MOST-clause-told
 returns-then-len-gt-MOST-clause-told c = fault-many c.args.nodes.now c.args.code.now c.args.number c.requires.tree.some (sym c.in_default.ensures.place) (omega arith)

@@ -1,6 +1,6 @@
 use Rattle.std.proofs.Common.{◌≡◌, ℕ, ◌+◌, List, [], ◌∷◌, ◌++◌, None, length, ap, sym, ◌∙◌, subst, arith}
 use Rattle.sdc_base.specs.Lines.{lines}
-use Rattle.plain_text.specs.Reading.{Reading}
+use Rattle.plain_text.specs.Reading.{LinesView}
 use Rattle.sdc_base.specs.Trees.{Tree}
 use Rattle.hierarchy.specs.Lead.{lead_lines}
 use Rattle.hierarchy.specs.Path.{IsPath, read_on}
@@ -17,11 +17,11 @@ lines-init c =
     record {
       tree = c.in_ok-nodes.ensures.tree;
       path = subst (λ (tree : Tree). IsPath tree c.push.new.self.items) (sym nodes) (subst (IsPath start) (sym items) (path-total total));
-      numbers = ap (λ (reader : Reading). reader.given + length (lines reader.rest)) c.lines-reader.ensures.start ∙ (omega arith);
+      numbers = ap (λ (reader : LinesView). reader.given + length (lines reader.rest)) c.lines-reader.ensures.start ∙ (omega arith);
       rest = same-start total left
           ∙ ap (λ (tree : Tree). read_on tree (0 ∷ []) left) (sym nodes)
           ∙ ap (λ (path : List ℕ). read_on c.in_ok-nodes.nodes path left) (sym items)
-          ∙ ap (λ (reader : Reading). read_on c.in_ok-nodes.nodes c.push.new.self.items (lead_lines c.args.lead.now (reader.given + 1) (lines reader.rest))) (sym c.lines-reader.ensures.start);
+          ∙ ap (λ (reader : LinesView). read_on c.in_ok-nodes.nodes c.push.new.self.items (lead_lines c.args.lead.now (reader.given + 1) (lines reader.rest))) (sym c.lines-reader.ensures.start);
     }
 
 pub overflow_cast-line : goal.overflow_cast-line

@@ -2,7 +2,7 @@ use Rattle.std.proofs.Common.{◌≡◌, ℕ, ◌+◌, List, [], ◌∷◌, ◌+
 use Rattle.std.proofs.lemmas.Option.{slice_get_read}
 use Rattle.sdc_base.specs.Trees.{codes}
 use Rattle.hierarchy.specs.Faults.{or_else}
-use Rattle.hierarchy.specs.Levels.{gathered, with_prefixes, level_fault, first_level_fault}
+use Rattle.hierarchy.specs.Levels.{codes_with_prefixes, with_prefixes, level_fault, first_level_fault}
 use Rattle.hierarchy.specs.declared.tree_fault.TreeFault.{TreeFault}
 use Rattle.hierarchy.proofs.FlatSteps.{drop-at}
 use Rattle.hierarchy.proofs.level_form.gather.Goals as goal
@@ -26,7 +26,7 @@ codes-preserved c =
       few = step.few;
       apart = step.apart;
       among = step.among c.codes.invariant.among;
-      kept = c.codes.invariant.kept ∙ ap (gathered bounds keys) more ∙ ap (λ (k : List (List ℕ)). gathered bounds k rest) (sym step.kept);
+      kept = c.codes.invariant.kept ∙ ap (codes_with_prefixes bounds keys) more ∙ ap (λ (k : List (List ℕ)). codes_with_prefixes bounds k rest) (sym step.kept);
       told = c.codes.invariant.told
           ∙ ap (first_level_fault total bounds n seen keys) more
           ∙ ap (λ (t : Option TreeFault). or_else t (first_level_fault total bounds (n + 1) (seen ++ code ∷ []) (with_prefixes bounds keys code) rest)) told

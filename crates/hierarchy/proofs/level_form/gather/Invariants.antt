@@ -2,7 +2,7 @@ use Rattle.std.proofs.Common.{◌≡◌, ◌+◌, ◌≤◌, false, [], length, 
 use Rattle.std.specs.List.{list_any}
 use Rattle.std.specs.Str.{bytes_eq}
 use Rattle.sdc_base.specs.Trees.{codes}
-use Rattle.hierarchy.specs.Levels.{gathered, first_level_fault}
+use Rattle.hierarchy.specs.Levels.{codes_with_prefixes, first_level_fault}
 use Rattle.hierarchy.specs.Among.{AreAmong}
 use Rattle.hierarchy.proofs.level_form.gather.Given as goal
 
@@ -11,6 +11,6 @@ invariant-codes l = record {
   few : length l.kept.keys ≤ 5000;
   apart : list_any (bytes_eq l.total) l.kept.keys ≡ false;
   among : AreAmong (codes l.seen) l.kept.keys;
-  kept : gathered l.bounds [] l.codes ≡ gathered l.bounds l.kept.keys (drop l.code-index l.codes);
+  kept : codes_with_prefixes l.bounds [] l.codes ≡ codes_with_prefixes l.bounds l.kept.keys (drop l.code-index l.codes);
   told : first_level_fault l.total l.bounds 1 [] [] l.codes ≡ first_level_fault l.total l.bounds (length l.seen + 1) (codes l.seen) l.kept.keys (drop l.code-index l.codes);
 }

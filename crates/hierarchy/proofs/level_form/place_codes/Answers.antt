@@ -1,7 +1,7 @@
 use Rattle.std.proofs.Common.{◌≡◌, ℕ, suc, ◌+◌, List, [], ◌∷◌, ◌++◌, drop, length, slice_get, slice_index, get_or, Option, None, Some, refl, ap, sym, ◌∙◌, subst, arith, length-take, add-one}
 use Rattle.std.proofs.lemmas.Option.{slice_get_read, get_or_from_slice_get, slice_get-get_or}
 use Rattle.sdc_base.specs.Trees.{Tree, codes, find}
-use Rattle.hierarchy.specs.Growing.{grown}
+use Rattle.hierarchy.specs.Growing.{tree_with_node}
 use Rattle.hierarchy.specs.Path.{next_path}
 use Rattle.hierarchy.specs.Levels.{level, tree_of_codes}
 use Rattle.hierarchy.specs.Chains.{last_chain, IsHeld}
@@ -58,17 +58,17 @@ codes-preserved c =
     let place : c.level_of-place.result ≡ level bounds code = c.level_of-place.ensures.level code (ap length (sym first)) in
     let next = next-shares total bounds all i c.requires.sorted c.requires.closed c.requires.ascending c.codes-test.true in
     let parent = slice_index path (level bounds code) in
-    let nodes : c.place_code.new.nodes ≡ grown tree code parent =
-    c.in_ok-place_code.ensures.grows ∙ ap (λ (x : List ℕ). grown tree x (slice_index path c.level_of-place.result)) item ∙ ap (λ (n : ℕ). grown tree code (slice_index path n)) place in
+    let nodes : c.place_code.new.nodes ≡ tree_with_node tree code parent =
+    c.in_ok-place_code.ensures.grows ∙ ap (λ (x : List ℕ). tree_with_node tree x (slice_index path c.level_of-place.result)) item ∙ ap (λ (n : ℕ). tree_with_node tree code (slice_index path n)) place in
     let paths : c.place_code.new.path.items ≡ next_path path (level bounds code) (length tree) = c.in_ok-place_code.ensures.next ∙ ap (λ (n : ℕ). next_path path n (length tree)) place in
-    let held : IsHeld (grown tree code parent) (next_path path (level bounds code) (length tree)) (last_chain total bounds all (suc i)) = held-next tree path (last_chain total bounds all i) total bounds code parent c.codes.invariant.held next in
+    let held : IsHeld (tree_with_node tree code parent) (next_path path (level bounds code) (length tree)) (last_chain total bounds all (suc i)) = held-next tree path (last_chain total bounds all i) total bounds code parent c.codes.invariant.held next in
     record {
       tree = c.in_ok-place_code.ensures.tree;
       path = c.in_ok-place_code.ensures.path;
       known = ap codes nodes ∙ codes-grown tree code parent ∙ ap (λ (known : List (List ℕ)). known ++ code ∷ []) c.codes.invariant.known ∙ ap (λ (rest : List (List ℕ)). total ∷ rest) (sym (take-at all i code at_code));
       held = subst (λ (n : ℕ). IsHeld c.place_code.new.nodes c.place_code.new.path.items (last_chain total bounds all n)) (sym (add-one i))
           (subst (λ (t : Tree). IsHeld t c.place_code.new.path.items (last_chain total bounds all (suc i))) (sym nodes)
-          (subst (λ (p : List ℕ). IsHeld (grown tree code parent) p (last_chain total bounds all (suc i))) (sym paths) held));
+          (subst (λ (p : List ℕ). IsHeld (tree_with_node tree code parent) p (last_chain total bounds all (suc i))) (sym paths) held));
       rest = c.codes.invariant.rest
           ∙ ap (tree_of_codes total bounds tree) (drop-at all i code at_code)
           ∙ ap (λ (o : Option ℕ). tree_of_codes total bounds (tree ++ (code, o) ∷ []) (drop (i + 1) all)) (parent-next tree path (last_chain total bounds all i) total bounds code c.codes.invariant.tree.distinct c.codes.invariant.held next)

@@ -1,6 +1,6 @@
 use Rattle.std.proofs.Common.{Option, Some, ap, sym, ◌∙◌, subst, arith}
 use Rattle.sdc_base.specs.Trees.{codes}
-use Rattle.hierarchy.specs.Faults.{Tells}
+use Rattle.hierarchy.specs.Faults.{AnswersFault}
 use Rattle.hierarchy.specs.declared.tree_fault.TreeFault.{TreeFault}
 use Rattle.hierarchy.proofs.LackedCodes.{missing-total, missing-there, missing-new, with-there, tells-kind}
 use Rattle.hierarchy.proofs.missing_codes.add_missing.Goals as goal
@@ -15,9 +15,9 @@ pub returns-in-Some-clause-grows : goal.returns-in-Some-clause-grows
 returns-in-Some-clause-grows c = with-there c.args.nodes.now c.args.code.now c.in-Some.place (sym c.in-Some.ensures.place)
 
 pub returns-clause-told : goal.returns-clause-told
-returns-clause-told c = subst (λ (told : Option TreeFault). Tells c.add.result told) (missing-new c.args.nodes.now c.args.code.now c.args.number (sym c.in_default.ensures.place)) c.add.ensures.told
+returns-clause-told c = subst (λ (told : Option TreeFault). AnswersFault c.add.result told) (missing-new c.args.nodes.now c.args.code.now c.args.number (sym c.in_default.ensures.place)) c.add.ensures.told
 
 pub returns-clause-kind : goal.returns-clause-kind
 returns-clause-kind c =
     tells-kind c.add.result (codes c.args.nodes.now) c.args.code.now c.args.number
-    (subst (λ (told : Option TreeFault). Tells c.add.result told) (missing-new c.args.nodes.now c.args.code.now c.args.number (sym c.in_default.ensures.place)) c.add.ensures.told)
+    (subst (λ (told : Option TreeFault). AnswersFault c.add.result told) (missing-new c.args.nodes.now c.args.code.now c.args.number (sym c.in_default.ensures.place)) c.add.ensures.told)

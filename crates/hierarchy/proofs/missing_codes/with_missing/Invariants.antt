@@ -1,6 +1,6 @@
 use Rattle.std.proofs.Common.{◌≡◌, ◌+◌, drop}
 use Rattle.sdc_base.specs.Trees.{IsCodeTree}
-use Rattle.hierarchy.specs.Missing.{with_codes}
+use Rattle.hierarchy.specs.MissingCodes.{with_codes}
 use Rattle.hierarchy.proofs.missing_codes.with_missing.Given as goal
 
 abbrev pub invariant-missing : goal.invariant-missing

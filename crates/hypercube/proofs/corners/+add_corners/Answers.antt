@@ -2,14 +2,14 @@ use Rattle.std.proofs.Common.{◌≡◌, ◌<◌, ◌+◌, ◌++◌, ◌∷◌, 
 use Rattle.sdc_base.specs.Cubes.{sign_over, with_corner}
 use Rattle.sdc_base.specs.declared.cube.Corner.{Corner}
 use Rattle.sdc_base.specs.declared.cube.Edge.{Edge}
-use Rattle.linked_tables.specs.Shared.{cell_at}
-use Rattle.hypercube.specs.Branches.{completed, corners_beyond}
+use Rattle.linked_tables.specs.BookCells.{cell_at}
+use Rattle.hypercube.specs.Branches.{number_with_codes, corners_beyond}
 use Rattle.hypercube.proofs.CornerLists.{beyond-both}
 use Rattle.hypercube.proofs.corners.+add_corners.Goals as goal
 
 pub returns : goal.returns
 returns t c =
-    let number = completed (cell_at c.args.book.now c.args.t) c.args.codes.now in
+    let number = number_with_codes (cell_at c.args.book.now c.args.t) c.args.codes.now in
     let place : List ℕ = c.args.place.now in
     let edges = c.args.edges.now in
     let plus = c.args.plus in

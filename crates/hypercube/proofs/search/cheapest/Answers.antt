@@ -3,7 +3,7 @@ use Rattle.sdc_base.specs.Records.{Name}
 use Rattle.sdc_base.specs.Cubes.{Offer, edges_at}
 use Rattle.sdc_base.specs.declared.cube.Cube.{Cube}
 use Rattle.sdc_base.specs.declared.cube.Edge.{Edge}
-use Rattle.linked_tables.specs.Shared.{cell_at, cells as cells_in}
+use Rattle.linked_tables.specs.BookCells.{cell_at, cells as cells_in}
 use Rattle.hypercube.specs.Branches.{Setting, begin_at, best_beyond, codes_at}
 use Rattle.hypercube.specs.LeastCubes.{cubes_in, is_marked, least_cube, price_in}
 use Rattle.hypercube.proofs.EdgeLists.{edges-begin}

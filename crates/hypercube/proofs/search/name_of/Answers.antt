@@ -1,6 +1,6 @@
 use Rattle.std.proofs.Common.{[], sym, ◌∙◌}
 use Rattle.sdc_base.proofs.GrowingLists.{read-none}
-use Rattle.linked_tables.specs.Shared.{cells}
+use Rattle.linked_tables.specs.BookCells.{cells}
 use Rattle.hypercube.proofs.search.name_of.Goals as goal
 
 pub returns-in-None : goal.returns-in-None

@@ -1,7 +1,7 @@
 use Rattle.std.proofs.Common.{◌≡◌, ◌<◌, ◌*◌, ◌+◌, ◌-◌, ℕ, List, length, All, pos, ap, sym, subst, rules, arith, ℤ, ◌≤ℤ◌, FitsSigned, IfOk}
 use Rattle.std.specs.Int.{w128}
 use Rattle.std.proofs.lemmas.Int.{to_z-of_z}
-use Rattle.tableau.specs.Reads.{slacks_of}
+use Rattle.tableau.specs.Readings.{slacks_of}
 use Rattle.interval_audit.specs.WalkStates.{state_of, IsAtOptimum}
 use Rattle.worlds.specs.declared.multipliers.Multipliers.{Multipliers}
 use Rattle.interval_audit.specs.Groups.{Group, group_of}

@@ -1,7 +1,7 @@
 use Rattle.std.proofs.Common.{◌≡◌, ◌∙◌, refl, rules, FitsSigned, to_z, of_z, None}
 use Rattle.std.specs.Int.{w128}
 use Rattle.std.proofs.lemmas.Int.{to_z-of_z}
-use Rattle.tableau.specs.Reads.{slacks_of}
+use Rattle.tableau.specs.Readings.{slacks_of}
 use Rattle.interval_audit.specs.WalkStates.{state_of}
 use Rattle.interval_audit.specs.Groups.{Group, group_of}
 use Rattle.interval_audit.specs.Readings.{AreMultipliersOf}

@@ -1,7 +1,7 @@
 use Rattle.std.proofs.Common.{◌≤◌, List, length, ap, subst, refl, arith, ◌∙◌}
 use Rattle.sdc_base.specs.RuleLevels.{keep_of}
 use Rattle.sdc_base.specs.declared.rows.Row.{Row}
-use Rattle.tabulate.specs.Tabulated.{AreTabulated}
+use Rattle.tabulate.specs.TabulatedMarks.{AreTabulated}
 use Rattle.job_inputs.proofs.Facts.{is-ready}
 use Rattle.job_inputs.proofs.counted.count_records.Goals as goal
 

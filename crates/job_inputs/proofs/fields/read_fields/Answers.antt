@@ -9,7 +9,7 @@ use Rattle.microdata.specs.declared.layout.Field.{Field}
 use Rattle.job_inputs.specs.Inputs.{fields_of}
 use Rattle.job_inputs.specs.Layouts.{variables_at}
 use Rattle.job_inputs.specs.Looks.{FieldsComeTo}
-use Rattle.job_inputs.specs.Placed.{IsPlacedField}
+use Rattle.job_inputs.specs.PlacedFields.{IsPlacedField}
 use Rattle.job_inputs.specs.Reading.{stopped_for}
 use Rattle.office_io.proofs.Shelves.{only-read-on}
 use Rattle.job_inputs.proofs.Causes.{look-stops, only-read-nothing}

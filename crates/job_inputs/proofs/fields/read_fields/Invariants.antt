@@ -4,7 +4,7 @@ use Rattle.office_io.specs.Files.{Files}
 use Rattle.office_io.specs.Shelves.{HasOnlyRead}
 use Rattle.job_inputs.specs.Inputs.{fields_of}
 use Rattle.job_inputs.specs.Layouts.{variables_at}
-use Rattle.job_inputs.specs.Placed.{IsPlacedField}
+use Rattle.job_inputs.specs.PlacedFields.{IsPlacedField}
 use Rattle.job_inputs.proofs.fields.read_fields.Given as goal
 
 abbrev pub invariant-places : goal.invariant-places

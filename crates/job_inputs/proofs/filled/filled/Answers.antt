@@ -1,5 +1,5 @@
 use Rattle.std.proofs.Common.{ℕ, subst}
-use Rattle.tabulate.specs.Tabulated.{AreTabulated}
+use Rattle.tabulate.specs.TabulatedMarks.{AreTabulated}
 use Rattle.job_inputs.proofs.Filling.{scale-range, rows-are}
 use Rattle.job_inputs.proofs.filled.filled.Goals as goal
 

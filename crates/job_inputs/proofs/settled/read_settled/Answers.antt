@@ -2,7 +2,7 @@ use Rattle.std.proofs.Common.{◌≡◌, ◌<◌, ◌^◌, Err, Ok, map, length,
 use Rattle.std.proofs.lemmas.Result.{err_from_is_err_and}
 use Rattle.sdc_base.specs.Answers.{Fails}
 use Rattle.sdc_base.specs.Steps.{map_fault, refuse}
-use Rattle.apriori.specs.Settling.{seen, settle_of}
+use Rattle.apriori.specs.Settling.{view_of_cell, settle_of}
 use Rattle.apriori.specs.declared.prior.Prior.{Prior}
 use Rattle.office_io.proofs.Shelves.{only-read-on}
 use Rattle.job_inputs.proofs.Causes.{out-name-cause, come-on, cause-as, cause-on, stop-fails, contents-come, contents-cause}
@@ -11,7 +11,7 @@ use Rattle.job_inputs.proofs.Refusing.{cells-are-for-contents}
 use Rattle.job_inputs.proofs.Settling.{inputs-fail, book-fails, priors-fail, cells-fail, outputs-fail, settled-is}
 use Rattle.job_inputs.specs.Cells.{figures, prior_fault}
 use Rattle.job_inputs.specs.Refusals.{refused_for}
-use Rattle.job_inputs.specs.Settled.{SettledInputs, overwrites_job}
+use Rattle.job_inputs.specs.SettledJobs.{SettledInputs, overwrites_job}
 use Rattle.job_inputs.specs.declared.described.Described.{Described}
 use Rattle.job_inputs.specs.declared.faults.Fault.TheVariants as fault
 use Rattle.job_inputs.proofs.settled.read_settled.Goals as goal
@@ -116,9 +116,9 @@ returns-in_err-check_outputs-clause-told g c =
     let first = c.in_ok-inputs.ensures.reads in
     let priors = c.in_ok-priors.priors in
     let cells = c.in_ok-cells.cells in
-    let settled = subst (λ (ps : List Prior). map_fault prior_fault (settle_of inputs.described.job.rules (figures inputs) ps) ≡ Ok (map seen cells)) c.as_slice.ensures (c.in_ok-cells.ensures.gives inputs counted) in
+    let settled = subst (λ (ps : List Prior). map_fault prior_fault (settle_of inputs.described.job.rules (figures inputs) ps) ≡ Ok (map view_of_cell cells)) c.as_slice.ensures (c.in_ok-cells.ensures.gives inputs counted) in
     rw (p.1, p.2)
-    (outputs-fail c.args.purpose fs c.args.name.now inputs _ priors (map seen cells) c.in_err-check_outputs.field-0.0 (first.told fs told) c.in_ok-counted.ensures.told (c.in_ok-priors.ensures.told inputs counted fs (first.only_read.files ∙ told)) settled
+    (outputs-fail c.args.purpose fs c.args.name.now inputs _ priors (map view_of_cell cells) c.in_err-check_outputs.field-0.0 (first.told fs told) c.in_ok-counted.ensures.told (c.in_ok-priors.ensures.told inputs counted fs (first.only_read.files ∙ told)) settled
     (sym (c.in_err-check_outputs.ensures ∙ ap (λ (d : Described). refuse fault.OutName (overwrites_job c.args.name.now d.job)) counted.described)))
 
 pub returns-in_err-check_outputs-clause-came_to : goal.returns-in_err-check_outputs-clause-came_to
@@ -143,15 +143,15 @@ returns-clause-told g c =
     let first = c.in_ok-inputs.ensures.reads in
     let priors = c.in_ok-priors.priors in
     let cells = c.in_ok-cells.cells in
-    let settled = subst (λ (ps : List Prior). map_fault prior_fault (settle_of inputs.described.job.rules (figures inputs) ps) ≡ Ok (map seen cells)) c.as_slice.ensures (c.in_ok-cells.ensures.gives inputs counted) in
-    rw (settled-is c.args.purpose fs c.args.name.now inputs _ priors (map seen cells) (first.told fs told) c.in_ok-counted.ensures.told (c.in_ok-priors.ensures.told inputs counted fs (first.only_read.files ∙ told)) settled
+    let settled = subst (λ (ps : List Prior). map_fault prior_fault (settle_of inputs.described.job.rules (figures inputs) ps) ≡ Ok (map view_of_cell cells)) c.as_slice.ensures (c.in_ok-cells.ensures.gives inputs counted) in
+    rw (settled-is c.args.purpose fs c.args.name.now inputs _ priors (map view_of_cell cells) (first.told fs told) c.in_ok-counted.ensures.told (c.in_ok-priors.ensures.told inputs counted fs (first.only_read.files ∙ told)) settled
     (sym (c.in_ok-check_outputs.ensures ∙ ap (λ (d : Described). refuse fault.OutName (overwrites_job c.args.name.now d.job)) counted.described)))
     (record { described = counted.described; book = counted.book; cells = refl; records = counted.records; skipped = counted.skipped })
 
 pub returns-clause-settled : goal.returns-clause-settled
 returns-clause-settled g c =
     let counted = c.in_ok-counted.ensures.counted in
-    let settled : SettledInputs = record { inputs = c.in_ok-inputs.inputs; priors = c.in_ok-priors.priors; cells = map seen c.in_ok-cells.cells } in
+    let settled : SettledInputs = record { inputs = c.in_ok-inputs.inputs; priors = c.in_ok-priors.priors; cells = map view_of_cell c.in_ok-cells.cells } in
     (settled, record { described = counted.described; book = counted.book; cells = refl; records = counted.records; skipped = counted.skipped }, c.in_ok-inputs.ensures.sound)
 
 pub returns-clause-ready : goal.returns-clause-ready

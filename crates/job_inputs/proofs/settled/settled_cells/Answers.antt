@@ -2,7 +2,7 @@ use Rattle.std.proofs.Common.{◌≡◌, Ok, map, refl, subst, ap, length, ◌�
 use Rattle.std.proofs.lemmas.Result.{err_from_is_err_and}
 use Rattle.sdc_base.specs.Answers.{Fails}
 use Rattle.apriori.specs.Faults.{fault_of}
-use Rattle.apriori.specs.Settling.{seen, settle_of}
+use Rattle.apriori.specs.Settling.{view_of_cell, settle_of}
 use Rattle.job_inputs.proofs.Filling.{in-range}
 use Rattle.job_inputs.proofs.Refusing.{prior_refuses}
 use Rattle.job_inputs.proofs.Truths.{truths-are}
@@ -17,7 +17,7 @@ settle-requires-clause-ready c = are-ready c.args.counted.now.described.job.rule
 pub returns-clause-gives : goal.returns-clause-gives
 returns-clause-gives c = λ inputs is.
     let over = c.in_ok-cells.ensures.over_records inputs.records.trees (cells inputs) inputs.records.rows inputs.described.bound.scale (facts-in inputs c.args.counted.now.book is.book) in
-    let same = subst (λ (d : Described). settle_of d.job.rules (figures inputs) c.args.priors.now ≡ Ok (map seen c.in_ok-cells.cells.items)) is.described over in
+    let same = subst (λ (d : Described). settle_of d.job.rules (figures inputs) c.args.priors.now ≡ Ok (map view_of_cell c.in_ok-cells.cells.items)) is.described over in
     rw (c.new.ensures, same) refl
 
 pub returns-in_err-cells-clause-gives : goal.returns-in_err-cells-clause-gives

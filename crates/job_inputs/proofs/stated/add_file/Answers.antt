@@ -1,6 +1,6 @@
 use Rattle.std.proofs.Common.{◌≡◌, Some, Ok, ap, sym, subst, ◌∙◌, refl}
 use Rattle.std.proofs.lemmas.Result.{err_from_is_err_and}
-use Rattle.job_inputs.specs.Stated.{prior_line}
+use Rattle.job_inputs.specs.PriorStatements.{prior_line}
 use Rattle.job_inputs.proofs.Causes.{come-on, cause-as, stop-fails, contents-come, contents-cause}
 use Rattle.job_inputs.proofs.Stating.{prior-file-stops, prior-contents-stop, prior-file-is}
 use Rattle.job_inputs.proofs.stated.add_file.Goals as goal

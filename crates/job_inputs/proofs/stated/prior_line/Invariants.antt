@@ -1,5 +1,5 @@
 use Rattle.std.proofs.Common.{◌≡◌, drop}
-use Rattle.job_inputs.specs.Stated.{prior_line}
+use Rattle.job_inputs.specs.PriorStatements.{prior_line}
 use Rattle.job_inputs.proofs.stated.prior_line.Given as goal
 
 abbrev pub invariant-lines : goal.invariant-lines

@@ -2,8 +2,8 @@ use Rattle.std.proofs.Common.{◌≡◌, Some, Ok}
 use Rattle.office_io.specs.Files.{Files}
 use Rattle.office_io.specs.Shelves.{HasOnlyRead}
 use Rattle.apriori.specs.Priors.{ArePriors}
-use Rattle.job_inputs.specs.Counted.{IsCountedOf}
-use Rattle.job_inputs.specs.Stated.{with_files}
+use Rattle.job_inputs.specs.CountedRecords.{IsCountedOf}
+use Rattle.job_inputs.specs.PriorStatements.{with_files}
 use Rattle.job_inputs.specs.declared.inputs.Inputs.{Inputs}
 use Rattle.job_inputs.proofs.stated.read_priors.Given as goal
 

@@ -3,7 +3,7 @@ use Rattle.std.proofs.lemmas.Result.{err_from_is_err_and}
 use Rattle.sdc_base.specs.Answers.{Fails}
 use Rattle.job_inputs.proofs.Causes.{come-on, out-name-cause}
 use Rattle.job_inputs.specs.Reading.{stopped_for}
-use Rattle.job_inputs.specs.Settled.{settled_of, IsSettledOf}
+use Rattle.job_inputs.specs.SettledJobs.{settled_of, IsSettledOf}
 use Rattle.job_inputs.specs.Tables.{tables_of}
 use Rattle.job_inputs.specs.declared.described.Described.{Described}
 use Rattle.job_inputs.specs.declared.purpose.Purpose.TheVariants as purpose

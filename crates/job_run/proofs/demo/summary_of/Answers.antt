@@ -1,6 +1,6 @@
 use Rattle.std.proofs.Common.{◌≡◌, ◌∙◌, ap, refl, rules}
 use Rattle.demo_files.specs.DemoFiles.{job_name}
-use Rattle.demo_files.specs.Steady.{shelf_with}
+use Rattle.demo_files.specs.SteadyFiles.{shelf_with}
 use Rattle.job_run.proofs.DemoRuns.{demo-run}
 use Rattle.job_run.proofs.demo.summary_of.Goals as goal
 

@@ -1,7 +1,7 @@
 use Rattle.std.proofs.Common.{◌≡◌, ◌+◌, ◌++◌, length, take}
 use Rattle.job_run.specs.Books.{shown_by}
 use Rattle.job_run.specs.Releases.{tables_from}
-use Rattle.job_inputs.specs.Tabulated.{IsBookOf}
+use Rattle.job_inputs.specs.TabulatedBooks.{IsBookOf}
 use Rattle.job_inputs.specs.declared.inputs.Inputs.{Inputs}
 use Rattle.job_run.proofs.release_texts.add_tables.Given as goal
 

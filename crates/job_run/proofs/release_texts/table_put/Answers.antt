@@ -1,5 +1,5 @@
 use Rattle.std.proofs.Common.{◌≡◌, ℕ, refl, ap, sym, ◌∙◌}
-use Rattle.release_writer.specs.Shown.{release_text}
+use Rattle.release_writer.specs.ShownCells.{release_text}
 use Rattle.job_run.specs.Books.{shown_by}
 use Rattle.job_inputs.specs.Tables.{names_of}
 use Rattle.job_run.specs.Releases.{table_of}

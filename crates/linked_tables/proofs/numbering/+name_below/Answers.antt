@@ -3,7 +3,7 @@ use Rattle.std.proofs.lemmas.Result.{err_from_is_err_and}
 use Rattle.sdc_base.specs.Records.{Name}
 use Rattle.sdc_base.specs.Cells.{with_name}
 use Rattle.linked_tables.specs.Tables.{most_cells, fault_of}
-use Rattle.linked_tables.specs.Kept.{capped, names_below}
+use Rattle.linked_tables.specs.BookKeeping.{names_within_limit, names_below}
 use Rattle.linked_tables.proofs.Below.{names_begun, below-begun, begun-next, begun-rises}
 use Rattle.linked_tables.proofs.Faults.{capped-Ok, capped-few, fails-more}
 use Rattle.linked_tables.proofs.numbering.+name_below.Goals as goal
@@ -68,4 +68,4 @@ returns-clause-names t c =
     ∙ ap (λ (n : ℕ). fold with_name names (names_begun trees table place n)) end
     ∙ sym c.codes.invariant.added
     in
-    ap (capped c.args.t) all ∙ capped-few c.args.t c.codes.names c.codes.invariant.room
+    ap (names_within_limit c.args.t) all ∙ capped-few c.args.t c.codes.names c.codes.invariant.room

@@ -1,5 +1,5 @@
 use Rattle.std.proofs.Common.{◌≡◌, length, All}
-use Rattle.linked_tables.specs.Blank.{IsBlank}
+use Rattle.linked_tables.specs.BlankMarks.{IsBlank}
 use Rattle.linked_tables.proofs.numbering.blank_marks.Given as goal
 
 abbrev pub invariant-marks : goal.invariant-marks

@@ -1,8 +1,8 @@
 use Rattle.std.proofs.Common.{◌≡◌, ◌+◌, ◌≤◌, [], take, drop, length, All}
 use Rattle.sdc_base.specs.Cells.{cells_of}
 use Rattle.linked_tables.specs.Tables.{first_fault, most_cells}
-use Rattle.linked_tables.specs.Shared.{IsTable}
-use Rattle.linked_tables.specs.Kept.{starts_of}
+use Rattle.linked_tables.specs.BookCells.{IsTable}
+use Rattle.linked_tables.specs.BookKeeping.{starts_of}
 use Rattle.linked_tables.proofs.numbering.number_cells.Given as goal
 
 abbrev pub invariant-tables : goal.invariant-tables

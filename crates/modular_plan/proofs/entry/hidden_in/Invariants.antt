@@ -1,6 +1,6 @@
 use Rattle.std.proofs.Common.{◌≡◌, ◌<◌, ◌-◌, ◌++◌, length, All}
 use Rattle.std.specs.List.{range_with_len}
-use Rattle.linked_tables.specs.Shared.{cells as cells_in}
+use Rattle.linked_tables.specs.BookCells.{cells as cells_in}
 use Rattle.hypercube.specs.LeastCubes.{is_marked}
 use Rattle.modular_plan.specs.Plans.{hidden_among, hidden_in}
 use Rattle.modular_plan.proofs.entry.hidden_in.Given as goal

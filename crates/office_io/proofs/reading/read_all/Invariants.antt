@@ -1,5 +1,5 @@
 use Rattle.std.proofs.Common.{◌≡◌, ◌+◌, ◌-◌, ◌≤◌, length}
-use Rattle.sdc_base.specs.Told.{WhereTold}
+use Rattle.sdc_base.specs.WhereTold.{WhereTold}
 use Rattle.office_io.proofs.Told.{IsGot}
 use Rattle.office_io.specs.Files.{held_name}
 use Rattle.office_io.specs.Shelves.{HasOnlyRead}

@@ -1,7 +1,7 @@
 use Rattle.std.proofs.Common.{◌≡◌, ◌<◌, ◌≤◌, ◌+◌, ◌-◌, ◌++◌, [], ℕ, List, Option, length, slice_index, slice_index_or, slice_set, option_to_list, arith, ap, sym, subst, ◌∙◌}
 use Rattle.std.specs.Option.{option_map_or}
 use Rattle.sdc_base.specs.Relations.{number_among, parts_among}
-use Rattle.linked_tables.specs.Shared.{cells}
+use Rattle.linked_tables.specs.BookCells.{cells}
 use Rattle.hierarchy.specs.Children.{first_child, next_sibling}
 use Rattle.hierarchy.proofs.Children.{children_from, children-are, children-next, first-is_child, left_from, next-is_child, next-room, next-smaller}
 use Rattle.sdc_base.proofs.GrowingLists.{option-front, option-most}

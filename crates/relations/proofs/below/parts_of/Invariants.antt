@@ -1,7 +1,7 @@
 use Rattle.std.proofs.Common.{◌≡◌, ℕ, ◌<◌, ◌≤◌, ◌-◌, ◌++◌, [], length, slice_index, slice_index_or, All}
 use Rattle.std.specs.Option.{ForSome, option_map_or}
 use Rattle.sdc_base.specs.Relations.{codes_below, parts_among}
-use Rattle.linked_tables.specs.Shared.{cells}
+use Rattle.linked_tables.specs.BookCells.{cells}
 use Rattle.hierarchy.proofs.Children.{children_from, IsChild}
 use Rattle.relations.proofs.below.parts_of.Given as goal
 

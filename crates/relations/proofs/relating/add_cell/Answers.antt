@@ -4,7 +4,7 @@ use Rattle.std.proofs.lemmas.List.{append-nil}
 use Rattle.std.proofs.lemmas.Option.{get_or_from_slice_get}
 use Rattle.sdc_base.specs.Records.{Name}
 use Rattle.sdc_base.specs.Relations.{Sum, relation_for, relations_for}
-use Rattle.linked_tables.specs.Shared.{cells}
+use Rattle.linked_tables.specs.BookCells.{cells}
 use Rattle.relations.specs.Holding.{sum_in}
 use Rattle.sdc_base.proofs.GrowingLists.{option-front, range-end, range-next}
 use Rattle.relations.proofs.relating.add_cell.Goals as goal

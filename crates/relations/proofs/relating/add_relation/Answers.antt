@@ -3,7 +3,7 @@ use Rattle.std.proofs.lemmas.List.Elements.{All-append, All-cons}
 use Rattle.std.proofs.lemmas.Option.{slice_get_within}
 use Rattle.sdc_base.specs.Systems.{NamesCells}
 use Rattle.sdc_base.specs.declared.relation.Relation.{Relation}
-use Rattle.linked_tables.specs.Shared.{cells}
+use Rattle.linked_tables.specs.BookCells.{cells}
 use Rattle.relations.proofs.Tables.{cell-of_trees}
 use Rattle.relations.proofs.Holding.{at-named, tables-of}
 use Rattle.sdc_base.proofs.GrowingLists.{all-nothing}

@@ -4,7 +4,7 @@ use Rattle.std.proofs.lemmas.List.{append-nil}
 use Rattle.sdc_base.specs.Relations.{Sum, relations_among, relations_for}
 use Rattle.sdc_base.specs.Systems.{HoldOn}
 use Rattle.sdc_base.specs.declared.relation.Relation.{Relation}
-use Rattle.linked_tables.specs.Shared.{cells}
+use Rattle.linked_tables.specs.BookCells.{cells}
 use Rattle.relations.specs.Holding.{sum_in, truth_at}
 use Rattle.sdc_base.proofs.GrowingLists.{range-end, range-next}
 use Rattle.relations.proofs.Holding.{relations-hold}

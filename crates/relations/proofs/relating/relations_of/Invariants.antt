@@ -2,7 +2,7 @@ use Rattle.std.proofs.Common.{◌≡◌, ◌≤◌, ◌+◌, ◌*◌, ◌-◌, �
 use Rattle.std.specs.List.{flat_map, range_with_len}
 use Rattle.sdc_base.specs.Relations.{relations_among, relations_for}
 use Rattle.sdc_base.specs.Systems.{NamesCells}
-use Rattle.linked_tables.specs.Shared.{cells}
+use Rattle.linked_tables.specs.BookCells.{cells}
 use Rattle.relations.specs.Holding.{sum_in}
 use Rattle.relations.proofs.relating.relations_of.Given as goal
 

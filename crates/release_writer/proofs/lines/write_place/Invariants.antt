@@ -2,12 +2,12 @@ use Rattle.std.proofs.Common.{◌≡◌, ◌++◌, take, option_map}
 use Rattle.csv.specs.Writing.{default_writer, writer_setup, fields_written}
 use Rattle.sdc_base.specs.Cells.{trees_of}
 use Rattle.sdc_base.specs.TableText.{codes_of_place}
-use Rattle.release_writer.specs.Lines.{begun_line, written}
+use Rattle.release_writer.specs.Lines.{begun_line, bytes_written}
 use Rattle.release_writer.proofs.lines.write_place.Given as goal
 
 abbrev pub invariant-codes : goal.invariant-codes
 invariant-codes l = record {
   setup : writer_setup l.writer ≡ default_writer;
   fields : fields_written l.writer ≡ l.k;
-  text : written l.writer ≡ option_map (λ text. text ++ begun_line (codes_of_place (trees_of l.book.trees (take l.k l.table)) (take l.k l.place))) (written l.fn.writer);
+  text : bytes_written l.writer ≡ option_map (λ text. text ++ begun_line (codes_of_place (trees_of l.book.trees (take l.k l.table)) (take l.k l.place))) (bytes_written l.fn.writer);
 }

@@ -2,7 +2,7 @@ use Rattle.std.proofs.Common.{◌≡◌, ℕ, ◌+◌, ◌<◌, ◌++◌, ◌∷
 use Rattle.std.proofs.lemmas.Result.{on_ok_weaker}
 use Rattle.sdc_base.specs.Cells.{trees_of}
 use Rattle.sdc_base.specs.CellOrder.{is_place_in}
-use Rattle.release_writer.specs.Lines.{written, lines_below}
+use Rattle.release_writer.specs.Lines.{bytes_written, lines_below}
 use Rattle.release_writer.proofs.BegunPlaces.{below-whole, begun-next, written-more, place-more, lines_begun}
 use Rattle.release_writer.proofs.tables.+write_below.Goals as goal
 
@@ -10,7 +10,7 @@ pub returns-then-place-len-clause-text : goal.returns-then-place-len-clause-text
 returns-then-place-len-clause-text t c =
     let page = c.args.page.now in
     let place = c.args.place.now in
-    let start = written c.args.writer.now in
+    let start = bytes_written c.args.writer.now in
     on_ok_weaker c.write_whole.result
     (λ text. text ∙ ap (λ line. option_map (λ before. before ++ line) start) (sym (below-whole page.book.now page.table.now page.decimals page.shown place (omega (arith, c.if-place-len.true, c.len.ensures.len)))))
     c.write_whole.ensures.text
@@ -35,13 +35,13 @@ codes-preserved t c =
     let page = c.args.page.now in
     let place = c.args.place.now in
     let code = c.codes.code in
-    let start = written c.args.writer.now in
+    let start = bytes_written c.args.writer.now in
     let longer = c.as_slice-in-codes.result.now in
     let same : longer ≡ place ++ code ∷ [] = c.as_slice-in-codes.ensures ∙ c.with_code-longer.ensures in
-    let after : written c.write_below.new.writer ≡ option_map (λ text. text ++ lines_below page.book.now page.table.now page.decimals page.shown (place ++ code ∷ [])) (written c.codes.writer) =
-    c.in_ok-write_below.ensures.text ∙ ap (λ p. option_map (λ text. text ++ lines_below page.book.now page.table.now page.decimals page.shown p) (written c.codes.writer)) same in
+    let after : bytes_written c.write_below.new.writer ≡ option_map (λ text. text ++ lines_below page.book.now page.table.now page.decimals page.shown (place ++ code ∷ [])) (bytes_written c.codes.writer) =
+    c.in_ok-write_below.ensures.text ∙ ap (λ p. option_map (λ text. text ++ lines_below page.book.now page.table.now page.decimals page.shown p) (bytes_written c.codes.writer)) same in
     record {
       ready = c.in_ok-write_below.ensures.ready;
-      text = written-more (lines_begun page.book.now page.table.now page.decimals page.shown place code) (lines_below page.book.now page.table.now page.decimals page.shown (place ++ code ∷ [])) (lines_begun page.book.now page.table.now page.decimals page.shown place (code + 1)) start (written c.codes.writer) (written c.write_below.new.writer)
+      text = written-more (lines_begun page.book.now page.table.now page.decimals page.shown place code) (lines_below page.book.now page.table.now page.decimals page.shown (place ++ code ∷ [])) (lines_begun page.book.now page.table.now page.decimals page.shown place (code + 1)) start (bytes_written c.codes.writer) (bytes_written c.write_below.new.writer)
           (begun-next page.book.now page.table.now page.decimals page.shown place code) c.codes.invariant.text after;
     }

@@ -1,6 +1,6 @@
-use Rattle.worlds.specs.Gathered.{at}
+use Rattle.worlds.specs.BoundedNumbers.{number_at}
 use Rattle.repair.proofs.Choosing.{IsBestBelow}
 use Rattle.repair.proofs.cheapest.find_cheapest.Given as goal
 
 abbrev pub invariant-loop-number : goal.invariant-loop-number
-invariant-loop-number l = IsBestBelow l.cells l.prices l.flags (at l.counts) l.number l.best
+invariant-loop-number l = IsBestBelow l.cells l.prices l.flags (number_at l.counts) l.number l.best

@@ -1,6 +1,6 @@
 use Rattle.std.proofs.Common.{ℕ, ℤ, List, Bool, subst}
 use Rattle.std.proofs.lemmas.Option.{IfSome_then}
-use Rattle.worlds.specs.Gathered.{at}
+use Rattle.worlds.specs.BoundedNumbers.{number_at}
 use Rattle.repair.specs.HidingOrder.{coefficients_for, IsCheapest}
 use Rattle.repair.proofs.Choosing.{cheapest_same}
 use Rattle.repair.proofs.cheapest.subject_of.Goals as goal
@@ -11,4 +11,4 @@ returns-clause-some c =
     (λ number is.
     let counts : ℕ → ℤ = coefficients_for c.args.task.now.system.now c.args.asked c.args.multipliers.now in
     subst (λ (flags : List Bool). IsCheapest c.args.task.now.cells.now c.args.task.now.prices.now flags counts number) c.as_slice.ensures
-    (cheapest_same c.args.task.now.cells.now c.args.task.now.prices.now c.as_slice.result.now (at c.check_refutation.new.scratch) counts number c.in-Ok.ensures.coefficients is))
+    (cheapest_same c.args.task.now.cells.now c.args.task.now.prices.now c.as_slice.result.now (number_at c.check_refutation.new.scratch) counts number c.in-Ok.ensures.coefficients is))

@@ -14,10 +14,10 @@ named-preserved c =
     let number = get_or c.args.named.now k 0 in
     let within = c.requires.named.ascends.within k c.named-test.true in
     let fits : FitsSigned w128 c.signed_count-count.result = search rules in
-    let up = simp to_z-of_z at c.joined-arc.ensures.up in
-    let down = simp to_z-of_z at c.joined-arc.ensures.down in
-    let same = simp to_z-of_z at c.joined-arc.ensures.same in
-    one_more_joined c.args.relations.now c.args.signs.now c.args.cell c.args.named.now c.named.arc c.joined-arc.result k c.signed_count-count.result c.requires.signs c.requires.named c.named-test.true
+    let up = simp to_z-of_z at c.arc_with-arc.ensures.up in
+    let down = simp to_z-of_z at c.arc_with-arc.ensures.down in
+    let same = simp to_z-of_z at c.arc_with-arc.ensures.same in
+    one_more_joined c.args.relations.now c.args.signs.now c.args.cell c.args.named.now c.named.arc c.arc_with-arc.result k c.signed_count-count.result c.requires.signs c.requires.named c.named-test.true
     (read_count c.args.relations.now c.args.signs.now number c.args.cell c.index-relations-number.result c.signed_count-count.result _ c.requires.signs.each within (slice_get_read c.args.relations.now (length c.args.relations.now) number c.index-relations-number.result refl within c.index-relations-number.is) c.signed_count-count.ensures)
     up down same c.named.invariant
 

@@ -3,7 +3,7 @@ use Rattle.std.specs.Int.{w128}
 use Rattle.std.proofs.lemmas.Int.{ints, to_z-of_z}
 use Rattle.std.proofs.lemmas.Option.{slice_get_read}
 use Rattle.sdc_base.specs.declared.relation.Relation.{Relation}
-use Rattle.rounding.specs.Extremes.{extreme}
+use Rattle.rounding.specs.Extremes.{extreme_of_form}
 use Rattle.rounding.specs.Fixes.{number_left}
 use Rattle.rounding.proofs.Opening.{spans}
 use Rattle.rounding.proofs.ForceSteps.{found_at, too_high, too_low}
@@ -38,4 +38,4 @@ returns-clause-hold c = λ _ r there.
     let greatest : FitsSigned w128 c.greatest_of-greatest.result = omega (arith, ints, c.greatest_of-greatest.ensures.low, c.greatest_of-greatest.ensures.high) in
     let low = simp to_z-of_z at c.if-least-gt0.false in
     let high = simp to_z-of_z at c.if-greatest-lt0.false in
-    spans (extreme (number_left false b) (number_left true b) r) (extreme (number_left true b) (number_left false b) r) (omega (arith, ints, low, c.least_of-least.ensures.value r there)) (omega (arith, ints, high, c.greatest_of-greatest.ensures.value r there))
+    spans (extreme_of_form (number_left false b) (number_left true b) r) (extreme_of_form (number_left true b) (number_left false b) r) (omega (arith, ints, low, c.least_of-least.ensures.value r there)) (omega (arith, ints, high, c.greatest_of-greatest.ensures.value r there))

@@ -1,6 +1,6 @@
 use Rattle.std.proofs.Common.{◌≡◌, ◌∙◌, ℕ, [], List, get_or, arith, ap, sym, subst, inl, inr}
 use Rattle.std.proofs.lemmas.Bool.{cases_lt}
-use Rattle.rounding.specs.Namings.{Lacks}
+use Rattle.rounding.specs.Namings.{IsNotIn}
 use Rattle.rounding.proofs.NamingSteps.{noted_then, whole_noted}
 use Rattle.rounding.proofs.naming.note_cells.Goals as goal
 
@@ -18,7 +18,7 @@ parts-preserved c =
             | inl less ↦ c.parts.invariant.parts k less (more.stays (get_or parts k 0) n lacks)
             | inr not_less ↦
                 let last : k ≡ c.parts.part-index = omega arith in
-                c.in_ok-note-2.ensures.here (subst (λ (cell : ℕ). Lacks (get_or after cell []) n) (ap (λ (j : ℕ). get_or parts j 0) last ∙ ap (λ (ps : List ℕ). get_or ps c.parts.part-index 0) (sym c.as_slice-part-items.ensures)) lacks)
+                c.in_ok-note-2.ensures.here (subst (λ (cell : ℕ). IsNotIn (get_or after cell []) n) (ap (λ (j : ℕ). get_or parts j 0) last ∙ ap (λ (ps : List ℕ). get_or ps c.parts.part-index 0) (sym c.as_slice-part-items.ensures)) lacks)
           ];
     }
 

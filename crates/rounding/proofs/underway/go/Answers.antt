@@ -20,13 +20,13 @@ overflow_add-numbers c =
     let own = All-get_or (λ (s : Step). (s.cell < length c.args.numbers.now) × ((s.turn ≡ pos 1) ⊎ (s.turn ≡ negsuc 0))) c.args.steps.now k (record { cell = 0; turn = pos 0; start = 0; end = 0 }) c.steps-test.true c.requires.each in
     let by : FitsSigned w128 c.args.by = c.ranges.by in
     let turn : FitsSigned w128 step.turn = turn_fits step.turn own.1 in
-    let is : c.moved.result ≡ c.args.by *ℤ step.turn = simp to_z-of_z at c.moved.ensures in
+    let is : c.turn_after.result ≡ c.args.by *ℤ step.turn = simp to_z-of_z at c.turn_after.ensures in
     let within = moved_within c.args.by step.turn own.1 c.requires.by.0 c.requires.by.1 in
     let low = c.steps.invariant.near.low step.cell in
     let high = c.steps.invariant.near.high step.cell in
     let number : FitsSigned w128 (number_at c.steps.numbers step.cell) = omega (arith, ints, low, high, c.steps-test.true, c.requires.few) in
-    let by_moved : FitsSigned w128 c.moved.result = omega (arith, ints, is, within.0, within.1) in
-    let sum : FitsSigned w128 (number_at c.steps.numbers step.cell +ℤ c.moved.result) = omega (arith, ints, low, high, is, within.0, within.1, c.steps-test.true, c.requires.few) in
+    let by_moved : FitsSigned w128 c.turn_after.result = omega (arith, ints, is, within.0, within.1) in
+    let sum : FitsSigned w128 (number_at c.steps.numbers step.cell +ℤ c.turn_after.result) = omega (arith, ints, low, high, is, within.0, within.1, c.steps-test.true, c.requires.few) in
     simp to_z-of_z sum
 
 pub steps-preserved : goal.steps-preserved
@@ -36,18 +36,18 @@ steps-preserved c =
     let own = All-get_or (λ (s : Step). (s.cell < length c.args.numbers.now) × ((s.turn ≡ pos 1) ⊎ (s.turn ≡ negsuc 0))) c.args.steps.now k (record { cell = 0; turn = pos 0; start = 0; end = 0 }) c.steps-test.true c.requires.each in
     let by : FitsSigned w128 c.args.by = c.ranges.by in
     let turn : FitsSigned w128 step.turn = turn_fits step.turn own.1 in
-    let is : c.moved.result ≡ c.args.by *ℤ step.turn = simp to_z-of_z at c.moved.ensures in
+    let is : c.turn_after.result ≡ c.args.by *ℤ step.turn = simp to_z-of_z at c.turn_after.ensures in
     let within = moved_within c.args.by step.turn own.1 c.requires.by.0 c.requires.by.1 in
     let low = c.steps.invariant.near.low step.cell in
     let high = c.steps.invariant.near.high step.cell in
     let number : FitsSigned w128 (number_at c.steps.numbers step.cell) = omega (arith, ints, low, high, c.steps-test.true, c.requires.few) in
-    let by_moved : FitsSigned w128 c.moved.result = omega (arith, ints, is, within.0, within.1) in
-    let sum : FitsSigned w128 (number_at c.steps.numbers step.cell +ℤ c.moved.result) = omega (arith, ints, low, high, is, within.0, within.1, c.steps-test.true, c.requires.few) in
+    let by_moved : FitsSigned w128 c.turn_after.result = omega (arith, ints, is, within.0, within.1) in
+    let sum : FitsSigned w128 (number_at c.steps.numbers step.cell +ℤ c.turn_after.result) = omega (arith, ints, low, high, is, within.0, within.1, c.steps-test.true, c.requires.few) in
     let inside : step.cell < length c.steps.numbers = omega (arith, own.0, c.steps.auto.numbers) in
     let before = simp to_z-of_z at c.steps.invariant.is in
     simp to_z-of_z (record {
-      is = gone_more c.args.by c.args.numbers.now c.steps.numbers c.args.steps.now k (number_at c.steps.numbers step.cell +ℤ c.moved.result) c.steps-test.true inside (ap (λ (z : ℤ). number_at c.steps.numbers step.cell +ℤ z) is) before;
-      near = near_more c.steps.numbers step.cell (number_at c.steps.numbers step.cell +ℤ c.moved.result) c.moved.result k inside refl (omega (arith, ints, is, within.0)) (omega (arith, ints, is, within.1)) c.steps.invariant.near;
+      is = gone_more c.args.by c.args.numbers.now c.steps.numbers c.args.steps.now k (number_at c.steps.numbers step.cell +ℤ c.turn_after.result) c.steps-test.true inside (ap (λ (z : ℤ). number_at c.steps.numbers step.cell +ℤ z) is) before;
+      near = near_more c.steps.numbers step.cell (number_at c.steps.numbers step.cell +ℤ c.turn_after.result) c.turn_after.result k inside refl (omega (arith, ints, is, within.0)) (omega (arith, ints, is, within.1)) c.steps.invariant.near;
     })
 
 pub returns : goal.returns

@@ -1,6 +1,6 @@
 use Rattle.std.proofs.Common.{◌≡◌, ◌<◌, ◌≤◌, ◌==◌, ◌&&◌, not, ℕ, Bool, true, false, List, length, take, slice_get, slice_index_or, All, arith, refl, sym, subst, ◌∙◌, None, Some, ◌+◌}
 use Rattle.std.proofs.lemmas.List.{take_all}
-use Rattle.sdc_base.specs.Ends.{IsCounting, ends_at, joined}
+use Rattle.sdc_base.specs.Ends.{IsCounting, ends_at, with_end}
 use Rattle.sdc_base.specs.Forms.{count_of}
 use Rattle.sdc_base.specs.Systems.{NamesCells}
 use Rattle.sdc_base.specs.declared.ends.Ends.{Ends}
@@ -42,7 +42,7 @@ returns-then-not-add_end-clause-none c = λ _.
     part-refused s.relations c.args.number k r c.parts.ends.items c.parts.met c.requires.at
     (subst (λ (list : List ℕ). k < length list) same c.parts-test.true)
     (subst (λ (list : List ℕ). (not c.parts.met && (slice_index_or list k 0 == r.total)) ≡ false) same (sym c.meets_total.ensures ∙ c.if-meets_total.false))
-    (subst (λ (list : List ℕ). joined (ends_at c.parts.ends.items (slice_index_or list k 0)) (record { relation = c.args.number; plus = false }) ≡ None) same (c.if-not-add_end.ensures.none refl))
+    (subst (λ (list : List ℕ). with_end (ends_at c.parts.ends.items (slice_index_or list k 0)) (record { relation = c.args.number; plus = false }) ≡ None) same (c.if-not-add_end.ensures.none refl))
     (subst (λ (list : List ℕ). IsCounting s.relations c.args.number (own c.parts.met r.total (take k list)) c.parts.ends.items) same c.parts.invariant.counting)
     (subst (λ (list : List ℕ). IsMet c.parts.met r.total (take k list)) same c.parts.invariant.is_met)
 

@@ -22,7 +22,7 @@ steps-preserved c =
     let at_past : slice_get links next.to ≡ Some past = slice_get_read links (length links) next.to past refl next_inside c.index-past.ensures in
     let is : IsPast links to next past = record { at_next = at_next; at_past = at_past; moved = λ same. absurd (omega (arith, same, tos, c.steps-test.true)) } in
     let long : length (slice_set links to (over next past)) ≡ length links = length-set links to (over next past) in
-    rw (c.turned-same.ensures, c.turned-over.ensures) (record {
+    rw (c.sign_by_link-same.ensures, c.sign_by_link-over.ensures) (record {
       links = past-links links to next past are is;
       each = long ∙ c.steps.invariant.each;
       on = λ signs follow. past-on signs links to next past is (c.steps.invariant.on signs follow);

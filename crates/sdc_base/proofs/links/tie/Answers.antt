@@ -1,5 +1,5 @@
 use Rattle.std.proofs.Common.{◌≡◌, ap, arith, ◌∙◌}
-use Rattle.sdc_base.specs.Links.{Follow, turned}
+use Rattle.sdc_base.specs.Links.{Follow, sign_by_link}
 use Rattle.sdc_base.specs.Signs.{sign_of}
 use Rattle.sdc_base.proofs.LinkLemmas.{set-on, set-says, tie-back, tie-links, tied-back, tied-on, turned-over}
 use Rattle.sdc_base.proofs.links.tie.Goals as goal
@@ -9,8 +9,8 @@ returns-then-first-second-2-clause-on c = λ signs follow says.
     let first = c.last_link-first.result in
     let second = c.last_link-second.result in
     let links = c.last_link-second.new.links.items in
-    let b = c.turned-between.result in
-    let is : b ≡ turned first.same (turned c.args.same second.same) = c.turned-between.ensures ∙ ap (turned first.same) c.turned.ensures in
+    let b = c.sign_by_link-between.result in
+    let is : b ≡ sign_by_link first.same (sign_by_link c.args.same second.same) = c.sign_by_link-between.ensures ∙ ap (sign_by_link first.same) c.sign_by_link.ensures in
     let now : Follow signs links = c.last_link-second.ensures.on signs (c.last_link-first.ensures.on signs follow) in
     let one_is = c.last_link-first.ensures.tied signs (c.last_link-second.ensures.back signs now) in
     let other_is = c.last_link-second.ensures.tied signs now in
@@ -24,7 +24,7 @@ returns-then-first-second-2-clause-back c = λ signs follow.
     let links = c.last_link-second.new.links.items in
     let last = c.last_link-second.ensures.last in
     c.last_link-first.ensures.back signs (c.last_link-second.ensures.back signs
-    (tie-back signs links second.to (record { to = first.to; same = c.turned-between.result }) last.0 c.last_link-second.ensures.links last.1 last.2 follow))
+    (tie-back signs links second.to (record { to = first.to; same = c.sign_by_link-between.result }) last.0 c.last_link-second.ensures.links last.1 last.2 follow))
 
 pub returns-then-first-second-2-clause-tied : goal.returns-then-first-second-2-clause-tied
 returns-then-first-second-2-clause-tied c = λ _ signs follow.
@@ -32,8 +32,8 @@ returns-then-first-second-2-clause-tied c = λ _ signs follow.
     let second = c.last_link-second.result in
     let links = c.last_link-second.new.links.items in
     let last = c.last_link-second.ensures.last in
-    let b = c.turned-between.result in
-    let is : b ≡ turned first.same (turned c.args.same second.same) = c.turned-between.ensures ∙ ap (turned first.same) c.turned.ensures in
+    let b = c.sign_by_link-between.result in
+    let is : b ≡ sign_by_link first.same (sign_by_link c.args.same second.same) = c.sign_by_link-between.ensures ∙ ap (sign_by_link first.same) c.sign_by_link.ensures in
     let now : Follow signs links = tie-back signs links second.to (record { to = first.to; same = b }) last.0 c.last_link-second.ensures.links last.1 last.2 follow in
     let one_is = c.last_link-first.ensures.tied signs (c.last_link-second.ensures.back signs now) in
     let other_is = c.last_link-second.ensures.tied signs now in
@@ -44,15 +44,15 @@ pub returns-else-first-second-2-clause-links : goal.returns-else-first-second-2-
 returns-else-first-second-2-clause-links c =
     let first = c.last_link-first.result in
     let second = c.last_link-second.result in
-    tie-links c.last_link-second.new.links.items second.to first.to c.turned-between.result c.last_link-second.ensures.links (omega (arith, c.if-first-second.false, c.if-first-second-2.false))
+    tie-links c.last_link-second.new.links.items second.to first.to c.sign_by_link-between.result c.last_link-second.ensures.links (omega (arith, c.if-first-second.false, c.if-first-second-2.false))
 
 pub returns-else-first-second-2-clause-on : goal.returns-else-first-second-2-clause-on
 returns-else-first-second-2-clause-on c = λ signs follow says.
     let first = c.last_link-first.result in
     let second = c.last_link-second.result in
     let links = c.last_link-second.new.links.items in
-    let b = c.turned-between.result in
-    let is : b ≡ turned first.same (turned c.args.same second.same) = c.turned-between.ensures ∙ ap (turned first.same) c.turned.ensures in
+    let b = c.sign_by_link-between.result in
+    let is : b ≡ sign_by_link first.same (sign_by_link c.args.same second.same) = c.sign_by_link-between.ensures ∙ ap (sign_by_link first.same) c.sign_by_link.ensures in
     let now : Follow signs links = c.last_link-second.ensures.on signs (c.last_link-first.ensures.on signs follow) in
     let one_is = c.last_link-first.ensures.tied signs (c.last_link-second.ensures.back signs now) in
     let other_is = c.last_link-second.ensures.tied signs now in
@@ -67,7 +67,7 @@ returns-else-first-second-2-clause-back c = λ signs follow.
     let last = c.last_link-first.ensures.last in
     let at = c.last_link-second.ensures.lasts first.to last.0 last.1 last.2 in
     c.last_link-first.ensures.back signs (c.last_link-second.ensures.back signs
-    (tie-back signs links first.to (record { to = second.to; same = c.turned-between.result }) last.0 c.last_link-second.ensures.links at last.2 follow))
+    (tie-back signs links first.to (record { to = second.to; same = c.sign_by_link-between.result }) last.0 c.last_link-second.ensures.links at last.2 follow))
 
 pub returns-else-first-second-2-clause-tied : goal.returns-else-first-second-2-clause-tied
 returns-else-first-second-2-clause-tied c = λ _ signs follow.
@@ -76,8 +76,8 @@ returns-else-first-second-2-clause-tied c = λ _ signs follow.
     let links = c.last_link-second.new.links.items in
     let last = c.last_link-first.ensures.last in
     let at = c.last_link-second.ensures.lasts first.to last.0 last.1 last.2 in
-    let b = c.turned-between.result in
-    let is : b ≡ turned first.same (turned c.args.same second.same) = c.turned-between.ensures ∙ ap (turned first.same) c.turned.ensures in
+    let b = c.sign_by_link-between.result in
+    let is : b ≡ sign_by_link first.same (sign_by_link c.args.same second.same) = c.sign_by_link-between.ensures ∙ ap (sign_by_link first.same) c.sign_by_link.ensures in
     let now : Follow signs links = tie-back signs links first.to (record { to = second.to; same = b }) last.0 c.last_link-second.ensures.links at last.2 follow in
     let one_is = c.last_link-first.ensures.tied signs (c.last_link-second.ensures.back signs now) in
     let other_is = c.last_link-second.ensures.tied signs now in

@@ -1,5 +1,5 @@
 use Rattle.std.proofs.Common.{◌≡◌, ◌<◌, ◌∙◌, ap, length, ℕ, All, arith}
-use Rattle.linked_tables.specs.Held.{Held}
+use Rattle.linked_tables.specs.BookViews.{BookView}
 use Rattle.tabulate.proofs.PassSteps.{even-kept}
 use Rattle.tabulate.proofs.Finish.{all-given, even-started, read-within, started-given, started-kept, table-given}
 use Rattle.tabulate.proofs.Whole.{IsOf}
@@ -28,13 +28,13 @@ tables-preserved c =
     let mid = c.give_rows.new.book in
     let next = c.fold_table.new.book in
     let t = c.tables.t in
-    let same : length c.start.new.book.tables ≡ length book.tables = ap (λ (b : Held). length b.tables) c.start.ensures.started.frame in
+    let same : length c.start.new.book.tables ≡ length book.tables = ap (λ (b : BookView). length b.tables) c.start.ensures.started.frame in
     let below : t < length book.tables = omega (arith, c.tables-test.true, c.tables-t-end.ensures, same) in
     let table = read-within book.tables t below in
     let good : All (IsOf book.trees) c.args.rows.now = λ k d h. let row = c.requires.rows k d h in record { coded = row.each; inside = row.inside } in
     let kept = λ (cell : ℕ). c.fold_table.ensures.kept cell ∙ c.give_rows.ensures.kept cell ∙ c.tables.invariant.kept cell in
     record {
-      frame = c.fold_table.ensures.frame ∙ ap (λ (b : Held). record b { marks = next.marks }) (c.give_rows.ensures.frame ∙ ap (λ (b : Held). record b { marks = mid.marks }) c.tables.invariant.frame);
+      frame = c.fold_table.ensures.frame ∙ ap (λ (b : BookView). record b { marks = next.marks }) (c.give_rows.ensures.frame ∙ ap (λ (b : BookView). record b { marks = mid.marks }) c.tables.invariant.frame);
       kept = kept;
       given =
           table-given book now mid next c.args.keep c.args.scale c.args.rows.now t c.first_own-first.result c.first_own-past.result table.0 c.start.ensures.book good table.1 c.tables.invariant.frame kept c.first_own-first.ensures c.first_own-past.ensures c.give_rows.ensures
@@ -44,5 +44,5 @@ tables-preserved c =
 pub returns-clause-marks : goal.returns-clause-marks
 returns-clause-marks c =
     let book = c.args.book.now in
-    let same : length c.start.new.book.tables ≡ length book.tables = ap (λ (b : Held). length b.tables) c.start.ensures.started.frame in
+    let same : length c.start.new.book.tables ≡ length book.tables = ap (λ (b : BookView). length b.tables) c.start.ensures.started.frame in
     all-given book c.tables.book c.args.keep c.args.scale c.args.rows.now c.tables.t (omega (arith, c.tables-test.false, c.tables-t-end.ensures, same)) c.start.ensures.book c.requires.rows c.requires.few c.tables.invariant.frame c.tables.invariant.kept c.tables.invariant.given

@@ -1,5 +1,5 @@
 use Rattle.std.proofs.Common.{◌≡◌, drop}
-use Rattle.worlds.specs.Listed.{terms_of}
+use Rattle.worlds.specs.NumberLists.{terms_of}
 use Rattle.worlds.specs.WorldFaults.{moves_fault}
 use Rattle.worlds.proofs.moves.check_moves.Given as goal
 

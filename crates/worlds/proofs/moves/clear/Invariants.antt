@@ -1,9 +1,9 @@
 use Rattle.std.proofs.Common.{◌≡◌, ◌<◌, ℕ, length, pos}
-use Rattle.worlds.specs.Gathered.{at}
+use Rattle.worlds.specs.BoundedNumbers.{number_at}
 use Rattle.worlds.proofs.moves.clear.Given as goal
 
 abbrev pub invariant-cells : goal.invariant-cells
 invariant-cells l = record {
   long : length l.numbers ≡ length l.fn.numbers;
-  none : (cell : ℕ) → cell < l.cell → at l.numbers cell ≡ pos 0;
+  none : (cell : ℕ) → cell < l.cell → number_at l.numbers cell ≡ pos 0;
 }

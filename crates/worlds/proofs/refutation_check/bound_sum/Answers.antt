@@ -1,5 +1,5 @@
 use Rattle.std.proofs.Common.{◌↔◌, ◌∙◌, IsOk, sym, subst}
-use Rattle.worlds.specs.RefutationFaults.{IsGivenSum, summed}
+use Rattle.worlds.specs.RefutationFaults.{IsGivenSum, sum_of_bounds}
 use Rattle.worlds.proofs.TrueTests.{if_ok, if_err}
 use Rattle.worlds.proofs.RefutationLaws.{sum_law, given_law}
 use Rattle.worlds.proofs.WideFaults.{only_wide, wide_where}
@@ -14,5 +14,5 @@ returns-clause-given c =
     (given_law c.args.system.now c.args.cells.now c.args.hidden.now.flags c.args.cell c.args.side c.args.multipliers.now c.requires.asked)
 
 pub returns-clause-wide : goal.returns-clause-wide
-returns-clause-wide c = if_err c.first_sum.result (λ found is positive listed bounded. wide_where (summed c.args.system.now c.args.cells.now c.args.hidden.now.flags c.args.cell c.args.side c.args.multipliers.now) found (sym c.first_sum.ensures.exact ∙ is)
+returns-clause-wide c = if_err c.first_sum.result (λ found is positive listed bounded. wide_where (sum_of_bounds c.args.system.now c.args.cells.now c.args.hidden.now.flags c.args.cell c.args.side c.args.multipliers.now) found (sym c.first_sum.ensures.exact ∙ is)
     (only_wide c.args.system.now c.args.cells.now c.args.hidden.now.flags c.args.cell c.args.side c.args.multipliers.now c.requires.asked positive listed bounded))

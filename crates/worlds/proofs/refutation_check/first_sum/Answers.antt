@@ -2,8 +2,8 @@ use Rattle.std.proofs.Common.{◌≡◌, ◌∙◌, ℕ, sym, length, to_z, of_z
 use Rattle.std.specs.Int.{w128}
 use Rattle.std.proofs.lemmas.Int.{to_z-of_z}
 use Rattle.sdc_base.specs.Forms.{coefficient}
-use Rattle.worlds.specs.Gathered.{at}
-use Rattle.worlds.specs.RefutationFaults.{added}
+use Rattle.worlds.specs.BoundedNumbers.{number_at}
+use Rattle.worlds.specs.RefutationFaults.{terms_added}
 use Rattle.worlds.proofs.TrueTests.{on_ok}
 use Rattle.worlds.proofs.RefutationLaws.{added_up}
 use Rattle.worlds.proofs.Lists.{listed_where_none}
@@ -20,5 +20,5 @@ sum_shares-requires-clause-few c =
 pub returns-clause-coefficients : goal.returns-clause-coefficients
 returns-clause-coefficients c =
     let den : FitsSigned w128 c.args.multipliers.now.den = search rules in
-    on_ok ((number : ℕ) → at c.gather.new.numbers number ≡ coefficient (added c.args.pattern.now.system.now c.args.cell c.args.side c.args.multipliers.now) number) c.sum_shares.result
+    on_ok ((number : ℕ) → number_at c.gather.new.numbers number ≡ coefficient (terms_added c.args.pattern.now.system.now c.args.cell c.args.side c.args.multipliers.now) number) c.sum_shares.result
     (added_up c.args.pattern.now.system.now c.args.cell c.args.side c.args.multipliers.now (length c.args.scratch.now) c.as_slice-relations.result.now (to_z w128 (of_z w128 c.args.multipliers.now.den)) c.as_slice-listed.result.now c.gather.new.numbers c.requires.asked c.requires.scratch (search rules) (to_z-of_z w128 c.args.multipliers.now.den den) (search rules) c.in_ok-gather.ensures.ok)

@@ -1,8 +1,8 @@
 use Rattle.std.proofs.Common.{◌≡◌, ◌∙◌, ap, sym, length, FitsSigned, Ok, rules}
 use Rattle.std.specs.Int.{w128}
 use Rattle.std.proofs.lemmas.Int.{to_z-of_z}
-use Rattle.worlds.specs.Gathered.{at}
-use Rattle.worlds.specs.Listed.{terms_of}
+use Rattle.worlds.specs.BoundedNumbers.{number_at}
+use Rattle.worlds.specs.NumberLists.{terms_of}
 use Rattle.worlds.specs.WorldFaults.{moves_fault, relations_fault}
 use Rattle.worlds.proofs.WorldLaws.{moves_inside, fault_behind_moves}
 use Rattle.worlds.proofs.world_check.first_fault.Goals as goal
@@ -20,5 +20,5 @@ returns-clause-exact c =
     let told = simp to_z-of_z at c.in_ok-check_moves.ensures in
     let kept : moves_fault c.args.pattern.now.cells.now c.args.pattern.now.hidden.now.flags c.args.world.now.den (terms_of c.as_slice-moves.result.now) ≡ Ok tt = sym told in
     c.check_relations.ensures
-    ∙ ap (λ rs. relations_fault (at c.write_moves.new.numbers) 0 rs) c.as_slice.ensures
+    ∙ ap (λ rs. relations_fault (number_at c.write_moves.new.numbers) 0 rs) c.as_slice.ensures
     ∙ fault_behind_moves c.args.pattern.now.system.now c.args.pattern.now.cells.now c.args.pattern.now.hidden.now.flags c.args.world.now c.as_slice-moves.result.now c.write_moves.new.numbers c.as_slice-moves.ensures positive (sym c.misplaced_move.ensures ∙ c.in_default.is) kept c.write_moves.ensures.each

@@ -2,8 +2,8 @@ use Rattle.std.proofs.Common.{rules, ◌≡◌, ◌∙◌, ◌<◌, ap, sym, ari
 use Rattle.std.proofs.lemmas.Option.{slice_get_within}
 use Rattle.sdc_base.specs.Records.{Name}
 use Rattle.sdc_base.specs.Places.{first_place}
-use Rattle.linked_tables.specs.Held.{Held}
-use Rattle.linked_tables.specs.Shared.{cells, number_of}
+use Rattle.linked_tables.specs.BookViews.{BookView}
+use Rattle.linked_tables.specs.BookCells.{cells, number_of}
 use Rattle.linked_tables.proofs.Guessing.{guessed}
 use Rattle.linked_tables.proofs.book.Book.guess.Goals as goal
 
@@ -14,12 +14,12 @@ returns-clause-number c =
     let at : slice_get s.names c.in_ok-number.number.now ≡ Some c.in_ok-other.other.now = sym c.in_ok-other.ensures in
     let eq : c.as_slice.result.now ≡ c.as_slice-2.result.now = search rules in
     let same : c.in_ok-other.other.now ≡ name = sym c.as_slice.ensures ∙ eq ∙ c.as_slice-2.ensures ∙ c.as_place.ensures in
-    ap (λ (book : Held). number_of book name) (sym c.self.view_is) ∙ guessed s.trees.items s.tables.items s.names c.in_ok-number.number.now name c.in_ok-other.other.now c.self.invariant.numbered.named at same
+    ap (λ (book : BookView). number_of book name) (sym c.self.view_is) ∙ guessed s.trees.items s.tables.items s.names c.in_ok-number.number.now name c.in_ok-other.other.now c.self.invariant.numbered.named at same
 
 pub returns-clause-within : goal.returns-clause-within
 returns-clause-within c =
     let s = c.self.inside in
     let at : slice_get s.names c.in_ok-number.number.now ≡ Some c.in_ok-other.other.now = sym c.in_ok-other.ensures in
     let below = slice_get_within s.names c.in_ok-number.number.now c.in_ok-other.other.now at in
-    let marks : length s.marks.items ≡ length c.args.self.now.marks = ap (λ (book : Held). length book.marks) c.self.view_is in
+    let marks : length s.marks.items ≡ length c.args.self.now.marks = ap (λ (book : BookView). length book.marks) c.self.view_is in
     omega (arith, below, c.self.invariant.one_each, marks)

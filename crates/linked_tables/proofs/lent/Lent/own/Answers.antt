@@ -1,5 +1,5 @@
 use Rattle.std.proofs.Common.{arith, refl, ◌∙◌, ◌≤◌, ◌+◌}
-use Rattle.linked_tables.specs.Shared.{first_own}
+use Rattle.linked_tables.specs.BookCells.{first_own}
 use Rattle.linked_tables.proofs.CellLists.{starts-rise}
 use Rattle.linked_tables.proofs.lent.Lent.own.Goals as goal
 

@@ -2,7 +2,7 @@ use Rattle.std.proofs.Common.{pos, ℕ, ◌≡◌, ◌∙◌, ap, sym, List, ◌
 use Rattle.std.proofs.lemmas.List.{take_all}
 use Rattle.std.proofs.lemmas.List.Sorted.{IsPermutation-append, IsPermutation-trans}
 use Rattle.sdc_base.specs.declared.tops.Unit.{Unit as Contribution}
-use Rattle.sdc_base.specs.Largest.{placed, ranked}
+use Rattle.sdc_base.specs.Largest.{with_contribution, ranking_of}
 use Rattle.sdc_base.proofs.Joining.{joined_kept, joined_next, ranked_moves}
 use Rattle.sdc_base.proofs.tops.Tops.join.Goals as goal
 
@@ -20,12 +20,12 @@ returns-clause-tells c = λ units more one other.
     let long = ap (λ (us : List Contribution). length us) c.as_slice-unit-items.ensures in
     let whole : take c.units.unit-index c.args.other.now.list ≡ c.args.other.now.list = take_all c.units.unit-index c.args.other.now.list (omega (arith, long, c.units-test.false)) in
     record {
-      order = one.order ++ ranked other.order;
-      same = IsPermutation-append units one.order more (ranked other.order) one.same (IsPermutation-trans more other.order (ranked other.order) other.same (ranked_moves other.order));
+      order = one.order ++ ranking_of other.order;
+      same = IsPermutation-append units one.order more (ranking_of other.order) one.same (IsPermutation-trans more other.order (ranking_of other.order) other.same (ranked_moves other.order));
       kept =
           c.units.invariant.list
-          ∙ ap (λ (us : List Contribution). take c.args.self.now.keep (fold placed c.args.self.now.list us)) (whole ∙ other.kept)
-          ∙ ap (λ (zs : List Contribution). take c.args.self.now.keep (fold placed zs (take c.args.other.now.keep (ranked other.order)))) one.kept
+          ∙ ap (λ (us : List Contribution). take c.args.self.now.keep (fold with_contribution c.args.self.now.list us)) (whole ∙ other.kept)
+          ∙ ap (λ (zs : List Contribution). take c.args.self.now.keep (fold with_contribution zs (take c.args.other.now.keep (ranking_of other.order)))) one.kept
           ∙ joined_kept c.args.self.now.keep c.args.other.now.keep one.order other.order c.requires.keep
-          ∙ ap (λ (k : ℕ). take k (ranked (one.order ++ ranked other.order))) (sym c.units.invariant.keep);
+          ∙ ap (λ (k : ℕ). take k (ranking_of (one.order ++ ranking_of other.order))) (sym c.units.invariant.keep);
     }

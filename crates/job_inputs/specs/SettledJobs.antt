@@ -1,0 +1,71 @@
+-- The inputs of a job with its cells settled, or the first fault of all (own).
+use Rattle.std.specs.Prelude.{◌≡◌, ◌<◌, ◌^◌, ◌||◌, ℕ, Bool, List, length, map, Result, Ok, Err, IsOkAnd, All}
+use Rattle.std.specs.List.{list_any}
+use Rattle.std.specs.Str.{bytes_eq}
+use Rattle.sdc_base.specs.Answers.{Fails}
+use Rattle.sdc_base.specs.Steps.{◌>>=◌, map_fault, refuse}
+use Rattle.apriori.specs.Settling.{SettledCell, view_of_cell, settle_of, HasLevelsInRange}
+use Rattle.apriori.specs.declared.prior.Prior.{Prior}
+use Rattle.linked_tables.specs.BookCells.{cells as cells_in}
+use Rattle.linked_tables.specs.Tables.{book_of}
+use Rattle.job_lang.specs.declared.job.Job.{Job}
+use Rattle.office_io.specs.Files.{Files}
+use Rattle.job_inputs.specs.Cells.{figures, cells_fault, prior_fault}
+use Rattle.job_inputs.specs.Inputs.{inputs_of}
+use Rattle.job_inputs.specs.Reading.{stopped_for}
+use Rattle.job_inputs.specs.SoundJobs.{IsSound}
+use Rattle.job_inputs.specs.PriorStatements.{priors_of}
+use Rattle.job_inputs.specs.TabulatedBooks.{IsBookOf, IsReadyFor}
+use Rattle.job_inputs.specs.declared.faults.Fault.{Fault}
+use Rattle.job_inputs.specs.declared.faults.Fault.TheVariants as fault
+use Rattle.job_inputs.specs.declared.inputs.Inputs.{Inputs}
+use Rattle.job_inputs.specs.declared.purpose.Purpose.{Purpose}
+use Rattle.job_inputs.specs.declared.settled.SettledJob.{SettledJob}
+use Rattle.job_inputs.specs.declared.stop.InputStop.{InputStop}
+
+-- what the files of a job hold, what its a priori files state of each cell, and what each cell is to its protection
+pub record SettledInputs : Type 0 where
+  pub inputs : Inputs
+  pub priors : List Prior
+  pub cells : List SettledCell
+
+-- the certificate or an output has the name of the job's file
+abbrev pub overwrites_job : List ℕ → Job → Bool
+overwrites_job name job = bytes_eq job.certificate name || list_any (λ output. bytes_eq output.file name) job.outputs
+
+-- All that a job's files come to, read for this purpose, before anything is protected, or the first fault: those of the
+-- input files, then too many cells, then those of the a priori files by table, then a primary cell that is to be always
+-- shown, and then a job that would overwrite itself.
+unfoldable pub settled_of : Purpose → Files → List ℕ → Result SettledInputs Fault
+settled_of purpose files name = do
+  inputs ← inputs_of purpose files name
+  linked ← map_fault cells_fault (book_of inputs.records.trees inputs.described.bound.tables)
+  priors ← priors_of files inputs
+  cells ← map_fault prior_fault (settle_of inputs.described.job.rules (figures inputs) priors)
+  fine ← refuse fault.OutName (overwrites_job name inputs.described.job)
+  Ok (record { inputs = inputs; priors = priors; cells = cells })
+
+-- the job, its book with its records, its cells, and how many records there are and were skipped are those of the
+-- inputs
+pub record IsSettledOf (settled : SettledInputs) (job : SettledJob) : Type 0 where
+  pub described : job.described ≡ settled.inputs.described
+  pub book : IsBookOf settled.inputs job.book
+  pub cells : map view_of_cell job.cells ≡ settled.cells
+  pub records : job.records ≡ length settled.inputs.records.rows
+  pub skipped : job.skipped ≡ settled.inputs.records.skipped
+
+-- the answer is a job whose inputs are these, or the first fault, want of memory and faults of the shelf aside
+abbrev pub AreSettled : Result SettledJob InputStop → Result SettledInputs Fault → Type 0
+AreSettled (Ok job) meant = IsOkAnd meant (λ settled. IsSettledOf settled job)
+AreSettled (Err stop) meant = Fails (stopped_for stop) meant
+
+-- The job is within its limits, and its book has a mark and a settled cell for each cell, with the same truths, and is
+-- ready for what a release wants of it.
+pub record IsReadyJob (job : SettledJob) : Type 0 where
+  pub sound : IsSound job.described
+  pub book : IsReadyFor job.described job.book
+  pub one_each : length job.book.marks ≡ length (cells_in job.book)
+  pub settled : length job.cells ≡ length job.book.marks
+  pub levels : All HasLevelsInRange job.cells
+  pub truths : map (λ mark. mark.facts.truth) job.book.marks ≡ map (λ cell. cell.truth) job.cells
+  pub few : length job.cells < 2 ^ 32

@@ -1,0 +1,43 @@
+-- What holds of a job that was read with its metadata and its records (own).
+use Rattle.std.specs.Prelude.{◌≡◌, ℕ, ◌≤◌, List, length}
+use Rattle.std.specs.List.{AllByRecursion}
+use Rattle.sdc_base.specs.Trees.{Tree, IsCodeTree}
+use Rattle.sdc_base.specs.declared.rows.Row.{Row}
+use Rattle.rda_meta.specs.Limits.{IsMeta}
+use Rattle.job_lang.specs.BoundLimits.{IsBound}
+use Rattle.job_lang.specs.JobLimits.{IsJob}
+use Rattle.job_lang.specs.Binding.{places_of}
+use Rattle.microdata.specs.Leaves.{AreLeaves}
+use Rattle.microdata.specs.Ranges.{IsRow}
+use Rattle.microdata.specs.declared.records.Records.{Records}
+use Rattle.job_inputs.specs.declared.described.Described.{Described}
+use Rattle.job_inputs.specs.declared.inputs.Inputs.{Inputs}
+
+-- the job, the metadata and the places of the job's variables are within their limits
+pub record IsSound (described : Described) : Type 0 where
+  pub job : IsJob described.job
+  pub meta : IsMeta described.meta
+  pub bound : IsBound described.job described.meta.variables described.bound
+  pub places : described.bound ≡ places_of described.job described.meta.variables
+
+-- at most a million records, each of these trees and within its limits
+pub record AreRows (trees : List Tree) (scale : ℕ) (rows : List Row) : Type 0 where
+  pub few : length rows ≤ 1000000
+  pub each : AllByRecursion (IsRow scale trees) rows
+
+-- no record has a code with others below it in its tree
+abbrev pub AreAtLeaves : Records → Type 0
+AreAtLeaves records = AllByRecursion (λ row. AreLeaves records.trees row.codes) records.rows
+
+-- The records have a code tree for each spanning variable, there are at most a million, each is within its limits, and
+-- their codes have none below them.
+pub record AreRecords (spanning scale : ℕ) (records : Records) : Type 0 where
+  pub as_many : length records.trees ≡ spanning
+  pub trees : AllByRecursion IsCodeTree records.trees
+  pub rows : AreRows records.trees scale records.rows
+  pub leaves : AreAtLeaves records
+
+-- all that was read is within its limits
+pub record AreSound (inputs : Inputs) : Type 0 where
+  pub described : IsSound inputs.described
+  pub records : AreRecords (length inputs.described.bound.spanning) inputs.described.bound.scale inputs.records
