@@ -5,7 +5,7 @@ use Rattle.std.specs.Option.{option_map_or}
 use Rattle.std.proofs.lemmas.Option.{slice_get-get_or}
 use Rattle.sdc_base.specs.Lines.{lines}
 use Rattle.sdc_base.proofs.StepLemmas.{bind_ok}
-use Rattle.sdc_base.specs.Trees.{Tree, children, is_child, parent_at}
+use Rattle.sdc_base.specs.Trees.{Tree, children, is_child}
 use Rattle.sdc_base.specs.declared.rows.Row.{Row}
 use Rattle.hierarchy.specs.Children.{child_from, first_child, is_place}
 use Rattle.hierarchy.proofs.FlatSteps.{drop-at}
@@ -18,7 +18,7 @@ use Rattle.microdata.specs.Leaves.{AreLeaves, RowsAreAtLeaves}
 use Rattle.microdata.specs.declared.closing.Closed.{Closed}
 use Rattle.microdata.specs.declared.faults.RowWhy.{RowWhy}
 use Rattle.microdata.specs.declared.faults.RowWhy.TheVariants.{NotLeaf}
-use Rattle.microdata.specs.declared.record.Kept.{Kept as KeptRow}
+use Rattle.microdata.specs.KeptRows.{Kept as KeptRow}
 use Rattle.microdata.specs.declared.record.Variable.{Variable}
 use Rattle.microdata.specs.declared.records.Records.{Records}
 use Rattle.microdata.proofs.Kept.{value_of_ok, Fit, IsKept, lines-good, same-value}

@@ -13,7 +13,7 @@ use Rattle.sdc_base.specs.Trees.{Tree, find}
 use Rattle.sdc_base.specs.declared.number_fault.NumberFault.{NumberFault}
 use Rattle.hierarchy.specs.Levels.{boundaries, prefixes, with_prefixes}
 use Rattle.microdata.specs.Faults.{at_record}
-use Rattle.microdata.specs.Fields.{field, number_below, number_of, value_of, weight_of, scale_of, is_negative, has_no_response}
+use Rattle.microdata.specs.Fields.{field, number_below, number_of, value_in, value_of, weight_of, scale_of, is_negative, has_no_response}
 use Rattle.microdata.specs.OneRecord.{variable_says, variables_say, response_says, record_says, line_says, lines_say, with_row, with_skipped}
 use Rattle.microdata.specs.SeenCodes.{is_above, listed_place, with_level_code, with_flat_code, known_or_new, with_code}
 use Rattle.microdata.specs.declared.faults.RowWhy.{RowWhy}
@@ -23,7 +23,7 @@ use Rattle.microdata.specs.declared.layout.Measures.{Measures}
 use Rattle.microdata.specs.declared.layout.NumberField.{NumberField}
 use Rattle.microdata.specs.declared.layout.Source.{Source}
 use Rattle.microdata.specs.declared.layout.Source.TheVariants as source
-use Rattle.microdata.specs.declared.record.Kept.{Kept as KeptRow}
+use Rattle.microdata.specs.KeptRows.{Kept as KeptRow}
 use Rattle.microdata.specs.declared.record.SoFar.{SoFar}
 use Rattle.microdata.specs.declared.record.Variable.{Variable}
 use Rattle.microdata.specs.declared.taking.Seen.{Seen}
@@ -192,7 +192,7 @@ below-within limit n (Ok (pos k)) h = by (nat_lt k limit) refl h
     by false is e = cc
 
 value-within : (response : NumberField) (line : List ℕ) (value : ℕ) → value_of response line ≡ Ok value → value < 10 ^ 15
-unfolding value_of
+unfolding value_in
 value-within response line value h =
     let a = passed Negative (is_negative (field response.first response.width line)) _ value h in
     below-within (10 ^ 15) value (read_units (field response.first response.width line) response.decimals) a.1

@@ -5,6 +5,7 @@ pub mod LevelCodes
 pub mod FlatCodes
 pub mod VariableSteps
 pub mod TreesMade
+pub mod RowsPlaced
 pub mod FeedLines
 pub mod Cuts
 pub mod SeenFirst

@@ -16,7 +16,7 @@ use Rattle.microdata.specs.declared.closing.Closed.{Closed}
 use Rattle.microdata.specs.declared.faults.RowWhy.{RowWhy}
 use Rattle.microdata.specs.declared.faults.RowWhy.TheVariants.{TooLong, TooMany, Short}
 use Rattle.microdata.specs.declared.layout.Measures.{Measures}
-use Rattle.microdata.specs.declared.record.Kept.{Kept as KeptRow}
+use Rattle.microdata.specs.KeptRows.{Kept as KeptRow}
 use Rattle.microdata.specs.declared.record.SoFar.{SoFar}
 use Rattle.microdata.specs.declared.records.Records.{Records}
 use Rattle.microdata.proofs.Kept.{value_of_ok, same-value}

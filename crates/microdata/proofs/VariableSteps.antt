@@ -35,8 +35,8 @@ unfolding variables_say
 fronts_end front places rest line none = rw (none, append-nil front, append-nil places) refl
 
 -- what stands at a place and behind it
-pub at_place : (variables : List Variable) (k : ℕ) (variable : Variable) → k < length variables → variable ≡ get_or variables k variable → drop k variables ≡ variable ∷ drop (k + 1) variables
-at_place variables k variable inside is = drop-cons variables k variable inside ∙ ap (λ (v : Variable). v ∷ drop (suc k) variables) (sym is) ∙ ap (λ n. variable ∷ drop n variables) (sym (add-one k))
+pub at_place : {A : Type 0} (items : List A) (k : ℕ) (item : A) → k < length items → item ≡ get_or items k item → drop k items ≡ item ∷ drop (k + 1) items
+at_place {A} items k item inside is = drop-cons items k item inside ∙ ap (λ (x : A). x ∷ drop (suc k) items) (sym is) ∙ ap (λ n. item ∷ drop n items) (sym (add-one k))
 
-pub past_end : (variables : List Variable) (k : ℕ) → length variables ≤ k → drop k variables ≡ []
-past_end variables k h = drop_all k variables h
+pub past_end : {A : Type 0} (items : List A) (k : ℕ) → length items ≤ k → drop k items ≡ []
+past_end items k h = drop_all k items h

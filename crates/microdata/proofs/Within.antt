@@ -21,7 +21,7 @@ use Rattle.microdata.specs.declared.faults.RowWhy.TheVariants.{NotLeaf}
 use Rattle.microdata.specs.declared.layout.Field.{Field}
 use Rattle.microdata.specs.declared.layout.Source.{Source}
 use Rattle.microdata.specs.declared.layout.Source.TheVariants as source
-use Rattle.microdata.specs.declared.record.Kept.{Kept as KeptRow}
+use Rattle.microdata.specs.KeptRows.{Kept as KeptRow}
 use Rattle.microdata.specs.declared.record.Variable.{Variable}
 use Rattle.microdata.specs.declared.taking.Seen.{Seen}
 use Rattle.microdata.proofs.Kept.{value_of_ok, find-within, bound, bound_of, Fit, IsKept, lines-good, same-value}

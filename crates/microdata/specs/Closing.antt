@@ -7,12 +7,12 @@ use Rattle.sdc_base.specs.declared.rows.Row.{Row}
 use Rattle.hierarchy.specs.Children.{first_child}
 use Rattle.hierarchy.specs.Levels.{boundaries, tree_of_codes}
 use Rattle.microdata.specs.Faults.{at_record}
+use Rattle.microdata.specs.KeptRows.{Kept}
 use Rattle.microdata.specs.declared.closing.Closed.{Closed}
 use Rattle.microdata.specs.declared.faults.RowWhy.{RowWhy}
 use Rattle.microdata.specs.declared.faults.RowWhy.TheVariants.{NotLeaf}
 use Rattle.microdata.specs.declared.layout.Source.{Source}
 use Rattle.microdata.specs.declared.layout.Source.TheVariants as source
-use Rattle.microdata.specs.declared.record.Kept.{Kept}
 use Rattle.microdata.specs.declared.record.Variable.{Variable}
 use Rattle.microdata.specs.declared.taking.Seen.{Seen}
 

@@ -25,21 +25,31 @@ number_below limit (Err fault) = Err BadNumber
 number_below limit (Ok (pos n)) = if nat_lt n limit then Ok n else Err BadNumber
 number_below limit (Ok (negsuc n)) = Err BadNumber
 
+-- the number in a text, in units of so many decimals, below a limit
+abbrev pub number_in : ℕ → ℕ → List ℕ → Result ℕ RowWhy
+number_in limit decimals text = number_below limit (read_units text decimals)
+
 -- the number of a field, in its units, below a limit
 abbrev pub number_of : ℕ → NumberField → List ℕ → Result ℕ RowWhy
-number_of limit number line = number_below limit (read_units (field number.first number.width line) number.decimals)
+number_of limit number line = number_in limit number.decimals (field number.first number.width line)
+
+-- there is no response in a text: it is blank or a missing code
+abbrev pub has_no_response_in : NumberField → List ℕ → Bool
+has_no_response_in response text = (length text == 0) || list_any (bytes_eq text) response.missing
 
 -- there is no response: its field is blank or has a missing code
 abbrev pub has_no_response : NumberField → List ℕ → Bool
-has_no_response response line =
-    let text = field response.first response.width line in
-    (length text == 0) || list_any (bytes_eq text) response.missing
+has_no_response response line = has_no_response_in response (field response.first response.width line)
 
--- the response in units: not negative, and below 10^15
-unfoldable pub value_of : NumberField → List ℕ → Result ℕ RowWhy
-value_of response line = do
-  sign ← refuse Negative (is_negative (field response.first response.width line))
-  number_of (10 ^ 15) response line
+-- the response in a text, in units: not negative, and below 10^15
+unfoldable pub value_in : NumberField → List ℕ → Result ℕ RowWhy
+value_in response text = do
+  sign ← refuse Negative (is_negative text)
+  number_in (10 ^ 15) response.decimals text
+
+-- the response in its field
+abbrev pub value_of : NumberField → List ℕ → Result ℕ RowWhy
+value_of response line = value_in response (field response.first response.width line)
 
 -- one, in steps of the weight
 abbrev pub scale_of : Option NumberField → ℕ

@@ -2,6 +2,7 @@ pub mod Faults
 pub mod Fields
 pub mod Layouts
 pub mod SeenCodes
+pub mod KeptRows
 pub mod OneRecord
 pub mod Closing
 pub mod Microdata

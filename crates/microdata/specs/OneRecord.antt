@@ -6,10 +6,10 @@ use Rattle.microdata.specs.declared.faults.RowWhy.TheVariants.{TooLong, TooMany,
 use Rattle.microdata.specs.declared.layout.Layout.{Layout}
 use Rattle.microdata.specs.declared.layout.Measures.{Measures}
 use Rattle.microdata.specs.declared.record.Variable.{Variable}
-use Rattle.microdata.specs.declared.record.Kept.{Kept}
 use Rattle.microdata.specs.declared.record.SoFar.{SoFar}
 use Rattle.microdata.specs.Faults.{at_record}
 use Rattle.microdata.specs.Fields.{field, has_no_response, value_of, weight_of}
+use Rattle.microdata.specs.KeptRows.{Kept}
 use Rattle.microdata.specs.SeenCodes.{with_code, seen_first}
 
 -- a variable with the code of one more record, and where that stands

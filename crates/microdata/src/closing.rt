@@ -9,13 +9,15 @@ ghost use Rattle.microdata.specs.Closing.{closed_of, tree_of, places_in};
 ghost use Rattle.microdata.specs.Closing as closing;
 ghost use Rattle.microdata.specs.Faults.{fault_of, why_of, at_record};
 ghost use Rattle.microdata.specs.Keeping.{AreSeen, IsSound, IsVariable};
+ghost use Rattle.microdata.specs.KeptRows.{kept_of};
 ghost use Rattle.microdata.specs.Layouts.{IsSource};
 ghost use Rattle.microdata.specs.Microdata.{closed_records};
 
 use crate::ascending::Ascending;
 use crate::faults::{RecordError, RowError, RowWhy, error_at};
+use crate::kept_rows::KeptRows;
 use crate::layout::Source;
-use crate::record::{Kept, SoFar, Variable, Variables};
+use crate::record::{SoFar, Variable, Variables};
 use crate::records::Records;
 use crate::taking::Seen;
 use arrayvec::ArrayVec;
@@ -42,7 +44,7 @@ pub(crate) fn close(alloc: Global, so_far: SoFar) -> Result<Records, RowError>
     ensures trees { IfOk result (λ records. AllByRecursion IsCodeTree records.trees) }
 {
     let closed = closed_variables(alloc, so_far.variables)?;
-    let rows = rows_of(alloc, closed.as_slice(), so_far.rows)?;
+    let rows = rows_of(closed.as_slice(), so_far.rows)?;
     let trees = trees_of(alloc, closed)?;
     Ok(Records {
         trees,
@@ -131,43 +133,35 @@ fn trees_of(alloc: Global, closed: Items<Closed>) -> Result<Items<CodeTree>, Mem
     Ok(trees)
 }
 
-// The records with the places of their codes, or the first one with a code that has others below it.
-#[tactic(auto, unfolding(crate::specs::Closing::rows_of))]
-fn rows_of(alloc: Global, closed: &[Closed], kept: Items<Kept>) -> Result<Items<Row>, RowError>
+// The rows with the places of their codes, which are written where their numbers stood, or the first one with a code
+// that has others below it.
+fn rows_of(closed: &[Closed], kept: KeptRows) -> Result<Items<Row>, RowError>
     requires few { length closed.now ≤ 8 }
     ensures { Gives fault_of (λ rows. rows) result (closing.rows_of closed.now kept) }
 {
-    let mut rows = Items::empty(alloc);
-    'kept: for one in kept.into_vec() {
-        rows.push(row_at(closed, &one)?)?;
+    let (numbers, mut rows) = kept.into_parts();
+    let mut k = 0;
+    'rows: while k < rows.len() {
+        place_codes(closed, numbers[k], &mut rows[k])?;
+        k += 1;
     }
-    Ok(rows)
+    Ok(Items::new(rows))
 }
 
-// A record with the places of its codes, or its fault with its number.
-#[tactic(auto, using(crate::proofs::FaultsAt::fails_at))]
-fn row_at(closed: &[Closed], kept: &Kept) -> Result<Row, RowError>
+// Writes the places of a row's codes where their numbers stand, or gives its fault with the number of its record.
+#[tactic(auto, unfolding(crate::specs::Closing::row_of), using(crate::proofs::RowsPlaced::fails_placed))]
+fn place_codes(closed: &[Closed], number: u32, row: &mut Row) -> Result<(), RowError>
     requires few { length closed.now ≤ 8 }
-    ensures { Gives fault_of (λ row. row) result (at_record kept.now.number (closing.row_of closed.now kept.now)) }
+    ensures { Gives fault_of (λ _. row.new) result
+        (at_record number (closing.row_of closed.now (kept_of number row.old))) }
 {
-    match row_of(closed, kept) {
-        Ok(row) => Ok(row),
-        Err(error) => Err(error_at(kept.number, error)),
+    match leaves_of(closed, row.codes.as_slice()) {
+        Ok(places) => {
+            row.codes = places;
+            Ok(())
+        }
+        Err(error) => Err(error_at(u64::from(number), error)),
     }
-}
-
-// A record with the places of its codes.
-#[tactic(auto, unfolding(crate::specs::Closing::row_of))]
-fn row_of(closed: &[Closed], kept: &Kept) -> Result<Row, RecordError>
-    requires few { length closed.now ≤ 8 }
-    ensures { Gives why_of (λ row. row) result (closing.row_of closed.now kept.now) }
-{
-    let codes = leaves_of(closed, kept.places.as_slice())?;
-    Ok(Row {
-        codes,
-        value: kept.value,
-        weight: kept.weight,
-    })
 }
 
 // The places of a record's codes, where no others stand below them.

@@ -7,6 +7,7 @@ mod codes;
 mod faults;
 mod feeding;
 mod fields;
+mod kept_rows;
 mod laws;
 mod layout;
 mod numbers;

@@ -18,12 +18,10 @@ const TOO_LARGE: u64 = 1_000_000_000_000_000;
 // The first weight that is too large, in steps.
 const TOO_HEAVY: u64 = 100_000_000;
 
-/// Whether a record has no response: its field is blank or has a missing code.
-pub(crate) fn has_no_response(response: &NumberField, line: &[u8]) -> bool
-    requires number { IsNumber (length line.now) 9 response.now }
-    ensures { result ≡ spec.has_no_response response.now line.now }
+/// Whether there is no response in the text of its field: it is blank or a missing code.
+pub(crate) fn has_no_response_in(response: &NumberField, text: &[u8]) -> bool
+    ensures { result ≡ spec.has_no_response_in response.now text.now }
 {
-    let text = field(response.first, response.width, line);
     if text.is_empty() {
         return true;
     }
@@ -37,18 +35,18 @@ fn is_among(text: &[u8], codes: &[Text]) -> bool
     codes.iter().any(|code| text == code.as_slice())
 }
 
-/// The response of a record, in units.
-#[tactic(auto, unfolding(crate::specs::Fields::value_of))]
-pub(crate) fn value_of(response: &NumberField, line: &[u8]) -> Result<u64, RecordError>
-    requires number { IsNumber (length line.now) 9 response.now }
-    requires few { length line.now ≤ 1000 }
-    ensures value { Gives why_of (λ value. value) result (spec.value_of response.now line.now) }
+/// The response in the text of its field, in units.
+#[tactic(auto, unfolding(crate::specs::Fields::value_in))]
+pub(crate) fn value_in(response: &NumberField, text: &[u8]) -> Result<u64, RecordError>
+    requires decimals { response.now.decimals ≤ 9 }
+    requires few { length text.now ≤ 1000 }
+    ensures value { Gives why_of (λ value. value) result (spec.value_in response.now text.now) }
     ensures small { IfOk result (λ value. value < 10 ^ 15) }
 {
-    if is_negative(field(response.first, response.width, line)) {
+    if is_negative(text) {
         return Err(RecordError::Fault(RowWhy::Negative));
     }
-    number_of(TOO_LARGE, response, line)
+    number_in(TOO_LARGE, response.decimals, text)
 }
 
 // Whether the bytes begin with a minus.
@@ -81,7 +79,8 @@ fn steps_of(weight: &NumberField, line: &[u8]) -> Result<u32, RecordError>
     requires few { length line.now ≤ 1000 }
     ensures { Gives why_of (λ steps. steps) result (spec.weight_of (Some weight.now) line.now) }
 {
-    let steps = number_of(TOO_HEAVY, weight, line)?;
+    let text = field(weight.first, weight.width, line);
+    let steps = number_in(TOO_HEAVY, weight.decimals, text)?;
     if steps < scale_of(weight.decimals) {
         return Err(RecordError::Fault(RowWhy::LightWeight));
     }
@@ -96,14 +95,14 @@ fn scale_of(decimals: u8) -> u64
     10_u64.pow(u32::from(decimals))
 }
 
-// The number of a field in its units, below a limit.
-fn number_of(limit: u64, number: &NumberField, line: &[u8]) -> Result<u64, RecordError>
-    requires number { IsNumber (length line.now) 9 number.now }
-    requires few { length line.now ≤ 1000 }
-    ensures value { Gives why_of (λ value. value) result (spec.number_of limit number.now line.now) }
+// The number in a text, in units of so many decimals, below a limit.
+fn number_in(limit: u64, decimals: u8, text: &[u8]) -> Result<u64, RecordError>
+    requires decimals { decimals ≤ 9 }
+    requires few { length text.now ≤ 1000 }
+    ensures value { Gives why_of (λ value. value) result (spec.number_in limit decimals text.now) }
     ensures small { IfOk result (λ value. value < limit) }
 {
-    let Ok(units) = read_units(field(number.first, number.width, line), number.decimals) else {
+    let Ok(units) = read_units(text, decimals) else {
         return Err(RecordError::Fault(RowWhy::BadNumber));
     };
     if units >= i128::from(limit) {

@@ -19,6 +19,7 @@ use crate::closing::close;
 use crate::codes::Codes;
 use crate::faults::RowError;
 use crate::feeding::take_bytes;
+use crate::kept_rows::KeptRows;
 use crate::layout::{Field, Layout, Measures, Source};
 use crate::record::{SoFar, Variable, Variables, take_line};
 use crate::records::Records;
@@ -73,7 +74,7 @@ impl Reader {
             },
             so_far: SoFar {
                 variables: Variables::new(variables),
-                rows: Items::empty(alloc),
+                rows: KeptRows::empty(alloc),
                 number: 0,
                 skipped: 0,
             },

@@ -1,16 +1,18 @@
 ghost use Rattle.std.specs.Prelude.{◌≡◌, ◌+◌, ◌<◌, ◌≤◌, ◌^◌, All, length, pos, OnOk};
 ghost use Rattle.sdc_base.specs.Answers.{Gives};
 ghost use Rattle.microdata.specs.Faults.{fault_of, why_of, at_record};
+ghost use Rattle.microdata.specs.Fields as spec;
 ghost use Rattle.microdata.specs.Keeping.{IsVariable, IsSound};
 ghost use Rattle.microdata.specs.OneRecord.{line_says, record_says, response_says, variable_says, variables_say, with_skipped};
 
 use crate::faults::{RecordError, RowError, RowWhy, error_at};
 use crate::fields::field;
+use crate::kept_rows::KeptRows;
 use crate::layout::{Field, Measures};
-use crate::numbers::{has_no_response, value_of, weight_of};
+use crate::numbers::{has_no_response_in, value_in, weight_of};
 use crate::taking::{Seen, take_code};
 use arrayvec::ArrayVec;
-use sdc_base::{Few, Items, Memory, Place};
+use sdc_base::{Few, Place, Row};
 use std::alloc::Global;
 use std::marker::Model;
 
@@ -70,21 +72,11 @@ impl Variables {
     }
 }
 
-/// What is kept of a record: its number from 1, where its codes stand among those of each variable, its value in
-/// units, and its weight in steps.
-#[derive(Drop)]
-pub(crate) struct Kept {
-    pub number: u64,
-    pub places: Place,
-    pub value: i64,
-    pub weight: u32,
-}
-
 /// What the records so far say.
 #[derive(Drop)]
 pub(crate) struct SoFar {
     pub variables: Variables,
-    pub rows: Items<Kept>,
+    pub rows: KeptRows,
     pub number: u64,
     pub skipped: u64,
 }
@@ -133,39 +125,43 @@ fn take_record(
     if line.len() < measures.needed as usize {
         return Err(RecordError::Fault(RowWhy::Short));
     }
-    if has_no_response(&measures.response, line) {
+    let text = field(measures.response.first, measures.response.width, line);
+    if has_no_response_in(&measures.response, text) {
         so_far.number += 1;
         so_far.skipped += 1;
         return Ok(());
     }
-    take_response(alloc, measures, so_far, line)
+    take_response(alloc, measures, so_far, text, line)
 }
 
-// Takes in a record with a response.
+// Takes in a record with a response, whose field has this text.
 #[tactic(auto, unfolding(crate::specs::OneRecord::response_says))]
 fn take_response(
     alloc: Global,
     measures: &Measures,
     so_far: &mut SoFar,
+    text: &[u8],
     line: &[u8],
 ) -> Result<(), RecordError>
     requires sound { IsSound measures.now so_far.old }
     requires more { so_far.old.number < 1000000 }
     requires whole { measures.now.needed ≤ length line.now }
     requires few { length line.now ≤ 1000 }
+    requires text { text.now ≡ spec.field measures.now.response.first measures.now.response.width line.now }
+    requires short { length text.now ≤ 1000 }
     ensures said { Gives why_of (λ _. so_far.new) result (response_says measures.now so_far.old line.now) }
     ensures sound { OnOk result (IsSound measures.now so_far.new) }
 {
-    let value = value_of(&measures.response, line)?;
+    let value = value_in(&measures.response, text)?;
     let weight = weight_of(&measures.weight, line)?;
     let places = so_far.variables.take_codes(alloc, measures.needed, line)?;
     so_far.number += 1;
-    so_far.rows.push(Kept {
-        number: so_far.number,
-        places,
+    let row = Row {
+        codes: places,
         value: value as i64,
         weight,
-    })?;
+    };
+    so_far.rows.push(so_far.number as u32, row)?;
     Ok(())
 }
 

@@ -341,6 +341,11 @@ fn records_however_cut(rt: HostRuntime) -> Result<(), Fail> {
             b"B1  1\nA   1\nA1  2\nA   1\n",
             at(2, RowWhy::NotLeaf),
         ),
+        (
+            Shape::Levels,
+            b"T 999\nB1  1\nA   1\nA1  2\n",
+            at(3, RowWhy::NotLeaf),
+        ),
         (Shape::Levels, b"A   1\nA1  2\nA1\n", at(3, RowWhy::Short)),
         // the response before the codes
         (Shape::Levels, b"Tx -1\n", at(1, RowWhy::Negative)),
