@@ -10,13 +10,13 @@ use Rattle.hypercube.specs.LeastLaws.{AreLeast, LeastIsFirst, NoneServes}
 use Rattle.hypercube.proofs.OfferOrder.{before-itself, before-over, before-then}
 
 -- what the best so far, and each offer that serves, has of the first one
-abbrev NotBefore : Offer → Option Offer → Type 0
+abbrev pub NotBefore : Offer → Option Offer → Type 0
 NotBefore first best = ForSome best (λ one. comes_before one first ≡ false)
 
-differ : {b : Bool} → b ≡ true → b ≡ false → ⊥
+pub differ : {b : Bool} → b ≡ true → b ≡ false → ⊥
 differ one other = absurd cc
 
-to-false : (b : Bool) → (b ≡ true → ⊥) → b ≡ false
+pub to-false : (b : Bool) → (b ≡ true → ⊥) → b ≡ false
 to-false true h = absurd (h refl)
 to-false false h = refl
 
@@ -35,17 +35,17 @@ better-back (Some one) x first h =
       )
     ] refl (h (if comes_before x one then x else one) refl)
 
-contains-more : {X : Type 0} (y x : X) (xs : List X) → Contains xs x → Contains (y ∷ xs) x
+pub contains-more : {X : Type 0} (y x : X) (xs : List X) → Contains xs x → Contains (y ∷ xs) x
 contains-more y x xs (k, inside, at) = (suc k, omega (arith, inside), at)
 
-contains-first : {X : Type 0} (x : X) (xs : List X) → Contains (x ∷ xs) x
+pub contains-first : {X : Type 0} (x : X) (xs : List X) → Contains (x ∷ xs) x
 contains-first x xs = (0, omega arith, refl)
 
 -- what is known of the first of a best offer and those of cubes
-record Found (number : List ℕ → Option ℕ) (hidden : ℕ → Bool) (price : ℕ → ℕ) (cells : List Cell) (levels : Levels) (so_far : Option Offer) (cubes : List (List Edge)) (first : Offer) : Type 0 where
-  best : NotBefore first so_far
-  each : AllByRecursion (λ cube. serve cells levels (corners_of number cube) ≡ true → comes_before (offer_of number hidden price cube) first ≡ false) cubes
-  from : (so_far ≡ Some first) ⊎ ((cube : List Edge) × Contains cubes cube × (first ≡ offer_of number hidden price cube) × (serve cells levels (corners_of number cube) ≡ true))
+pub record Found (number : List ℕ → Option ℕ) (hidden : ℕ → Bool) (price : ℕ → ℕ) (cells : List Cell) (levels : Levels) (so_far : Option Offer) (cubes : List (List Edge)) (first : Offer) : Type 0 where
+  pub best : NotBefore first so_far
+  pub each : AllByRecursion (λ cube. serve cells levels (corners_of number cube) ≡ true → comes_before (offer_of number hidden price cube) first ≡ false) cubes
+  pub from : (so_far ≡ Some first) ⊎ ((cube : List Edge) × Contains cubes cube × (first ≡ offer_of number hidden price cube) × (serve cells levels (corners_of number cube) ≡ true))
 
 from-better : (best : Option Offer) (x first : Offer) → better comes_before best x ≡ Some first → (best ≡ Some first) ⊎ (first ≡ x)
 from-better None x first h = inr (let same : x ≡ first = cc in sym same)
@@ -56,7 +56,7 @@ from-better (Some one) x first h =
       | false ↦ λ is. inl (ap Some is)
     ] same
 
-find : (number : List ℕ → Option ℕ) (hidden : ℕ → Bool) (price : ℕ → ℕ) (cells : List Cell) (levels : Levels) (best : Option Offer) (cubes : List (List Edge)) (first : Offer)
+pub find : (number : List ℕ → Option ℕ) (hidden : ℕ → Bool) (price : ℕ → ℕ) (cells : List Cell) (levels : Levels) (best : Option Offer) (cubes : List (List Edge)) (first : Offer)
     → fold (better comes_before) best (offers number hidden price cells levels cubes) ≡ Some first → Found number hidden price cells levels best cubes first
 find number hidden price cells levels best [] first h = record {
   best = λ one is. let same : one ≡ first = cc in subst (λ o. comes_before o first ≡ false) (sym same) (before-itself first);
@@ -96,7 +96,7 @@ some-stays : (one : Offer) (xs : List Offer) → fold (better comes_before) (Som
 some-stays one [] h = absurd cc
 some-stays one (x ∷ xs) h = some-stays (if comes_before x one then x else one) xs h
 
-none-found : (number : List ℕ → Option ℕ) (hidden : ℕ → Bool) (price : ℕ → ℕ) (cells : List Cell) (levels : Levels) (cubes : List (List Edge)) → first_by comes_before (offers number hidden price cells levels cubes) ≡ None → NoneServes number cells levels cubes
+pub none-found : (number : List ℕ → Option ℕ) (hidden : ℕ → Bool) (price : ℕ → ℕ) (cells : List Cell) (levels : Levels) (cubes : List (List Edge)) → first_by comes_before (offers number hidden price cells levels cubes) ≡ None → NoneServes number cells levels cubes
 none-found number hidden price cells levels [] h = tt
 none-found number hidden price cells levels (cube ∷ cubes) h =
     let mine = offer_of number hidden price cube in

@@ -11,3 +11,9 @@ pub mod OfferOrder
 pub mod LeastLaw
 pub mod RisingCorners
 pub mod WholeCubes
+pub mod Members
+pub mod Tied
+pub mod Reordered
+pub mod OwnCorners
+pub mod Leaving
+pub mod Rankings

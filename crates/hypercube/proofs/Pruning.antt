@@ -13,11 +13,11 @@ use Rattle.hypercube.proofs.AllOf.{all-map, all-more}
 use Rattle.hypercube.proofs.SharedCorners.{begin-behind, choices-begin, codes_of, shared-serve, shared-sum}
 
 -- the corners of a cube
-abbrev corners_in : Setting → List Edge → List Corner
+abbrev pub corners_in : Setting → List Edge → List Corner
 corners_in setting cube = corners_of (cell_in setting) cube
 
 -- a cube doesn't serve, or costs more than the best offer so far
-abbrev IsNoBetter : Setting → Option Offer → List Edge → Type 0
+abbrev pub IsNoBetter : Setting → Option Offer → List Edge → Type 0
 IsNoBetter setting best cube =
     (serve setting.cells setting.levels (corners_in setting cube) ≡ false) ⊎ (costs_more best (price_of setting (corners_in setting cube)) ≡ true)
 
@@ -43,7 +43,7 @@ dearer-stays (Some one) offer h = ap (λ b. Some (if b then offer else one)) (la
     later b = rw (less, same) refl
 
 -- such cubes leave the best offer as it is
-none-better : (setting : Setting) (best : Option Offer) (cubes : List (List Edge)) → AllByRecursion (IsNoBetter setting best) cubes → fold (better comes_before) best (offers_of setting cubes) ≡ best
+pub none-better : (setting : Setting) (best : Option Offer) (cubes : List (List Edge)) → AllByRecursion (IsNoBetter setting best) cubes → fold (better comes_before) best (offers_of setting cubes) ≡ best
 none-better setting best [] all = refl
 none-better setting best (cube ∷ cubes) (here, all) =
     let offer : Offer = offer_of (cell_in setting) (is_marked setting.book) (price_in setting.book setting.cells setting.cost) cube in
@@ -57,7 +57,7 @@ none-better setting best (cube ∷ cubes) (here, all) =
     stays best offer (inl h) = absurd cc
     stays best offer (inr h) = dearer-stays best offer h
 
-dearer-more : (best : Option Offer) (price more : ℕ) → price ≤ more → costs_more best price ≡ true → costs_more best more ≡ true
+pub dearer-more : (best : Option Offer) (price more : ℕ) → price ≤ more → costs_more best price ≡ true → costs_more best more ≡ true
 dearer-more None price more h dear = absurd cc
 dearer-more (Some one) price more h dear = grind (arith, nat_tests, h, dear)
 

@@ -31,7 +31,7 @@ puts-sum f corners [] = omega arith
 puts-sum f corners (new ∷ more) = let rest = puts-sum f (with_corner corners new) more in let one = put-sum f corners new in let first = sum_by-cons f new more in omega (arith, rest, one, first)
 
 -- what the corner at a place counts, where there is one
-abbrev counted : (List ℕ → Option ℕ) → (Corner → ℕ) → List ℕ × Bool → ℕ
+abbrev pub counted : (List ℕ → Option ℕ) → (Corner → ℕ) → List ℕ × Bool → ℕ
 counted number f place = option_map_or f (corner_at number place) 0
 
 one-more : (f : Corner → ℕ) (met : Option Corner) (corners : List Corner) → sum_by f (cons_option met corners) ≡ option_map_or f met 0 + sum_by f corners
@@ -43,7 +43,7 @@ found-sum number f [] = refl
 found-sum number f (place ∷ places) =
     one-more f (corner_at number place) (filter_map (corner_at number) places) ∙ ap (λ n. counted number f place + n) (found-sum number f places) ∙ sym (sum_by-cons (counted number f) place places)
 
-corners-sum : (number : List ℕ → Option ℕ) (f : Corner → ℕ) (edges : List Edge) → sum_by f (corners_of number edges) ≡ sum_by (counted number f) (corner_places edges)
+pub corners-sum : (number : List ℕ → Option ℕ) (f : Corner → ℕ) (edges : List Edge) → sum_by f (corners_of number edges) ≡ sum_by (counted number f) (corner_places edges)
 corners-sum number f edges =
     let put = puts-sum f [] (filter_map (corner_at number) (corner_places edges)) in
     let found = found-sum number f (corner_places edges) in
@@ -55,7 +55,7 @@ map-sum : {X Y : Type 0} (g : Y → ℕ) (f : X → Y) (xs : List X) → sum_by 
 map-sum g f [] = refl
 map-sum g f (x ∷ xs) = sum_by-cons g (f x) (map f xs) ∙ ap (λ n. g (f x) + n) (map-sum g f xs) ∙ sym (sum_by-cons (λ x. g (f x)) x xs)
 
-ends-sum : (g : List ℕ × Bool → ℕ) (edge : Edge) (places : List (List ℕ × Bool))
+pub ends-sum : (g : List ℕ × Bool → ℕ) (edge : Edge) (places : List (List ℕ × Bool))
     → sum_by g (map (own_end edge) places ++ map (other_end edge) places) ≡ sum_by (λ place. g (own_end edge place)) places + sum_by (λ place. g (other_end edge place)) places
 ends-sum g edge places =
     let both = sum_by-append g (map (own_end edge) places) (map (other_end edge) places) in
@@ -68,7 +68,7 @@ abbrev pub codes_of : List Edge → List ℕ
 codes_of edges = map (λ edge. edge.code) edges
 
 -- the cell's own place is one of them
-first-place : (g : List ℕ × Bool → ℕ) (edges : List Edge) → g (codes_of edges, true) ≤ sum_by g (corner_places edges)
+pub first-place : (g : List ℕ × Bool → ℕ) (edges : List Edge) → g (codes_of edges, true) ≤ sum_by g (corner_places edges)
 first-place g [] = omega arith
 first-place g (edge ∷ edges) =
     let rest = first-place (λ place. g (own_end edge place)) edges in
@@ -76,11 +76,11 @@ first-place g (edge ∷ edges) =
     omega (arith, rest, both)
 
 -- a place behind which these codes stand
-abbrev followed : List ℕ → List ℕ × Bool → List ℕ × Bool
+abbrev pub followed : List ℕ → List ℕ × Bool → List ℕ × Bool
 followed codes place = (place.0 ++ codes, place.1)
 
 -- and so are those at which all further edges are at their own ends
-begun-sum : (g : List ℕ × Bool → ℕ) (chosen more : List Edge) → sum_by (λ place. g (followed (codes_of more) place)) (corner_places chosen) ≤ sum_by g (corner_places (chosen ++ more))
+pub begun-sum : (g : List ℕ × Bool → ℕ) (chosen more : List Edge) → sum_by (λ place. g (followed (codes_of more) place)) (corner_places chosen) ≤ sum_by g (corner_places (chosen ++ more))
 begun-sum g [] more = let here = first-place g more in omega (arith, here)
 begun-sum g (edge ∷ chosen) more =
     let own = begun-sum (λ place. g (own_end edge place)) chosen more in
@@ -100,10 +100,10 @@ shared-sum number f chosen more =
 -- ---- serving
 
 -- 1 for each that fails the test
-abbrev failure : {X : Type 0} → (X → Bool) → X → ℕ
+abbrev pub failure : {X : Type 0} → (X → Bool) → X → ℕ
 failure test x = if test x then 0 else 1
 
-none-fails : {X : Type 0} (test : X → Bool) (xs : List X) → list_all test xs ≡ true → sum_by (failure test) xs ≡ 0
+pub none-fails : {X : Type 0} (test : X → Bool) (xs : List X) → list_all test xs ≡ true → sum_by (failure test) xs ≡ 0
 none-fails test [] h = refl
 none-fails test (x ∷ xs) h = sum_by-cons (failure test) x xs ∙ elim (test x) as (λ b. (b && list_all test xs) ≡ true → (if b then 0 else 1) + sum_by (failure test) xs ≡ 0) [
   | true ↦ λ later. let rest = none-fails test xs later in omega (arith, rest)
@@ -119,7 +119,7 @@ all-pass test (x ∷ xs) h =
     ] (sym (sum_by-cons (failure test) x xs) ∙ h)
 
 -- the corner's cell bears the levels
-abbrev bears_at : List Cell → Levels → Corner → Bool
+abbrev pub bears_at : List Cell → Levels → Corner → Bool
 bears_at cells levels corner = option_map_or (bears levels corner.plus) (slice_get cells corner.cell) false
 
 -- where a cube serves, the shared corners do
@@ -132,11 +132,11 @@ shared-serve number cells levels chosen more served =
 
 -- ---- the cubes that go on
 
-and-parts : (a b : Bool) → (a && b) ≡ true → (a ≡ true) × (b ≡ true)
+pub and-parts : (a b : Bool) → (a && b) ≡ true → (a ≡ true) × (b ≡ true)
 and-parts true b h = (refl, h)
 and-parts false b h = absurd cc
 
-codes-same : (code : ℕ) (edges : List Edge) → list_all (λ edge. edge.code == code) edges ≡ true → AllByRecursion (λ edge. edge.code ≡ code) edges
+pub codes-same : (code : ℕ) (edges : List Edge) → list_all (λ edge. edge.code == code) edges ≡ true → AllByRecursion (λ edge. edge.code ≡ code) edges
 codes-same code [] h = tt
 codes-same code (edge ∷ edges) h = let two = and-parts (edge.code == code) (list_all (λ one. one.code == code) edges) h in ((Decides-eqb edge.code code).0 two.0, codes-same code edges two.1)
 

@@ -220,7 +220,7 @@ place-long trees (variable ∷ table) (code ∷ place) h = ap suc (place-long tr
     later false b h = absurd cc
 
 -- two places of one table with one cell are the same
-same-cell : (book : BookView) (t : ℕ) (table one other : List ℕ) (cell : ℕ) → IsTable (length book.trees) table → slice_get book.tables t ≡ Some table
+pub same-cell : (book : BookView) (t : ℕ) (table one other : List ℕ) (cell : ℕ) → IsTable (length book.trees) table → slice_get book.tables t ≡ Some table
     → is_place_in (trees_of book.trees table) one ≡ true → is_place_in (trees_of book.trees table) other ≡ true
     → cell_at book t one ≡ Some cell → cell_at book t other ≡ Some cell → one ≡ other
 same-cell book t table one other cell fits at inside within here there =
@@ -233,13 +233,13 @@ same-cell book t table one other cell fits at inside within here there =
     let known = known-below (length book.trees) table variable fits.known h in
     sym (name-codes (length book.trees) table one variable known) ∙ ap (λ (n : List ℕ). get_or n variable 0) name ∙ name-codes (length book.trees) table other variable known)
 
-some-same : {X : Type 0} {x y : X} → Some x ≡ Some y → x ≡ y
+pub some-same : {X : Type 0} {x y : X} → Some x ≡ Some y → x ≡ y
 some-same h = cc
 
-not-none : {X : Type 0} {x : X} → Some x ≡ None → ⊥
+pub not-none : {X : Type 0} {x : X} → Some x ≡ None → ⊥
 not-none h = cc
 
-all-at : {X : Type 0} (P : X → Type 0) (xs : List X) (k : ℕ) (x : X) → All P xs → slice_get xs k ≡ Some x → P x
+pub all-at : {X : Type 0} (P : X → Type 0) (xs : List X) (k : ℕ) (x : X) → All P xs → slice_get xs k ≡ Some x → P x
 all-at {X = X} P xs k x all at = by (slice_get_cases xs k).1
   where
     by : ((one : X) × (k < length xs) × (slice_get xs k ≡ Some one) × (get_or xs k one ≡ one)) ⊎ ((length xs ≤ k) × (slice_get xs k ≡ None)) → P x

@@ -1,4 +1,4 @@
-ghost use Rattle.std.specs.Prelude.{◌≡◌, ◌<◌, ◌≤◌, ◌+◌, ◌++◌, [], true, fold, length, drop, insert, option_to_list, IfOk, OnOk};
+ghost use Rattle.std.specs.Prelude.{◌≡◌, ◌<◌, ◌≤◌, ◌+◌, ◌++◌, [], true, fold, length, drop, insert, option_to_list, slice_set, IfOk, OnOk};
 ghost use Rattle.sdc_base.specs.Cubes as spec;
 ghost use Rattle.linked_tables.specs.BookCells.{cell_at};
 ghost use Rattle.hypercube.specs.Branches.{number_with_codes, corners_beyond};
@@ -100,8 +100,19 @@ fn place_with(place: &Place, codes: &[u32]) -> ArrayVec<u32, 16>
     whole
 }
 
-// The sign at the other end of an edge.
-fn sign_over(edge: Edge, plus: bool) -> bool
+/// A place with another code for variable k.
+pub(crate) fn place_over(codes: &Place, k: usize, other: u32) -> Place
+    ensures { result ≡ slice_set codes.now k other }
+{
+    let mut place = codes.copy().into_array();
+    if k < place.len() {
+        place[k] = other;
+    }
+    Few::new(place)
+}
+
+/// The sign at the other end of an edge.
+pub(crate) fn sign_over(edge: Edge, plus: bool) -> bool
     ensures { result ≡ spec.sign_over edge plus }
 {
     if edge.equal { plus } else { !plus }

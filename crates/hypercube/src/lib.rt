@@ -6,6 +6,7 @@ mod edges;
 mod laws;
 mod order;
 mod pricing;
+mod ranking;
 mod search;
 mod serving;
 #[cfg(test)]

@@ -24,8 +24,13 @@ pub(crate) fn price_of_hiding<F: TellsCosts>(
     sum
 }
 
-// The price of a cell, and 0 where it is hidden.
-fn price_to_hide<F: TellsCosts>(book: &Book, cells: &[Cell], rule: &CostRule<F>, cell: u32) -> u64
+/// The price of a cell, and 0 where it is hidden.
+pub(crate) fn price_to_hide<F: TellsCosts>(
+    book: &Book,
+    cells: &[Cell],
+    rule: &CostRule<F>,
+    cell: u32,
+) -> u64
     requires costed { All (λ mark. AreCosted mark.facts) book.now.marks }
     ensures { result ≡ (if is_marked book.now cell then 0 else price_in book.now cells.now rule.now cell) }
 {

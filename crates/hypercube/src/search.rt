@@ -1,16 +1,18 @@
-ghost use Rattle.std.specs.Prelude.{◌≡◌, ◌<◌, ◌≤◌, ◌++◌, ◌∷◌, [], ◌≤ℤ◌, pos, length, drop, option_map, true, None, slice_index_or, All, IfOk};
+ghost use Rattle.std.specs.Prelude.{◌≡◌, ◌<◌, ◌≤◌, ◌++◌, ◌∷◌, [], ◌≤ℤ◌, pos, length, drop, option_map, true, None, Some, if◌then◌else◌, slice_index_or, All, IfOk};
 ghost use Rattle.cost_rule.specs.Costs.{AreCosted};
 ghost use Rattle.std.specs.Option.{ForSome};
 ghost use Rattle.sdc_base.specs.Cubes as spec;
-ghost use Rattle.linked_tables.specs.BookCells as shared;
+ghost use Rattle.linked_tables.specs.BookCells as book_cells;
 ghost use Rattle.hypercube.specs.Branches.{best_beyond, shared_corners};
 ghost use Rattle.hypercube.specs.LeastCubes.{least_cube};
+ghost use Rattle.hypercube.specs.Ranks as ranks;
 
-use crate::corners::corners_of;
+use crate::corners::{corners_of, place_over, sign_over};
 use crate::edges::{codes_at, codes_behind, edges_at};
 use crate::order::{Offer, better_of, costs_more};
-use crate::pricing::price_of_hiding;
-use crate::serving::serve;
+use crate::pricing::{price_of_hiding, price_to_hide};
+use crate::ranking::all_rankings;
+use crate::serving::{bears_at, serve};
 use arrayvec::ArrayVec;
 use cost_rule::{CostRule, TellsCosts};
 use linked_tables::Book;
@@ -27,9 +29,13 @@ use std::marker::Model;
 /// corner is hidden by its mark, whichever table it was hidden in. The one refusal is want of memory, which leaves
 /// everything as it was.
 ///
-/// It chooses a partner for one variable after the other, and leaves a choice as soon as one of the corners that all
-/// its cubes share doesn't bear the levels, or these corners together cost more than the best cube so far: 2 to the
-/// number of variables look-ups for each choice that isn't left, and memory for as many corners.
+/// It chooses a partner for one variable after the other. A partner's own corner is the one that has the cell's code
+/// for each other variable: a partner whose own corner doesn't bear the levels is never chosen, and the others are
+/// tried by the prices of theirs, upwards. A choice is left as soon as one of the corners that all its cubes share
+/// doesn't bear the levels, or these corners together cost more than the best cube so far; and a variable as soon as
+/// the next partner's own corner makes them cost more. That takes a look-up for each partner of each variable and a
+/// sort of them, one for each partner that is come to, and for each choice that isn't left 2 to the number of variables
+/// look-ups; and memory for the partners and for as many corners.
 ///
 /// Cubes, partners and signs are those of the handbook's hypercube method; the levels that they serve and the order of
 /// cubes are argus's own.
@@ -42,7 +48,7 @@ pub fn cheapest<F: TellsCosts>(
     cell: u32,
     levels: Levels,
 ) -> Result<Option<Cube>, Memory>
-    requires known { cell < length (shared.cells book.now) }
+    requires known { cell < length (book_cells.cells book.now) }
     requires costed { All (λ mark. AreCosted mark.facts) book.now.marks }
     requires up { pos 0 ≤ℤ levels.up }
     requires down { pos 0 ≤ℤ levels.down }
@@ -50,11 +56,13 @@ pub fn cheapest<F: TellsCosts>(
         ≡ least_cube book.now cells.now rule.now subtable.now cell levels) }
     ensures serves { IfOk result (λ cube. ForSome cube (λ one. spec.serve cells.now levels one.corners ≡ true)) }
 {
+    // for the proof: what holds of every book
+    let _ = book.cells();
     let name = name_of(book, cell);
     let table = table_of(book, subtable.table);
     let lists = edges_at(alloc, book, &name, &table, &subtable.parents)?;
     let codes = codes_at(&name, &table, &subtable.parents);
-    let search = Search {
+    let unranked = Search {
         book,
         cells,
         rule,
@@ -62,6 +70,16 @@ pub fn cheapest<F: TellsCosts>(
         levels,
         codes: &codes,
         lists: lists.as_slice(),
+    };
+    let ranked_lists = all_rankings(alloc, &unranked)?;
+    let search = Search {
+        book,
+        cells,
+        rule,
+        table: subtable.table,
+        levels,
+        codes: &codes,
+        lists: ranked_lists.as_slice(),
     };
     let best = search.better(alloc, &Few::empty(), None)?;
     Ok(cube_of(best))
@@ -77,7 +95,7 @@ fn cube_of(offer: Option<Offer>) -> Option<Cube>
 
 // The name of a cell.
 fn name_of(book: &Book, cell: u32) -> Place
-    ensures { result ≡ slice_index_or (shared.cells book.now) cell [] }
+    ensures { result ≡ slice_index_or (book_cells.cells book.now) cell [] }
 {
     match book.name(cell) {
         Some(name) => name.copy(),
@@ -97,7 +115,7 @@ fn table_of(book: &Book, t: u32) -> Place
 
 /// What a search for the least cube of a cell goes by.
 #[derive(Drop)]
-struct Search<'a, F: TellsCosts> {
+pub(crate) struct Search<'a, F: TellsCosts> {
     book: &'a Book,
     cells: &'a [Cell],
     rule: &'a CostRule<F>,
@@ -123,13 +141,15 @@ impl<'a, F: TellsCosts> Model for Search<'a, F> {
 impl<'a, F: TellsCosts> Search<'a, F> {
     // The best of an offer and those of the cubes that have these edges and go on with one of each list that is
     // left. All of them are left out where a corner that they share doesn't bear the levels, or where their shared
-    // corners cost more than the offer.
+    // corners cost more than the offer. A list is left at the first edge whose own corner makes them cost more.
     fn better(
         &self,
         alloc: Global,
         chosen: &Few<Edge, 8>,
         best: Option<Offer>,
     ) -> Result<Option<Offer>, Memory>
+        requires rising { ranks.AreRising self.now }
+        requires begun { ranks.BeginAt self.now chosen.now }
         ensures { IfOk result (λ found. found
             ≡ best_beyond self.now best chosen.now (drop (length chosen.now) self.now.lists)) }
     {
@@ -146,12 +166,66 @@ impl<'a, F: TellsCosts> Search<'a, F> {
             return Ok(Some(better_of(best, (price, corners))));
         }
         let mut found = best;
-        let list = &self.lists[k];
-        'edges: for edge in list.as_slice() {
+        let next = self.list(k);
+        'edges: for edge in next {
+            let more = price.saturating_add(u128::from(self.price_over(k, *edge)));
+            if costs_more(more, &found) {
+                return Ok(found);
+            }
             let longer = with_edge(chosen, *edge);
             found = self.better(alloc, &longer, found)?;
         }
         Ok(found)
+    }
+
+    /// How many variables there are.
+    pub(crate) fn variables(&self) -> usize
+        ensures { result ≡ length self.now.lists }
+    {
+        self.lists.len()
+    }
+
+    /// The edges of variable k; none behind the last variable.
+    pub(crate) fn list(&self, k: usize) -> &[Edge]
+        ensures { result.now ≡ slice_index_or self.now.lists k [] }
+    {
+        match self.lists.get(k) {
+            Some(edges) => edges.as_slice(),
+            None => &[],
+        }
+    }
+
+    /// What the own corner of an edge of variable k costs.
+    pub(crate) fn price_over(&self, k: usize, edge: Edge) -> u64
+        ensures { result ≡ ranks.price_over self.now k edge }
+    {
+        match self.corner_over(k, edge) {
+            Some(corner) => price_to_hide(self.book, self.cells, self.rule, corner.cell),
+            None => 0,
+        }
+    }
+
+    /// The same where that corner bears the levels.
+    pub(crate) fn price_where_served(&self, k: usize, edge: Edge) -> Option<u64>
+        ensures { result ≡ (if ranks.serves_over self.now k edge then Some (ranks.price_over self.now k edge) else None) }
+    {
+        let Some(corner) = self.corner_over(k, edge) else {
+            return Some(0);
+        };
+        if !bears_at(self.cells, self.levels, corner) {
+            return None;
+        }
+        Some(price_to_hide(self.book, self.cells, self.rule, corner.cell))
+    }
+
+    // The corner of an edge of variable k alone, which has the cell's own code for each other variable.
+    fn corner_over(&self, k: usize, edge: Edge) -> Option<Corner>
+        ensures { result ≡ ranks.corner_over self.now k edge }
+    {
+        let place = place_over(self.codes, k, edge.other);
+        let cell = self.book.id(self.table, place.as_slice())?;
+        let plus = sign_over(edge, true);
+        Some(Corner { cell, plus })
     }
 
     // The corners that each cube has which begins with these edges.

@@ -18,8 +18,8 @@ pub(crate) fn serve(cells: &[Cell], levels: Levels, corners: &[Corner]) -> bool
     true
 }
 
-// Whether a corner's cell bears the levels.
-fn bears_at(cells: &[Cell], levels: Levels, corner: Corner) -> bool
+/// Whether a corner's cell bears the levels.
+pub(crate) fn bears_at(cells: &[Cell], levels: Levels, corner: Corner) -> bool
     requires up { pos 0 ≤ℤ levels.up }
     requires down { pos 0 ≤ℤ levels.down }
     ensures { result ≡ option_map_or (spec.bears levels corner.plus) (slice_get cells.now corner.cell) false }

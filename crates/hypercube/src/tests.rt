@@ -337,6 +337,22 @@ fn ties_in_price(rt: HostRuntime) -> Result<(), Fail> {
     Ok(())
 }
 
+// Two cubes cost 15. The numbers decide for the one of the total of A, which is the dearer partner: its own corner and
+// that of b2 cost 15 already.
+#[test]
+fn ties_over_a_dearer_partner(rt: HostRuntime) -> Result<(), Fail> {
+    let alloc = rt.alloc();
+    let mut cells = cells_of(alloc, &LINKED, &[3], Some(5))?;
+    if cells.len() > 2 {
+        cells[1] = free_cell(50, Some(10));
+        cells[2] = free_cell(90, Some(0));
+    }
+    let meant: &[(u32, bool)] = &[(1, true), (2, false), (4, true), (5, false)];
+    let one = is_linked(alloc, &[4], cells.as_slice(), (0, 4), (1, 1), meant)?;
+    assert_eq!(rt; one, true);
+    Ok(())
+}
+
 // All partners are other children, which cost 56 together.
 #[test]
 fn three_dimensions(rt: HostRuntime) -> Result<(), Fail> {

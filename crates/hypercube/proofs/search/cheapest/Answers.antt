@@ -1,18 +1,20 @@
-use Rattle.std.proofs.Common.{◌≡◌, ◌≤◌, [], ℕ, None, List, Option, option_map, slice_index_or, drop, length, ap, sym, ◌∙◌, subst}
+use Rattle.std.proofs.Common.{◌≡◌, ◌<◌, ◌≤◌, [], true, arith, ℕ, None, List, Option, option_map, slice_index_or, drop, length, ap, sym, ◌∙◌, subst}
+use Rattle.std.specs.List.Sorted.{IsNonDecreasingBy}
 use Rattle.sdc_base.specs.Records.{Name}
-use Rattle.sdc_base.specs.Cubes.{Offer, edges_at}
+use Rattle.sdc_base.specs.Cubes.{Offer, comes_before, cubes_at, edges_at, first_by}
 use Rattle.sdc_base.specs.declared.cube.Cube.{Cube}
 use Rattle.sdc_base.specs.declared.cube.Edge.{Edge}
 use Rattle.linked_tables.specs.BookCells.{cell_at, cells as cells_in}
-use Rattle.hypercube.specs.Branches.{Setting, begin_at, best_beyond, codes_at}
+use Rattle.hypercube.specs.Branches.{Setting, begin_at, best_beyond, codes_at, offers_of}
 use Rattle.hypercube.specs.LeastCubes.{cubes_in, is_marked, least_cube, price_in}
+use Rattle.hypercube.specs.Ranks.{AreRankings, price_over}
 use Rattle.hypercube.proofs.EdgeLists.{edges-begin}
 use Rattle.hypercube.proofs.Firsts.{least-serves}
-use Rattle.hypercube.proofs.Searches.{search-all}
+use Rattle.hypercube.proofs.Rankings.{rankings-all, rankings-begin, rankings-long, search-ranked}
 use Rattle.hypercube.proofs.search.cheapest.Goals as goal
 
-pub invariant_of-search : goal.invariant_of-search
-invariant_of-search g c =
+pub invariant_of-unranked : goal.invariant_of-unranked
+invariant_of-unranked g c =
     let trees = c.args.book.now.trees in
     let name : List ℕ = c.name_of-name.result in
     let table : List ℕ = c.table_of-table.result in
@@ -28,6 +30,52 @@ invariant_of-search g c =
           ∙ edges-begin trees name table parents;
     }
 
+pub invariant_of-search : goal.invariant_of-search
+invariant_of-search g c =
+    let lists : List (List Edge) = c.as_slice.result.now in
+    let setting : Setting = record {
+      book = c.args.book.now;
+      cells = c.args.cells.now;
+      cost = c.args.rule.now;
+      table = c.args.subtable.now.table;
+      levels = c.args.levels;
+      codes = c.codes_at-codes.result;
+      lists = lists;
+    } in
+    let all : List (List Edge) = c.in_ok-ranked_lists.ranked_lists.items in
+    let are : AreRankings setting 0 lists all = c.in_ok-ranked_lists.ensures in
+    let begun : begin_at setting.codes lists ≡ true =
+    ap (λ (codes : List ℕ). begin_at codes lists) c.codes_at-codes.ensures
+    ∙ ap (λ (found : List (List Edge)). begin_at (codes_at c.name_of-name.result c.table_of-table.result c.args.subtable.now.parents) found) (c.as_slice.ensures.value ∙ c.in_ok-lists.ensures.edges)
+    ∙ edges-begin c.args.book.now.trees c.name_of-name.result c.table_of-table.result c.args.subtable.now.parents
+    in
+    let few : length lists ≤ 8 = subst (λ (found : List (List Edge)). length found ≤ 8) (sym c.as_slice.ensures.value) c.in_ok-lists.ensures.few in
+    let long = rankings-long setting 0 lists all are in
+    let short : length all ≤ 8 = omega (arith, few, long) in
+    record {
+      costed = c.requires.costed;
+      up = c.requires.up;
+      down = c.requires.down;
+      few = subst (λ (found : List (List Edge)). length found ≤ 8) (sym c.as_slice-2.ensures.value) short;
+      begun = subst (λ (found : List (List Edge)). begin_at setting.codes found ≡ true) (sym c.as_slice-2.ensures.value) (rankings-begin setting 0 setting.codes lists all are begun);
+    }
+
+pub better-requires-clause-rising : goal.better-requires-clause-rising
+better-requires-clause-rising g c =
+    let lists : List (List Edge) = c.as_slice.result.now in
+    let setting : Setting = record {
+      book = c.args.book.now;
+      cells = c.args.cells.now;
+      cost = c.args.rule.now;
+      table = c.args.subtable.now.table;
+      levels = c.args.levels;
+      codes = c.codes_at-codes.result;
+      lists = lists;
+    } in
+    let all : List (List Edge) = c.in_ok-ranked_lists.ranked_lists.items in
+    let are : AreRankings setting 0 lists all = c.in_ok-ranked_lists.ensures in
+    subst (λ (found : List (List Edge)). (k : ℕ) → k < length found → IsNonDecreasingBy (price_over setting k) (slice_index_or found k [])) (sym c.as_slice-2.ensures.value) (λ k inside. rankings-all setting lists all k are inside)
+
 pub returns-clause-least : goal.returns-clause-least
 returns-clause-least g c =
     let book = c.args.book.now in
@@ -42,19 +90,20 @@ returns-clause-least g c =
       codes = c.codes_at-codes.result;
       lists = c.as_slice.result.now;
     } in
+    let all : List (List Edge) = c.in_ok-ranked_lists.ranked_lists.items in
     let name : c.name_of-name.result ≡ slice_index_or (cells_in book) c.args.cell [] = c.name_of-name.ensures in
     let table : c.table_of-table.result ≡ slice_index_or book.tables subtable.table [] = c.table_of-table.ensures in
-    let lists : c.as_slice.result.now ≡ edges_at book.trees (slice_index_or (cells_in book) c.args.cell []) (slice_index_or book.tables subtable.table []) subtable.parents =
-    c.as_slice.ensures.value
-    ∙ c.in_ok-lists.ensures.edges
-    ∙ ap (λ (codes : Name). edges_at book.trees codes c.table_of-table.result subtable.parents) name
-    ∙ ap (λ (spanned : List ℕ). edges_at book.trees (slice_index_or (cells_in book) c.args.cell []) spanned subtable.parents) table
+    let edges : c.as_slice.result.now ≡ edges_at book.trees c.name_of-name.result c.table_of-table.result subtable.parents = c.as_slice.ensures.value ∙ c.in_ok-lists.ensures.edges in
+    let are : AreRankings setting 0 (edges_at book.trees c.name_of-name.result c.table_of-table.result subtable.parents) all =
+    subst (λ (lists : List (List Edge)). AreRankings setting 0 lists all) edges c.in_ok-ranked_lists.ensures
     in
     let found =
     c.in_ok-best.ensures
-    ∙ ap (λ (chosen : List Edge). best_beyond setting None chosen (drop (length chosen) setting.lists)) c.empty.ensures
-    ∙ ap (λ (all : List (List Edge)). best_beyond setting None [] all) lists
-    ∙ search-all setting (edges_at book.trees (slice_index_or (cells_in book) c.args.cell []) (slice_index_or book.tables subtable.table []) subtable.parents)
+    ∙ ap (λ (chosen : List Edge). best_beyond setting None chosen (drop (length chosen) c.as_slice-2.result.now)) c.empty.ensures
+    ∙ ap (λ (lists : List (List Edge)). best_beyond setting None [] lists) c.as_slice-2.ensures.value
+    ∙ search-ranked setting book.trees c.name_of-name.result c.table_of-table.result subtable.parents all c.cells.ensures.book c.codes_at-codes.ensures are
+    ∙ ap (λ (codes : Name). first_by comes_before (offers_of setting (cubes_at book.trees codes c.table_of-table.result subtable.parents))) name
+    ∙ ap (λ (spanned : List ℕ). first_by comes_before (offers_of setting (cubes_at book.trees (slice_index_or (cells_in book) c.args.cell []) spanned subtable.parents))) table
     in
     c.cube_of.ensures ∙ ap (λ (best : Option Offer). option_map (λ (offer : Offer). offer.1) best) found
 
