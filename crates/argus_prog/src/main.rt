@@ -4,9 +4,15 @@
 
 mod answer;
 #[cfg(test)]
+mod damage_tests;
+#[cfg(test)]
 mod demo_tests;
+#[cfg(test)]
+mod fault_tests;
 mod file_shelf;
 mod folder_tray;
+#[cfg(test)]
+mod limit_tests;
 #[cfg(test)]
 mod protected_tests;
 #[cfg(test)]

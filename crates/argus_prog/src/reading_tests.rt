@@ -7,10 +7,10 @@ use std::rt::HostRuntime;
 use std::test::Fail;
 
 // The certificate and the table of the two-way job, as its run puts them.
-const CERTIFICATE: &str =
+pub(crate) const CERTIFICATE: &str =
     "argus certificate 1\nmethod MOD\ncells 9\nrelations 6\nhidden 4 5 7 8\nstep 1 0,0 4 4,5,7,8\nneed 5 4 above 1 4:1\nneed 7 4 above 1 3:-1 4:1 5:1\nneed 8 4 above 1 3:-1 4:1\nworld 4 above 1 6 -6 -6 6\nworld 4 below 1 -6 6 6 -6\nend\n";
 
-const TABLE: &str =
+pub(crate) const TABLE: &str =
     "A,B,V\nTotal,Total,140\nTotal,b1,50\nTotal,b2,90\na1,Total,70\na1,b1,x\na1,b2,x\na2,Total,70\na2,b1,x\na2,b2,x\n";
 
 // The certificate of the same job where it rounds, and records for it.
@@ -19,7 +19,11 @@ const ROUNDED: &str = "argus certificate 1\nmethod RND 5\ncells 9\nrelations 6\n
 const FOUR: &str = "a1b1c1  3\na1b2c1  4\na2b1c1  6\na2b2c1  2\n";
 
 // What these words say of files on a shelf, and then what is put on an empty tray.
-fn said_of(alloc: Global, words: &[&str], files: &[(&str, &str)]) -> Result<String, Memory> {
+pub(crate) fn said_of(
+    alloc: Global,
+    words: &[&str],
+    files: &[(&str, &str)],
+) -> Result<String, Memory> {
     let mut tray = MemoryTray::new(alloc, Vec::new(alloc));
     ran(alloc, words, files, WHOLE, &mut tray)
 }

@@ -10,7 +10,7 @@ const BEHIND: &str =
 
 const FILES: &str = "<OPENMICRODATA> \"m.asc\"\n<OPENMETADATA> \"m.rda\"\n<SPECIFYTABLE> ";
 
-const TWO: &str = "A 1 1\n<RECODEABLE>\nB 2 1\n<RECODEABLE>\nV 3 2\n<NUMERIC>\n";
+pub(crate) const TWO: &str = "A 1 1\n<RECODEABLE>\nB 2 1\n<RECODEABLE>\nV 3 2\n<NUMERIC>\n";
 
 const CENTS: &str = "A 1 1\n<RECODEABLE>\nV 2 5\n<NUMERIC>\n<DECIMALS> 2\n";
 
@@ -20,8 +20,20 @@ const ODD: &str =
 
 const ONES: &str = "111 1\n211 1\n212 1\n222 1\n122 1\n123 1\n113 1\n";
 
+// Records of two variables, and what is said and put where their table is rounded to multiples of 5.
+pub(crate) const FOUR: &str = "11 3\n12 4\n21 6\n22 2\n";
+
+pub(crate) const FOUR_SAID: &str =
+    "0 released: 4 records, 0 skipped, 0 passed over, 9 cells, 8 primary, 0 hidden\n";
+
+pub(crate) const FOUR_CERTIFICATE: &str =
+    "argus certificate 1\nmethod RND 5\ncells 9\nrelations 6\nend\n";
+
+pub(crate) const FOUR_TABLE: &str =
+    "A,B,V\nTotal,Total,15\nTotal,1,10\nTotal,2,5\n1,Total,10\n1,1,5\n1,2,5\n2,Total,5\n2,1,5\n2,2,0\n";
+
 // A job that has one table by these variables, and these lines of its method.
-fn job_by(alloc: Global, variables: &str, method: &str) -> Result<String, Memory> {
+pub(crate) fn job_by(alloc: Global, variables: &str, method: &str) -> Result<String, Memory> {
     Ok(format!(in alloc; "{FILES}{variables}{BEHIND}{method}")?)
 }
 
@@ -30,13 +42,14 @@ fn job_by(alloc: Global, variables: &str, method: &str) -> Result<String, Memory
 // stopped.
 #[test]
 fn roundings(rt: HostRuntime) -> Result<(), Fail> {
+    let rounded = format!(in rt.alloc(); "{FOUR_SAID}{FOUR_CERTIFICATE}{FOUR_TABLE}")?;
     let rows = [
         (
             "\"A\"\"B\"",
             "<SUPPRESS> RND(5)\n",
             TWO,
-            "11 3\n12 4\n21 6\n22 2\n",
-            "0 released: 4 records, 0 skipped, 0 passed over, 9 cells, 8 primary, 0 hidden\nargus certificate 1\nmethod RND 5\ncells 9\nrelations 6\nend\nA,B,V\nTotal,Total,15\nTotal,1,10\nTotal,2,5\n1,Total,10\n1,1,5\n1,2,5\n2,Total,5\n2,1,5\n2,2,0\n",
+            FOUR,
+            rounded.as_str(),
         ),
         (
             "\"A\"\"B\"",

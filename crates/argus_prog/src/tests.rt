@@ -13,7 +13,7 @@ use std::test::Fail;
 use worlds::Multipliers;
 
 // The job of one table, with the metadata and the microdata that it names.
-const JOB: &str =
+pub(crate) const JOB: &str =
     "<OPENMICRODATA> \"m.asc\"\n<OPENMETADATA> \"m.rda\"\n<SPECIFYTABLE> \"A\"|\"V\"\n<SAFETYRULE> FREQ(3,30)\n<READMICRODATA>\n<SUPPRESS> MOD()\n<WRITETABLE> (1,\"t.csv\")\n<CERTIFICATE> \"t.cert\"\n";
 
 pub(crate) const METADATA: &str = "A 1 1\n<RECODEABLE>\nV 2 3\n<NUMERIC>\n";
@@ -21,7 +21,7 @@ pub(crate) const METADATA: &str = "A 1 1\n<RECODEABLE>\nV 2 3\n<NUMERIC>\n";
 pub(crate) const SEVEN: &str = "a 10\na 20\na 30\nb 20\nb 20\nb 20\nb 30\n";
 
 // What is said of the seven records, and then the certificate and the table.
-const RELEASED: &str =
+pub(crate) const RELEASED: &str =
     "0 released: 7 records, 0 skipped, 0 passed over, 3 cells, 0 primary, 0 hidden\nargus certificate 1\nmethod MOD\ncells 3\nrelations 1\nend\nA,V\nTotal,150\na,60\nb,90\n";
 
 // A job of two linked tables, with its metadata and records.
@@ -52,8 +52,8 @@ pub(crate) const USAGE: &str =
 // The files of a shelf that isn't sound: each of its calls from this one on counts.
 #[derive(Clone, Copy)]
 pub(crate) struct Pieces {
-    bytes: u32,
-    failing: u64,
+    pub(crate) bytes: u32,
+    pub(crate) failing: u64,
 }
 
 pub(crate) const WHOLE: Pieces = Pieces {

@@ -226,6 +226,20 @@ fn steep(alloc: Global, target: i128) -> Result<Problem, Memory> {
     })
 }
 
+// Makes steps as long as there are any, but no more than 131,073, and says why there is none at last.
+fn last_step(tableau: &mut Tableau) -> Result<Step, Memory> {
+    for _ in 0..131073 {
+        if tableau.improved() == u64::MAX {
+            break;
+        }
+        let step = tableau.improve()?;
+        if step != Step::Improved {
+            return Ok(step);
+        }
+    }
+    Ok(Step::Improved)
+}
+
 // Of the 256 corners of a steep problem in 8 columns the rule of the least number passes every one (Klee and Minty
 // 1972).
 #[test]
@@ -234,16 +248,23 @@ fn steep_problem_goes_through_all_corners(rt: HostRuntime) {
     let problem = steep(alloc, 100000000000001).expect(&rt, "memory");
     assert!(&rt; is_well_formed(&problem));
     let mut tableau = Tableau::start(alloc, problem).expect(&rt, "memory");
-    let mut last = Step::Improved;
-    for _ in 0..131073 {
-        assert!(&rt; tableau.improved() < u64::MAX);
-        last = tableau.improve().expect(&rt, "memory");
-        if last != Step::Improved {
-            break;
-        }
-    }
+    let last = last_step(&mut tableau).expect(&rt, "memory");
     assert!(&rt; last == Step::Blocked);
     assert_eq!(&rt; tableau.improved(), 255);
+    let best = tableau.den().checked_mul(100000000000000);
+    assert!(&rt; tableau.values().last().copied() == best);
+}
+
+// The best of the steep problem is 10^14, where its last column is 10^14 and all others are 0.
+#[test]
+fn steep_problem_reaches_its_best(rt: HostRuntime) {
+    let alloc = rt.alloc();
+    let problem = steep(alloc, 100000000000000).expect(&rt, "memory");
+    assert!(&rt; is_well_formed(&problem));
+    let mut tableau = Tableau::start(alloc, problem).expect(&rt, "memory");
+    let last = last_step(&mut tableau).expect(&rt, "memory");
+    assert!(&rt; last == Step::Reached);
+    assert!(&rt; tableau.improved() <= 131072);
     let best = tableau.den().checked_mul(100000000000000);
     assert!(&rt; tableau.values().last().copied() == best);
 }
