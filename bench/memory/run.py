@@ -17,7 +17,15 @@ import tempfile
 HERE = os.path.dirname(os.path.abspath(__file__))
 TOP = os.path.dirname(os.path.dirname(HERE))
 PROGRAM = os.path.join(TOP, "out", "argus")
-RUNS = (("first", "r1.job", ("t.cert", "t.csv")), ("stated", "stated.job", ("t.cert", "t.csv")))
+# An example, its job, the files that it puts in their order, and what is to stand in the job in place of what: with the rule of
+# `linked` made stricter, cells of both tables over its hierarchy are hidden.
+RUNS = (
+    ("first", "r1.job", ("t.cert", "t.csv"), ("", "")),
+    ("stated", "stated.job", ("t.cert", "t.csv"), ("", "")),
+    ("protected", "turnover.job", ("turnover.cert", "turnover.csv"), ("", "")),
+    ("rounded", "turnover.job", ("turnover.cert", "turnover.csv"), ("", "")),
+    ("linked", "firms.job", ("firms.cert", "industry.csv", "size.csv"), ("FREQ(2,30)", "FREQ(3,30)")),
+)
 
 
 def held(folder, names):
@@ -54,9 +62,11 @@ def main():
     with tempfile.TemporaryDirectory() as scratch:
         library = os.path.join(scratch, "failing.so")
         subprocess.run(["cc", "-O2", "-shared", "-fPIC", "-o", library, os.path.join(HERE, "failing.c"), "-ldl"], check=True)
-        for example, job, names in RUNS:
+        for example, job, names, (old, new) in RUNS:
             folder = os.path.join(scratch, example)
             shutil.copytree(os.path.join(TOP, "examples", example), folder)
+            text = open(os.path.join(folder, job)).read()
+            open(os.path.join(folder, job), "w").write(text.replace(old, new) if old else text)
             count_to = os.path.join(scratch, "count")
             ample = run(folder, job, names, library, COUNT_TO=count_to)
             calls = int(open(count_to).read())
