@@ -44,7 +44,7 @@ pub fn apply(
 ) -> Result<(), PriorError>
     requires table { table < length book.now.tables }
     requires decimals { decimals ≤ 13 }
-    requires few { length bytes.now < 2 ^ 32 }
+    requires fewer_than_2_32 { length bytes.now < 2 ^ 32 }
     requires priors { ArePriors book.now.marks priors.old.items }
     ensures exact { Gives fault_of (λ _. priors.new.items) result
         (file_says (basis_of book.now) table separator decimals priors.old.items bytes.now) }
@@ -71,7 +71,7 @@ fn priors_after(
 ) -> Result<Vec<Prior>, PriorError>
     requires table { form.table < length book.now.tables }
     requires decimals { form.decimals ≤ 13 }
-    requires few { length bytes.now < 2 ^ 32 }
+    requires fewer_than_2_32 { length bytes.now < 2 ^ 32 }
     requires priors { ArePriors book.now.marks priors.now }
     ensures exact { Gives fault_of (λ changed. changed.items) result
         (apply_of (basis_of book.now) form priors.now bytes.now) }
@@ -91,7 +91,7 @@ fn note_lines(
 ) -> Result<(), PriorError>
     requires table { form.table < length book.now.tables }
     requires decimals { form.decimals ≤ 13 }
-    requires few { length bytes.now < 2 ^ 32 }
+    requires fewer_than_2_32 { length bytes.now < 2 ^ 32 }
     requires priors { ArePriors book.now.marks priors.old.items }
     ensures exact { Gives fault_of (λ _. priors.new.items) result
         (lines_noted (basis_of book.now) form 0 (spec.lines bytes.now) priors.old.items) }

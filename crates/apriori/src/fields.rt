@@ -42,7 +42,7 @@ impl<'a> Fields<'a> {
         ensures end { IfNone result (self.old ≡ []) }
         ensures same { IfNone result (self.new ≡ self.old) }
         ensures field { IfSome result (λ field. self.old ≡ field.now ∷ self.new) }
-        ensures few { IfSome result (λ field. length field.now < 2 ^ 32) }
+        ensures fewer_than_2_32 { IfSome result (λ field. length field.now < 2 ^ 32) }
     {
         if self.over {
             return None;

@@ -26,7 +26,7 @@ pub(crate) fn note_line(
 ) -> Result<(), PriorError>
     requires table { form.table < length book.now.tables }
     requires decimals { form.decimals ≤ 13 }
-    requires few { length text.now < 2 ^ 32 }
+    requires fewer_than_2_32 { length text.now < 2 ^ 32 }
     requires priors { ArePriors book.now.marks priors.old.items }
     ensures exact { Gives fault_of (λ _. priors.new.items) result
         (at_line form.table line (noting.line_noted (basis_of book.now) form line text.now priors.old.items)) }
@@ -53,7 +53,7 @@ fn take_line(
 ) -> Result<(), PriorWhy>
     requires table { form.table < length book.now.tables }
     requires decimals { form.decimals ≤ 13 }
-    requires few { length text.now < 2 ^ 32 }
+    requires fewer_than_2_32 { length text.now < 2 ^ 32 }
     requires priors { ArePriors book.now.marks priors.old.items }
     ensures exact { Gives fault_itself (λ _. priors.new.items) result
         (noting.line_noted (basis_of book.now) form line text.now priors.old.items) }

@@ -73,7 +73,7 @@ fn units_at(least: i128, decimals: u8, fields: &mut Fields) -> Result<i128, Prio
 // The number of units that a field writes, from the least one to the greatest.
 fn units_from(least: i128, decimals: u8, field: &[u8]) -> Option<i128>
     requires decimals { decimals ≤ 13 }
-    requires few { length field.now < 2 ^ 32 }
+    requires fewer_than_2_32 { length field.now < 2 ^ 32 }
     ensures value { result ≡ statements.units_from least (numbers.read_units field.now decimals) }
     ensures low { ForSome result (λ units. least ≤ℤ units) }
     ensures high { ForSome result (λ units. units ≤ℤ pos most_units) }

@@ -45,7 +45,7 @@ fn gcd(one: u128, other: u128) -> u128
 
 /// A whole number less a fraction that is at most it.
 pub(crate) fn minus(whole: u128, part: Ratio) -> Ratio
-    requires whole { whole ≤ 10 ^ 29 }
+    requires at_most_10_29 { whole ≤ 10 ^ 29 }
     requires narrow { part.den < 2 ^ 17 }
     requires within { part.num ≤ whole * part.den }
     ensures num { result.num ≡ whole * part.den - part.num }
@@ -59,7 +59,7 @@ pub(crate) fn minus(whole: u128, part: Ratio) -> Ratio
 
 /// A whole number and a fraction.
 pub(crate) fn plus(whole: u128, part: Ratio) -> Ratio
-    requires whole { whole ≤ 10 ^ 29 }
+    requires at_most_10_29 { whole ≤ 10 ^ 29 }
     requires narrow { part.den < 2 ^ 17 }
     requires short { part.num < part.den * 2 ^ 110 }
     ensures num { result.num ≡ whole * part.den + part.num }

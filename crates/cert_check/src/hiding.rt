@@ -32,7 +32,7 @@ pub(crate) fn hide_all(flags: &mut [bool], cells: &[u32])
 /// Refuses a hidden set in which a primary cell is shown or a fixed one hidden.
 pub(crate) fn check_permitted(cells: &[Cell], flags: &[bool]) -> Result<(), CheckFault>
     requires flags { length flags.now ≡ length cells.now }
-    requires few { length cells.now < 2 ^ 32 }
+    requires fewer_than_2_32 { length cells.now < 2 ^ 32 }
     ensures { result ≡ meant.permitted_fault cells.now flags.now }
 {
     if let Some(number) = shown_primary(cells, flags) {
@@ -47,7 +47,7 @@ pub(crate) fn check_permitted(cells: &[Cell], flags: &[bool]) -> Result<(), Chec
 // The first primary cell that is shown.
 fn shown_primary(cells: &[Cell], flags: &[bool]) -> Option<u32>
     requires flags { length flags.now ≡ length cells.now }
-    requires few { length cells.now < 2 ^ 32 }
+    requires fewer_than_2_32 { length cells.now < 2 ^ 32 }
     ensures { result ≡ primary_shown flags.now 0 cells.now }
 {
     for (number, cell) in cells.iter().enumerate() {
@@ -61,7 +61,7 @@ fn shown_primary(cells: &[Cell], flags: &[bool]) -> Option<u32>
 // The first fixed cell that is hidden.
 fn hidden_fixed(cells: &[Cell], flags: &[bool]) -> Option<u32>
     requires flags { length flags.now ≡ length cells.now }
-    requires few { length cells.now < 2 ^ 32 }
+    requires fewer_than_2_32 { length cells.now < 2 ^ 32 }
     ensures { result ≡ fixed_hidden flags.now 0 cells.now }
 {
     for (number, cell) in cells.iter().enumerate() {

@@ -37,7 +37,7 @@ pub(crate) fn check_needs(
 // The hidden cells that aren't primary.
 fn subjects_of(alloc: Global, cells: &[Cell], flags: &[bool]) -> Result<Vec<u32>, Memory>
     requires flags { length flags.now ≡ length cells.now }
-    requires few { length cells.now < 2 ^ 32 }
+    requires fewer_than_2_32 { length cells.now < 2 ^ 32 }
     ensures subjects { IfOk result (λ subjects. subjects.items ≡ others_hidden flags.now 0 cells.now) }
 {
     let mut subjects = Vec::new(alloc);

@@ -6,7 +6,7 @@ use crate::faults::CheckFault;
 /// Refuses a set that hides a cell which the open set shows.
 pub(crate) fn check_outside(larger: &[bool], flags: &[bool]) -> Result<(), CheckFault>
     requires each { length larger.now ≡ length flags.now }
-    requires few { length flags.now < 2 ^ 32 }
+    requires fewer_than_2_32 { length flags.now < 2 ^ 32 }
     ensures { result ≡ meant.outside_fault larger.now flags.now }
 {
     match first_outside(larger, flags) {
@@ -18,7 +18,7 @@ pub(crate) fn check_outside(larger: &[bool], flags: &[bool]) -> Result<(), Check
 // The first cell that is hidden in the second set alone.
 fn first_outside(larger: &[bool], flags: &[bool]) -> Option<u32>
     requires each { length larger.now ≡ length flags.now }
-    requires few { length flags.now < 2 ^ 32 }
+    requires fewer_than_2_32 { length flags.now < 2 ^ 32 }
     ensures { result ≡ meant.first_outside larger.now 0 flags.now }
 {
     for (number, hidden) in flags.iter().enumerate() {

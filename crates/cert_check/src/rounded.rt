@@ -72,7 +72,7 @@ fn check_values(
 // The first cell whose value isn't an adjacent multiple of the base.
 fn first_unrounded(cells: &[Cell], base: i128, values: &[i128]) -> Option<u32>
     requires each { length values.now ≡ length cells.now }
-    requires few { length cells.now < 2 ^ 32 }
+    requires fewer_than_2_32 { length cells.now < 2 ^ 32 }
     requires base { pos 1 ≤ℤ base }
     requires from_zero { All (λ value. pos 0 ≤ℤ value) values.now }
     ensures { result ≡ meant.first_unrounded base (number_at values.now) 0 cells.now }
@@ -129,7 +129,7 @@ fn is_below_upper(cell: &Cell, base: i128, value: i128) -> bool
 // The first relation that doesn't hold on the values.
 fn first_broken(relations: &[Relation], values: &[i128]) -> Option<u32>
     requires named { All (NamesCells (length values.now)) relations.now }
-    requires few { length relations.now < 2 ^ 32 }
+    requires fewer_than_2_32 { length relations.now < 2 ^ 32 }
     requires from_zero { All (λ value. pos 0 ≤ℤ value) values.now }
     ensures { result ≡ meant.first_broken (number_at values.now) 0 relations.now }
 {

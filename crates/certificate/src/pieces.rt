@@ -133,7 +133,7 @@ impl<'a> Pieces<'a> {
 /// Whether the first byte is this one.
 pub(crate) fn begins_with(byte: u8, text: &[u8]) -> bool
     ensures value { result ≡ pieces.begins_with byte text.now }
-    ensures some { IsTrue result → 0 < length text.now }
+    ensures not_empty { IsTrue result → 0 < length text.now }
 {
     let Some(first) = text.first() else {
         return false;

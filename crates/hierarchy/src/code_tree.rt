@@ -109,7 +109,7 @@ fn depths_of(alloc: Global, nodes: &Nodes) -> Result<Vec<u32>, AllocError>
 fn depth_under(depths: &[u32], parent: Option<u32>) -> u32
     requires known { ForSome parent (λ above. above < length depths.now) }
     requires small { (place : ℕ) → place < length depths.now → slice_index depths.now place ≤ place }
-    requires few { length depths.now ≤ 5001 }
+    requires at_most_5001 { length depths.now ≤ 5001 }
     ensures { result ≡ option_map_or (λ above. slice_index depths.now above + 1) parent 0 }
 {
     match parent {

@@ -33,7 +33,7 @@ pub fn from_lead(
     lead: &Text,
     total: &Text,
 ) -> Result<CodeTree, TreeFault>
-    requires few { length bytes.now < 2 ^ 32 }
+    requires fewer_than_2_32 { length bytes.now < 2 ^ 32 }
     requires lead { 0 < length lead.now }
     ensures exact { Gives fault_of (λ tree. tree) result (lead_of lead.now total.now bytes.now) }
     ensures kind { IfErr result IsLeadFault }

@@ -44,7 +44,7 @@ pub fn from_levels(
     total: &Text,
 ) -> Result<CodeTree, TreeFault>
     requires levels { length widths.now ≤ 9 }
-    requires some { 0 < length widths.now }
+    requires at_least_one_width { 0 < length widths.now }
     requires positive { All (λ width. 0 < width) widths.now }
     requires short { All (λ code. length code ≤ sum widths.now) codes.now }
     ensures exact { Gives fault_of (λ tree. tree) result (levels_of total.now widths.now codes.now) }
@@ -83,7 +83,7 @@ fn gather(
     ensures kind { IfErr result IsLevelFault }
     ensures kept { IfOk result (λ kept. kept.items ≡ codes_with_prefixes bounds.now [] codes.now) }
     ensures sorted { IfOk result (λ kept. IsStrictlySortedBy (slice_cmp nat_cmp) kept.items) }
-    ensures few { IfOk result (λ kept. length kept.items ≤ 5000) }
+    ensures at_most_5000 { IfOk result (λ kept. length kept.items ≤ 5000) }
     ensures apart { IfOk result (λ kept. list_any (bytes_eq total.now) kept.items ≡ false) }
 {
     let mut seen = Nodes::new(alloc);
@@ -107,7 +107,7 @@ fn gather(
 // The number of the next code: one more than were seen, which are no more than those that are kept.
 fn next_number(seen: &Nodes, kept: &BTreeSet<Text>) -> u32
     requires among { AreAmong (spec.codes seen.now) kept.now.keys }
-    requires few { length kept.now.keys ≤ 5000 }
+    requires at_most_5000 { length kept.now.keys ≤ 5000 }
     ensures { result ≡ length seen.now + 1 }
 {
     seen.len() as u32 + 1
@@ -132,7 +132,7 @@ fn take_code(
     ensures among { OnOk result (AreAmong (spec.codes seen.old) kept.old.keys
         → AreAmong (spec.codes seen.new) kept.new.keys) }
     ensures count { OnOk result (length seen.new ≡ length seen.old + 1) }
-    ensures few { OnOk result (length kept.new.keys ≤ 5000) }
+    ensures at_most_5000 { OnOk result (length kept.new.keys ≤ 5000) }
     ensures apart { OnOk result (list_any (bytes_eq total.now) kept.new.keys ≡ false) }
 {
     if has_blank(code) {
@@ -213,7 +213,7 @@ fn place_codes(
     requires sorted { IsStrictlySortedBy (slice_cmp nat_cmp) codes.now }
     requires closed { IsClosed bounds.now codes.now }
     requires ascending { IsAscending 0 bounds.now }
-    requires few { length codes.now ≤ 5000 }
+    requires at_most_5000 { length codes.now ≤ 5000 }
     requires shallow { (code : List ℕ) → IsIn code codes.now → level bounds.now code ≤ 8 }
     requires apart { list_any (bytes_eq total.now) codes.now ≡ false }
     ensures nodes { IfOk result (λ nodes. nodes ≡ tree_of_codes total.now bounds.now ((total.now, None) ∷ []) codes.now) }
@@ -254,7 +254,7 @@ fn place_code(
     requires tree { IsCodeTree nodes.old }
     requires path { IsPath nodes.old path.old.items }
     requires new { find nodes.old code.now ≡ None }
-    requires few { length nodes.old < 5001 }
+    requires fewer_than_5001 { length nodes.old < 5001 }
     requires within { depth < length path.old.items }
     requires shallow { depth ≤ 8 }
     ensures told { IfErr result (λ fault. fault ≡ TreeFault.Memory) }

@@ -17,7 +17,7 @@ pub(crate) fn corners_of(
     edges: &[Edge],
     codes: &[u32],
 ) -> Result<Items<Corner>, Memory>
-    requires few { length edges.now ≤ 8 }
+    requires at_most_8 { length edges.now ≤ 8 }
     requires fewer { length codes.now ≤ 8 }
     ensures { IfOk result (λ corners. corners
         ≡ spec.corners_of (number_with_codes (cell_at book.now t) codes.now) edges.now) }
@@ -37,7 +37,7 @@ fn add_corners(
     plus: bool,
     corners: &mut Vec<Corner>,
 ) -> Result<(), Memory>
-    requires few { length edges.now ≤ 8 }
+    requires at_most_8 { length edges.now ≤ 8 }
     requires fewer { length codes.now ≤ 8 }
     ensures { OnOk result (corners.new.items
         ≡ fold spec.with_corner corners.old.items

@@ -17,7 +17,7 @@ pub(crate) fn edges_at(
     parents: &Place,
 ) -> Result<Vec<Items<Edge>>, Memory>
     ensures edges { IfOk result (λ lists. lists.items ≡ spec.edges_at book.now.trees name.now table.now parents.now) }
-    ensures few { IfOk result (λ lists. length lists.items ≤ 8) }
+    ensures at_most_8 { IfOk result (λ lists. length lists.items ≤ 8) }
 {
     let mut lists = Vec::new(alloc);
     let above = parents.as_slice();

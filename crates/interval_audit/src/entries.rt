@@ -23,7 +23,7 @@ pub(crate) fn entries_of(
     requires known { All (λ cell. cell < length scratch.old) members.now }
     requires named { All (λ term. term.0 < length scratch.old) terms.now }
     requires signs { All (λ term. IsFormSign term.1) terms.now }
-    requires few { length terms.now ≤ 2 ^ 32 }
+    requires at_most_2_32 { length terms.now ≤ 2 ^ 32 }
     requires zeros { AreZeros scratch.old }
     ensures length { length scratch.new ≡ length scratch.old }
     ensures zeros { OnOk result (AreZeros scratch.new) }
@@ -38,7 +38,7 @@ pub(crate) fn entries_of(
 
 // The numbers of the cells of a group as multiples of their moves, at the group's columns.
 fn entries_at(alloc: Global, members: &[u32], numbers: &[i128]) -> Result<Vec<(u32, i128)>, Memory>
-    requires few { length members.now < 2 ^ 31 }
+    requires fewer_than_2_31 { length members.now < 2 ^ 31 }
     requires known { All (λ cell. cell < length numbers.now) members.now }
     requires within { AreWithin (pos (2 ^ 32)) numbers.now }
     ensures { (group : Group) (n : ℕ) (terms : List Term) → members.now ≡ groups.members group n

@@ -33,7 +33,7 @@ pub(crate) fn met_by(
     of: &[Option<u32>],
     asked: u32,
 ) -> Result<Vec<u32>, Memory>
-    requires few { length relations.now < 2 ^ 32 }
+    requires fewer_than_2_32 { length relations.now < 2 ^ 32 }
     ensures { IfOk result (λ list. list.items ≡ met_relations (group_of of.now asked) relations.now) }
 {
     let mut list = Vec::new(alloc);

@@ -41,7 +41,7 @@ pub fn problem_of(
 ) -> Result<Problem, Memory>
     requires cells { length cells.now ≡ system.now.cells }
     requires asked { question.cell < system.now.cells }
-    requires few { length (groups.members (group_of of.now question.cell) system.now.cells) ≤ 1500 }
+    requires at_most_1500 { length (groups.members (group_of of.now question.cell) system.now.cells) ≤ 1500 }
     ensures { IfOk result (λ problem. problem
         ≡ problems.problem_of system.now cells.now (group_of of.now question.cell) question) }
 {
@@ -62,7 +62,7 @@ pub(crate) fn problem_over(
 ) -> Result<Problem, Memory>
     requires cells { length cells.now ≡ system.now.cells }
     requires asked { question.cell < system.now.cells }
-    requires few { length (groups.members (group_of of.now question.cell) system.now.cells) ≤ 1500 }
+    requires at_most_1500 { length (groups.members (group_of of.now question.cell) system.now.cells) ≤ 1500 }
     requires met { met.now ≡ met_relations (group_of of.now question.cell) system.now.relations }
     ensures { IfOk result (λ problem. problem
         ≡ problems.problem_of system.now cells.now (group_of of.now question.cell) question) }
@@ -90,7 +90,7 @@ fn push_all_caps(
     members: &[u32],
     cells: &[Cell],
 ) -> Result<(), Memory>
-    requires few { length members.now < 2 ^ 31 }
+    requires fewer_than_2_31 { length members.now < 2 ^ 31 }
     requires known { All (λ cell. cell < length cells.now) members.now }
     ensures { (system : AnySystem) (group : Group) (n : ℕ) → members.now ≡ groups.members group n
         → OnOk result (rows.new.items ≡ rows.old.items
@@ -111,7 +111,7 @@ fn push_all_forms(
     met: &[u32],
     scratch: &mut [i128],
 ) -> Result<(), Memory>
-    requires few { length members.now < 2 ^ 31 }
+    requires fewer_than_2_31 { length members.now < 2 ^ 31 }
     requires known { All (λ cell. cell < length scratch.old) members.now }
     requires met { All (λ number. number < length system.now.relations) met.now }
     requires scratch { length scratch.old ≡ system.now.cells }
@@ -137,7 +137,7 @@ fn objective_of(
     side: Side,
     scratch: &mut [i128],
 ) -> Result<Vec<(u32, i128)>, Memory>
-    requires few { length members.now < 2 ^ 31 }
+    requires fewer_than_2_31 { length members.now < 2 ^ 31 }
     requires known { All (λ cell. cell < length scratch.old) members.now }
     requires asked { asked < length scratch.old }
     requires zeros { AreZeros scratch.old }

@@ -18,7 +18,7 @@ pub(crate) fn read_world(
     values: &[i128],
     den: i128,
 ) -> Result<World, Memory>
-    requires few { length values.now < 2 ^ 32 }
+    requires fewer_than_2_32 { length values.now < 2 ^ 32 }
     requires long { length values.now ≡ 2 * length members.now }
     requires from_zero { All (λ value. pos 0 ≤ℤ value) values.now }
     requires positive { pos 1 ≤ℤ den }
@@ -44,7 +44,7 @@ pub(crate) fn read_multipliers(
     caps: usize,
     den: i128,
 ) -> Result<Multipliers, Memory>
-    requires few { length slacks.now < 2 ^ 32 }
+    requires fewer_than_2_32 { length slacks.now < 2 ^ 32 }
     requires long { caps + 2 * length met.now ≤ length slacks.now }
     requires from_zero { All (λ slack. pos 0 ≤ℤ slack) slacks.now }
     requires positive { pos 1 ≤ℤ den }
@@ -67,7 +67,7 @@ fn differences(
     plus: usize,
     minus: usize,
 ) -> Result<Vec<(u32, i128)>, Memory>
-    requires few { length numbers.now < 2 ^ 32 }
+    requires fewer_than_2_32 { length numbers.now < 2 ^ 32 }
     requires plus_within { plus + 2 * length list.now ≤ length numbers.now + 1 }
     requires minus_within { minus + 2 * length list.now ≤ length numbers.now + 1 }
     requires from_zero { All (λ number. pos 0 ≤ℤ number) numbers.now }

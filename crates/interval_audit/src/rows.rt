@@ -62,7 +62,7 @@ pub(crate) fn push_forms(
     relation: &Relation,
     scratch: &mut [i128],
 ) -> Result<(), Memory>
-    requires few { length members.now < 2 ^ 31 }
+    requires fewer_than_2_31 { length members.now < 2 ^ 31 }
     requires known { All (λ cell. cell < length scratch.old) members.now }
     requires named { NamesCells (length scratch.old) relation.now }
     requires zeros { AreZeros scratch.old }
@@ -86,7 +86,7 @@ fn form_row(
     times: i128,
     scratch: &mut [i128],
 ) -> Result<LinRow, Memory>
-    requires few { length members.now < 2 ^ 31 }
+    requires fewer_than_2_31 { length members.now < 2 ^ 31 }
     requires known { All (λ cell. cell < length scratch.old) members.now }
     requires named { NamesCells (length scratch.old) relation.now }
     requires one { IsFormSign times }

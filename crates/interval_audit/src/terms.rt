@@ -28,7 +28,7 @@ pub(crate) fn form_terms(
 pub(crate) fn add_terms(numbers: &mut [i128], terms: &[(u32, i128)])
     requires named { All (λ term. term.0 < length numbers.old) terms.now }
     requires signs { All (λ term. IsFormSign term.1) terms.now }
-    requires few { length terms.now ≤ 2 ^ 32 }
+    requires at_most_2_32 { length terms.now ≤ 2 ^ 32 }
     requires zeros { AreZeros numbers.old }
     ensures length { length numbers.new ≡ length numbers.old }
     ensures each { AreCoefficients numbers.new terms.now }
@@ -44,7 +44,7 @@ pub(crate) fn add_terms(numbers: &mut [i128], terms: &[(u32, i128)])
 pub(crate) fn take_terms(numbers: &mut [i128], terms: &[(u32, i128)])
     requires named { All (λ term. term.0 < length numbers.old) terms.now }
     requires signs { All (λ term. IsFormSign term.1) terms.now }
-    requires few { length terms.now ≤ 2 ^ 32 }
+    requires at_most_2_32 { length terms.now ≤ 2 ^ 32 }
     requires each { AreCoefficients numbers.old terms.now }
     ensures length { length numbers.new ≡ length numbers.old }
     ensures zeros { AreZeros numbers.new }

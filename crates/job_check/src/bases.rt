@@ -27,8 +27,8 @@ pub fn base_in_units(method: Method, decimals: u8) -> i128
 // A base in whole numbers of the response, in units.
 fn in_units(base: i128, units: u64) -> i128
     requires base { IsMethod (method.Rnd base) }
-    requires some { 1 ≤ units }
-    requires few { units ≤ 10 ^ 13 }
+    requires from_one { 1 ≤ units }
+    requires at_most_10_13 { units ≤ 10 ^ 13 }
     ensures { result ≡ base *ℤ pos units }
 {
     base * i128::from(units)

@@ -104,7 +104,7 @@ fn tree_by(
     lead: &Text,
     variable: &Variable,
 ) -> Result<CodeTree, Refusal>
-    requires few { length bytes.now < 2 ^ 32 }
+    requires fewer_than_2_32 { length bytes.now < 2 ^ 32 }
     requires lead { 0 < length lead.now }
     requires missing { length variable.now.missing ≤ 2 }
     ensures told { Gives refused_for (λ tree. tree) result (tree_in file variable.now lead.now bytes.now) }
@@ -126,7 +126,7 @@ fn lead_tree(
     lead: &Text,
     total: &Text,
 ) -> Result<CodeTree, Refusal>
-    requires few { length bytes.now < 2 ^ 32 }
+    requires fewer_than_2_32 { length bytes.now < 2 ^ 32 }
     requires lead { 0 < length lead.now }
     ensures told { Gives refused_for (λ tree. tree) result
         (map_fault (Fault.Tree file) (lead_of lead.now total.now bytes.now)) }

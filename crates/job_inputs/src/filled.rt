@@ -78,7 +78,7 @@ pub(crate) fn filled(book: Book, described: &Described, rows: &[Row]) -> Book
     ensures tables { result.tables ≡ book.tables }
     ensures told { AreTabulated result rows.now (keep_of described.now.job.rules.list) described.now.bound.scale }
     ensures one_each { length result.marks ≡ length (book_cells.cells result) }
-    ensures few { length result.marks < 2 ^ 32 }
+    ensures fewer_than_2_32 { length result.marks < 2 ^ 32 }
 {
     let mut book = book;
     let kept = keep(&described.job.rules);

@@ -71,10 +71,10 @@ fn begin<S: Shelf>(shelf: &mut S, name: &Text) -> Result<(), InputStop>
 // Feeds a reader with all bytes of the chosen file, of which none is taken yet.
 fn feed_all<S: Shelf>(shelf: &mut S, reader: &mut Reader) -> Result<(), InputStop>
     requires { (S.state shelf.old).taken ≡ 0 }
-    ensures whole { OnOk result ((layout : AnyLayout) (bytes : List ℕ) → (S.state shelf.old).left ≡ Some bytes
+    ensures reads_all { OnOk result ((layout : AnyLayout) (bytes : List ℕ) → (S.state shelf.old).left ≡ Some bytes
         → HasRead reader.old layout []
         → HasRead reader.new layout bytes × (length bytes ≤ limit)) }
-    ensures some { OnOk result ((layout : AnyLayout) → HasRead reader.old layout []
+    ensures reads_front { OnOk result ((layout : AnyLayout) → HasRead reader.old layout []
         → (bytes : List ℕ) × HasRead reader.new layout bytes) }
     ensures told { IfErr result (λ stop. (layout : AnyLayout) (bytes : List ℕ) → (S.state shelf.old).left ≡ Some bytes
         → HasRead reader.old layout []

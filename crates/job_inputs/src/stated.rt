@@ -104,7 +104,7 @@ fn state(
     requires ready { IsReady counted.now }
     requires table { t < length counted.now.described.job.tables }
     requires priors { ArePriors counted.now.book.marks priors.old.items }
-    requires few { length bytes.now ≤ limit }
+    requires within_limit { length bytes.now ≤ limit }
     ensures told { (inputs : AnyInputs) → IsCountedOf inputs counted.now
         → Gives refused_for (λ fine. priors.new.items) result
         (map_fault prior_fault (file_says (basis_in inputs) t line.now.separator inputs.described.bound.decimals priors.old.items bytes.now)) }

@@ -44,7 +44,7 @@ fn hidden_by_lines(alloc: Global, shelved: &ShelvedJob) -> Result<Hidden, CheckF
 // Refuses a hidden set in which a fixed cell is hidden.
 fn check_fixed(cells: &[Cell], flags: &[bool]) -> Result<(), CheckFault>
     requires flags { length flags.now ≡ length cells.now }
-    requires few { length cells.now < 2 ^ 32 }
+    requires fewer_than_2_32 { length cells.now < 2 ^ 32 }
     ensures { result ≡ fixed_fault cells.now flags.now }
 {
     match hidden_fixed(cells, flags) {
@@ -56,7 +56,7 @@ fn check_fixed(cells: &[Cell], flags: &[bool]) -> Result<(), CheckFault>
 // The first fixed cell that is hidden.
 fn hidden_fixed(cells: &[Cell], flags: &[bool]) -> Option<u32>
     requires flags { length flags.now ≡ length cells.now }
-    requires few { length cells.now < 2 ^ 32 }
+    requires fewer_than_2_32 { length cells.now < 2 ^ 32 }
     ensures { result ≡ fixed_hidden flags.now 0 cells.now }
 {
     'cells: for (number, cell) in cells.iter().enumerate() {

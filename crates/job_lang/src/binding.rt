@@ -47,10 +47,10 @@ pub fn bind(alloc: Global, job: &Job, meta: &Meta) -> Result<Bound, JobError>
 
 // The variables of a job as places.
 fn places_of(alloc: Global, job: &Job, variables: &[Variable]) -> Result<Bound, Memory>
-    requires few { length variables.now ≤ 64 }
+    requires at_most_64 { length variables.now ≤ 64 }
     requires spanning { length (spec.spanning_of job.now.tables variables.now) ≤ 8 }
     requires widths { All (λ t. length t.variables ≤ 8) job.now.tables }
-    requires some { 0 < length job.now.tables }
+    requires at_least_one_table { 0 < length job.now.tables }
     requires decimals { spec.response_decimals job.now.tables variables.now ≤ 9 }
     requires weight { spec.weight_decimals job.now.rules variables.now ≤ 4 }
     ensures { IfOk result (λ bound. bound ≡ spec.places_of job.now variables.now) }
@@ -75,7 +75,7 @@ fn places_of(alloc: Global, job: &Job, variables: &[Variable]) -> Result<Bound, 
 
 // The variables that span tables, in the order of the metadata.
 fn spanning_of(tables: &[TableLine], variables: &[Variable]) -> Place
-    requires few { length variables.now ≤ 64 }
+    requires at_most_64 { length variables.now ≤ 64 }
     requires spanning { length (spec.spanning_of tables.now variables.now) ≤ 8 }
     ensures { result ≡ spec.spanning_of tables.now variables.now }
 {
@@ -103,7 +103,7 @@ fn variable_place(variables: &[Variable], name: &Text) -> u32
 
 // The place of the variable of this name among those that span tables, and 0 where it isn't there.
 fn spanning_place(spanning: &[u32], variables: &[Variable], name: &Text) -> u32
-    requires few { length spanning.now ≤ 8 }
+    requires at_most_8 { length spanning.now ≤ 8 }
     requires variables { length variables.now ≤ 64 }
     ensures { result ≡ spec.spanning_place spanning.now variables.now name.now }
 {
@@ -118,7 +118,7 @@ fn spanning_place(spanning: &[u32], variables: &[Variable], name: &Text) -> u32
 
 // The variables of a table as places among those that span tables.
 fn table_places(spanning: &[u32], variables: &[Variable], names: &[Text]) -> Place
-    requires few { length spanning.now ≤ 8 }
+    requires at_most_8 { length spanning.now ≤ 8 }
     requires variables { length variables.now ≤ 64 }
     requires names { length names.now ≤ 8 }
     ensures { result ≡ map (λ name. spec.spanning_place spanning.now variables.now name) names.now }
@@ -137,7 +137,7 @@ fn tables_places(
     variables: &[Variable],
     tables: &[TableLine],
 ) -> Result<Items<Place>, Memory>
-    requires few { length spanning.now ≤ 8 }
+    requires at_most_8 { length spanning.now ≤ 8 }
     requires variables { length variables.now ≤ 64 }
     requires widths { All (λ t. length t.variables ≤ 8) tables.now }
     ensures { IfOk result (λ places. places ≡ map (λ t. spec.table_places spanning.now variables.now t) tables.now) }
@@ -159,8 +159,8 @@ fn response_of(tables: &[TableLine]) -> &Text
 
 // The place of the response.
 fn response_place(variables: &[Variable], tables: &[TableLine]) -> u32
-    requires some { 0 < length tables.now }
-    requires few { length variables.now ≤ 64 }
+    requires at_least_one_table { 0 < length tables.now }
+    requires at_most_64 { length variables.now ≤ 64 }
     ensures { result ≡ spec.variable_place variables.now (spec.response_of tables.now) }
 {
     variable_place(variables, response_of(tables))

@@ -19,7 +19,7 @@ pub(crate) enum PutStop {
 
 // Puts one file.
 fn put_file<T: Tray>(tray: &mut T, next: &Put) -> Result<(), PutStop>
-    ensures whole { OnOk result (HasPut next.now.name next.now.bytes (T.state tray.old) (T.state tray.new)) }
+    ensures has_put { OnOk result (HasPut next.now.name next.now.bytes (T.state tray.old) (T.state tray.new)) }
     ensures part { (f : AnyFile) → IsErrOf result (PutStop.WriteFault f)
         → (next.now.file ≡ f) × HasPutInPart next.now.name next.now.bytes (T.state tray.old) (T.state tray.new) }
     ensures memory { IsErrOf result PutStop.Memory → T.state tray.new ≡ T.state tray.old }
@@ -35,7 +35,7 @@ fn put_file<T: Tray>(tray: &mut T, next: &Put) -> Result<(), PutStop>
 /// Puts the files, each once and in their order, up to the first that fails.
 pub(crate) fn put_files<T: Tray>(tray: &mut T, puts: &[Put]) -> Result<(), PutStop>
     requires { 0 < length puts.now }
-    ensures whole { OnOk result (AllWhole puts.now (T.state tray.old) (T.state tray.new)) }
+    ensures has_put_all { OnOk result (AllWhole puts.now (T.state tray.old) (T.state tray.new)) }
     ensures part { (f : AnyFile) → IsErrOf result (PutStop.WriteFault f)
         → OneInPart puts.now f (T.state tray.old) (T.state tray.new) }
     ensures memory { IsErrOf result PutStop.Memory → SomeWhole puts.now (T.state tray.old) (T.state tray.new) }

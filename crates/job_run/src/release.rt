@@ -23,7 +23,7 @@ use std::alloc::Global;
 pub(crate) fn release_for(alloc: Global, job: SettledJob) -> Result<Release, Stop>
     requires { CanBeReleased job }
     ensures comes { (settled : SettledInputs) → IsSettledOf settled job → ComesToRelease settled result }
-    ensures some { IfOk result (λ release. length release.puts ≡ 1 + length job.described.job.tables) }
+    ensures one_more_than_tables { IfOk result (λ release. length release.puts ≡ 1 + length job.described.job.tables) }
 {
     match base_of(job.described.job.method, job.described.bound.decimals) {
         Some(base) => rounded_release(alloc, job, base),
@@ -60,7 +60,7 @@ fn suppressed_release(alloc: Global, job: SettledJob) -> Result<Release, Stop>
     requires can { CanBeReleased job }
     requires hides { roundings.base_of job.described ≡ None }
     ensures comes { (settled : SettledInputs) → IsSettledOf settled job → ComesToRelease settled result }
-    ensures some { IfOk result (λ release. length release.puts ≡ 1 + length job.described.job.tables) }
+    ensures one_more_than_tables { IfOk result (λ release. length release.puts ≡ 1 + length job.described.job.tables) }
 {
     let mut summary = numbers_of(&job);
     let SettledJob {

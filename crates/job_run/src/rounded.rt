@@ -23,7 +23,7 @@ pub(crate) fn rounded_release(alloc: Global, job: SettledJob, base: i128) -> Res
     requires can { CanBeReleased job }
     requires rounds { roundings.base_of job.described ≡ Some base }
     ensures comes { (settled : SettledInputs) → IsSettledOf settled job → ComesToRelease settled result }
-    ensures some { IfOk result (λ release. length release.puts ≡ 1 + length job.described.job.tables) }
+    ensures one_more_than_tables { IfOk result (λ release. length release.puts ≡ 1 + length job.described.job.tables) }
 {
     let summary = numbers_of(&job);
     let SettledJob {

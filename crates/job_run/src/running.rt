@@ -119,7 +119,7 @@ pub(crate) fn run_job<S: Shelf, T: Tray>(
         (λ fs. LeavesTray (report_of result) (settled_of Purpose.Release fs name.now) (T.state tray.old)
         (T.state tray.new)) }
     ensures untouched { LeavesAll (report_of result) (T.state tray.old) (T.state tray.new) }
-    ensures some { OnOk result ((count : ℕ) × (2 ≤ count) × (count ≤ 9)
+    ensures two_to_nine_puts { OnOk result ((count : ℕ) × (2 ≤ count) × (count ≤ 9)
         × ((T.state tray.new).puts ≡ count_after (T.state tray.old).puts count)) }
     ensures released { WhereTold (S.state shelf.old).files
         (λ fs. IfOk result (λ release. HasReleased fs name.now release (T.state tray.old) (T.state tray.new))) }

@@ -57,7 +57,7 @@ impl Book {
     /// stops at the first cell too many. Numbering is the manual's order of tables, the limit and the order of
     /// refusals are argus's own.
     pub fn new(alloc: Global, trees: Vec<CodeTree>, tables: Vec<Place>) -> Result<Book, BookFault>
-        requires few { length trees.items ≤ 8 }
+        requires at_most_8 { length trees.items ≤ 8 }
         requires fewer { length tables.items < 2 ^ 32 }
         ensures exact { Gives fault_of (λ book. (book.trees, book.tables)) result (book_of trees.items tables.items) }
         ensures blank { IfOk result (λ book. All IsBlank book.marks) }
@@ -181,7 +181,7 @@ impl Book {
         ensures number { result ≡ (if is_in self.now table.now place.now
             then number_of self.now (name_in_table self.now table.now place.now) else None) }
         ensures within { IfSome result (λ number. number < length self.now.marks) }
-        ensures few { length self.now.marks ≤ most_cells }
+        ensures within_most_cells { length self.now.marks ≤ most_cells }
     {
         if !is_place(&self.trees, table, place) {
             return None;
@@ -213,7 +213,7 @@ impl Book {
     pub(crate) fn start_of(&self, t: usize) -> usize
         ensures start { result ≡ spec.first_own self.now t }
         ensures within { result ≤ length self.now.marks }
-        ensures few { length self.now.marks ≤ most_cells }
+        ensures within_most_cells { length self.now.marks ≤ most_cells }
     {
         match number_at(&self.starts, t) {
             Some(start) => start as usize,

@@ -33,7 +33,7 @@ pub(crate) fn number_cells(
     trees: &[CodeTree],
     tables: &[Place],
 ) -> Result<Numbering, BookFault>
-    requires few { length trees.now ≤ 8 }
+    requires at_most_8 { length trees.now ≤ 8 }
     requires fewer { length tables.now < 2 ^ 32 }
     ensures none { OnOk result (first_fault trees.now [] tables.now ≡ None) }
     ensures fault { IfErr result (λ fault. Fails (fault_of fault) (book_of trees.now tables.now)) }
@@ -82,7 +82,7 @@ fn name_below(
     names: &mut Names,
     guesses: &mut Vec<usize>,
 ) -> Result<(), BookFault>
-    requires few { length trees.now ≤ 8 }
+    requires at_most_8 { length trees.now ≤ 8 }
     requires begun { length place.now ≤ length table.now }
     requires room { length names.old ≤ most_cells }
     ensures names { OnOk result (names_within_limit t

@@ -39,7 +39,7 @@ pub(crate) struct Closed {
 pub(crate) fn close(alloc: Global, so_far: SoFar) -> Result<Records, RowError>
     requires variables { All (λ variable. IsSource variable.field.source) so_far.variables }
     requires seen { All (λ variable. AreSeen variable.field.source variable.seen) so_far.variables }
-    requires few { length so_far.variables ≤ 8 }
+    requires at_most_8 { length so_far.variables ≤ 8 }
     ensures exact { Gives fault_of (λ records. records) result (closed_records so_far) }
     ensures trees { IfOk result (λ records. AllByRecursion IsCodeTree records.trees) }
 {
@@ -136,7 +136,7 @@ fn trees_of(alloc: Global, closed: Items<Closed>) -> Result<Items<CodeTree>, Mem
 // The rows with the places of their codes, which are written where their numbers stood, or the first one with a code
 // that has others below it.
 fn rows_of(closed: &[Closed], kept: KeptRows) -> Result<Items<Row>, RowError>
-    requires few { length closed.now ≤ 8 }
+    requires at_most_8 { length closed.now ≤ 8 }
     ensures { Gives fault_of (λ rows. rows) result (closing.rows_of closed.now kept) }
 {
     let (numbers, mut rows) = kept.into_parts();
@@ -151,7 +151,7 @@ fn rows_of(closed: &[Closed], kept: KeptRows) -> Result<Items<Row>, RowError>
 // Writes the places of a row's codes where their numbers stand, or gives its fault with the number of its record.
 #[tactic(auto, unfolding(crate::specs::Closing::row_of), using(crate::proofs::RowsPlaced::fails_placed))]
 fn place_codes(closed: &[Closed], number: u32, row: &mut Row) -> Result<(), RowError>
-    requires few { length closed.now ≤ 8 }
+    requires at_most_8 { length closed.now ≤ 8 }
     ensures { Gives fault_of (λ _. row.new) result
         (at_record number (closing.row_of closed.now (kept_of number row.old))) }
 {
@@ -167,7 +167,7 @@ fn place_codes(closed: &[Closed], number: u32, row: &mut Row) -> Result<(), RowE
 // The places of a record's codes, where no others stand below them.
 #[tactic(auto, unfolding(crate::specs::Closing::leaves_of))]
 fn leaves_of(closed: &[Closed], numbers: &[u32]) -> Result<Place, RecordError>
-    requires few { length closed.now ≤ 8 }
+    requires at_most_8 { length closed.now ≤ 8 }
     ensures { Gives why_of (λ places. places) result (closing.leaves_of closed.now numbers.now) }
 {
     let mut places = ArrayVec::new();
@@ -209,11 +209,11 @@ fn level_tree(
     widths: &[u8],
     total: &Text,
 ) -> Result<CodeTree, Memory>
-    requires some { 0 < length widths.now }
+    requires at_least_one_width { 0 < length widths.now }
     requires levels { length widths.now ≤ 9 }
     requires positive { All (λ width. 0 < width) widths.now }
     requires short { All (λ code. length code ≤ sum widths.now) codes.now }
-    requires fine { first_level_fault total.now (boundaries 0 widths.now) 1 [] [] codes.now ≡ None }
+    requires no_fault { first_level_fault total.now (boundaries 0 widths.now) 1 [] [] codes.now ≡ None }
     ensures { IfOk result (λ tree. tree ≡ tree_of_codes total.now (boundaries 0 widths.now) ((total.now, None) ∷ [])
         (codes_with_prefixes (boundaries 0 widths.now) [] codes.now)) }
 {
@@ -239,7 +239,7 @@ fn flat_tree(
     total: &Text,
 ) -> Result<CodeTree, Memory>
     requires distinct { IsDistinct bytes_eq (total.now ∷ (listed ++ further)) }
-    requires few { length listed + length further ≤ 5000 }
+    requires at_most_5000 { length listed + length further ≤ 5000 }
     ensures { IfOk result (λ tree. tree ≡ trees_specs.flat_tree total.now (listed ++ further)) }
 {
     let mut codes = listed.into_vec();

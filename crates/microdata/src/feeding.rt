@@ -44,7 +44,7 @@ pub(crate) fn take_bytes(
 // The first line that has ended, without its LF, and what stands behind it.
 fn ended_line(bytes: &[u8]) -> Option<(&[u8], &[u8])>
     ensures plain { IfSome result (λ cut. HasNoFeed cut.0.now) }
-    ensures whole { IfSome result (λ cut. bytes.now ≡ cut.0.now ++ 10 ∷ cut.1.now) }
+    ensures cut_behind_line { IfSome result (λ cut. bytes.now ≡ cut.0.now ++ 10 ∷ cut.1.now) }
     ensures none { IfNone result (HasNoFeed bytes.now) }
 {
     let (line, behind) = cut_at(b'\n', bytes);

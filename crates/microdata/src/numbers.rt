@@ -39,7 +39,7 @@ fn is_among(text: &[u8], codes: &[Text]) -> bool
 #[tactic(auto, unfolding(crate::specs::Fields::value_in))]
 pub(crate) fn value_in(response: &NumberField, text: &[u8]) -> Result<u64, RecordError>
     requires decimals { response.now.decimals ≤ 9 }
-    requires few { length text.now ≤ 1000 }
+    requires at_most_1000 { length text.now ≤ 1000 }
     ensures value { Gives why_of (λ value. value) result (spec.value_in response.now text.now) }
     ensures small { IfOk result (λ value. value < 10 ^ 15) }
 {
@@ -63,7 +63,7 @@ fn is_negative(bytes: &[u8]) -> bool
 #[tactic(auto, unfolding(crate::specs::Fields::weight_of))]
 pub(crate) fn weight_of(weight: &Option<NumberField>, line: &[u8]) -> Result<u32, RecordError>
     requires number { IsWeight (length line.now) weight.now }
-    requires few { length line.now ≤ 1000 }
+    requires at_most_1000 { length line.now ≤ 1000 }
     ensures { Gives why_of (λ steps. steps) result (spec.weight_of weight.now line.now) }
 {
     match weight {
@@ -76,7 +76,7 @@ pub(crate) fn weight_of(weight: &Option<NumberField>, line: &[u8]) -> Result<u32
 #[tactic(auto, unfolding(crate::specs::Fields::weight_of))]
 fn steps_of(weight: &NumberField, line: &[u8]) -> Result<u32, RecordError>
     requires number { IsNumber (length line.now) 4 weight.now }
-    requires few { length line.now ≤ 1000 }
+    requires at_most_1000 { length line.now ≤ 1000 }
     ensures { Gives why_of (λ steps. steps) result (spec.weight_of (Some weight.now) line.now) }
 {
     let text = field(weight.first, weight.width, line);
@@ -98,7 +98,7 @@ fn scale_of(decimals: u8) -> u64
 // The number in a text, in units of so many decimals, below a limit.
 fn number_in(limit: u64, decimals: u8, text: &[u8]) -> Result<u64, RecordError>
     requires decimals { decimals ≤ 9 }
-    requires few { length text.now ≤ 1000 }
+    requires at_most_1000 { length text.now ≤ 1000 }
     ensures value { Gives why_of (λ value. value) result (spec.number_in limit decimals text.now) }
     ensures small { IfOk result (λ value. value < limit) }
 {

@@ -62,11 +62,11 @@ impl Variables {
     // Takes in the codes of a record, each at its variable, and says where they stand.
     fn take_codes(&mut self, alloc: Global, needed: u32, line: &[u8]) -> Result<Place, RecordError>
         requires variables { All (IsVariable needed) self.old }
-        requires few { length self.old ≤ 8 }
-        requires whole { needed ≤ length line.now }
+        requires at_most_8 { length self.old ≤ 8 }
+        requires long_enough { needed ≤ length line.now }
         ensures said { Gives why_of (λ places. (self.new, places)) result (variables_say self.old line.now) }
         ensures sound { OnOk result (All (IsVariable needed) self.new) }
-        ensures few { OnOk result (length self.new ≤ 8) }
+        ensures at_most_8 { OnOk result (length self.new ≤ 8) }
     {
         take_codes(alloc, &mut self.variables, needed, line)
     }
@@ -145,8 +145,8 @@ fn take_response(
 ) -> Result<(), RecordError>
     requires sound { IsSound measures.now so_far.old }
     requires more { so_far.old.number < 1000000 }
-    requires whole { measures.now.needed ≤ length line.now }
-    requires few { length line.now ≤ 1000 }
+    requires long_enough { measures.now.needed ≤ length line.now }
+    requires at_most_1000 { length line.now ≤ 1000 }
     requires text { text.now ≡ spec.field measures.now.response.first measures.now.response.width line.now }
     requires short { length text.now ≤ 1000 }
     ensures said { Gives why_of (λ _. so_far.new) result (response_says measures.now so_far.old line.now) }
@@ -173,12 +173,12 @@ fn take_codes(
     line: &[u8],
 ) -> Result<Place, RecordError>
     requires variables { All (IsVariable needed) variables.old.items }
-    requires few { length variables.old.items ≤ 8 }
-    requires whole { needed ≤ length line.now }
+    requires at_most_8 { length variables.old.items ≤ 8 }
+    requires long_enough { needed ≤ length line.now }
     ensures said { Gives why_of (λ places. (variables.new.items, places)) result
         (variables_say variables.old.items line.now) }
     ensures sound { OnOk result (All (IsVariable needed) variables.new.items) }
-    ensures few { OnOk result (length variables.new.items ≤ 8) }
+    ensures at_most_8 { OnOk result (length variables.new.items ≤ 8) }
 {
     let mut places = ArrayVec::new();
     let mut k = 0;
@@ -199,7 +199,7 @@ fn take_variable(
     line: &[u8],
 ) -> Result<u32, RecordError>
     requires variable { IsVariable needed variable.old }
-    requires whole { needed ≤ length line.now }
+    requires long_enough { needed ≤ length line.now }
     ensures said { Gives why_of (λ place. (variable.new, place)) result (variable_says variable.old line.now) }
     ensures sound { OnOk result (IsVariable needed variable.new) }
 {

@@ -76,7 +76,7 @@ fn take_level_code(
     seen: &mut Seen,
     code: &[u8],
 ) -> Result<u32, RecordError>
-    requires few { length widths.now ≤ 9 }
+    requires at_most_9 { length widths.now ≤ 9 }
     requires sound { AreLevelCodes widths.now total.now seen.old }
     ensures said { Gives why_of (λ place. (seen.new, place)) result
         (known_or_new seen.old (position (bytes_eq code.now) seen.old.codes)
@@ -100,7 +100,7 @@ fn add_level_code(
     seen: &mut Seen,
     code: &[u8],
 ) -> Result<(), RecordError>
-    requires few { length widths.now ≤ 9 }
+    requires at_most_9 { length widths.now ≤ 9 }
     requires new { list_any (bytes_eq code.now) seen.old.codes ≡ false }
     ensures said { Gives why_of (λ _. seen.new) result (with_level_code widths.now total.now seen.old code.now) }
 {

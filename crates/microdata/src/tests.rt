@@ -78,10 +78,10 @@ fn spanning_of(
     needed: u32,
     source: Source,
 ) -> Result<Items<Field>, Memory>
-    requires some { 1 ≤ width }
+    requires from_one { 1 ≤ width }
     requires inside { width ≤ needed }
     requires source { IsSource source }
-    ensures few { IfOk result (λ spanning. length spanning ≤ 1) }
+    ensures at_most_1 { IfOk result (λ spanning. length spanning ≤ 1) }
     ensures fields { IfOk result (λ spanning. All (IsField needed) spanning) }
 {
     let mut spanning = Items::empty(alloc);
@@ -95,7 +95,7 @@ fn spanning_of(
 
 // Two spanning variables of two bytes at the front of a record.
 fn two_fields(alloc: Global) -> Result<Items<Field>, Memory>
-    ensures few { IfOk result (λ spanning. length spanning ≤ 8) }
+    ensures at_most_8 { IfOk result (λ spanning. length spanning ≤ 8) }
     ensures fields { IfOk result (λ spanning. All (IsField 9) spanning) }
 {
     let mut spanning = spanning_of(alloc, 2, 9, flat_source(alloc)?)?;
@@ -134,8 +134,8 @@ fn layout_of(alloc: Global, shape: Shape) -> Result<Layout, Memory>
 }
 
 fn plain(alloc: Global, width: u32, source: Source, missing: Items<Text>) -> Result<Layout, Memory>
-    requires some { 1 ≤ width }
-    requires few { width ≤ 3 }
+    requires from_one { 1 ≤ width }
+    requires at_most_3 { width ≤ 3 }
     requires source { IsSource source }
     ensures { IfOk result IsLayout }
 {

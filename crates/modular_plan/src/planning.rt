@@ -41,7 +41,7 @@ pub fn plan<F: TellsCosts>(
     ensures stopped { IfErr result (λ _. AreMarkedInPart book.new cells.now
         (trail_of book.old cells.now rule.now passes)) }
     ensures same { IsSameButHidden book.old book.new }
-    ensures whole { IfOk result (λ trail. AllByRecursion (IsWholeStep book.old cells.now) trail.steps) }
+    ensures whole_steps { IfOk result (λ trail. AllByRecursion (IsWholeStep book.old cells.now) trail.steps) }
 {
     // for the proof: what holds of every book
     let _cells = book.cells();

@@ -36,7 +36,7 @@ fn add_table(alloc: Global, book: &Book, t: u32, found: &mut Vec<Subtable>) -> R
 // The codes that have children, variable by variable of a table.
 fn inner_lists(alloc: Global, book: &Book, table: &Place) -> Result<Vec<Items<u32>>, Memory>
     ensures lists { IfOk result (λ lists. lists.items ≡ map spec.inner_codes (trees_of book.now.trees table.now)) }
-    ensures few { IfOk result (λ lists. length lists.items ≤ 8) }
+    ensures at_most_8 { IfOk result (λ lists. length lists.items ≤ 8) }
 {
     let mut lists = Vec::new(alloc);
     let few = table.len();
@@ -78,7 +78,7 @@ fn add_choices(
     parents: &Place,
     found: &mut Vec<Subtable>,
 ) -> Result<(), Memory>
-    requires few { length lists.now ≤ 8 }
+    requires at_most_8 { length lists.now ≤ 8 }
     ensures { OnOk result (found.new.items
         ≡ found.old.items ++ subtables_below t parents.now (drop (length parents.now) lists.now)) }
 {
@@ -118,7 +118,7 @@ fn first_child_of(book: &Book, variable: u32, code: u32) -> Option<u32>
 // How many codes a variable has.
 fn size_of(book: &Book, variable: u32) -> usize
     ensures size { result ≡ length (slice_index_or book.now.trees variable []) }
-    ensures few { result ≤ 5001 }
+    ensures at_most_5001 { result ≤ 5001 }
 {
     match book.tree(variable) {
         Some(tree) => tree.len(),

@@ -93,7 +93,7 @@ fn rest_of(files: &[(Text, Vec<u8>)], chosen: Option<usize>, at: usize) -> &[u8]
 // Puts at most `most` of the bytes at the front of the buffer, and says how many.
 fn give(bytes: &[u8], most: u32, buffer: &mut [u8]) -> usize
     requires room { 0 < length buffer.old }
-    requires some { 1 ≤ most }
+    requires at_least_one { 1 ≤ most }
     ensures fits { result ≤ length buffer.old }
     ensures most { result ≤ most }
     ensures within { result ≤ length bytes.now }
@@ -108,7 +108,7 @@ fn give(bytes: &[u8], most: u32, buffer: &mut [u8]) -> usize
 // The place of the first file of this name.
 fn place_of(files: &[(Text, Vec<u8>)], name: &Text) -> Option<usize>
     ensures none { IfNone result (file_of files.now name.now ≡ None) }
-    ensures some { IfSome result (λ i. (file_of files.now name.now ≡ bytes_at files.now i)
+    ensures has_name { IfSome result (λ i. (file_of files.now name.now ≡ bytes_at files.now i)
         × (name_at files.now i ≡ Some name.now)) }
 {
     for (i, file) in files.iter().enumerate() {

@@ -103,7 +103,7 @@ impl Tray for MemoryTray {
         ensures failing { tray_failing self.new ≡ tray_failing self.old }
         ensures one_fault { IsErrOf result PutFault.Failed
             → (tray_state self.new).faults ≡ count_after (tray_state self.old).faults 1 }
-        ensures fine { OnOk result ((tray_state self.new).faults ≡ (tray_state self.old).faults) }
+        ensures faults_stay { OnOk result ((tray_state self.new).faults ≡ (tray_state self.old).faults) }
     {
         let number = self.puts.saturating_add(1);
         if self.failing.contains(&number) {

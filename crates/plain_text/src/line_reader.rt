@@ -38,7 +38,7 @@ impl<'a> Model for LineReader<'a> {
 /// memory. The rule is argus's own.
 pub fn lines<'a>(bytes: &'a [u8]) -> LineReader<'a>
     ensures start { result ≡ record { rest = bytes.now; given = 0 } }
-    ensures few { length (spec.lines bytes.now) ≤ length bytes.now }
+    ensures no_more_than_bytes { length (spec.lines bytes.now) ≤ length bytes.now }
 {
     LineReader {
         rest: bytes,

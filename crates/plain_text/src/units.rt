@@ -20,7 +20,7 @@ const TOO_WIDE: u128 = 10_000_000_000_000_000_000_000_000_000_000_000_000;
 /// or more. The call takes no memory, and looks at each byte a few times.
 pub fn read_units(bytes: &[u8], decimals: u8) -> Result<i128, NumberFault>
     requires decimals { decimals ≤ 13 }
-    requires few { length bytes.now < 2 ^ 32 }
+    requires fewer_than_2_32 { length bytes.now < 2 ^ 32 }
     ensures value { result ≡ spec.read_units bytes.now decimals }
     ensures from { IfOk result (λ units. pos 0 ≤ℤ units) }
     ensures below { IfOk result (λ units. units <ℤ pos too_wide) }

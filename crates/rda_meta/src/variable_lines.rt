@@ -90,7 +90,7 @@ fn name_at<'a>(words: &mut Words<'a>) -> Result<&'a [u8], LineError>
 fn number_at(most: u32, words: &mut Words) -> Result<u32, LineError>
     requires { most < 2 ^ 16 }
     ensures number { Gives why_of (λ number. (number, words.new)) result (spec.number_at most words.old) }
-    ensures some { IfOk result (λ number. 0 < number) }
+    ensures positive { IfOk result (λ number. 0 < number) }
     ensures within { IfOk result (λ number. number ≤ most) }
 {
     let Some(word) = words.next_word() else {

@@ -21,7 +21,7 @@ pub(crate) fn parts_of(
     requires known { variable < length book.now.trees }
     ensures parts { IfOk result (λ parts. parts
         ≡ parts_among (spec.cells book.now) name.now variable (codes_below book.now.trees name.now variable)) }
-    ensures few { IfOk result (λ parts. length parts < 2 ^ 32) }
+    ensures fewer_than_2_32 { IfOk result (λ parts. length parts < 2 ^ 32) }
     ensures named { IfOk result (λ parts. All (λ part. part < length book.now.marks) parts) }
 {
     let mut parts = Vec::new(alloc);

@@ -53,7 +53,7 @@ fn add_cell(
         ≡ map sum_in relations.old.items
         ++ relations_for book.now.trees book.now.tables cell (slice_index_or (book_cells.cells book.now) cell [])) }
     ensures within { OnOk result (All (NamesCells (length book.now.marks)) relations.new.items) }
-    ensures few { OnOk result (length relations.new.items ≤ length relations.old.items + 8) }
+    ensures at_most_8_more { OnOk result (length relations.new.items ≤ length relations.old.items + 8) }
 {
     let Some(name) = book.name(cell) else {
         return Ok(());
@@ -81,7 +81,7 @@ fn add_relation(
         ≡ map sum_in relations.old.items
         ++ option_to_list (relation_for book.now.trees book.now.tables cell name.now variable)) }
     ensures within { OnOk result (All (NamesCells (length book.now.marks)) relations.new.items) }
-    ensures few { OnOk result (length relations.new.items ≤ length relations.old.items + 1) }
+    ensures at_most_1_more { OnOk result (length relations.new.items ≤ length relations.old.items + 1) }
 {
     if has_relation(book, name, variable) {
         let parts = parts_of(alloc, book, name, variable)?;

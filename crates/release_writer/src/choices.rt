@@ -26,7 +26,7 @@ pub(crate) fn value_there<'a>(
     known: Option<Option<i128>>,
 ) -> Result<Option<Fit<'a>>, Memory>
     requires sheet { IsSheet sheet.now }
-    requires whole { length place.now ≡ length sheet.now.table.now }
+    requires code_for_each_variable { length place.now ≡ length sheet.now.table.now }
     requires known { ForSome known IsFromZero }
     ensures fit { IfOk result (λ fit. fit_of fit ≡ spec.value_there (form_of sheet.now) place.now bytes.now cell known) }
     ensures from_zero { IfOk result (λ fit. ForSome fit (λ fit. IsFromZero fit.value)) }
@@ -46,7 +46,7 @@ fn new_value<'a>(
     cell: u32,
 ) -> Result<Option<Fit<'a>>, Memory>
     requires sheet { IsSheet sheet.now }
-    requires whole { length place.now ≡ length sheet.now.table.now }
+    requires code_for_each_variable { length place.now ≡ length sheet.now.table.now }
     ensures fit { IfOk result (λ fit. fit_of fit ≡ spec.new_value (form_of sheet.now) place.now bytes.now cell) }
     ensures from_zero { IfOk result (λ fit. ForSome fit (λ fit. IsFromZero fit.value)) }
 {
@@ -68,7 +68,7 @@ fn rounded_value<'a>(
     bytes: &'a [u8],
 ) -> Result<Option<Fit<'a>>, Memory>
     requires sheet { IsSheet sheet.now }
-    requires whole { length place.now ≡ length sheet.now.table.now }
+    requires code_for_each_variable { length place.now ≡ length sheet.now.table.now }
     ensures fit { IfOk result (λ fit. fit_of fit ≡ spec.rounded_value (form_of sheet.now) place.now bytes.now) }
     ensures from_zero { IfOk result (λ fit. ForSome fit (λ fit. IsFromZero fit.value)) }
 {
@@ -87,7 +87,7 @@ fn choice_there<'a>(
     value: Option<i128>,
 ) -> Result<Option<Fit<'a>>, Memory>
     requires sheet { IsSheet sheet.now }
-    requires whole { length place.now ≡ length sheet.now.table.now }
+    requires code_for_each_variable { length place.now ≡ length sheet.now.table.now }
     requires from_zero { IsFromZero value }
     ensures fit { IfOk result (λ fit. fit_of fit ≡ spec.choice_there (form_of sheet.now) place.now bytes.now value) }
     ensures from_zero { IfOk result (λ fit. ForSome fit (λ fit. IsFromZero fit.value)) }
@@ -121,7 +121,7 @@ fn line_showing(
     value: Option<i128>,
 ) -> Result<Vec<u8>, Memory>
     requires sheet { IsSheet sheet.now }
-    requires whole { length place.now ≡ length sheet.now.table.now }
+    requires code_for_each_variable { length place.now ≡ length sheet.now.table.now }
     requires from_zero { IsFromZero value }
     ensures line { IfOk result (λ line. line.items ≡ spec.line_showing (form_of sheet.now) place.now value) }
 {
@@ -148,7 +148,7 @@ fn number_there(
     bytes: &[u8],
 ) -> Result<Option<i128>, Memory>
     requires sheet { IsSheet sheet.now }
-    requires whole { length place.now ≡ length sheet.now.table.now }
+    requires code_for_each_variable { length place.now ≡ length sheet.now.table.now }
     ensures number { IfOk result (λ number. number ≡ spec.number_there (form_of sheet.now) place.now bytes.now) }
     ensures from_zero { IfOk result IsFromZero }
 {
@@ -174,7 +174,7 @@ fn number_behind(length: usize, bytes: &[u8], decimals: u8) -> Option<i128>
 // The next 60 bytes from a place on.
 fn window(bytes: &[u8], from: usize) -> &[u8]
     ensures bytes { result.now ≡ take 60 (drop from bytes.now) }
-    ensures few { length result.now ≤ 60 }
+    ensures at_most_60 { length result.now ≤ 60 }
 {
     at_most(behind_place(bytes, from), 60)
 }
@@ -192,7 +192,7 @@ fn behind_place(bytes: &[u8], from: usize) -> &[u8]
 // So many bytes, or all where there are fewer.
 fn at_most(bytes: &[u8], most: usize) -> &[u8]
     ensures bytes { result.now ≡ take most bytes.now }
-    ensures few { length result.now ≤ most }
+    ensures at_most { length result.now ≤ most }
 {
     if bytes.len() <= most {
         return bytes;
@@ -203,7 +203,7 @@ fn at_most(bytes: &[u8], most: usize) -> &[u8]
 // What stands before the first LF.
 fn up_to_feed(bytes: &[u8]) -> &[u8]
     ensures bytes { result.now ≡ before_first is_line_feed bytes.now }
-    ensures few { length result.now ≤ length bytes.now }
+    ensures no_longer { length result.now ≤ length bytes.now }
 {
     let (front, _) = cut_at(b'\n', bytes);
     front

@@ -9,7 +9,7 @@ use sdc_base::Memory;
 /// Writes one more field of a line.
 pub(crate) fn put_field(writer: &mut Writer<Vec<u8>>, field: &[u8]) -> Result<(), Memory>
     requires setup { writer_setup writer.old ≡ default_writer }
-    requires few { fields_written writer.old < 2 ^ 64 - 1 }
+    requires fewer_than_2_64 { fields_written writer.old < 2 ^ 64 - 1 }
     ensures setup { OnOk result (writer_setup writer.new ≡ default_writer) }
     ensures fields { OnOk result (fields_written writer.new ≡ fields_written writer.old + 1) }
     ensures text { OnOk result (bytes_written writer.new
@@ -26,7 +26,7 @@ pub(crate) fn put_field(writer: &mut Writer<Vec<u8>>, field: &[u8]) -> Result<()
 /// Ends a line that has shown something.
 pub(crate) fn end_line(writer: &mut Writer<Vec<u8>>) -> Result<(), Memory>
     requires setup { writer_setup writer.old ≡ default_writer }
-    requires some { 0 < fields_written writer.old }
+    requires at_least_one_field { 0 < fields_written writer.old }
     requires shown { fields_written writer.old ≡ 1 → has_written writer.old ≡ true }
     ensures ready { OnOk result (IsReady writer.new) }
     ensures text { OnOk result (bytes_written writer.new

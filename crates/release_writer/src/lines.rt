@@ -12,7 +12,7 @@ use sdc_base::{Memory, Text};
 /// Writes the line of a table's names, of which one alone isn't empty.
 pub(crate) fn write_names(writer: &mut Writer<Vec<u8>>, names: &[Text]) -> Result<(), Memory>
     requires ready { IsReady writer.old }
-    requires some { 0 < length names.now }
+    requires at_least_one_name { 0 < length names.now }
     requires shown { length names.now ≡ 1 → 0 < length (slice_index_or names.now 0 []) }
     ensures ready { OnOk result (IsReady writer.new) }
     ensures text { OnOk result (bytes_written writer.new
@@ -33,8 +33,8 @@ pub(crate) fn write_place(
     number: &[u8],
 ) -> Result<(), Memory>
     requires ready { IsReady writer.old }
-    requires whole { length place.now ≡ length table.now }
-    requires few { length table.now ≤ 8 }
+    requires code_for_each_variable { length place.now ≡ length table.now }
+    requires at_most_8 { length table.now ≤ 8 }
     requires number { 0 < length number.now }
     ensures ready { OnOk result (IsReady writer.new) }
     ensures text { OnOk result (bytes_written writer.new

@@ -20,7 +20,7 @@ pub(crate) fn read_place<'a>(
     place: &[u32],
 ) -> Result<(), ReleaseFault>
     requires sheet { IsSheet sheet.now }
-    requires whole { length place.now ≡ length sheet.now.table.now }
+    requires code_for_each_variable { length place.now ≡ length sheet.now.table.now }
     requires place { is_place_in (trees_of sheet.now.book.now.trees sheet.now.table.now) place.now ≡ true }
     requires shown { All IsFromZero progress.old.shown }
     ensures exact { Gives fault_of (λ _. reading_of progress.new) result

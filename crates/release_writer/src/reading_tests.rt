@@ -12,7 +12,7 @@ use worked::{places, text, texts, tree};
 
 fn spanned(book: &Book, t: u32) -> usize
     ensures size { result ≡ length (slice_index_or book.now.tables t []) }
-    ensures few { result ≤ 8 }
+    ensures at_most_8 { result ≤ 8 }
 {
     match book.spans(t) {
         Some(table) => table.len(),

@@ -156,7 +156,7 @@ fn read_table(
 
 // The line of a table's names.
 fn names_line(alloc: Global, names: &[Text]) -> Result<Vec<u8>, Memory>
-    requires some { 0 < length names.now }
+    requires at_least_one_name { 0 < length names.now }
     ensures line { IfOk result (λ line. line.items ≡ line_text names.now) }
 {
     let writer = begin(alloc, names)?;

@@ -67,7 +67,7 @@ pub(crate) fn bytes_of(writer: Writer<Vec<u8>>) -> Result<Vec<u8>, Memory>
 
 /// A writer behind the line of a table's names.
 pub(crate) fn begin(alloc: Global, names: &[Text]) -> Result<Writer<Vec<u8>>, Memory>
-    requires some { 0 < length names.now }
+    requires at_least_one_name { 0 < length names.now }
     ensures ready { IfOk result IsReady }
     ensures text { IfOk result (λ writer. bytes_written writer ≡ Some (line_text names.now)) }
 {
@@ -137,8 +137,8 @@ fn write_whole(
 ) -> Result<(), Memory>
     requires ready { IsReady writer.old }
     requires page { IsPage page.now }
-    requires few { length page.now.table.now ≤ 8 }
-    requires whole { length place.now ≡ length page.now.table.now }
+    requires at_most_8 { length page.now.table.now ≤ 8 }
+    requires code_for_each_variable { length place.now ≡ length page.now.table.now }
     requires place { is_place_in (trees_of page.now.book.now.trees page.now.table.now) place.now ≡ true }
     ensures ready { OnOk result (IsReady writer.new) }
     ensures text { OnOk result (bytes_written writer.new

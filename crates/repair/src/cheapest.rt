@@ -26,7 +26,7 @@ pub(crate) fn subject_of(
     ensures none { IfNone result ((number : ℕ)
         → breaks_at task.now.cells.now hidden.now.flags (coefficients_for task.now.system.now asked multipliers.now)
         number ≡ false) }
-    ensures some { IfSome result (λ number. IsCheapest task.now.cells.now task.now.prices.now hidden.now.flags
+    ensures cheapest { IfSome result (λ number. IsCheapest task.now.cells.now task.now.prices.now hidden.now.flags
         (coefficients_for task.now.system.now asked multipliers.now) number) }
 {
     // for the proof: read, so that it is known to be a number of 32 bits
@@ -50,9 +50,9 @@ fn find_cheapest(cells: &[Cell], flags: &[bool], prices: &[u64], counts: &[i128]
     requires flags { length flags.now ≡ length cells.now }
     requires prices { length prices.now ≡ length cells.now }
     requires counts { length counts.now ≡ length cells.now }
-    requires few { length cells.now < 2 ^ 32 }
+    requires fewer_than_2_32 { length cells.now < 2 ^ 32 }
     ensures none { IfNone result ((number : ℕ) → breaks_at cells.now flags.now (number_at counts.now) number ≡ false) }
-    ensures some { IfSome result (λ number. IsCheapest cells.now prices.now flags.now (number_at counts.now) number) }
+    ensures cheapest { IfSome result (λ number. IsCheapest cells.now prices.now flags.now (number_at counts.now) number) }
 {
     let mut best = None;
     for (number, cell) in cells.iter().enumerate() {

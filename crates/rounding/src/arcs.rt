@@ -22,7 +22,7 @@ pub(crate) struct Arc {
 pub(crate) fn arcs_of(alloc: Global, system: &System, signs: &[bool]) -> Result<Vec<Arc>, Memory>
     requires signs { AreSigns system.now.relations signs.now }
     ensures arcs { IfOk result (λ arcs. AreArcsOf system.now.relations signs.now system.now.cells arcs.items) }
-    ensures few { IfOk result (λ arcs. length arcs.items < 2 ^ 32) }
+    ensures fewer_than_2_32 { IfOk result (λ arcs. length arcs.items < 2 ^ 32) }
 {
     let naming = naming_of(alloc, system)?;
     let mut arcs = Vec::new(alloc);
@@ -37,7 +37,7 @@ pub(crate) fn arcs_of(alloc: Global, system: &System, signs: &[bool]) -> Result<
 fn arc_of(relations: &[Relation], signs: &[bool], named: &[u32], cell: u32) -> Arc
     requires signs { AreSigns relations.now signs.now }
     requires named { IsNamingOf relations.now cell named.now }
-    requires few { length relations.now < 2 ^ 32 }
+    requires fewer_than_2_32 { length relations.now < 2 ^ 32 }
     ensures { IsArcOf relations.now signs.now cell result }
 {
     let outside = relations.len() as u32;

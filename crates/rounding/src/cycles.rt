@@ -45,7 +45,7 @@ fn round_cells(
     ensures balanced { OnOk result (IsBalanced network.now.arcs.items (length network.now.touching.items)
         (number_at numbers.new)) }
     ensures beside { OnOk result (AreBeside task.now.truths.now task.now.base numbers.new) }
-    ensures whole { OnOk result ((cell : ℕ) → cell < length numbers.new
+    ensures all_multiples { OnOk result ((cell : ℕ) → cell < length numbers.new
         → spec.is_multiple task.now.base (number_at numbers.new cell) ≡ true) }
 {
     let cells = network.arcs.as_slice().len() as u32;
@@ -73,7 +73,7 @@ fn round_cell(
         (number_at numbers.new)) }
     ensures beside { OnOk result (AreBeside task.now.truths.now task.now.base numbers.new) }
     ensures multiples { OnOk result (KeepMultiples task.now.base numbers.old numbers.new) }
-    ensures whole { OnOk result (spec.is_multiple task.now.base (number_at numbers.new cell) ≡ true) }
+    ensures is_multiple { OnOk result (spec.is_multiple task.now.base (number_at numbers.new cell) ≡ true) }
 {
     'rounds: while !is_whole(task, numbers, cell) {
         let walk = walk_from(alloc, network, task, numbers, cell)?;

@@ -21,7 +21,7 @@ pub(crate) fn count_of(relation: &Relation, cell: u32) -> i128
 // How often a cell is among parts.
 pub(crate) fn times_in(parts: &[u32], cell: u32) -> usize
     ensures value { result ≡ count_by (λ part. part == cell) parts.now }
-    ensures few { result ≤ length parts.now }
+    ensures no_more_than_parts { result ≤ length parts.now }
 {
     parts.iter().filter(|part| **part == cell).count()
 }

@@ -34,7 +34,7 @@ fn note_cells(naming: &mut Vec<Items<u32>>, number: u32, relation: &Relation) ->
     requires named { NamesCells (length naming.old.items) relation.now }
     requires noted { AreNoted (number + 1) naming.old.items }
     ensures more { OnOk result (IsNotedMore number naming.old.items naming.new.items) }
-    ensures whole { OnOk result (IsNotedWhole number relation.now naming.new.items) }
+    ensures all_cells_noted { OnOk result (IsNotedWhole number relation.now naming.new.items) }
 {
     note(naming, relation.total, number)?;
     'parts: for part in relation.parts.as_slice() {

@@ -29,7 +29,7 @@ pub(crate) fn network_of(alloc: Global, system: &System, signs: &[bool]) -> Resu
 
 // For each point the cells whose arcs touch it.
 fn touching_of(alloc: Global, arcs: &[Arc], points: u32) -> Result<Vec<Items<u32>>, Memory>
-    requires few { length arcs.now < 2 ^ 32 }
+    requires fewer_than_2_32 { length arcs.now < 2 ^ 32 }
     requires within { (cell : ℕ) → cell < length arcs.now
         → ((arc_at arcs.now cell).from < points) × ((arc_at arcs.now cell).to < points) }
     ensures each { IfOk result (λ touching. length touching.items ≡ points) }

@@ -142,7 +142,7 @@ impl<'a> Partial<'a> {
         requires { IsPartial self.old.bounds self.old.naming.items self.old.cells.items self.old.steps.items
             self.old.viable }
         ensures none { IfNone result (self.old.steps.items ≡ []) }
-        ensures some { IfSome result (λ up. choices_of self.old.steps.items
+        ensures last_choice { IfSome result (λ up. choices_of self.old.steps.items
             ≡ choices_of self.new.steps.items ++ up ∷ []) }
         ensures kept { IfSome result (λ _. IsPartial self.new.bounds self.new.naming.items self.new.cells.items
             self.new.steps.items self.new.viable) }

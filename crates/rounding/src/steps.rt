@@ -40,7 +40,7 @@ pub(crate) fn step_from(start: u32, cell: u32, arc: Arc) -> Step
 
 // Where the first step stands that starts at a point.
 pub(crate) fn place_of_start(steps: &[Step], point: u32) -> Option<usize>
-    ensures some { IfSome result (λ place. (place < length steps.now) × (start_at steps.now place ≡ point)) }
+    ensures starts_there { IfSome result (λ place. (place < length steps.now) × (start_at steps.now place ≡ point)) }
     ensures none { IfNone result (All (λ step. step.start ≢ point) steps.now) }
 {
     'steps: for (place, step) in steps.iter().enumerate() {

@@ -32,8 +32,8 @@ pub(crate) fn is_whole(task: &Task<'_>, numbers: &[i128], cell: u32) -> bool
 pub(crate) fn go_round(task: &Task<'_>, numbers: &mut [i128], steps: &[Step])
     requires beside { AreBeside task.now.truths.now task.now.base numbers.old }
     requires moves { AreMoves task.now.base numbers.old steps.now }
-    requires some { 1 ≤ length steps.now }
-    requires few { length steps.now ≤ 2 ^ 32 }
+    requires at_least_one_step { 1 ≤ length steps.now }
+    requires at_most_2_32 { length steps.now ≤ 2 ^ 32 }
     ensures beside { AreBeside task.now.truths.now task.now.base numbers.new }
     ensures balanced { (arcs : List AnyArc) (points point : ℕ) → IsWalk arcs point steps.now point
         → IsBalanced arcs points (number_at numbers.old) → IsBalanced arcs points (number_at numbers.new) }
@@ -50,7 +50,7 @@ pub(crate) fn go_round(task: &Task<'_>, numbers: &mut [i128], steps: &[Step])
 fn tightest(task: &Task<'_>, numbers: &[i128], steps: &[Step]) -> usize
     requires beside { AreBeside task.now.truths.now task.now.base numbers.now }
     requires moves { All (IsMove task.now.base numbers.now) steps.now }
-    requires some { 1 ≤ length steps.now }
+    requires at_least_one_step { 1 ≤ length steps.now }
     ensures place { result < length steps.now }
     ensures least { All (λ step. room_of task.now.base numbers.now (step_at steps.now result)
         ≤ℤ room_of task.now.base numbers.now step) steps.now }
@@ -95,7 +95,7 @@ fn room_for(task: &Task<'_>, numbers: &[i128], step: Step) -> i128
 fn go(numbers: &mut [i128], steps: &[Step], by: i128)
     requires each { All (λ step. (step.cell < length numbers.old) × ((step.turn ≡ pos 1) ⊎ (step.turn ≡ negsuc 0)))
         steps.now }
-    requires few { length steps.now ≤ 2 ^ 32 }
+    requires at_most_2_32 { length steps.now ≤ 2 ^ 32 }
     requires by { (pos 0 ≤ℤ by) × (by ≤ℤ pos (10 ^ 22)) }
     requires numbers { (cell : ℕ) → (pos 0 ≤ℤ number_at numbers.old cell)
         × (number_at numbers.old cell ≤ℤ pos (2 ^ 100)) }

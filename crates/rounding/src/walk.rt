@@ -86,7 +86,7 @@ fn next_step(network: &Network, task: &Task<'_>, numbers: &[i128], first: u32, s
 fn other_cell(task: &Task<'_>, numbers: &[i128], cells: &[u32], last: u32) -> Option<u32>
     requires beside { AreBeside task.now.truths.now task.now.base numbers.now }
     requires within { All (λ cell. cell < length numbers.now) cells.now }
-    ensures some { IfSome result (λ cell. Contains cells.now cell × (cell ≢ last)
+    ensures another_cell { IfSome result (λ cell. Contains cells.now cell × (cell ≢ last)
         × (spec.is_multiple task.now.base (number_at numbers.now cell) ≡ false)) }
     ensures none { IfNone result (All (λ cell. (cell ≡ last)
         ⊎ (spec.is_multiple task.now.base (number_at numbers.now cell) ≡ true)) cells.now) }

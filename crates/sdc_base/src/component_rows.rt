@@ -51,7 +51,7 @@ fn empty_lists(alloc: Global, count: usize) -> Result<Vec<Vec<u32>>, Memory>
 
 // The component whose cells stand in a relation: that of its total, or else of its first part that has one.
 fn component_of(of: &[Option<u32>], relation: &Relation) -> Option<u32>
-    ensures some { IfSome result (λ number. stands_in of.now number relation.now ≡ true) }
+    ensures stands_in { IfSome result (λ number. stands_in of.now number relation.now ≡ true) }
     ensures none { result ≡ None → (number : ℕ) → stands_in of.now number relation.now ≡ false }
 {
     let total = component_at(of, relation.total);

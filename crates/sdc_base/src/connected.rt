@@ -206,7 +206,7 @@ fn number_of(
 ) -> Result<Option<u32>, Memory>
     requires next { cell ≡ length of.now }
     requires known { cell < length lower.now }
-    requires few { cell + 1 < 2 ^ 32 }
+    requires fewer_than_2_32 { cell + 1 < 2 ^ 32 }
     requires falls { (one : ℕ) → slice_index lower.now one ≤ one }
     requires hidden { (one : ℕ) → spec.is_hidden flags.now one ≡ true
         → spec.is_hidden flags.now (slice_index lower.now one) ≡ true }
@@ -231,7 +231,7 @@ fn number_hidden(
 ) -> Result<u32, Memory>
     requires next { cell ≡ length of.now }
     requires known { cell < length lower.now }
-    requires few { cell + 1 < 2 ^ 32 }
+    requires fewer_than_2_32 { cell + 1 < 2 ^ 32 }
     requires falls { (one : ℕ) → slice_index lower.now one ≤ one }
     requires this_hidden { spec.is_hidden flags.now cell ≡ true }
     requires hidden { (one : ℕ) → spec.is_hidden flags.now one ≡ true

@@ -58,7 +58,7 @@ impl<T> Items<T> {
     pub fn pop(&mut self) -> Option<T>
         ensures none { IfNone result (self.old ≡ []) }
         ensures same { IfNone result (self.new ≡ self.old) }
-        ensures some { IfSome result (λ item. self.old ≡ self.new ++ item ∷ []) }
+        ensures last_item { IfSome result (λ item. self.old ≡ self.new ++ item ∷ []) }
     {
         self.items.pop()
     }

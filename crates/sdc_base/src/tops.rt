@@ -60,8 +60,8 @@ impl Tops {
     pub fn new(keep: u8, scale: u32) -> Tops
         requires at_least_two { 2 ≤ keep }
         requires at_most_ten { keep ≤ 10 }
-        requires whole { 1 ≤ scale }
-        requires fine { scale ≤ 10000 }
+        requires scale_from_one { 1 ≤ scale }
+        requires scale_at_most_10000 { scale ≤ 10000 }
         ensures keep { result.keep ≡ keep }
         ensures scale { result.scale ≡ scale }
         ensures tells { KeepsLargest result [] }
@@ -149,7 +149,7 @@ impl TopList for Tops {
 fn put_in(list: &mut Few<Unit, 10>, keep: usize, new: Unit)
     requires keep { 1 ≤ keep }
     requires most { keep ≤ 10 }
-    requires few { length list.old ≤ keep }
+    requires at_most_keep { length list.old ≤ keep }
     ensures { list.new ≡ take keep (with_contribution list.old new) }
 {
     let at = place_of(list.as_slice(), new);
@@ -174,8 +174,8 @@ fn place_of(units: &[Unit], new: Unit) -> usize
 
 // The weight steps of so many whole contributions.
 fn steps_of(n: u8, scale: u32) -> u64
-    requires few { n ≤ 10 }
-    requires fine { scale ≤ 10000 }
+    requires at_most_10 { n ≤ 10 }
+    requires scale_at_most_10000 { scale ≤ 10000 }
     ensures value { result ≡ n * scale }
     ensures at_most { result ≤ 2 ^ 17 }
 {

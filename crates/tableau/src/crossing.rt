@@ -17,7 +17,7 @@ use std::alloc::Global;
 
 // The difference of two products, none where one of the three is wide.
 fn crossed_number(e: i128, p: i128, f: i128, g: i128) -> Option<i128>
-    ensures some { IfSome result (λ number. number ≡ e *ℤ p -ℤ f *ℤ g) }
+    ensures product_difference { IfSome result (λ number. number ≡ e *ℤ p -ℤ f *ℤ g) }
     ensures none { IfNone result (list_any is_wide ((e *ℤ p) ∷ (f *ℤ g) ∷ (e *ℤ p -ℤ f *ℤ g) ∷ []) ≡ true) }
 {
     let Some(own) = narrow_product(e, p) else {
@@ -42,7 +42,7 @@ fn number_outside(
     e: i128,
     g: i128,
 ) -> Option<i128>
-    ensures some { IfSome result (λ number. number ≡ crossed_value den p f column place e g) }
+    ensures crossed_value { IfSome result (λ number. number ≡ crossed_value den p f column place e g) }
     ensures none { IfNone result (list_any is_wide (crossed_products den p f column place e g) ≡ true) }
 {
     if place == column {

@@ -25,7 +25,7 @@ fn gcd(a: u128, b: u128) -> u128
 
 // The greatest number that divides one and all numbers of some entries.
 fn row_divisor(whole: u128, entries: &[(u32, i128)]) -> u128
-    ensures whole { result ∣ whole }
+    ensures divides_whole { result ∣ whole }
     ensures entries { DividesEach result entries.now }
     ensures greatest { (e : ℕ) → e ∣ whole → DividesEach e entries.now → e ∣ result }
 {

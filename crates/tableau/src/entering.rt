@@ -11,7 +11,7 @@ use crate::sparse_table::SparseTable;
 // The place of the column or slack that comes in, none where no number in the objective's row is below 0.
 pub(crate) fn entering_place(table: &SparseTable) -> Option<usize>
     ensures none { IfNone result (CannotImprove (table_of table.now)) }
-    ensures some { IfSome result (λ column. Enters (table_of table.now) column) }
+    ensures enters { IfSome result (λ column. Enters (table_of table.now) column) }
 {
     let objective = row_of(table, table.members.len());
     let mut best = None;

@@ -20,7 +20,7 @@ fn slack_row(
     bound: i128,
 ) -> Result<Items<(u32, i128)>, Memory>
     requires entries { AreEntries columns entries.now }
-    requires few { columns + 1 < 2 ^ 32 }
+    requires fewer_than_2_32 { columns + 1 < 2 ^ 32 }
     ensures { IfOk result (λ made. AreEntriesOf (columns + 1)
         (numbers_then_value columns (coefficient entries.now) bound) made) }
 {
@@ -45,7 +45,7 @@ fn objective_row(
     entries: &[(u32, i128)],
 ) -> Result<Items<(u32, i128)>, Memory>
     requires entries { AreEntries columns entries.now }
-    requires few { columns + 1 < 2 ^ 32 }
+    requires fewer_than_2_32 { columns + 1 < 2 ^ 32 }
     ensures { IfOk result (λ made. AreEntriesOf (columns + 1)
         (numbers_then_value columns (λ column. neg_ℤ (coefficient entries.now column)) (pos 0)) made) }
 {
@@ -66,7 +66,7 @@ fn slack_rows(
     rows: &[LinRow],
 ) -> Result<Vec<Items<(u32, i128)>>, Memory>
     requires rows { All (λ row. AreEntries columns row.entries) rows.now }
-    requires few { columns + 1 < 2 ^ 32 }
+    requires fewer_than_2_32 { columns + 1 < 2 ^ 32 }
     ensures { IfOk result (λ lists. AreListsOf (columns + 1)
         (map (λ row. numbers_then_value columns (coefficient row.entries) row.bound) rows.now) lists.items) }
 {

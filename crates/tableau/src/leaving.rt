@@ -23,7 +23,7 @@ pub(crate) fn leaving_row(
     requires column { column < length table.now.others.items }
     ensures none { IfNone result ((k : ℕ) → k < length table.now.members.items
         → number_at (slice_index_or (table_of table.now).rows k []) column ≤ℤ pos 0) }
-    ensures some { IfSome result (λ row. Leaves problem.now (table_of table.now) row column) }
+    ensures leaves { IfSome result (λ row. Leaves problem.now (table_of table.now) row column) }
 {
     let mut best = None;
     for k in 0..table.members.len() {

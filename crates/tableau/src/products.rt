@@ -76,7 +76,7 @@ const SMALL: i128 = 1152921504606846976;
 
 // A product, none where it is wide.
 pub(crate) fn narrow_product(one: i128, other: i128) -> Option<i128>
-    ensures some { IfSome result (λ product. product ≡ one *ℤ other) }
+    ensures product { IfSome result (λ product. product ≡ one *ℤ other) }
     ensures above { IfSome result (λ product. neg_ℤ (pos (2 ^ 127)) <ℤ product) }
     ensures none { IfNone result (is_wide (one *ℤ other) ≡ true) }
 {
@@ -96,7 +96,7 @@ pub(crate) fn narrow_product(one: i128, other: i128) -> Option<i128>
 
 // A difference, none where it is wide.
 pub(crate) fn narrow_difference(one: i128, other: i128) -> Option<i128>
-    ensures some { IfSome result (λ difference. difference ≡ one -ℤ other) }
+    ensures difference { IfSome result (λ difference. difference ≡ one -ℤ other) }
     ensures none { IfNone result (is_wide (one -ℤ other) ≡ true) }
 {
     let Some(difference) = one.checked_sub(other) else {

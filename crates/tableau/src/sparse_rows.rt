@@ -9,7 +9,7 @@ use crate::sparse_table::SparseTable;
 // The entries of a row, that of the objective being the last.
 pub(crate) fn row_of(table: &SparseTable, k: usize) -> &[(u32, i128)]
     requires { k ≤ length table.now.members.items }
-    ensures whole { result.now ≡ slice_index_or table.now.rows.items k [] }
+    ensures row_at { result.now ≡ slice_index_or table.now.rows.items k [] }
     ensures sparse { IsSparse 0 (length table.now.others.items + 1) result.now }
 {
     table.rows[k].as_slice()

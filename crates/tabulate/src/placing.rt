@@ -10,7 +10,7 @@ use sdc_base::{Few, Place, Row};
 /// Gives each record to the one cell of table t that has its very codes, but for cells before the first one.
 pub(crate) fn give_rows(book: &mut Book, t: u32, first: u32, rows: &[Row])
     requires from_zero { All (λ row. pos 0 ≤ℤ row.value) rows.now }
-    requires fine { All (λ row. HaveScalesWithin row.weight book.old.marks) rows.now }
+    requires scales_within { All (λ row. HaveScalesWithin row.weight book.old.marks) rows.now }
     ensures { GaveRecords book.old book.new t first rows.now }
 {
     'rows: for row in rows {
@@ -22,7 +22,7 @@ pub(crate) fn give_rows(book: &mut Book, t: u32, first: u32, rows: &[Row])
 // Gives a record to the cell at a place, unless the cell is before the first one.
 fn give_at(book: &mut Book, t: u32, first: u32, row: &Row, place: &[u32])
     requires from_zero { pos 0 ≤ℤ row.now.value }
-    requires fine { HaveScalesWithin row.now.weight book.old.marks }
+    requires scales_within { HaveScalesWithin row.now.weight book.old.marks }
     ensures { GaveRecord book.old book.new t first row.now (place.now ∷ []) }
 {
     let Some(cell) = book.id(t, place) else {

@@ -22,9 +22,9 @@ use sdc_base::{Row, Tops};
 pub fn tabulate(book: &mut Book, rows: &[Row], keep: u8, scale: u32)
     requires at_least_two { 2 ≤ keep }
     requires at_most_ten { keep ≤ 10 }
-    requires whole { 1 ≤ scale }
-    requires fine { scale ≤ 10000 }
-    requires few { length rows.now ≤ 1000000 }
+    requires scale_from_one { 1 ≤ scale }
+    requires scale_at_most_10000 { scale ≤ 10000 }
+    requires at_most_1000000 { length rows.now ≤ 1000000 }
     requires rows { All (IsRow book.old.trees scale) rows.now }
     requires none { All HasNone book.old.marks }
     ensures marks { AreTabulated book.new rows.now keep scale }
@@ -45,8 +45,8 @@ pub fn tabulate(book: &mut Book, rows: &[Row], keep: u8, scale: u32)
 fn start(book: &mut Book, keep: u8, scale: u32)
     requires at_least_two { 2 ≤ keep }
     requires at_most_ten { keep ≤ 10 }
-    requires whole { 1 ≤ scale }
-    requires fine { scale ≤ 10000 }
+    requires scale_from_one { 1 ≤ scale }
+    requires scale_at_most_10000 { scale ≤ 10000 }
     ensures started { HaveEmptyLists book.old book.new keep scale (length book.old.marks) }
     ensures book { IsBook book.old }
 {
@@ -59,8 +59,8 @@ fn start(book: &mut Book, keep: u8, scale: u32)
 fn start_cell(book: &mut Book, cell: u32, keep: u8, scale: u32)
     requires at_least_two { 2 ≤ keep }
     requires at_most_ten { keep ≤ 10 }
-    requires whole { 1 ≤ scale }
-    requires fine { scale ≤ 10000 }
+    requires scale_from_one { 1 ≤ scale }
+    requires scale_at_most_10000 { scale ≤ 10000 }
     ensures frame { book.new ≡ record book.old { marks = book.new.marks } }
     ensures here { (old new : Noted) → slice_get book.old.marks cell ≡ Some old
         → slice_get book.new.marks cell ≡ Some new → HasEmptyList keep scale old new }
@@ -76,8 +76,8 @@ fn start_cell(book: &mut Book, cell: u32, keep: u8, scale: u32)
 fn start_mark(mark: &mut Mark, keep: u8, scale: u32)
     requires at_least_two { 2 ≤ keep }
     requires at_most_ten { keep ≤ 10 }
-    requires whole { 1 ≤ scale }
-    requires fine { scale ≤ 10000 }
+    requires scale_from_one { 1 ≤ scale }
+    requires scale_at_most_10000 { scale ≤ 10000 }
     ensures { HasEmptyList keep scale mark.old mark.new }
 {
     mark.facts.tops = Tops::new(keep, scale);

@@ -77,7 +77,7 @@ fn count_asked(pattern: &Pattern<'_>) -> usize
 // How many worlds there are to be for one cell.
 fn asked_for(cell: &Cell) -> usize
     ensures worlds { (number : ℕ) → result ≡ length (asked_of number (cell.now ∷ [])) }
-    ensures few { result ≤ 2 }
+    ensures at_most_2 { result ≤ 2 }
 {
     if cell.kind.is_primary() { 2 } else { 0 }
 }

@@ -11,7 +11,7 @@ use sdc_base::Relation;
 // The first relation that doesn't hold on the numbers of the cells.
 pub(crate) fn check_relations(relations: &[Relation], numbers: &[i128]) -> Result<(), WorldFault>
     requires named { All (NamesCells (length numbers.now)) relations.now }
-    requires few { length relations.now < 2 ^ 32 }
+    requires fewer_than_2_32 { length relations.now < 2 ^ 32 }
     ensures { result ≡ relations_fault (number_at numbers.now) 0 relations.now }
 {
     for (number, relation) in relations.iter().enumerate() {

@@ -15,7 +15,7 @@ pub(crate) fn sum_shares(
 ) -> Result<i128, RefutationFault>
     requires flags { length flags.now ≡ length cells.now }
     requires coefficients { length coefficients.now ≡ length cells.now }
-    requires few { length cells.now < 2 ^ 32 }
+    requires fewer_than_2_32 { length cells.now < 2 ^ 32 }
     ensures { result ≡ summed_from flags.now (number_at coefficients.now) 0 (pos 0) cells.now }
 {
     let mut sum = 0;

@@ -63,7 +63,7 @@ impl Sum {
 fn low_part(low: i128, x: i128, most: i128, one: i128) -> i128
     requires once { FitsSigned w128 (low +ℤ most) }
     requires twice { FitsSigned w128 ((low +ℤ most) +ℤ one) }
-    requires whole { FitsSigned w128 (((low +ℤ most) +ℤ one) +ℤ x) }
+    requires fits_128_bits { FitsSigned w128 (((low +ℤ most) +ℤ one) +ℤ x) }
     ensures { result ≡ ((low +ℤ most) +ℤ one) +ℤ x }
 {
     low + most + one + x

@@ -7,7 +7,7 @@ use Rattle.apriori.proofs.applying.note_lines.Goals as goal
 pub overflow_cast-line : goal.overflow_cast-line
 overflow_cast-line c =
     let more = ap length c.in-Some.ensures.text in
-    omega (arith, more, c.in-Some.ensures.number, c.lines-reader.ensures.few)
+    omega (arith, more, c.in-Some.ensures.number, c.lines-reader.ensures.no_more_than_bytes)
 
 pub lines-preserved : goal.lines-preserved
 lines-preserved c =

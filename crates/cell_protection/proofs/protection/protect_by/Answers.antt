@@ -14,7 +14,7 @@ protect-outcome-requires-clause-costed g c =
     subst (λ (marks : List Mark). All (λ (mark : Mark). AreCosted mark.facts) marks) (sym c.marks.ensures) (same-costed c.args.book.now c.plan.new.book c.plan.ensures.same c.requires.costed)
 
 pub protect-outcome-requires-clause-corners : goal.protect-outcome-requires-clause-corners
-protect-outcome-requires-clause-corners g c = corners-may c.args.book.now c.args.cells.now c.in_ok-trail.trail.steps c.in_ok-trail.ensures.whole
+protect-outcome-requires-clause-corners g c = corners-may c.args.book.now c.args.cells.now c.in_ok-trail.trail.steps c.in_ok-trail.ensures.whole_steps
 
 pub returns-clause-outcome : goal.returns-clause-outcome
 returns-clause-outcome g c =
@@ -38,5 +38,5 @@ returns-in-Ok-clause-text g c =
     let by = protection_by c.args.method all c.in_ok-trail.trail.steps c.in-Ok.verdict in
     if-ok (λ made. made ≡ by) HasText c.certificate_of.result
     (λ made is. subst HasText (sym is)
-    (text-by c.args.book.now c.args.system.now c.args.cells.now (prices_of c.new-rule.result c.args.cells.now c.marks.result.now) c.args.method c.in_ok-trail.trail.steps c.in-Ok.verdict c.requires.narrow c.in_ok-trail.ensures.whole c.in-Ok.ensures.verdict))
+    (text-by c.args.book.now c.args.system.now c.args.cells.now (prices_of c.new-rule.result c.args.cells.now c.marks.result.now) c.args.method c.in_ok-trail.trail.steps c.in-Ok.verdict c.requires.narrow c.in_ok-trail.ensures.whole_steps c.in-Ok.ensures.verdict))
     c.certificate_of.ensures

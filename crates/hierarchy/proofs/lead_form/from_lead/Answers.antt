@@ -25,4 +25,4 @@ lines-init c =
     }
 
 pub overflow_cast-line : goal.overflow_cast-line
-overflow_cast-line c = omega (arith, c.lines-reader.ensures.few, ap length c.in-Some.ensures.text, c.in-Some.ensures.number, c.lines.invariant.numbers)
+overflow_cast-line c = omega (arith, c.lines-reader.ensures.no_more_than_bytes, ap length c.in-Some.ensures.text, c.in-Some.ensures.number, c.lines.invariant.numbers)

@@ -27,7 +27,7 @@ place_codes-requires-clause-shallow c = λ code inside.
     let bounds : c.deref-3.result.now ≡ boundaries 0 c.args.widths.now = c.deref-3.ensures.value ∙ c.in_ok-bounds.ensures in
     let kept : c.deref-2.result.now ≡ codes_with_prefixes c.deref.result.now [] c.args.codes.now = c.deref-2.ensures.value ∙ c.in_ok-kept.ensures.kept in
     let short : length code ≤ sum c.args.widths.now = gathered-short (sum c.args.widths.now) c.deref.result.now c.args.codes.now [] (λ x h. absurd h) (λ x h. let i = in-index x c.args.codes.now h in omega (arith, ap length i.2, c.requires.short i.0 [] i.1)) code (subst (IsIn code) kept inside) in
-    let low = level-bounded 0 c.args.widths.now code c.requires.some (omega (arith, short)) in
+    let low = level-bounded 0 c.args.widths.now code c.requires.at_least_one_width (omega (arith, short)) in
     let same : level c.deref-3.result.now code ≡ level (boundaries 0 c.args.widths.now) code = ap (λ (b : List ℕ). level b code) bounds in
     omega (arith, same, low, c.requires.levels)
 

@@ -16,7 +16,7 @@ returns-clause-tree c =
     let nodes : c.push.new.self ≡ tree_with_node tree c.args.code.now (slice_index path c.args.depth) = c.in_ok-push.ensures ∙ ap (tree_with_node tree c.args.code.now) read in
     let under : IsUnder tree (length tree - 1) (slice_index path c.args.depth) = (length path - 1 - c.args.depth, c.requires.path.above c.args.depth c.requires.within) in
     subst IsCodeTree (sym nodes)
-    (grown-is_tree tree c.requires.tree c.args.code.now (slice_index path c.args.depth) c.requires.new c.requires.few under (c.args.depth, c.requires.shallow, c.requires.path.deep c.args.depth c.requires.within) (under-inside tree c.requires.tree (slice_index path c.args.depth) under))
+    (grown-is_tree tree c.requires.tree c.args.code.now (slice_index path c.args.depth) c.requires.new c.requires.fewer_than_5001 under (c.args.depth, c.requires.shallow, c.requires.path.deep c.args.depth c.requires.within) (under-inside tree c.requires.tree (slice_index path c.args.depth) under))
 
 pub returns-clause-path : goal.returns-clause-path
 returns-clause-path c =

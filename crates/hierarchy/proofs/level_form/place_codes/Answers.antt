@@ -20,8 +20,8 @@ place_code-requires-clause-new c =
     let item : c.as_slice-in-codes.result.now ≡ get_or all i [] = c.as_slice-in-codes.ensures ∙ sym (get_or_from_slice_get all i c.code-item.result [] at) in
     subst (λ (code : List ℕ). find c.codes.nodes code ≡ None) (sym item) (next-new c.codes.nodes c.args.total.now all i c.requires.sorted c.requires.apart c.codes-test.true c.codes.invariant.known)
 
-pub place_code-requires-clause-few : goal.place_code-requires-clause-few
-place_code-requires-clause-few c = omega (arith, length-codes c.codes.nodes, ap length c.codes.invariant.known, length-take c.codes.code-index c.args.codes.now)
+pub place_code-requires-clause-fewer_than_5001 : goal.place_code-requires-clause-fewer_than_5001
+place_code-requires-clause-fewer_than_5001 c = omega (arith, length-codes c.codes.nodes, ap length c.codes.invariant.known, length-take c.codes.code-index c.args.codes.now)
 
 pub place_code-requires-clause-within : goal.place_code-requires-clause-within
 place_code-requires-clause-within c =

@@ -24,7 +24,7 @@ invariant_of-unranked g c =
       costed = c.requires.costed;
       up = c.requires.up;
       down = c.requires.down;
-      few = subst (λ (found : List (List Edge)). length found ≤ 8) (sym c.as_slice.ensures.value) c.in_ok-lists.ensures.few;
+      few = subst (λ (found : List (List Edge)). length found ≤ 8) (sym c.as_slice.ensures.value) c.in_ok-lists.ensures.at_most_8;
       begun = ap (λ (codes : List ℕ). begin_at codes c.as_slice.result.now) c.codes_at-codes.ensures
           ∙ ap (λ (found : List (List Edge)). begin_at (codes_at name table parents) found) lists
           ∙ edges-begin trees name table parents;
@@ -49,7 +49,7 @@ invariant_of-search g c =
     ∙ ap (λ (found : List (List Edge)). begin_at (codes_at c.name_of-name.result c.table_of-table.result c.args.subtable.now.parents) found) (c.as_slice.ensures.value ∙ c.in_ok-lists.ensures.edges)
     ∙ edges-begin c.args.book.now.trees c.name_of-name.result c.table_of-table.result c.args.subtable.now.parents
     in
-    let few : length lists ≤ 8 = subst (λ (found : List (List Edge)). length found ≤ 8) (sym c.as_slice.ensures.value) c.in_ok-lists.ensures.few in
+    let few : length lists ≤ 8 = subst (λ (found : List (List Edge)). length found ≤ 8) (sym c.as_slice.ensures.value) c.in_ok-lists.ensures.at_most_8 in
     let long = rankings-long setting 0 lists all are in
     let short : length all ≤ 8 = omega (arith, few, long) in
     record {

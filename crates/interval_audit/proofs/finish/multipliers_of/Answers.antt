@@ -20,8 +20,8 @@ overflow_sub-caps-2 c =
     let list : c.args.inquiry.now.met.now ≡ met_relations group c.args.inquiry.now.system.now.relations = c.args.inquiry.now.met_are in
     omega (arith, long, ap (λ (xs : List ℤ). length xs) slacks, ap (λ (xs : List ℕ). length xs) list)
 
-pub read_multipliers-requires-clause-few : goal.read_multipliers-requires-clause-few
-read_multipliers-requires-clause-few c =
+pub read_multipliers-requires-clause-fewer_than_2_32 : goal.read_multipliers-requires-clause-fewer_than_2_32
+read_multipliers-requires-clause-fewer_than_2_32 c =
     let group : Group = group_of c.args.inquiry.now.of.now c.args.inquiry.now.question.cell in
     let has : HasSlacks c.args.inquiry.now.system.now c.args.inquiry.now.cells.now group (slacks_of c.args.tableau.now.problem c.args.tableau.now.table) c.requires.stuck.weights = has_slacks c.args.inquiry.now.system.now c.args.inquiry.now.cells.now group c.args.inquiry.now.question (state_of c.args.tableau.now) c.requires.problem c.requires.stuck in
     subst (λ (xs : List ℤ). length xs < 4294967296) (sym c.slacks-slacks.ensures.slacks) (slacks_few c.args.inquiry.now.system.now c.args.inquiry.now.cells.now group (slacks_of c.args.tableau.now.problem c.args.tableau.now.table) c.requires.stuck.weights c.args.inquiry.now.few has)

@@ -13,8 +13,8 @@ overflow_sub-rest c =
     let sign : IsFormSign term.1 = c.requires.signs c.terms.term-index (0, pos 0) c.terms-test.true in
     let few = few_left c.args.terms.now term.0 c.terms.term-index (omega (arith, c.terms-test.true)) c.requires.signs in
     let own : FitsSigned w128 term.1 = omega (arith, ints, sign.low, sign.high) in
-    let here : FitsSigned w128 (number_at c.terms.numbers term.0) = omega (arith, ints, c.terms.invariant.each term.0, few.0, few.1, c.requires.few, c.terms-test.true) in
-    let whole : FitsSigned w128 (number_at c.terms.numbers term.0 -ℤ term.1) = omega (arith, ints, c.terms.invariant.each term.0, few.0, few.1, c.requires.few, c.terms-test.true, sign.low, sign.high) in
+    let here : FitsSigned w128 (number_at c.terms.numbers term.0) = omega (arith, ints, c.terms.invariant.each term.0, few.0, few.1, c.requires.at_most_2_32, c.terms-test.true) in
+    let whole : FitsSigned w128 (number_at c.terms.numbers term.0 -ℤ term.1) = omega (arith, ints, c.terms.invariant.each term.0, few.0, few.1, c.requires.at_most_2_32, c.terms-test.true, sign.low, sign.high) in
     simp to_z-of_z whole
 
 pub terms-preserved : goal.terms-preserved
@@ -23,8 +23,8 @@ terms-preserved c =
     let sign : IsFormSign term.1 = c.requires.signs c.terms.term-index (0, pos 0) c.terms-test.true in
     let few = few_left c.args.terms.now term.0 c.terms.term-index (omega (arith, c.terms-test.true)) c.requires.signs in
     let own : FitsSigned w128 term.1 = omega (arith, ints, sign.low, sign.high) in
-    let here : FitsSigned w128 (number_at c.terms.numbers term.0) = omega (arith, ints, c.terms.invariant.each term.0, few.0, few.1, c.requires.few, c.terms-test.true) in
-    let whole : FitsSigned w128 (number_at c.terms.numbers term.0 -ℤ term.1) = omega (arith, ints, c.terms.invariant.each term.0, few.0, few.1, c.requires.few, c.terms-test.true, sign.low, sign.high) in
+    let here : FitsSigned w128 (number_at c.terms.numbers term.0) = omega (arith, ints, c.terms.invariant.each term.0, few.0, few.1, c.requires.at_most_2_32, c.terms-test.true) in
+    let whole : FitsSigned w128 (number_at c.terms.numbers term.0 -ℤ term.1) = omega (arith, ints, c.terms.invariant.each term.0, few.0, few.1, c.requires.at_most_2_32, c.terms-test.true, sign.low, sign.high) in
     let sum : to_z w128 (of_z w128 (to_z w128 (of_z w128 (number_at c.terms.numbers term.0)) -ℤ to_z w128 (of_z w128 term.1))) ≡ number_at c.terms.numbers term.0 -ℤ term.1 = simp to_z-of_z in
     record {
       long = length-set c.terms.numbers term.0 _ ∙ c.terms.invariant.long;

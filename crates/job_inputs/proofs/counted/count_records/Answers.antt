@@ -28,5 +28,5 @@ returns-clause-ready c =
       sound = c.requires.described;
       book = is-ready c.args.inputs.described c.filled-book.result c.as_slice.result.now c.filled-book.ensures.told few c.filled-book.ensures.one_each (c.filled-book.ensures.tables ∙ c.in_ok-book.ensures.tables);
       one_each = c.filled-book.ensures.one_each;
-      few = c.filled-book.ensures.few;
+      few = c.filled-book.ensures.fewer_than_2_32;
     }

@@ -3,8 +3,8 @@ use Rattle.tabulate.specs.TabulatedMarks.{AreTabulated}
 use Rattle.job_inputs.proofs.Filling.{scale-range, rows-are}
 use Rattle.job_inputs.proofs.filled.filled.Goals as goal
 
-pub tabulate-requires-clause-whole : goal.tabulate-requires-clause-whole
-tabulate-requires-clause-whole c = (scale-range c.args.described.now c.requires.sound).0
+pub tabulate-requires-clause-scale_from_one : goal.tabulate-requires-clause-scale_from_one
+tabulate-requires-clause-scale_from_one c = (scale-range c.args.described.now c.requires.sound).0
 
 pub tabulate-requires-clause-rows : goal.tabulate-requires-clause-rows
 tabulate-requires-clause-rows c = rows-are c.args.book.trees c.args.described.now.bound.scale c.args.rows.now c.requires.rows.each

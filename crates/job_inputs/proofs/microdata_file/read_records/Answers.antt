@@ -42,7 +42,7 @@ returns-in_err-records-clause-reads g c =
     (λ fs told.
     file-refused (refused_for r) c.args.layout (fs c.args.name.now) (c.in_ok-begin.ensures.chosen.held fs told)
     (λ bytes is.
-    let whole = c.in_ok-feed_all.ensures.whole c.args.layout bytes (c.in_ok-begin.ensures.chosen.found fs told ∙ is) c.in_ok-reader.ensures.fed in
+    let whole = c.in_ok-feed_all.ensures.reads_all c.args.layout bytes (c.in_ok-begin.ensures.chosen.found fs told ∙ is) c.in_ok-reader.ensures.fed in
     (whole.1, c.in_err-records.ensures.exact c.args.layout bytes whole.0))))
 
 pub returns-clause-reads : goal.returns-clause-reads
@@ -51,15 +51,15 @@ returns-clause-reads g c =
     (λ fs told.
     file-read c.in_ok-records.records c.args.layout (fs c.args.name.now) (c.in_ok-begin.ensures.chosen.held fs told)
     (λ bytes is.
-    let whole = c.in_ok-feed_all.ensures.whole c.args.layout bytes (c.in_ok-begin.ensures.chosen.found fs told ∙ is) c.in_ok-reader.ensures.fed in
+    let whole = c.in_ok-feed_all.ensures.reads_all c.args.layout bytes (c.in_ok-begin.ensures.chosen.found fs told ∙ is) c.in_ok-reader.ensures.fed in
     (whole.1, c.in_ok-records.ensures.exact c.args.layout bytes whole.0)))
 
 pub returns-clause-within : goal.returns-clause-within
 returns-clause-within g c =
-    let read = c.in_ok-feed_all.ensures.some c.args.layout c.in_ok-reader.ensures.fed in
+    let read = c.in_ok-feed_all.ensures.reads_front c.args.layout c.in_ok-reader.ensures.fed in
     c.in_ok-records.ensures.within c.args.layout read.0 read.1
 
 pub returns-clause-leaves : goal.returns-clause-leaves
 returns-clause-leaves g c =
-    let read = c.in_ok-feed_all.ensures.some c.args.layout c.in_ok-reader.ensures.fed in
+    let read = c.in_ok-feed_all.ensures.reads_front c.args.layout c.in_ok-reader.ensures.fed in
     c.in_ok-records.ensures.leaves c.args.layout read.0 read.1

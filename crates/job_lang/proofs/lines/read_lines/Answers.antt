@@ -6,7 +6,7 @@ use Rattle.job_lang.proofs.lines.read_lines.Goals as goal
 pub overflow_cast-line : goal.overflow_cast-line
 overflow_cast-line c =
     let more = ap length c.in-Some.ensures.text in
-    omega (arith, more, c.in-Some.ensures.number, c.lines-reader.ensures.few)
+    omega (arith, more, c.in-Some.ensures.number, c.lines-reader.ensures.no_more_than_bytes)
 
 pub each-preserved : goal.each-preserved
 each-preserved c =

@@ -6,9 +6,9 @@ use Rattle.job_run.proofs.puts.put_files.Goals as goal
 
 pub loop-next-preserved : goal.loop-next-preserved
 loop-next-preserved g c = record {
-  done = put-more c.args.puts.now c.loop-next.next-index c.next-item.result _ _ _ c.loop-next-test.true c.next-item.is c.loop-next.invariant.done c.in_ok-put_file.ensures.whole.files;
+  done = put-more c.args.puts.now c.loop-next.next-index c.next-item.result _ _ _ c.loop-next-test.true c.next-item.is c.loop-next.invariant.done c.in_ok-put_file.ensures.has_put.files;
   none = λ none. absurd (omega arith);
-  once = λ _. counted-more _ _ _ c.loop-next.next-index (λ first. ap (λ (t : TrayState). t.puts) (c.loop-next.invariant.none first)) c.loop-next.invariant.once c.in_ok-put_file.ensures.whole.puts;
+  once = λ _. counted-more _ _ _ c.loop-next.next-index (λ first. ap (λ (t : TrayState). t.puts) (c.loop-next.invariant.none first)) c.loop-next.invariant.once c.in_ok-put_file.ensures.has_put.puts;
   faults = omega (arith, c.loop-next.invariant.faults, c.put_file.ensures.faults_stay);
 }
 

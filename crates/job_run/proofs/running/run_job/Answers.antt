@@ -86,7 +86,7 @@ returns-in_err-release-clause-came_to g c =
 
 pub put_files-requires : goal.put_files-requires
 put_files-requires g c =
-    let many : length c.in_ok-release.release.puts ≡ 1 + length c.in_ok-settled.settled.described.job.tables = c.in_ok-release.ensures.some in
+    let many : length c.in_ok-release.release.puts ≡ 1 + length c.in_ok-settled.settled.described.job.tables = c.in_ok-release.ensures.one_more_than_tables in
     subst (λ (puts : List Put). 0 < length puts) (sym c.as_slice.ensures) (omega (arith, many))
 
 pub returns-in_err-put_files-clause-told : goal.returns-in_err-put_files-clause-told
@@ -134,12 +134,12 @@ returns-clause-told g c =
 pub returns-clause-left : goal.returns-clause-left
 returns-clause-left g c = λ fs told. tt
 
-pub returns-clause-some : goal.returns-clause-some
-returns-clause-some g c =
+pub returns-clause-two_to_nine_puts : goal.returns-clause-two_to_nine_puts
+returns-clause-two_to_nine_puts g c =
     let puts = c.in_ok-release.release.puts in
     let job = c.in_ok-settled.ensures.ready.sound.job in
-    let many : length puts ≡ 1 + length c.in_ok-settled.settled.described.job.tables = c.in_ok-release.ensures.some in
-    let whole = subst (λ (puts : List Put). AllWhole puts (g.T.Tray.state c.args.tray.now) (g.T.Tray.state c.put_files.new.tray)) c.as_slice.ensures c.in_ok-put_files.ensures.whole in (
+    let many : length puts ≡ 1 + length c.in_ok-settled.settled.described.job.tables = c.in_ok-release.ensures.one_more_than_tables in
+    let whole = subst (λ (puts : List Put). AllWhole puts (g.T.Tray.state c.args.tray.now) (g.T.Tray.state c.put_files.new.tray)) c.as_slice.ensures c.in_ok-put_files.ensures.has_put_all in (
       length puts,
       omega (arith, many, job.tables.some),
       omega (arith, many, job.few),
@@ -150,7 +150,7 @@ pub returns-clause-released : goal.returns-clause-released
 returns-clause-released g c =
     λ fs told.
     let read = ok-and (λ s. IsSettledOf s c.in_ok-settled.settled) (settled_of purpose.Release fs c.args.name.now) (c.in_ok-settled.ensures.told fs told) in
-    let whole = subst (λ (puts : List Put). AllWhole puts (g.T.Tray.state c.args.tray.now) (g.T.Tray.state c.put_files.new.tray)) c.as_slice.ensures c.in_ok-put_files.ensures.whole in
+    let whole = subst (λ (puts : List Put). AllWhole puts (g.T.Tray.state c.args.tray.now) (g.T.Tray.state c.put_files.new.tray)) c.as_slice.ensures c.in_ok-put_files.ensures.has_put_all in
     release-is fs c.args.name.now read.0 c.in_ok-release.release _ _ read.1
     (c.in_ok-release.ensures.comes read.0 read.2) whole
 

@@ -7,5 +7,5 @@ returns-then-line-bytes-clause-none c = no-end c.args.bytes.now c.cut_at.result.
 pub returns-clause-plain : goal.returns-clause-plain
 returns-clause-plain c = (first-end c.args.bytes.now c.cut_at.result.0.now c.cut_at.result.1.now c.cut_at.ensures.front c.cut_at.ensures.rest c.if-line-bytes.false).0
 
-pub returns-clause-whole : goal.returns-clause-whole
-returns-clause-whole c = (first-end c.args.bytes.now c.cut_at.result.0.now c.cut_at.result.1.now c.cut_at.ensures.front c.cut_at.ensures.rest c.if-line-bytes.false).1
+pub returns-clause-cut_behind_line : goal.returns-clause-cut_behind_line
+returns-clause-cut_behind_line c = (first-end c.args.bytes.now c.cut_at.result.0.now c.cut_at.result.1.now c.cut_at.ensures.front c.cut_at.ensures.rest c.if-line-bytes.false).1

@@ -9,7 +9,7 @@ returns-in_err-end_line-clause-stops c =
     let p = err_from_is_err_and c.from_residual.result c.from_residual.ensures.1 in
     rw (p.1, p.2)
     (kept-line c.args.measures.now c.args.so_far.now c.lines.so_far (c.args.begun.now.items ++ c.args.piece.now) c.lines.begun.items c.in-Some.line.now c.in-Some.behind.now c.lines.rest.now c.lines.begun.items c.args.begun.now.items c.in_err-end_line.field-0.0
-    c.in-Some.ensures.whole c.lines.invariant.says c.in_err-end_line.ensures.stops)
+    c.in-Some.ensures.cut_behind_line c.lines.invariant.says c.in_err-end_line.ensures.stops)
 
 pub returns-clause-stops : goal.returns-clause-stops
 returns-clause-stops c =

@@ -6,12 +6,12 @@ use Rattle.rda_meta.proofs.reading.read_lines.Goals as goal
 pub overflow_cast-line : goal.overflow_cast-line
 overflow_cast-line c =
     let more = ap length c.in-Some.ensures.text in
-    omega (arith, more, c.in-Some.ensures.number, c.lines-reader.ensures.few)
+    omega (arith, more, c.in-Some.ensures.number, c.lines-reader.ensures.no_more_than_bytes)
 
 pub read_line-requires : goal.read_line-requires
 read_line-requires c =
     let more = ap length c.in-Some.ensures.text in
-    omega (arith, more, c.lines-reader.ensures.few)
+    omega (arith, more, c.lines-reader.ensures.no_more_than_bytes)
 
 pub each-preserved : goal.each-preserved
 each-preserved c =

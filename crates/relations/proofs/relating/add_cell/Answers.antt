@@ -16,7 +16,7 @@ variables-preserved c =
     let related = relation_for book.trees book.tables c.args.cell c.in-Some.name.now in
     let left : List Sum = filter_map related (range_with_len (variable + 1) (length book.trees - (variable + 1))) in
     let inside : variable < length book.trees = omega (arith, c.variables-test.true, c.variables-variable-end.ensures) in
-    let more = c.in_ok-add_relation.ensures.few in
+    let more = c.in_ok-add_relation.ensures.at_most_1_more in
     let few = c.variables.invariant.few in
     record {
       rest = ap (λ (sums : List Sum). sums ++ left) c.in_ok-add_relation.ensures.added

@@ -18,7 +18,7 @@ numbers-preserved c =
     let left : List Sum = flat_map related (range_with_len (cell + 1) (length (cells book) - (cell + 1))) in
     let done : List Sum = map sum_in c.numbers.relations.items in
     let inside : cell < length (cells book) = omega (arith, c.numbers-test.true, c.cells-cells.ensures.cells) in
-    let more = c.in_ok-add_cell.ensures.few in
+    let more = c.in_ok-add_cell.ensures.at_most_8_more in
     let few = c.numbers.invariant.few in
     record {
       rest = ap (λ (sums : List Sum). sums ++ left) c.in_ok-add_cell.ensures.added

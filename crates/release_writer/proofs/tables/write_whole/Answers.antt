@@ -9,8 +9,8 @@ use Rattle.release_writer.proofs.BegunPlaces.{read-at}
 use Rattle.release_writer.proofs.ShownText.{shown-some}
 use Rattle.release_writer.proofs.tables.write_whole.Goals as goal
 
-pub write_place-requires-clause-few : goal.write_place-requires-clause-few
-write_place-requires-clause-few c = omega (arith, ap (λ (t : List ℕ). length t) c.as_slice.ensures, c.requires.few)
+pub write_place-requires-clause-at_most_8 : goal.write_place-requires-clause-at_most_8
+write_place-requires-clause-at_most_8 c = omega (arith, ap (λ (t : List ℕ). length t) c.as_slice.ensures, c.requires.at_most_8)
 
 pub write_place-requires-clause-number : goal.write_place-requires-clause-number
 write_place-requires-clause-number c =

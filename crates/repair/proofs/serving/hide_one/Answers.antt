@@ -13,7 +13,7 @@ pub subject_of-subject-requires-clause-asked : goal.subject_of-subject-requires-
 subject_of-subject-requires-clause-asked c = omega (arith, c.args.task.now.fits.one_each, asked_inside c.args.task.now.cells.now c.args.place c.args.asked c.requires.stopped.stands)
 
 pub repair-requires : goal.repair-requires
-repair-requires c = omega (arith, c.args.task.now.fits.one_each, c.requires.each, cheapest_inside _ _ _ _ _ c.in-Some.ensures.some)
+repair-requires c = omega (arith, c.args.task.now.fits.one_each, c.requires.each, cheapest_inside _ _ _ _ _ c.in-Some.ensures.cheapest)
 
 pub returns-in-None-clause-ok : goal.returns-in-None-clause-ok
 returns-in-None-clause-ok c =
@@ -22,9 +22,9 @@ returns-in-None-clause-ok c =
 pub returns-in_ok-repair-in-Some-clause-permitted : goal.returns-in_ok-repair-in-Some-clause-permitted
 returns-in_ok-repair-in-Some-clause-permitted c =
     let flags : List Bool = c.args.progress.now.hidden.flags in
-    let own = breaking_says c.args.task.now.cells.now flags (coefficients_for c.args.task.now.system.now c.args.asked c.args.multipliers) c.in-Some.subject c.in-Some.ensures.some.breaking in
+    let own = breaking_says c.args.task.now.cells.now flags (coefficients_for c.args.task.now.system.now c.args.asked c.args.multipliers) c.in-Some.subject c.in-Some.ensures.cheapest.breaking in
     subst (IsPermitted c.args.task.now.cells.now) (sym c.in_ok-repair-in-Some.ensures.ok_flags)
-    (permitted_more c.args.task.now.cells.now flags c.in-Some.subject (omega (arith, c.args.task.now.fits.one_each, c.requires.each, cheapest_inside _ _ _ _ _ c.in-Some.ensures.some)) (free_may c.args.task.now.cells.now c.in-Some.subject own.is_free) c.requires.permitted)
+    (permitted_more c.args.task.now.cells.now flags c.in-Some.subject (omega (arith, c.args.task.now.fits.one_each, c.requires.each, cheapest_inside _ _ _ _ _ c.in-Some.ensures.cheapest)) (free_may c.args.task.now.cells.now c.in-Some.subject own.is_free) c.requires.permitted)
 
 pub returns-in_ok-repair-in-Some-clause-repaired : goal.returns-in_ok-repair-in-Some-clause-repaired
 returns-in_ok-repair-in-Some-clause-repaired c =
@@ -32,7 +32,7 @@ returns-in_ok-repair-in-Some-clause-repaired c =
     let task : Case = case c.args.task.now.system.now c.args.task.now.cells.now in
     let flags : List Bool = c.args.progress.now.hidden.flags in
     let repair : Refuted = record { subject = c.in-Some.subject; cell = c.args.asked.0; side = c.args.asked.1; multipliers = c.args.multipliers } in
-    let both = justified_by task c.args.task.now.prices.now flags c.args.place c.args.asked c.args.multipliers c.in-Some.subject repair refl c.requires.stopped c.in-Some.ensures.some in
+    let both = justified_by task c.args.task.now.prices.now flags c.args.place c.args.asked c.args.multipliers c.in-Some.subject repair refl c.requires.stopped c.in-Some.ensures.cheapest in
     subst (λ (f : List Bool). IsRepaired task c.args.task.now.prices.now planned f c.repair.new.self.repairs c.args.place) (sym c.in_ok-repair-in-Some.ensures.ok_flags)
     (subst (λ (r : List Refuted). IsRepaired task c.args.task.now.prices.now planned (hide flags c.in-Some.subject) r c.args.place) (sym c.in_ok-repair-in-Some.ensures.ok_repairs)
     (one_repaired task c.args.task.now.prices.now planned flags c.args.progress.now.repairs c.args.place repair both.0 both.1 c.requires.stopped.stands before))
@@ -41,8 +41,8 @@ pub returns-in_ok-repair-in-Some-clause-ok : goal.returns-in_ok-repair-in-Some-c
 returns-in_ok-repair-in-Some-clause-ok c =
     let task : Case = case c.args.task.now.system.now c.args.task.now.cells.now in
     let flags : List Bool = c.args.progress.now.hidden.flags in
-    let within : c.in-Some.subject < length flags = omega (arith, c.args.task.now.fits.one_each, c.requires.each, cheapest_inside _ _ _ _ _ c.in-Some.ensures.some) in
-    let own = breaking_says c.args.task.now.cells.now flags (coefficients_for c.args.task.now.system.now c.args.asked c.args.multipliers) c.in-Some.subject c.in-Some.ensures.some.breaking in (
+    let within : c.in-Some.subject < length flags = omega (arith, c.args.task.now.fits.one_each, c.requires.each, cheapest_inside _ _ _ _ _ c.in-Some.ensures.cheapest) in
+    let own = breaking_says c.args.task.now.cells.now flags (coefficients_for c.args.task.now.system.now c.args.asked c.args.multipliers) c.in-Some.subject c.in-Some.ensures.cheapest.breaking in (
       subst (λ (f : List Bool). AreServedBefore task f c.args.place c.repair.new.self.worlds) (sym c.in_ok-repair-in-Some.ensures.ok_flags)
           (subst (λ ws. AreServedBefore task (hide flags c.in-Some.subject) c.args.place ws) (sym c.in_ok-repair-in-Some.ensures.worlds)
           (served_more task flags (hide flags c.in-Some.subject) _ c.args.progress.now.worlds (within_hide flags c.in-Some.subject within) c.requires.served)),

@@ -30,7 +30,7 @@ pub returns : goal.returns
 returns c =
     let base : FitsSigned w128 c.args.base = c.ranges.base in
     let beside = simp to_z-of_z at c.in_ok-round_cells.ensures.beside in
-    let whole = simp to_z-of_z at c.in_ok-round_cells.ensures.whole in
+    let whole = simp to_z-of_z at c.in_ok-round_cells.ensures.all_multiples in
     let copied : c.in_ok-numbers.numbers.items ≡ c.args.truths.now = search rules in
     let each : length c.round_cells.new.numbers ≡ c.in_ok-numbers.numbers.len = omega (arith, beside.each, ap (λ (xs : List ℤ). length xs) copied, c.in_ok-numbers.numbers.ok.0) in
     let values : c.new.result ≡ c.round_cells.new.numbers = c.new.ensures ∙ take_at c.round_cells.new.numbers _ c.in_ok-numbers.numbers.len each in

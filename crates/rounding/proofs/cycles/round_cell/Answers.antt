@@ -8,8 +8,8 @@ use Rattle.rounding.proofs.cycles.round_cell.Goals as goal
 pub walk_from-requires-clause-first : goal.walk_from-requires-clause-first
 walk_from-requires-clause-first c = λ cell below. c.rounds.invariant.multiples cell (omega (arith, below, c.requires.cell)) (c.requires.first cell below)
 
-pub go_round-requires-clause-few : goal.go_round-requires-clause-few
-go_round-requires-clause-few c =
+pub go_round-requires-clause-at_most_2_32 : goal.go_round-requires-clause-at_most_2_32
+go_round-requires-clause-at_most_2_32 c =
     let arcs = c.args.network.now.arcs.items in
     let each : length arcs ≡ length c.rounds.numbers = omega (arith, c.requires.each, c.rounds.auto.numbers) in
     (round_ready c.args.task.now.base arcs c.args.network.now.touching.items c.rounds.numbers c.in_ok-walk.walk.steps.items c.circuit.result.now c.in_ok-walk.walk.place c.requires.network each c.in_ok-walk.ensures c.circuit.ensures).few

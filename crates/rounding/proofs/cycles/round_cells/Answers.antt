@@ -8,5 +8,5 @@ cells-preserved c =
     record {
       balanced = c.in_ok-round_cell.ensures.balanced;
       beside = c.in_ok-round_cell.ensures.beside;
-      whole = whole_more c.args.task.now.base c.cells.numbers c.round_cell.new.numbers c.cells.cell inside c.in_ok-round_cell.ensures.multiples c.in_ok-round_cell.ensures.whole c.cells.invariant.whole;
+      whole = whole_more c.args.task.now.base c.cells.numbers c.round_cell.new.numbers c.cells.cell inside c.in_ok-round_cell.ensures.multiples c.in_ok-round_cell.ensures.is_multiple c.cells.invariant.whole;
     }

@@ -12,7 +12,7 @@ relations-preserved c =
       each = more.each ∙ c.relations.invariant.each;
       noted = more.ascends;
       whole = one_more_noted rs k c.index-relations-number.result c.relations.naming.items c.note_cells.new.naming.items
-          (slice_get_read rs (length rs) k c.index-relations-number.result refl c.relations-test.true c.index-relations-number.is) c.relations.invariant.whole more c.in_ok-note_cells.ensures.whole;
+          (slice_get_read rs (length rs) k c.index-relations-number.result refl c.relations-test.true c.index-relations-number.is) c.relations.invariant.whole more c.in_ok-note_cells.ensures.all_cells_noted;
     }
 
 pub returns : goal.returns

@@ -22,5 +22,5 @@ parts-preserved c =
           ];
     }
 
-pub returns-clause-whole : goal.returns-clause-whole
-returns-clause-whole c = whole_noted c.args.number c.args.relation.now c.as_slice-part-items.result.now c.parts.naming.items c.parts.part-index c.as_slice-part-items.ensures c.parts-test.false c.parts.invariant.total c.parts.invariant.parts
+pub returns-clause-all_cells_noted : goal.returns-clause-all_cells_noted
+returns-clause-all_cells_noted c = whole_noted c.args.number c.args.relation.now c.as_slice-part-items.result.now c.parts.naming.items c.parts.part-index c.as_slice-part-items.ensures c.parts-test.false c.parts.invariant.total c.parts.invariant.parts

@@ -6,7 +6,7 @@ use Rattle.rounding.proofs.network.network_of.Goals as goal
 pub touching_of-requires : goal.touching_of-requires
 touching_of-requires c =
     rw (c.as_slice-2.ensures.value, c.as_slice.ensures) (record {
-      few = c.in_ok-arcs.ensures.few;
+      few = c.in_ok-arcs.ensures.fewer_than_2_32;
       within = arcs_within c.args.system.now.relations c.args.signs.now c.args.system.now.cells c.in_ok-arcs.arcs.items c.in_ok-arcs.ensures.arcs;
     })
 
@@ -19,7 +19,7 @@ returns-clause-network c =
     let many = c.in_ok-touching.ensures.each ∙ ap (λ (relations : List Relation). length relations + 1) c.as_slice.ensures in
     let within = arcs_within c.args.system.now.relations c.args.signs.now c.args.system.now.cells c.in_ok-arcs.arcs.items c.in_ok-arcs.ensures.arcs in
     record {
-      few = c.in_ok-arcs.ensures.few;
+      few = c.in_ok-arcs.ensures.fewer_than_2_32;
       within = λ cell below. (omega (arith, many, (within cell below).0), omega (arith, many, (within cell below).1));
       touched = touched;
     }

@@ -24,9 +24,9 @@ overflow_add-numbers c =
     let within = moved_within c.args.by step.turn own.1 c.requires.by.0 c.requires.by.1 in
     let low = c.steps.invariant.near.low step.cell in
     let high = c.steps.invariant.near.high step.cell in
-    let number : FitsSigned w128 (number_at c.steps.numbers step.cell) = omega (arith, ints, low, high, c.steps-test.true, c.requires.few) in
+    let number : FitsSigned w128 (number_at c.steps.numbers step.cell) = omega (arith, ints, low, high, c.steps-test.true, c.requires.at_most_2_32) in
     let by_moved : FitsSigned w128 c.turn_after.result = omega (arith, ints, is, within.0, within.1) in
-    let sum : FitsSigned w128 (number_at c.steps.numbers step.cell +ℤ c.turn_after.result) = omega (arith, ints, low, high, is, within.0, within.1, c.steps-test.true, c.requires.few) in
+    let sum : FitsSigned w128 (number_at c.steps.numbers step.cell +ℤ c.turn_after.result) = omega (arith, ints, low, high, is, within.0, within.1, c.steps-test.true, c.requires.at_most_2_32) in
     simp to_z-of_z sum
 
 pub steps-preserved : goal.steps-preserved
@@ -40,9 +40,9 @@ steps-preserved c =
     let within = moved_within c.args.by step.turn own.1 c.requires.by.0 c.requires.by.1 in
     let low = c.steps.invariant.near.low step.cell in
     let high = c.steps.invariant.near.high step.cell in
-    let number : FitsSigned w128 (number_at c.steps.numbers step.cell) = omega (arith, ints, low, high, c.steps-test.true, c.requires.few) in
+    let number : FitsSigned w128 (number_at c.steps.numbers step.cell) = omega (arith, ints, low, high, c.steps-test.true, c.requires.at_most_2_32) in
     let by_moved : FitsSigned w128 c.turn_after.result = omega (arith, ints, is, within.0, within.1) in
-    let sum : FitsSigned w128 (number_at c.steps.numbers step.cell +ℤ c.turn_after.result) = omega (arith, ints, low, high, is, within.0, within.1, c.steps-test.true, c.requires.few) in
+    let sum : FitsSigned w128 (number_at c.steps.numbers step.cell +ℤ c.turn_after.result) = omega (arith, ints, low, high, is, within.0, within.1, c.steps-test.true, c.requires.at_most_2_32) in
     let inside : step.cell < length c.steps.numbers = omega (arith, own.0, c.steps.auto.numbers) in
     let before = simp to_z-of_z at c.steps.invariant.is in
     simp to_z-of_z (record {

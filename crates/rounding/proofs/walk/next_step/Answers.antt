@@ -47,5 +47,5 @@ step_from-requires c =
     let cells = c.as_slice-cells.result.now in
     let below : c.args.step.cell < length arcs = omega (arith, c.requires.each, c.requires.moves.inside) in
     let is = read_cells touching c.args.step.end c.index.result.now cells (ends_inside arcs touching c.args.step c.requires.network below c.requires.along) c.index.ensures c.as_slice-cells.ensures in
-    let has = found_behind cells c.place_from.result c.in-Some.cell (subst (λ (list : List ℕ). Contains list c.in-Some.cell) c.cells_behind-left.ensures c.in-Some.ensures.some.0) in
+    let has = found_behind cells c.place_from.result c.in-Some.cell (subst (λ (list : List ℕ). Contains list c.in-Some.cell) c.cells_behind-left.ensures c.in-Some.ensures.another_cell.0) in
     (found_touches arcs touching c.args.step.end c.in-Some.cell c.index-2.result.now c.requires.network (subst (λ (list : List ℕ). Contains list c.in-Some.cell) is has) c.index-2.ensures).1

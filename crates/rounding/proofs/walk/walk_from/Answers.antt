@@ -18,7 +18,7 @@ steps-init c =
 pub returns-in-Some : goal.returns-in-Some
 returns-in-Some c =
     let arcs = c.args.network.now.arcs.items in
-    let found = rw c.as_slice.ensures.value at c.in-Some.ensures.some in
+    let found = rw c.as_slice.ensures.value at c.in-Some.ensures.starts_there in
     goes_round arcs c.args.task.now.base c.args.numbers.now (arc_at arcs c.args.cell).from c.steps.steps.items c.push.new.self.items c.steps.step c.in-Some.place c.steps.invariant c.in_ok-push.ensures.items found.0 found.1
 
 pub next_step-step-requires-clause-apart : goal.next_step-step-requires-clause-apart

@@ -18,7 +18,7 @@ put-requires c =
     let of = c.as_slice-of.result.now in
     let are : AreComponents relations c.requires.components.0 of grouping.sizes = subst (λ (list : List (Option ℕ)). AreComponents relations c.requires.components.0 list grouping.sizes) (sym c.as_slice-of.ensures) c.requires.components.2 in
     record {
-      within = put-within relations c.requires.components.0 of grouping.sizes are c.index-relations-number.result c.component_of-met.result c.component_of-met.ensures.some (length c.relations.lists.items)
+      within = put-within relations c.requires.components.0 of grouping.sizes are c.index-relations-number.result c.component_of-met.result c.component_of-met.ensures.stands_in (length c.relations.lists.items)
           (many-lists (stands_at relations of) c.relations.number (length grouping.sizes) c.relations.lists.items c.relations.invariant);
     }
 
@@ -34,4 +34,4 @@ relations-preserved c =
     ap (λ (list : List Relation). slice_get list k) (sym c.as_slice-relations.ensures) ∙ slice_get_read items (length items) k c.index-relations-number.result refl c.relations-test.true c.index-relations-number.is
     in
     c.in_ok-put.ensures ∙ ap (λ (lists : List (List ℕ)). put_in c.component_of-met.result k lists) c.relations.invariant
-    ∙ rows-next relations c.requires.components.0 of grouping.sizes are k c.index-relations-number.result at c.component_of-met.result c.component_of-met.ensures.some c.component_of-met.ensures.none
+    ∙ rows-next relations c.requires.components.0 of grouping.sizes are k c.index-relations-number.result at c.component_of-met.result c.component_of-met.ensures.stands_in c.component_of-met.ensures.none

@@ -22,7 +22,7 @@ returns-in_default c =
 pub count_in-requires-clause-room : goal.count_in-requires-clause-room
 count_in-requires-clause-room c =
     let of = c.args.of.now in
-    omega (arith, c.requires.few, c.requires.next, c.requires.numbered.counted c.in-Some.number, count-most (is_of c.in-Some.number) of)
+    omega (arith, c.requires.fewer_than_2_32, c.requires.next, c.requires.numbered.counted c.in-Some.number, count-most (is_of c.in-Some.number) of)
 
 pub returns : goal.returns
 returns c =

@@ -75,7 +75,7 @@ merge-preserved c =
     let g_fits : FitsSigned w128 g = search rules in
     let value : ℤ → ℤ → ℤ = crossed_value den p f c.args.column place in
     let here : to_z w128 (of_z w128 number) ≡ numbers place =
-    to_z-of_z w128 number fits ∙ c.in-Some.ensures.some ∙ ap (λ t. value t (to_z w128 (of_z w128 g))) (to_z-of_z w128 e e_fits ∙ c.number_here-e.ensures) ∙ ap (value (coefficient c.args.own.now place)) (to_z-of_z w128 g g_fits ∙ c.number_here-g.ensures) in
+    to_z-of_z w128 number fits ∙ c.in-Some.ensures.crossed_value ∙ ap (λ t. value t (to_z w128 (of_z w128 g))) (to_z-of_z w128 e e_fits ∙ c.number_here-e.ensures) ∙ ap (value (coefficient c.args.own.now place)) (to_z-of_z w128 g g_fits ∙ c.number_here-g.ensures) in
     record {
       within = omega (arith, c.if-place-width.false);
       own = c.past_place-i.ensures;

@@ -13,7 +13,7 @@ returns-in_default-clause-greatest c e divides _ =
 
 pub returns-clause-den : goal.returns-clause-den
 returns-clause-den c =
-    subst (λ n. c.row_divisor.result ∣ n) (c.unsigned_abs-2.ensures.value ∙ ap unsigned_abs (to_z-of_z w128 c.args.den c.ranges.den)) c.row_divisor.ensures.whole
+    subst (λ n. c.row_divisor.result ∣ n) (c.unsigned_abs-2.ensures.value ∙ ap unsigned_abs (to_z-of_z w128 c.args.den c.ranges.den)) c.row_divisor.ensures.divides_whole
 
 pub returns-clause-greatest : goal.returns-clause-greatest
 returns-clause-greatest c e divides all =

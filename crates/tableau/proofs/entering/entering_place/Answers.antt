@@ -17,4 +17,4 @@ choose_entering-best-requires-clause-number c =
     let l = c.loop-k in
     let number : ℤ = c.number_here-number.result in
     let fits : FitsSigned w128 number = search rules in
-    to_z-of_z w128 number fits ∙ c.number_here-number.ensures ∙ ap (λ (e : List Term). coefficient e l.k) c.row_of-objective.ensures.whole ∙ objective_number c.args.table.now c.len.result l.k (omega (arith, c.len.ensures)) (omega (arith, c.loop-k-test.true))
+    to_z-of_z w128 number fits ∙ c.number_here-number.ensures ∙ ap (λ (e : List Term). coefficient e l.k) c.row_of-objective.ensures.row_at ∙ objective_number c.args.table.now c.len.result l.k (omega (arith, c.len.ensures)) (omega (arith, c.loop-k-test.true))

@@ -31,7 +31,7 @@ divisor-requires-clause-den c =
     let den_fits : FitsSigned w128 d.den = search rules in
     let x : ℤ = c.in-Some.den in
     let x_fits : FitsSigned w128 x = search rules in
-    let told = c.in-Some.ensures.some in
+    let told = c.in-Some.ensures.product in
     let is : x ≡ d.den *ℤ p = simp to_z-of_z at told in
     omega (arith, ints, to_z-of_z w128 x x_fits, is, product_above d.den p c.requires.den (omega (arith, ints, c.entry-p.ensures, c.requires.above)))
 
@@ -80,7 +80,7 @@ returns-clause-ok c =
     let by_fits : FitsSigned w128 by = search rules in
     let part : ℤ = c.quotient.result in
     let part_fits : FitsSigned w128 part = search rules in
-    let told = c.in-Some.ensures.some in
+    let told = c.in-Some.ensures.product in
     let is : x ≡ d.den *ℤ p = simp to_z-of_z at told in
     let den_is : x ≡ whole.den = is ∙ ap (λ n. d.den *ℤ n) c.entry-p.ensures in
     let olds : List (List Term) = c.as_slice-olds.result.now in

@@ -33,7 +33,7 @@ loop-j-preserved c =
     let fits : FitsSigned w128 number = search rules in
     let objective : ℕ → ℤ = λ j. number_at t.objective j in
     let is : to_z w128 (of_z w128 number) ≡ objective l.j =
-    to_z-of_z w128 number fits ∙ c.number_here-number.ensures ∙ ap (λ (e : List Term). coefficient e l.j) c.row_of-objective.ensures.whole ∙ objective_number c.args.table.now c.len.result l.j (omega (arith, c.len.ensures)) (omega arith) in
+    to_z-of_z w128 number fits ∙ c.number_here-number.ensures ∙ ap (λ (e : List Term). coefficient e l.j) c.row_of-objective.ensures.row_at ∙ objective_number c.args.table.now c.len.result l.j (omega (arith, c.len.ensures)) (omega arith) in
     record {
       from = c.past_place-i.ensures;
       read =

@@ -12,4 +12,4 @@ entry_at-requires c = ascend_of 0 (length c.args.table.now.others.items + 1) c.r
 pub returns : goal.returns
 returns c =
     let fits : FitsSigned w128 c.entry_at.result = search rules in
-    to_z-of_z w128 c.entry_at.result fits ∙ c.entry_at.ensures ∙ ap (λ (e : List Term). coefficient e c.args.j) c.row_of.ensures.whole ∙ objective_number c.args.table.now c.len.result c.args.j (omega (arith, c.len.ensures)) c.requires
+    to_z-of_z w128 c.entry_at.result fits ∙ c.entry_at.ensures ∙ ap (λ (e : List Term). coefficient e c.args.j) c.row_of.ensures.row_at ∙ objective_number c.args.table.now c.len.result c.args.j (omega (arith, c.len.ensures)) c.requires

@@ -16,7 +16,7 @@ returns-in_default-clause-blocked c =
 pub unreachable-requires : goal.unreachable-requires
 unreachable-requires c =
     let t : Table = table_of c.args.table.now in
-    let enters = c.in-Some.ensures.some in
+    let enters = c.in-Some.ensures.enters in
     some_member_leaves c.args.problem.now t c.in-Some.column (well_formed_problem c.args.problem.now c.requires.well_formed) c.requires.kept enters.within enters.below c.in_default-leaving_row.ensures.none
 
 pub answer-requires-clause-within : goal.answer-requires-clause-within
@@ -31,13 +31,13 @@ returns-clause-wide c row column is =
     let wide = c.in-Err.ensures.wide named.0 named.1 (ap Err named.2) in
     let same = c.in-Err.ensures.err in
     let not_reached : IsReached c.args.problem.now (table_of c.args.table.now) → ⊥ = λ reached. let clash : c.is_reached.result ≡ true = c.is_reached.ensures.1 reached in cc in
-    let can = can_improve c.args.problem.now (table_of c.args.table.now) c.in-Some.column c.requires.well_formed c.requires.kept not_reached c.in-Some.ensures.some in
+    let can = can_improve c.args.problem.now (table_of c.args.table.now) c.in-Some.column c.requires.well_formed c.requires.kept not_reached c.in-Some.ensures.enters in
     record {
       below = can.0;
       row = c.in-Some-leaving_row.row;
       column = c.in-Some.column;
-      enters = c.in-Some.ensures.some;
-      leaves = c.in-Some-leaving_row.ensures.some;
+      enters = c.in-Some.ensures.enters;
+      leaves = c.in-Some-leaving_row.ensures.leaves;
       wide_row = named.0;
       wide_column = named.1;
       row_within = wide.0;
@@ -51,13 +51,13 @@ pub returns-in-Ok-exchange-clause-improved : goal.returns-in-Ok-exchange-clause-
 returns-in-Ok-exchange-clause-improved c _ =
     let reduced = c.in-Ok-exchange.ensures.ok in
     let not_reached : IsReached c.args.problem.now (table_of c.args.table.now) → ⊥ = λ reached. let clash : c.is_reached.result ≡ true = c.is_reached.ensures.1 reached in cc in
-    let can = can_improve c.args.problem.now (table_of c.args.table.now) c.in-Some.column c.requires.well_formed c.requires.kept not_reached c.in-Some.ensures.some in
-    (c.in-Some-leaving_row.row, c.in-Some.column, reduced.0, record { below = can.0; enters = c.in-Some.ensures.some; leaves = c.in-Some-leaving_row.ensures.some; reduced = reduced.1 })
+    let can = can_improve c.args.problem.now (table_of c.args.table.now) c.in-Some.column c.requires.well_formed c.requires.kept not_reached c.in-Some.ensures.enters in
+    (c.in-Some-leaving_row.row, c.in-Some.column, reduced.0, record { below = can.0; enters = c.in-Some.ensures.enters; leaves = c.in-Some-leaving_row.ensures.leaves; reduced = reduced.1 })
 
 pub returns-in-Ok-exchange-clause-kept : goal.returns-in-Ok-exchange-clause-kept
 returns-in-Ok-exchange-clause-kept c =
     let reduced = c.in-Ok-exchange.ensures.ok in
     let not_reached : IsReached c.args.problem.now (table_of c.args.table.now) → ⊥ = λ reached. let clash : c.is_reached.result ≡ true = c.is_reached.ensures.1 reached in cc in
-    let can = can_improve c.args.problem.now (table_of c.args.table.now) c.in-Some.column c.requires.well_formed c.requires.kept not_reached c.in-Some.ensures.some in
+    let can = can_improve c.args.problem.now (table_of c.args.table.now) c.in-Some.column c.requires.well_formed c.requires.kept not_reached c.in-Some.ensures.enters in
     step_keeps_posed c.args.problem.now (table_of c.args.table.now) (table_of c.exchange.new.table) c.requires.well_formed c.requires.kept
-    (c.in-Some-leaving_row.row, c.in-Some.column, reduced.0, record { below = can.0; enters = c.in-Some.ensures.some; leaves = c.in-Some-leaving_row.ensures.some; reduced = reduced.1 })
+    (c.in-Some-leaving_row.row, c.in-Some.column, reduced.0, record { below = can.0; enters = c.in-Some.ensures.enters; leaves = c.in-Some-leaving_row.ensures.leaves; reduced = reduced.1 })

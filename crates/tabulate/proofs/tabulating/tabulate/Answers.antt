@@ -45,4 +45,4 @@ pub returns-clause-marks : goal.returns-clause-marks
 returns-clause-marks c =
     let book = c.args.book.now in
     let same : length c.start.new.book.tables ≡ length book.tables = ap (λ (b : BookView). length b.tables) c.start.ensures.started.frame in
-    all-given book c.tables.book c.args.keep c.args.scale c.args.rows.now c.tables.t (omega (arith, c.tables-test.false, c.tables-t-end.ensures, same)) c.start.ensures.book c.requires.rows c.requires.few c.tables.invariant.frame c.tables.invariant.kept c.tables.invariant.given
+    all-given book c.tables.book c.args.keep c.args.scale c.args.rows.now c.tables.t (omega (arith, c.tables-test.false, c.tables-t-end.ensures, same)) c.start.ensures.book c.requires.rows c.requires.at_most_1000000 c.tables.invariant.frame c.tables.invariant.kept c.tables.invariant.given

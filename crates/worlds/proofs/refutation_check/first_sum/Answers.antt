@@ -12,8 +12,8 @@ use Rattle.worlds.proofs.refutation_check.first_sum.Goals as goal
 pub gather-requires-clause-relations : goal.gather-requires-clause-relations
 gather-requires-clause-relations c = (listed_where_none (length c.as_slice-relations.result.now) c.as_slice-listed.result.now (sym c.misplaced_multiplier.ensures ∙ c.in_default.is)).named
 
-pub sum_shares-requires-clause-few : goal.sum_shares-requires-clause-few
-sum_shares-requires-clause-few c =
+pub sum_shares-requires-clause-fewer_than_2_32 : goal.sum_shares-requires-clause-fewer_than_2_32
+sum_shares-requires-clause-fewer_than_2_32 c =
     let fits : Fits w32 c.args.pattern.now.system.now.cells = search rules in
     omega (arith, fits, c.args.pattern.now.one_each.each_cell)
 

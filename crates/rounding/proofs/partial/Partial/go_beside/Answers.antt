@@ -36,7 +36,7 @@ back-preserved-then-up c =
     record {
       kept = c.in-Some.ensures.kept;
       same = same_then first c.back.self.bounds q.bounds c.back.invariant.same c.in-Some.ensures.same;
-      leads = leads_up first (choices_of c.args.self.now.steps.items) (choices_of c.back.self.steps.items) (choices_of q.steps.items) c.in-Some.up c.in-Some.ensures.some c.if-up.true c.back.invariant.leads;
+      leads = leads_up first (choices_of c.args.self.now.steps.items) (choices_of c.back.self.steps.items) (choices_of q.steps.items) c.in-Some.up c.in-Some.ensures.last_choice c.if-up.true c.back.invariant.leads;
     }
 
 pub allows-other-requires : goal.allows-other-requires
@@ -59,7 +59,7 @@ back-preserved c =
     record {
       kept = c.in-Some.ensures.kept;
       same = same;
-      leads = leads_past first q.bounds q.naming.items q.cells.items q.steps.items q.viable c.in-Some.up (choices_of c.args.self.now.steps.items) (choices_of c.back.self.steps.items) c.index-cell.result.now c.in-Some.ensures.kept same next c.in-Some.ensures.some c.if-up.false c.if-not-other.ensures c.back.invariant.leads;
+      leads = leads_past first q.bounds q.naming.items q.cells.items q.steps.items q.viable c.in-Some.up (choices_of c.args.self.now.steps.items) (choices_of c.back.self.steps.items) c.index-cell.result.now c.in-Some.ensures.kept same next c.in-Some.ensures.last_choice c.if-up.false c.if-not-other.ensures c.back.invariant.leads;
     }
 
 pub choose-requires-clause-kept : goal.choose-requires-clause-kept
@@ -91,7 +91,7 @@ returns-in-back-clause-same c = λ _.
 
 pub returns-in-back-clause-on : goal.returns-in-back-clause-on
 returns-in-back-clause-on c = λ _.
-    leads_beside c.args.self.now.bounds c.take_back.new.self.steps.items c.choose.new.self.steps.items c.in-Some.up (choices_of c.args.self.now.steps.items) (choices_of c.back.self.steps.items) c.in-Some.ensures.some c.if-up.false c.in_ok-choose.ensures.choices c.back.invariant.leads
+    leads_beside c.args.self.now.bounds c.take_back.new.self.steps.items c.choose.new.self.steps.items c.in-Some.up (choices_of c.args.self.now.steps.items) (choices_of c.back.self.steps.items) c.in-Some.ensures.last_choice c.if-up.false c.in_ok-choose.ensures.choices c.back.invariant.leads
 
 pub returns-in-back-clause-end : goal.returns-in-back-clause-end
 returns-in-back-clause-end c = λ clash. absurd (let no : true ≡ false = clash in cc)

@@ -14,7 +14,7 @@ returns-in-Some-clause-step c =
     let is_walk = c.self.invariant.is_walk in
     let kept : IsTableOf i.problem t = well_formed_keeps i.problem i.improved t is_walk.well_formed is_walk.steps in
     subst (λ (w : TableauWalk). (IsTrue true → CanImprove w.problem w.table) × (CanImprove w.problem w.table → IsTrue true)) c.self.view_is
-    (λ _. can_improve i.problem t c.in-Some.field-0 is_walk.well_formed kept (λ reached. let clash : c.is_reached.result ≡ true = c.is_reached.ensures.1 reached in cc) c.in-Some.ensures.some, λ _. refl)
+    (λ _. can_improve i.problem t c.in-Some.field-0 is_walk.well_formed kept (λ reached. let clash : c.is_reached.result ≡ true = c.is_reached.ensures.1 reached in cc) c.in-Some.ensures.enters, λ _. refl)
 
 pub returns-in-None-clause-neither : goal.returns-in-None-clause-neither
 returns-in-None-clause-neither c =
