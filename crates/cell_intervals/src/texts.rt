@@ -1,5 +1,5 @@
 ghost use Rattle.std.specs.Prelude.{◌≡◌, ◌++◌, IfOk, OnOk, string_bytes};
-ghost use Rattle.cell_intervals.specs.IntervalTexts as meant;
+ghost use Rattle.cell_intervals.specs.IntervalTexts as spec;
 
 use crate::interval::{CellInterval, UpperEnd};
 use crate::ratio::Ratio;
@@ -13,7 +13,7 @@ use std::alloc::Global;
 /// The intervals are written in the order in which they stand. `Memory` is the only refusal. The cost is the length of
 /// the text. The format is argus's own.
 pub fn interval_text(alloc: Global, intervals: &[CellInterval]) -> Result<Items<u8>, Memory>
-    ensures { IfOk result (λ text. text ≡ meant.interval_text intervals.now) }
+    ensures { IfOk result (λ text. text ≡ spec.interval_text intervals.now) }
 {
     let mut text = Items::empty(alloc);
     add(&mut text, b"cell,low,high\n")?;
@@ -35,7 +35,7 @@ fn add(text: &mut Items<u8>, bytes: &[u8]) -> Result<(), Memory>
 
 // The line of an interval.
 fn add_line(alloc: Global, text: &mut Items<u8>, one: &CellInterval) -> Result<(), Memory>
-    ensures { OnOk result (text.new ≡ text.old ++ meant.line_text one.now) }
+    ensures { OnOk result (text.new ≡ text.old ++ spec.line_text one.now) }
 {
     let cell = one.cell;
     let low = ratio_text(alloc, one.low)?;
@@ -46,7 +46,7 @@ fn add_line(alloc: Global, text: &mut Items<u8>, one: &CellInterval) -> Result<(
 
 // An upper end.
 fn upper_text(alloc: Global, high: UpperEnd) -> Result<String, Memory>
-    ensures { IfOk result (λ text. string_bytes text ≡ meant.upper_text high) }
+    ensures { IfOk result (λ text. string_bytes text ≡ spec.upper_text high) }
 {
     match high {
         UpperEnd::At(value) => ratio_text(alloc, value),
@@ -56,7 +56,7 @@ fn upper_text(alloc: Global, high: UpperEnd) -> Result<String, Memory>
 
 // A fraction in digits.
 fn ratio_text(alloc: Global, value: Ratio) -> Result<String, Memory>
-    ensures { IfOk result (λ text. string_bytes text ≡ meant.ratio_text value) }
+    ensures { IfOk result (λ text. string_bytes text ≡ spec.ratio_text value) }
 {
     let num = value.num;
     let den = value.den;

@@ -1,6 +1,6 @@
 ghost use Rattle.std.specs.Prelude.{◌≡◌};
 ghost use Rattle.std.specs.List.{list_all};
-ghost use Rattle.cert_check.specs.Counts as meant;
+ghost use Rattle.cert_check.specs.Counts as spec;
 
 use crate::faults::CheckFault;
 use certificate::{Certificate, WorldLine};
@@ -9,7 +9,7 @@ use worlds::Refuted;
 
 /// Refuses a certificate whose counts are others, or a number of which names no cell.
 pub(crate) fn check_counts(system: &System, certificate: &Certificate) -> Result<(), CheckFault>
-    ensures { result ≡ meant.counts_fault system.now certificate.now }
+    ensures { result ≡ spec.counts_fault system.now certificate.now }
 {
     if !counts_fit(system, certificate) {
         return Err(CheckFault::Counts);
@@ -19,7 +19,7 @@ pub(crate) fn check_counts(system: &System, certificate: &Certificate) -> Result
 
 // Whether the counts are the system's, and each number names a cell.
 fn counts_fit(system: &System, certificate: &Certificate) -> bool
-    ensures { result ≡ meant.counts_fit system.now certificate.now }
+    ensures { result ≡ spec.counts_fit system.now certificate.now }
 {
     let cells = system.cells;
     certificate.cells == cells
@@ -32,14 +32,14 @@ fn counts_fit(system: &System, certificate: &Certificate) -> bool
 
 // Whether all numbers are of cells.
 fn are_cells(numbers: &[u32], cells: u32) -> bool
-    ensures { result ≡ list_all (meant.is_cell_number cells) numbers.now }
+    ensures { result ≡ list_all (spec.is_cell_number cells) numbers.now }
 {
     numbers.iter().all(|number| *number < cells)
 }
 
 // Whether all subjects and cells are cells.
 fn name_cells(refuted: &[Refuted], cells: u32) -> bool
-    ensures { result ≡ list_all (meant.names_cells cells) refuted.now }
+    ensures { result ≡ list_all (spec.names_cells cells) refuted.now }
 {
     refuted
         .iter()
@@ -48,7 +48,7 @@ fn name_cells(refuted: &[Refuted], cells: u32) -> bool
 
 // Whether all lines are for cells.
 fn stand_for_cells(lines: &[WorldLine], cells: u32) -> bool
-    ensures { result ≡ list_all (meant.stands_for_cell cells) lines.now }
+    ensures { result ≡ list_all (spec.stands_for_cell cells) lines.now }
 {
     lines.iter().all(|line| line.cell < cells)
 }

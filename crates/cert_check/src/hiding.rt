@@ -1,7 +1,7 @@
 ghost use Rattle.std.specs.Prelude.{◌≡◌, ◌<◌, ◌^◌, length, fold, All, IfOk};
 ghost use Rattle.worlds.specs.ProtectFaults.{primary_shown, fixed_hidden};
 ghost use Rattle.repair.specs.HidingOrder.{hide};
-ghost use Rattle.cert_check.specs.HiddenSet as meant;
+ghost use Rattle.cert_check.specs.HiddenSet as spec;
 
 use crate::faults::CheckFault;
 use sdc_base::{Cell, Hidden, Items, Memory};
@@ -10,7 +10,7 @@ use std::alloc::Global;
 /// The set in which exactly these cells are hidden.
 pub(crate) fn hidden_set(alloc: Global, cells: u32, numbers: &[u32]) -> Result<Hidden, Memory>
     requires { All (λ number. number < cells) numbers.now }
-    ensures { IfOk result (λ hidden. hidden.flags ≡ meant.hidden_set cells numbers.now) }
+    ensures { IfOk result (λ hidden. hidden.flags ≡ spec.hidden_set cells numbers.now) }
 {
     let mut flags = Vec::from_elem(alloc, false, cells as usize)?;
     hide_all(&mut flags, numbers);
@@ -33,7 +33,7 @@ pub(crate) fn hide_all(flags: &mut [bool], cells: &[u32])
 pub(crate) fn check_permitted(cells: &[Cell], flags: &[bool]) -> Result<(), CheckFault>
     requires flags { length flags.now ≡ length cells.now }
     requires fewer_than_2_32 { length cells.now < 2 ^ 32 }
-    ensures { result ≡ meant.permitted_fault cells.now flags.now }
+    ensures { result ≡ spec.permitted_fault cells.now flags.now }
 {
     if let Some(number) = shown_primary(cells, flags) {
         return Err(CheckFault::PrimaryShown(number));

@@ -2,7 +2,7 @@ ghost use Rattle.std.specs.Prelude.{◌≡◌, ◌<◌, length, All, slice_get};
 ghost use Rattle.sdc_base.specs.Grounds.{IsGround};
 ghost use Rattle.sdc_base.specs.Answers.{Gives};
 ghost use Rattle.cert_check.specs.FirstFault.{fault_of};
-ghost use Rattle.cert_check.specs.WorldList as meant;
+ghost use Rattle.cert_check.specs.WorldList as spec;
 
 use crate::faults::CheckFault;
 use crate::numbering::number_of;
@@ -23,7 +23,7 @@ pub(crate) fn check_worlds(
 ) -> Result<(), CheckFault>
     requires ground { IsGround system.now cells.now hidden.now.flags }
     requires scratch { length scratch.old ≡ system.now.cells }
-    ensures exact { Gives fault_of (λ u. u) result (meant.worlds_fault system.now cells.now hidden.now.flags lines.now) }
+    ensures exact { Gives fault_of (λ u. u) result (spec.worlds_fault system.now cells.now hidden.now.flags lines.now) }
     ensures length { length scratch.new ≡ length scratch.old }
 {
     // Read, so that it is known to be a number of 32 bits.
@@ -44,7 +44,7 @@ fn check_lines(
     requires ground { IsGround system.now cells.now hidden.now.flags }
     requires scratch { length scratch.old ≡ system.now.cells }
     requires asked { All (λ one. one.0 < system.now.cells) asked.now }
-    ensures exact { result ≡ meant.lines_fault system.now cells.now hidden.now.flags 0 asked.now lines.now }
+    ensures exact { result ≡ spec.lines_fault system.now cells.now hidden.now.flags 0 asked.now lines.now }
     ensures length { length scratch.new ≡ length scratch.old }
 {
     for (place, line) in lines.iter().enumerate() {
@@ -69,7 +69,7 @@ fn check_place(
     requires ground { IsGround system.now cells.now hidden.now.flags }
     requires scratch { length scratch.old ≡ system.now.cells }
     requires asked { All (λ one. one.0 < system.now.cells) asked.now }
-    ensures exact { result ≡ meant.place_fault system.now cells.now hidden.now.flags place (slice_get asked.now place)
+    ensures exact { result ≡ spec.place_fault system.now cells.now hidden.now.flags place (slice_get asked.now place)
         line.now }
     ensures length { length scratch.new ≡ length scratch.old }
 {
@@ -92,7 +92,7 @@ fn check_line(
     requires ground { IsGround system.now cells.now hidden.now.flags }
     requires scratch { length scratch.old ≡ system.now.cells }
     requires asked { asked.0 < system.now.cells }
-    ensures exact { result ≡ meant.line_fault system.now cells.now hidden.now.flags number asked line.now }
+    ensures exact { result ≡ spec.line_fault system.now cells.now hidden.now.flags number asked line.now }
     ensures length { length scratch.new ≡ length scratch.old }
 {
     let (cell, side) = asked;
@@ -110,14 +110,14 @@ fn check_line(
 
 // Whether a line is for this cell and side.
 fn is_for(cell: u32, side: Side, line: &WorldLine) -> bool
-    ensures { result ≡ meant.is_for (cell, side) line.now }
+    ensures { result ≡ spec.is_for (cell, side) line.now }
 {
     line.cell == cell && is_side(line.side, side)
 }
 
 // Whether both sides are one.
 fn is_side(one: Side, other: Side) -> bool
-    ensures { result ≡ meant.same_side one other }
+    ensures { result ≡ spec.same_side one other }
 {
     match one {
         Side::Above => match other {

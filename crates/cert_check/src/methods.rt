@@ -1,5 +1,5 @@
 ghost use Rattle.std.specs.Prelude.{◌≡◌};
-ghost use Rattle.cert_check.specs.Methods as meant;
+ghost use Rattle.cert_check.specs.Methods as spec;
 
 use crate::faults::CheckFault;
 use certificate::Certificate;
@@ -7,7 +7,7 @@ use sdc_base::Method;
 
 /// Refuses a certificate of another method, and one of a rounding that lists something.
 pub(crate) fn check_method(method: &Method, certificate: &Certificate) -> Result<(), CheckFault>
-    ensures { result ≡ meant.method_fault method.now certificate.now }
+    ensures { result ≡ spec.method_fault method.now certificate.now }
 {
     if !is_same(method, &certificate.method) || is_rounding(method) && !lists_nothing(certificate) {
         return Err(CheckFault::Method);
@@ -17,7 +17,7 @@ pub(crate) fn check_method(method: &Method, certificate: &Certificate) -> Result
 
 // Whether both methods are one.
 fn is_same(one: &Method, other: &Method) -> bool
-    ensures { result ≡ meant.same_method one.now other.now }
+    ensures { result ≡ spec.same_method one.now other.now }
 {
     match *one {
         Method::Modular => match *other {
@@ -40,7 +40,7 @@ fn is_same(one: &Method, other: &Method) -> bool
 
 /// Whether the method rounds.
 pub(crate) fn is_rounding(method: &Method) -> bool
-    ensures { result ≡ meant.rounds_cells method.now }
+    ensures { result ≡ spec.rounds_cells method.now }
 {
     match *method {
         Method::Modular => false,
@@ -51,7 +51,7 @@ pub(crate) fn is_rounding(method: &Method) -> bool
 
 // Whether a certificate lists nothing.
 fn lists_nothing(certificate: &Certificate) -> bool
-    ensures { result ≡ meant.lists_nothing certificate.now }
+    ensures { result ≡ spec.lists_nothing certificate.now }
 {
     certificate.hidden.as_slice().len() == 0
         && certificate.steps.as_slice().len() == 0

@@ -1,5 +1,5 @@
 ghost use Rattle.std.specs.Prelude.{◌≡◌, ◌<◌, ◌^◌, length};
-ghost use Rattle.cert_check.specs.OutsidePlan as meant;
+ghost use Rattle.cert_check.specs.OutsidePlan as spec;
 
 use crate::faults::CheckFault;
 
@@ -7,7 +7,7 @@ use crate::faults::CheckFault;
 pub(crate) fn check_outside(larger: &[bool], flags: &[bool]) -> Result<(), CheckFault>
     requires each { length larger.now ≡ length flags.now }
     requires fewer_than_2_32 { length flags.now < 2 ^ 32 }
-    ensures { result ≡ meant.outside_fault larger.now flags.now }
+    ensures { result ≡ spec.outside_fault larger.now flags.now }
 {
     match first_outside(larger, flags) {
         Some(number) => Err(CheckFault::Outside(number)),
@@ -19,7 +19,7 @@ pub(crate) fn check_outside(larger: &[bool], flags: &[bool]) -> Result<(), Check
 fn first_outside(larger: &[bool], flags: &[bool]) -> Option<u32>
     requires each { length larger.now ≡ length flags.now }
     requires fewer_than_2_32 { length flags.now < 2 ^ 32 }
-    ensures { result ≡ meant.first_outside larger.now 0 flags.now }
+    ensures { result ≡ spec.first_outside larger.now 0 flags.now }
 {
     for (number, hidden) in flags.iter().enumerate() {
         if *hidden && !larger[number] {

@@ -3,7 +3,7 @@ ghost use Rattle.std.specs.Option.{option_map_or};
 ghost use Rattle.sdc_base.specs.Answers.{Gives};
 ghost use Rattle.release_writer.specs.Sheets.{HaveNames, HasTruthsFromZero};
 ghost use Rattle.cert_check.specs.FirstFault.{fault_of};
-ghost use Rattle.cert_check.specs.ReleaseLines as meant;
+ghost use Rattle.cert_check.specs.ReleaseLines as spec;
 
 use crate::faults::CheckFault;
 use crate::numbering::number_of;
@@ -27,7 +27,7 @@ pub(crate) fn check_release(
     requires names { HaveNames names.now book.now.tables }
     requires release { length release.now ≡ length book.now.tables }
     ensures { Gives fault_of (λ u. u) result
-        (meant.tables_fault book.now hidden.now.flags decimals 0 book.now.tables names.now release.now) }
+        (spec.tables_fault book.now hidden.now.flags decimals 0 book.now.tables names.now release.now) }
 {
     let tables = book.tables();
     'tables: for t in 0..tables {
@@ -60,7 +60,7 @@ fn check_table(
     requires table { t < length book.now.tables }
     requires names { length names.now ≡ length (slice_index_or book.now.tables t []) + 1 }
     ensures { Gives fault_of (λ u. u) result
-        (meant.table_fault book.now hidden.now.flags decimals t (slice_index_or book.now.tables t []) names.now
+        (spec.table_fault book.now hidden.now.flags decimals t (slice_index_or book.now.tables t []) names.now
         bytes.now) }
 {
     let Ok(text) = table_bytes(alloc, book, t, names, decimals, Shown::Hidden(hidden)) else {
@@ -77,7 +77,7 @@ fn check_table(
 
 // The line, from 1, in which two texts first differ.
 fn differing_line(one: &[u8], other: &[u8]) -> Option<usize>
-    ensures { result ≡ meant.differing_line 1 one.now other.now }
+    ensures { result ≡ spec.differing_line 1 one.now other.now }
 {
     let mut line = 1;
     for (place, b) in one.iter().enumerate() {
@@ -95,7 +95,7 @@ fn differing_line(one: &[u8], other: &[u8]) -> Option<usize>
 // The number of the line after a byte.
 fn line_after(b: u8, line: usize) -> usize
     requires { line < 2 ^ 63 + 1 }
-    ensures { result ≡ meant.line_after b line }
+    ensures { result ≡ spec.line_after b line }
 {
     if b == b'\n' { line + 1 } else { line }
 }

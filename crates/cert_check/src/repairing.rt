@@ -1,7 +1,7 @@
 ghost use Rattle.std.specs.Prelude.{◌≡◌, ◌<◌, length, All, OnOk};
 ghost use Rattle.sdc_base.specs.Grounds.{IsGround};
 ghost use Rattle.repair.specs.HidingOrder.{hide_subjects};
-ghost use Rattle.cert_check.specs.RepairList as meant;
+ghost use Rattle.cert_check.specs.RepairList as spec;
 
 use crate::faults::CheckFault;
 use crate::numbering::number_of;
@@ -20,7 +20,7 @@ pub(crate) fn check_repairs(
     requires scratch { length scratch.old ≡ system.now.cells }
     requires subjects { All (λ repair. repair.subject < system.now.cells) repairs.now }
     requires asked { All (λ repair. repair.cell < system.now.cells) repairs.now }
-    ensures exact { result ≡ meant.repairs_fault system.now cells.now hidden.old.flags 0 repairs.now }
+    ensures exact { result ≡ spec.repairs_fault system.now cells.now hidden.old.flags 0 repairs.now }
     ensures repaired { OnOk result (hidden.new.flags ≡ hide_subjects hidden.old.flags repairs.now) }
     ensures length { length scratch.new ≡ length scratch.old }
 {
@@ -44,7 +44,7 @@ fn check_repair(
     requires scratch { length scratch.old ≡ system.now.cells }
     requires subject { repair.now.subject < system.now.cells }
     requires asked { repair.now.cell < system.now.cells }
-    ensures exact { result ≡ meant.repair_fault system.now cells.now hidden.now.flags number repair.now }
+    ensures exact { result ≡ spec.repair_fault system.now cells.now hidden.now.flags number repair.now }
     ensures length { length scratch.new ≡ length scratch.old }
 {
     if !may_repair(cells, hidden.flags.as_slice(), repair.subject) {
@@ -71,7 +71,7 @@ fn check_repair(
 fn may_repair(cells: &[Cell], flags: &[bool], number: u32) -> bool
     requires cells { number < length cells.now }
     requires flags { number < length flags.now }
-    ensures { result ≡ meant.may_repair cells.now flags.now number }
+    ensures { result ≡ spec.may_repair cells.now flags.now number }
 {
     cells[number as usize].kind.is_free() && !flags[number as usize]
 }

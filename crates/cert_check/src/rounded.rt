@@ -9,7 +9,7 @@ ghost use Rattle.release_writer.specs.ReleaseReading.{rounded_read};
 ghost use Rattle.cert_check.specs.Cases.{IsCase};
 ghost use Rattle.cert_check.specs.FirstFault.{fault_of};
 ghost use Rattle.cert_check.specs.Methods.{rounds_cells};
-ghost use Rattle.cert_check.specs.RoundedRelease as meant;
+ghost use Rattle.cert_check.specs.RoundedRelease as spec;
 
 use crate::case::Case;
 use crate::faults::CheckFault;
@@ -25,7 +25,7 @@ pub(crate) fn check_rounded(
 ) -> Result<(), CheckFault>
     requires case { IsCase case.now release.now }
     requires rounds { rounds_cells case.now.method ≡ true }
-    ensures { Gives fault_of (λ u. u) result (meant.rounded_fault case.now release.now) }
+    ensures { Gives fault_of (λ u. u) result (spec.rounded_fault case.now release.now) }
 {
     let values = read_values(alloc, case, release)?;
     check_values(case.system, case.cells, case.base, values.as_slice())
@@ -35,7 +35,7 @@ pub(crate) fn check_rounded(
 fn read_values(alloc: Global, case: &Case<'_>, release: &[Text]) -> Result<Items<i128>, CheckFault>
     requires case { IsCase case.now release.now }
     ensures exact { Gives fault_of (λ values. values) result
-        (map_fault meant.at_line (rounded_read case.now.book.now case.now.names.now case.now.decimals release.now)) }
+        (map_fault spec.at_line (rounded_read case.now.book.now case.now.names.now case.now.decimals release.now)) }
     ensures each { IfOk result (λ values. length values ≡ length case.now.cells.now) }
     ensures from_zero { IfOk result (λ values. All (λ value. pos 0 ≤ℤ value) values) }
 {
@@ -56,7 +56,7 @@ fn check_values(
     requires each { length values.now ≡ length cells.now }
     requires base { pos 1 ≤ℤ base }
     requires from_zero { All (λ value. pos 0 ≤ℤ value) values.now }
-    ensures { result ≡ meant.values_fault system.now cells.now base values.now }
+    ensures { result ≡ spec.values_fault system.now cells.now base values.now }
 {
     // for the proof: read, so that it is known to be a number of 32 bits.
     let _cells = system.cells;
@@ -75,7 +75,7 @@ fn first_unrounded(cells: &[Cell], base: i128, values: &[i128]) -> Option<u32>
     requires fewer_than_2_32 { length cells.now < 2 ^ 32 }
     requires base { pos 1 ≤ℤ base }
     requires from_zero { All (λ value. pos 0 ≤ℤ value) values.now }
-    ensures { result ≡ meant.first_unrounded base (number_at values.now) 0 cells.now }
+    ensures { result ≡ spec.first_unrounded base (number_at values.now) 0 cells.now }
 {
     for (number, cell) in cells.iter().enumerate() {
         if !is_adjacent(cell, base, values[number]) {
@@ -89,7 +89,7 @@ fn first_unrounded(cells: &[Cell], base: i128, values: &[i128]) -> Option<u32>
 fn is_adjacent(cell: &Cell, base: i128, value: i128) -> bool
     requires base { pos 1 ≤ℤ base }
     requires from_zero { pos 0 ≤ℤ value }
-    ensures { result ≡ meant.is_adjacent base cell.now.truth value }
+    ensures { result ≡ spec.is_adjacent base cell.now.truth value }
 {
     is_multiple(base, value)
         && is_above_lower(cell, base, value)
@@ -131,7 +131,7 @@ fn first_broken(relations: &[Relation], values: &[i128]) -> Option<u32>
     requires named { All (NamesCells (length values.now)) relations.now }
     requires fewer_than_2_32 { length relations.now < 2 ^ 32 }
     requires from_zero { All (λ value. pos 0 ≤ℤ value) values.now }
-    ensures { result ≡ meant.first_broken (number_at values.now) 0 relations.now }
+    ensures { result ≡ spec.first_broken (number_at values.now) 0 relations.now }
 {
     for (number, relation) in relations.iter().enumerate() {
         if !holds(relation, values) {

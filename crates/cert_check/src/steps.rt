@@ -1,6 +1,6 @@
 ghost use Rattle.std.specs.Prelude.{◌≡◌, false, slice_get};
 ghost use Rattle.std.specs.Option.{option_map_or};
-ghost use Rattle.cert_check.specs.FirstDifference as meant;
+ghost use Rattle.cert_check.specs.FirstDifference as spec;
 ghost use Rattle.cert_check.specs.TrailSteps.{same_step, steps_fault};
 
 use crate::faults::CheckFault;
@@ -19,7 +19,7 @@ pub(crate) fn check_steps(trail: &[PlanStep], steps: &[PlanStep]) -> Result<(), 
 
 // The first place in which steps differ.
 fn first_difference(steps: &[PlanStep], trail: &[PlanStep]) -> Option<usize>
-    ensures { result ≡ meant.first_difference same_step 0 steps.now trail.now }
+    ensures { result ≡ spec.first_difference same_step 0 steps.now trail.now }
 {
     for (place, step) in steps.iter().enumerate() {
         if !stands_at(trail, place, step) {
@@ -54,7 +54,7 @@ fn is_same(one: &PlanStep, other: &PlanStep) -> bool
 
 // Whether both lists have the same numbers.
 fn are_same(one: &[u32], other: &[u32]) -> bool
-    ensures { result ≡ meant.same_numbers one.now other.now }
+    ensures { result ≡ spec.same_numbers one.now other.now }
 {
     one == other
 }

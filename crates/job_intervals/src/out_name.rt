@@ -4,7 +4,7 @@ ghost use Rattle.std.specs.Option.{option_map_or};
 ghost use Rattle.std.specs.Str.{bytes_eq};
 ghost use Rattle.sdc_base.specs.Steps.{refuse};
 ghost use Rattle.job_lang.specs.Binding as binding;
-ghost use Rattle.job_intervals.specs.OutNames as meant;
+ghost use Rattle.job_intervals.specs.OutNames as spec;
 
 use job_inputs::{Described, Fault};
 use job_lang::{Job, OutputLine, PriorLine};
@@ -14,7 +14,7 @@ use sdc_base::Text;
 /// Refuses a file to be put that would overwrite the job's file, a file that the job names, or one that the metadata
 /// name for a variable that spans a table.
 pub(crate) fn check_out(name: &Text, out: &Text, described: &Described) -> Result<(), Fault>
-    ensures { result ≡ refuse Fault.OutName (meant.overwrites name.now out.now described.now) }
+    ensures { result ≡ refuse Fault.OutName (spec.overwrites name.now out.now described.now) }
 {
     if name.equals(out) || is_named_in(out, &described.job) || has_codes_in(out, described) {
         return Err(Fault::OutName);
@@ -24,7 +24,7 @@ pub(crate) fn check_out(name: &Text, out: &Text, described: &Described) -> Resul
 
 // Whether the job names this file.
 fn is_named_in(file: &Text, job: &Job) -> bool
-    ensures { result ≡ meant.is_named_in file.now job.now }
+    ensures { result ≡ spec.is_named_in file.now job.now }
 {
     job.micro.equals(file)
         || job.meta.equals(file)
@@ -50,7 +50,7 @@ fn is_output(file: &Text, outputs: &[OutputLine]) -> bool
 // Whether a variable that spans a table has its codes or their hierarchy in this file.
 #[tactic(auto, using(crate::proofs::Overwriting::any_spanning))]
 fn has_codes_in(file: &Text, described: &Described) -> bool
-    ensures { result ≡ meant.has_codes_in file.now described.now }
+    ensures { result ≡ spec.has_codes_in file.now described.now }
 {
     is_of_any(
         file,
@@ -61,7 +61,7 @@ fn has_codes_in(file: &Text, described: &Described) -> bool
 
 // Whether a variable at one of these places of the metadata has its codes or their hierarchy in this file.
 fn is_of_any(file: &Text, variables: &[Variable], places: &[u32]) -> bool
-    ensures { result ≡ list_any (λ place. option_map_or (meant.is_coded_by file.now) (slice_get variables.now place)
+    ensures { result ≡ list_any (λ place. option_map_or (spec.is_coded_by file.now) (slice_get variables.now place)
         false) places.now }
 {
     places.iter().any(|place| is_of(file, variables, *place))
@@ -69,7 +69,7 @@ fn is_of_any(file: &Text, variables: &[Variable], places: &[u32]) -> bool
 
 // Whether the variable at this place of the metadata has its codes or their hierarchy in this file.
 fn is_of(file: &Text, variables: &[Variable], place: u32) -> bool
-    ensures { result ≡ option_map_or (meant.is_coded_by file.now) (slice_get variables.now place) false }
+    ensures { result ≡ option_map_or (spec.is_coded_by file.now) (slice_get variables.now place) false }
 {
     match variables.get(place as usize) {
         Some(variable) => is_coded_by(file, variable),
@@ -79,7 +79,7 @@ fn is_of(file: &Text, variables: &[Variable], place: u32) -> bool
 
 // Whether the variable has its codes or their hierarchy in this file.
 fn is_coded_by(file: &Text, variable: &Variable) -> bool
-    ensures { result ≡ meant.is_coded_by file.now variable.now }
+    ensures { result ≡ spec.is_coded_by file.now variable.now }
 {
     is_code_list(file, &variable.codes) || is_hierarchy_file(file, &variable.shape)
 }
