@@ -1,7 +1,7 @@
 -- Lines noted one after another.
 use Rattle.std.proofs.Common.{◌≡◌, ℕ, ◌+◌, List, [], ◌∷◌, Ok, refl}
 use Rattle.sdc_base.specs.Answers.{Fails}
-use Rattle.apriori.specs.Statements.{Basis}
+use Rattle.apriori.specs.KnownCells.{Basis}
 use Rattle.apriori.specs.declared.prior.Prior.{Prior}
 use Rattle.apriori.specs.declared.statement.Form.{Form}
 use Rattle.apriori.specs.declared.faults.PriorError.{PriorError}

@@ -5,7 +5,7 @@ use Rattle.std.specs.Option.{ForSome}
 use Rattle.sdc_base.specs.declared.facts.Levels.{Levels}
 use Rattle.primary_rules.specs.Ranges.{AreLevels, IsTruth, most_level}
 use Rattle.std.proofs.lemmas.Int.{ints}
-use Rattle.apriori.specs.Settling.{AreOpen, wider_levels}
+use Rattle.apriori.specs.CellLevels.{AreOpen, wider_levels}
 
 pub open_from : (truth : ℤ) (levels : Levels) → AreLevels truth levels → AreOpen truth levels
 open_from truth levels are = record { unit = are.up.unit; at_most = are.up.at_most; from_zero = are.from_zero; within = are.within }

@@ -17,7 +17,8 @@ use Rattle.apriori.specs.declared.faults.PriorWhy.TheVariants.{Twice}
 use Rattle.apriori.specs.Faults.{LineOf}
 use Rattle.apriori.specs.Priors.{empty_prior}
 use Rattle.apriori.specs.Fields.{fields}
-use Rattle.apriori.specs.Statements.{Basis, keyword_at, cell_of, claim_of, fit_of_claim, behind_codes, statement_of}
+use Rattle.apriori.specs.Statements.{keyword_at, claim_of, fit_of_claim, behind_codes, statement_of}
+use Rattle.apriori.specs.KnownCells.{Basis, cell_of}
 use Rattle.apriori.specs.CellStatements.{line_in, contradicts}
 use Rattle.apriori.specs.Applying.{at_line}
 use Rattle.apriori.specs.Noting.{with_statement, after_statement, line_noted, lines_noted}

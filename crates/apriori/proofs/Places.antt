@@ -5,7 +5,7 @@ use Rattle.std.proofs.lemmas.List.{drop_more, drop_all, append-nil}
 use Rattle.std.proofs.lemmas.Option.{unwrap_or-slice_get}
 use Rattle.sdc_base.specs.Trees.{Tree, find}
 use Rattle.sdc_base.specs.Cells.{trees_of}
-use Rattle.apriori.specs.Statements.{with_place, place_in}
+use Rattle.apriori.specs.KnownCells.{with_place, place_in}
 
 -- the places behind a front
 abbrev pub behind : List ℕ → Option (List ℕ) → Option (List ℕ)

@@ -10,7 +10,8 @@ use Rattle.apriori.specs.declared.faults.PriorWhy.{PriorWhy}
 use Rattle.apriori.specs.declared.faults.PriorWhy.TheVariants.{Twice}
 use Rattle.apriori.specs.Faults.{LineOf}
 use Rattle.apriori.specs.Priors.{empty_prior}
-use Rattle.apriori.specs.Statements.{Basis, statement_of}
+use Rattle.apriori.specs.Statements.{statement_of}
+use Rattle.apriori.specs.KnownCells.{Basis}
 use Rattle.apriori.specs.CellStatements.{priors_from, contradicts}
 
 -- what the earlier priors and the statements so far say of a cell

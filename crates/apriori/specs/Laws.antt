@@ -1,7 +1,7 @@
 -- A law of a priori files: the order of their lines changes nothing but which line a fault names (own).
 use Rattle.std.specs.Prelude.{◌≡◌, ℕ, List, ◌∷◌, ◌++◌, map, Option, None, Some, option_map, Result, Ok, Err}
 use Rattle.sdc_base.specs.Lines.{lines}
-use Rattle.apriori.specs.Statements.{Basis}
+use Rattle.apriori.specs.KnownCells.{Basis}
 use Rattle.apriori.specs.declared.prior.Prior.{Prior}
 use Rattle.apriori.specs.declared.statement.Form.{Form}
 use Rattle.apriori.specs.declared.faults.PriorWhy.{PriorWhy}

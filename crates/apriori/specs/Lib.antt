@@ -1,8 +1,10 @@
 pub mod Priors
 pub mod Faults
+pub mod CellLevels
 pub mod Settling
 pub mod Fields
 pub mod Keywords
+pub mod KnownCells
 pub mod Statements
 pub mod CellStatements
 pub mod Holding

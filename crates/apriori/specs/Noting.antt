@@ -10,7 +10,8 @@ use Rattle.apriori.specs.declared.faults.PriorWhy.{PriorWhy}
 use Rattle.apriori.specs.declared.faults.PriorWhy.TheVariants.{Twice}
 use Rattle.apriori.specs.Faults.{LineOf}
 use Rattle.apriori.specs.Priors.{empty_prior}
-use Rattle.apriori.specs.Statements.{Basis, statement_of}
+use Rattle.apriori.specs.Statements.{statement_of}
+use Rattle.apriori.specs.KnownCells.{Basis}
 use Rattle.apriori.specs.CellStatements.{status_in, line_in, price_in, levels_in, bounds_in, contradicts}
 use Rattle.apriori.specs.Applying.{at_line}
 

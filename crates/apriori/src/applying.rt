@@ -5,7 +5,7 @@ ghost use Rattle.apriori.specs.Faults.{fault_of};
 ghost use Rattle.apriori.specs.Priors.{ArePriors};
 ghost use Rattle.apriori.specs.Applying.{apply_of, file_says};
 ghost use Rattle.apriori.specs.Noting.{lines_noted};
-ghost use Rattle.apriori.specs.Statements.{basis_of};
+ghost use Rattle.apriori.specs.KnownCells.{basis_of};
 
 use crate::faults::PriorError;
 use crate::noting::note_line;

@@ -4,7 +4,7 @@ ghost use Rattle.apriori.specs.Faults.{fault_of, fault_itself};
 ghost use Rattle.apriori.specs.Priors.{ArePriors};
 ghost use Rattle.apriori.specs.Holding.{IsStatementOf};
 ghost use Rattle.apriori.specs.Applying.{at_line};
-ghost use Rattle.apriori.specs.Statements.{basis_of};
+ghost use Rattle.apriori.specs.KnownCells.{basis_of};
 ghost use Rattle.apriori.specs.CellStatements as cell_statements;
 ghost use Rattle.apriori.specs.Noting as noting;
 

@@ -4,8 +4,9 @@ ghost use Rattle.sdc_base.specs.Trees.{find};
 ghost use Rattle.sdc_base.specs.Cells.{trees_of};
 ghost use Rattle.apriori.specs.Faults.{fault_itself};
 ghost use Rattle.apriori.specs.Holding.{IsClaimOf, IsClaim, IsStatementOf};
-ghost use Rattle.apriori.specs.Statements.{basis_of, known_of};
+ghost use Rattle.apriori.specs.KnownCells.{basis_of, known_of};
 ghost use Rattle.apriori.specs.Statements as spec;
+ghost use Rattle.apriori.specs.KnownCells as known_cells;
 
 use crate::faults::PriorWhy;
 use crate::fields::{Fields, fields_in};
@@ -49,7 +50,7 @@ pub(crate) fn statement_of(
 
 // How many variables a table spans.
 fn width_of(book: &Book, table: u32) -> usize
-    ensures { result ≡ length (spec.variables_of_table (basis_of book.now) table) }
+    ensures { result ≡ length (known_cells.variables_of_table (basis_of book.now) table) }
 {
     match book.spans(table) {
         Some(spanned) => spanned.as_slice().len(),
@@ -76,7 +77,7 @@ fn keyword_at(fields: &mut Fields) -> Result<Keyword, PriorWhy>
 
 // The cell that the codes in front name, in the table's order.
 fn cell_of(book: &Book, table: u32, fields: &mut Fields) -> Option<u32>
-    ensures cell { result ≡ spec.cell_of (basis_of book.now) table fields.old }
+    ensures cell { result ≡ known_cells.cell_of (basis_of book.now) table fields.old }
     ensures within { IfSome result (λ cell. cell < length book.now.marks) }
 {
     let spanned = book.spans(table)?;
@@ -87,7 +88,7 @@ fn cell_of(book: &Book, table: u32, fields: &mut Fields) -> Option<u32>
 // The place that the codes in front write, one for each variable.
 fn place_in(book: &Book, spanned: &Place, fields: &mut Fields) -> Option<ArrayVec<u32, 8>>
     ensures { option_map (λ place. place.items) result
-        ≡ spec.place_in (trees_of book.now.trees spanned.now) fields.old }
+        ≡ known_cells.place_in (trees_of book.now.trees spanned.now) fields.old }
 {
     let width = spanned.len();
     let mut place: ArrayVec<u32, 8> = ArrayVec::new();

@@ -4,8 +4,10 @@ ghost use Rattle.sdc_base.specs.RuleLevels.{figures_of_facts, keep_of};
 ghost use Rattle.sdc_base.specs.declared.cell.Kind.TheVariants.{Primary};
 ghost use Rattle.primary_rules.specs.Ranges.{AreInRange, IsTruth};
 ghost use Rattle.apriori.specs.Priors.{CanBeLevels, AreBounds, IsPriorOf};
-ghost use Rattle.apriori.specs.Settling.{view_of_cell, AreOpen, HasLevelsInRange};
+ghost use Rattle.apriori.specs.Settling.{view_of_cell};
+ghost use Rattle.apriori.specs.CellLevels.{AreOpen, HasLevelsInRange};
 ghost use Rattle.apriori.specs.Settling as spec;
+ghost use Rattle.apriori.specs.CellLevels as cell_levels;
 
 use crate::prior::{Prior, Status};
 use primary_rules::{level, manual};
@@ -77,7 +79,7 @@ fn primary_levels(rules: &Rules, facts: &CellFacts, prior: &Prior) -> Option<Lev
     requires truth { IsTruth facts.now.truth }
     requires kept { keep_of rules.now.list ≤ facts.now.tops.keep }
     requires prior { IsPriorOf facts.now prior.now }
-    ensures value { result ≡ spec.primary_levels rules.now (figures_of_facts facts.now) prior.now }
+    ensures value { result ≡ cell_levels.primary_levels rules.now (figures_of_facts facts.now) prior.now }
     ensures open { ForSome result (AreOpen facts.now.truth) }
 {
     let levels = rule_levels(rules, facts, prior.status)?;
@@ -89,7 +91,7 @@ fn rule_levels(rules: &Rules, facts: &CellFacts, status: Option<Status>) -> Opti
     requires in_range { AreInRange rules.now }
     requires truth { IsTruth facts.now.truth }
     requires kept { keep_of rules.now.list ≤ facts.now.tops.keep }
-    ensures value { result ≡ spec.rule_levels rules.now (figures_of_facts facts.now) status }
+    ensures value { result ≡ cell_levels.rule_levels rules.now (figures_of_facts facts.now) status }
     ensures open { ForSome result (AreOpen facts.now.truth) }
 {
     match status {
@@ -101,7 +103,7 @@ fn rule_levels(rules: &Rules, facts: &CellFacts, status: Option<Status>) -> Opti
 
 // The levels with the greater upper one.
 fn wider_levels(levels: Levels, others: Option<Levels>) -> Levels
-    ensures { result ≡ spec.wider_levels levels others }
+    ensures { result ≡ cell_levels.wider_levels levels others }
 {
     match others {
         Some(others) if levels.up < others.up => others,
@@ -114,7 +116,7 @@ fn stated_or(truth: i128, stated: Option<Levels>, levels: Levels) -> Levels
     requires truth { IsTruth truth }
     requires stated { ForSome stated CanBeLevels }
     requires levels { AreOpen truth levels }
-    ensures value { result ≡ spec.stated_or truth stated levels }
+    ensures value { result ≡ cell_levels.stated_or truth stated levels }
     ensures open { AreOpen truth result }
 {
     match stated {
@@ -127,7 +129,7 @@ fn stated_or(truth: i128, stated: Option<Levels>, levels: Levels) -> Levels
 fn cut_at(truth: i128, levels: Levels) -> Levels
     requires truth { IsTruth truth }
     requires levels { CanBeLevels levels }
-    ensures value { result ≡ spec.cut_at truth levels }
+    ensures value { result ≡ cell_levels.cut_at truth levels }
     ensures open { AreOpen truth result }
 {
     Levels {

@@ -7,7 +7,8 @@ ghost use Rattle.sdc_base.specs.declared.rows.Row.{Row};
 ghost use Rattle.primary_rules.specs.Ranges.{AreInRange};
 ghost use Rattle.apriori.specs.Faults.{fault_of};
 ghost use Rattle.apriori.specs.Priors.{ArePriors};
-ghost use Rattle.apriori.specs.Settling.{view_of_cell, told_of, figures_of, IsReadyFor, AreFactsIn, first_of, settle_of, HasLevelsInRange};
+ghost use Rattle.apriori.specs.Settling.{view_of_cell, told_of, figures_of, IsReadyFor, AreFactsIn, first_of, settle_of};
+ghost use Rattle.apriori.specs.CellLevels.{HasLevelsInRange};
 ghost use Rattle.apriori.specs.Settling as spec;
 
 use crate::faults::{PriorError, PriorWhy};

@@ -1,5 +1,5 @@
 ghost use Rattle.std.specs.Prelude.{◌≡◌, ◌≤◌, length, All, IfOk};
-ghost use Rattle.apriori.specs.Settling.{HasLevelsInRange};
+ghost use Rattle.apriori.specs.CellLevels.{HasLevelsInRange};
 ghost use Rattle.cost_rule.specs.Costs.{AreCosted, IsTold};
 ghost use Rattle.modular_plan.specs.Plans.{trail_of, IsSameButHidden};
 ghost use Rattle.repair.specs.HidingOrder.{case, prices_of};

@@ -1,5 +1,5 @@
 ghost use Rattle.std.specs.Prelude.{◌≡◌, true, All};
-ghost use Rattle.apriori.specs.Settling.{HasLevelsInRange};
+ghost use Rattle.apriori.specs.CellLevels.{HasLevelsInRange};
 ghost use Rattle.cost_rule.specs.Costs.{AreCosted};
 ghost use Rattle.cell_protection.specs.Protections.{AreNarrow, HasText};
 

@@ -10,7 +10,8 @@ use Rattle.sdc_base.specs.declared.method.Method.TheVariants as method
 use Rattle.certificate.specs.declared.faults.CertWhy.TheVariants.{Shape, Order}
 use Rattle.certificate.specs.Numerals.{natural_of, integer_of, ascends}
 use Rattle.certificate.specs.TokenLists.{first_of, end_of, only_of, numbers_of}
-use Rattle.certificate.specs.LineReadings.{passes_of, base_of, modular_of, method_by, method_of, count_of, hidden_of}
+use Rattle.certificate.specs.LineReadings.{hidden_of}
+use Rattle.certificate.specs.MethodReadings.{passes_of, base_of, modular_of, method_by, method_of, count_of}
 use Rattle.certificate.specs.Texts.{method_arguments}
 use Rattle.certificate.specs.Spelling.{FitsIn32Bits, IsMethodWithinTypes}
 use Rattle.certificate.proofs.NumeralLaws.{natural_again, natural_text, integer_again, integer_text}

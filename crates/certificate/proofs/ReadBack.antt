@@ -9,7 +9,8 @@ use Rattle.certificate.specs.Remainder.{Remainder}
 use Rattle.certificate.specs.Pieces.{pieces}
 use Rattle.certificate.specs.Numerals.{ascends}
 use Rattle.certificate.specs.TokenLists.{end_of}
-use Rattle.certificate.specs.LineReadings.{method_of, count_of, hidden_of, step_of, refutation_of, world_of}
+use Rattle.certificate.specs.LineReadings.{hidden_of, step_of, refutation_of, world_of}
+use Rattle.certificate.specs.MethodReadings.{method_of, count_of}
 use Rattle.certificate.specs.Certificates.{first_line, is_next, item_at, items_from, version_at, hidden_at, certificate_of}
 use Rattle.certificate.specs.Texts.{method_arguments, step_arguments, refutation_arguments, world_arguments, text_of}
 use Rattle.certificate.specs.Spelling.{FitsIn32Bits, IsSpellable, IsWithinTypes, IsStepSpellable, IsStepWithinTypes, IsRefutationSpellable, IsRefutationWithinTypes, IsWorldSpellable, IsWorldWithinTypes}

@@ -10,7 +10,8 @@ use Rattle.certificate.specs.Faults.{at_line}
 use Rattle.certificate.specs.Remainder.{Remainder}
 use Rattle.certificate.specs.Pieces.{pieces, line_feed, space}
 use Rattle.certificate.specs.TokenLists.{end_of}
-use Rattle.certificate.specs.LineReadings.{item_of, method_of, count_of, hidden_of, step_of, refutation_of, world_of}
+use Rattle.certificate.specs.LineReadings.{item_of, hidden_of, step_of, refutation_of, world_of}
+use Rattle.certificate.specs.MethodReadings.{method_of, count_of}
 
 -- what is wrong with bytes that no LF ends: where there are none, the line `end` is missing
 abbrev pub open_line_fault : List ℕ → CertWhy

@@ -3,6 +3,7 @@ pub mod Pieces
 pub mod Numerals
 pub mod TokenLists
 pub mod LineReadings
+pub mod MethodReadings
 pub mod Remainder
 pub mod Certificates
 pub mod Texts

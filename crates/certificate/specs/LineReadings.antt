@@ -1,11 +1,9 @@
 -- What each kind of line says, by the tokens behind its word, or its first fault: in all tokens first Shape, then Number,
 -- then Order (own).
-use Rattle.std.specs.Prelude.{ℕ, ◌-◌, ◌==◌, nat_lt, not, List, length, map, codes, if◌then◌else◌, Result, Ok, Err}
+use Rattle.std.specs.Prelude.{ℕ, ◌-◌, ◌==◌, nat_lt, not, List, length, map, if◌then◌else◌, Result, Ok, Err}
 use Rattle.std.specs.List.{list_all}
 use Rattle.std.specs.Str.{bytes_eq}
 use Rattle.sdc_base.specs.Steps.{◌>>=◌, refuse}
-use Rattle.sdc_base.specs.declared.method.Method.{Method}
-use Rattle.sdc_base.specs.declared.method.Method.TheVariants as method
 use Rattle.sdc_base.specs.declared.trail.PlanStep.{PlanStep}
 use Rattle.sdc_base.specs.declared.side.Side.{Side}
 use Rattle.sdc_base.specs.Sides.{side_word}
@@ -15,48 +13,8 @@ use Rattle.certificate.specs.declared.certificate.WorldLine.{WorldLine}
 use Rattle.certificate.specs.declared.faults.CertWhy.{CertWhy}
 use Rattle.certificate.specs.declared.faults.CertWhy.TheVariants.{Shape, Order}
 use Rattle.certificate.specs.Pieces.{pieces, space, comma}
-use Rattle.certificate.specs.Numerals.{natural_of, integer_of, denominator_of, ascends}
-use Rattle.certificate.specs.TokenLists.{behind_word, first_of, end_of, only_of, numbers_of, is_pair, terms_of, moves_of}
-
--- a method with a number of passes
-unfoldable pub passes_of : List (List ℕ) → Result Method CertWhy
-passes_of tokens = do
-  token ← only_of tokens
-  passes ← natural_of 0 token
-  Ok (method.Gh passes)
-
--- a method with a base
-unfoldable pub base_of : List (List ℕ) → Result Method CertWhy
-base_of tokens = do
-  token ← only_of tokens
-  base ← integer_of token
-  Ok (method.Rnd base)
-
--- the method without a number
-unfoldable pub modular_of : List (List ℕ) → Result Method CertWhy
-modular_of tokens = do
-  end ← end_of tokens
-  Ok method.Modular
-
--- the method of this word
-abbrev pub method_by : List ℕ → List (List ℕ) → Result Method CertWhy
-method_by word tokens =
-    if bytes_eq word (codes "MOD") then modular_of tokens
-    else if bytes_eq word (codes "GH") then passes_of tokens
-    else if bytes_eq word (codes "RND") then base_of tokens
-    else Err Shape
-
--- a method
-unfoldable pub method_of : List (List ℕ) → Result Method CertWhy
-method_of tokens = do
-  word ← first_of tokens
-  method_by word.0 word.1
-
--- a count
-unfoldable pub count_of : List (List ℕ) → Result ℕ CertWhy
-count_of tokens = do
-  token ← only_of tokens
-  natural_of 0 token
+use Rattle.certificate.specs.Numerals.{natural_of, denominator_of, ascends}
+use Rattle.certificate.specs.TokenLists.{behind_word, first_of, only_of, numbers_of, is_pair, terms_of, moves_of}
 
 -- the hidden cells, one at least, ascending
 unfoldable pub hidden_of : List (List ℕ) → Result (List ℕ) CertWhy

@@ -3,6 +3,7 @@ ghost use Rattle.sdc_base.specs.Answers.{Gives};
 ghost use Rattle.certificate.specs.Faults.{fault_itself, why_of};
 ghost use Rattle.certificate.specs.TokenLists.{end_of};
 ghost use Rattle.certificate.specs.LineReadings as line_readings;
+ghost use Rattle.certificate.specs.MethodReadings as method_readings;
 
 use crate::certificate::WorldLine;
 use crate::faults::{CertWhy, LineError};
@@ -14,9 +15,9 @@ use std::alloc::Global;
 use worlds::{Multipliers, Refuted, World};
 
 // A method with a number of passes.
-#[tactic(auto, unfolding(crate::specs::LineReadings::passes_of))]
+#[tactic(auto, unfolding(crate::specs::MethodReadings::passes_of))]
 fn passes_of(tokens: &mut Pieces<'_>) -> Result<Method, CertWhy>
-    ensures { Gives fault_itself (λ method. method) result (line_readings.passes_of tokens.old) }
+    ensures { Gives fault_itself (λ method. method) result (method_readings.passes_of tokens.old) }
 {
     let token = tokens.only()?;
     let number = natural_of(0, token)?;
@@ -24,9 +25,9 @@ fn passes_of(tokens: &mut Pieces<'_>) -> Result<Method, CertWhy>
 }
 
 // A method with a base.
-#[tactic(auto, unfolding(crate::specs::LineReadings::base_of))]
+#[tactic(auto, unfolding(crate::specs::MethodReadings::base_of))]
 fn base_of(tokens: &mut Pieces<'_>) -> Result<Method, CertWhy>
-    ensures { Gives fault_itself (λ method. method) result (line_readings.base_of tokens.old) }
+    ensures { Gives fault_itself (λ method. method) result (method_readings.base_of tokens.old) }
 {
     let token = tokens.only()?;
     let number = integer_of(token)?;
@@ -34,9 +35,9 @@ fn base_of(tokens: &mut Pieces<'_>) -> Result<Method, CertWhy>
 }
 
 // The method without a number.
-#[tactic(auto, unfolding(crate::specs::LineReadings::modular_of))]
+#[tactic(auto, unfolding(crate::specs::MethodReadings::modular_of))]
 fn modular_of(tokens: &Pieces<'_>) -> Result<Method, CertWhy>
-    ensures { Gives fault_itself (λ method. method) result (line_readings.modular_of tokens.now) }
+    ensures { Gives fault_itself (λ method. method) result (method_readings.modular_of tokens.now) }
 {
     tokens.end()?;
     Ok(Method::Modular)
@@ -44,7 +45,7 @@ fn modular_of(tokens: &Pieces<'_>) -> Result<Method, CertWhy>
 
 // The method of a word.
 fn method_by(word: &[u8], tokens: &mut Pieces<'_>) -> Result<Method, CertWhy>
-    ensures { Gives fault_itself (λ method. method) result (line_readings.method_by word.now tokens.old) }
+    ensures { Gives fault_itself (λ method. method) result (method_readings.method_by word.now tokens.old) }
 {
     if is_word(word, b"MOD") {
         return modular_of(tokens);
@@ -59,10 +60,10 @@ fn method_by(word: &[u8], tokens: &mut Pieces<'_>) -> Result<Method, CertWhy>
 }
 
 /// The method of a line.
-#[tactic(auto, unfolding(crate::specs::LineReadings::item_of, crate::specs::LineReadings::method_of))]
+#[tactic(auto, unfolding(crate::specs::LineReadings::item_of, crate::specs::MethodReadings::method_of))]
 pub(crate) fn method_in(line: &[u8]) -> Result<Method, CertWhy>
     ensures { Gives fault_itself (λ method. method) result
-        (line_readings.item_of (codes "method") line_readings.method_of line.now) }
+        (line_readings.item_of (codes "method") method_readings.method_of line.now) }
 {
     let mut tokens = behind_word(b"method", line)?;
     let word = tokens.first()?;
@@ -70,10 +71,10 @@ pub(crate) fn method_in(line: &[u8]) -> Result<Method, CertWhy>
 }
 
 /// The count of a line by a word.
-#[tactic(auto, unfolding(crate::specs::LineReadings::item_of, crate::specs::LineReadings::count_of))]
+#[tactic(auto, unfolding(crate::specs::LineReadings::item_of, crate::specs::MethodReadings::count_of))]
 pub(crate) fn count_in(word: &[u8], line: &[u8]) -> Result<u32, CertWhy>
     ensures { Gives fault_itself (λ count. count) result
-        (line_readings.item_of word.now line_readings.count_of line.now) }
+        (line_readings.item_of word.now method_readings.count_of line.now) }
 {
     let mut tokens = behind_word(word, line)?;
     let token = tokens.only()?;

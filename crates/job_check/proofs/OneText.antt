@@ -10,7 +10,8 @@ use Rattle.sdc_base.specs.Trees.{Tree}
 use Rattle.linked_tables.specs.BookViews.{BookView}
 use Rattle.linked_tables.specs.BookCells.{name_in_table, number_of}
 use Rattle.linked_tables.specs.declared.mark.Mark.{Mark}
-use Rattle.release_writer.specs.ReleaseReading.{Template, ReleaseSoFar, LinePlace, is_left, numbers_of, read_place, read_places, read_table, read_tables, reading_after, rest_behind, rounded_read, value_there}
+use Rattle.release_writer.specs.ReleaseReading.{ReleaseSoFar, LinePlace, is_left, numbers_of, read_place, read_places, read_table, read_tables, reading_after, rounded_read}
+use Rattle.release_writer.specs.LineChoices.{Template, rest_behind, value_there}
 use Rattle.release_writer.specs.ShownCells.{open_truth}
 use Rattle.worlds.specs.ProtectFaults.{line_number}
 use Rattle.worlds.specs.WorldFaults.{refuse_at}

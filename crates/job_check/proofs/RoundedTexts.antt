@@ -21,7 +21,8 @@ use Rattle.plain_text.proofs.ReadBack.{printed_read}
 use Rattle.release_writer.proofs.Behind.{behind-self, fields_before, line-last}
 use Rattle.release_writer.proofs.ReadBack.{ReadsNew, release-read}
 use Rattle.release_writer.specs.ReadingLaws.{IsReleased, first_shown}
-use Rattle.release_writer.specs.ReleaseReading.{Template, choice_there, line_showing, new_value, number_there, numbers_of, value_read}
+use Rattle.release_writer.specs.ReleaseReading.{numbers_of}
+use Rattle.release_writer.specs.LineChoices.{Template, choice_there, line_showing, new_value, number_there, value_read}
 use Rattle.job_check.specs.RoundingLaws.{RoundedAreReadBack}
 
 -- ---- the text of a number

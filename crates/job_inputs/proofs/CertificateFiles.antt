@@ -12,7 +12,7 @@ use Rattle.certificate.specs.declared.faults.CertWhy.{CertWhy}
 use Rattle.job_lang.specs.declared.job.Job.{Job}
 use Rattle.job_inputs.proofs.Refusing.{fails-on}
 use Rattle.job_inputs.specs.CertificateFile.{certificate_fault, certificate_in, certificate_refusal}
-use Rattle.job_inputs.specs.Inputs.{bytes_of_file}
+use Rattle.job_inputs.specs.ReadFiles.{bytes_of_file}
 use Rattle.job_inputs.specs.Refusals.{refused_for, IsForContents}
 use Rattle.job_inputs.specs.declared.file_ref.FileRef.TheVariants as file
 use Rattle.job_inputs.specs.declared.faults.Fault.{Fault}

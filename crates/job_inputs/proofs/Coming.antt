@@ -8,7 +8,8 @@ use Rattle.rda_meta.specs.declared.meta.Shape.{Shape}
 use Rattle.rda_meta.specs.declared.meta.Shape.TheVariants as shape
 use Rattle.rda_meta.specs.declared.meta.Variable.{Variable}
 use Rattle.microdata.specs.declared.layout.Field.{Field}
-use Rattle.job_inputs.specs.Inputs.{codes_in, described_of, fields_of, spanning_variables, inputs_of}
+use Rattle.job_inputs.specs.Inputs.{described_of, inputs_of}
+use Rattle.job_inputs.specs.CodeSources.{codes_in, fields_of, spanning_variables}
 use Rattle.job_inputs.specs.Cells.{cells_fault}
 use Rattle.job_inputs.specs.declared.inputs.Inputs.{Inputs}
 use Rattle.job_inputs.specs.Looks.{IsFile, IsListedIn, IsHierarchyOf, IsCodeListOf, FieldComesTo, FieldsComeTo, ComesFirstTo, StatementsComeTo, ComesTo}

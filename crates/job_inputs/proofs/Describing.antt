@@ -10,7 +10,8 @@ use Rattle.job_lang.specs.Jobs.{job_of}
 use Rattle.job_lang.specs.declared.faults.JobWhy.TheVariants.{BadValue}
 use Rattle.job_lang.specs.declared.bound.Bound.{Bound}
 use Rattle.job_lang.specs.declared.job.Job.{Job}
-use Rattle.job_inputs.specs.Inputs.{bytes_of_file, job_fault, job_for, meta_fault, described_of}
+use Rattle.job_inputs.specs.Inputs.{job_for, described_of}
+use Rattle.job_inputs.specs.ReadFiles.{bytes_of_file, job_fault, meta_fault}
 use Rattle.job_inputs.specs.Looks.{job_read, IsFile, ComesFirstTo}
 use Rattle.job_inputs.specs.Purposes.{is_unfit}
 use Rattle.job_inputs.specs.declared.faults.Fault.TheVariants as fault

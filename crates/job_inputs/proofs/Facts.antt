@@ -15,7 +15,7 @@ use Rattle.linked_tables.specs.declared.mark.Mark.{Mark}
 use Rattle.primary_rules.specs.EnoughForRules.{AreFactsOf}
 use Rattle.tabulate.proofs.Finish.{read-within}
 use Rattle.sdc_base.specs.Cells.{cells_of}
-use Rattle.apriori.specs.Statements.{KnownCell, known_of, Basis, basis_of}
+use Rattle.apriori.specs.KnownCells.{KnownCell, known_of, Basis, basis_of}
 use Rattle.apriori.specs.Settling.{AreFactsIn, IsReadyFor as IsReadyMark}
 use Rattle.sdc_base.specs.Sums.{truth, freq}
 use Rattle.job_inputs.specs.Cells.{cells, truth_in}

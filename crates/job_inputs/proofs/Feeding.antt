@@ -11,7 +11,8 @@ use Rattle.microdata.specs.Microdata.{records_of}
 use Rattle.microdata.specs.declared.faults.RowWhy.{RowWhy}
 use Rattle.microdata.specs.declared.layout.Layout.{Layout}
 use Rattle.microdata.specs.declared.records.Records.{Records}
-use Rattle.job_inputs.specs.Inputs.{limit, row_fault, too_long_or, records_in}
+use Rattle.job_inputs.specs.Inputs.{too_long_or, records_in}
+use Rattle.job_inputs.specs.ReadFiles.{limit, row_fault}
 use Rattle.job_inputs.specs.declared.file_ref.FileRef.TheVariants as file
 use Rattle.job_inputs.specs.declared.faults.Fault.{Fault}
 use Rattle.job_inputs.specs.declared.faults.Fault.TheVariants as fault

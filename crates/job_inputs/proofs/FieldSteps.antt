@@ -13,7 +13,7 @@ use Rattle.microdata.specs.declared.layout.Source.{Source}
 use Rattle.job_inputs.proofs.Placing.{get-within}
 use Rattle.job_inputs.specs.Layouts.{with_variable, variables_at}
 use Rattle.job_inputs.proofs.Refusing.{fails-on}
-use Rattle.job_inputs.specs.Inputs.{codes_in, source_of, field_of, fields_of}
+use Rattle.job_inputs.specs.CodeSources.{codes_in, source_of, field_of, fields_of}
 use Rattle.job_inputs.specs.Looks.{FieldComesTo, FieldsComeTo}
 use Rattle.job_inputs.specs.declared.file_ref.FileRef.{FileRef}
 use Rattle.job_inputs.specs.declared.faults.Fault.{Fault}

@@ -6,7 +6,8 @@ use Rattle.microdata.specs.declared.layout.Field.{Field}
 use Rattle.microdata.specs.declared.layout.Layout.{Layout}
 use Rattle.microdata.specs.declared.records.Records.{Records}
 use Rattle.job_inputs.proofs.Refusing.{fails-on}
-use Rattle.job_inputs.specs.Inputs.{described_of, fields_of, spanning_variables, look_at_records, inputs_of}
+use Rattle.job_inputs.specs.Inputs.{described_of, look_at_records, inputs_of}
+use Rattle.job_inputs.specs.CodeSources.{fields_of, spanning_variables}
 use Rattle.job_inputs.specs.Layouts.{layout_of}
 use Rattle.job_inputs.specs.declared.described.Described.{Described}
 use Rattle.job_inputs.specs.declared.faults.Fault.{Fault}

@@ -16,7 +16,8 @@ use Rattle.rda_meta.specs.declared.meta.Variable.{Variable}
 use Rattle.microdata.specs.declared.layout.Source.{Source}
 use Rattle.microdata.specs.declared.layout.Source.TheVariants as source
 use Rattle.job_inputs.proofs.Refusing.{fails-on}
-use Rattle.job_inputs.specs.Inputs.{bytes_of_file, codes_in, tree_in, listed_tree, source_of}
+use Rattle.job_inputs.specs.CodeSources.{codes_in, tree_in, listed_tree, source_of}
+use Rattle.job_inputs.specs.ReadFiles.{bytes_of_file}
 use Rattle.job_inputs.specs.ListedCodes.{AreListed}
 use Rattle.job_inputs.specs.declared.faults.Fault.{Fault}
 use Rattle.job_inputs.specs.declared.faults.Fault.TheVariants as fault

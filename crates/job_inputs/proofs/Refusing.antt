@@ -25,7 +25,7 @@ use Rattle.apriori.specs.declared.faults.PriorError.{PriorError}
 use Rattle.apriori.specs.declared.faults.PriorError.TheVariants as prior_error
 use Rattle.apriori.specs.declared.faults.PriorWhy.{PriorWhy}
 use Rattle.job_inputs.specs.Cells.{cells_fault, prior_fault}
-use Rattle.job_inputs.specs.Inputs.{job_fault, meta_fault, row_fault}
+use Rattle.job_inputs.specs.ReadFiles.{job_fault, meta_fault, row_fault}
 use Rattle.job_inputs.specs.Refusals.{refused_for, job_refusal, meta_refusal, row_refusal, tree_refusal, cells_refusal, prior_refusal, IsOfContents, IsForContents}
 use Rattle.job_inputs.specs.declared.file_ref.FileRef.{FileRef}
 use Rattle.job_inputs.specs.declared.faults.Fault.{Fault}

@@ -11,7 +11,8 @@ use Rattle.job_lang.specs.JobLimits.{IsJob, AreTables}
 use Rattle.job_lang.specs.declared.job.Job.{Job}
 use Rattle.job_lang.specs.declared.bound.Bound.{Bound}
 use Rattle.job_lang.specs.declared.faults.JobWhy.{JobWhy}
-use Rattle.job_lang.specs.Binding.{bound_of, places_of, unless_fault, earliest_fault}
+use Rattle.job_lang.specs.Binding.{bound_of, places_of, unless_fault}
+use Rattle.job_lang.specs.BindingFaults.{earliest_fault}
 use Rattle.sdc_base.specs.Steps.{◌>>=◌}
 
 pub job_tables : (job : Job) → IsJob job → AreTables job.tables

@@ -4,7 +4,7 @@ use Rattle.sdc_base.specs.Answers.{Fails}
 use Rattle.office_io.specs.Files.{Files}
 use Rattle.apriori.specs.declared.prior.Prior.{Prior}
 use Rattle.apriori.specs.Applying.{file_says}
-use Rattle.apriori.specs.Statements.{Basis, basis_of}
+use Rattle.apriori.specs.KnownCells.{Basis, basis_of}
 use Rattle.std.specs.Prelude.{replicate}
 use Rattle.apriori.specs.Priors.{empty_prior}
 use Rattle.job_inputs.specs.Cells.{cells, prior_fault}
@@ -14,7 +14,7 @@ use Rattle.job_inputs.specs.CountedRecords.{IsCountedOf}
 use Rattle.job_inputs.specs.Looks.{StatementsComeTo}
 use Rattle.sdc_base.specs.Steps.{map_fault}
 use Rattle.job_inputs.proofs.Refusing.{fails-on}
-use Rattle.job_inputs.specs.Inputs.{bytes_of_file}
+use Rattle.job_inputs.specs.ReadFiles.{bytes_of_file}
 use Rattle.job_inputs.specs.declared.file_ref.FileRef.TheVariants as file
 use Rattle.job_inputs.specs.PriorStatements.{basis_in, prior_line, with_file, with_files}
 use Rattle.job_inputs.specs.declared.counted.Counted.{Counted}

@@ -8,7 +8,7 @@ use Rattle.certificate.specs.declared.certificate.Certificate.{Certificate}
 use Rattle.certificate.specs.declared.faults.CertError.{CertError}
 use Rattle.certificate.specs.declared.faults.CertError.TheVariants as error
 use Rattle.certificate.specs.declared.faults.CertWhy.{CertWhy}
-use Rattle.job_inputs.specs.Inputs.{bytes_of_file}
+use Rattle.job_inputs.specs.ReadFiles.{bytes_of_file}
 use Rattle.job_inputs.specs.declared.file_ref.FileRef.TheVariants as file
 use Rattle.job_inputs.specs.declared.faults.Fault.{Fault}
 use Rattle.job_inputs.specs.declared.faults.Fault.TheVariants as fault

@@ -2,6 +2,8 @@ pub mod FileTexts
 pub mod FaultTexts
 pub mod Purposes
 pub mod Layouts
+pub mod ReadFiles
+pub mod CodeSources
 pub mod Inputs
 pub mod SoundJobs
 pub mod ListedCodes

@@ -8,7 +8,9 @@ use Rattle.rda_meta.specs.declared.meta.Variable.{Variable}
 use Rattle.job_lang.specs.declared.job.Job.{Job}
 use Rattle.job_lang.specs.declared.job.PriorLine.{PriorLine}
 use Rattle.linked_tables.specs.Tables.{book_of}
-use Rattle.job_inputs.specs.Inputs.{bytes_of_file, job_for, described_of, codes_in, fields_of, spanning_variables, inputs_of}
+use Rattle.job_inputs.specs.Inputs.{job_for, described_of, inputs_of}
+use Rattle.job_inputs.specs.CodeSources.{codes_in, fields_of, spanning_variables}
+use Rattle.job_inputs.specs.ReadFiles.{bytes_of_file}
 use Rattle.job_inputs.specs.PriorStatements.{prior_line, with_files}
 use Rattle.job_inputs.specs.declared.described.Described.{Described}
 use Rattle.job_inputs.specs.declared.inputs.Inputs.{Inputs}

@@ -5,10 +5,10 @@ use Rattle.sdc_base.specs.Sums.{freq}
 use Rattle.office_io.specs.Files.{Files}
 use Rattle.job_lang.specs.declared.job.PriorLine.{PriorLine}
 use Rattle.apriori.specs.Applying.{file_says}
-use Rattle.apriori.specs.Statements.{KnownCell, Basis}
+use Rattle.apriori.specs.KnownCells.{KnownCell, Basis}
 use Rattle.apriori.specs.Priors.{empty_prior}
 use Rattle.apriori.specs.declared.prior.Prior.{Prior}
-use Rattle.job_inputs.specs.Inputs.{bytes_of_file}
+use Rattle.job_inputs.specs.ReadFiles.{bytes_of_file}
 use Rattle.job_inputs.specs.Cells.{cells, truth_in, prior_fault}
 use Rattle.job_inputs.specs.declared.inputs.Inputs.{Inputs}
 use Rattle.job_inputs.specs.declared.file_ref.FileRef.TheVariants as file

@@ -6,7 +6,7 @@ use Rattle.sdc_base.specs.WhereTold.{WhereTold}
 use Rattle.hierarchy.specs.declared.tree_fault.TreeFault.TheVariants as tree
 use Rattle.office_io.specs.Files.{Files, held_name}
 use Rattle.office_io.specs.Shelves.{ShelfState, HasOnlyRead}
-use Rattle.job_inputs.specs.Inputs.{limit_of}
+use Rattle.job_inputs.specs.ReadFiles.{limit_of}
 use Rattle.job_inputs.specs.declared.file_ref.FileRef.{FileRef}
 use Rattle.job_inputs.specs.declared.faults.Fault.{Fault}
 use Rattle.job_inputs.specs.declared.faults.Fault.TheVariants as fault

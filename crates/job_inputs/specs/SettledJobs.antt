@@ -4,7 +4,8 @@ use Rattle.std.specs.List.{list_any}
 use Rattle.std.specs.Str.{bytes_eq}
 use Rattle.sdc_base.specs.Answers.{Fails}
 use Rattle.sdc_base.specs.Steps.{◌>>=◌, map_fault, refuse}
-use Rattle.apriori.specs.Settling.{SettledCell, view_of_cell, settle_of, HasLevelsInRange}
+use Rattle.apriori.specs.Settling.{SettledCell, view_of_cell, settle_of}
+use Rattle.apriori.specs.CellLevels.{HasLevelsInRange}
 use Rattle.apriori.specs.declared.prior.Prior.{Prior}
 use Rattle.linked_tables.specs.BookCells.{cells as cells_in}
 use Rattle.linked_tables.specs.Tables.{book_of}

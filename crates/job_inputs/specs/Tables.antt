@@ -5,7 +5,7 @@ use Rattle.office_io.specs.Files.{Files}
 use Rattle.job_lang.specs.declared.job.Job.{Job}
 use Rattle.job_lang.specs.declared.job.OutputLine.{OutputLine}
 use Rattle.job_lang.specs.declared.job.TableLine.{TableLine}
-use Rattle.job_inputs.specs.Inputs.{bytes_of_file}
+use Rattle.job_inputs.specs.ReadFiles.{bytes_of_file}
 use Rattle.job_inputs.specs.declared.file_ref.FileRef.{FileRef}
 use Rattle.job_inputs.specs.declared.file_ref.FileRef.TheVariants as file
 use Rattle.job_inputs.specs.declared.faults.Fault.{Fault}

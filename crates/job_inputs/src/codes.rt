@@ -3,7 +3,7 @@ ghost use Rattle.sdc_base.specs.Answers.{Gives};
 ghost use Rattle.sdc_base.specs.Steps.{map_fault};
 ghost use Rattle.hierarchy.specs.CodeList.{codes_of};
 ghost use Rattle.hierarchy.specs.Lead.{lead_of};
-ghost use Rattle.job_inputs.specs.Inputs.{codes_in, listed_tree, tree_in};
+ghost use Rattle.job_inputs.specs.CodeSources.{codes_in, listed_tree, tree_in};
 ghost use Rattle.job_inputs.specs.ListedCodes.{AreListed};
 ghost use Rattle.job_inputs.specs.Looks.{IsCodeListOf, IsFile};
 ghost use Rattle.job_inputs.specs.Reading.{IsReadFrom};
@@ -22,7 +22,7 @@ use sdc_base::Text;
 use std::alloc::Global;
 
 /// The codes of a variable's code list, where it has one, from the shelf.
-#[tactic(auto, using(crate::proofs::Listing::none_listed), unfolding(crate::specs::Inputs::codes_in))]
+#[tactic(auto, using(crate::proofs::Listing::none_listed), unfolding(crate::specs::CodeSources::codes_in))]
 pub(crate) fn read_list<S: Shelf>(
     alloc: Global,
     shelf: &mut S,
@@ -40,7 +40,7 @@ pub(crate) fn read_list<S: Shelf>(
 }
 
 // The codes of the list of this name.
-#[tactic(auto, unfolding(crate::specs::Inputs::codes_in))]
+#[tactic(auto, unfolding(crate::specs::CodeSources::codes_in))]
 fn load_list<S: Shelf>(
     alloc: Global,
     shelf: &mut S,
@@ -75,7 +75,7 @@ fn codes_by(alloc: Global, file: FileRef, bytes: &[u8], total: &Text) -> Result<
 }
 
 /// The tree of a hierarchy file, with the missing codes of its variable, from the shelf.
-#[tactic(auto, unfolding(crate::specs::Inputs::listed_tree))]
+#[tactic(auto, unfolding(crate::specs::CodeSources::listed_tree))]
 pub(crate) fn read_tree<S: Shelf>(
     alloc: Global,
     shelf: &mut S,
@@ -96,7 +96,7 @@ pub(crate) fn read_tree<S: Shelf>(
 }
 
 // The tree that the bytes of a hierarchy file give, with the missing codes of its variable.
-#[tactic(auto, unfolding(crate::specs::Inputs::tree_in), using(crate::proofs::Refusing::tree_refuses, crate::proofs::Refusing::tree_is_for_contents))]
+#[tactic(auto, unfolding(crate::specs::CodeSources::tree_in), using(crate::proofs::Refusing::tree_refuses, crate::proofs::Refusing::tree_is_for_contents))]
 fn tree_by(
     alloc: Global,
     file: FileRef,

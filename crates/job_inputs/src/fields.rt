@@ -2,7 +2,7 @@ ghost use Rattle.std.specs.Prelude.{◌≡◌, ◌<◌, IfOk, Some, length, slic
 ghost use Rattle.std.specs.List.{AllByRecursion};
 ghost use Rattle.rda_meta.specs.Limits.{IsVariable};
 ghost use Rattle.microdata.specs.Layouts.{IsSource};
-ghost use Rattle.job_inputs.specs.Inputs.{source_of, field_of, fields_of, spanning_variables};
+ghost use Rattle.job_inputs.specs.CodeSources.{source_of, field_of, fields_of, spanning_variables};
 ghost use Rattle.job_inputs.specs.ListedCodes.{AreListed};
 ghost use Rattle.job_inputs.specs.Looks.{IsHierarchyOf, FieldComesTo, FieldsComeTo};
 ghost use Rattle.job_inputs.specs.PlacedFields.{IsPlacedField};
@@ -52,7 +52,7 @@ pub(crate) fn variable_at(variables: &[Variable], place: u32) -> &Variable
 }
 
 // The field of a variable.
-#[tactic(auto, unfolding(crate::specs::Inputs::field_of))]
+#[tactic(auto, unfolding(crate::specs::CodeSources::field_of))]
 fn read_field<S: Shelf>(
     alloc: Global,
     shelf: &mut S,
@@ -74,7 +74,7 @@ fn read_field<S: Shelf>(
 }
 
 // Where the codes of a variable come from, given the codes of its list.
-#[tactic(auto, unfolding(crate::specs::Inputs::source_of))]
+#[tactic(auto, unfolding(crate::specs::CodeSources::source_of))]
 fn read_source<S: Shelf>(
     alloc: Global,
     shelf: &mut S,

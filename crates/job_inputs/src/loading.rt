@@ -1,5 +1,5 @@
 ghost use Rattle.std.specs.Prelude.{◌≡◌, ◌≤◌, IfOk, length};
-ghost use Rattle.job_inputs.specs.Inputs.{limit_of, bytes_of_file};
+ghost use Rattle.job_inputs.specs.ReadFiles.{limit_of, bytes_of_file};
 ghost use Rattle.job_inputs.specs.Looks.{IsFile};
 ghost use Rattle.job_inputs.specs.Reading.{IsReadFrom};
 

@@ -7,7 +7,7 @@ ghost use Rattle.apriori.specs.Applying.{file_says};
 ghost use Rattle.apriori.specs.Priors.{ArePriors};
 ghost use Rattle.job_inputs.specs.Cells.{prior_fault};
 ghost use Rattle.job_inputs.specs.CountedRecords.{IsCountedOf, IsReady};
-ghost use Rattle.job_inputs.specs.Inputs.{limit};
+ghost use Rattle.job_inputs.specs.ReadFiles.{limit};
 ghost use Rattle.job_inputs.specs.Looks.{IsPriorFileOf, ComesToStatements};
 ghost use Rattle.job_inputs.specs.Reading.{HasCause, HasComeTo, stopped_for};
 ghost use Rattle.job_inputs.specs.Refusals.{refused_for, IsForContents};

@@ -12,7 +12,8 @@ use Rattle.apriori.specs.Settling.{SettledCell, view_of_cell}
 use Rattle.linked_tables.specs.BookViews.{BookView}
 use Rattle.linked_tables.specs.BookCells.{name_in_table, number_of}
 use Rattle.linked_tables.specs.declared.mark.Mark.{Mark}
-use Rattle.release_writer.specs.ReleaseReading.{Template, ReleaseSoFar, rest_behind, truth_of, value_there, read_place, read_places, read_table, read_tables, hidden_read, flags_of}
+use Rattle.release_writer.specs.ReleaseReading.{ReleaseSoFar, read_place, read_places, read_table, read_tables, hidden_read, flags_of}
+use Rattle.release_writer.specs.LineChoices.{Template, rest_behind, truth_of, value_there}
 use Rattle.worlds.specs.ProtectFaults.{fixed_hidden}
 use Rattle.cert_check.specs.RoundedRelease.{at_line}
 use Rattle.job_inputs.proofs.Facts.{facts-in}

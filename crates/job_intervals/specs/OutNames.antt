@@ -3,9 +3,9 @@ use Rattle.std.specs.Prelude.{ℕ, ◌||◌, Bool, List}
 use Rattle.std.specs.List.{list_any}
 use Rattle.std.specs.Str.{bytes_eq}
 use Rattle.rda_meta.specs.declared.meta.Variable.{Variable}
-use Rattle.job_lang.specs.Binding.{is_code_list, is_hierarchy_file}
+use Rattle.job_lang.specs.BindingFaults.{is_code_list, is_hierarchy_file}
 use Rattle.job_lang.specs.declared.job.Job.{Job}
-use Rattle.job_inputs.specs.Inputs.{spanning_variables}
+use Rattle.job_inputs.specs.CodeSources.{spanning_variables}
 use Rattle.job_inputs.specs.declared.described.Described.{Described}
 
 -- the job names this file: as its microdata, its metadata, an a priori file, the file of a table or the certificate

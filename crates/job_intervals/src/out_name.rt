@@ -3,7 +3,7 @@ ghost use Rattle.std.specs.List.{list_any};
 ghost use Rattle.std.specs.Option.{option_map_or};
 ghost use Rattle.std.specs.Str.{bytes_eq};
 ghost use Rattle.sdc_base.specs.Steps.{refuse};
-ghost use Rattle.job_lang.specs.Binding as binding;
+ghost use Rattle.job_lang.specs.BindingFaults as binding;
 ghost use Rattle.job_intervals.specs.OutNames as spec;
 
 use job_inputs::{Described, Fault};

@@ -12,7 +12,8 @@ use Rattle.job_lang.specs.declared.faults.JobWhy.{JobWhy}
 use Rattle.job_lang.specs.declared.job.Job.{Job}
 use Rattle.job_lang.specs.declared.job.OutputLine.{OutputLine}
 use Rattle.job_lang.specs.declared.job.TableLine.{TableLine}
-use Rattle.job_lang.specs.Binding.{is_named, is_absent, is_numeric_named, is_numeric, table_fault, weight_fault, is_spanning, file_fault, earlier_fault, tables_fault, outputs_fault, earliest_fault, places_from, spanning_of, variable_place, spanning_place, table_places, response_of, places_of}
+use Rattle.job_lang.specs.Binding.{places_from, spanning_of, variable_place, spanning_place, table_places, response_of, places_of}
+use Rattle.job_lang.specs.BindingFaults.{is_named, is_absent, is_numeric_named, is_numeric, table_fault, weight_fault, is_spanning, file_fault, earlier_fault, tables_fault, outputs_fault, earliest_fault}
 use Rattle.job_lang.specs.JobLimits.{HasNoTwice, AreTables}
 use Rattle.job_lang.specs.BoundLimits.{AreVariables, AreAscending, IsNumericAt, IsBound}
 use Rattle.job_lang.proofs.PlacesFit.{or_left, or_right, turned, spanning_few, response_few, weight_few}

@@ -9,7 +9,8 @@ use Rattle.job_lang.specs.declared.faults.JobWhy.{JobWhy}
 use Rattle.job_lang.specs.declared.job.TableLine.{TableLine}
 use Rattle.job_lang.specs.declared.bound.Bound.{Bound}
 use Rattle.job_lang.specs.JobLimits.{AreTables}
-use Rattle.job_lang.specs.Binding.{bound_of, earliest_fault, is_named, places_of, response_of, spanning_of, spanning_place, table_fault, table_places, unless_fault, variable_place}
+use Rattle.job_lang.specs.Binding.{bound_of, places_of, response_of, spanning_of, spanning_place, table_places, unless_fault, variable_place}
+use Rattle.job_lang.specs.BindingFaults.{earliest_fault, is_named, table_fault}
 use Rattle.job_lang.specs.BoundNames.{AreNamedAt, BoundAsNamed, HaveNamesAt, IsNamedAt, PlacesHaveNames}
 use Rattle.job_lang.proofs.BoundHolds.{IsSpot, clean, fine, first_found, not_false, spot, tables_spots}
 use Rattle.job_lang.proofs.NamesApart.{no_fault}

@@ -12,8 +12,10 @@ use Rattle.job_lang.specs.declared.rule_clauses.RuleClause.{RuleClause}
 use Rattle.job_lang.specs.declared.rule_clauses.RuleClause.TheVariants.{Named, Man, Weights}
 use Rattle.job_lang.specs.LineTokens.{behind_mark, run_of, behind_run, number_at, closing_token, end_of_tokens}
 use Rattle.job_lang.specs.Pieces.{pieces}
-use Rattle.job_lang.specs.RuleTexts.{one_number, frequency_clause, dominance_clause, percent_behind, percent_clause, man_clause, weights_clause, clause_in, clauses_in, named_in, is_frequency, is_man, is_weights, are_rules, man_of, rules_in}
-use Rattle.job_lang.specs.Arguments.{work_argument, most_work, passes_method, modular_method, rounding_method, method_argument}
+use Rattle.job_lang.specs.RuleTexts.{named_in, is_frequency, is_man, is_weights, are_rules, man_of, rules_in}
+use Rattle.job_lang.specs.RuleClauses.{one_number, frequency_clause, dominance_clause, percent_behind, percent_clause, man_clause, weights_clause, clause_in, clauses_in}
+use Rattle.job_lang.specs.Arguments.{work_argument, most_work}
+use Rattle.job_lang.specs.MethodTexts.{passes_method, modular_method, rounding_method, method_argument}
 use Rattle.job_lang.specs.JobLimits.{IsInRange, AreInRange, IsMethod, IsWork}
 use Rattle.job_lang.proofs.Known.{then_known, known, either_known, not_refused, was_some, number_range}
 

@@ -25,7 +25,8 @@ use Rattle.job_lang.specs.LineTokens.{is_next, behind_mark, quoted_at, digits_at
 use Rattle.job_lang.specs.Keywords.{keyword_of, word_in}
 use Rattle.job_lang.specs.RuleTexts.{rules_in}
 use Rattle.job_lang.specs.TableTexts.{names_up_to, is_twice, quoted_part, behind_again, are_free_parts, table_argument}
-use Rattle.job_lang.specs.Arguments.{file_at, only_file, separator_of, prior_argument, output_argument, cost_argument, work_argument, method_argument, argument_of}
+use Rattle.job_lang.specs.Arguments.{file_at, only_file, separator_of, prior_argument, output_argument, cost_argument, work_argument, argument_of}
+use Rattle.job_lang.specs.MethodTexts.{method_argument}
 use Rattle.job_lang.specs.Statements.{is_again, names_in, is_past_room, is_other_response, with_table, with_statement, with_said, is_passed_over, command_line, text_says, lines_say, empty_draft}
 use Rattle.job_lang.specs.Binding.{response_of}
 use Rattle.job_lang.specs.JobLimits.{HasNoTwice, HasVariables, AreInRange, IsMethod, IsWork}

@@ -11,7 +11,8 @@ use Rattle.job_lang.specs.declared.bound.Bound.{Bound}
 use Rattle.job_lang.specs.declared.job.Job.{Job}
 use Rattle.job_lang.specs.declared.job.OutputLine.{OutputLine}
 use Rattle.job_lang.specs.declared.job.TableLine.{TableLine}
-use Rattle.job_lang.specs.Binding.{is_numeric, table_fault, weight_fault, file_fault, earlier_fault, earliest_fault, unless_fault, bound_of}
+use Rattle.job_lang.specs.Binding.{unless_fault, bound_of}
+use Rattle.job_lang.specs.BindingFaults.{is_numeric, table_fault, weight_fault, file_fault, earlier_fault, earliest_fault}
 use Rattle.job_lang.specs.BindingOrder.{looked_at, IsBehind, IsNotBefore, IsEarliest, GivesEarliest, lacks_variable, has_numeric, IsFirstKind, GivesFirstKind}
 
 -- a line with the fault that it has

@@ -16,7 +16,9 @@ use Rattle.job_lang.specs.declared.statement.Statement.{Statement}
 use Rattle.job_lang.specs.declared.statement.Draft.{Draft}
 use Rattle.job_lang.specs.Faults.{at_line}
 use Rattle.job_lang.specs.Statements.{text_says, lines_say, empty_draft}
-use Rattle.job_lang.specs.ClosingLooks.{is_astray, no_stray, is_meeting, no_same_name, said_by, file_line, rules_line, method_of, output_said, needed_value, output_of_table, outputs_from}
+use Rattle.job_lang.specs.ClosingLooks.{said_by, file_line, rules_line, method_of, output_said}
+use Rattle.job_lang.specs.MissingCommands.{needed_value, output_of_table, outputs_from}
+use Rattle.job_lang.specs.FilesApart.{is_astray, no_stray, is_meeting, no_same_name}
 use Rattle.job_lang.specs.Jobs.{job_made, closed_job, job_of}
 use Rattle.job_lang.specs.Laws.{IsLineFault, lacks_output, lacks_command, must_have, IsFirstStray, IsFirstMeeting, IsFirstLack}
 use Rattle.job_lang.proofs.Known.{not_refused}

@@ -19,7 +19,9 @@ use Rattle.job_lang.specs.declared.statement.Said.TheVariants as said
 use Rattle.job_lang.specs.declared.statement.Statement.{Statement}
 use Rattle.job_lang.specs.declared.statement.Draft.{Draft}
 use Rattle.job_lang.specs.Statements.{is_by, lines_say, empty_draft}
-use Rattle.job_lang.specs.ClosingLooks.{is_no_table, is_astray, no_stray, no_same_name, said_by, file_line, rules_from, rules_line, method_from, method_of, work_from, work_of, usual_steps, usual_nodes, table_place, prior_in, priors_in, needed_value, output_of_table, outputs_from}
+use Rattle.job_lang.specs.ClosingLooks.{said_by, file_line, rules_from, rules_line, method_from, method_of, work_from, work_of, usual_steps, usual_nodes, table_place, prior_in, priors_in}
+use Rattle.job_lang.specs.MissingCommands.{needed_value, output_of_table, outputs_from}
+use Rattle.job_lang.specs.FilesApart.{is_no_table, is_astray, no_stray, no_same_name}
 use Rattle.job_lang.specs.Jobs.{job_made, closed_job, job_of}
 use Rattle.job_lang.specs.JobLimits.{AreInRange, IsMethod, IsWork, IsJob}
 use Rattle.job_lang.proofs.Known.{then_known, known, not_refused, was_some}

@@ -13,7 +13,9 @@ use Rattle.job_lang.specs.declared.looked_up.RulesLine.{RulesLine}
 use Rattle.job_lang.specs.declared.statement.Keyword.TheVariants as keyword
 use Rattle.job_lang.specs.declared.statement.Draft.{Draft}
 use Rattle.job_lang.specs.Statements.{lines_say, empty_draft}
-use Rattle.job_lang.specs.ClosingLooks.{no_stray, no_same_name, said_by, file_line, rules_line, method_of, cost_of, work_of, usual_steps, usual_nodes, priors_in, needed_value, outputs_from}
+use Rattle.job_lang.specs.ClosingLooks.{said_by, file_line, rules_line, method_of, cost_of, work_of, usual_steps, usual_nodes, priors_in}
+use Rattle.job_lang.specs.MissingCommands.{needed_value, outputs_from}
+use Rattle.job_lang.specs.FilesApart.{no_stray, no_same_name}
 use Rattle.job_lang.specs.Jobs.{job_made, closed_job, job_of}
 use Rattle.job_lang.proofs.Known.{was_some, same_value}
 

@@ -27,7 +27,8 @@ use Rattle.job_lang.specs.Faults.{at_line}
 use Rattle.job_lang.specs.Keywords.{keyword_of, word_in, place_of}
 use Rattle.job_lang.specs.Arguments.{argument_of}
 use Rattle.job_lang.specs.Statements.{command_of, is_by, is_again, is_past_room, is_other_response, with_table, with_statement, with_said, is_passed_over, command_line, text_says, lines_say, empty_draft}
-use Rattle.job_lang.specs.ClosingLooks.{said_by, output_said, file_said, file_line, rules_from, rules_line, method_from, method_of, cost_of, work_of, work_from, usual_steps, usual_nodes, output_of_table, outputs_from}
+use Rattle.job_lang.specs.ClosingLooks.{said_by, output_said, file_said, file_line, rules_from, rules_line, method_from, method_of, cost_of, work_of, work_from, usual_steps, usual_nodes}
+use Rattle.job_lang.specs.MissingCommands.{output_of_table, outputs_from}
 use Rattle.job_lang.specs.Meaning.{line_says, said_at, statements_of_line, stated_in, table_in, tables_among, other_in, others_among, others_in, by_command, IsStatedOnce, IsStatedOrElse, IsMeant, JobsAreMeant}
 use Rattle.job_lang.proofs.Known.{not_refused, was_some, same_value}
 use Rattle.job_lang.proofs.Made.{IsMade, read, job_with}

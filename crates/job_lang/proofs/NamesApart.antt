@@ -21,9 +21,12 @@ use Rattle.job_lang.specs.declared.statement.Said.TheVariants as said
 use Rattle.job_lang.specs.declared.statement.Statement.{Statement}
 use Rattle.job_lang.specs.declared.statement.Draft.{Draft}
 use Rattle.job_lang.specs.Statements.{is_by}
-use Rattle.job_lang.specs.ClosingLooks.{puts, is_read_file, is_shared, is_meeting, is_output_at, output_said, file_said, file_line, prior_in, priors_in, output_of_table, outputs_from}
-use Rattle.job_lang.specs.Binding.{is_spanning, is_code_list, is_hierarchy_file, is_file_of, file_fault, earliest_fault, unless_fault, bound_of}
-use Rattle.job_lang.specs.Laws.{codes_named, tree_named, files_of, puts_of, reads_of, PutsAreNotRead, PutsAreNotNamed}
+use Rattle.job_lang.specs.ClosingLooks.{is_output_at, output_said, file_said, file_line, prior_in, priors_in}
+use Rattle.job_lang.specs.MissingCommands.{output_of_table, outputs_from}
+use Rattle.job_lang.specs.FilesApart.{puts, is_read_file, is_shared, is_meeting}
+use Rattle.job_lang.specs.Binding.{unless_fault, bound_of}
+use Rattle.job_lang.specs.BindingFaults.{is_spanning, is_code_list, is_hierarchy_file, is_file_of, file_fault, earliest_fault}
+use Rattle.job_lang.specs.FileLaws.{codes_named, tree_named, files_of, puts_of, reads_of, PutsAreNotRead, PutsAreNotNamed}
 use Rattle.job_lang.proofs.Known.{was_some}
 use Rattle.job_lang.proofs.FirstFault.{no_meetings}
 use Rattle.job_lang.proofs.BoundHolds.{clean}

@@ -6,7 +6,7 @@ use Rattle.job_lang.specs.declared.faults.JobError.{JobError}
 use Rattle.job_lang.specs.declared.faults.JobError.TheVariants as job_error
 use Rattle.job_lang.specs.declared.job.OutputLine.{OutputLine}
 use Rattle.job_lang.specs.declared.statement.Statement.{Statement}
-use Rattle.job_lang.specs.ClosingLooks.{output_of_table, outputs_from}
+use Rattle.job_lang.specs.MissingCommands.{output_of_table, outputs_from}
 use Rattle.job_lang.proofs.Fronts.{with_front, regroup, none_left}
 
 pub outputs_go_on : (count left place : ℕ) (front : List OutputLine) (all : List Statement) (output : OutputLine) → count ≡ suc left → output_of_table place all ≡ Ok output

@@ -12,7 +12,8 @@ use Rattle.sdc_base.specs.declared.rule.Rules.{Rules}
 use Rattle.rda_meta.specs.declared.meta.Variable.{Variable}
 use Rattle.job_lang.specs.declared.job.TableLine.{TableLine}
 use Rattle.job_lang.specs.Statements.{names_in}
-use Rattle.job_lang.specs.Binding.{is_named, is_spanning, places_from, spanning_of, decimals_of, response_decimals, weight_decimals, response_of}
+use Rattle.job_lang.specs.Binding.{places_from, spanning_of, decimals_of, response_decimals, weight_decimals, response_of}
+use Rattle.job_lang.specs.BindingFaults.{is_named, is_spanning}
 use Rattle.job_lang.specs.JobLimits.{HasNoTwice, AreTables}
 use Rattle.job_lang.specs.BoundLimits.{AreVariables}
 

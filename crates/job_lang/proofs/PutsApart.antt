@@ -20,8 +20,10 @@ use Rattle.job_lang.specs.declared.statement.Said.{Said}
 use Rattle.job_lang.specs.declared.statement.Said.TheVariants as said
 use Rattle.job_lang.specs.declared.statement.Statement.{Statement}
 use Rattle.job_lang.specs.Statements.{is_by}
-use Rattle.job_lang.specs.ClosingLooks.{puts, is_read_file, is_shared, is_meeting, is_output_at, output_said, file_said, file_line, output_of_table, outputs_from}
-use Rattle.job_lang.specs.Laws.{puts_of, PutsDiffer}
+use Rattle.job_lang.specs.ClosingLooks.{is_output_at, output_said, file_said, file_line}
+use Rattle.job_lang.specs.MissingCommands.{output_of_table, outputs_from}
+use Rattle.job_lang.specs.FilesApart.{puts, is_read_file, is_shared, is_meeting}
+use Rattle.job_lang.specs.FileLaws.{puts_of, PutsDiffer}
 use Rattle.job_lang.proofs.Known.{was_some}
 use Rattle.job_lang.proofs.FirstFault.{no_meetings}
 use Rattle.job_lang.proofs.NamesApart.{AreApart, all_apart, found}

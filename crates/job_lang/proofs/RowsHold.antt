@@ -7,11 +7,14 @@ use Rattle.std.proofs.lemmas.Fmt.{decimal_digit, decimal-digits_value}
 use Rattle.std.proofs.lemmas.Str.Parse.{numerals_by_value, tells_all_ascii_digits}
 use Rattle.job_lang.specs.LineTokens.{behind_mark, quoted_at, number_at, digits_at, end_of_tokens, closing_token}
 use Rattle.job_lang.specs.Keywords.{keyword_of, word_in}
-use Rattle.job_lang.specs.RuleTexts.{one_number, frequency_clause, clause_in, clauses_in, rules_in}
+use Rattle.job_lang.specs.RuleTexts.{rules_in}
+use Rattle.job_lang.specs.RuleClauses.{one_number, frequency_clause, clause_in, clauses_in}
 use Rattle.job_lang.specs.TableTexts.{names_up_to, quoted_part, table_argument}
-use Rattle.job_lang.specs.Arguments.{file_at, only_file, output_argument, modular_method, method_argument, argument_of}
+use Rattle.job_lang.specs.Arguments.{file_at, only_file, output_argument, argument_of}
+use Rattle.job_lang.specs.MethodTexts.{modular_method, method_argument}
 use Rattle.job_lang.specs.Statements.{with_table, with_statement, with_said, command_line, text_says, lines_say}
-use Rattle.job_lang.specs.ClosingLooks.{no_stray, no_same_name, outputs_from}
+use Rattle.job_lang.specs.MissingCommands.{outputs_from}
+use Rattle.job_lang.specs.FilesApart.{no_stray, no_same_name}
 use Rattle.job_lang.specs.Jobs.{job_made, closed_job, job_of}
 use Rattle.job_lang.specs.Binding.{bound_of}
 use Rattle.job_lang.specs.Rows.{EightLines, FullText, FullLines, NameBeforeMissing, BindsInAnyOrder, CodeListMet}

@@ -2,7 +2,7 @@
 use Rattle.std.proofs.Common.{◌≡◌, ℕ, List, [], ◌∷◌, ◌++◌, Ok, Err, refl, sym}
 use Rattle.job_lang.specs.declared.faults.JobWhy.{JobWhy}
 use Rattle.job_lang.specs.declared.rule_clauses.RuleClause.{RuleClause}
-use Rattle.job_lang.specs.RuleTexts.{clause_in, clauses_in}
+use Rattle.job_lang.specs.RuleClauses.{clause_in, clauses_in}
 use Rattle.job_lang.proofs.Fronts.{with_front, regroup, none_left}
 
 pub clauses_go_on : (front : List RuleClause) (pieces after : List (List ℕ)) (piece : List ℕ) (clause : RuleClause) → pieces ≡ piece ∷ after → clause_in piece ≡ Ok clause

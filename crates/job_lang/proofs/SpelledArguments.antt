@@ -19,7 +19,8 @@ use Rattle.sdc_base.specs.declared.method.Method.TheVariants.{Gh, Modular, Rnd}
 use Rattle.job_lang.specs.declared.statement.Said.TheVariants as said
 use Rattle.job_lang.specs.LineTokens.{begins_with, is_break, is_next, behind_mark, quoted_at, number_at, digits_at, end_of_tokens, closing_token}
 use Rattle.job_lang.specs.TableTexts.{names_up_to, is_twice, quoted_part, behind_again, are_free_parts, table_argument}
-use Rattle.job_lang.specs.Arguments.{file_at, only_file, may_separate, prior_argument, output_argument, cost_of, cost_argument, most_work, work_argument, passes_method, modular_method, rounding_method, method_argument}
+use Rattle.job_lang.specs.Arguments.{file_at, only_file, may_separate, prior_argument, output_argument, cost_of, cost_argument, most_work, work_argument}
+use Rattle.job_lang.specs.MethodTexts.{passes_method, modular_method, rounding_method, method_argument}
 use Rattle.job_lang.specs.JobLimits.{IsMethod, IsWork}
 use Rattle.job_lang.specs.Spelling.{quoted_name, quoted_each, number_in_parentheses, table_number, cost_text, method_text}
 use Rattle.job_lang.proofs.Spelled.{not_zero, IsEnded, ended_behind, ended_with, trim_dark, trim_space, quoted_clean, quoted_read, mark_read, run_read, last_number_read}

@@ -27,9 +27,11 @@ use Rattle.job_lang.specs.declared.statement.Said.TheVariants as said
 use Rattle.job_lang.specs.declared.statement.Statement.{Statement}
 use Rattle.job_lang.specs.Keywords.{place_of}
 use Rattle.job_lang.specs.Statements.{is_by}
-use Rattle.job_lang.specs.ClosingLooks.{is_no_table, is_astray, no_stray, puts, is_read_file, is_shared, is_meeting, no_same_name, said_by, is_output_at, output_said, file_line, rules_line, method_of, cost_of, work_of, usual_steps, usual_nodes, table_place, priors_in, outputs_from}
+use Rattle.job_lang.specs.ClosingLooks.{said_by, is_output_at, output_said, file_line, rules_line, method_of, cost_of, work_of, usual_steps, usual_nodes, table_place, priors_in}
+use Rattle.job_lang.specs.MissingCommands.{outputs_from}
+use Rattle.job_lang.specs.FilesApart.{is_no_table, is_astray, no_stray, puts, is_read_file, is_shared, is_meeting, no_same_name}
 use Rattle.job_lang.specs.Jobs.{job_made, closed_job}
-use Rattle.job_lang.specs.Laws.{puts_of, reads_of}
+use Rattle.job_lang.specs.FileLaws.{puts_of, reads_of}
 use Rattle.job_lang.specs.Spelling.{table_number}
 use Rattle.job_lang.specs.JobText.{prior_said, tables_from, priors_from, outputs_at, in_text}
 use Rattle.job_lang.proofs.Made.{job_with}

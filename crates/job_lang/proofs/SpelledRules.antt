@@ -13,7 +13,8 @@ use Rattle.job_lang.specs.declared.rule_clauses.RuleClause.{RuleClause}
 use Rattle.job_lang.specs.declared.rule_clauses.RuleClause.TheVariants.{Named, Man, Weights}
 use Rattle.job_lang.specs.LineTokens.{is_bar, is_break, behind_mark, run_of, behind_run, closing_token, end_of_tokens}
 use Rattle.job_lang.specs.Pieces.{pieces}
-use Rattle.job_lang.specs.RuleTexts.{one_number, frequency_clause, dominance_clause, percent_behind, percent_clause, man_clause, weights_clause, clause_in, clauses_in, named_in, is_frequency, is_man, is_weights, are_rules, man_of, weighted_of, rules_in}
+use Rattle.job_lang.specs.RuleTexts.{named_in, is_frequency, is_man, is_weights, are_rules, man_of, weighted_of, rules_in}
+use Rattle.job_lang.specs.RuleClauses.{one_number, frequency_clause, dominance_clause, percent_behind, percent_clause, man_clause, weights_clause, clause_in, clauses_in}
 use Rattle.job_lang.specs.JobLimits.{IsInRange, AreInRange}
 use Rattle.job_lang.specs.Spelling.{texts_between_bars, number_in_parentheses, enclosed_both, clause_text, clauses_of, rules_text}
 use Rattle.job_lang.specs.WritableJobs.{is_on_frequencies}

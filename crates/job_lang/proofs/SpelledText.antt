@@ -14,7 +14,7 @@ use Rattle.job_lang.specs.declared.statement.Said.TheVariants as said
 use Rattle.job_lang.specs.Statements.{lines_say, empty_draft}
 use Rattle.job_lang.specs.JobLimits.{HasNoTwice, HasVariables}
 use Rattle.job_lang.specs.Jobs.{closed_job, job_of}
-use Rattle.job_lang.specs.Laws.{puts_of, reads_of}
+use Rattle.job_lang.specs.FileLaws.{puts_of, reads_of}
 use Rattle.job_lang.specs.Binding.{response_of}
 use Rattle.job_lang.specs.Spelling.{said_line}
 use Rattle.job_lang.specs.JobText.{table_said, prior_said, outputs_said, job_says, job_text, in_text}

@@ -29,10 +29,12 @@ use Rattle.job_lang.specs.Faults.{at_line}
 use Rattle.job_lang.specs.Keywords.{keyword_of, word_in}
 use Rattle.job_lang.specs.Arguments.{argument_of}
 use Rattle.job_lang.specs.Statements.{is_prior_of, is_again, is_past_room, is_other_response, with_table, with_statement, with_said, is_passed_over, command_line, text_says, lines_say, empty_draft}
-use Rattle.job_lang.specs.ClosingLooks.{is_no_table, is_astray, file_said, file_line, rules_from, rules_line, output_said, table_place, prior_in, priors_in, output_of_table, outputs_from}
+use Rattle.job_lang.specs.ClosingLooks.{file_said, file_line, rules_from, rules_line, output_said, table_place, prior_in, priors_in}
+use Rattle.job_lang.specs.MissingCommands.{output_of_table, outputs_from}
+use Rattle.job_lang.specs.FilesApart.{is_no_table, is_astray}
 use Rattle.job_lang.specs.JobLimits.{IsJob}
 use Rattle.job_lang.specs.Jobs.{job_of}
-use Rattle.job_lang.specs.Laws.{puts_of, reads_of}
+use Rattle.job_lang.specs.FileLaws.{puts_of, reads_of}
 use Rattle.job_lang.specs.Spelling.{table_number}
 use Rattle.job_lang.specs.WritableJobs.{is_on_frequencies, HasQuotable, HasSeparator, IsWritable, JobsAreWritable}
 use Rattle.job_lang.proofs.FirstFault.{no_strays}

@@ -20,9 +20,11 @@ use Rattle.job_lang.specs.declared.statement.Said.TheVariants as said
 use Rattle.job_lang.specs.Keywords.{is_close, word_in}
 use Rattle.job_lang.specs.LineTokens.{is_next, behind_mark, quoted_at, run_of, behind_run, digits_at, without_zeros, end_of_tokens, closing_token}
 use Rattle.job_lang.specs.Pieces.{pieces}
-use Rattle.job_lang.specs.RuleTexts.{clauses_in, named_in, is_frequency, is_man, is_weights, are_rules, rules_in}
+use Rattle.job_lang.specs.RuleTexts.{named_in, is_frequency, is_man, is_weights, are_rules, rules_in}
+use Rattle.job_lang.specs.RuleClauses.{clauses_in}
 use Rattle.job_lang.specs.TableTexts.{names_up_to, is_twice, quoted_part, behind_again, are_free_parts, table_argument}
-use Rattle.job_lang.specs.Arguments.{file_at, only_file, may_separate, separator_of, prior_argument, output_argument, cost_argument, work_argument, method_argument, argument_of}
+use Rattle.job_lang.specs.Arguments.{file_at, only_file, may_separate, separator_of, prior_argument, output_argument, cost_argument, work_argument, argument_of}
+use Rattle.job_lang.specs.MethodTexts.{method_argument}
 use Rattle.job_lang.specs.WritableJobs.{is_on_frequencies, IsQuotable}
 use Rattle.job_lang.proofs.Known.{then_known, known, either_known, not_refused, was_some}
 use Rattle.job_lang.proofs.Spelled.{or_left, or_right}

@@ -1,5 +1,5 @@
 -- The argument of each command: what it says, or BadValue (tau-ARGUS user manual; ranges, COST, STEPS and NODES own).
-use Rattle.std.specs.Prelude.{ℕ, ◌^◌, Bool, not, ◌==◌, ◌||◌, codes, if◌then◌else◌, List, [], ◌∷◌, Option, None, Some, Result, Ok, Err, pos}
+use Rattle.std.specs.Prelude.{ℕ, ◌^◌, Bool, not, ◌==◌, ◌||◌, codes, if◌then◌else◌, List, [], ◌∷◌, Option, None, Some, Result, Ok}
 use Rattle.std.specs.Char.{is_ascii_digit}
 use Rattle.std.specs.Str.{str_eq_ignore_ascii_case}
 use Rattle.cost_rule.specs.declared.kind.CostKind.{CostKind}
@@ -8,8 +8,6 @@ use Rattle.sdc_base.specs.Blanks.{is_blank}
 use Rattle.sdc_base.specs.Numbers.{is_point}
 use Rattle.sdc_base.specs.Steps.{◌>>=◌, or_fault, refuse}
 use Rattle.sdc_base.specs.Tokens.{is_quote, is_file_name}
-use Rattle.sdc_base.specs.declared.method.Method.{Method}
-use Rattle.sdc_base.specs.declared.method.Method.TheVariants.{Gh, Modular, Rnd}
 use Rattle.job_lang.specs.declared.faults.JobWhy.{JobWhy}
 use Rattle.job_lang.specs.declared.faults.JobWhy.TheVariants.{BadValue}
 use Rattle.job_lang.specs.declared.statement.Keyword.{Keyword}
@@ -17,8 +15,9 @@ use Rattle.job_lang.specs.declared.statement.Keyword.TheVariants.{OpenMicrodata,
 use Rattle.job_lang.specs.declared.statement.Said.{Said}
 use Rattle.job_lang.specs.declared.statement.Said.TheVariants as said
 use Rattle.job_lang.specs.LineTokens.{behind_mark, quoted_at, run_of, behind_run, number_at, digits_at, end_of_tokens, closing_token}
-use Rattle.job_lang.specs.RuleTexts.{one_number, rules_in}
+use Rattle.job_lang.specs.RuleTexts.{rules_in}
 use Rattle.job_lang.specs.TableTexts.{table_argument}
+use Rattle.job_lang.specs.MethodTexts.{method_argument}
 
 -- a file name in quotes is the next token; it, and what stands behind it
 unfoldable pub file_at : List ℕ → Result (List ℕ × List ℕ) JobWhy
@@ -91,33 +90,6 @@ work_argument text = do
   number ← number_at 1 most_work text
   end ← end_of_tokens number.1
   Ok number.0
-
--- GH(n): 1 to 8 passes
-unfoldable pub passes_method : List ℕ → Result Method JobWhy
-passes_method text = do
-  n ← one_number 1 8 text
-  Ok (Gh n)
-
--- MOD()
-unfoldable pub modular_method : List ℕ → Result Method JobWhy
-modular_method text = do
-  open_ ← behind_mark 40 text
-  end ← closing_token open_
-  Ok Modular
-
--- RND(b): the base, from 1 to 10^9
-unfoldable pub rounding_method : List ℕ → Result Method JobWhy
-rounding_method text = do
-  base ← one_number 1 1000000000 text
-  Ok (Rnd (pos base))
-
--- how tables are protected, its word in letters of any case
-unfoldable pub method_argument : List ℕ → Result Method JobWhy
-method_argument text =
-    if str_eq_ignore_ascii_case (run_of text) (codes "GH") then passes_method (behind_run text)
-    else if str_eq_ignore_ascii_case (run_of text) (codes "MOD") then modular_method (behind_run text)
-    else if str_eq_ignore_ascii_case (run_of text) (codes "RND") then rounding_method (behind_run text)
-    else Err BadValue
 
 -- what the text behind a command says
 unfoldable pub argument_of : Keyword → List ℕ → Result Said JobWhy

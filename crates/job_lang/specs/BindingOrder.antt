@@ -7,7 +7,8 @@ use Rattle.job_lang.specs.declared.faults.JobWhy.{JobWhy}
 use Rattle.job_lang.specs.declared.faults.JobWhy.TheVariants.{NoSuchVariable, NotSpanning, NotNumeric}
 use Rattle.job_lang.specs.declared.job.Job.{Job}
 use Rattle.job_lang.specs.declared.job.TableLine.{TableLine}
-use Rattle.job_lang.specs.Binding.{is_absent, is_numeric, table_fault, weight_fault, file_fault, bound_of}
+use Rattle.job_lang.specs.Binding.{bound_of}
+use Rattle.job_lang.specs.BindingFaults.{is_absent, is_numeric, table_fault, weight_fault, file_fault}
 
 -- the lines of a job at which binding looks, each with the fault that it has
 abbrev pub looked_at : Job → List Variable → List (ℕ × Option JobWhy)

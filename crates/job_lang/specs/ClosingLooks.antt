@@ -1,17 +1,10 @@
--- What is looked for behind the last line of a job: numbers of no table, names that meet, and commands that are missing (own).
-use Rattle.std.specs.Prelude.{ℕ, zero, suc, ◌+◌, ◌-◌, Bool, false, ◌||◌, nat_lt, if◌then◌else◌, List, [], ◌∷◌, ◌++◌, Option, None, Some, option_map, unwrap_or, find, Result, Ok, Err}
-use Rattle.std.specs.List.{list_any, count_by}
-use Rattle.std.specs.Option.{is_some, is_none}
-use Rattle.std.specs.Str.{bytes_eq}
+-- What is looked up behind the last line of a job (own).
+use Rattle.std.specs.Prelude.{ℕ, ◌+◌, ◌-◌, Bool, false, List, [], ◌∷◌, ◌++◌, Option, None, Some, option_map, unwrap_or, find}
+use Rattle.std.specs.Option.{is_some}
 use Rattle.cost_rule.specs.declared.kind.CostKind.{CostKind}
 use Rattle.cost_rule.specs.declared.kind.CostKind.TheVariants as kind
-use Rattle.sdc_base.specs.Steps.{◌>>=◌, or_fault}
 use Rattle.sdc_base.specs.Tokens.{number_in}
 use Rattle.sdc_base.specs.declared.method.Method.{Method}
-use Rattle.job_lang.specs.declared.faults.JobWhy.{JobWhy}
-use Rattle.job_lang.specs.declared.faults.JobWhy.TheVariants.{NoSuchTable, SameName, Missing}
-use Rattle.job_lang.specs.declared.faults.Command.{Command}
-use Rattle.job_lang.specs.declared.faults.Command.TheVariants as command
 use Rattle.job_lang.specs.declared.job.OutputLine.{OutputLine}
 use Rattle.job_lang.specs.declared.job.PriorLine.{PriorLine}
 use Rattle.job_lang.specs.declared.statement.Keyword.{Keyword}
@@ -20,55 +13,6 @@ use Rattle.job_lang.specs.declared.statement.Said.TheVariants as said
 use Rattle.job_lang.specs.declared.statement.Statement.{Statement}
 use Rattle.job_lang.specs.declared.looked_up.RulesLine.{RulesLine}
 use Rattle.job_lang.specs.Statements.{is_by}
-
--- ---- numbers of tables
-
--- the number is that of no table, of which there are so many
-abbrev pub is_no_table : ℕ → List ℕ → Bool
-is_no_table count number = is_none (number_in 1 count number)
-
--- an a priori file or an output of no table
-abbrev pub is_astray : ℕ → Said → Bool
-is_astray count (said.Prior file number separator) = is_no_table count number
-is_astray count (said.Output number file) = is_no_table count number
-is_astray count one = false
-
--- the first line that names no table is a fault
-unfoldable pub no_stray : ℕ → List Statement → Result (Unit {0}) (ℕ × JobWhy)
-no_stray count [] = Ok tt
-no_stray count (s ∷ rest) = if is_astray count s.said then Err (s.line, NoSuchTable) else no_stray count rest
-
--- ---- names of files
-
--- a file of this name is put
-abbrev pub puts : List ℕ → Said → Bool
-puts name (said.Output number file) = bytes_eq file name
-puts name (said.Certificate file) = bytes_eq file name
-puts name one = false
-
--- a file of this name is read
-abbrev pub is_read_file : List ℕ → Said → Bool
-is_read_file name (said.Microdata file) = bytes_eq file name
-is_read_file name (said.Metadata file) = bytes_eq file name
-is_read_file name (said.Prior file number separator) = bytes_eq file name
-is_read_file name one = false
-
--- two files of this name are put, or one is read
-abbrev pub is_shared : List ℕ → List Statement → Bool
-is_shared name all = nat_lt 1 (count_by (λ s. puts name s.said) all) || list_any (λ s. is_read_file name s.said) all
-
--- a file is put whose name another one has
-abbrev pub is_meeting : List Statement → Said → Bool
-is_meeting all (said.Output number file) = is_shared file all
-is_meeting all (said.Certificate file) = is_shared file all
-is_meeting all one = false
-
--- the first line that puts such a file is a fault
-unfoldable pub no_same_name : List Statement → List Statement → Result (Unit {0}) (ℕ × JobWhy)
-no_same_name all [] = Ok tt
-no_same_name all (s ∷ rest) = if is_meeting all s.said then Err (s.line, SameName) else no_same_name all rest
-
--- ---- look-ups
 
 -- the statement by this command
 abbrev pub said_by : Keyword → List Statement → Option Statement
@@ -159,21 +103,3 @@ prior_in line one = []
 abbrev pub priors_in : List Statement → List PriorLine
 priors_in [] = []
 priors_in (s ∷ rest) = prior_in s.line s.said ++ priors_in rest
-
--- ---- commands that are missing
-
--- a job must have this command
-abbrev pub needed_value : {A : Type 0} → Command → Option A → Result A (ℕ × JobWhy)
-needed_value which found = or_fault (0, Missing which) found
-
--- the output of the table at this place, which must have one
-abbrev pub output_of_table : ℕ → List Statement → Result OutputLine (ℕ × JobWhy)
-output_of_table place all = needed_value command.WriteTable (file_line (output_said place all))
-
--- the outputs of so many tables from this place on
-unfoldable pub outputs_from : ℕ → ℕ → List Statement → Result (List OutputLine) (ℕ × JobWhy)
-outputs_from zero place all = Ok []
-outputs_from (suc more) place all = do
-  output ← output_of_table place all
-  outputs ← outputs_from more (place + 1) all
-  Ok (output ∷ outputs)

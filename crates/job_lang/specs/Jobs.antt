@@ -9,7 +9,9 @@ use Rattle.job_lang.specs.declared.job.Job.{Job}
 use Rattle.job_lang.specs.declared.statement.Keyword.TheVariants as keyword
 use Rattle.job_lang.specs.declared.statement.Draft.{Draft}
 use Rattle.job_lang.specs.Statements.{lines_say, empty_draft}
-use Rattle.job_lang.specs.ClosingLooks.{no_stray, no_same_name, said_by, file_line, rules_line, method_of, cost_of, work_of, usual_steps, usual_nodes, priors_in, needed_value, outputs_from}
+use Rattle.job_lang.specs.ClosingLooks.{said_by, file_line, rules_line, method_of, cost_of, work_of, usual_steps, usual_nodes, priors_in}
+use Rattle.job_lang.specs.MissingCommands.{needed_value, outputs_from}
+use Rattle.job_lang.specs.FilesApart.{no_stray, no_same_name}
 
 -- The job of all that was said: each command that must be there, in the order of the table, and the others with their
 -- defaults.

@@ -1,29 +1,22 @@
 -- Laws of jobs, above the reading line by line: the order of faults, and names of files that stay apart (own).
-use Rattle.std.specs.Prelude.{◌≡◌, ◌≢◌, ◌⊎◌, ℕ, ◌+◌, Bool, false, ◌||◌, ◌==◌, if◌then◌else◌, zero, suc, List, [], ◌∷◌, ◌++◌, map, length, take, slice_get, find, is_none, Option, None, Some, Ok, Err}
-use Rattle.std.specs.List.{AllByRecursion, IsDistinct, list_any}
-use Rattle.std.specs.Str.{bytes_eq}
+use Rattle.std.specs.Prelude.{◌≡◌, ◌⊎◌, ℕ, ◌+◌, Bool, false, ◌||◌, ◌==◌, zero, suc, List, [], ◌∷◌, length, take, slice_get, find, is_none, Some, Ok, Err}
+use Rattle.std.specs.List.{list_any}
 use Rattle.sdc_base.specs.Blanks.{trim}
 use Rattle.sdc_base.specs.Lines.{lines}
 use Rattle.rda_meta.specs.Limits.{IsMeta}
 use Rattle.rda_meta.specs.declared.meta.Meta.{Meta}
-use Rattle.rda_meta.specs.declared.meta.Shape.{Shape}
-use Rattle.rda_meta.specs.declared.meta.Shape.TheVariants as shape
-use Rattle.rda_meta.specs.declared.meta.Variable.{Variable}
 use Rattle.job_lang.specs.declared.faults.JobWhy.{JobWhy}
 use Rattle.job_lang.specs.declared.faults.JobWhy.TheVariants.{NoSuchTable, SameName, Missing}
 use Rattle.job_lang.specs.declared.faults.Command.{Command}
 use Rattle.job_lang.specs.declared.faults.Command.TheVariants as command
-use Rattle.job_lang.specs.declared.job.Job.{Job}
-use Rattle.job_lang.specs.declared.job.TableLine.{TableLine}
-use Rattle.job_lang.specs.declared.bound.Bound.{Bound}
 use Rattle.job_lang.specs.declared.statement.Keyword.TheVariants as keyword
 use Rattle.job_lang.specs.declared.statement.Statement.{Statement}
 use Rattle.job_lang.specs.declared.statement.Draft.{Draft}
 use Rattle.job_lang.specs.Statements.{text_says, lines_say, empty_draft}
-use Rattle.job_lang.specs.ClosingLooks.{is_astray, is_meeting, said_by, file_line, rules_line, method_of, output_said}
+use Rattle.job_lang.specs.ClosingLooks.{said_by, file_line, rules_line, method_of, output_said}
+use Rattle.job_lang.specs.FilesApart.{is_astray, is_meeting}
 use Rattle.job_lang.specs.Jobs.{job_of}
 use Rattle.job_lang.specs.BoundLimits.{AreVariables}
-use Rattle.job_lang.specs.Binding.{is_spanning, bound_of}
 
 -- ---- the order of faults
 
@@ -81,48 +74,6 @@ IsInOrder =
     → IsLineFault (lines bytes) line why
     ⊎ ((draft : Draft) × (lines_say 0 empty_draft (lines bytes) ≡ Ok draft)
     × (IsFirstStray draft line why ⊎ IsFirstMeeting draft line why ⊎ IsFirstLack draft line why))
-
--- ---- names of files
-
--- the list of codes of a variable, where there is one
-abbrev pub codes_named : Option (List ℕ) → List (List ℕ)
-codes_named None = []
-codes_named (Some file) = file ∷ []
-
--- the hierarchy file of a variable, where there is one
-abbrev pub tree_named : Shape → List (List ℕ)
-tree_named (shape.Listed file lead) = file ∷ []
-tree_named other = []
-
--- the files that the metadata name for variables that span tables
-abbrev pub files_of : List TableLine → List Variable → List (List ℕ)
-files_of tables [] = []
-files_of tables (v ∷ variables) = (if is_spanning tables v.name then codes_named v.codes ++ tree_named v.shape else [])
-    ++ files_of tables variables
-
--- the files that a job puts
-abbrev pub puts_of : Job → List (List ℕ)
-puts_of job = job.certificate ∷ map (λ o. o.file) job.outputs
-
--- the files that a job names to be read
-abbrev pub reads_of : Job → List (List ℕ)
-reads_of job = job.micro ∷ job.meta ∷ map (λ p. p.file) job.priors
-
--- No file that a job puts is one that it reads.
-abbrev pub PutsAreNotRead : Type 0
-PutsAreNotRead =
-    (bytes : List ℕ) (job : Job) → job_of bytes ≡ Ok job
-    → AllByRecursion (λ put. AllByRecursion (λ read. put ≢ read) (reads_of job)) (puts_of job)
-
--- No file that a bound job puts is a code list or a hierarchy file that is read for it.
-abbrev pub PutsAreNotNamed : Type 0
-PutsAreNotNamed =
-    (job : Job) (meta : Meta) (bound : Bound) → bound_of job meta ≡ Ok bound
-    → AllByRecursion (λ put. AllByRecursion (λ read. put ≢ read) (files_of job.tables meta.variables)) (puts_of job)
-
--- No file that a job puts has the name of another one that it puts.
-abbrev pub PutsDiffer : Type 0
-PutsDiffer = (bytes : List ℕ) (job : Job) → job_of bytes ≡ Ok job → IsDistinct bytes_eq (puts_of job)
 
 -- ---- metadata that were read
 

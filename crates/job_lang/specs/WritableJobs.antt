@@ -16,7 +16,7 @@ use Rattle.job_lang.specs.Arguments.{may_separate}
 use Rattle.job_lang.specs.JobLimits.{IsJob, IsWork, IsMethod, AreInRange}
 use Rattle.job_lang.specs.Jobs.{job_of}
 use Rattle.job_lang.specs.Meaning.{line_says}
-use Rattle.job_lang.specs.Laws.{puts_of, reads_of}
+use Rattle.job_lang.specs.FileLaws.{puts_of, reads_of}
 use Rattle.job_lang.specs.Spelling.{table_number, said_line}
 use Rattle.job_lang.specs.JobText.{job_text, in_text}
 

@@ -3,6 +3,7 @@ ghost use Rattle.std.specs.List.{list_any};
 ghost use Rattle.sdc_base.specs.Answers.{Gives};
 ghost use Rattle.job_lang.specs.Faults.{fault_itself, why_of};
 ghost use Rattle.job_lang.specs.Arguments as spec;
+ghost use Rattle.job_lang.specs.MethodTexts as method_texts;
 
 use crate::cursor::{Cursor, at_front};
 use crate::faults::{JobWhy, LineError};
@@ -173,18 +174,18 @@ fn work_argument(text: &[u8]) -> Result<u64, JobWhy>
 }
 
 // The passes of GH.
-#[tactic(auto, unfolding(crate::specs::Arguments::passes_method))]
+#[tactic(auto, unfolding(crate::specs::MethodTexts::passes_method))]
 fn passes_method(cursor: &mut Cursor) -> Result<Method, JobWhy>
-    ensures { Gives fault_itself (λ one. one) result (spec.passes_method cursor.old) }
+    ensures { Gives fault_itself (λ one. one) result (method_texts.passes_method cursor.old) }
 {
     let n = one_number(1, 8, cursor)?;
     Ok(Method::Gh(n as u32))
 }
 
 // The empty parentheses of MOD.
-#[tactic(auto, unfolding(crate::specs::Arguments::modular_method))]
+#[tactic(auto, unfolding(crate::specs::MethodTexts::modular_method))]
 fn modular_method(cursor: &mut Cursor) -> Result<Method, JobWhy>
-    ensures { Gives fault_itself (λ one. one) result (spec.modular_method cursor.old) }
+    ensures { Gives fault_itself (λ one. one) result (method_texts.modular_method cursor.old) }
 {
     cursor.mark(b'(')?;
     cursor.close()?;
@@ -192,18 +193,18 @@ fn modular_method(cursor: &mut Cursor) -> Result<Method, JobWhy>
 }
 
 // The base of RND.
-#[tactic(auto, unfolding(crate::specs::Arguments::rounding_method))]
+#[tactic(auto, unfolding(crate::specs::MethodTexts::rounding_method))]
 fn rounding_method(cursor: &mut Cursor) -> Result<Method, JobWhy>
-    ensures { Gives fault_itself (λ one. one) result (spec.rounding_method cursor.old) }
+    ensures { Gives fault_itself (λ one. one) result (method_texts.rounding_method cursor.old) }
 {
     let base = one_number(1, 1_000_000_000, cursor)?;
     Ok(Method::Rnd(base as i128))
 }
 
 // How tables are protected, its word in letters of any case.
-#[tactic(auto, unfolding(crate::specs::Arguments::method_argument))]
+#[tactic(auto, unfolding(crate::specs::MethodTexts::method_argument))]
 fn method_argument(text: &[u8]) -> Result<Method, JobWhy>
-    ensures { Gives fault_itself (λ one. one) result (spec.method_argument text.now) }
+    ensures { Gives fault_itself (λ one. one) result (method_texts.method_argument text.now) }
 {
     let mut cursor = at_front(text);
     let word = cursor.run();

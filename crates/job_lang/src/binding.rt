@@ -8,6 +8,7 @@ ghost use Rattle.job_lang.specs.JobLimits.{AreTables};
 ghost use Rattle.job_lang.specs.BoundLimits.{AreVariables, IsBound};
 ghost use Rattle.job_lang.specs.Binding.{bound_of};
 ghost use Rattle.job_lang.specs.Binding as spec;
+ghost use Rattle.job_lang.specs.BindingFaults as binding_faults;
 
 use crate::binding_faults::{earliest_fault, is_named, is_spanning};
 use crate::bound::Bound;
@@ -176,7 +177,7 @@ fn response_decimals(variables: &[Variable], tables: &[TableLine]) -> u8
 
 // The variable of this name.
 fn variable_named<'a>(variables: &'a [Variable], name: &Text) -> Option<&'a Variable>
-    ensures { option_copied result ≡ find (λ v. spec.is_named name.now v) variables.now }
+    ensures { option_copied result ≡ find (λ v. binding_faults.is_named name.now v) variables.now }
 {
     for variable in variables {
         if is_named(name, variable) {

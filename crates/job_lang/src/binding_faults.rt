@@ -1,7 +1,7 @@
 ghost use Rattle.std.specs.Prelude.{◌≡◌};
 ghost use Rattle.std.specs.List.{list_any};
 ghost use Rattle.std.specs.Str.{bytes_eq};
-ghost use Rattle.job_lang.specs.Binding as spec;
+ghost use Rattle.job_lang.specs.BindingFaults as spec;
 
 use crate::faults::JobWhy;
 use crate::job::{Job, OutputLine, TableLine};

@@ -2,7 +2,7 @@ ghost use Rattle.std.specs.Prelude.{◌≡◌, ◌≤◌, Some};
 ghost use Rattle.std.specs.List.{list_any, count_by};
 ghost use Rattle.sdc_base.specs.Answers.{Gives};
 ghost use Rattle.job_lang.specs.Faults.{fault_of};
-ghost use Rattle.job_lang.specs.ClosingLooks as spec;
+ghost use Rattle.job_lang.specs.FilesApart as spec;
 
 use crate::faults::{JobError, JobWhy};
 use crate::statement::{Said, Statement};
@@ -40,7 +40,7 @@ fn is_astray(count: usize, said: &Said) -> bool
 }
 
 /// The first statement of no table is a fault of its line, where there are so many tables.
-#[tactic(auto, unfolding(crate::specs::ClosingLooks::no_stray))]
+#[tactic(auto, unfolding(crate::specs::FilesApart::no_stray))]
 pub(crate) fn no_stray(count: usize, said: &[Statement]) -> Result<(), JobError>
     requires { count ≤ 8 }
     ensures { Gives fault_of (λ fine. fine) result (spec.no_stray count said.now) }
@@ -112,7 +112,7 @@ fn is_meeting(all: &[Statement], said: &Said) -> bool
 }
 
 /// The first statement that puts a file whose name another one has is a fault of its line.
-#[tactic(auto, unfolding(crate::specs::ClosingLooks::no_same_name))]
+#[tactic(auto, unfolding(crate::specs::FilesApart::no_same_name))]
 pub(crate) fn no_same_name(all: &[Statement]) -> Result<(), JobError>
     ensures { Gives fault_of (λ fine. fine) result (spec.no_same_name all.now all.now) }
 {

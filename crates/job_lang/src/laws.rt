@@ -1,6 +1,7 @@
 //! Laws of jobs, each the contract of a function with an empty body.
 
-ghost use Rattle.job_lang.specs.Laws.{IsInOrder, PutsAreNotRead, PutsAreNotNamed, PutsDiffer, MetadataFit};
+ghost use Rattle.job_lang.specs.Laws.{IsInOrder, MetadataFit};
+ghost use Rattle.job_lang.specs.FileLaws.{PutsAreNotRead, PutsAreNotNamed, PutsDiffer};
 ghost use Rattle.job_lang.specs.BindingOrder.{GivesEarliest, GivesFirstKind};
 ghost use Rattle.job_lang.specs.Meaning.{JobsAreMeant};
 ghost use Rattle.job_lang.specs.WritableJobs.{LinesAreRead, TextIsRead, IsRoundTrip, JobsAreWritable, JobsAreReadAgain};

@@ -2,7 +2,7 @@ ghost use Rattle.std.specs.Prelude.{◌≡◌, ◌<◌, ◌≤◌, ◌^◌, leng
 ghost use Rattle.sdc_base.specs.Answers.{Gives};
 ghost use Rattle.sdc_base.specs.Lines as lines_specs;
 ghost use Rattle.job_lang.specs.Faults.{fault_of};
-ghost use Rattle.job_lang.specs.ClosingLooks as closing_looks;
+ghost use Rattle.job_lang.specs.MissingCommands as missing_commands;
 ghost use Rattle.job_lang.specs.Jobs.{job_of};
 ghost use Rattle.job_lang.specs.Jobs as jobs;
 ghost use Rattle.job_lang.specs.JobLimits.{IsJob};
@@ -70,7 +70,7 @@ fn missing_command(which: Command) -> JobError
 // The output of the table at this place, which must have one.
 fn output_of_table(alloc: Global, place: usize, said: &[Statement]) -> Result<OutputLine, JobError>
     requires { place < 8 }
-    ensures { Gives fault_of (λ output. output) result (closing_looks.output_of_table place said.now) }
+    ensures { Gives fault_of (λ output. output) result (missing_commands.output_of_table place said.now) }
 {
     let Some(output) = file_line(alloc, output_said(place, said))? else {
         return Err(missing_command(Command::WriteTable));
@@ -85,7 +85,7 @@ fn outputs_of_tables(
     said: &[Statement],
 ) -> Result<Items<OutputLine>, JobError>
     requires { count ≤ 8 }
-    ensures { Gives fault_of (λ outputs. outputs) result (closing_looks.outputs_from count 0 said.now) }
+    ensures { Gives fault_of (λ outputs. outputs) result (missing_commands.outputs_from count 0 said.now) }
 {
     let mut outputs = Items::empty(alloc);
     for place in 0..count {

@@ -1,8 +1,8 @@
 ghost use Rattle.std.specs.Prelude.{◌≡◌, ◌<◌, ◌≤◌, ◌^◌, length, IfOk};
 ghost use Rattle.sdc_base.specs.Answers.{Gives};
 ghost use Rattle.job_lang.specs.Faults.{fault_itself};
-ghost use Rattle.job_lang.specs.RuleTexts.{percent_behind};
-ghost use Rattle.job_lang.specs.RuleTexts as spec;
+ghost use Rattle.job_lang.specs.RuleClauses.{percent_behind};
+ghost use Rattle.job_lang.specs.RuleClauses as spec;
 
 use crate::cursor::{Cursor, at_front};
 use crate::faults::JobWhy;
@@ -11,7 +11,7 @@ use crate::rule_clauses::RuleClause;
 use sdc_base::Rule;
 
 /// The number in parentheses that is all that is left, where it is in these bounds.
-#[tactic(auto, unfolding(crate::specs::RuleTexts::one_number))]
+#[tactic(auto, unfolding(crate::specs::RuleClauses::one_number))]
 pub(crate) fn one_number(low: u64, high: u64, cursor: &mut Cursor) -> Result<u64, JobWhy>
     requires { high < 10 ^ 18 }
     ensures exact { Gives fault_itself (λ number. number) result (spec.one_number low high cursor.old) }
@@ -24,7 +24,7 @@ pub(crate) fn one_number(low: u64, high: u64, cursor: &mut Cursor) -> Result<u64
 }
 
 /// One rule, its word in letters of any case.
-#[tactic(auto, unfolding(crate::specs::RuleTexts::clause_in))]
+#[tactic(auto, unfolding(crate::specs::RuleClauses::clause_in))]
 pub(crate) fn clause_in(text: &[u8]) -> Result<RuleClause, JobWhy>
     ensures { Gives fault_itself (λ one. one) result (spec.clause_in text.now) }
 {
@@ -49,7 +49,7 @@ pub(crate) fn clause_in(text: &[u8]) -> Result<RuleClause, JobWhy>
 }
 
 // The numbers of FREQ.
-#[tactic(auto, unfolding(crate::specs::RuleTexts::frequency_clause))]
+#[tactic(auto, unfolding(crate::specs::RuleClauses::frequency_clause))]
 fn frequency_clause(cursor: &mut Cursor) -> Result<RuleClause, JobWhy>
     ensures { Gives fault_itself (λ one. one) result (spec.frequency_clause cursor.old) }
 {
@@ -65,7 +65,7 @@ fn frequency_clause(cursor: &mut Cursor) -> Result<RuleClause, JobWhy>
 }
 
 // The numbers of NK.
-#[tactic(auto, unfolding(crate::specs::RuleTexts::dominance_clause))]
+#[tactic(auto, unfolding(crate::specs::RuleClauses::dominance_clause))]
 fn dominance_clause(cursor: &mut Cursor) -> Result<RuleClause, JobWhy>
     ensures { Gives fault_itself (λ one. one) result (spec.dominance_clause cursor.old) }
 {
@@ -81,7 +81,7 @@ fn dominance_clause(cursor: &mut Cursor) -> Result<RuleClause, JobWhy>
 }
 
 // The 1 that may stand behind the number of P, and the end.
-#[tactic(auto, unfolding(crate::specs::RuleTexts::further_one))]
+#[tactic(auto, unfolding(crate::specs::RuleClauses::further_one))]
 fn further_one(cursor: &mut Cursor) -> Result<(), JobWhy>
     ensures { Gives fault_itself (λ fine. fine) result (spec.further_one cursor.old) }
 {
@@ -101,7 +101,7 @@ fn percent_end(cursor: &mut Cursor) -> Result<(), JobWhy>
 }
 
 // The number of P.
-#[tactic(auto, unfolding(crate::specs::RuleTexts::percent_clause))]
+#[tactic(auto, unfolding(crate::specs::RuleClauses::percent_clause))]
 fn percent_clause(cursor: &mut Cursor) -> Result<RuleClause, JobWhy>
     ensures { Gives fault_itself (λ one. one) result (spec.percent_clause cursor.old) }
 {
@@ -112,7 +112,7 @@ fn percent_clause(cursor: &mut Cursor) -> Result<RuleClause, JobWhy>
 }
 
 // The number of MAN.
-#[tactic(auto, unfolding(crate::specs::RuleTexts::man_clause))]
+#[tactic(auto, unfolding(crate::specs::RuleClauses::man_clause))]
 fn man_clause(cursor: &mut Cursor) -> Result<RuleClause, JobWhy>
     ensures { Gives fault_itself (λ one. one) result (spec.man_clause cursor.old) }
 {
@@ -121,7 +121,7 @@ fn man_clause(cursor: &mut Cursor) -> Result<RuleClause, JobWhy>
 }
 
 // The flag of WGT.
-#[tactic(auto, unfolding(crate::specs::RuleTexts::weights_clause))]
+#[tactic(auto, unfolding(crate::specs::RuleClauses::weights_clause))]
 fn weights_clause(cursor: &mut Cursor) -> Result<RuleClause, JobWhy>
     ensures { Gives fault_itself (λ one. one) result (spec.weights_clause cursor.old) }
 {

@@ -5,6 +5,7 @@ ghost use Rattle.job_lang.specs.Faults.{why_of};
 ghost use Rattle.job_lang.specs.Pieces.{pieces};
 ghost use Rattle.job_lang.specs.RuleTexts.{named_in};
 ghost use Rattle.job_lang.specs.RuleTexts as spec;
+ghost use Rattle.job_lang.specs.RuleClauses as rule_clauses;
 
 use crate::faults::{JobWhy, LineError};
 use crate::pieces::pieces_in;
@@ -33,7 +34,7 @@ pub(crate) fn rules_in(alloc: Global, text: &[u8]) -> Result<Rules, LineError>
 
 // Each piece of a text as a rule.
 fn clauses_in(alloc: Global, text: &[u8]) -> Result<Items<RuleClause>, LineError>
-    ensures { Gives why_of (λ clauses. clauses) result (spec.clauses_in (pieces text.now)) }
+    ensures { Gives why_of (λ clauses. clauses) result (rule_clauses.clauses_in (pieces text.now)) }
 {
     let mut pieces = pieces_in(text);
     let mut clauses = Items::empty(alloc);

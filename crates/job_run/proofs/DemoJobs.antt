@@ -11,11 +11,14 @@ use Rattle.job_lang.specs.declared.job.Job.{Job}
 use Rattle.job_lang.specs.Jobs.{job_made, closed_job, job_of}
 use Rattle.job_lang.specs.LineTokens.{behind_mark, quoted_at, number_at, digits_at, end_of_tokens, closing_token}
 use Rattle.job_lang.specs.Keywords.{keyword_of, word_in}
-use Rattle.job_lang.specs.RuleTexts.{one_number, frequency_clause, clause_in, clauses_in, percent_clause, rules_in}
+use Rattle.job_lang.specs.RuleTexts.{rules_in}
+use Rattle.job_lang.specs.RuleClauses.{one_number, frequency_clause, clause_in, clauses_in, percent_clause}
 use Rattle.job_lang.specs.TableTexts.{names_up_to, quoted_part, table_argument}
-use Rattle.job_lang.specs.Arguments.{file_at, only_file, output_argument, modular_method, method_argument, cost_of, cost_argument, argument_of}
+use Rattle.job_lang.specs.Arguments.{file_at, only_file, output_argument, cost_of, cost_argument, argument_of}
+use Rattle.job_lang.specs.MethodTexts.{modular_method, method_argument}
 use Rattle.job_lang.specs.Statements.{with_table, with_statement, with_said, command_line, text_says, lines_say}
-use Rattle.job_lang.specs.ClosingLooks.{no_stray, no_same_name, outputs_from}
+use Rattle.job_lang.specs.MissingCommands.{outputs_from}
+use Rattle.job_lang.specs.FilesApart.{no_stray, no_same_name}
 use Rattle.apriori.specs.Settling.{settle_of}
 use Rattle.linked_tables.specs.Tables.{book_of}
 use Rattle.rda_meta.specs.Metadata.{meta_of}
@@ -25,7 +28,9 @@ use Rattle.job_inputs.specs.Cells.{figures, cells_fault, prior_fault}
 use Rattle.job_inputs.specs.Layouts.{layout_of}
 use Rattle.job_inputs.specs.PriorStatements.{priors_of}
 use Rattle.job_inputs.specs.declared.faults.Fault.TheVariants as fault
-use Rattle.job_inputs.specs.Inputs.{bytes_of_file, job_for, job_fault, meta_fault, described_of, fields_of, spanning_variables, look_at_records, inputs_of}
+use Rattle.job_inputs.specs.Inputs.{job_for, described_of, look_at_records, inputs_of}
+use Rattle.job_inputs.specs.CodeSources.{fields_of, spanning_variables}
+use Rattle.job_inputs.specs.ReadFiles.{bytes_of_file, job_fault, meta_fault}
 use Rattle.job_inputs.specs.Purposes.{is_unfit}
 use Rattle.job_inputs.specs.SettledJobs.{SettledInputs, overwrites_job, settled_of}
 use Rattle.job_inputs.specs.declared.described.Described.{Described}

@@ -6,7 +6,7 @@ use Rattle.hierarchy.specs.declared.tree_fault.TreeFault.TheVariants as tree
 use Rattle.office_io.specs.Files.{Files, held_name}
 use Rattle.office_io.specs.Shelves.{ShelfState}
 use Rattle.office_io.specs.Trays.{TrayState}
-use Rattle.job_inputs.specs.Inputs.{limit_of}
+use Rattle.job_inputs.specs.ReadFiles.{limit_of}
 use Rattle.job_inputs.specs.SettledJobs.{SettledInputs}
 use Rattle.job_inputs.specs.declared.file_ref.FileRef.{FileRef}
 use Rattle.job_run.specs.Endings.{IsReleaseOf, IsUndecided}

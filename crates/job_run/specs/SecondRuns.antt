@@ -2,7 +2,7 @@
 use Rattle.std.specs.Prelude.{◌≡◌, ℕ, Bool, false, List, Some, Ok}
 use Rattle.std.specs.List.{list_any}
 use Rattle.std.specs.Str.{bytes_eq}
-use Rattle.job_lang.specs.Laws.{puts_of}
+use Rattle.job_lang.specs.FileLaws.{puts_of}
 use Rattle.job_lang.specs.declared.job.Job.{Job}
 use Rattle.office_io.specs.Files.{Files, told_file}
 use Rattle.office_io.specs.Shelves.{ShelfState}

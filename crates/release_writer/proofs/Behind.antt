@@ -9,7 +9,7 @@ use Rattle.std.proofs.lemmas.Bool.Decides.{nat_tests}
 use Rattle.std.proofs.lemmas.Slice.Eq.{bytes_eq-Decides}
 use Rattle.sdc_base.specs.Numbers.{units_text, padded_digits}
 use Rattle.sdc_base.specs.TableText.{comma, quote, field_text, line_text, is_special, quotes_doubled, shown_text}
-use Rattle.release_writer.specs.ReleaseReading.{rest_behind}
+use Rattle.release_writer.specs.LineChoices.{rest_behind}
 
 bytes-same : (xs : List ℕ) → bytes_eq xs xs ≡ true
 bytes-same xs = (bytes_eq-Decides xs xs).1 refl

@@ -17,7 +17,8 @@ use Rattle.linked_tables.specs.declared.mark.Mark.{Mark}
 use Rattle.linked_tables.specs.BookViews.{BookView}
 use Rattle.linked_tables.specs.BookCells.{cells, name_in_table, number_of}
 use Rattle.release_writer.specs.ShownCells.{open_truth}
-use Rattle.release_writer.specs.ReleaseReading.{Template, ReleaseSoFar, LinePlace, rest_behind, line_showing, choice_there, new_value, value_there, next_line, with_value, read_place, read_places, read_table, read_tables, release_read, is_left, flags_of, truth_of, or_second}
+use Rattle.release_writer.specs.ReleaseReading.{ReleaseSoFar, LinePlace, next_line, with_value, read_place, read_places, read_table, read_tables, release_read, is_left, flags_of}
+use Rattle.release_writer.specs.LineChoices.{Template, rest_behind, line_showing, choice_there, new_value, value_there, truth_of, or_second}
 use Rattle.release_writer.specs.ReadingLaws.{AreTexts, first_shown, HiddenAreReadBack}
 use Rattle.release_writer.proofs.Behind.{behind-self, crossed-differs}
 

@@ -5,7 +5,8 @@ use Rattle.std.proofs.lemmas.List.{drop_more, drop_all, map-id}
 use Rattle.sdc_base.specs.Answers.{Fails}
 use Rattle.sdc_base.specs.Steps.{◌>>=◌}
 use Rattle.sdc_base.specs.Cells.{places, trees_of}
-use Rattle.release_writer.specs.ReleaseReading.{Template, ReleaseSoFar, LinePlace, read_place, read_places}
+use Rattle.release_writer.specs.ReleaseReading.{ReleaseSoFar, LinePlace, read_place, read_places}
+use Rattle.release_writer.specs.LineChoices.{Template}
 use Rattle.release_writer.specs.Sheets.{places_below}
 
 pub step-end : {A F : Type 0} (r : Result A F) → (r >>= λ x. Ok x) ≡ r

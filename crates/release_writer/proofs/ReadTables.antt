@@ -4,7 +4,8 @@ use Rattle.std.proofs.lemmas.List.{drop_more, drop_all}
 use Rattle.sdc_base.specs.Answers.{Fails}
 use Rattle.sdc_base.specs.Steps.{◌>>=◌}
 use Rattle.linked_tables.specs.BookViews.{BookView}
-use Rattle.release_writer.specs.ReleaseReading.{Template, LinePlace, read_table, read_tables}
+use Rattle.release_writer.specs.ReleaseReading.{LinePlace, read_table, read_tables}
+use Rattle.release_writer.specs.LineChoices.{Template}
 
 drop-at : {X : Type 0} (xs : List X) (t : ℕ) (x : X) → slice_get xs t ≡ Some x → drop t xs ≡ x ∷ drop (t + 1) xs
 drop-at [] t x h = absurd (grind (arith, h))

@@ -21,7 +21,8 @@ use Rattle.sdc_base.specs.Cells.{trees_of}
 use Rattle.linked_tables.specs.declared.mark.Mark.{Mark}
 use Rattle.linked_tables.specs.BookViews.{BookView}
 use Rattle.linked_tables.specs.BookCells.{cells}
-use Rattle.release_writer.specs.ReleaseReading.{Template, LinePlace, rest_behind, line_showing, choice_there, new_value, rounded_value, number_there, number_behind, value_read, numbers_of, release_read}
+use Rattle.release_writer.specs.ReleaseReading.{LinePlace, numbers_of, release_read}
+use Rattle.release_writer.specs.LineChoices.{Template, rest_behind, line_showing, choice_there, new_value, rounded_value, number_there, number_behind, value_read}
 use Rattle.release_writer.specs.ReadingLaws.{AreTexts, RoundedHaveTexts, IsReleased}
 use Rattle.release_writer.proofs.HaveTexts.{Shows, GivesNew, AllFrom, all-at, fitting-some, release-read, shown_by, texts-same}
 

@@ -3,7 +3,8 @@ use Rattle.std.specs.Prelude.{◌≡◌, ◌≤◌, ◌<◌, ◌+◌, ℕ, [], s
 use Rattle.std.specs.Option.{ForSome}
 use Rattle.sdc_base.specs.Cells.{places, trees_of}
 use Rattle.linked_tables.specs.BookViews.{BookView}
-use Rattle.release_writer.specs.ReleaseReading.{Template, ReleaseSoFar, LinePlace}
+use Rattle.release_writer.specs.ReleaseReading.{ReleaseSoFar, LinePlace}
+use Rattle.release_writer.specs.LineChoices.{Template}
 use Rattle.release_writer.specs.declared.release_fault.ReleaseFault.{ReleaseFault}
 use Rattle.release_writer.specs.declared.release_fault.ReleaseFault.TheVariants as fault
 use Rattle.release_writer.specs.declared.sheet.Sheet.{Sheet}

@@ -2,7 +2,7 @@ ghost use Rattle.std.specs.Prelude.{◌≡◌, ◌≤◌, ◌<◌, length, take,
 ghost use Rattle.std.specs.List.{before_first};
 ghost use Rattle.std.specs.Option.{ForSome};
 ghost use Rattle.sdc_base.specs.Lines.{is_line_feed};
-ghost use Rattle.release_writer.specs.ReleaseReading as spec;
+ghost use Rattle.release_writer.specs.LineChoices as spec;
 ghost use Rattle.release_writer.specs.Sheets.{form_of, fit_of, IsFromZero, IsSheet};
 
 use crate::lines::write_place;

@@ -1,6 +1,8 @@
 -- The small tables, reckoned.
 use Rattle.std.proofs.Common.{refl}
-use Rattle.sdc_base.specs.Examples.{FlatTable, WeightSteps, LastInPart, TwoLevels, SharedMargins, RelationRows, RuleRows, CubeRows}
+use Rattle.sdc_base.specs.Examples.{FlatTable, WeightSteps, LastInPart, TwoLevels, SharedMargins, RelationRows}
+use Rattle.sdc_base.specs.CubeExamples.{CubeRows}
+use Rattle.sdc_base.specs.RuleExamples.{RuleRows}
 
 pub flat_table : FlatTable
 flat_table = record { cells = refl; sums = refl; counts = refl; none = refl; fewer = refl; named = refl; empty = refl }

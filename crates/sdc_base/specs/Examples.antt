@@ -1,19 +1,13 @@
 -- The definitions on small tables that can be reckoned by hand (own).
-use Rattle.std.specs.Prelude.{◌≡◌, ℕ, zero, suc, Bool, true, false, List, [], ◌∷◌, codes, map, Option, None, Some, ℤ, pos, ◌+ℤ◌}
+use Rattle.std.specs.Prelude.{◌≡◌, ℕ, true, false, List, [], ◌∷◌, codes, map, None, Some, ℤ, pos}
 use Rattle.sdc_base.specs.Trees.{Tree, flat_tree, is_under, places_upward}
 use Rattle.sdc_base.specs.Records.{Name}
 use Rattle.sdc_base.specs.Cells.{cells_of}
-use Rattle.sdc_base.specs.Relations.{number_among, relations_among}
-use Rattle.sdc_base.specs.Cubes.{corners_of, edges_from}
-use Rattle.sdc_base.specs.Subtables.{ordered_subtables}
-use Rattle.sdc_base.specs.declared.cube.Corner.{Corner}
-use Rattle.sdc_base.specs.declared.cube.Edge.{Edge}
+use Rattle.sdc_base.specs.Relations.{relations_among}
 use Rattle.sdc_base.specs.Sums.{truth, freq}
 use Rattle.sdc_base.specs.Largest.{largest_in}
 use Rattle.sdc_base.specs.Rules.{frequency_names, first_named}
-use Rattle.sdc_base.specs.RuleLevels.{Figures, level_of, manual_of}
 use Rattle.sdc_base.specs.declared.rows.Row.{Row}
-use Rattle.sdc_base.specs.declared.rule.Rule.TheVariants as rule
 
 -- a record of one variable
 abbrev pub row_of : ℕ → ℕ → ℕ → Row
@@ -107,52 +101,3 @@ pub record RelationRows : Type 0 where
       ≡ (0, 1 ∷ 2 ∷ []) ∷ (0, 3 ∷ 4 ∷ []) ∷ []
   pub levels : relations_among (two_levels ∷ []) ((0 ∷ []) ∷ []) ≡ (0, 1 ∷ 4 ∷ []) ∷ (1, 2 ∷ 3 ∷ []) ∷ (4, 5 ∷ []) ∷ []
   pub not_spanned : relations_among (two_codes ∷ two_codes ∷ []) ((0 ∷ []) ∷ []) ≡ (0, 1 ∷ 2 ∷ []) ∷ []
-
--- the sum of so many numbers from the front
-abbrev pub sum_of_first : ℕ → List ℤ → ℤ
-sum_of_first zero numbers = pos 0
-sum_of_first (suc n) [] = pos 0
-sum_of_first (suc n) (number ∷ numbers) = number +ℤ sum_of_first n numbers
-
--- the figures of a cell with these contributions of weight 1
-abbrev pub figures : ℕ → ℕ → ℕ → ℕ → ℕ → Figures
-figures truth freq first second third =
-    record { truth = pos truth; freq = freq; largest = λ n. sum_of_first n (pos first ∷ pos second ∷ pos third ∷ []) }
-
--- Levels by the rules: dominance with 8000 / 75 rounded up, less 100; the greatest level holds; exactly 75 percent and
--- exactly 10 percent name no cell; and a level of 0 percent is still a unit.
-pub record RuleRows : Type 0 where
-  pub dominance : level_of (rule.Nk 1 75 ∷ []) (figures 100 3 80 15 5) ≡ Some (record { up = pos 7; down = pos 7 })
-  pub percent : level_of (rule.Percent 10 ∷ []) (figures 100 3 80 15 5) ≡ Some (record { up = pos 3; down = pos 3 })
-  pub both : level_of (rule.Percent 10 ∷ rule.Nk 1 75 ∷ []) (figures 100 3 80 15 5)
-      ≡ Some (record { up = pos 7; down = pos 7 })
-  pub at_bound : level_of (rule.Nk 1 75 ∷ []) (figures 100 3 75 15 10) ≡ None
-  pub at_percent : level_of (rule.Percent 10 ∷ []) (figures 100 3 80 12 8) ≡ None
-  pub frequency : level_of (rule.Freq 3 30 ∷ []) (figures 20 2 10 10 0) ≡ Some (record { up = pos 6; down = pos 6 })
-  pub nothing : level_of (rule.Freq 3 30 ∷ []) (figures 0 1 0 0 0) ≡ Some (record { up = pos 1; down = pos 0 })
-  pub unit : manual_of 0 (pos 5) ≡ record { up = pos 1; down = pos 1 }
-
--- an edge from the first code to a partner
-abbrev pub edge_of : ℕ → ℕ → Bool → Edge
-edge_of code other equal = record { code = code; other = other; equal = equal }
-
--- a corner
-abbrev pub corner_of : ℕ → Bool → Corner
-corner_of cell plus = record { cell = cell; plus = plus }
-
--- the number of a place in a table of two variables with two codes each
-abbrev pub number_in_nine : List ℕ → Option ℕ
-number_in_nine place = number_among (cells_of (two_codes ∷ two_codes ∷ []) ((0 ∷ 1 ∷ []) ∷ [])) place
-
--- Cubes in a table of two variables with two codes each. A code and its total have one sign, two codes opposite ones:
--- with one sign for all, the corners of the two inner codes would all be plus. And the order of the subtables of two
--- levels of codes.
-pub record CubeRows : Type 0 where
-  pub of_code : edges_from two_codes 0 1 ≡ edge_of 1 0 true ∷ edge_of 1 2 false ∷ []
-  pub of_total : edges_from two_codes 0 0 ≡ edge_of 0 1 true ∷ edge_of 0 2 true ∷ []
-  pub inner : corners_of number_in_nine (edge_of 1 2 false ∷ edge_of 1 2 false ∷ [])
-      ≡ corner_of 4 true ∷ corner_of 5 false ∷ corner_of 7 false ∷ corner_of 8 true ∷ []
-  pub outer : corners_of number_in_nine (edge_of 1 2 false ∷ edge_of 1 0 true ∷ [])
-      ≡ corner_of 3 true ∷ corner_of 4 true ∷ corner_of 6 false ∷ corner_of 7 false ∷ []
-  pub order : map (λ subtable. subtable.parents) (ordered_subtables (two_levels ∷ []) ((0 ∷ []) ∷ []))
-      ≡ (0 ∷ []) ∷ (1 ∷ []) ∷ (4 ∷ []) ∷ []

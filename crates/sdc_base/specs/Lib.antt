@@ -39,4 +39,6 @@ pub mod Cubes
 pub mod Subtables
 pub mod Trails
 pub mod Examples
+pub mod CubeExamples
+pub mod RuleExamples
 pub mod TableText

@@ -4,7 +4,9 @@ ghost use Rattle.sdc_base.specs.Trees.{UnderIsTested, FlatIsCodeTree};
 ghost use Rattle.sdc_base.specs.Records.{FallsWhereUnderInEach};
 ghost use Rattle.sdc_base.specs.CellOrder.{PlacesAreLexicographic, NamesAreFirst};
 ghost use Rattle.sdc_base.specs.Shares.{RankingIsFair};
-ghost use Rattle.sdc_base.specs.Examples.{FlatTable, WeightSteps, LastInPart, TwoLevels, SharedMargins, RelationRows, RuleRows, CubeRows};
+ghost use Rattle.sdc_base.specs.Examples.{FlatTable, WeightSteps, LastInPart, TwoLevels, SharedMargins, RelationRows};
+ghost use Rattle.sdc_base.specs.CubeExamples.{CubeRows};
+ghost use Rattle.sdc_base.specs.RuleExamples.{RuleRows};
 ghost use Rattle.sdc_base.specs.AddingUp.{TablesAddUp};
 
 /// The test of being under says of each place of a code tree what the walk of its parents says.

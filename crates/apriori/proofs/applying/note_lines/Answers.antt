@@ -1,6 +1,6 @@
 use Rattle.std.proofs.Common.{ap, sym, ◌∙◌, length, arith, refl}
 use Rattle.std.proofs.lemmas.Result.{err_from_is_err_and}
-use Rattle.apriori.specs.Statements.{basis_of}
+use Rattle.apriori.specs.KnownCells.{basis_of}
 use Rattle.apriori.proofs.Notes.{lines_next, lines_stop, lines_end}
 use Rattle.apriori.proofs.applying.note_lines.Goals as goal
 

@@ -1,6 +1,6 @@
 use Rattle.std.proofs.Common.{◌≡◌, ◌+◌, ◌≤◌, length}
 use Rattle.sdc_base.specs.Lines.{lines}
-use Rattle.apriori.specs.Statements.{basis_of}
+use Rattle.apriori.specs.KnownCells.{basis_of}
 use Rattle.apriori.specs.Priors.{ArePriors}
 use Rattle.apriori.specs.Noting.{lines_noted}
 use Rattle.apriori.proofs.applying.note_lines.Given as goal

@@ -1,6 +1,6 @@
 use Rattle.std.proofs.Common.{◌≡◌, length}
 use Rattle.sdc_base.specs.Cells.{trees_of}
-use Rattle.apriori.specs.Statements.{place_in}
+use Rattle.apriori.specs.KnownCells.{place_in}
 use Rattle.apriori.proofs.Places.{behind, from}
 use Rattle.apriori.proofs.reading.place_in.Given as goal
 

@@ -3,7 +3,7 @@ use Rattle.std.specs.Int.{w128}
 use Rattle.std.specs.Prelude.{FitsSigned}
 use Rattle.std.proofs.lemmas.Int.{to_z-of_z}
 use Rattle.sdc_base.specs.declared.facts.Levels.{Levels}
-use Rattle.apriori.specs.Settling.{AreOpen}
+use Rattle.apriori.specs.CellLevels.{AreOpen}
 use Rattle.apriori.proofs.Open.{wider_open}
 use Rattle.apriori.proofs.settled.rule_levels.Goals as goal
 

@@ -3,7 +3,8 @@ use Rattle.std.specs.Prelude.{Ok}
 use Rattle.std.specs.List.{zip}
 use Rattle.sdc_base.specs.RuleLevels.{Figures}
 use Rattle.apriori.specs.declared.prior.Prior.{Prior}
-use Rattle.apriori.specs.Settling.{SettledCell, view_of_cell, told_of, settled_cell, HasLevelsInRange}
+use Rattle.apriori.specs.Settling.{SettledCell, view_of_cell, told_of, settled_cell}
+use Rattle.apriori.specs.CellLevels.{HasLevelsInRange}
 use Rattle.std.proofs.lemmas.List.Elements.{All-append}
 use Rattle.apriori.proofs.Open.{all_one}
 use Rattle.apriori.proofs.Pairs.{prior_at, settled_more, all_pairs}

@@ -1,6 +1,7 @@
 use Rattle.std.proofs.Common.{◌≡◌, take, map, length, All}
 use Rattle.std.specs.List.{zip}
-use Rattle.apriori.specs.Settling.{view_of_cell, told_of, settled_cell, HasLevelsInRange}
+use Rattle.apriori.specs.Settling.{view_of_cell, told_of, settled_cell}
+use Rattle.apriori.specs.CellLevels.{HasLevelsInRange}
 use Rattle.apriori.proofs.settling.cells_of.Given as goal
 
 abbrev pub invariant-cells : goal.invariant-cells

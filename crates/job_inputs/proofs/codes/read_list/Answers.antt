@@ -1,7 +1,7 @@
 use Rattle.std.proofs.Common.{ap, sym}
 use Rattle.job_inputs.proofs.Causes.{read-wider}
 use Rattle.job_inputs.proofs.Coming.{list-comes}
-use Rattle.job_inputs.specs.Inputs.{codes_in}
+use Rattle.job_inputs.specs.CodeSources.{codes_in}
 use Rattle.job_inputs.proofs.codes.read_list.Goals as goal
 
 pub returns-in-Some-clause-reads : goal.returns-in-Some-clause-reads

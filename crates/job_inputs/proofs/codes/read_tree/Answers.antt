@@ -3,7 +3,7 @@ use Rattle.std.proofs.lemmas.Result.{err_from_is_err_and}
 use Rattle.sdc_base.specs.Answers.{Fails}
 use Rattle.job_inputs.proofs.Causes.{look-stops, contents-stop, look-ends, only-read-nothing}
 use Rattle.job_inputs.proofs.Listing.{tree-file-stops, tree-contents-stop, tree-is}
-use Rattle.job_inputs.specs.Inputs.{tree_in}
+use Rattle.job_inputs.specs.CodeSources.{tree_in}
 use Rattle.job_inputs.specs.Reading.{stopped_for}
 use Rattle.job_inputs.specs.Refusals.{refused_for}
 use Rattle.job_inputs.specs.declared.file_ref.FileRef.TheVariants as file

@@ -4,7 +4,8 @@ use Rattle.sdc_base.specs.Answers.{Fails}
 use Rattle.sdc_base.specs.Steps.{map_fault}
 use Rattle.rda_meta.specs.Metadata.{meta_of}
 use Rattle.office_io.proofs.Shelves.{only-read-on}
-use Rattle.job_inputs.specs.Inputs.{job_for, meta_fault}
+use Rattle.job_inputs.specs.Inputs.{job_for}
+use Rattle.job_inputs.specs.ReadFiles.{meta_fault}
 use Rattle.job_inputs.specs.Reading.{stopped_for}
 use Rattle.job_inputs.specs.Refusals.{refused_for}
 use Rattle.job_inputs.proofs.Causes.{look-stops, contents-stop, look-ends, only-read-nothing}

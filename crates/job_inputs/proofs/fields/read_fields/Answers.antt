@@ -6,7 +6,7 @@ use Rattle.sdc_base.specs.Answers.{Fails}
 use Rattle.rda_meta.specs.declared.meta.Variable.{Variable}
 use Rattle.job_lang.specs.BoundLimits.{IsNumericAt}
 use Rattle.microdata.specs.declared.layout.Field.{Field}
-use Rattle.job_inputs.specs.Inputs.{fields_of}
+use Rattle.job_inputs.specs.CodeSources.{fields_of}
 use Rattle.job_inputs.specs.Layouts.{variables_at}
 use Rattle.job_inputs.specs.Looks.{FieldsComeTo}
 use Rattle.job_inputs.specs.PlacedFields.{IsPlacedField}

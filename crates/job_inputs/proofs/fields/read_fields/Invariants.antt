@@ -2,7 +2,7 @@ use Rattle.std.proofs.Common.{◌≡◌, Some, Ok, length, take}
 use Rattle.std.specs.List.{AllByRecursion}
 use Rattle.office_io.specs.Files.{Files}
 use Rattle.office_io.specs.Shelves.{HasOnlyRead}
-use Rattle.job_inputs.specs.Inputs.{fields_of}
+use Rattle.job_inputs.specs.CodeSources.{fields_of}
 use Rattle.job_inputs.specs.Layouts.{variables_at}
 use Rattle.job_inputs.specs.PlacedFields.{IsPlacedField}
 use Rattle.job_inputs.proofs.fields.read_fields.Given as goal

@@ -2,7 +2,7 @@ use Rattle.std.proofs.Common.{◌≡◌, ℕ, ◌+◌, ◌-◌, ◌≤◌, ◌++
 use Rattle.std.proofs.lemmas.Result.{err_from_is_err_and}
 use Rattle.sdc_base.specs.Steps.{map_fault}
 use Rattle.microdata.specs.Feeding.{HasRead, fed_of}
-use Rattle.job_inputs.specs.Inputs.{limit, row_fault}
+use Rattle.job_inputs.specs.ReadFiles.{limit, row_fault}
 use Rattle.job_inputs.specs.Refusals.{refused_for}
 use Rattle.office_io.proofs.Shelves.{only-read-on}
 use Rattle.job_inputs.proofs.Causes.{stop-fails, contents-cause}

@@ -2,7 +2,7 @@ use Rattle.std.proofs.Common.{◌≡◌, ℕ, ◌+◌, ◌-◌, ◌≤◌, List,
 use Rattle.office_io.specs.Shelves.{HasOnlyRead}
 use Rattle.microdata.specs.Feeding.{HasRead}
 use Rattle.microdata.specs.declared.layout.Layout.{Layout}
-use Rattle.job_inputs.specs.Inputs.{limit}
+use Rattle.job_inputs.specs.ReadFiles.{limit}
 use Rattle.job_inputs.proofs.Feeding.{IsFed}
 use Rattle.job_inputs.proofs.microdata_file.feed_all.Given as goal
 

@@ -1,6 +1,6 @@
 use Rattle.job_lang.proofs.PlacesFit.{widths_few, spanning_few, response_few, weight_few}
 use Rattle.std.proofs.Common.{◌≡◌, None, ap, sym, ◌∙◌}
-use Rattle.job_lang.specs.Binding.{earliest_fault}
+use Rattle.job_lang.specs.BindingFaults.{earliest_fault}
 use Rattle.job_lang.proofs.BoundHolds.{bound_known}
 use Rattle.job_lang.proofs.binding.bind.Goals as goal
 

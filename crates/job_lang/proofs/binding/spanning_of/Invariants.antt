@@ -1,5 +1,6 @@
 use Rattle.std.proofs.Common.{◌≡◌, ◌++◌, drop}
-use Rattle.job_lang.specs.Binding.{is_spanning, places_from, spanning_of}
+use Rattle.job_lang.specs.Binding.{places_from, spanning_of}
+use Rattle.job_lang.specs.BindingFaults.{is_spanning}
 use Rattle.job_lang.proofs.binding.spanning_of.Given as goal
 
 abbrev pub invariant-loop-k : goal.invariant-loop-k

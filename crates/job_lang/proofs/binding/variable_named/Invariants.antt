@@ -1,6 +1,6 @@
 use Rattle.std.proofs.Common.{◌≡◌, drop}
 use Rattle.std.specs.Prelude.{find}
-use Rattle.job_lang.specs.Binding.{is_named}
+use Rattle.job_lang.specs.BindingFaults.{is_named}
 use Rattle.job_lang.proofs.binding.variable_named.Given as goal
 
 abbrev pub invariant-loop-variable : goal.invariant-loop-variable

@@ -1,5 +1,5 @@
 use Rattle.std.proofs.Common.{◌≡◌, take}
-use Rattle.job_lang.specs.Binding.{outputs_fault}
+use Rattle.job_lang.specs.BindingFaults.{outputs_fault}
 use Rattle.job_lang.proofs.binding_faults.outputs_fault.Given as goal
 
 abbrev pub invariant-loop-output : goal.invariant-loop-output

@@ -1,5 +1,5 @@
 use Rattle.std.proofs.Common.{◌≡◌, take}
-use Rattle.job_lang.specs.Binding.{tables_fault}
+use Rattle.job_lang.specs.BindingFaults.{tables_fault}
 use Rattle.job_lang.proofs.binding_faults.tables_fault.Given as goal
 
 abbrev pub invariant-loop-table : goal.invariant-loop-table

@@ -1,5 +1,5 @@
 use Rattle.std.proofs.Common.{◌≡◌, drop}
-use Rattle.job_lang.specs.ClosingLooks.{no_same_name}
+use Rattle.job_lang.specs.FilesApart.{no_same_name}
 use Rattle.job_lang.proofs.closing.no_same_name.Given as goal
 
 abbrev pub invariant-said : goal.invariant-said

@@ -1,5 +1,5 @@
 use Rattle.std.proofs.Common.{◌≡◌, drop}
-use Rattle.job_lang.specs.ClosingLooks.{no_stray}
+use Rattle.job_lang.specs.FilesApart.{no_stray}
 use Rattle.job_lang.proofs.closing.no_stray.Given as goal
 
 abbrev pub invariant-said : goal.invariant-said

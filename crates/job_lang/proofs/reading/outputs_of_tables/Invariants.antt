@@ -1,5 +1,5 @@
 use Rattle.std.proofs.Common.{◌≡◌, ◌-◌}
-use Rattle.job_lang.specs.ClosingLooks.{outputs_from}
+use Rattle.job_lang.specs.MissingCommands.{outputs_from}
 use Rattle.job_lang.proofs.Fronts.{with_front}
 use Rattle.job_lang.proofs.reading.outputs_of_tables.Given as goal
 

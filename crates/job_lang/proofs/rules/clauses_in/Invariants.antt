@@ -1,6 +1,6 @@
 use Rattle.std.proofs.Common.{◌≡◌, length}
 use Rattle.job_lang.specs.Pieces.{pieces}
-use Rattle.job_lang.specs.RuleTexts.{clauses_in}
+use Rattle.job_lang.specs.RuleClauses.{clauses_in}
 use Rattle.job_lang.proofs.Fronts.{with_front}
 use Rattle.job_lang.proofs.rules.clauses_in.Given as goal
 

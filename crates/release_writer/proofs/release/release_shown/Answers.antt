@@ -1,7 +1,8 @@
 use Rattle.std.proofs.Common.{rules, ◌≡◌, ◌<◌, ℕ, List, slice_get, length, Some, Ok, drop, sym, ◌∙◌, subst, arith}
 use Rattle.std.proofs.lemmas.Result.{err_from_is_err_and}
 use Rattle.sdc_base.specs.Answers.{Fails}
-use Rattle.release_writer.specs.ReleaseReading.{Template, release_read, read_table}
+use Rattle.release_writer.specs.ReleaseReading.{release_read, read_table}
+use Rattle.release_writer.specs.LineChoices.{Template}
 use Rattle.release_writer.specs.Sheets.{fault_of}
 use Rattle.release_writer.proofs.ReadTables.{tables-next, tables-bad, tables-end}
 use Rattle.release_writer.proofs.release.release_shown.Goals as goal
