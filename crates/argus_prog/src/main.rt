@@ -3,26 +3,10 @@
 #![tactic(auto)]
 
 mod answer;
-#[cfg(test)]
-mod damage_tests;
-#[cfg(test)]
-mod demo_tests;
-#[cfg(test)]
-mod fault_tests;
 mod file_shelf;
 mod folder_tray;
 #[cfg(test)]
-mod limit_tests;
-#[cfg(test)]
-mod protected_tests;
-#[cfg(test)]
-mod reading_tests;
-#[cfg(test)]
-mod rounded_tests;
-#[cfg(test)]
 mod test_folder;
-#[cfg(test)]
-mod tests;
 mod words;
 
 use crate::answer::{ended_by, without_words};

@@ -1,16 +1,10 @@
-use crate::tests::{METADATA, SEVEN, THIRTEEN, THREE, WHOLE, ran_alone};
-use sdc_base::Memory;
-use std::alloc::Global;
+use crate::jobs::{
+    FOUR_CERTIFICATE, FOUR_RECORDS, FOUR_SAID, FOUR_TABLE, ONE_VARIABLE, SEVEN_RECORDS,
+    THIRTEEN_RECORDS, THREE_VARIABLES, TWO_VARIABLES,
+};
+use crate::runs::{WHOLE_FILES, rounding_job, run_alone};
 use std::rt::HostRuntime;
 use std::test::Fail;
-
-// What stands behind the table's variables in a job: its rules, and then its method.
-const BEHIND: &str =
-    "|\"V\"\n<SAFETYRULE> FREQ(3,30)\n<WRITETABLE> (1,\"t.csv\")\n<CERTIFICATE> \"t.cert\"\n";
-
-const FILES: &str = "<OPENMICRODATA> \"m.asc\"\n<OPENMETADATA> \"m.rda\"\n<SPECIFYTABLE> ";
-
-pub(crate) const TWO: &str = "A 1 1\n<RECODEABLE>\nB 2 1\n<RECODEABLE>\nV 3 2\n<NUMERIC>\n";
 
 const CENTS: &str = "A 1 1\n<RECODEABLE>\nV 2 5\n<NUMERIC>\n<DECIMALS> 2\n";
 
@@ -19,23 +13,6 @@ const ODD: &str =
     "A 1 1\n<RECODEABLE>\nB 2 1\n<RECODEABLE>\nC 3 1\n<RECODEABLE>\nV 4 2\n<NUMERIC>\n";
 
 const ONES: &str = "111 1\n211 1\n212 1\n222 1\n122 1\n123 1\n113 1\n";
-
-// Records of two variables, and what is said and put where their table is rounded to multiples of 5.
-pub(crate) const FOUR: &str = "11 3\n12 4\n21 6\n22 2\n";
-
-pub(crate) const FOUR_SAID: &str =
-    "0 released: 4 records, 0 skipped, 0 passed over, 9 cells, 8 primary, 0 hidden\n";
-
-pub(crate) const FOUR_CERTIFICATE: &str =
-    "argus certificate 1\nmethod RND 5\ncells 9\nrelations 6\nend\n";
-
-pub(crate) const FOUR_TABLE: &str =
-    "A,B,V\nTotal,Total,15\nTotal,1,10\nTotal,2,5\n1,Total,10\n1,1,5\n1,2,5\n2,Total,5\n2,1,5\n2,2,0\n";
-
-// A job that has one table by these variables, and these lines of its method.
-pub(crate) fn job_by(alloc: Global, variables: &str, method: &str) -> Result<String, Memory> {
-    Ok(format!(in alloc; "{FILES}{variables}{BEHIND}{method}")?)
-}
 
 // By the variables of the table and the method, and by the metadata and the records: every cell at a multiple of the
 // base next to its truth, and margins that add up; or that there are no such numbers, or that the search for them
@@ -47,22 +24,22 @@ fn roundings(rt: HostRuntime) -> Result<(), Fail> {
         (
             "\"A\"\"B\"",
             "<SUPPRESS> RND(5)\n",
-            TWO,
-            FOUR,
+            TWO_VARIABLES,
+            FOUR_RECORDS,
             rounded.as_str(),
         ),
         (
             "\"A\"\"B\"",
             "<NODES> 1\n<SUPPRESS> RND(2)\n",
-            TWO,
+            TWO_VARIABLES,
             "11 1\n12 1\n21 1\n22 1\n",
             "0 released: 4 records, 0 skipped, 0 passed over, 9 cells, 8 primary, 0 hidden\nargus certificate 1\nmethod RND 2\ncells 9\nrelations 6\nend\nA,B,V\nTotal,Total,4\nTotal,1,2\nTotal,2,2\n1,Total,2\n1,1,2\n1,2,0\n2,Total,2\n2,1,0\n2,2,2\n",
         ),
         (
             "\"A\"",
             "<SUPPRESS> RND(1)\n",
-            METADATA,
-            SEVEN,
+            ONE_VARIABLE,
+            SEVEN_RECORDS,
             "0 released: 7 records, 0 skipped, 0 passed over, 3 cells, 0 primary, 0 hidden\nargus certificate 1\nmethod RND 1\ncells 3\nrelations 1\nend\nA,V\nTotal,150\na,60\nb,90\n",
         ),
         (
@@ -88,13 +65,13 @@ fn roundings(rt: HostRuntime) -> Result<(), Fail> {
         ),
     ];
     for (variables, method, metadata, microdata, want) in rows {
-        let job = job_by(rt.alloc(), variables, method)?;
+        let job = rounding_job(rt.alloc(), variables, method)?;
         let files = [
             ("r.job", job.as_str()),
             ("m.rda", metadata),
             ("m.asc", microdata),
         ];
-        let got = ran_alone(rt.alloc(), &files, WHOLE, 0)?;
+        let got = run_alone(rt.alloc(), &files, WHOLE_FILES, 0)?;
         assert_eq!(rt; got.as_str(), want);
     }
     Ok(())
@@ -107,13 +84,13 @@ fn linked_tables_are_rounded_together(rt: HostRuntime) -> Result<(), Fail> {
         "<SPECIFYTABLE> \"A\"\"C\"|\"V\"\n<WRITETABLE> (2,\"u.csv\")\n<SUPPRESS> RND(10)\n";
     let want =
         "0 released: 13 records, 0 skipped, 0 passed over, 15 cells, 1 primary, 0 hidden\nargus certificate 1\nmethod RND 10\ncells 15\nrelations 11\nend\nA,B,V\nTotal,Total,140\nTotal,b1,50\nTotal,b2,90\na1,Total,70\na1,b1,20\na1,b2,50\na2,Total,70\na2,b1,30\na2,b2,40\nA,C,V\nTotal,Total,140\nTotal,c1,50\nTotal,c2,90\na1,Total,70\na1,c1,30\na1,c2,40\na2,Total,70\na2,c1,20\na2,c2,50\n";
-    let job = job_by(rt.alloc(), "\"A\"\"B\"", method)?;
+    let job = rounding_job(rt.alloc(), "\"A\"\"B\"", method)?;
     let files = [
         ("r.job", job.as_str()),
-        ("m.rda", THREE),
-        ("m.asc", THIRTEEN),
+        ("m.rda", THREE_VARIABLES),
+        ("m.asc", THIRTEEN_RECORDS),
     ];
-    let got = ran_alone(rt.alloc(), &files, WHOLE, 0)?;
+    let got = run_alone(rt.alloc(), &files, WHOLE_FILES, 0)?;
     assert_eq!(rt; got.as_str(), want);
     Ok(())
 }

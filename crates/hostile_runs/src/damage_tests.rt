@@ -1,12 +1,11 @@
-use crate::protected_tests::{
-    BY_INDUSTRY, FIRMS, FIRMS_CERTIFICATE, FIRMS_SAID, FIRMS_TABLE, SURVEY,
-};
-use crate::reading_tests::said_of;
-use crate::tests::{WHOLE, ran_alone};
 use sdc_base::Memory;
 use std::alloc::Global;
 use std::rt::HostRuntime;
 use std::test::Fail;
+use worked_runs::{
+    BY_INDUSTRY, FIRMS, FIRMS_CERTIFICATE, FIRMS_SAID, FIRMS_TABLE, SURVEY, WHOLE_FILES, run_alone,
+    run_over,
+};
 
 // What a check of the hierarchical job says where this stands for its certificate.
 fn checked(alloc: Global, certificate: &str) -> Result<String, Memory> {
@@ -17,7 +16,7 @@ fn checked(alloc: Global, certificate: &str) -> Result<String, Memory> {
         ("t.cert", certificate),
         ("t.csv", FIRMS_TABLE),
     ];
-    said_of(alloc, &["check", "r.job"], &files)
+    run_over(alloc, &["check", "r.job"], &files)
 }
 
 // Why a front part of the certificate is none: it ends before the line `end`, or its last line has no end, which in the first
@@ -215,7 +214,7 @@ fn ran_over(alloc: Global, records: &str) -> Result<String, Memory> {
         ("m.rda", SURVEY),
         ("m.asc", records),
     ];
-    ran_alone(alloc, &files, WHOLE, 0)
+    run_alone(alloc, &files, WHOLE_FILES, 0)
 }
 
 // Every front part of the microdata that ends with a whole record, with the line's end and without: it is released.

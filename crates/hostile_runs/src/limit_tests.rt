@@ -1,8 +1,10 @@
-use crate::tests::{JOB, METADATA, Pieces, RELEASED, SEVEN, WHOLE, ran_alone};
 use sdc_base::Memory;
 use std::alloc::Global;
 use std::rt::HostRuntime;
 use std::test::Fail;
+use worked_runs::{
+    ONE_TABLE, ONE_TABLE_RELEASED, ONE_VARIABLE, Pieces, SEVEN_RECORDS, WHOLE_FILES, run_alone,
+};
 
 // The lines of a job of a table by one variable, but for the tables and their names.
 const REST: &str =
@@ -16,12 +18,12 @@ fn ran_by_tree(alloc: Global, hierarchy: &str) -> Result<String, Memory> {
     let metadata =
         "A 1 1\n<RECODEABLE>\n<HIERARCHICAL>\n<HIERCODELIST> \"a.hrc\"\nV 2 3\n<NUMERIC>\n";
     let files = [
-        ("r.job", JOB),
+        ("r.job", ONE_TABLE),
         ("m.rda", metadata),
         ("a.hrc", hierarchy),
         ("m.asc", "9 10\n9 20\n9 30\n"),
     ];
-    ran_alone(alloc, &files, WHOLE, 0)
+    run_alone(alloc, &files, WHOLE_FILES, 0)
 }
 
 // A hierarchy has at most nine levels below the total; the first code of a tenth one is refused.
@@ -54,14 +56,14 @@ fn blanks(alloc: Global, count: u32) -> Result<String, Memory> {
 // The seven records with so many blanks and this behind the last of them, which has four bytes itself.
 fn ran_with_end(alloc: Global, count: u32, end: &str, bytes: u32) -> Result<String, Memory> {
     let blanks = blanks(alloc, count)?;
-    let seven = SEVEN.trim_end();
+    let seven = SEVEN_RECORDS.trim_end();
     let records = format!(in alloc; "{seven}{blanks}{end}")?;
     let files = [
-        ("r.job", JOB),
-        ("m.rda", METADATA),
+        ("r.job", ONE_TABLE),
+        ("m.rda", ONE_VARIABLE),
         ("m.asc", records.as_str()),
     ];
-    ran_alone(alloc, &files, Pieces { bytes, failing: 0 }, 0)
+    run_alone(alloc, &files, Pieces { bytes, failing: 0 }, 0)
 }
 
 // A record has at most 1,000 bytes, without the end of its line.
@@ -71,7 +73,7 @@ fn long_records(rt: HostRuntime) -> Result<(), Fail> {
     for bytes in [1, 1000, 4096] {
         for end in ["", "\n", "\r\n"] {
             let got = ran_with_end(rt.alloc(), 996, end, bytes)?;
-            assert_eq!(rt; got.as_str(), RELEASED);
+            assert_eq!(rt; got.as_str(), ONE_TABLE_RELEASED);
             let got = ran_with_end(rt.alloc(), 997, end, bytes)?;
             assert_eq!(rt; got.as_str(), refused);
         }
@@ -101,22 +103,22 @@ fn job_of(alloc: Global, tables: u32) -> Result<String, Memory> {
 #[test]
 fn many_tables(rt: HostRuntime) -> Result<(), Fail> {
     let alloc = rt.alloc();
-    let released = format!(in alloc; "{RELEASED}A,V\nTotal,150\na,60\nb,90\n")?;
+    let released = format!(in alloc; "{ONE_TABLE_RELEASED}A,V\nTotal,150\na,60\nb,90\n")?;
     let eight = job_of(alloc, 8)?;
     let files = [
         ("r.job", eight.as_str()),
-        ("m.rda", METADATA),
-        ("m.asc", SEVEN),
+        ("m.rda", ONE_VARIABLE),
+        ("m.asc", SEVEN_RECORDS),
     ];
-    let got = ran_alone(alloc, &files, WHOLE, 0)?;
+    let got = run_alone(alloc, &files, WHOLE_FILES, 0)?;
     assert_eq!(rt; got.as_str(), released.as_str());
     let nine = job_of(alloc, 9)?;
     let files = [
         ("r.job", nine.as_str()),
-        ("m.rda", METADATA),
-        ("m.asc", SEVEN),
+        ("m.rda", ONE_VARIABLE),
+        ("m.asc", SEVEN_RECORDS),
     ];
-    let got = ran_alone(alloc, &files, WHOLE, 0)?;
+    let got = run_alone(alloc, &files, WHOLE_FILES, 0)?;
     assert_eq!(rt; got.as_str(), "2 refused: job line 14: TooMany\n");
     Ok(())
 }

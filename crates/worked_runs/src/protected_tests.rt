@@ -1,17 +1,10 @@
-use crate::tests::{METADATA, THIRTEEN, THREE, WHOLE, ran_alone};
+use crate::jobs::{
+    BY_INDUSTRY, FIRMS, FIRMS_CERTIFICATE, FIRMS_SAID, FIRMS_TABLE, MARGINS, ONE_VARIABLE, SURVEY,
+    THIRTEEN_RECORDS, THREE_VARIABLES, TWO_WAY, TWO_WAY_SAID,
+};
+use crate::runs::{WHOLE_FILES, run_alone};
 use std::rt::HostRuntime;
 use std::test::Fail;
-
-// A job of a two-way table, with an a priori file.
-pub(crate) const TWO_WAY: &str =
-    "<OPENMICRODATA> \"m.asc\"\n<OPENMETADATA> \"m.rda\"\n<SPECIFYTABLE> \"A\"\"B\"|\"V\"\n<SAFETYRULE> FREQ(3,30)\n<APRIORI> \"p.hst\",1,\",\"\n<SUPPRESS> MOD()\n<WRITETABLE> (1,\"t.csv\")\n<CERTIFICATE> \"t.cert\"\n";
-
-// All margins are always shown.
-pub(crate) const MARGINS: &str = "Total,Total,p\nTotal,b1,p\nTotal,b2,p\na1,Total,p\na2,Total,p\n";
-
-// What a run says where one cell is primary and three more are hidden for it.
-pub(crate) const TWO_WAY_SAID: &str =
-    "0 released: 13 records, 0 skipped, 0 passed over, 9 cells, 1 primary, 4 hidden\n";
 
 const BOUNDED: &str = "a1,b2,b,48,52\n";
 
@@ -22,25 +15,6 @@ const INNER: &str =
 // And where one of them is bounded, so that margins are hidden in its place.
 const OUTER: &str =
     "argus certificate 1\nmethod MOD\ncells 9\nrelations 6\nhidden 3 4 6 7\nstep 1 0,0 4 3,4,6,7\nneed 3 4 above 1 4:1\nneed 6 4 above 1 2:1 5:-1\nneed 7 4 above 1 2:1\nworld 4 above 1 6 6 -6 -6\nworld 4 below 1 -6 -6 6 6\nend\nA,B,V\nTotal,Total,140\nTotal,b1,50\nTotal,b2,90\na1,Total,x\na1,b1,x\na1,b2,50\na2,Total,x\na2,b1,x\na2,b2,40\n";
-
-// A job of a table by industries, which have two levels, with its metadata and its records of 14 bytes.
-pub(crate) const BY_INDUSTRY: &str =
-    "<OPENMICRODATA> \"m.asc\"\n<OPENMETADATA> \"m.rda\"\n<SPECIFYTABLE> \"Ind\"|\"Turn\"\n<SAFETYRULE> FREQ(3,30)|P(10)\n<SUPPRESS> MOD()\n<WRITETABLE> (1,\"t.csv\")\n<CERTIFICATE> \"t.cert\"\n";
-
-pub(crate) const SURVEY: &str =
-    "Ind 1 2 99\n   <RECODEABLE>\n   <HIERARCHICAL>\n   <HIERLEVELS> 1 1 0 0 0\nReg 3 2\n   <RECODEABLE>\n   <TOTCODE> All\nReq 5 1\n   <REQUEST> \"1\" \"2\"\nHold 6 3\n   <HOLDING>\nTurn 9 6 999999 888888\n   <NUMERIC>\n   <DECIMALS> 0\n";
-
-pub(crate) const FIRMS: &str =
-    "11Nr0001    10\n11Nr0002    20\n11Os0003    30\n12Nr0004     5\n12Os0005     5\n12Os0006     5\n21Nr0007    40\n21Nr0008     1\n21Os0009     1\n21Os0010999999\n";
-
-// What a run of it says, and what it puts.
-pub(crate) const FIRMS_SAID: &str =
-    "0 released: 9 records, 1 skipped, 2 passed over, 6 cells, 2 primary, 4 hidden\n";
-
-pub(crate) const FIRMS_CERTIFICATE: &str =
-    "argus certificate 1\nmethod MOD\ncells 6\nrelations 3\nhidden 1 3 4 5\nstep 1 0 4 1,4\nstep 1 1 1 1,3\nneed 1 4 above 1 0:1\nneed 3 4 above 1 0:1 1:1\nworld 4 above 1 -3 -3 3 3\nworld 4 below 1 3 3 -3 -3\nworld 5 above 1 -3 -3 3 3\nworld 5 below 1 3 3 -3 -3\nend\n";
-
-pub(crate) const FIRMS_TABLE: &str = "Ind,Turn\nTotal,117\n1,x\n11,60\n12,x\n2,x\n21,x\n";
 
 // By what the office states, and by a change of the job: what is said of the two-way table and what is put.
 #[test]
@@ -68,11 +42,11 @@ fn two_way_tables(rt: HostRuntime) -> Result<(), Fail> {
     for (job, statements, want) in rows {
         let files = [
             ("r.job", job),
-            ("m.rda", THREE),
-            ("m.asc", THIRTEEN),
+            ("m.rda", THREE_VARIABLES),
+            ("m.asc", THIRTEEN_RECORDS),
             ("p.hst", statements),
         ];
-        let got = ran_alone(alloc, &files, WHOLE, 0)?;
+        let got = run_alone(alloc, &files, WHOLE_FILES, 0)?;
         assert_eq!(rt; got.as_str(), want);
     }
     Ok(())
@@ -89,13 +63,13 @@ fn linked_table(rt: HostRuntime) -> Result<(), Fail> {
     )?;
     let files = [
         ("r.job", job.as_str()),
-        ("m.rda", THREE),
-        ("m.asc", THIRTEEN),
+        ("m.rda", THREE_VARIABLES),
+        ("m.asc", THIRTEEN_RECORDS),
         ("p.hst", BOUNDED),
     ];
     let want =
         "0 released: 13 records, 0 skipped, 0 passed over, 15 cells, 1 primary, 6 hidden\nargus certificate 1\nmethod MOD\ncells 15\nrelations 11\nhidden 3 4 6 7 11 13\nstep 1 0,0 4 3,4,6,7\nstep 2 0,0 3 3,6,11,13\nneed 3 4 above 1 5:1\nneed 6 4 above 1 5:1 6:-1 8:-1 9:1\nneed 7 4 above 1 5:1 6:-1 7:1 8:-1 9:1\nneed 11 4 above 1 5:1 6:-1\nneed 13 4 above 1 5:1 6:-1 9:1\nworld 4 above 1 6 6 -6 -6 6 -6\nworld 4 below 1 -6 -6 6 6 -6 6\nend\nA,B,V\nTotal,Total,140\nTotal,b1,50\nTotal,b2,90\na1,Total,x\na1,b1,x\na1,b2,50\na2,Total,x\na2,b1,x\na2,b2,40\nA,C,V\nTotal,Total,140\nTotal,c1,55\nTotal,c2,85\na1,Total,x\na1,c1,x\na1,c2,40\na2,Total,x\na2,c1,x\na2,c2,45\n";
-    let got = ran_alone(alloc, &files, WHOLE, 0)?;
+    let got = run_alone(alloc, &files, WHOLE_FILES, 0)?;
     assert_eq!(rt; got.as_str(), want);
     Ok(())
 }
@@ -105,7 +79,7 @@ fn linked_table(rt: HostRuntime) -> Result<(), Fail> {
 fn hierarchical_table(rt: HostRuntime) -> Result<(), Fail> {
     let files = [("r.job", BY_INDUSTRY), ("m.rda", SURVEY), ("m.asc", FIRMS)];
     let want = format!(in rt.alloc(); "{FIRMS_SAID}{FIRMS_CERTIFICATE}{FIRMS_TABLE}")?;
-    let got = ran_alone(rt.alloc(), &files, WHOLE, 0)?;
+    let got = run_alone(rt.alloc(), &files, WHOLE_FILES, 0)?;
     assert_eq!(rt; got.as_str(), want.as_str());
     Ok(())
 }
@@ -115,13 +89,13 @@ fn hierarchical_table(rt: HostRuntime) -> Result<(), Fail> {
 fn put_of_a_two_way_table(rt: HostRuntime) -> Result<(), Fail> {
     let files = [
         ("r.job", TWO_WAY),
-        ("m.rda", THREE),
-        ("m.asc", THIRTEEN),
+        ("m.rda", THREE_VARIABLES),
+        ("m.asc", THIRTEEN_RECORDS),
         ("p.hst", MARGINS),
     ];
     let want =
         "6 write fault: table 1\nargus certificate 1\nmethod MOD\ncells 9\nrelations 6\nhidden 4 5 7 8\nstep 1 0,0 4 4,5,7,8\nneed 5 4 above 1 4:1\nneed 7 4 above 1 3:-1 4:1 5:1\nneed 8 4 above 1 3:-1 4:1\nworld 4 above 1 6 -6 -6 6\nworld 4 below 1 -6 6 6 -6\nend\nA,B,V\nTotal,Total,140\nTotal,b1,50\nTotal,b2,90\na1,To";
-    let got = ran_alone(rt.alloc(), &files, WHOLE, 2)?;
+    let got = run_alone(rt.alloc(), &files, WHOLE_FILES, 2)?;
     assert_eq!(rt; got.as_str(), want);
     Ok(())
 }
@@ -133,12 +107,12 @@ fn shown_total(rt: HostRuntime) -> Result<(), Fail> {
     let job = job.replace(rt.alloc(), "FREQ(3,30)", "FREQ(3,30)|MAN(20)")?;
     let files = [
         ("r.job", job.as_str()),
-        ("m.rda", METADATA),
+        ("m.rda", ONE_VARIABLE),
         ("m.asc", "a 25\na 25\na 25\na 25\n"),
         ("p.hst", "a,u\nTotal,p\n"),
     ];
     let want = "3 cannot protect cell 1 above\nmultipliers 1 0:1\n";
-    let got = ran_alone(rt.alloc(), &files, WHOLE, 0)?;
+    let got = run_alone(rt.alloc(), &files, WHOLE_FILES, 0)?;
     assert_eq!(rt; got.as_str(), want);
     Ok(())
 }
@@ -159,7 +133,7 @@ fn too_many_hidden_cells(rt: HostRuntime) -> Result<(), Fail> {
         ("m.asc", records.as_str()),
         ("p.hst", ""),
     ];
-    let got = ran_alone(alloc, &files, WHOLE, 0)?;
+    let got = run_alone(alloc, &files, WHOLE_FILES, 0)?;
     assert_eq!(rt;
         got.as_str(),
         "4 undecided: size, cell 1 above, 1501 hidden\n"

@@ -1,56 +1,46 @@
-use crate::protected_tests::{MARGINS, TWO_WAY};
-use crate::tests::{THIRTEEN, THREE, WHOLE, ran};
-use office_io::MemoryTray;
-use sdc_base::Memory;
-use std::alloc::Global;
+use crate::jobs::{
+    MARGINS, THIRTEEN_RECORDS, THREE_VARIABLES, TWO_WAY, TWO_WAY_CERTIFICATE, TWO_WAY_TABLE,
+};
+use crate::runs::run_over;
 use std::rt::HostRuntime;
 use std::test::Fail;
-
-// The certificate and the table of the two-way job, as its run puts them.
-pub(crate) const CERTIFICATE: &str =
-    "argus certificate 1\nmethod MOD\ncells 9\nrelations 6\nhidden 4 5 7 8\nstep 1 0,0 4 4,5,7,8\nneed 5 4 above 1 4:1\nneed 7 4 above 1 3:-1 4:1 5:1\nneed 8 4 above 1 3:-1 4:1\nworld 4 above 1 6 -6 -6 6\nworld 4 below 1 -6 6 6 -6\nend\n";
-
-pub(crate) const TABLE: &str =
-    "A,B,V\nTotal,Total,140\nTotal,b1,50\nTotal,b2,90\na1,Total,70\na1,b1,x\na1,b2,x\na2,Total,70\na2,b1,x\na2,b2,x\n";
 
 // The certificate of the same job where it rounds, and records for it.
 const ROUNDED: &str = "argus certificate 1\nmethod RND 5\ncells 9\nrelations 6\nend\n";
 
 const FOUR: &str = "a1b1c1  3\na1b2c1  4\na2b1c1  6\na2b2c1  2\n";
 
-// What these words say of files on a shelf, and then what is put on an empty tray.
-pub(crate) fn said_of(
-    alloc: Global,
-    words: &[&str],
-    files: &[(&str, &str)],
-) -> Result<String, Memory> {
-    let mut tray = MemoryTray::new(alloc, Vec::new(alloc));
-    ran(alloc, words, files, WHOLE, &mut tray)
-}
-
 // By the certificate and the table that stand on the shelf: whether they are accepted, or their first fault.
 #[test]
 fn checks(rt: HostRuntime) -> Result<(), Fail> {
     let alloc = rt.alloc();
-    let moved = CERTIFICATE.replace(alloc, "above 1 6 -6", "above 1 7 -6")?;
-    let other = CERTIFICATE.replace(alloc, "certificate 1", "certificate 2")?;
-    let shown = TABLE.replace(alloc, "a1,b1,x", "a1,b1,20")?;
+    let moved = TWO_WAY_CERTIFICATE.replace(alloc, "above 1 6 -6", "above 1 7 -6")?;
+    let other = TWO_WAY_CERTIFICATE.replace(alloc, "certificate 1", "certificate 2")?;
+    let shown = TWO_WAY_TABLE.replace(alloc, "a1,b1,x", "a1,b1,20")?;
     let rows = [
-        (CERTIFICATE, TABLE, "0 accepted\n"),
-        (&moved, TABLE, "3 not accepted: World 0 Relation 2\n"),
-        (CERTIFICATE, &shown, "3 not accepted: Release 1 6\n"),
-        (&other, TABLE, "2 refused: certificate line 1: Version\n"),
+        (TWO_WAY_CERTIFICATE, TWO_WAY_TABLE, "0 accepted\n"),
+        (
+            &moved,
+            TWO_WAY_TABLE,
+            "3 not accepted: World 0 Relation 2\n",
+        ),
+        (TWO_WAY_CERTIFICATE, &shown, "3 not accepted: Release 1 6\n"),
+        (
+            &other,
+            TWO_WAY_TABLE,
+            "2 refused: certificate line 1: Version\n",
+        ),
     ];
     for (certificate, table, want) in rows {
         let files = [
             ("r.job", TWO_WAY),
-            ("m.rda", THREE),
-            ("m.asc", THIRTEEN),
+            ("m.rda", THREE_VARIABLES),
+            ("m.asc", THIRTEEN_RECORDS),
             ("p.hst", MARGINS),
             ("t.cert", certificate),
             ("t.csv", table),
         ];
-        let got = said_of(alloc, &["check", "r.job"], &files)?;
+        let got = run_over(alloc, &["check", "r.job"], &files)?;
         assert_eq!(rt; got.as_str(), want);
     }
     Ok(())
@@ -75,13 +65,13 @@ fn checks_of_roundings(rt: HostRuntime) -> Result<(), Fail> {
     for (table, want) in rows {
         let files = [
             ("r.job", job.as_str()),
-            ("m.rda", THREE),
+            ("m.rda", THREE_VARIABLES),
             ("m.asc", FOUR),
             ("p.hst", MARGINS),
             ("t.cert", ROUNDED),
             ("t.csv", table),
         ];
-        let got = said_of(alloc, &["check", "r.job"], &files)?;
+        let got = run_over(alloc, &["check", "r.job"], &files)?;
         assert_eq!(rt; got.as_str(), want);
     }
     Ok(())
@@ -93,28 +83,28 @@ fn checks_of_roundings(rt: HostRuntime) -> Result<(), Fail> {
 fn intervals(rt: HostRuntime) -> Result<(), Fail> {
     let alloc = rt.alloc();
     let rounds = TWO_WAY.replace(alloc, "MOD()", "RND(5)")?;
-    let wrong = TABLE.replace(alloc, "a1,b1,x", "a1,b1,21")?;
-    let margin = TABLE.replace(alloc, "Total,b1,50", "Total,b1,x")?;
+    let wrong = TWO_WAY_TABLE.replace(alloc, "a1,b1,x", "a1,b1,21")?;
+    let margin = TWO_WAY_TABLE.replace(alloc, "Total,b1,50", "Total,b1,x")?;
     let rows = [
         (
             TWO_WAY,
-            TABLE,
+            TWO_WAY_TABLE,
             "0 intervals: 4 cells\ncell,low,high\n4,0,50\n5,20,70\n7,0,50\n8,20,70\n",
         ),
         (TWO_WAY, &wrong, "3 not accepted: Release 1 6\n"),
         (TWO_WAY, &margin, "3 not accepted: FixedHidden 1\n"),
-        (&rounds, TABLE, "2 refused: job line 0: BadValue\n"),
+        (&rounds, TWO_WAY_TABLE, "2 refused: job line 0: BadValue\n"),
     ];
     for (job, table, want) in rows {
         let files = [
             ("r.job", job),
-            ("m.rda", THREE),
-            ("m.asc", THIRTEEN),
+            ("m.rda", THREE_VARIABLES),
+            ("m.asc", THIRTEEN_RECORDS),
             ("p.hst", MARGINS),
             ("t.cert", ""),
             ("t.csv", table),
         ];
-        let got = said_of(alloc, &["intervals", "r.job", "out.csv"], &files)?;
+        let got = run_over(alloc, &["intervals", "r.job", "out.csv"], &files)?;
         assert_eq!(rt; got.as_str(), want);
     }
     Ok(())
@@ -130,16 +120,16 @@ fn altered_tables(rt: HostRuntime) -> Result<(), Fail> {
         ("\"a2\",b2,x\n", "3 not accepted: Release 1 10\n"),
     ];
     for (line, want) in rows {
-        let table = TABLE.replace(rt.alloc(), "a2,b2,x\n", line)?;
+        let table = TWO_WAY_TABLE.replace(rt.alloc(), "a2,b2,x\n", line)?;
         let files = [
             ("r.job", TWO_WAY),
-            ("m.rda", THREE),
-            ("m.asc", THIRTEEN),
+            ("m.rda", THREE_VARIABLES),
+            ("m.asc", THIRTEEN_RECORDS),
             ("p.hst", MARGINS),
             ("t.cert", ""),
             ("t.csv", &table),
         ];
-        let got = said_of(rt.alloc(), &["intervals", "r.job", "out.csv"], &files)?;
+        let got = run_over(rt.alloc(), &["intervals", "r.job", "out.csv"], &files)?;
         assert_eq!(rt; got.as_str(), want);
     }
     Ok(())
@@ -150,14 +140,14 @@ fn altered_tables(rt: HostRuntime) -> Result<(), Fail> {
 fn names_of_intervals(rt: HostRuntime) -> Result<(), Fail> {
     let files = [
         ("r.job", TWO_WAY),
-        ("m.rda", THREE),
-        ("m.asc", THIRTEEN),
+        ("m.rda", THREE_VARIABLES),
+        ("m.asc", THIRTEEN_RECORDS),
         ("p.hst", MARGINS),
         ("t.cert", ""),
-        ("t.csv", TABLE),
+        ("t.csv", TWO_WAY_TABLE),
     ];
     for out in ["r.job", "p.hst", "t.csv"] {
-        let got = said_of(rt.alloc(), &["intervals", "r.job", out], &files)?;
+        let got = run_over(rt.alloc(), &["intervals", "r.job", out], &files)?;
         assert_eq!(rt; got.as_str(), "2 refused: out: OutName\n");
     }
     Ok(())

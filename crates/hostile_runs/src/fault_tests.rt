@@ -1,18 +1,16 @@
-use crate::protected_tests::{
-    BY_INDUSTRY, FIRMS, FIRMS_CERTIFICATE, FIRMS_SAID, FIRMS_TABLE, MARGINS, SURVEY, TWO_WAY,
-    TWO_WAY_SAID,
-};
-use crate::reading_tests::{CERTIFICATE, TABLE};
-use crate::rounded_tests::{FOUR, FOUR_CERTIFICATE, FOUR_SAID, FOUR_TABLE, TWO, job_by};
-use crate::tests::{
-    JOB, METADATA, Pieces, RELEASED, SEVEN, THIRTEEN, THREE, WHOLE, ran, ran_alone,
-};
 use office_io::MemoryTray;
 use sdc_base::Memory;
 use std::alloc::Global;
 use std::ops::Range;
 use std::rt::HostRuntime;
 use std::test::Fail;
+use worked_runs::{
+    BY_INDUSTRY, FIRMS, FIRMS_CERTIFICATE, FIRMS_SAID, FIRMS_TABLE, FOUR_CERTIFICATE, FOUR_RECORDS,
+    FOUR_SAID, FOUR_TABLE, MARGINS, ONE_TABLE, ONE_TABLE_RELEASED, ONE_VARIABLE, Pieces,
+    SEVEN_RECORDS, SURVEY, THIRTEEN_RECORDS, THREE_VARIABLES, TWO_VARIABLES, TWO_WAY,
+    TWO_WAY_CERTIFICATE, TWO_WAY_SAID, TWO_WAY_TABLE, WHOLE_FILES, rounding_job, run_alone,
+    run_words,
+};
 
 // How many calls of the shelf a file takes: one begins it, one comes for each piece, and one finds the end.
 fn calls_for(file: &str, bytes: u32) -> u64 {
@@ -29,7 +27,7 @@ fn first_wrong(
     want: &str,
 ) -> Result<Option<u64>, Memory> {
     for failing in calls {
-        let got = ran_alone(alloc, files, Pieces { bytes, failing }, 0)?;
+        let got = run_alone(alloc, files, Pieces { bytes, failing }, 0)?;
         if got.as_str() != want {
             return Ok(Some(failing));
         }
@@ -64,10 +62,14 @@ fn wrong_call(
 
 #[test]
 fn calls_of_a_small_job(rt: HostRuntime) -> Result<(), Fail> {
-    let files = [("r.job", JOB), ("m.rda", METADATA), ("m.asc", SEVEN)];
+    let files = [
+        ("r.job", ONE_TABLE),
+        ("m.rda", ONE_VARIABLE),
+        ("m.asc", SEVEN_RECORDS),
+    ];
     let names = ["job", "metadata", "microdata"];
     for bytes in [1, 1000] {
-        let wrong = wrong_call(rt.alloc(), &files, &names, RELEASED, bytes)?;
+        let wrong = wrong_call(rt.alloc(), &files, &names, ONE_TABLE_RELEASED, bytes)?;
         assert_eq!(rt; wrong, None, "by {bytes}");
     }
     Ok(())
@@ -77,12 +79,12 @@ fn calls_of_a_small_job(rt: HostRuntime) -> Result<(), Fail> {
 fn calls_of_a_two_way_table(rt: HostRuntime) -> Result<(), Fail> {
     let files = [
         ("r.job", TWO_WAY),
-        ("m.rda", THREE),
-        ("m.asc", THIRTEEN),
+        ("m.rda", THREE_VARIABLES),
+        ("m.asc", THIRTEEN_RECORDS),
         ("p.hst", MARGINS),
     ];
     let names = ["job", "metadata", "microdata", "apriori table 1"];
-    let release = format!(in rt.alloc(); "{TWO_WAY_SAID}{CERTIFICATE}{TABLE}")?;
+    let release = format!(in rt.alloc(); "{TWO_WAY_SAID}{TWO_WAY_CERTIFICATE}{TWO_WAY_TABLE}")?;
     for bytes in [1, 1000] {
         let wrong = wrong_call(rt.alloc(), &files, &names, release.as_str(), bytes)?;
         assert_eq!(rt; wrong, None, "by {bytes}");
@@ -92,8 +94,12 @@ fn calls_of_a_two_way_table(rt: HostRuntime) -> Result<(), Fail> {
 
 #[test]
 fn calls_of_a_rounded_table(rt: HostRuntime) -> Result<(), Fail> {
-    let job = job_by(rt.alloc(), "\"A\"\"B\"", "<SUPPRESS> RND(5)\n")?;
-    let files = [("r.job", job.as_str()), ("m.rda", TWO), ("m.asc", FOUR)];
+    let job = rounding_job(rt.alloc(), "\"A\"\"B\"", "<SUPPRESS> RND(5)\n")?;
+    let files = [
+        ("r.job", job.as_str()),
+        ("m.rda", TWO_VARIABLES),
+        ("m.asc", FOUR_RECORDS),
+    ];
     let names = ["job", "metadata", "microdata"];
     let release = format!(in rt.alloc(); "{FOUR_SAID}{FOUR_CERTIFICATE}{FOUR_TABLE}")?;
     for bytes in [1, 1000] {
@@ -130,8 +136,8 @@ fn is_mended(
     release: &str,
 ) -> Result<bool, Memory> {
     let mut tray = MemoryTray::new(alloc, vec![in alloc; failing]?);
-    let first = ran(alloc, &["run", "r.job"], files, WHOLE, &mut tray)?;
-    let second = ran(alloc, &["run", "r.job"], files, WHOLE, &mut tray)?;
+    let first = run_words(alloc, &["run", "r.job"], files, WHOLE_FILES, &mut tray)?;
+    let second = run_words(alloc, &["run", "r.job"], files, WHOLE_FILES, &mut tray)?;
     Ok(first.as_str() == left && second.as_str() == release)
 }
 
@@ -155,7 +161,7 @@ fn wrong_put(
     if !is_mended(alloc, files, 2, left.as_str(), release.as_str())? {
         return Ok(Some(2));
     }
-    let got = ran_alone(alloc, files, WHOLE, 3)?;
+    let got = run_alone(alloc, files, WHOLE_FILES, 3)?;
     if got != release {
         return Ok(Some(3));
     }
@@ -164,7 +170,11 @@ fn wrong_put(
 
 #[test]
 fn puts_of_a_small_job(rt: HostRuntime) -> Result<(), Fail> {
-    let files = [("r.job", JOB), ("m.rda", METADATA), ("m.asc", SEVEN)];
+    let files = [
+        ("r.job", ONE_TABLE),
+        ("m.rda", ONE_VARIABLE),
+        ("m.asc", SEVEN_RECORDS),
+    ];
     let said = "0 released: 7 records, 0 skipped, 0 passed over, 3 cells, 0 primary, 0 hidden\n";
     let certificate = "argus certificate 1\nmethod MOD\ncells 3\nrelations 1\nend\n";
     let table = "A,V\nTotal,150\na,60\nb,90\n";
@@ -177,19 +187,29 @@ fn puts_of_a_small_job(rt: HostRuntime) -> Result<(), Fail> {
 fn puts_of_a_two_way_table(rt: HostRuntime) -> Result<(), Fail> {
     let files = [
         ("r.job", TWO_WAY),
-        ("m.rda", THREE),
-        ("m.asc", THIRTEEN),
+        ("m.rda", THREE_VARIABLES),
+        ("m.asc", THIRTEEN_RECORDS),
         ("p.hst", MARGINS),
     ];
-    let wrong = wrong_put(rt.alloc(), &files, TWO_WAY_SAID, CERTIFICATE, TABLE)?;
+    let wrong = wrong_put(
+        rt.alloc(),
+        &files,
+        TWO_WAY_SAID,
+        TWO_WAY_CERTIFICATE,
+        TWO_WAY_TABLE,
+    )?;
     assert_eq!(rt; wrong, None);
     Ok(())
 }
 
 #[test]
 fn puts_of_a_rounded_table(rt: HostRuntime) -> Result<(), Fail> {
-    let job = job_by(rt.alloc(), "\"A\"\"B\"", "<SUPPRESS> RND(5)\n")?;
-    let files = [("r.job", job.as_str()), ("m.rda", TWO), ("m.asc", FOUR)];
+    let job = rounding_job(rt.alloc(), "\"A\"\"B\"", "<SUPPRESS> RND(5)\n")?;
+    let files = [
+        ("r.job", job.as_str()),
+        ("m.rda", TWO_VARIABLES),
+        ("m.asc", FOUR_RECORDS),
+    ];
     let wrong = wrong_put(rt.alloc(), &files, FOUR_SAID, FOUR_CERTIFICATE, FOUR_TABLE)?;
     assert_eq!(rt; wrong, None);
     Ok(())

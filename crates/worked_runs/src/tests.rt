@@ -1,38 +1,24 @@
+use crate::jobs::{
+    ONE_TABLE, ONE_TABLE_RELEASED, ONE_VARIABLE, SEVEN_RECORDS, THIRTEEN_RECORDS, THREE_VARIABLES,
+    USAGE,
+};
+use crate::runs::{Pieces, WHOLE_FILES, job_with, run_alone, run_words, status_and_text};
 use apriori::PriorWhy;
 use hierarchy::TreeFault;
 use interval_audit::Question;
 use job_lang::{Command, JobWhy};
-use job_run::{DemoSummary, Fault, FileRef, Report, Stuck, Summary, report_text, run};
+use job_run::{DemoSummary, Fault, FileRef, Report, Stuck, Summary, run};
 use microdata::RowWhy;
-use office_io::{MemoryShelf, MemoryTray};
+use office_io::MemoryTray;
 use rda_meta::MetaWhy;
-use sdc_base::{Items, Memory, Side, Text};
-use std::alloc::Global;
+use sdc_base::{Items, Memory, Side};
 use std::rt::HostRuntime;
 use std::test::Fail;
 use worlds::Multipliers;
 
-// The job of one table, with the metadata and the microdata that it names.
-pub(crate) const JOB: &str =
-    "<OPENMICRODATA> \"m.asc\"\n<OPENMETADATA> \"m.rda\"\n<SPECIFYTABLE> \"A\"|\"V\"\n<SAFETYRULE> FREQ(3,30)\n<READMICRODATA>\n<SUPPRESS> MOD()\n<WRITETABLE> (1,\"t.csv\")\n<CERTIFICATE> \"t.cert\"\n";
-
-pub(crate) const METADATA: &str = "A 1 1\n<RECODEABLE>\nV 2 3\n<NUMERIC>\n";
-
-pub(crate) const SEVEN: &str = "a 10\na 20\na 30\nb 20\nb 20\nb 20\nb 30\n";
-
-// What is said of the seven records, and then the certificate and the table.
-pub(crate) const RELEASED: &str =
-    "0 released: 7 records, 0 skipped, 0 passed over, 3 cells, 0 primary, 0 hidden\nargus certificate 1\nmethod MOD\ncells 3\nrelations 1\nend\nA,V\nTotal,150\na,60\nb,90\n";
-
 // A job of two linked tables, with its metadata and records.
 const LINKED: &str =
     "<OPENMICRODATA> \"m.asc\"\n<OPENMETADATA> \"m.rda\"\n<SPECIFYTABLE> \"A\"\"B\"|\"V\"\n<SPECIFYTABLE> \"A\"\"C\"|\"V\"\n<SAFETYRULE> FREQ(1,30)\n<SUPPRESS> MOD()\n<WRITETABLE> (1,\"t.csv\")\n<WRITETABLE> (2,\"u.csv\")\n<CERTIFICATE> \"t.cert\"\n";
-
-pub(crate) const THREE: &str =
-    "A 1 2\n<RECODEABLE>\nB 3 2\n<RECODEABLE>\nC 5 2\n<RECODEABLE>\nV 7 3\n<NUMERIC>\n";
-
-pub(crate) const THIRTEEN: &str =
-    "a1b1c1 10\na1b1c2 10\na1b2c1 10\na1b2c1 10\na1b2c2 10\na1b2c2 20\na2b1c1  5\na2b1c1  5\na2b1c2 10\na2b1c2 10\na2b2c1 15\na2b2c2 10\na2b2c2 15\n";
 
 // The two tables of the thirteen records.
 const BY_B_AND_BY_C: &str =
@@ -45,90 +31,6 @@ const LISTED: &str =
 // A variable of two bytes, whose codes have two levels, and the response.
 const LEVELS: &str =
     "A 1 2\n<RECODEABLE>\n<HIERARCHICAL>\n<HIERLEVELS> 1 1\n<TOTCODE> T\nV 3 3\n<NUMERIC>\n";
-
-pub(crate) const USAGE: &str =
-    "1 usage: argus run JOB | check JOB | intervals JOB OUT | demo SEED RECORDS\n";
-
-// The files of a shelf that isn't sound: each of its calls from this one on counts.
-#[derive(Clone, Copy)]
-pub(crate) struct Pieces {
-    pub(crate) bytes: u32,
-    pub(crate) failing: u64,
-}
-
-pub(crate) const WHOLE: Pieces = Pieces {
-    bytes: 4096,
-    failing: 0,
-};
-
-fn text(alloc: Global, bytes: &str) -> Result<Text, Memory> {
-    Ok(Text::new(Vec::from_slice(alloc, bytes.as_bytes())?))
-}
-
-// A shelf of these files, that gives pieces of so many bytes and one of whose calls fails.
-fn shelf_of(alloc: Global, given: &[(&str, &str)], pieces: Pieces) -> Result<MemoryShelf, Memory> {
-    let mut files = Vec::new(alloc);
-    for (name, bytes) in given {
-        let bytes = Vec::from_slice(alloc, bytes.as_bytes())?;
-        files.push((text(alloc, name)?, bytes))?;
-    }
-    let failing = vec![in alloc; pieces.failing]?;
-    Ok(MemoryShelf::new(files, failing, pieces.bytes.max(1)))
-}
-
-// The status and the text of a report.
-fn said(alloc: Global, report: &Report) -> Result<String, Memory> {
-    let line = report_text(alloc, report)?;
-    let status = report.status();
-    let line = str::from_utf8(line.as_slice()).unwrap_or("no text");
-    Ok(format!(in alloc; "{status} {line}")?)
-}
-
-// The bytes that the tray holds for the certificate, the two tables and the intervals.
-fn held(alloc: Global, tray: &MemoryTray) -> Result<String, Memory> {
-    let mut held = String::new(alloc);
-    for name in ["t.cert", "t.csv", "u.csv", "out.csv"] {
-        let name = text(alloc, name)?;
-        let bytes = tray.file(&name).unwrap_or(b"");
-        held.push_str(str::from_utf8(bytes).unwrap_or("no text"))?;
-    }
-    Ok(held)
-}
-
-// What a run of these words says, and then what the tray holds.
-pub(crate) fn ran(
-    alloc: Global,
-    words: &[&str],
-    files: &[(&str, &str)],
-    pieces: Pieces,
-    tray: &mut MemoryTray,
-) -> Result<String, Memory> {
-    let mut given: Vec<Text> = Vec::new(alloc);
-    for word in words {
-        given.push(text(alloc, word)?)?;
-    }
-    let mut shelf = shelf_of(alloc, files, pieces)?;
-    let report = run(alloc, given.as_slice(), &mut shelf, tray);
-    let said = said(alloc, &report)?;
-    let held = held(alloc, tray)?;
-    Ok(format!(in alloc; "{said}{held}")?)
-}
-
-// What the job `r.job` says and leaves on an empty tray, one of whose puts fails.
-pub(crate) fn ran_alone(
-    alloc: Global,
-    files: &[(&str, &str)],
-    pieces: Pieces,
-    failing: u64,
-) -> Result<String, Memory> {
-    let mut tray = MemoryTray::new(alloc, vec![in alloc; failing]?);
-    ran(alloc, &["run", "r.job"], files, pieces, &mut tray)
-}
-
-// The job with a line changed.
-fn changed(alloc: Global, from: &str, to: &str) -> Result<String, Memory> {
-    Ok(JOB.replace(alloc, from, to)?)
-}
 
 // The text without so many of its last bytes.
 fn without_end(text: &str, bytes: usize) -> &str {
@@ -145,14 +47,14 @@ fn tables(rt: HostRuntime) -> Result<(), Fail> {
         "11Nr0001    10\n11Nr0002    20\n11Os0003    30\n12Nr0004     5\n12Os0005     5\n12Os0006     5\n21Nr0007    40\n21Nr0008     1\n21Os0009     1\n21Os0010999999\n";
     let rows = [
         (
-            METADATA,
+            ONE_VARIABLE,
             "",
             "0 records, 0 skipped, 0 passed over, 1 cells",
             "cells 1\nrelations 0",
             "Total,0\n",
         ),
         (
-            METADATA,
+            ONE_VARIABLE,
             "b 30\r\na 20\r\n\r\nb 60\r\na 40",
             "4 records, 0 skipped, 0 passed over, 3 cells",
             "cells 3\nrelations 1",
@@ -180,7 +82,7 @@ fn tables(rt: HostRuntime) -> Result<(), Fail> {
             "Total,117\n11,60\n12,15\n21,42\n",
         ),
     ];
-    let job = changed(rt.alloc(), "3,30", "1,30")?;
+    let job = job_with(rt.alloc(), "3,30", "1,30")?;
     for (metadata, microdata, numbers, cells, table) in rows {
         let files = [
             ("r.job", job.as_str()),
@@ -193,7 +95,7 @@ fn tables(rt: HostRuntime) -> Result<(), Fail> {
         )?;
         for bytes in [4096, 1] {
             let pieces = Pieces { bytes, failing: 0 };
-            let got = ran_alone(rt.alloc(), &files, pieces, 0)?;
+            let got = run_alone(rt.alloc(), &files, pieces, 0)?;
             assert_eq!(rt; got.as_str(), want.as_str());
         }
     }
@@ -205,8 +107,8 @@ fn tables(rt: HostRuntime) -> Result<(), Fail> {
 #[test]
 fn linked_tables(rt: HostRuntime) -> Result<(), Fail> {
     let alloc = rt.alloc();
-    let one = changed(alloc, "3,30", "1,30")?;
-    let weighed = changed(alloc, "FREQ(3,30)", "FREQ(1,30)|WGT(1)")?;
+    let one = job_with(alloc, "3,30", "1,30")?;
+    let weighed = job_with(alloc, "FREQ(3,30)", "FREQ(1,30)|WGT(1)")?;
     let survey =
         "A 1 2 99\n   <RECODEABLE>\n   <HIERARCHICAL>\n   <HIERLEVELS> 1 1 0 0 0\nReg 3 2\n   <RECODEABLE>\n   <TOTCODE> All\nReq 5 1\n   <REQUEST> \"1\" \"2\"\nHold 6 3\n   <HOLDING>\nV 9 6 999999 888888\n   <NUMERIC>\n   <DECIMALS> 0\n";
     let firms =
@@ -216,15 +118,15 @@ fn linked_tables(rt: HostRuntime) -> Result<(), Fail> {
     let rows = [
         (
             LINKED,
-            THREE,
-            THIRTEEN,
+            THREE_VARIABLES,
+            THIRTEEN_RECORDS,
             "13 records, 0 skipped, 0 passed over, 15",
             11,
             BY_B_AND_BY_C,
         ),
         (
             LINKED,
-            THREE,
+            THREE_VARIABLES,
             turned,
             "13 records, 0 skipped, 0 passed over, 15",
             11,
@@ -232,7 +134,7 @@ fn linked_tables(rt: HostRuntime) -> Result<(), Fail> {
         ),
         (
             LINKED,
-            THREE,
+            THREE_VARIABLES,
             "",
             "0 records, 0 skipped, 0 passed over, 1",
             0,
@@ -285,7 +187,7 @@ fn linked_tables(rt: HostRuntime) -> Result<(), Fail> {
         )?;
         for bytes in [4096, 1] {
             let pieces = Pieces { bytes, failing: 0 };
-            let got = ran_alone(alloc, &files, pieces, 0)?;
+            let got = run_alone(alloc, &files, pieces, 0)?;
             assert_eq!(rt; got.as_str(), want.as_str());
         }
     }
@@ -296,16 +198,21 @@ fn linked_tables(rt: HostRuntime) -> Result<(), Fail> {
 #[test]
 fn jobs(rt: HostRuntime) -> Result<(), Fail> {
     let alloc = rt.alloc();
-    let hypercube = changed(alloc, "MOD()", "GH(1)")?;
-    let weighed = changed(alloc, "FREQ(3,30)", "FREQ(1,30)|WGT(1)")?;
+    let hypercube = job_with(alloc, "MOD()", "GH(1)")?;
+    let weighed = job_with(alloc, "FREQ(3,30)", "FREQ(1,30)|WGT(1)")?;
     let weights = "A 1 1\nV 2 15\n<NUMERIC>\nW 17 8\n<NUMERIC>\n<WEIGHT>\n";
     let rows = [
-        (JOB, METADATA, SEVEN, RELEASED),
-        (JOB, METADATA, without_end(SEVEN, 1), RELEASED),
+        (ONE_TABLE, ONE_VARIABLE, SEVEN_RECORDS, ONE_TABLE_RELEASED),
+        (
+            ONE_TABLE,
+            ONE_VARIABLE,
+            without_end(SEVEN_RECORDS, 1),
+            ONE_TABLE_RELEASED,
+        ),
         (
             &hypercube,
-            METADATA,
-            SEVEN,
+            ONE_VARIABLE,
+            SEVEN_RECORDS,
             "0 released: 7 records, 0 skipped, 0 passed over, 3 cells, 0 primary, 0 hidden\nargus certificate 1\nmethod GH 1\ncells 3\nrelations 1\nend\nA,V\nTotal,150\na,60\nb,90\n",
         ),
         (
@@ -317,7 +224,7 @@ fn jobs(rt: HostRuntime) -> Result<(), Fail> {
     ];
     for (job, metadata, microdata, want) in rows {
         let files = [("r.job", job), ("m.rda", metadata), ("m.asc", microdata)];
-        let got = ran_alone(alloc, &files, WHOLE, 0)?;
+        let got = run_alone(alloc, &files, WHOLE_FILES, 0)?;
         assert_eq!(rt; got.as_str(), want);
     }
     Ok(())
@@ -336,7 +243,13 @@ fn refusals(rt: HostRuntime) -> Result<(), Fail> {
     let (plain, method) = ("FREQ(3,30)", "MOD()");
     let rows = [
         ("FREQ(3,30", method, "", "", "job line 4: BadValue"),
-        (plain, "", METADATA, SEVEN, "job line 6: BadValue"),
+        (
+            plain,
+            "",
+            ONE_VARIABLE,
+            SEVEN_RECORDS,
+            "job line 6: BadValue",
+        ),
         (
             "P(1)\n<WRONG>",
             method,
@@ -352,7 +265,13 @@ fn refusals(rt: HostRuntime) -> Result<(), Fail> {
             "a",
             "job line 3: NotNumeric",
         ),
-        ("P(1)|WGT(1)", method, METADATA, "a", "job line 4: NoWeight"),
+        (
+            "P(1)|WGT(1)",
+            method,
+            ONE_VARIABLE,
+            "a",
+            "job line 4: NoWeight",
+        ),
         (
             plain,
             method,
@@ -363,28 +282,34 @@ fn refusals(rt: HostRuntime) -> Result<(), Fail> {
         (plain, method, no_list, "a", "codelist 1: Absent"),
         (plain, method, no_tree, "a", "hierarchy 1: Absent"),
         (plain, method, jump, "a", "hierarchy 1 line 2: Jump"),
-        (plain, method, METADATA, "a 10\na 2\n", "record 2: Short"),
         (
             plain,
             method,
-            METADATA,
-            without_end(SEVEN, 2),
+            ONE_VARIABLE,
+            "a 10\na 2\n",
+            "record 2: Short",
+        ),
+        (
+            plain,
+            method,
+            ONE_VARIABLE,
+            without_end(SEVEN_RECORDS, 2),
             "record 7: Short",
         ),
         (
             plain,
             method,
-            METADATA,
+            ONE_VARIABLE,
             "a 10\na -2\n",
             "record 2: Negative",
         ),
         (plain, method, LEVELS, "A   1\nA1  1\n", "record 1: NotLeaf"),
         (plain, method, LISTED, "Nr   1\n", "record 1: NotLeaf"),
         (plain, method, LISTED, "4    1\n", "record 1: UnknownCode"),
-        (plain, "RND(5)", METADATA, "a\n", "record 1: Short"),
+        (plain, "RND(5)", ONE_VARIABLE, "a\n", "record 1: Short"),
     ];
     for (rules, method, metadata, microdata, want) in rows {
-        let job = changed(rt.alloc(), plain, rules)?;
+        let job = job_with(rt.alloc(), plain, rules)?;
         let job = job.replace(rt.alloc(), "MOD()", method)?;
         let files = [
             ("r.job", job.as_str()),
@@ -397,7 +322,7 @@ fn refusals(rt: HostRuntime) -> Result<(), Fail> {
         let want = format!(in rt.alloc(); "2 refused: {want}\n")?;
         for bytes in [4096, 1] {
             let pieces = Pieces { bytes, failing: 0 };
-            let got = ran_alone(rt.alloc(), &files, pieces, 0)?;
+            let got = run_alone(rt.alloc(), &files, pieces, 0)?;
             assert_eq!(rt; got.as_str(), want.as_str());
         }
     }
@@ -409,32 +334,42 @@ fn refusals(rt: HostRuntime) -> Result<(), Fail> {
 #[test]
 fn refusals_of_other_jobs(rt: HostRuntime) -> Result<(), Fail> {
     let alloc = rt.alloc();
-    let lacking = changed(alloc, "<CERTIFICATE> \"t.cert\"\n", "")?;
-    let prior = changed(
+    let lacking = job_with(alloc, "<CERTIFICATE> \"t.cert\"\n", "")?;
+    let prior = job_with(
         alloc,
         "<SUPPRESS>",
         "<APRIORI> \"p.hst\",1,\",\"\n<SUPPRESS>",
     )?;
     let strict = LINKED.replace(alloc, "1,30", "3,30")?;
-    let short = THIRTEEN.replace(alloc, "b2c2 15", "b2c2 1")?;
-    let first = THREE.replace(alloc, "B 3 2", "B 3 2\n<CODELIST> \"none\"")?;
+    let short = THIRTEEN_RECORDS.replace(alloc, "b2c2 15", "b2c2 1")?;
+    let first = THREE_VARIABLES.replace(alloc, "B 3 2", "B 3 2\n<CODELIST> \"none\"")?;
     let second = first.replace(
         alloc,
         "A 1 2",
         "A 1 2\n<HIERARCHICAL>\n<HIERCODELIST> \"none\"",
     )?;
-    let own = changed(alloc, "t.cert", "r.job")?;
+    let own = job_with(alloc, "t.cert", "r.job")?;
     let rounded = own.replace(alloc, "MOD()", "RND(5)")?;
-    let output = changed(alloc, "t.csv", "r.job")?;
+    let output = job_with(alloc, "t.csv", "r.job")?;
     let rows = [
-        (&lacking, METADATA, "", "job line 0: Missing CERTIFICATE"),
-        (&own, METADATA, SEVEN, "out: OutName"),
-        (&own, METADATA, "a\n", "record 1: Short"),
-        (&rounded, METADATA, SEVEN, "out: OutName"),
-        (&output, METADATA, SEVEN, "out: OutName"),
-        (&prior, METADATA, "a\n", "record 1: Short"),
-        (&prior, METADATA, SEVEN, "apriori table 1: Absent"),
-        (&strict, THREE, &short, "record 13: Short"),
+        (
+            &lacking,
+            ONE_VARIABLE,
+            "",
+            "job line 0: Missing CERTIFICATE",
+        ),
+        (&own, ONE_VARIABLE, SEVEN_RECORDS, "out: OutName"),
+        (&own, ONE_VARIABLE, "a\n", "record 1: Short"),
+        (&rounded, ONE_VARIABLE, SEVEN_RECORDS, "out: OutName"),
+        (&output, ONE_VARIABLE, SEVEN_RECORDS, "out: OutName"),
+        (&prior, ONE_VARIABLE, "a\n", "record 1: Short"),
+        (
+            &prior,
+            ONE_VARIABLE,
+            SEVEN_RECORDS,
+            "apriori table 1: Absent",
+        ),
+        (&strict, THREE_VARIABLES, &short, "record 13: Short"),
         (&strict, &first, "a", "codelist 2: Absent"),
         (&strict, &second, "a", "hierarchy 1: Absent"),
     ];
@@ -447,7 +382,7 @@ fn refusals_of_other_jobs(rt: HostRuntime) -> Result<(), Fail> {
         let want = format!(in alloc; "2 refused: {want}\n")?;
         for bytes in [4096, 1] {
             let pieces = Pieces { bytes, failing: 0 };
-            let got = ran_alone(alloc, &files, pieces, 0)?;
+            let got = run_alone(alloc, &files, pieces, 0)?;
             assert_eq!(rt; got.as_str(), want.as_str());
         }
     }
@@ -506,13 +441,13 @@ fn statements(rt: HostRuntime) -> Result<(), Fail> {
         let want = format!(in alloc; "{want}")?;
         let files = [
             ("r.job", job.as_str()),
-            ("m.rda", THREE),
-            ("m.asc", THIRTEEN),
+            ("m.rda", THREE_VARIABLES),
+            ("m.asc", THIRTEEN_RECORDS),
             ("p.hst", statements.as_str()),
         ];
         for bytes in [4096, 1] {
             let pieces = Pieces { bytes, failing: 0 };
-            let got = ran_alone(alloc, &files, pieces, 0)?;
+            let got = run_alone(alloc, &files, pieces, 0)?;
             assert_eq!(rt; got.as_str(), want.as_str());
         }
     }
@@ -547,12 +482,12 @@ fn statements_of_two_tables(rt: HostRuntime) -> Result<(), Fail> {
     for (first, second, want) in rows {
         let files = [
             ("r.job", job.as_str()),
-            ("m.rda", THREE),
-            ("m.asc", THIRTEEN),
+            ("m.rda", THREE_VARIABLES),
+            ("m.asc", THIRTEEN_RECORDS),
             ("p.hst", first),
             ("q.hst", second),
         ];
-        let got = ran_alone(alloc, &files, WHOLE, 0)?;
+        let got = run_alone(alloc, &files, WHOLE_FILES, 0)?;
         assert_eq!(rt; got.as_str(), want);
     }
     Ok(())
@@ -563,7 +498,7 @@ fn statements_of_two_tables(rt: HostRuntime) -> Result<(), Fail> {
 #[test]
 fn each_file_in_turn(rt: HostRuntime) -> Result<(), Fail> {
     let alloc = rt.alloc();
-    let job = changed(
+    let job = job_with(
         alloc,
         "<SUPPRESS>",
         "<APRIORI> \"p.hst\",1,\",\"\n<SUPPRESS>",
@@ -586,7 +521,7 @@ fn each_file_in_turn(rt: HostRuntime) -> Result<(), Fail> {
     ];
     for (k, name) in names.iter().enumerate() {
         let want = format!(in alloc; "2 refused: {name}: Absent\n")?;
-        let got = ran_alone(alloc, &files[..k.min(6)], WHOLE, 0)?;
+        let got = run_alone(alloc, &files[..k.min(6)], WHOLE_FILES, 0)?;
         assert_eq!(rt; got.as_str(), want.as_str());
     }
     for bytes in [1u32, 1000, 4096] {
@@ -597,7 +532,7 @@ fn each_file_in_turn(rt: HostRuntime) -> Result<(), Fail> {
             let first = before.saturating_add(1);
             let last = first.saturating_add(pieces).saturating_add(1);
             for failing in [first, first.saturating_add(1), last] {
-                let got = ran_alone(alloc, &files, Pieces { bytes, failing }, 0)?;
+                let got = run_alone(alloc, &files, Pieces { bytes, failing }, 0)?;
                 assert_eq!(rt; got.as_str(), want.as_str());
             }
             before = last;
@@ -609,7 +544,11 @@ fn each_file_in_turn(rt: HostRuntime) -> Result<(), Fail> {
 // By the put that fails: the files before it are whole, half of its own is there.
 #[test]
 fn each_put_fails_in_turn(rt: HostRuntime) -> Result<(), Fail> {
-    let files = [("r.job", JOB), ("m.rda", METADATA), ("m.asc", SEVEN)];
+    let files = [
+        ("r.job", ONE_TABLE),
+        ("m.rda", ONE_VARIABLE),
+        ("m.asc", SEVEN_RECORDS),
+    ];
     let rows = [
         (
             1,
@@ -619,10 +558,10 @@ fn each_put_fails_in_turn(rt: HostRuntime) -> Result<(), Fail> {
             2,
             "6 write fault: table 1\nargus certificate 1\nmethod MOD\ncells 3\nrelations 1\nend\nA,V\nTotal,15",
         ),
-        (3, RELEASED),
+        (3, ONE_TABLE_RELEASED),
     ];
     for (failing, want) in rows {
-        let got = ran_alone(rt.alloc(), &files, WHOLE, failing)?;
+        let got = run_alone(rt.alloc(), &files, WHOLE_FILES, failing)?;
         assert_eq!(rt; got.as_str(), want);
     }
     Ok(())
@@ -638,18 +577,28 @@ fn a_tray_with_a_release(rt: HostRuntime) -> Result<(), Fail> {
             "0 released: 0 records, 0 skipped, 0 passed over, 1 cells, 0 primary, 0 hidden\nargus certificate 1\nmethod MOD\ncells 1\nrelations 0\nend\nA,V\nTotal,0\n",
         ),
         (
-            SEVEN,
+            SEVEN_RECORDS,
             "6 write fault: certificate\nargus certificate 1\nmethod A,V\nTotal,0\n",
         ),
         (
             "a",
             "2 refused: record 1: Short\nargus certificate 1\nmethod A,V\nTotal,0\n",
         ),
-        (SEVEN, RELEASED),
+        (SEVEN_RECORDS, ONE_TABLE_RELEASED),
     ];
     for (microdata, want) in rows {
-        let files = [("r.job", JOB), ("m.rda", METADATA), ("m.asc", microdata)];
-        let got = ran(rt.alloc(), &["run", "r.job"], &files, WHOLE, &mut tray)?;
+        let files = [
+            ("r.job", ONE_TABLE),
+            ("m.rda", ONE_VARIABLE),
+            ("m.asc", microdata),
+        ];
+        let got = run_words(
+            rt.alloc(),
+            &["run", "r.job"],
+            &files,
+            WHOLE_FILES,
+            &mut tray,
+        )?;
         assert_eq!(rt; got.as_str(), want);
     }
     Ok(())
@@ -657,7 +606,11 @@ fn a_tray_with_a_release(rt: HostRuntime) -> Result<(), Fail> {
 
 #[test]
 fn words(rt: HostRuntime) -> Result<(), Fail> {
-    let files = [("r.job", JOB), ("m.rda", METADATA), ("m.asc", SEVEN)];
+    let files = [
+        ("r.job", ONE_TABLE),
+        ("m.rda", ONE_VARIABLE),
+        ("m.asc", SEVEN_RECORDS),
+    ];
     let rows: [(&[&str], &str); 11] = [
         (&[], USAGE),
         (&["run"], USAGE),
@@ -669,11 +622,11 @@ fn words(rt: HostRuntime) -> Result<(), Fail> {
         (&["check", "r.job", "t.csv"], USAGE),
         (&["intervals", "r.job"], USAGE),
         (&["run", "r"], "2 refused: job: Absent\n"),
-        (&["run", "r.job"], RELEASED),
+        (&["run", "r.job"], ONE_TABLE_RELEASED),
     ];
     for (words, want) in rows {
         let mut tray = MemoryTray::new(rt.alloc(), Vec::new(rt.alloc()));
-        let got = ran(rt.alloc(), words, &files, WHOLE, &mut tray)?;
+        let got = run_words(rt.alloc(), words, &files, WHOLE_FILES, &mut tray)?;
         assert_eq!(rt; got.as_str(), want);
     }
     Ok(())
@@ -805,7 +758,7 @@ fn reports(rt: HostRuntime) -> Result<(), Fail> {
         (Report::Memory, "7 memory\n"),
     ];
     for (report, want) in rows {
-        let got = said(rt.alloc(), &report)?;
+        let got = status_and_text(rt.alloc(), &report)?;
         assert_eq!(rt; got.as_str(), want);
     }
     Ok(())

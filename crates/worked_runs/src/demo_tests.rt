@@ -1,4 +1,5 @@
-use crate::tests::{USAGE, WHOLE, ran};
+use crate::jobs::USAGE;
+use crate::runs::{WHOLE_FILES, run_words};
 use office_io::MemoryTray;
 use std::rt::HostRuntime;
 use std::test::Fail;
@@ -24,7 +25,13 @@ fn demonstrations(rt: HostRuntime) -> Result<(), Fail> {
     ];
     for (seed, records, want) in rows {
         let mut tray = MemoryTray::new(rt.alloc(), Vec::new(rt.alloc()));
-        let got = ran(rt.alloc(), &["demo", seed, records], &[], WHOLE, &mut tray)?;
+        let got = run_words(
+            rt.alloc(),
+            &["demo", seed, records],
+            &[],
+            WHOLE_FILES,
+            &mut tray,
+        )?;
         assert_eq!(rt; got.as_str(), want);
     }
     Ok(())
@@ -36,7 +43,13 @@ fn same_again(rt: HostRuntime) -> Result<(), Fail> {
     let want = "0 demo: status 0, 2000 records, 0 skipped, 464 cells, 39 primary, 83 hidden\n";
     for _ in 0..2 {
         let mut tray = MemoryTray::new(rt.alloc(), Vec::new(rt.alloc()));
-        let got = ran(rt.alloc(), &["demo", "1", "2000"], &[], WHOLE, &mut tray)?;
+        let got = run_words(
+            rt.alloc(),
+            &["demo", "1", "2000"],
+            &[],
+            WHOLE_FILES,
+            &mut tray,
+        )?;
         assert_eq!(rt; got.as_str(), want);
     }
     Ok(())

@@ -1,0 +1,107 @@
+use crate::jobs::ONE_TABLE;
+use job_run::{Report, report_text, run};
+use office_io::{MemoryShelf, MemoryTray};
+use sdc_base::{Memory, Text};
+use std::alloc::Global;
+
+/// How a shelf gives its files: in pieces of so many bytes, and which of its calls fails.
+///
+/// Calls count from 1; where it is 0, none fails.
+#[derive(Clone, Copy)]
+pub struct Pieces {
+    pub bytes: u32,
+    pub failing: u64,
+}
+
+/// Files in pieces of 4,096 bytes, on a shelf none of whose calls fails.
+pub const WHOLE_FILES: Pieces = Pieces {
+    bytes: 4096,
+    failing: 0,
+};
+
+const FILES: &str = "<OPENMICRODATA> \"m.asc\"\n<OPENMETADATA> \"m.rda\"\n<SPECIFYTABLE> ";
+
+// What stands behind the table's variables in a job: its rules, and then its method.
+const BEHIND: &str =
+    "|\"V\"\n<SAFETYRULE> FREQ(3,30)\n<WRITETABLE> (1,\"t.csv\")\n<CERTIFICATE> \"t.cert\"\n";
+
+/// A text of these bytes.
+pub fn text_of(alloc: Global, bytes: &str) -> Result<Text, Memory> {
+    Ok(Text::new(Vec::from_slice(alloc, bytes.as_bytes())?))
+}
+
+// A shelf of these files, that gives pieces of so many bytes and one of whose calls fails.
+fn shelf_of(alloc: Global, given: &[(&str, &str)], pieces: Pieces) -> Result<MemoryShelf, Memory> {
+    let mut files = Vec::new(alloc);
+    for (name, bytes) in given {
+        let bytes = Vec::from_slice(alloc, bytes.as_bytes())?;
+        files.push((text_of(alloc, name)?, bytes))?;
+    }
+    let failing = vec![in alloc; pieces.failing]?;
+    Ok(MemoryShelf::new(files, failing, pieces.bytes.max(1)))
+}
+
+/// The status and the text of a report.
+pub fn status_and_text(alloc: Global, report: &Report) -> Result<String, Memory> {
+    let line = report_text(alloc, report)?;
+    let status = report.status();
+    let line = str::from_utf8(line.as_slice()).unwrap_or("no text");
+    Ok(format!(in alloc; "{status} {line}")?)
+}
+
+/// The bytes that the tray holds for the certificate, the two tables and the intervals.
+pub fn bytes_on(alloc: Global, tray: &MemoryTray) -> Result<String, Memory> {
+    let mut held = String::new(alloc);
+    for name in ["t.cert", "t.csv", "u.csv", "out.csv"] {
+        let name = text_of(alloc, name)?;
+        let bytes = tray.file(&name).unwrap_or(b"");
+        held.push_str(str::from_utf8(bytes).unwrap_or("no text"))?;
+    }
+    Ok(held)
+}
+
+/// What a run of these words says, and then what the tray holds.
+pub fn run_words(
+    alloc: Global,
+    words: &[&str],
+    files: &[(&str, &str)],
+    pieces: Pieces,
+    tray: &mut MemoryTray,
+) -> Result<String, Memory> {
+    let mut given: Vec<Text> = Vec::new(alloc);
+    for word in words {
+        given.push(text_of(alloc, word)?)?;
+    }
+    let mut shelf = shelf_of(alloc, files, pieces)?;
+    let report = run(alloc, given.as_slice(), &mut shelf, tray);
+    let said = status_and_text(alloc, &report)?;
+    let held = bytes_on(alloc, tray)?;
+    Ok(format!(in alloc; "{said}{held}")?)
+}
+
+/// What the job `r.job` says and leaves on an empty tray, one of whose puts fails.
+pub fn run_alone(
+    alloc: Global,
+    files: &[(&str, &str)],
+    pieces: Pieces,
+    failing: u64,
+) -> Result<String, Memory> {
+    let mut tray = MemoryTray::new(alloc, vec![in alloc; failing]?);
+    run_words(alloc, &["run", "r.job"], files, pieces, &mut tray)
+}
+
+/// What these words say of files on a shelf, and then what is put on an empty tray.
+pub fn run_over(alloc: Global, words: &[&str], files: &[(&str, &str)]) -> Result<String, Memory> {
+    let mut tray = MemoryTray::new(alloc, Vec::new(alloc));
+    run_words(alloc, words, files, WHOLE_FILES, &mut tray)
+}
+
+/// A job that has one table by these variables, and these lines of its method.
+pub fn rounding_job(alloc: Global, variables: &str, method: &str) -> Result<String, Memory> {
+    Ok(format!(in alloc; "{FILES}{variables}{BEHIND}{method}")?)
+}
+
+/// The job of one table with one text in place of another.
+pub fn job_with(alloc: Global, from: &str, to: &str) -> Result<String, Memory> {
+    Ok(ONE_TABLE.replace(alloc, from, to)?)
+}
