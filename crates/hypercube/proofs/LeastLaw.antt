@@ -2,7 +2,8 @@
 use Rattle.std.proofs.Common.{◌≡◌, ◌⊎◌, inl, inr, ℕ, suc, Bool, true, false, cond, if◌then◌else◌, List, [], ◌∷◌, fold, Option, None, Some, option_map, refl, ap, sym, subst, arith}
 use Rattle.std.specs.List.{AllByRecursion, Contains}
 use Rattle.std.specs.Option.{ForSome, MatchOption}
-use Rattle.sdc_base.specs.Cubes.{Offer, better, comes_before, corners_of, first_by, offer_of, offers, serve}
+use Rattle.sdc_base.specs.Cubes.{corners_of, serve}
+use Rattle.sdc_base.specs.CubeOrder.{Offer, better, comes_before, first_by, offer_of, offers}
 use Rattle.sdc_base.specs.declared.cell.Cell.{Cell}
 use Rattle.sdc_base.specs.declared.cube.Edge.{Edge}
 use Rattle.sdc_base.specs.declared.facts.Levels.{Levels}

@@ -3,7 +3,8 @@ use Rattle.std.proofs.Common.{◌≡◌, inr, ℕ, zero, suc, ◌+◌, ◌<◌, 
 use Rattle.std.specs.List.{AllByRecursion, list_all, flat_map}
 use Rattle.std.specs.List.Sorted.{IsNonDecreasingBy}
 use Rattle.std.proofs.lemmas.List.{map-append, drop_more, take_more, length-drop}
-use Rattle.sdc_base.specs.Cubes.{Offer, choices}
+use Rattle.sdc_base.specs.Cubes.{choices}
+use Rattle.sdc_base.specs.CubeOrder.{Offer}
 use Rattle.sdc_base.specs.declared.cube.Edge.{Edge}
 use Rattle.hypercube.specs.Branches.{Setting, begin_at, costs_more, price_of, shared_corners}
 use Rattle.hypercube.specs.Ranks.{BeginAt, price_over}

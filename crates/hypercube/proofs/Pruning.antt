@@ -4,7 +4,8 @@ use Rattle.std.specs.List.{AllByRecursion, list_all}
 use Rattle.std.proofs.Math.Path.{fun_ext}
 use Rattle.std.proofs.lemmas.Bool.Decides.{nat_tests}
 use Rattle.std.proofs.lemmas.List.{append-nil, drop_all}
-use Rattle.sdc_base.specs.Cubes.{Offer, better, choices, comes_before, corners_of, is_lower, offer_of, serve}
+use Rattle.sdc_base.specs.Cubes.{choices, corners_of, serve}
+use Rattle.sdc_base.specs.CubeOrder.{Offer, better, comes_before, is_lower, offer_of}
 use Rattle.sdc_base.specs.declared.cube.Corner.{Corner}
 use Rattle.sdc_base.specs.declared.cube.Edge.{Edge}
 use Rattle.hypercube.specs.Branches.{Setting, begin_at, best_beyond, cell_in, number_with_codes, costs_more, offers_of, price_of, shared_corners}

@@ -6,7 +6,8 @@ use Rattle.std.proofs.lemmas.List.{map-append, length-map}
 use Rattle.std.proofs.lemmas.List.Sorted.{Contains-permutation, IsPermutation-map, IsPermutation-sym}
 use Rattle.sdc_base.specs.Trees.{Tree}
 use Rattle.sdc_base.specs.Records.{Name}
-use Rattle.sdc_base.specs.Cubes.{choices, comes_before, cubes_at, edges_at, first_by, serve}
+use Rattle.sdc_base.specs.Cubes.{choices, cubes_at, edges_at, serve}
+use Rattle.sdc_base.specs.CubeOrder.{comes_before, first_by}
 use Rattle.sdc_base.specs.declared.cube.Edge.{Edge}
 use Rattle.hypercube.specs.declared.ranking.Priced.{Priced}
 use Rattle.linked_tables.specs.BookCells.{IsBook}

@@ -1,7 +1,8 @@
 -- The first of the offers of cubes stays where their order changes, and where cubes that don't serve are left out.
 use Rattle.std.proofs.Common.{◌≡◌, ◌⊎◌, inl, inr, ℕ, Bool, true, false, List, [], ◌∷◌, Option, None, Some, refl, ap, sym, ◌∙◌, subst}
 use Rattle.std.specs.List.{AllByRecursion, Contains}
-use Rattle.sdc_base.specs.Cubes.{Offer, comes_before, corners_of, first_by, offer_of, offers, serve}
+use Rattle.sdc_base.specs.Cubes.{corners_of, serve}
+use Rattle.sdc_base.specs.CubeOrder.{Offer, comes_before, first_by, offer_of, offers}
 use Rattle.sdc_base.specs.declared.cell.Cell.{Cell}
 use Rattle.sdc_base.specs.declared.cube.Edge.{Edge}
 use Rattle.sdc_base.specs.declared.facts.Levels.{Levels}

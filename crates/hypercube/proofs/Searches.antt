@@ -4,7 +4,8 @@ use Rattle.std.specs.List.{flat_map}
 use Rattle.std.proofs.lemmas.List.{map-append, drop_more}
 use Rattle.std.proofs.lemmas.List.Elements.{filter-append}
 use Rattle.std.proofs.lemmas.List.Sums.{fold-append}
-use Rattle.sdc_base.specs.Cubes.{Offer, better, choices, comes_before, first_by, offer_of, serve}
+use Rattle.sdc_base.specs.Cubes.{choices, serve}
+use Rattle.sdc_base.specs.CubeOrder.{Offer, better, comes_before, first_by, offer_of}
 use Rattle.sdc_base.specs.declared.cube.Edge.{Edge}
 use Rattle.hypercube.specs.Branches.{Setting, best_beyond, cell_in, offers_of}
 use Rattle.hypercube.specs.LeastCubes.{is_marked, price_in}

@@ -5,7 +5,8 @@ use Rattle.std.specs.Option.{option_and_then}
 use Rattle.std.proofs.lemmas.Bool.Decides.{Decides-eqb}
 use Rattle.sdc_base.specs.Trees.{Tree}
 use Rattle.sdc_base.specs.Records.{Name}
-use Rattle.sdc_base.specs.Cubes.{choices, codes_in, comes_before, corner_at, corner_places, corners_of, cubes_at, edge_to, edges_at, edges_from, edges_to, is_lower, offer_of, other_end, own_end, price_of_hiding, sign_over, with_corner}
+use Rattle.sdc_base.specs.Cubes.{choices, codes_in, corner_at, corner_places, corners_of, cubes_at, edge_to, edges_at, edges_from, edges_to, other_end, own_end, sign_over, with_corner}
+use Rattle.sdc_base.specs.CubeOrder.{comes_before, is_lower, offer_of, price_of_hiding}
 use Rattle.sdc_base.specs.declared.cube.Corner.{Corner}
 use Rattle.sdc_base.specs.declared.cube.Edge.{Edge}
 use Rattle.linked_tables.specs.BookViews.{BookView}

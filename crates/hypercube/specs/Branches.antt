@@ -3,7 +3,8 @@ use Rattle.std.specs.Prelude.{◌≡◌, ℕ, ◌≤◌, ◌==◌, ◌&&◌, nat
 use Rattle.std.specs.List.{filter_map, list_all}
 use Rattle.std.specs.Option.{option_map_or}
 use Rattle.sdc_base.specs.Records.{Name}
-use Rattle.sdc_base.specs.Cubes.{Offer, better, choices, comes_before, corner_at, corner_places, corners_of, offers, price_of_hiding}
+use Rattle.sdc_base.specs.Cubes.{choices, corner_at, corner_places, corners_of}
+use Rattle.sdc_base.specs.CubeOrder.{Offer, better, comes_before, offers, price_of_hiding}
 use Rattle.sdc_base.specs.declared.cell.Cell.{Cell}
 use Rattle.sdc_base.specs.declared.cube.Corner.{Corner}
 use Rattle.sdc_base.specs.declared.cube.Edge.{Edge}

@@ -1,5 +1,5 @@
 ghost use Rattle.std.specs.Prelude.{◌≡◌, ◌∷◌, [], Some};
-ghost use Rattle.sdc_base.specs.Cubes as spec;
+ghost use Rattle.sdc_base.specs.CubeOrder as spec;
 ghost use Rattle.hypercube.specs.Branches as branches;
 
 use sdc_base::{Corner, Items};

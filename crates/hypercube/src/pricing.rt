@@ -1,5 +1,5 @@
 ghost use Rattle.std.specs.Prelude.{◌≡◌, if◌then◌else◌, All};
-ghost use Rattle.sdc_base.specs.Cubes as spec;
+ghost use Rattle.sdc_base.specs.CubeOrder as spec;
 ghost use Rattle.cost_rule.specs.Costs.{AreCosted};
 ghost use Rattle.hypercube.specs.LeastCubes.{is_marked, price_in};
 

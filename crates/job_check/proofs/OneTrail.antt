@@ -3,7 +3,7 @@ use Rattle.std.proofs.Common.{◌≡◌, ℕ, zero, suc, List, [], ◌∷◌, le
 use Rattle.std.proofs.Math.Path.{fun_ext}
 use Rattle.std.specs.List.{range_with_len}
 use Rattle.std.specs.Option.{option_map_or}
-use Rattle.sdc_base.specs.Cubes.{least_of}
+use Rattle.sdc_base.specs.CubeOrder.{least_of}
 use Rattle.sdc_base.specs.Records.{Name}
 use Rattle.sdc_base.specs.Relations.{relations_among}
 use Rattle.sdc_base.specs.Subtables.{ordered_subtables}

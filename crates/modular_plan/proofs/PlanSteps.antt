@@ -7,7 +7,8 @@ use Rattle.std.proofs.lemmas.List.{append-nil}
 use Rattle.std.proofs.lemmas.List.Elements.{All-cons}
 use Rattle.std.proofs.lemmas.List.Folds.{list_any-append}
 use Rattle.std.proofs.lemmas.Option.{slice_get_within}
-use Rattle.sdc_base.specs.Cubes.{bears, least_of, serve}
+use Rattle.sdc_base.specs.Cubes.{bears, serve}
+use Rattle.sdc_base.specs.CubeOrder.{least_of}
 use Rattle.sdc_base.specs.Kinds.{is_primary_at}
 use Rattle.sdc_base.specs.Trails.{hidden_after, is_corner, levels_at, step_of, with_step}
 use Rattle.sdc_base.specs.declared.cell.Cell.{Cell}

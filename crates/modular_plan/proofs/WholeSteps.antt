@@ -10,7 +10,8 @@ use Rattle.sdc_base.specs.Trees.{Tree, children, is_child, parent_at}
 use Rattle.sdc_base.specs.Records.{Name}
 use Rattle.sdc_base.specs.Cells.{trees_of}
 use Rattle.sdc_base.specs.Kinds.{is_fixed}
-use Rattle.sdc_base.specs.Cubes.{bears, choices, corners_of, cubes_at, least_of, serve}
+use Rattle.sdc_base.specs.Cubes.{bears, choices, corners_of, cubes_at, serve}
+use Rattle.sdc_base.specs.CubeOrder.{least_of}
 use Rattle.sdc_base.specs.Subtables.{by_depths, depth_of, inner_among, inner_codes, is_code_in, is_place_below, most_depth, of_depth, ordered_subtables, subtable_at, subtables_from, subtables_in}
 use Rattle.sdc_base.specs.Trails.{hidden_after, levels_at, step_of, with_step}
 use Rattle.sdc_base.specs.declared.cell.Cell.{Cell}

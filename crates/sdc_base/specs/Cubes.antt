@@ -1,6 +1,6 @@
--- Cubes of a cell in a subtable: edges, corners with their signs, levels that they serve, and the least of them (handbook, hypercube method; signs, levels and order own).
-use Rattle.std.specs.Prelude.{ℕ, ◌==◌, ◌&&◌, ◌||◌, nat_lt, Bool, true, false, not, if◌then◌else◌, List, [], ◌∷◌, ◌++◌, map, filter, flat_map, fold, slice_get, slice_index, slice_index_or, Option, None, Some, option_map, ℤ, neg_ℤ, ◌+ℤ◌, int_le}
-use Rattle.std.specs.List.{filter_map, list_all, sum_by}
+-- Cubes of a cell in a subtable: edges, corners with their signs, and the levels that they serve (handbook, hypercube method; signs and levels own).
+use Rattle.std.specs.Prelude.{ℕ, ◌==◌, ◌&&◌, ◌||◌, nat_lt, Bool, true, false, not, if◌then◌else◌, List, [], ◌∷◌, ◌++◌, map, filter, flat_map, fold, slice_get, slice_index, slice_index_or, Option, option_map, ℤ, neg_ℤ, ◌+ℤ◌, int_le}
+use Rattle.std.specs.List.{filter_map, list_all}
 use Rattle.std.specs.Option.{option_map_or}
 use Rattle.sdc_base.specs.Trees.{Tree, children}
 use Rattle.sdc_base.specs.Records.{Name}
@@ -100,48 +100,3 @@ bears levels plus cell =
 abbrev pub serve : List Cell → Levels → List Corner → Bool
 serve cells levels corners =
     list_all (λ corner. option_map_or (bears levels corner.plus) (slice_get cells corner.cell) false) corners
-
--- ---- the least
-
--- the prices of the corners that aren't hidden yet
-abbrev pub price_of_hiding : (ℕ → Bool) → (ℕ → ℕ) → List Corner → ℕ
-price_of_hiding hidden price corners = sum_by (λ corner. if hidden corner.cell then 0 else price corner.cell) corners
-
--- corners with what it costs to hide them
-abbrev pub Offer : Type 0
-Offer = ℕ × List Corner
-
--- the numbers are lower at the first place where they differ; a list that ends there is the lower one
-abbrev pub is_lower : List Corner → List Corner → Bool
-is_lower [] [] = false
-is_lower [] (other ∷ others) = true
-is_lower (one ∷ ones) [] = false
-is_lower (one ∷ ones) (other ∷ others) = nat_lt one.cell other.cell || (one.cell == other.cell && is_lower ones others)
-
--- it costs less, or as much and has the lower numbers
-abbrev pub comes_before : Offer → Offer → Bool
-comes_before one other = nat_lt one.0 other.0 || (one.0 == other.0 && is_lower one.1 other.1)
-
--- the better of the best so far and another
-abbrev pub better : {X : Type 0} → (X → X → Bool) → Option X → X → Option X
-better before best x = Some (option_map_or (λ one. if before x one then x else one) best x)
-
--- the first of all by an order
-abbrev pub first_by : {X : Type 0} → (X → X → Bool) → List X → Option X
-first_by before xs = fold (better before) None xs
-
--- the corners of a cube with what it costs to hide them
-abbrev pub offer_of : (List ℕ → Option ℕ) → (ℕ → Bool) → (ℕ → ℕ) → List Edge → Offer
-offer_of number hidden price edges = (price_of_hiding hidden price (corners_of number edges), corners_of number edges)
-
--- those of the cubes that serve
-abbrev pub offers : (List ℕ → Option ℕ) → (ℕ → Bool) → (ℕ → ℕ) → List Cell → Levels → List (List Edge) → List Offer
-offers number hidden price cells levels cubes =
-    filter (λ offer. serve cells levels offer.1) (map (offer_of number hidden price) cubes)
-
--- the corners of the least of the cubes that serve: the one that costs least, and of those the one with the lowest
--- numbers
-abbrev pub least_of : (List ℕ → Option ℕ) → (ℕ → Bool) → (ℕ → ℕ) → List Cell → Levels → List (List Edge)
-    → Option (List Corner)
-least_of number hidden price cells levels cubes =
-    option_map (λ offer. offer.1) (first_by comes_before (offers number hidden price cells levels cubes))

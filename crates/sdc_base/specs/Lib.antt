@@ -36,6 +36,7 @@ pub mod Links
 pub mod Refutations
 pub mod Grounds
 pub mod Cubes
+pub mod CubeOrder
 pub mod Subtables
 pub mod Trails
 pub mod Examples

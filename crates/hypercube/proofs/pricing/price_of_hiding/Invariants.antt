@@ -1,5 +1,5 @@
 use Rattle.std.proofs.Common.{◌≡◌, ◌≤◌, ◌*◌, ◌^◌, take}
-use Rattle.sdc_base.specs.Cubes.{price_of_hiding}
+use Rattle.sdc_base.specs.CubeOrder.{price_of_hiding}
 use Rattle.hypercube.specs.LeastCubes.{is_marked, price_in}
 use Rattle.hypercube.proofs.pricing.price_of_hiding.Given as goal
 

@@ -1,7 +1,8 @@
 use Rattle.std.proofs.Common.{◌≡◌, ◌<◌, ◌≤◌, [], true, arith, ℕ, None, List, Option, option_map, slice_index_or, drop, length, ap, sym, ◌∙◌, subst}
 use Rattle.std.specs.List.Sorted.{IsNonDecreasingBy}
 use Rattle.sdc_base.specs.Records.{Name}
-use Rattle.sdc_base.specs.Cubes.{Offer, comes_before, cubes_at, edges_at, first_by}
+use Rattle.sdc_base.specs.Cubes.{cubes_at, edges_at}
+use Rattle.sdc_base.specs.CubeOrder.{Offer, comes_before, first_by}
 use Rattle.sdc_base.specs.declared.cube.Cube.{Cube}
 use Rattle.sdc_base.specs.declared.cube.Edge.{Edge}
 use Rattle.linked_tables.specs.BookCells.{cell_at, cells as cells_in}

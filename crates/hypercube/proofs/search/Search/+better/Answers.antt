@@ -1,7 +1,8 @@
 use Rattle.std.proofs.Common.{◌≡◌, ◌+◌, ◌<◌, ◌≤◌, ◌++◌, ◌∷◌, [], inl, inr, ℕ, true, false, List, Option, length, drop, slice_index_or, ap, sym, ◌∙◌, subst, arith, length-append}
 use Rattle.std.specs.List.Sorted.{IsNonDecreasingBy}
 use Rattle.std.proofs.lemmas.List.{drop_more}
-use Rattle.sdc_base.specs.Cubes.{Offer, better, comes_before, serve}
+use Rattle.sdc_base.specs.Cubes.{serve}
+use Rattle.sdc_base.specs.CubeOrder.{Offer, better, comes_before}
 use Rattle.sdc_base.specs.declared.cube.Corner.{Corner}
 use Rattle.sdc_base.specs.declared.cube.Edge.{Edge}
 use Rattle.hypercube.specs.Branches.{Setting, begin_at, best_beyond, costs_more, price_of, shared_corners}
