@@ -9,8 +9,8 @@ use Rattle.job_inputs.proofs.Causes.{stop-fails, contents-cause}
 use Rattle.job_inputs.proofs.Feeding.{fed-more, fed-end, fed-faulty, fed-long}
 use Rattle.job_inputs.proofs.microdata_file.feed_all.Goals as goal
 
-pub returns-then-ended-clause-whole : goal.returns-then-ended-clause-whole
-returns-then-ended-clause-whole g c = λ layout bytes left read.
+pub returns-then-ended-clause-reads_all : goal.returns-then-ended-clause-reads_all
+returns-then-ended-clause-reads_all g c = λ layout bytes left read.
     let end = fed-end layout bytes c.pieces.reader _ c.pieces.taken c.in-Ok.n (c.pieces.invariant.fed layout bytes left read) c.if-ended.true c.in-Ok.ensures.given.end in
     (end.0, omega (arith, end.1, c.pieces.invariant.short))
 

@@ -13,8 +13,8 @@ pieces-init g c = record {
   only_read = c.in-Ok.ensures.only_read;
 }
 
-pub returns-then-ended-clause-whole : goal.returns-then-ended-clause-whole
-returns-then-ended-clause-whole g c = record {
+pub returns-then-ended-clause-whole_file : goal.returns-then-ended-clause-whole_file
+returns-then-ended-clause-whole_file g c = record {
   file = λ fs told. IsGot-end _ _ _ _ c.if-ended.true (c.pieces.invariant.left fs told) c.in-Ok-read.ensures.given.end;
   short = c.pieces.invariant.got;
   taken = omega (arith, c.pieces.invariant.taken, c.in-Ok-read.ensures.given.taken, c.if-ended.true, c.pieces.invariant.got);

@@ -7,8 +7,8 @@ use Rattle.tableau.proofs.products.narrow_product.Goals as goal
 pub overflow_mul-result : goal.overflow_mul-result
 overflow_mul-result c = product_fits (to_z w128 (of_z w128 c.args.one)) (to_z w128 (of_z w128 c.args.other)) (c.if-is_small.ensures refl) (c.if-is_small-2.ensures refl)
 
-pub returns-then-is_small-2-clause-some : goal.returns-then-is_small-2-clause-some
-returns-then-is_small-2-clause-some c =
+pub returns-then-is_small-2-clause-product : goal.returns-then-is_small-2-clause-product
+returns-then-is_small-2-clause-product c =
     let one : ℤ = to_z w128 (of_z w128 c.args.one) in
     let other : ℤ = to_z w128 (of_z w128 c.args.other) in
     to_z-of_z w128 (one *ℤ other) (product_fits one other (c.if-is_small.ensures refl) (c.if-is_small-2.ensures refl)) ∙ ap (λ x. x *ℤ other) (to_z-of_z w128 c.args.one c.ranges.one) ∙ ap (λ y. c.args.one *ℤ y) (to_z-of_z w128 c.args.other c.ranges.other)
