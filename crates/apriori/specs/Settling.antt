@@ -1,6 +1,6 @@
 -- What each cell is to its protection: primary, fixed or free, with its levels, bounds and price (handbook, sensitive cells and
 -- protection levels; a priori statements: own).
-use Rattle.std.specs.Prelude.{◌≡◌, ◌≤◌, ◌==◌, ◌||◌, ◌&&◌, nat_lt, ℕ, Bool, is_some, if◌then◌else◌, List, length, map, fold, slice_get, Option, None, Some, unwrap_or, option_map, Result, Ok, Err, ℤ, pos}
+use Rattle.std.specs.Prelude.{◌≡◌, ◌≤◌, ◌==◌, ◌||◌, ◌&&◌, nat_lt, ℕ, Bool, is_some, if◌then◌else◌, List, length, map, fold, slice_get, Option, None, Some, unwrap_or, option_map, Result, Ok, Err, ℤ, pos, Vec}
 use Rattle.std.specs.List.{zip}
 use Rattle.sdc_base.specs.Steps.{◌>>=◌}
 use Rattle.sdc_base.specs.Trees.{Tree}
@@ -17,8 +17,11 @@ use Rattle.linked_tables.specs.declared.mark.Mark.{Mark}
 use Rattle.apriori.specs.declared.prior.Prior.{Prior}
 use Rattle.apriori.specs.declared.faults.PriorWhy.{PriorWhy}
 use Rattle.apriori.specs.declared.faults.PriorWhy.TheVariants.{ProtectedPrimary}
-use Rattle.apriori.specs.Faults.{LineOf}
+use Rattle.apriori.specs.Faults.{LineOf, fault_of}
 use Rattle.apriori.specs.CellLevels.{is_primary, levels_of}
+use Rattle.std.specs.declared.alloc.Global.{Global}
+use Rattle.sdc_base.specs.Answers.{Gives}
+use Rattle.apriori.specs.declared.faults.PriorError.{PriorError}
 
 -- what a cell is to its protection, all amounts in units
 pub record SettledCell : Type 0 where
@@ -119,3 +122,14 @@ unfoldable pub settle_of : Rules → List Figures → List Prior → Result (Lis
 settle_of rules figures priors = do
   fine ← refuse_line (first_clash rules (zip figures priors))
   Ok (map (λ cell. settled_cell rules cell.0 cell.1) (zip figures priors))
+
+-- the answer is the cells with these figures and priors, or the first line by which one of them can't be settled
+abbrev pub GivesCells : Result (Vec Cell Global) PriorError → Rules → List Figures → List Prior → Type 0
+GivesCells result rules figures priors =
+    Gives fault_of (λ cells. map view_of_cell cells.items) result (settle_of rules figures priors)
+
+-- a statement about the figures of these marks holds over any records whose facts the marks have
+abbrev pub OverRecords : List Mark → (List Figures → Type 0) → Type 0
+OverRecords marks statement =
+    (trees : List Tree) (names : List Name) (rows : List Row) (scale : ℕ) → AreFactsIn marks trees names rows scale
+    → statement (figures_of trees names rows scale)

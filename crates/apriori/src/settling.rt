@@ -1,13 +1,10 @@
-ghost use Rattle.std.specs.Prelude.{◌≡◌, map, All, length, IfOk, Ok, List, ℕ};
+ghost use Rattle.std.specs.Prelude.{◌≡◌, map, All, length, IfOk, Ok};
 ghost use Rattle.std.specs.List.{zip};
 ghost use Rattle.sdc_base.specs.Answers.{Gives};
-ghost use Rattle.sdc_base.specs.Trees.{Tree};
-ghost use Rattle.sdc_base.specs.Records.{Name};
-ghost use Rattle.sdc_base.specs.declared.rows.Row.{Row};
 ghost use Rattle.primary_rules.specs.Ranges.{AreInRange};
 ghost use Rattle.apriori.specs.Faults.{fault_of};
 ghost use Rattle.apriori.specs.Priors.{ArePriors};
-ghost use Rattle.apriori.specs.Settling.{view_of_cell, told_of, figures_of, IsReadyFor, AreFactsIn, first_of, settle_of};
+ghost use Rattle.apriori.specs.Settling.{view_of_cell, told_of, IsReadyFor, first_of, settle_of, GivesCells, OverRecords};
 ghost use Rattle.apriori.specs.CellLevels.{HasLevelsInRange};
 ghost use Rattle.apriori.specs.Settling as spec;
 
@@ -41,11 +38,8 @@ pub fn settle(
     requires in_range { AreInRange rules.now }
     requires ready { All (IsReadyFor rules.now) book.now.marks }
     requires priors { ArePriors book.now.marks priors.now }
-    ensures exact { Gives fault_of (λ cells. map view_of_cell cells.items) result
-        (settle_of rules.now (told_of book.now.marks) priors.now) }
-    ensures over_records { (trees : List Tree) (names : List Name) (rows : List Row) (scale : ℕ)
-        → AreFactsIn book.now.marks trees names rows scale
-        → Gives fault_of (λ cells. map view_of_cell cells.items) result (settle_of rules.now (figures_of trees names rows scale) priors.now) }
+    ensures exact { GivesCells result rules.now (told_of book.now.marks) priors.now }
+    ensures over_records { OverRecords book.now.marks (λ figures. GivesCells result rules.now figures priors.now) }
     ensures one_each { IfOk result (λ cells. length cells.items ≡ length book.now.marks) }
     ensures levels { IfOk result (λ cells. All HasLevelsInRange cells.items) }
 {
@@ -63,8 +57,7 @@ fn settle_cells(
     requires in_range { AreInRange rules.now }
     requires ready { All (IsReadyFor rules.now) marks.now }
     requires priors { ArePriors marks.now priors.now }
-    ensures exact { Gives fault_of (λ cells. map view_of_cell cells.items) result
-        (settle_of rules.now (told_of marks.now) priors.now) }
+    ensures exact { GivesCells result rules.now (told_of marks.now) priors.now }
     ensures one_each { IfOk result (λ cells. length cells.items ≡ length marks.now) }
     ensures levels { IfOk result (λ cells. All HasLevelsInRange cells.items) }
 {

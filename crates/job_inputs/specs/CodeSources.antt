@@ -27,6 +27,10 @@ codes_in files place total (Some name) = do
   bytes ← bytes_of_file files name (file.CodeList place)
   map_fault (fault.Tree (file.CodeList place)) (codes_of total bytes)
 
+-- the codes of a variable's code list, where it has one, or what is wrong with the list
+abbrev pub listed_codes : Files → ℕ → Variable → Result (List (List ℕ)) Fault
+listed_codes files place variable = codes_in files place variable.total variable.codes
+
 -- the tree that the bytes of a hierarchy file give, with the missing codes that it lacks, or what is wrong with them
 unfoldable pub tree_in : FileRef → Variable → List ℕ → List ℕ → Result Tree Fault
 tree_in f variable lead bytes = do
@@ -47,11 +51,15 @@ source_of files place variable codes (shape.Listed name lead) = do
   tree ← listed_tree files place variable name lead
   Ok (source.Listed tree)
 
+-- where the codes of a variable come from by its shape
+abbrev pub source_in : Files → ℕ → Variable → List (List ℕ) → Result Source Fault
+source_in files place variable codes = source_of files place variable codes variable.shape
+
 -- the field of a spanning variable, or the first fault of its files: the code list, and then the hierarchy
 unfoldable pub field_of : Files → ℕ → Variable → Result Field Fault
 field_of files place variable = do
-  codes ← codes_in files place variable.total variable.codes
-  source ← source_of files place variable codes variable.shape
+  codes ← listed_codes files place variable
+  source ← source_in files place variable codes
   Ok (record { first = variable.first; width = variable.width; source = source })
 
 -- the fields of variables, each with its place in the metadata, in their order
@@ -65,3 +73,7 @@ fields_of files (one ∷ more) = do
 -- the variables that span a job's tables, each with its place in the metadata
 abbrev pub spanning_variables : Described → List (ℕ × Variable)
 spanning_variables described = variables_at described.meta.variables described.bound.spanning
+
+-- the fields of the variables that span a job's tables, or the first fault of their files
+abbrev pub spanning_fields : Files → Described → Result (List Field) Fault
+spanning_fields files described = fields_of files (spanning_variables described)

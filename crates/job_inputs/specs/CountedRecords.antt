@@ -1,10 +1,17 @@
 -- What holds of a job's book and numbers once its records are counted (own).
-use Rattle.std.specs.Prelude.{◌≡◌, ◌<◌, ◌^◌, length}
+use Rattle.std.specs.Prelude.{◌≡◌, ◌<◌, ◌^◌, length, ℕ, List, Result}
 use Rattle.linked_tables.specs.BookCells.{cells}
 use Rattle.job_inputs.specs.SoundJobs.{IsSound}
 use Rattle.job_inputs.specs.TabulatedBooks.{IsBookOf, IsReadyFor}
 use Rattle.job_inputs.specs.declared.counted.Counted.{Counted}
 use Rattle.job_inputs.specs.declared.inputs.Inputs.{Inputs}
+use Rattle.sdc_base.specs.Answers.{Gives}
+use Rattle.sdc_base.specs.WhereTold.{WhereTold}
+use Rattle.office_io.specs.Shelves.{ShelfState}
+use Rattle.apriori.specs.declared.prior.Prior.{Prior}
+use Rattle.job_inputs.specs.PriorStatements.{prior_line, with_file}
+use Rattle.job_inputs.specs.Reading.{stopped_for}
+use Rattle.job_inputs.specs.declared.stop.InputStop.{InputStop}
 
 -- the job, its book with its records, and how many records there are and were skipped are those of the inputs
 pub record IsCountedOf (inputs : Inputs) (counted : Counted) : Type 0 where
@@ -19,3 +26,10 @@ pub record IsReady (counted : Counted) : Type 0 where
   pub book : IsReadyFor counted.described counted.book
   pub one_each : length counted.book.marks ≡ length (cells counted.book)
   pub few : length counted.book.marks < 2 ^ 32
+
+-- The answer, with these priors after it, is what is stated with a table's a priori file beside those before it, or the
+-- first fault of the file: of inputs whose records are counted so, and files of this shelf as far as they are told.
+abbrev pub StatesFile : ShelfState → Counted → ℕ → Result (Unit {0}) InputStop → List Prior → List Prior → Type 0
+StatesFile shelf counted t result before after =
+    (inputs : Inputs) → IsCountedOf inputs counted → WhereTold shelf.files (λ fs.
+    Gives stopped_for (λ fine. after) result (with_file fs inputs t (prior_line t counted.described.job.priors) before))

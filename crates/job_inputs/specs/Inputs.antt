@@ -21,7 +21,7 @@ use Rattle.job_inputs.specs.declared.file_ref.FileRef.TheVariants as file
 use Rattle.job_inputs.specs.declared.faults.Fault.{Fault}
 use Rattle.job_inputs.specs.declared.faults.Fault.TheVariants as fault
 use Rattle.job_inputs.specs.ReadFiles.{bytes_of_file, job_fault, limit, meta_fault, row_fault}
-use Rattle.job_inputs.specs.CodeSources.{fields_of, spanning_variables}
+use Rattle.job_inputs.specs.CodeSources.{fields_of, spanning_variables, spanning_fields}
 
 -- ---- job and metadata
 
@@ -50,12 +50,17 @@ abbrev pub too_long_or : Result (Unit {0}) (ℕ × RowWhy) → Result Records Fa
 too_long_or (Ok fine) = Err (fault.TooLong file.Microdata)
 too_long_or (Err at) = Err (row_fault at)
 
--- the records of a file that may be held: of one that is too long, a fault of its first 2^28 bytes comes before
-abbrev pub records_in : Layout → Option (List ℕ) → Result Records Fault
-records_in layout None = Err (fault.Absent file.Microdata)
-records_in layout (Some bytes) =
+-- the records that bytes are, or their first fault: of a file that is too long, a fault of its first 2^28 bytes comes
+-- before
+abbrev pub records_of_bytes : Layout → List ℕ → Result Records Fault
+records_of_bytes layout bytes =
     if nat_lt limit (length bytes) then too_long_or (fed_of layout (take limit bytes))
     else map_fault row_fault (records_of layout bytes)
+
+-- the records of a file, where there is one
+abbrev pub records_in : Layout → Option (List ℕ) → Result Records Fault
+records_in layout None = Err (fault.Absent file.Microdata)
+records_in layout (Some bytes) = records_of_bytes layout bytes
 
 -- the records of the named file, or what is wrong with it
 abbrev pub look_at_records : Files → List ℕ → Layout → Result Records Fault
@@ -68,6 +73,6 @@ look_at_records files name layout = records_in layout (files name)
 unfoldable pub inputs_of : Purpose → Files → List ℕ → Result Inputs Fault
 inputs_of purpose files name = do
   described ← described_of purpose files name
-  fields ← fields_of files (spanning_variables described)
+    fields ← spanning_fields files described
   records ← look_at_records files described.job.micro (layout_of described.meta.variables described.bound fields)
   Ok (record { described = described; records = records })

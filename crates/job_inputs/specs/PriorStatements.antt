@@ -30,12 +30,17 @@ abbrev pub prior_line : ℕ → List PriorLine → Option PriorLine
 prior_line t [] = None
 prior_line t (line ∷ lines) = if line.table == t then Some line else prior_line t lines
 
+-- what is stated, with these bytes of a table's a priori file, or the first fault of the file
+abbrev pub with_bytes : Inputs → ℕ → PriorLine → List Prior → List ℕ → Result (List Prior) Fault
+with_bytes inputs t line priors bytes =
+    map_fault prior_fault (file_says (basis_in inputs) t line.separator inputs.described.bound.decimals priors bytes)
+
 -- what is stated, with a table's a priori file, where it has one, or the first fault of the file
 unfoldable pub with_file : Files → Inputs → ℕ → Option PriorLine → List Prior → Result (List Prior) Fault
 with_file files inputs t None priors = Ok priors
 with_file files inputs t (Some line) priors = do
   bytes ← bytes_of_file files line.file (file.Apriori t)
-  map_fault prior_fault (file_says (basis_in inputs) t line.separator inputs.described.bound.decimals priors bytes)
+    with_bytes inputs t line priors bytes
 
 -- what the a priori files of the first so many tables state of each cell, or the first fault of one of them
 unfoldable pub with_files : Files → Inputs → ℕ → Result (List Prior) Fault

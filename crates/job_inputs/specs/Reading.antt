@@ -1,5 +1,5 @@
 -- What it is to read inputs from a shelf: what is told, to which file it comes, what the shelf does, and the cause of each refusal (own).
-use Rattle.std.specs.Prelude.{◌≡◌, ◌≢◌, ℕ, ◌+◌, List, Option, None, Some, Result, Err, IsErrOf}
+use Rattle.std.specs.Prelude.{◌≡◌, ◌≢◌, ℕ, ◌+◌, List, Option, None, Some, Result, Err, IsErrOf, []}
 use Rattle.sdc_base.specs.Answers.{Gives}
 use Rattle.sdc_base.specs.Counts.{HasRisen}
 use Rattle.sdc_base.specs.WhereTold.{WhereTold}
@@ -14,6 +14,8 @@ use Rattle.job_inputs.specs.declared.refusal.Refusal.{Refusal}
 use Rattle.job_inputs.specs.declared.refusal.Refusal.TheVariants as refusal
 use Rattle.job_inputs.specs.declared.stop.InputStop.{InputStop}
 use Rattle.job_inputs.specs.declared.stop.InputStop.TheVariants as stop
+use Rattle.microdata.specs.Feeding.{ReaderView, HasRead}
+use Rattle.microdata.specs.declared.layout.Layout.{Layout}
 
 -- a refusal of contents as a stop
 abbrev pub stop_of : Refusal → InputStop
@@ -48,3 +50,8 @@ pub record IsReadFrom {X Y : Type 0} (view : X → Y) (meant : Files → Result 
   pub came_to : WhereTold old.files (λ fs. HasComeTo (comes fs) result fs new)
   pub only_read : HasOnlyRead old new
   pub cause : HasCause result old new
+
+-- a statement holds of the layout of a reader that has read nothing yet, and of the bytes that the shelf has left
+abbrev pub BeforeReading : ShelfState → ReaderView → (Layout → List ℕ → Type 0) → Type 0
+BeforeReading shelf reader statement =
+    (layout : Layout) (bytes : List ℕ) → shelf.left ≡ Some bytes → HasRead reader layout [] → statement layout bytes

@@ -34,6 +34,10 @@ pub record SettledInputs : Type 0 where
 abbrev pub overwrites_job : List ℕ → Job → Bool
 overwrites_job name job = bytes_eq job.certificate name || list_any (λ output. bytes_eq output.file name) job.outputs
 
+-- what each cell is to its protection, or the first primary cell that is to be always shown
+abbrev pub settled_cells : Inputs → List Prior → Result (List SettledCell) Fault
+settled_cells inputs priors = map_fault prior_fault (settle_of inputs.described.job.rules (figures inputs) priors)
+
 -- All that a job's files come to, read for this purpose, before anything is protected, or the first fault: those of the
 -- input files, then too many cells, then those of the a priori files by table, then a primary cell that is to be always
 -- shown, and then a job that would overwrite itself.
@@ -42,7 +46,7 @@ settled_of purpose files name = do
   inputs ← inputs_of purpose files name
   linked ← map_fault cells_fault (book_of inputs.records.trees inputs.described.bound.tables)
   priors ← priors_of files inputs
-  cells ← map_fault prior_fault (settle_of inputs.described.job.rules (figures inputs) priors)
+  cells ← settled_cells inputs priors
   fine ← refuse fault.OutName (overwrites_job name inputs.described.job)
   Ok (record { inputs = inputs; priors = priors; cells = cells })
 

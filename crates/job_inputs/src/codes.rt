@@ -3,7 +3,7 @@ ghost use Rattle.sdc_base.specs.Answers.{Gives};
 ghost use Rattle.sdc_base.specs.Steps.{map_fault};
 ghost use Rattle.hierarchy.specs.CodeList.{codes_of};
 ghost use Rattle.hierarchy.specs.Lead.{lead_of};
-ghost use Rattle.job_inputs.specs.CodeSources.{codes_in, listed_tree, tree_in};
+ghost use Rattle.job_inputs.specs.CodeSources.{codes_in, listed_tree, tree_in, listed_codes};
 ghost use Rattle.job_inputs.specs.ListedCodes.{AreListed};
 ghost use Rattle.job_inputs.specs.Looks.{IsCodeListOf, IsFile};
 ghost use Rattle.job_inputs.specs.Reading.{IsReadFrom};
@@ -29,7 +29,7 @@ pub(crate) fn read_list<S: Shelf>(
     place: u32,
     variable: &Variable,
 ) -> Result<Vec<Text>, InputStop>
-    ensures reads { IsReadFrom (λ codes. codes.items) (λ fs. codes_in fs place variable.now.total variable.now.codes)
+    ensures reads { IsReadFrom (λ codes. codes.items) (λ fs. listed_codes fs place variable.now)
         (λ fs. IsCodeListOf place variable.now) result (S.state shelf.old) (S.state shelf.new) }
     ensures listed { IfOk result (λ codes. AreListed variable.now.total codes.items) }
 {

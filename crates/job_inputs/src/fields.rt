@@ -2,7 +2,7 @@ ghost use Rattle.std.specs.Prelude.{◌≡◌, ◌<◌, IfOk, Some, length, slic
 ghost use Rattle.std.specs.List.{AllByRecursion};
 ghost use Rattle.rda_meta.specs.Limits.{IsVariable};
 ghost use Rattle.microdata.specs.Layouts.{IsSource};
-ghost use Rattle.job_inputs.specs.CodeSources.{source_of, field_of, fields_of, spanning_variables};
+ghost use Rattle.job_inputs.specs.CodeSources.{source_of, field_of, spanning_variables, spanning_fields, source_in};
 ghost use Rattle.job_inputs.specs.ListedCodes.{AreListed};
 ghost use Rattle.job_inputs.specs.Looks.{IsHierarchyOf, FieldComesTo, FieldsComeTo};
 ghost use Rattle.job_inputs.specs.PlacedFields.{IsPlacedField};
@@ -28,7 +28,7 @@ pub(crate) fn read_fields<S: Shelf>(
     described: &Described,
 ) -> Result<Items<Field>, InputStop>
     requires { IsSound described.now }
-    ensures reads { IsReadFrom (λ fields. fields) (λ fs. fields_of fs (spanning_variables described.now))
+    ensures reads { IsReadFrom (λ fields. fields) (λ fs. spanning_fields fs described.now)
         (λ fs. FieldsComeTo fs (spanning_variables described.now)) result (S.state shelf.old) (S.state shelf.new) }
     ensures placed { IfOk result (λ fields. AllByRecursion IsPlacedField fields) }
     ensures as_many { IfOk result (λ fields. length fields ≡ length described.now.bound.spanning) }
@@ -84,7 +84,7 @@ fn read_source<S: Shelf>(
 ) -> Result<Source, InputStop>
     requires variable { IsVariable variable.now }
     requires listed { AreListed variable.now.total codes.items }
-    ensures reads { IsReadFrom (λ source. source) (λ fs. source_of fs place variable.now codes.items variable.now.shape)
+    ensures reads { IsReadFrom (λ source. source) (λ fs. source_in fs place variable.now codes.items)
         (λ fs. IsHierarchyOf place variable.now.shape) result (S.state shelf.old) (S.state shelf.new) }
     ensures source { IfOk result IsSource }
 {

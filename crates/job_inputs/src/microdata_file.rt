@@ -1,4 +1,4 @@
-ghost use Rattle.std.specs.Prelude.{◌≡◌, ◌≤◌, ◌++◌, [], Some, IfOk, IfErr, IsErrOf, OnOk, List, ℕ, length};
+ghost use Rattle.std.specs.Prelude.{◌≡◌, ◌≤◌, ◌++◌, [], IfOk, IfErr, IsErrOf, OnOk, List, length};
 ghost use Rattle.std.specs.List.{AllByRecursion};
 ghost use Rattle.sdc_base.specs.Answers.{Gives, Fails};
 ghost use Rattle.sdc_base.specs.Steps.{map_fault};
@@ -10,10 +10,10 @@ ghost use Rattle.microdata.specs.Layouts.{IsLayout};
 ghost use Rattle.microdata.specs.Microdata.{records_of};
 ghost use Rattle.microdata.specs.Ranges.{AreWithinLimits};
 ghost use Rattle.microdata.specs.declared.layout.Layout.{Layout as AnyLayout};
-ghost use Rattle.job_inputs.specs.Inputs.{records_in, look_at_records};
+ghost use Rattle.job_inputs.specs.Inputs.{look_at_records, records_of_bytes};
 ghost use Rattle.job_inputs.specs.ReadFiles.{limit, row_fault};
 ghost use Rattle.job_inputs.specs.Looks.{IsFile};
-ghost use Rattle.job_inputs.specs.Reading.{IsReadFrom, HasCause, stopped_for};
+ghost use Rattle.job_inputs.specs.Reading.{IsReadFrom, HasCause, stopped_for, BeforeReading};
 ghost use Rattle.job_inputs.specs.Refusals.{refused_for, IsForContents};
 ghost use Rattle.job_inputs.specs.SoundJobs.{AreAtLeaves};
 ghost use Rattle.job_inputs.specs.declared.file_ref.FileRef.{FileRef as AnyFile};
@@ -72,14 +72,12 @@ fn begin<S: Shelf>(shelf: &mut S, name: &Text) -> Result<(), InputStop>
 // Feeds a reader with all bytes of the chosen file, of which none is taken yet.
 fn feed_all<S: Shelf>(shelf: &mut S, reader: &mut Reader) -> Result<(), InputStop>
     requires { (S.state shelf.old).taken ≡ 0 }
-    ensures reads_all { OnOk result ((layout : AnyLayout) (bytes : List ℕ) → (S.state shelf.old).left ≡ Some bytes
-        → HasRead reader.old layout []
-        → HasRead reader.new layout bytes × (length bytes ≤ limit)) }
+    ensures reads_all { OnOk result (BeforeReading (S.state shelf.old) reader.old
+        (λ layout bytes. HasRead reader.new layout bytes × (length bytes ≤ limit))) }
     ensures reads_front { OnOk result ((layout : AnyLayout) → HasRead reader.old layout []
         → (bytes : List ℕ) × HasRead reader.new layout bytes) }
-    ensures told { IfErr result (λ stop. (layout : AnyLayout) (bytes : List ℕ) → (S.state shelf.old).left ≡ Some bytes
-        → HasRead reader.old layout []
-        → Fails (stopped_for stop) (records_in layout (Some bytes))) }
+    ensures told { IfErr result (λ stop. BeforeReading (S.state shelf.old) reader.old
+        (λ layout bytes. Fails (stopped_for stop) (records_of_bytes layout bytes))) }
     ensures which { (f : AnyFile) → IsErrOf result (InputStop.ReadFault f) → f ≡ FileRef.Microdata }
     ensures last { (S.state shelf.new).last ≡ (S.state shelf.old).last }
     ensures only_read { HasOnlyRead (S.state shelf.old) (S.state shelf.new) }

@@ -1,17 +1,16 @@
 ghost use Rattle.std.specs.Prelude.{◌≡◌, IfOk, IfErr, length, map, All};
-ghost use Rattle.sdc_base.specs.Answers.{Gives, Fails};
-ghost use Rattle.sdc_base.specs.Steps.{map_fault};
+ghost use Rattle.sdc_base.specs.Answers.{Gives};
 ghost use Rattle.sdc_base.specs.WhereTold.{WhereTold};
 ghost use Rattle.office_io.specs.Shelves.{HasOnlyRead};
 ghost use Rattle.apriori.specs.Priors.{ArePriors};
-ghost use Rattle.apriori.specs.Settling.{view_of_cell, settle_of};
+ghost use Rattle.apriori.specs.Settling.{view_of_cell};
 ghost use Rattle.apriori.specs.CellLevels.{HasLevelsInRange};
-ghost use Rattle.job_inputs.specs.Cells.{figures, prior_fault};
 ghost use Rattle.job_inputs.specs.CountedRecords.{IsCountedOf, IsReady};
 ghost use Rattle.job_inputs.specs.Looks.{ComesTo};
-ghost use Rattle.job_inputs.specs.Reading.{HasCause, HasComeTo, stopped_for};
+ghost use Rattle.job_inputs.specs.Reading.{HasCause, HasComeTo};
 ghost use Rattle.job_inputs.specs.Refusals.{refused_for, IsForContents};
 ghost use Rattle.job_inputs.specs.SettledJobs.{settled_of, IsReadyJob, IsSettledOf, AreSettled, SettledInputs};
+ghost use Rattle.job_inputs.specs.SettledJobs as spec;
 ghost use Rattle.job_inputs.specs.SoundJobs.{AreSound};
 ghost use Rattle.job_inputs.specs.declared.inputs.Inputs.{Inputs as AnyInputs};
 
@@ -84,7 +83,7 @@ fn settled_cells(alloc: Global, counted: &Counted, priors: &[Prior]) -> Result<I
     requires ready { IsReady counted.now }
     requires priors { ArePriors counted.now.book.marks priors.now }
     ensures gives { (inputs : AnyInputs) → IsCountedOf inputs counted.now
-        → Gives refused_for (λ cells. map view_of_cell cells) result (map_fault prior_fault (settle_of inputs.described.job.rules (figures inputs) priors.now)) }
+        → Gives refused_for (λ cells. map view_of_cell cells) result (spec.settled_cells inputs priors.now) }
     ensures one_each { IfOk result (λ cells. length cells ≡ length counted.now.book.marks) }
     ensures levels { IfOk result (λ cells. All HasLevelsInRange cells) }
     ensures truths { IfOk result (λ cells. map (λ mark. mark.facts.truth) counted.now.book.marks

@@ -1,17 +1,14 @@
-ghost use Rattle.std.specs.Prelude.{◌≡◌, ◌<◌, ◌≤◌, IfOk, IfErr, OnOk, ℕ, length, option_map};
+ghost use Rattle.std.specs.Prelude.{◌≡◌, ◌<◌, ◌≤◌, IfOk, IfErr, OnOk, length, option_map};
 ghost use Rattle.sdc_base.specs.Answers.{Gives};
-ghost use Rattle.sdc_base.specs.Steps.{map_fault};
 ghost use Rattle.sdc_base.specs.WhereTold.{WhereTold};
 ghost use Rattle.office_io.specs.Shelves.{HasOnlyRead};
-ghost use Rattle.apriori.specs.Applying.{file_says};
 ghost use Rattle.apriori.specs.Priors.{ArePriors};
-ghost use Rattle.job_inputs.specs.Cells.{prior_fault};
-ghost use Rattle.job_inputs.specs.CountedRecords.{IsCountedOf, IsReady};
+ghost use Rattle.job_inputs.specs.CountedRecords.{IsCountedOf, IsReady, StatesFile};
 ghost use Rattle.job_inputs.specs.ReadFiles.{limit};
 ghost use Rattle.job_inputs.specs.Looks.{IsPriorFileOf, ComesToStatements};
 ghost use Rattle.job_inputs.specs.Reading.{HasCause, HasComeTo, stopped_for};
 ghost use Rattle.job_inputs.specs.Refusals.{refused_for, IsForContents};
-ghost use Rattle.job_inputs.specs.PriorStatements.{basis_in, with_file, priors_of};
+ghost use Rattle.job_inputs.specs.PriorStatements.{with_file, priors_of};
 ghost use Rattle.job_inputs.specs.PriorStatements as spec;
 ghost use Rattle.job_inputs.specs.declared.inputs.Inputs.{Inputs as AnyInputs};
 
@@ -63,8 +60,7 @@ fn add_file<S: Shelf>(
     requires ready { IsReady counted.now }
     requires table { t < length counted.now.described.job.tables }
     requires priors { ArePriors counted.now.book.marks priors.old.items }
-    ensures told { (inputs : AnyInputs) → IsCountedOf inputs counted.now → WhereTold (S.state shelf.old).files (λ fs.
-        Gives stopped_for (λ fine. priors.new.items) result (with_file fs inputs t (spec.prior_line t counted.now.described.job.priors) priors.old.items)) }
+    ensures told { StatesFile (S.state shelf.old) counted.now t result priors.old.items priors.new.items }
     ensures came_to { WhereTold (S.state shelf.old).files
         (λ fs. HasComeTo (IsPriorFileOf t counted.now.described.job.priors) result fs (S.state shelf.new)) }
     ensures only_read { HasOnlyRead (S.state shelf.old) (S.state shelf.new) }
@@ -107,7 +103,7 @@ fn state(
     requires within_limit { length bytes.now ≤ limit }
     ensures told { (inputs : AnyInputs) → IsCountedOf inputs counted.now
         → Gives refused_for (λ fine. priors.new.items) result
-        (map_fault prior_fault (file_says (basis_in inputs) t line.now.separator inputs.described.bound.decimals priors.old.items bytes.now)) }
+        (spec.with_bytes inputs t line.now priors.old.items bytes.now) }
     ensures fit { OnOk result (ArePriors counted.now.book.marks priors.new.items) }
     ensures contents { IfErr result IsForContents }
 {

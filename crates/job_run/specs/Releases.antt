@@ -43,13 +43,17 @@ table_of inputs shown t header =
 
 -- ---- what is put
 
+-- a table with its line of the job and its output
+abbrev pub put_of_table : Inputs → (Name → Option ℤ) → ℕ → TableLine → OutputLine → Put
+put_of_table inputs shown t line output =
+    record { file = file.Table t; name = output.file; bytes = table_of inputs shown t (names_of line) }
+
 -- the tables from number t on, each with its line of the job and its output
 abbrev pub tables_from : Inputs → (Name → Option ℤ) → ℕ → List TableLine → List OutputLine → List Put
 tables_from inputs shown t [] outputs = []
 tables_from inputs shown t (line ∷ lines) [] = []
 tables_from inputs shown t (line ∷ lines) (output ∷ outputs) =
-    record { file = file.Table t; name = output.file; bytes = table_of inputs shown t (names_of line) }
-    ∷ tables_from inputs shown (t + 1) lines outputs
+    put_of_table inputs shown t line output ∷ tables_from inputs shown (t + 1) lines outputs
 
 -- what is put: first the certificate, then the tables in the order of the job
 abbrev pub puts_of : Inputs → (Name → Option ℤ) → Certificate → List Put

@@ -2,10 +2,9 @@ ghost use Rattle.std.specs.Prelude.{◌≡◌, ◌<◌, ◌+◌, ◌++◌, [], O
 ghost use Rattle.certificate.specs.Spelling.{IsSpellable};
 ghost use Rattle.certificate.specs.Certificates.{certificate_of};
 ghost use Rattle.certificate.specs.Texts.{text_of};
-ghost use Rattle.job_inputs.specs.Tables.{names_of};
 ghost use Rattle.job_inputs.specs.TabulatedBooks.{IsBookOf};
 ghost use Rattle.job_inputs.specs.declared.inputs.Inputs.{Inputs as AnyInputs};
-ghost use Rattle.job_run.specs.Books.{IsShownBook, shown_by};
+ghost use Rattle.job_run.specs.Books.{IsShownBook, shown_by, tables_showing, table_showing};
 ghost use Rattle.job_run.specs.Releases as releases;
 
 use crate::put::Put;
@@ -67,7 +66,7 @@ fn add_tables(
 ) -> Result<(), Memory>
     requires shown { IsShownBook described.now book.now shown }
     ensures puts { OnOk result ((inputs : AnyInputs) → inputs.described ≡ described.now → IsBookOf inputs book.now
-        → puts.new ≡ puts.old ++ releases.tables_from inputs (shown_by inputs shown.entry) 0 described.now.job.tables described.now.job.outputs) }
+        → puts.new ≡ puts.old ++ tables_showing inputs shown.entry described.now.job) }
     ensures each { OnOk result (length puts.new ≡ length puts.old + length described.now.job.tables) }
 {
     let outputs = described.job.outputs.as_slice();
@@ -92,7 +91,7 @@ fn table_put(
     requires table { t < length book.now.tables }
     requires header { length line.now.variables ≡ length (slice_index_or book.now.tables t []) }
     ensures { IfOk result (λ put. (inputs : AnyInputs) → inputs.described ≡ described.now → IsBookOf inputs book.now
-        → put ≡ record { file = FileRef.Table t; name = output.now.file; bytes = releases.table_of inputs (shown_by inputs shown.entry) t (names_of line.now) }) }
+        → put ≡ table_showing inputs shown.entry t line.now output.now) }
 {
     let header = header_for(alloc, line)?;
     let decimals = described.bound.decimals;

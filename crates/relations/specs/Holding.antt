@@ -3,9 +3,9 @@ use Rattle.std.specs.Prelude.{◌≡◌, ℕ, ◌<◌, List, [], length, slice_g
 use Rattle.std.specs.Option.{option_map_or}
 use Rattle.sdc_base.specs.Trees.{Tree, children}
 use Rattle.sdc_base.specs.Records.{Name}
-use Rattle.sdc_base.specs.Relations.{Sum, relations_among}
+use Rattle.sdc_base.specs.Relations.{Sum, relations_among, relations_for}
 use Rattle.sdc_base.specs.Sums.{truth}
-use Rattle.sdc_base.specs.Systems.{Numbers}
+use Rattle.sdc_base.specs.Systems.{Numbers, HoldOn}
 use Rattle.sdc_base.specs.declared.relation.Relation.{Relation}
 use Rattle.sdc_base.specs.declared.rows.Row.{Row}
 use Rattle.sdc_base.specs.declared.system.System.{System}
@@ -37,3 +37,11 @@ abbrev pub AreTruths : BookView → List Row → Type 0
 AreTruths book rows =
     (cell : ℕ) (name : Name) (mark : Mark) → slice_get (cells book) cell ≡ Some name
     → slice_get book.marks cell ≡ Some mark → mark.facts.truth ≡ truth book.trees name rows
+
+-- the relations hold on the truths of the book's marks
+abbrev pub HoldOnTruths : BookView → System → Type 0
+HoldOnTruths book system = HoldOn (truth_at book.marks) system.relations
+
+-- the relations for a cell of the book, by variable
+abbrev pub relations_of_cell : BookView → ℕ → List Sum
+relations_of_cell book cell = relations_for book.trees book.tables cell (slice_index_or (cells book) cell [])

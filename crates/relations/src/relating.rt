@@ -1,13 +1,13 @@
-ghost use Rattle.std.specs.Prelude.{◌≡◌, ◌<◌, ◌≤◌, ◌+◌, ◌++◌, ◌==◌, ◌&&◌, List, Some, [], true, not, length, map, slice_get, slice_index_or, option_to_list, All, IfOk, OnOk};
+ghost use Rattle.std.specs.Prelude.{◌≡◌, ◌<◌, ◌≤◌, ◌+◌, ◌++◌, ◌==◌, ◌&&◌, List, Some, true, not, length, map, slice_get, option_to_list, All, IfOk, OnOk};
 ghost use Rattle.sdc_base.specs.AddingUp.{IsCoded};
 ghost use Rattle.sdc_base.specs.Cells.{is_named};
-ghost use Rattle.sdc_base.specs.Relations.{codes_below, relation_for, relations_among, relations_for};
+ghost use Rattle.sdc_base.specs.Relations.{codes_below, relation_for, relations_among};
 ghost use Rattle.sdc_base.specs.Relations as relations_specs;
-ghost use Rattle.sdc_base.specs.Systems.{HoldOn, NamesCells};
+ghost use Rattle.sdc_base.specs.Systems.{NamesCells};
 ghost use Rattle.sdc_base.specs.declared.rows.Row.{Row as Record};
 ghost use Rattle.linked_tables.specs.BookCells.{IsBook};
 ghost use Rattle.linked_tables.specs.BookCells as book_cells;
-ghost use Rattle.relations.specs.Holding.{AreTruths, HaveNoChildren, sum_in, truth_at};
+ghost use Rattle.relations.specs.Holding.{AreTruths, HaveNoChildren, sum_in, HoldOnTruths, relations_of_cell};
 
 use crate::below::{has_below, parts_of};
 use crate::having::is_spanned;
@@ -26,7 +26,7 @@ pub fn relations_of(alloc: Global, book: &Book) -> Result<System, Memory>
     ensures cells { IfOk result (λ system. system.cells ≡ length (book_cells.cells book.now)) }
     ensures exact { IfOk result (λ system. map sum_in system.relations ≡ relations_among book.now.trees book.now.tables) }
     ensures hold { (rows : List Record) → All (IsCoded book.now.trees) rows → HaveNoChildren book.now.trees rows
-        → AreTruths book.now rows → IfOk result (λ system. HoldOn (truth_at book.now.marks) system.relations) }
+        → AreTruths book.now rows → IfOk result (λ system. HoldOnTruths book.now system) }
 {
     let cells = book.cells();
     let mut relations = Vec::new(alloc);
@@ -51,7 +51,7 @@ fn add_cell(
     requires named { All (NamesCells (length book.now.marks)) relations.old.items }
     ensures added { OnOk result (map sum_in relations.new.items
         ≡ map sum_in relations.old.items
-        ++ relations_for book.now.trees book.now.tables cell (slice_index_or (book_cells.cells book.now) cell [])) }
+        ++ relations_of_cell book.now cell) }
     ensures within { OnOk result (All (NamesCells (length book.now.marks)) relations.new.items) }
     ensures at_most_8_more { OnOk result (length relations.new.items ≤ length relations.old.items + 8) }
 {

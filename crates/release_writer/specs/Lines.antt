@@ -1,5 +1,5 @@
 -- The lines of a release table, and the csv writer that writes them (own).
-use Rattle.std.specs.Prelude.{◌≡◌, ℕ, List, [], ◌∷◌, ◌++◌, length, map, drop, flat_map, Option, Some, false, Vec}
+use Rattle.std.specs.Prelude.{◌≡◌, ℕ, List, [], ◌∷◌, ◌++◌, length, map, drop, flat_map, Option, Some, false, Vec, option_map}
 use Rattle.std.specs.List.{join_with_byte}
 use Rattle.std.specs.declared.alloc.Global.{Global}
 use Rattle.csv.specs.declared.writer.Writer.{Writer}
@@ -36,3 +36,7 @@ pub record IsReady (writer : Writer (Vec ℕ Global)) : Type 0 where
 -- the bytes that a csv writer has written
 abbrev pub bytes_written : Writer (Vec ℕ Global) → Option (List ℕ)
 bytes_written writer = text_written (λ bytes. Some bytes.items) writer
+
+-- a csv writer has written this text behind what it had written before
+abbrev pub AppendsText : Writer (Vec ℕ Global) → Writer (Vec ℕ Global) → List ℕ → Type 0
+AppendsText old new added = bytes_written new ≡ option_map (λ text. text ++ added) (bytes_written old)

@@ -1,8 +1,8 @@
-ghost use Rattle.std.specs.Prelude.{◌≡◌, ◌≤◌, ◌<◌, ◌++◌, ◌∷◌, [], length, slice_index_or, OnOk, option_map};
+ghost use Rattle.std.specs.Prelude.{◌≡◌, ◌≤◌, ◌<◌, ◌++◌, ◌∷◌, [], length, slice_index_or, OnOk};
 ghost use Rattle.sdc_base.specs.Trees.{code_in};
 ghost use Rattle.sdc_base.specs.Cells.{trees_of};
 ghost use Rattle.sdc_base.specs.TableText.{line_text, codes_of_place};
-ghost use Rattle.release_writer.specs.Lines.{IsReady, bytes_written};
+ghost use Rattle.release_writer.specs.Lines.{IsReady, AppendsText};
 
 use crate::csv_line::{end_line, put_field};
 use csv::Writer;
@@ -15,8 +15,7 @@ pub(crate) fn write_names(writer: &mut Writer<Vec<u8>>, names: &[Text]) -> Resul
     requires at_least_one_name { 0 < length names.now }
     requires shown { length names.now ≡ 1 → 0 < length (slice_index_or names.now 0 []) }
     ensures ready { OnOk result (IsReady writer.new) }
-    ensures text { OnOk result (bytes_written writer.new
-        ≡ option_map (λ text. text ++ line_text names.now) (bytes_written writer.old)) }
+    ensures text { OnOk result (AppendsText writer.old writer.new (line_text names.now)) }
 {
     'names: for name in names {
         put_field(writer, name.as_slice())?;
@@ -37,9 +36,8 @@ pub(crate) fn write_place(
     requires at_most_8 { length table.now ≤ 8 }
     requires number { 0 < length number.now }
     ensures ready { OnOk result (IsReady writer.new) }
-    ensures text { OnOk result (bytes_written writer.new
-        ≡ option_map (λ text. text ++ line_text
-        (codes_of_place (trees_of book.now.trees table.now) place.now ++ number.now ∷ [])) (bytes_written writer.old)) }
+    ensures text { OnOk result (AppendsText writer.old writer.new
+        (line_text (codes_of_place (trees_of book.now.trees table.now) place.now ++ number.now ∷ []))) }
 {
     'codes: for (k, variable) in table.iter().enumerate() {
         put_field(writer, code_at(book, *variable, place[k]))?;

@@ -1,9 +1,9 @@
-ghost use Rattle.std.specs.Prelude.{◌≡◌, ◌≤◌, ◌<◌, ◌+◌, ◌++◌, ◌∷◌, [], true, false, length, take, slice_index_or, option_map, Some, IfOk, OnOk};
+ghost use Rattle.std.specs.Prelude.{◌≡◌, ◌≤◌, ◌<◌, ◌+◌, ◌∷◌, [], true, false, length, take, slice_index_or, Some, IfOk, OnOk};
 ghost use Rattle.sdc_base.specs.Cells.{trees_of};
 ghost use Rattle.sdc_base.specs.CellOrder.{is_place_in};
 ghost use Rattle.sdc_base.specs.TableText.{line_text};
 ghost use Rattle.release_writer.specs.ShownCells.{CanBeShown, release_text};
-ghost use Rattle.release_writer.specs.Lines.{IsReady, bytes_written, lines_below, place_line};
+ghost use Rattle.release_writer.specs.Lines.{IsReady, bytes_written, AppendsText, lines_below, place_line};
 ghost use Rattle.release_writer.specs.Pages.{IsPage};
 
 use crate::lines::{write_names, write_place};
@@ -113,9 +113,8 @@ fn write_below(
     requires place { is_place_in (trees_of page.now.book.now.trees (take (length place.now) page.now.table.now))
         place.now ≡ true }
     ensures ready { OnOk result (IsReady writer.new) }
-    ensures text { OnOk result (bytes_written writer.new
-        ≡ option_map (λ text. text ++ lines_below page.now.book.now page.now.table.now page.now.decimals page.now.shown
-        place.now) (bytes_written writer.old)) }
+    ensures text { OnOk result (AppendsText writer.old writer.new
+        (lines_below page.now.book.now page.now.table.now page.now.decimals page.now.shown place.now)) }
 {
     if place.len() >= page.table.len() {
         return write_whole(alloc, writer, page, place);
@@ -141,9 +140,8 @@ fn write_whole(
     requires code_for_each_variable { length place.now ≡ length page.now.table.now }
     requires place { is_place_in (trees_of page.now.book.now.trees page.now.table.now) place.now ≡ true }
     ensures ready { OnOk result (IsReady writer.new) }
-    ensures text { OnOk result (bytes_written writer.new
-        ≡ option_map (λ text. text ++ place_line page.now.book.now page.now.table.now page.now.decimals page.now.shown
-        place.now) (bytes_written writer.old)) }
+    ensures text { OnOk result (AppendsText writer.old writer.new
+        (place_line page.now.book.now page.now.table.now page.now.decimals page.now.shown place.now)) }
 {
     let number = number_text(alloc, page.book, page.t, place, page.decimals, page.shown)?;
     write_place(
