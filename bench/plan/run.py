@@ -4,9 +4,10 @@
 usage: run.py
 
 A table of 140 by 140 codes has five or six records in most of its 19,600 inner cells, and two in about a tenth of them, which are
-primary; or fifty-odd in most; and one of 26 by 26 by 26 codes has five or six. Each is run twice: with a rule that names these cells, and with one that names none. The
-first run plans, and then ends as `undecided: size`, since more than 1,500 hidden cells hang together; the second reads, adds up and writes. It needs
-`python3` and the program built (`../../argus` does that).
+primary; or fifty-odd in most; and one of 26 by 26 by 26 codes has five or six. A table of two variables with three levels of codes each, of five and five
+and five codes and of four and five and five, has 19,500 cells in all, of which about a tenth are primary. Each is run twice: with a rule that names these
+cells, and with one that names none. The first run plans, and then ends as `undecided: size`, since more than 1,500 hidden cells hang together; the
+second reads, adds up and writes. It needs `python3` and the program built (`../../argus` does that).
 """
 
 import os
@@ -24,30 +25,47 @@ JOB = (
 )
 
 
-def places(codes, dimensions):
-    """All places of a table with so many codes in each dimension."""
-    if dimensions == 0:
+def leaves(levels):
+    """All codes of a variable with so many digits at each of its levels; a level has the same digits below each code above."""
+    codes = [""]
+    for width, digits in levels:
+        codes = [f"{code}{digit:0{width}d}" for code in codes for digit in range(digits)]
+    return codes
+
+
+def places(variables):
+    """All places of a table with these codes for each variable."""
+    if not variables:
         yield ""
         return
-    for place in places(codes, dimensions - 1):
-        for code in range(codes):
-            yield f"{place}{code:03d}"
+    for place in places(variables[:-1]):
+        for code in variables[-1]:
+            yield f"{place}{code}"
 
 
-def write(folder, codes, dimensions, each):
-    """Writes the records and metadata of a table, and says how many records and primary cells it has."""
+def described(k, levels):
+    """The lines of the metadata for variable k, whose codes are three bytes wide."""
+    lines = f"{'ABC'[k]} {3 * k + 1} 3\n<RECODEABLE>\n"
+    if len(levels) > 1:
+        widths = " ".join(str(width) for width, _ in levels)
+        lines += f"<HIERARCHICAL>\n<HIERLEVELS> {widths}\n"
+    return lines
+
+
+def write(folder, variables, each, rate):
+    """Writes the records and metadata of a table, and says how many records and primary inner cells it has."""
     numbers = random.Random(1)
     records = primary = 0
     with open(os.path.join(folder, "m.asc"), "w", encoding="ascii") as out:
-        for place in places(codes, dimensions):
-            count = 2 if numbers.random() < 0.1 else each + numbers.randint(0, 1)
+        for place in places([leaves(levels) for levels in variables]):
+            count = 2 if numbers.random() < rate else each + numbers.randint(0, 1)
             records += count
             primary += count == 2
             for _ in range(count):
                 out.write(f"{place}{numbers.randint(1, 1000):4d}\n")
-    variables = "".join(f"{'ABC'[k]} {3 * k + 1} 3\n<RECODEABLE>\n" for k in range(dimensions))
+    lines = "".join(described(k, levels) for k, levels in enumerate(variables))
     with open(os.path.join(folder, "m.rda"), "w", encoding="ascii") as out:
-        out.write(METADATA.format(variables, 3 * dimensions + 1))
+        out.write(METADATA.format(lines, 3 * len(variables) + 1))
     return records, primary
 
 
@@ -64,12 +82,21 @@ def timed(folder, dimensions, least):
 
 
 def main():
-    for codes, dimensions, each in ((140, 2, 5), (140, 2, 50), (26, 3, 5)):
+    flat, small = [(3, 140)], [(3, 26)]
+    wide, deep = [(1, 5), (1, 5), (1, 5)], [(1, 4), (1, 5), (1, 5)]
+    tables = (
+        ("140 by 140 codes", [flat, flat], 5, 0.1),
+        ("140 by 140 codes", [flat, flat], 50, 0.1),
+        ("26 by 26 by 26 codes", [small, small, small], 5, 0.1),
+        ("three levels by three, 156 by 125 codes", [wide, deep], 5, 0.16),
+        ("three levels by three, 156 by 125 codes", [wide, deep], 50, 0.16),
+    )
+    for name, variables, each, rate in tables:
         with tempfile.TemporaryDirectory() as folder:
-            records, primary = write(folder, codes, dimensions, each)
-            print(f"{dimensions} variables of {codes} codes, {records} records, {primary} primary cells")
+            records, primary = write(folder, variables, each, rate)
+            print(f"{name}: {records} records, {primary} primary cells")
             for least in (3, 1):
-                said, spent = timed(folder, dimensions, least)
+                said, spent = timed(folder, len(variables), least)
                 print(f"  {said}: {spent:.2f} s")
 
 
