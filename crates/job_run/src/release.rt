@@ -1,4 +1,4 @@
-ghost use Rattle.std.specs.Prelude.{◌≡◌, ◌+◌, ◌≤◌, ◌^◌, None, IfOk, length, pos, ◌≤ℤ◌, ◌*ℤ◌};
+ghost use Rattle.std.specs.Prelude.{◌≡◌, ◌+◌, ◌≤◌, None, IfOk, length};
 ghost use Rattle.job_lang.specs.JobLimits.{IsMethod};
 ghost use Rattle.job_inputs.specs.SettledJobs.{IsSettledOf, SettledInputs};
 ghost use Rattle.job_run.specs.Books.{CanBeReleased};
@@ -11,6 +11,7 @@ use crate::release_texts::puts_for;
 use crate::rounded::rounded_release;
 use crate::stop::Stop;
 use cell_protection::{Protection, protect_cells};
+use job_check::base_in_units;
 use job_inputs::SettledJob;
 use relations::relations_of;
 use release_writer::Shown;
@@ -38,21 +39,10 @@ fn base_of(method: Method, decimals: u8) -> Option<i128>
     ensures { result ≡ roundings.base_in_units method decimals }
 {
     match method {
-        Method::Rnd(base) => Some(in_units(base, decimals)),
+        Method::Rnd(_) => Some(base_in_units(method, decimals)),
         Method::Gh(_) => None,
         Method::Modular => None,
     }
-}
-
-// A base in units of so many decimals.
-fn in_units(base: i128, decimals: u8) -> i128
-    requires least { pos 1 ≤ℤ base }
-    requires most { base ≤ℤ pos 1000000000 }
-    requires decimals { decimals ≤ 13 }
-    ensures { result ≡ base *ℤ pos (10 ^ decimals) }
-{
-    let unit = 10u64.pow(u32::from(decimals));
-    base * i128::from(unit)
 }
 
 // The release of a job that hides cells.
