@@ -1,5 +1,5 @@
 -- Marks that tell the sum, the number and the largest of the records in their cells (handbook, magnitude tables).
-use Rattle.std.specs.Prelude.{◌≡◌, ℕ, ◌≤◌, ◌<◌, ◌^◌, List, [], length, slice_get, slice_index, slice_index_or, Some, pos, ◌≤ℤ◌, ◌<ℤ◌}
+use Rattle.std.specs.Prelude.{◌≡◌, ℕ, ◌≤◌, ◌<◌, ◌^◌, List, [], length, slice_get, slice_index, slice_index_or, Some, pos, ◌≤ℤ◌, ◌<ℤ◌, All}
 use Rattle.sdc_base.specs.Trees.{Tree}
 use Rattle.sdc_base.specs.Records.{Name}
 use Rattle.sdc_base.specs.Sums.{truth, freq}
@@ -20,6 +20,11 @@ pub record IsRow (trees : List Tree) (scale : ℕ) (row : Row) : Type 0 where
   pub below : row.value <ℤ pos (10 ^ 15)
   pub light : row.weight < 10 ^ 8
   pub heavy : scale ≤ row.weight
+
+-- at most a million records of these trees
+pub record CanBeTabulated (trees : List Tree) (scale : ℕ) (rows : List Row) : Type 0 where
+  pub each : All (IsRow trees scale) rows
+  pub at_most_1000000 : length rows ≤ 1000000
 
 -- a mark without records
 pub record HasNone (mark : Mark) : Type 0 where

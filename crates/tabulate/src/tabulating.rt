@@ -3,7 +3,7 @@ ghost use Rattle.linked_tables.specs.declared.mark.Mark.{Mark as Noted};
 ghost use Rattle.linked_tables.specs.BookCells.{IsBook};
 ghost use Rattle.tabulate.specs.MarkRecords.{hidden_at};
 ghost use Rattle.tabulate.specs.EmptyLists.{HasEmptyList, HaveEmptyLists};
-ghost use Rattle.tabulate.specs.TabulatedMarks.{AreTabulated, HasNone, IsRow};
+ghost use Rattle.tabulate.specs.TabulatedMarks.{AreTabulated, CanBeTabulated, HasNone};
 
 use crate::folding::fold_table;
 use crate::placing::give_rows;
@@ -24,8 +24,7 @@ pub fn tabulate(book: &mut Book, rows: &[Row], keep: u8, scale: u32)
     requires at_most_ten { keep ≤ 10 }
     requires scale_from_one { 1 ≤ scale }
     requires scale_at_most_10000 { scale ≤ 10000 }
-    requires at_most_1000000 { length rows.now ≤ 1000000 }
-    requires rows { All (IsRow book.old.trees scale) rows.now }
+    requires rows { CanBeTabulated book.old.trees scale rows.now }
     requires none { All HasNone book.old.marks }
     ensures marks { AreTabulated book.new rows.now keep scale }
     ensures trees { book.new.trees ≡ book.old.trees }

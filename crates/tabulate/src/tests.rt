@@ -1,5 +1,5 @@
 ghost use Rattle.std.specs.Prelude.{None, slice_get, ◌≡◌, ◌<◌, ◌≤◌, ◌^◌, ℕ, [], true, length, slice_index, slice_index_or, All, pos, ◌≤ℤ◌, ◌<ℤ◌};
-ghost use Rattle.tabulate.specs.TabulatedMarks.{HasNone, IsRow};
+ghost use Rattle.tabulate.specs.TabulatedMarks.{CanBeTabulated, HasNone, IsRow};
 
 use crate::{TopList, tabulate};
 use linked_tables::{Book, Mark};
@@ -75,9 +75,9 @@ fn is_row(book: &Book, scale: u32, row: &Row) -> bool
 }
 
 fn are_rows(book: &Book, scale: u32, rows: &[Row]) -> bool
-    ensures { result ≡ true → All (IsRow book.now.trees scale) rows.now }
+    ensures { result ≡ true → CanBeTabulated book.now.trees scale rows.now }
 {
-    rows.iter().all(|row| is_row(book, scale, row))
+    rows.len() <= 100 && rows.iter().all(|row| is_row(book, scale, row))
 }
 
 fn has_none(mark: &Mark) -> bool
@@ -95,7 +95,7 @@ fn have_none(marks: &[Mark]) -> bool
 // Tabulates, where it may be called.
 fn tabulated(book: &mut Book, rows: &[Row], keep: u8, scale: u32) -> bool {
     let ready = have_none(book.marks()) && are_rows(book, scale, rows);
-    if !ready || rows.len() > 100 || keep < 2 || keep > 10 || scale < 1 || scale > 100 {
+    if !ready || keep < 2 || keep > 10 || scale < 1 || scale > 100 {
         return false;
     }
     tabulate(book, rows, keep, scale);

@@ -31,7 +31,7 @@ tables-preserved c =
     let same : length c.start.new.book.tables ≡ length book.tables = ap (λ (b : BookView). length b.tables) c.start.ensures.started.frame in
     let below : t < length book.tables = omega (arith, c.tables-test.true, c.tables-t-end.ensures, same) in
     let table = read-within book.tables t below in
-    let good : All (IsOf book.trees) c.args.rows.now = λ k d h. let row = c.requires.rows k d h in record { coded = row.each; inside = row.inside } in
+    let good : All (IsOf book.trees) c.args.rows.now = λ k d h. let row = c.requires.rows.each k d h in record { coded = row.each; inside = row.inside } in
     let kept = λ (cell : ℕ). c.fold_table.ensures.kept cell ∙ c.give_rows.ensures.kept cell ∙ c.tables.invariant.kept cell in
     record {
       frame = c.fold_table.ensures.frame ∙ ap (λ (b : BookView). record b { marks = next.marks }) (c.give_rows.ensures.frame ∙ ap (λ (b : BookView). record b { marks = mid.marks }) c.tables.invariant.frame);
@@ -45,4 +45,4 @@ pub returns-clause-marks : goal.returns-clause-marks
 returns-clause-marks c =
     let book = c.args.book.now in
     let same : length c.start.new.book.tables ≡ length book.tables = ap (λ (b : BookView). length b.tables) c.start.ensures.started.frame in
-    all-given book c.tables.book c.args.keep c.args.scale c.args.rows.now c.tables.t (omega (arith, c.tables-test.false, c.tables-t-end.ensures, same)) c.start.ensures.book c.requires.rows c.requires.at_most_1000000 c.tables.invariant.frame c.tables.invariant.kept c.tables.invariant.given
+    all-given book c.tables.book c.args.keep c.args.scale c.args.rows.now c.tables.t (omega (arith, c.tables-test.false, c.tables-t-end.ensures, same)) c.start.ensures.book c.requires.rows.each c.requires.rows.at_most_1000000 c.tables.invariant.frame c.tables.invariant.kept c.tables.invariant.given
