@@ -7,7 +7,10 @@ pub tabulate-requires-clause-scale_from_one : goal.tabulate-requires-clause-scal
 tabulate-requires-clause-scale_from_one c = (scale-range c.args.described.now c.requires.sound).0
 
 pub tabulate-requires-clause-rows : goal.tabulate-requires-clause-rows
-tabulate-requires-clause-rows c = rows-are c.args.book.trees c.args.described.now.bound.scale c.args.rows.now c.requires.rows.each
+tabulate-requires-clause-rows c = record {
+  each = rows-are c.args.book.trees c.args.described.now.bound.scale c.args.rows.now c.requires.rows.each;
+  at_most_1000000 = c.requires.rows.few;
+}
 
 pub returns-clause-told : goal.returns-clause-told
 returns-clause-told c = subst (λ (kept : ℕ). AreTabulated c.tabulate.new.book c.args.rows.now kept c.args.described.now.bound.scale) c.keep-kept.ensures.value c.tabulate.ensures.marks
