@@ -11,6 +11,9 @@ use Rattle.worlds.specs.RefutationFaults.{IsGivenRefutation}
 use Rattle.interval_audit.specs.declared.answer.AskFault.{AskFault}
 use Rattle.interval_audit.specs.declared.answer.AskFault.TheVariants.{Work, Wide, Size, Memory}
 use Rattle.repair.specs.LevelQuestions.{AreGiven}
+use Rattle.repair.specs.declared.progress.Progress.{Progress}
+use Rattle.repair.specs.declared.task.Task.{Task}
+use Rattle.repair.specs.declared.trying.Findings.{Findings}
 use Rattle.repair.specs.declared.trial.Trial.{Trial}
 use Rattle.repair.specs.declared.trial.Trial.TheVariants.{Reached, Stopped}
 use Rattle.repair.specs.declared.trial.Renewal.{Renewal}
@@ -20,6 +23,7 @@ use Rattle.repair.specs.Repairs.{cell_and_side}
 use Rattle.repair.specs.Needs.{others_hidden, set_when_tried}
 use Rattle.repair.specs.KeptWorlds.{IsServing, AreServed}
 use Rattle.repair.specs.Stops.{Ascend, AreShown, IsQuestion}
+use Rattle.repair.specs.Tasks.{case_of}
 
 -- each world replaced by the new one, where there is one
 abbrev pub renew_worlds : List World → List (Option World) → List World
@@ -76,6 +80,11 @@ pub record IsTried (c : Case) (larger : List Bool) (n : ℕ) (flags : List Bool)
   pub below : All (λ cell. cell < n) shown
   pub are_free : All (λ cell. IsOfKind c.cells cell Free) shown
   pub are_open : All (λ cell. is_hidden larger cell ≡ true) shown
+
+-- so far has a task come with trying cells, by its progress and its findings
+abbrev pub HasTried : Task → List Bool → ℕ → Progress → Findings → Type 0
+HasTried task larger n progress tried =
+    IsTried (case_of task) larger n progress.hidden.flags progress.worlds tried.needs tried.shown
 
 -- a question has a fault while a cell, the last of those shown, is being tried
 pub record IsTryStop (c : Case) (larger : List Bool) (limit : ℕ) (fault : AskFault) (shown : List ℕ) : Type 0 where

@@ -1,15 +1,41 @@
 -- What one question, and all of them, come to on the way of a protection (own).
-use Rattle.std.specs.Prelude.{ℕ, ◌+◌, ◌<◌, Bool, List, Option, None, Some}
+use Rattle.std.specs.Prelude.{◌≡◌, ℕ, ℤ, ◌+◌, ◌<◌, Bool, List, length, Option, None, Some}
+use Rattle.sdc_base.specs.HiddenSets.{IsPermitted}
 use Rattle.worlds.specs.declared.refuted.Refuted.{Refuted}
 use Rattle.worlds.specs.declared.world.World.{World}
+use Rattle.worlds.specs.ProtectFaults.{asked_of}
 use Rattle.interval_audit.specs.declared.answer.AskFault.{AskFault}
+use Rattle.repair.specs.declared.progress.Progress.{Progress}
 use Rattle.repair.specs.declared.serving.Impossible.{Impossible}
 use Rattle.repair.specs.declared.serving.Step.{Step}
 use Rattle.repair.specs.declared.serving.Step.TheVariants.{Served, Repaired, Cannot}
+use Rattle.repair.specs.declared.task.Task.{Task}
 use Rattle.repair.specs.HidingOrder.{Case}
 use Rattle.repair.specs.KeptWorlds.{AreServedBefore, IsRepaired, shown_count}
 use Rattle.repair.specs.Stops.{IsQuestion}
+use Rattle.repair.specs.Tasks.{case_of}
 use Rattle.repair.specs.Verdicts.{IsCannot}
+
+-- A protection is ready for a repair: the hidden set is permitted, and there are a flag of it and a number of the scratch
+-- for each cell of the system.
+pub record IsReadyForRepair (task : Task) (scratch : List ℤ) (progress : Progress) : Type 0 where
+  pub long : length scratch ≡ task.system.now.cells
+  pub each : length progress.hidden.flags ≡ task.system.now.cells
+  pub permitted : IsPermitted task.cells.now progress.hidden.flags
+
+-- repairing has come to this place, from the planned set
+abbrev pub IsRepairedUpTo : Task → ℕ → List Bool → Progress → Type 0
+IsRepairedUpTo task place planned progress =
+    IsRepaired (case_of task) task.prices.now planned progress.hidden.flags progress.repairs place
+
+-- what was repaired stays repaired: from whatever set repairing had come to the place, it still has
+abbrev pub StaysRepaired : Task → ℕ → Progress → Progress → Type 0
+StaysRepaired task place before after =
+    (planned : List Bool) → IsRepairedUpTo task place planned before → IsRepairedUpTo task place planned after
+
+-- repairing has come to the end of all that is asked, from the planned set
+abbrev pub IsRepairedForAll : Task → List Bool → Progress → Type 0
+IsRepairedForAll task planned progress = IsRepairedUpTo task (length (asked_of 0 task.cells.now)) planned progress
 
 -- a cell that can't be protected to a side
 abbrev pub IsImpossible : Case → Impossible → Type 0

@@ -9,11 +9,14 @@ use Rattle.worlds.specs.Protection.{Protection}
 use Rattle.worlds.specs.ProtectFaults.{asked_of, IsProtecting}
 use Rattle.repair.specs.KeptWorlds.{AreServed}
 use Rattle.worlds.specs.RefutationFaults.{IsGivenRefutation}
+use Rattle.repair.specs.declared.progress.Progress.{Progress}
+use Rattle.repair.specs.declared.task.Task.{Task}
 use Rattle.repair.specs.declared.verdict.Verdict.{Verdict}
 use Rattle.repair.specs.declared.verdict.Verdict.TheVariants.{Protected, Cannot}
 use Rattle.repair.specs.HidingOrder.{Case, hide_subjects, IsSubset, StandsAt, ProtectsBefore, ProtectsAll}
 use Rattle.repair.specs.Repairs.{AreRepairs}
 use Rattle.repair.specs.Needs.{others_hidden, IsNeed}
+use Rattle.repair.specs.Tasks.{case_of}
 
 -- A cell can't be protected to a side: multipliers refute its level for the full set, so that no permitted set protects
 -- it; and the full set protects all that is asked before it.
@@ -43,6 +46,13 @@ pub record IsProtected (c : Case) (prices : List ℕ) (planned : List Bool) (pro
 pub record AreNeeds (c : Case) (flags larger : List Bool) (needs : List Refuted) : Type 0 where
   pub each_needed : map (λ need. need.subject) needs ≡ others_hidden flags 0 c.cells
   pub are_needs : All (IsNeed c flags larger) needs
+
+-- A hidden set is narrowed to what is needed: its repairs are justified and in order from the planned set, it holds
+-- nothing beyond the planned set and their subjects, and each hidden cell that isn't primary is needed.
+pub record IsNarrowed (task : Task) (planned : List Bool) (progress : Progress) (needs : List Refuted) : Type 0 where
+  pub are_repairs : AreRepairs (case_of task) task.prices.now planned progress.repairs
+  pub within : IsSubset progress.hidden.flags (hide_subjects planned progress.repairs)
+  pub are_needs : AreNeeds (case_of task) progress.hidden.flags (hide_subjects planned progress.repairs) needs
 
 -- what a protection that began with this set comes to
 abbrev pub IsVerdict : Case → List ℕ → List Bool → Verdict → Type 0

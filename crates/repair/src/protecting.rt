@@ -1,13 +1,13 @@
 ghost use Rattle.std.specs.Prelude.{◌≡◌, ◌↔◌, ◌≤◌, IsTrue, List, Bool, length, All, IfOk, IfErr};
 ghost use Rattle.sdc_base.specs.HiddenSets.{IsPermitted, full_set};
 ghost use Rattle.cost_rule.specs.Costs.{AreCosted};
-ghost use Rattle.repair.specs.HidingOrder.{case, prices_of, corners_of, planned_set, hide_subjects, IsSubset, MayHide, ProtectsAll};
-ghost use Rattle.repair.specs.Repairs.{AreRepairs};
-ghost use Rattle.repair.specs.KeptWorlds.{HasModestLevels, AreServed, IsRepaired};
+ghost use Rattle.repair.specs.HidingOrder.{case, prices_of, corners_of, planned_set, MayHide, ProtectsAll};
+ghost use Rattle.repair.specs.KeptWorlds.{HasModestLevels, AreServed};
 ghost use Rattle.repair.specs.Tasks.{case_of};
 ghost use Rattle.worlds.specs.ProtectFaults.{asked_of};
-ghost use Rattle.repair.specs.Stops.{StopsFor};
-ghost use Rattle.repair.specs.Verdicts.{IsVerdict, AreNeeds, is_cannot};
+ghost use Rattle.repair.specs.Stops.{StopsAsTold};
+ghost use Rattle.repair.specs.QuestionSteps.{IsRepairedForAll};
+ghost use Rattle.repair.specs.Verdicts.{IsVerdict, IsNarrowed, is_cannot};
 
 use crate::planned::make_planned_set;
 use crate::prices::list_prices;
@@ -71,9 +71,8 @@ pub fn protect<'a, F: TellsCosts>(
         (prices_of rule.now cells.now marks.now) (planned_set cells.now (corners_of trail.now.steps)) verdict) }
     ensures cannot { IfOk result (λ verdict. IsTrue (is_cannot verdict) ↔ ¬ ProtectsAll (case system.now cells.now)
         (full_set cells.now)) }
-    ensures stopped { IfErr result (λ stopped. StopsFor (case system.now cells.now)
-        (prices_of rule.now cells.now marks.now) (planned_set cells.now (corners_of trail.now.steps)) limit
-        stopped.fault stopped.repairs stopped.shown) }
+    ensures stopped { IfErr result (λ stopped. StopsAsTold (case system.now cells.now)
+        (prices_of rule.now cells.now marks.now) (planned_set cells.now (corners_of trail.now.steps)) limit stopped) }
 {
     // for the proof: read, so that it is known to be a number of 32 bits
     let _cells = system.cells;
@@ -110,8 +109,8 @@ fn settle<'a>(
     requires each { length hidden.flags ≡ task.now.system.now.cells }
     requires permitted { IsPermitted task.now.cells.now hidden.flags }
     ensures verdict { IfOk result (λ verdict. IsVerdict (case_of task.now) task.now.prices.now hidden.flags verdict) }
-    ensures stopped { IfErr result (λ stopped. StopsFor (case_of task.now) task.now.prices.now hidden.flags
-        task.now.limit stopped.fault stopped.repairs stopped.shown) }
+    ensures stopped { IfErr result (λ stopped. StopsAsTold (case_of task.now) task.now.prices.now hidden.flags
+        task.now.limit stopped) }
 {
     let mut progress = Progress {
         hidden,
@@ -146,14 +145,10 @@ fn narrowed_question<'a>(
     requires each { length repaired.hidden.flags ≡ task.now.system.now.cells }
     requires permitted { IsPermitted task.now.cells.now repaired.hidden.flags }
     requires served { AreServed (case_of task.now) repaired.hidden.flags (asked_of 0 task.now.cells.now) repaired.worlds }
-    ensures verdict { IfOk result (λ verdict. (planned : List Bool)
-        → IsRepaired (case_of task.now) task.now.prices.now planned repaired.hidden.flags repaired.repairs
-        (length (asked_of 0 task.now.cells.now))
+    ensures verdict { IfOk result (λ verdict. (planned : List Bool) → IsRepairedForAll task.now planned repaired
         → IsVerdict (case_of task.now) task.now.prices.now planned verdict) }
-    ensures stopped { IfErr result (λ stopped. (planned : List Bool)
-        → IsRepaired (case_of task.now) task.now.prices.now planned repaired.hidden.flags repaired.repairs
-        (length (asked_of 0 task.now.cells.now))
-        → StopsFor (case_of task.now) task.now.prices.now planned task.now.limit stopped.fault stopped.repairs stopped.shown) }
+    ensures stopped { IfErr result (λ stopped. (planned : List Bool) → IsRepairedForAll task.now planned repaired
+        → StopsAsTold (case_of task.now) task.now.prices.now planned task.now.limit stopped) }
 {
     let mut progress = repaired;
     let mut tried = Findings {
@@ -178,8 +173,7 @@ fn verdict_of<'a>(
     requires each { length progress.hidden.flags ≡ task.now.system.now.cells }
     requires permitted { IsPermitted task.now.cells.now progress.hidden.flags }
     requires served { AreServed (case_of task.now) progress.hidden.flags (asked_of 0 task.now.cells.now) progress.worlds }
-    ensures { (planned : List Bool) → AreRepairs (case_of task.now) task.now.prices.now planned progress.repairs
-        → IsSubset progress.hidden.flags (hide_subjects planned progress.repairs) → AreNeeds (case_of task.now) progress.hidden.flags (hide_subjects planned progress.repairs) needs
+    ensures { (planned : List Bool) → IsNarrowed task.now planned progress needs
         → IsVerdict (case_of task.now) task.now.prices.now planned result }
 {
     match Protected::new(

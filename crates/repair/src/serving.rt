@@ -1,13 +1,12 @@
 ghost use Rattle.std.specs.Prelude.{◌≡◌, ◌+◌, ◌<◌, [], List, Bool, length, All, IfOk, IfErr, OnErr};
-ghost use Rattle.sdc_base.specs.HiddenSets.{IsPermitted};
 ghost use Rattle.sdc_base.specs.Worlds.{level};
 ghost use Rattle.sdc_base.specs.declared.cell.Kind.TheVariants.{Primary as PrimaryKind};
 ghost use Rattle.repair.specs.LevelQuestions.{IsLevelQuestion};
 ghost use Rattle.repair.specs.HidingOrder.{IsOfKind};
 ghost use Rattle.repair.specs.Tasks.{case_of};
-ghost use Rattle.repair.specs.KeptWorlds.{HasModestLevels, AreServedBefore, IsRepaired, IsStopped};
+ghost use Rattle.repair.specs.KeptWorlds.{HasModestLevels, AreServedBefore, IsStopped};
 ghost use Rattle.repair.specs.Stops.{IsQuestion};
-ghost use Rattle.repair.specs.QuestionSteps.{IsStep, IsImpossible, AreServedOr, IsHalted};
+ghost use Rattle.repair.specs.QuestionSteps.{IsReadyForRepair, IsRepairedUpTo, StaysRepaired, IsStep, IsImpossible, AreServedOr, IsHalted};
 
 use crate::cheapest::subject_of;
 use crate::progress::Progress;
@@ -43,18 +42,14 @@ pub(crate) fn serve_all(
     scratch: &mut [i128],
     progress: &mut Progress,
 ) -> Result<Option<Impossible>, AskFault>
-    requires scratch { length scratch.old ≡ task.now.system.now.cells }
-    requires each { length progress.old.hidden.flags ≡ task.now.system.now.cells }
-    requires permitted { IsPermitted task.now.cells.now progress.old.hidden.flags }
+    requires ready { IsReadyForRepair task.now scratch.old progress.old }
     requires no_worlds { progress.old.worlds ≡ [] }
     requires no_repairs { progress.old.repairs ≡ [] }
-    ensures scratch { length scratch.new ≡ length scratch.old }
-    ensures each { length progress.new.hidden.flags ≡ task.now.system.now.cells }
-    ensures permitted { IsPermitted task.now.cells.now progress.new.hidden.flags }
+    ensures ready { IsReadyForRepair task.now scratch.new progress.new }
     ensures ok { IfOk result (λ found. AreServedOr (case_of task.now) (length task.now.questions.now)
         progress.new.hidden.flags progress.new.worlds found) }
-    ensures repaired { IfOk result (λ _. IsRepaired (case_of task.now) task.now.prices.now progress.old.hidden.flags
-        progress.new.hidden.flags progress.new.repairs (length task.now.questions.now)) }
+    ensures repaired { IfOk result (λ _. IsRepairedUpTo task.now (length task.now.questions.now)
+        progress.old.hidden.flags progress.new) }
     ensures err { IfErr result (λ fault. IsHalted (case_of task.now) task.now.prices.now progress.old.hidden.flags
         progress.new.hidden.flags progress.new.repairs task.now.limit fault) }
 {
@@ -76,16 +71,10 @@ fn serve(
     progress: &mut Progress,
 ) -> Result<Option<Impossible>, AskFault>
     requires place { place < length task.now.questions.now }
-    requires scratch { length scratch.old ≡ task.now.system.now.cells }
-    requires each { length progress.old.hidden.flags ≡ task.now.system.now.cells }
-    requires permitted { IsPermitted task.now.cells.now progress.old.hidden.flags }
+    requires ready { IsReadyForRepair task.now scratch.old progress.old }
     requires served { AreServedBefore (case_of task.now) progress.old.hidden.flags place progress.old.worlds }
-    ensures scratch { length scratch.new ≡ length scratch.old }
-    ensures each { length progress.new.hidden.flags ≡ task.now.system.now.cells }
-    ensures permitted { IsPermitted task.now.cells.now progress.new.hidden.flags }
-    ensures repaired { (planned : List Bool)
-        → IsRepaired (case_of task.now) task.now.prices.now planned progress.old.hidden.flags progress.old.repairs place
-        → IsRepaired (case_of task.now) task.now.prices.now planned progress.new.hidden.flags progress.new.repairs place }
+    ensures ready { IsReadyForRepair task.now scratch.new progress.new }
+    ensures repaired { StaysRepaired task.now place progress.old progress.new }
     ensures ok { IfOk result (λ found. AreServedOr (case_of task.now) (place + 1) progress.new.hidden.flags
         progress.new.worlds found) }
     ensures err { IfErr result (λ fault. IsQuestion (case_of task.now) progress.new.hidden.flags task.now.limit fault
@@ -110,16 +99,10 @@ fn ask_once(
     progress: &mut Progress,
 ) -> Result<Step, AskFault>
     requires place { place < length task.now.questions.now }
-    requires scratch { length scratch.old ≡ task.now.system.now.cells }
-    requires each { length progress.old.hidden.flags ≡ task.now.system.now.cells }
-    requires permitted { IsPermitted task.now.cells.now progress.old.hidden.flags }
+    requires ready { IsReadyForRepair task.now scratch.old progress.old }
     requires served { AreServedBefore (case_of task.now) progress.old.hidden.flags place progress.old.worlds }
-    ensures scratch { length scratch.new ≡ length scratch.old }
-    ensures each { length progress.new.hidden.flags ≡ task.now.system.now.cells }
-    ensures permitted { IsPermitted task.now.cells.now progress.new.hidden.flags }
-    ensures repaired { (planned : List Bool)
-        → IsRepaired (case_of task.now) task.now.prices.now planned progress.old.hidden.flags progress.old.repairs place
-        → IsRepaired (case_of task.now) task.now.prices.now planned progress.new.hidden.flags progress.new.repairs place }
+    ensures ready { IsReadyForRepair task.now scratch.new progress.new }
+    ensures repaired { StaysRepaired task.now place progress.old progress.new }
     ensures ok { IfOk result (λ step. IsStep (case_of task.now) place progress.old.hidden.flags
         progress.new.hidden.flags progress.new.worlds step) }
     ensures err { IfErr result (λ fault. IsQuestion (case_of task.now) progress.new.hidden.flags task.now.limit fault
@@ -158,17 +141,11 @@ fn hide_one(
     scratch: &mut [i128],
     progress: &mut Progress,
 ) -> Result<Step, Memory>
-    requires scratch { length scratch.old ≡ task.now.system.now.cells }
-    requires each { length progress.old.hidden.flags ≡ task.now.system.now.cells }
-    requires permitted { IsPermitted task.now.cells.now progress.old.hidden.flags }
+    requires ready { IsReadyForRepair task.now scratch.old progress.old }
     requires served { AreServedBefore (case_of task.now) progress.old.hidden.flags place progress.old.worlds }
     requires stopped { IsStopped (case_of task.now) progress.old.hidden.flags place asked multipliers }
-    ensures scratch { length scratch.new ≡ length scratch.old }
-    ensures each { length progress.new.hidden.flags ≡ task.now.system.now.cells }
-    ensures permitted { IsPermitted task.now.cells.now progress.new.hidden.flags }
-    ensures repaired { (planned : List Bool)
-        → IsRepaired (case_of task.now) task.now.prices.now planned progress.old.hidden.flags progress.old.repairs place
-        → IsRepaired (case_of task.now) task.now.prices.now planned progress.new.hidden.flags progress.new.repairs place }
+    ensures ready { IsReadyForRepair task.now scratch.new progress.new }
+    ensures repaired { StaysRepaired task.now place progress.old progress.new }
     ensures ok { IfOk result (λ step. IsStep (case_of task.now) place progress.old.hidden.flags
         progress.new.hidden.flags progress.new.worlds step) }
     ensures err { OnErr result (progress.new.hidden.flags ≡ progress.old.hidden.flags) }

@@ -5,7 +5,7 @@ ghost use Rattle.worlds.specs.ProtectFaults.{asked_of};
 ghost use Rattle.repair.specs.HidingOrder.{hide, IsOfKind};
 ghost use Rattle.repair.specs.Tasks.{case_of};
 ghost use Rattle.repair.specs.KeptWorlds.{AreServed};
-ghost use Rattle.repair.specs.CellTrials.{renew_worlds, with_new_world, IsTried, TriesStopFor};
+ghost use Rattle.repair.specs.CellTrials.{renew_worlds, with_new_world, HasTried, TriesStopFor};
 
 use crate::progress::Progress;
 use crate::task::Task;
@@ -40,8 +40,8 @@ pub(crate) fn try_all(
     ensures repairs { progress.new.repairs ≡ progress.old.repairs }
     ensures each { OnOk result (length progress.new.hidden.flags ≡ task.now.system.now.cells) }
     ensures permitted { OnOk result (IsPermitted task.now.cells.now progress.new.hidden.flags) }
-    ensures ok { OnOk result (IsTried (case_of task.now) progress.old.hidden.flags (length task.now.cells.now)
-        progress.new.hidden.flags progress.new.worlds tried.new.needs tried.new.shown) }
+    ensures ok { OnOk result (HasTried task.now progress.old.hidden.flags (length task.now.cells.now) progress.new
+        tried.new) }
     ensures err { IfErr result (λ fault. TriesStopFor (case_of task.now) progress.old.hidden.flags task.now.limit fault
         tried.new.shown) }
 {
@@ -69,13 +69,9 @@ fn try_next(
     ensures repairs { progress.new.repairs ≡ progress.old.repairs }
     ensures each { OnOk result (length progress.new.hidden.flags ≡ task.now.system.now.cells) }
     ensures permitted { OnOk result (IsPermitted task.now.cells.now progress.new.hidden.flags) }
-    ensures ok { OnOk result ((larger : List Bool)
-        → IsTried (case_of task.now) larger cell progress.old.hidden.flags progress.old.worlds tried.old.needs
-        tried.old.shown
-        → IsTried (case_of task.now) larger (cell + 1) progress.new.hidden.flags progress.new.worlds tried.new.needs tried.new.shown) }
-    ensures err { IfErr result (λ fault. (larger : List Bool)
-        → IsTried (case_of task.now) larger cell progress.old.hidden.flags progress.old.worlds tried.old.needs
-        tried.old.shown
+    ensures ok { OnOk result ((larger : List Bool) → HasTried task.now larger cell progress.old tried.old
+        → HasTried task.now larger (cell + 1) progress.new tried.new) }
+    ensures err { IfErr result (λ fault. (larger : List Bool) → HasTried task.now larger cell progress.old tried.old
         → TriesStopFor (case_of task.now) larger task.now.limit fault tried.new.shown) }
 {
     let place = cell as usize;
@@ -106,13 +102,9 @@ fn try_one(
     ensures repairs { progress.new.repairs ≡ progress.old.repairs }
     ensures each { OnOk result (length progress.new.hidden.flags ≡ task.now.system.now.cells) }
     ensures permitted { OnOk result (IsPermitted task.now.cells.now progress.new.hidden.flags) }
-    ensures ok { OnOk result ((larger : List Bool)
-        → IsTried (case_of task.now) larger cell progress.old.hidden.flags progress.old.worlds tried.old.needs
-        tried.old.shown
-        → IsTried (case_of task.now) larger (cell + 1) progress.new.hidden.flags progress.new.worlds tried.new.needs tried.new.shown) }
-    ensures err { IfErr result (λ fault. (larger : List Bool)
-        → IsTried (case_of task.now) larger cell progress.old.hidden.flags progress.old.worlds tried.old.needs
-        tried.old.shown
+    ensures ok { OnOk result ((larger : List Bool) → HasTried task.now larger cell progress.old tried.old
+        → HasTried task.now larger (cell + 1) progress.new tried.new) }
+    ensures err { IfErr result (λ fault. (larger : List Bool) → HasTried task.now larger cell progress.old tried.old
         → TriesStopFor (case_of task.now) larger task.now.limit fault tried.new.shown) }
 {
     let Ok(()) = tried.shown.push(cell) else {

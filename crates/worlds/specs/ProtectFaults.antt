@@ -1,5 +1,5 @@
 -- Whether worlds show that a hidden set protects its primary cells, and the first fault of them (own).
-use Rattle.std.specs.Prelude.{◌≡◌, ℕ, ◌+◌, ◌^◌, ◌-◌, min, ◌&&◌, ◌==◌, not, Bool, List, [], ◌∷◌, length, slice_get, Option, None, Some, Result, Ok, if◌then◌else◌, ◌*ℤ◌, int_le}
+use Rattle.std.specs.Prelude.{◌≡◌, ℕ, ◌+◌, ◌^◌, ◌-◌, min, drop, ◌&&◌, ◌==◌, not, Bool, List, [], ◌∷◌, length, slice_get, Option, None, Some, Result, Ok, if◌then◌else◌, ◌*ℤ◌, int_le}
 use Rattle.sdc_base.specs.Steps.{◌>>=◌, refuse, map_fault}
 use Rattle.sdc_base.specs.declared.cell.Cell.{Cell}
 use Rattle.sdc_base.specs.declared.cell.Kind.TheVariants.{Primary}
@@ -11,6 +11,7 @@ use Rattle.sdc_base.specs.HiddenSets.{is_hidden, IsPermitted}
 use Rattle.sdc_base.specs.Worlds.{Protects, level_at, amount_toward}
 use Rattle.worlds.specs.declared.faults.ProtectFault.{ProtectFault}
 use Rattle.worlds.specs.declared.faults.ProtectFault.TheVariants as fault
+use Rattle.worlds.specs.declared.pattern.Pattern.{Pattern}
 use Rattle.worlds.specs.declared.world.World.{World}
 use Rattle.worlds.specs.NumberLists.{terms_of, number_given}
 use Rattle.worlds.specs.WorldFaults.{refuse_at, world_fault}
@@ -57,6 +58,12 @@ lines_fault system cells flags line [] worlds = Ok tt
 lines_fault system cells flags line (asked ∷ rest) [] = Ok tt
 lines_fault system cells flags line (asked ∷ rest) (world ∷ worlds) =
     line_fault system cells flags line asked world >>= λ _. lines_fault system cells flags (line + 1) rest worlds
+
+-- the first fault of the worlds from a line on, for what is asked of the cells from a number on
+abbrev pub fault_from : Pattern → List World → ℕ → ℕ → Result (Unit {0}) ProtectFault
+fault_from pattern worlds number line =
+    lines_fault pattern.system.now pattern.cells.now pattern.hidden.now.flags line
+    (asked_of number (drop number pattern.cells.now)) (drop line worlds)
 
 -- the first fault of a hidden set with worlds
 abbrev pub protect_fault : System → List Cell → List Bool → List World → Result (Unit {0}) ProtectFault

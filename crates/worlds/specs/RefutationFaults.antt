@@ -62,6 +62,13 @@ abbrev pub terms_added : System → ℕ → Side → Multipliers → List Term
 terms_added system asked side multipliers =
     refuting_terms system.relations asked side multipliers.den multipliers.by_relation
 
+-- of listed multipliers with a denominator of 1 or more, where each hidden cell with a coefficient above 0 has an upper
+-- bound, the fault is a number wider than 128 bits
+abbrev pub IsWideWhereBounded : System → List Cell → List Bool → ℕ → Side → Multipliers → RefutationFault → Type 0
+IsWideWhereBounded system cells flags asked side multipliers found =
+    pos 1 ≤ℤ multipliers.den → IsListed (length system.relations) multipliers.by_relation
+    → AreBounded cells flags (coefficient (terms_added system asked side multipliers)) → IsWideFault found
+
 -- No number on the way to the bound sum is wider than 128 bits: no coefficient as it grows, no share, and no sum of the
 -- shares of the first cells.
 pub record IsHeldSum (cells : List Cell) (flags : List Bool) (terms : List Term) : Type 0 where

@@ -1,5 +1,5 @@
 ghost use Rattle.std.specs.Prelude.{◌≡◌, ◌+◌, ◌∷◌, [], ◌<◌, ◌≤◌, ◌^◌, ℕ, length, drop, Err, IfOk, IfErr};
-ghost use Rattle.worlds.specs.ProtectFaults.{line_number, primary_shown, fixed_hidden, asked_of, line_fault, lines_fault, protect_fault};
+ghost use Rattle.worlds.specs.ProtectFaults.{line_number, primary_shown, fixed_hidden, asked_of, line_fault, lines_fault, fault_from, protect_fault};
 
 use crate::faults::ProtectFault;
 use crate::pattern::Pattern;
@@ -112,14 +112,11 @@ fn check_cell(
     requires number { number < length pattern.now.cells.now }
     requires count { line + length (asked_of number (drop number pattern.now.cells.now)) ≡ length worlds.now }
     ensures length { length scratch.new ≡ length scratch.old }
-    ensures ok { IfOk result (λ next. lines_fault pattern.now.system.now pattern.now.cells.now
-        pattern.now.hidden.now.flags line (asked_of number (drop number pattern.now.cells.now)) (drop line worlds.now)
-        ≡ lines_fault pattern.now.system.now pattern.now.cells.now pattern.now.hidden.now.flags next (asked_of (number + 1) (drop (number + 1) pattern.now.cells.now)) (drop next worlds.now)) }
+    ensures ok { IfOk result (λ next. fault_from pattern.now worlds.now number line
+        ≡ fault_from pattern.now worlds.now (number + 1) next) }
     ensures count { IfOk result (λ next. next + length (asked_of (number + 1) (drop (number + 1) pattern.now.cells.now))
         ≡ length worlds.now) }
-    ensures err { IfErr result (λ fault. lines_fault pattern.now.system.now pattern.now.cells.now
-        pattern.now.hidden.now.flags line (asked_of number (drop number pattern.now.cells.now)) (drop line worlds.now)
-        ≡ Err fault) }
+    ensures err { IfErr result (λ fault. fault_from pattern.now worlds.now number line ≡ Err fault) }
 {
     // for the proof: read, so that it is known to be a number of 32 bits.
     let _cells = pattern.system.cells;

@@ -1,13 +1,12 @@
 ghost use Rattle.std.specs.Prelude.{◌≡◌, ◌↔◌, ℕ, ◌<◌, ◌≤ℤ◌, ℤ, pos, length, replicate, All, Err, IsOk, IfOk, OnOk, IfErr, Ok};
 ghost use Rattle.sdc_base.specs.Forms.{coefficient};
 ghost use Rattle.sdc_base.specs.Grounds.{IsGround};
-ghost use Rattle.sdc_base.specs.Refutations.{refuting_terms, AreBounded};
+ghost use Rattle.sdc_base.specs.Refutations.{refuting_terms};
 ghost use Rattle.sdc_base.specs.Refutations as spec;
-ghost use Rattle.worlds.specs.NumberLists.{IsListed};
 ghost use Rattle.sdc_base.specs.Systems.{NamesCells};
 ghost use Rattle.sdc_base.specs.Worlds.{Protects, amount_toward};
 ghost use Rattle.worlds.specs.BoundedNumbers.{number_at, numbers_with_terms};
-ghost use Rattle.worlds.specs.RefutationFaults.{terms_added, sum_of_bounds, refutation_fault, IsGivenSum, IsGivenRefutation, IsWideFault};
+ghost use Rattle.worlds.specs.RefutationFaults.{terms_added, sum_of_bounds, refutation_fault, IsGivenSum, IsGivenRefutation, IsWideWhereBounded};
 
 use crate::adding::{add_at, add_forms};
 use crate::faults::RefutationFault;
@@ -49,10 +48,7 @@ pub fn bound_sum(
     ensures given { IsOk result ↔ IsGivenSum system.now cells.now hidden.now.flags cell side multipliers.now }
     ensures sum { IfOk result (λ sum. sum
         ≡ spec.bound_sum cells.now hidden.now.flags (coefficient (terms_added system.now cell side multipliers.now))) }
-    ensures wide { IfErr result (λ fault. pos 1 ≤ℤ multipliers.now.den
-        → IsListed (length system.now.relations) multipliers.now.by_relation
-        → AreBounded cells.now hidden.now.flags (coefficient (terms_added system.now cell side multipliers.now))
-        → IsWideFault fault) }
+    ensures wide { IfErr result (IsWideWhereBounded system.now cells.now hidden.now.flags cell side multipliers.now) }
     ensures length { length scratch.new ≡ length scratch.old }
 {
     let pattern = Pattern {

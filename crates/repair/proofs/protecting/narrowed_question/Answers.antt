@@ -19,11 +19,12 @@ returns-clause-verdict c =
     let same : repairs ≡ c.args.repaired.repairs = c.in_default.ensures.repairs in
     let larger : c.args.repaired.hidden.flags ≡ hide_subjects planned repairs = is.hidden_is ∙ ap (λ (r : List Refuted). hide_subjects planned r) (sym same) in
     let tried = c.in_default.ensures.ok in
-    c.verdict_of.ensures planned
-    (subst (λ (r : List Refuted). AreRepairs task c.args.task.now.prices.now planned r) (sym same) is.are_repairs)
-    (subst (λ (f : List Bool). IsSubset flags f) larger tried.within)
-    (subst (λ (f : List Bool). AreNeeds task flags f c.try_all-outcome.new.tried.needs) larger
-    (all_needed task c.args.repaired.hidden.flags flags c.try_all-outcome.new.progress.worlds c.try_all-outcome.new.tried.needs c.try_all-outcome.new.tried.shown tried))
+    c.verdict_of.ensures planned (record {
+      are_repairs = subst (λ (r : List Refuted). AreRepairs task c.args.task.now.prices.now planned r) (sym same) is.are_repairs;
+      within = subst (λ (f : List Bool). IsSubset flags f) larger tried.within;
+      are_needs = subst (λ (f : List Bool). AreNeeds task flags f c.try_all-outcome.new.tried.needs) larger
+          (all_needed task c.args.repaired.hidden.flags flags c.try_all-outcome.new.progress.worlds c.try_all-outcome.new.tried.needs c.try_all-outcome.new.tried.shown tried);
+    })
 
 pub returns-in-Err-clause-stopped : goal.returns-in-Err-clause-stopped
 returns-in-Err-clause-stopped c =

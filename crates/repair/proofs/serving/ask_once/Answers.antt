@@ -23,7 +23,7 @@ pub ask-requires-clause-hidden : goal.ask-requires-clause-hidden
 ask-requires-clause-hidden c =
     let asked : ℕ × Side = get_or c.args.task.now.questions.now c.args.place (0, Above) in
     let is : IsOfKind c.args.task.now.cells.now asked.0 Primary = asked_primary c.args.task.now.cells.now c.args.place asked (stands_there c.args.task.now.cells.now c.args.task.now.questions.now c.args.place (0, Above) c.args.task.now.fits.in_order c.requires.place) in
-    subst (λ n. is_hidden c.args.progress.now.hidden.flags n ≡ true) (sym c.level_question-question.ensures.cell_is) (c.requires.permitted.primary_hidden asked.0 is.cell is.found is.is_kind)
+    subst (λ n. is_hidden c.args.progress.now.hidden.flags n ≡ true) (sym c.level_question-question.ensures.cell_is) (c.requires.ready.permitted.primary_hidden asked.0 is.cell is.found is.is_kind)
 
 pub returns-in_err-answer-clause-err : goal.returns-in_err-answer-clause-err
 returns-in_err-answer-clause-err c =
@@ -48,7 +48,7 @@ returns-in-Ok-clause-ok c =
     subst (IsWalkAnswer c.args.task.now.system.now c.args.task.now.cells.now flags c.level_question-question.result) c.in-Reaches.is c.in_ok-answer.ensures.read in
     subst (λ (f : List Bool). AreServedBefore task f (c.args.place + 1) c.keep.new.self.worlds) (sym c.in-Ok.ensures.flags)
     (subst (λ (ws : List World). AreServedBefore task flags (c.args.place + 1) ws) (sym c.in-Ok.ensures.ok)
-    (one_served task flags c.args.place asked c.level_question-question.result c.args.progress.now.worlds c.in-Reaches.world c.requires.permitted stands c.level_question-question.ensures reaching read c.requires.served))
+    (one_served task flags c.args.place asked c.level_question-question.result c.args.progress.now.worlds c.in-Reaches.world c.requires.ready.permitted stands c.level_question-question.ensures reaching read c.requires.served))
 
 pub returns-in-Reaches-clause-err : goal.returns-in-Reaches-clause-err
 returns-in-Reaches-clause-err c =

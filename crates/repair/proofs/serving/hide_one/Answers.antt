@@ -1,4 +1,4 @@
-use Rattle.std.proofs.Common.{◌<◌, refl, sym, subst, length, List, Bool, arith}
+use Rattle.std.proofs.Common.{◌<◌, ◌∙◌, ap, refl, sym, subst, length, length-set, true, List, Bool, arith}
 use Rattle.sdc_base.specs.HiddenSets.{IsPermitted}
 use Rattle.worlds.specs.declared.refuted.Refuted.{Refuted}
 use Rattle.repair.specs.HidingOrder.{Case, case, hide, coefficients_for}
@@ -13,18 +13,25 @@ pub subject_of-subject-requires-clause-asked : goal.subject_of-subject-requires-
 subject_of-subject-requires-clause-asked c = omega (arith, c.args.task.now.fits.one_each, asked_inside c.args.task.now.cells.now c.args.place c.args.asked c.requires.stopped.stands)
 
 pub repair-requires : goal.repair-requires
-repair-requires c = omega (arith, c.args.task.now.fits.one_each, c.requires.each, cheapest_inside _ _ _ _ _ c.in-Some.ensures.cheapest)
+repair-requires c = omega (arith, c.args.task.now.fits.one_each, c.requires.ready.each, cheapest_inside _ _ _ _ _ c.in-Some.ensures.cheapest)
 
 pub returns-in-None-clause-ok : goal.returns-in-None-clause-ok
 returns-in-None-clause-ok c =
-    cannot_by (case c.args.task.now.system.now c.args.task.now.cells.now) c.args.progress.now.hidden.flags c.args.place c.args.asked c.args.multipliers c.args.task.now.fits.one_each c.requires.each c.requires.permitted c.requires.stopped c.in-None.ensures.none
+    cannot_by (case c.args.task.now.system.now c.args.task.now.cells.now) c.args.progress.now.hidden.flags c.args.place c.args.asked c.args.multipliers c.args.task.now.fits.one_each c.requires.ready.each c.requires.ready.permitted c.requires.stopped c.in-None.ensures.none
 
-pub returns-in_ok-repair-in-Some-clause-permitted : goal.returns-in_ok-repair-in-Some-clause-permitted
-returns-in_ok-repair-in-Some-clause-permitted c =
+pub returns-in_ok-repair-in-Some-clause-ready : goal.returns-in_ok-repair-in-Some-clause-ready
+returns-in_ok-repair-in-Some-clause-ready c =
+    let cells = c.args.task.now.cells.now in
     let flags : List Bool = c.args.progress.now.hidden.flags in
-    let own = breaking_says c.args.task.now.cells.now flags (coefficients_for c.args.task.now.system.now c.args.asked c.args.multipliers) c.in-Some.subject c.in-Some.ensures.cheapest.breaking in
-    subst (IsPermitted c.args.task.now.cells.now) (sym c.in_ok-repair-in-Some.ensures.ok_flags)
-    (permitted_more c.args.task.now.cells.now flags c.in-Some.subject (omega (arith, c.args.task.now.fits.one_each, c.requires.each, cheapest_inside _ _ _ _ _ c.in-Some.ensures.cheapest)) (free_may c.args.task.now.cells.now c.in-Some.subject own.is_free) c.requires.permitted)
+    let subject = c.in-Some.subject in
+    let own = breaking_says cells flags (coefficients_for c.args.task.now.system.now c.args.asked c.args.multipliers) subject c.in-Some.ensures.cheapest.breaking in
+    let inside : subject < length flags = omega (arith, c.args.task.now.fits.one_each, c.requires.ready.each, cheapest_inside _ _ _ _ _ c.in-Some.ensures.cheapest) in
+    record {
+      long = c.subject_of-subject.ensures.length ∙ c.requires.ready.long;
+      each = ap (λ (f : List Bool). length f) c.in_ok-repair-in-Some.ensures.ok_flags ∙ length-set flags subject true ∙ c.requires.ready.each;
+      permitted = subst (IsPermitted cells) (sym c.in_ok-repair-in-Some.ensures.ok_flags)
+          (permitted_more cells flags subject inside (free_may cells subject own.is_free) c.requires.ready.permitted);
+    }
 
 pub returns-in_ok-repair-in-Some-clause-repaired : goal.returns-in_ok-repair-in-Some-clause-repaired
 returns-in_ok-repair-in-Some-clause-repaired c =
@@ -41,7 +48,7 @@ pub returns-in_ok-repair-in-Some-clause-ok : goal.returns-in_ok-repair-in-Some-c
 returns-in_ok-repair-in-Some-clause-ok c =
     let task : Case = case c.args.task.now.system.now c.args.task.now.cells.now in
     let flags : List Bool = c.args.progress.now.hidden.flags in
-    let within : c.in-Some.subject < length flags = omega (arith, c.args.task.now.fits.one_each, c.requires.each, cheapest_inside _ _ _ _ _ c.in-Some.ensures.cheapest) in
+    let within : c.in-Some.subject < length flags = omega (arith, c.args.task.now.fits.one_each, c.requires.ready.each, cheapest_inside _ _ _ _ _ c.in-Some.ensures.cheapest) in
     let own = breaking_says c.args.task.now.cells.now flags (coefficients_for c.args.task.now.system.now c.args.asked c.args.multipliers) c.in-Some.subject c.in-Some.ensures.cheapest.breaking in (
       subst (λ (f : List Bool). AreServedBefore task f c.args.place c.repair.new.self.worlds) (sym c.in_ok-repair-in-Some.ensures.ok_flags)
           (subst (λ ws. AreServedBefore task (hide flags c.in-Some.subject) c.args.place ws) (sym c.in_ok-repair-in-Some.ensures.worlds)
