@@ -17,3 +17,4 @@ pub mod Reordered
 pub mod OwnCorners
 pub mod Leaving
 pub mod Rankings
+pub mod PricedLists

@@ -48,8 +48,8 @@ begin_at [] (edges ∷ lists) = false
 begin_at (code ∷ codes) [] = false
 begin_at (code ∷ codes) (edges ∷ lists) = list_all (λ edge. edge.code == code) edges && begin_at codes lists
 
--- what a search goes by: a book with its cells, the costs, a table, the levels that a cube has to serve, and for each
--- variable of the table the cell's code with the edges from it
+-- what a search goes by: a book with its cells, the costs, a table, the levels that a cube has to serve, and the cell's
+-- code for each variable of the table
 pub record Setting : Type 0 where
   pub book : BookView
   pub cells : List Cell
@@ -57,15 +57,13 @@ pub record Setting : Type 0 where
   pub table : ℕ
   pub levels : Levels
   pub codes : List ℕ
-  pub lists : List (List Edge)
 
--- all costs are known, the levels are from 0, and the edges of at most 8 variables are those from the cell's codes
+-- all costs are known, the levels are from 0, and the table has at most 8 variables
 pub record IsSearchable (setting : Setting) : Type 0 where
   pub costed : All (λ mark. AreCosted mark.facts) setting.book.marks
   pub up : pos 0 ≤ℤ setting.levels.up
   pub down : pos 0 ≤ℤ setting.levels.down
-  pub few : length setting.lists ≤ 8
-  pub begun : begin_at setting.codes setting.lists ≡ true
+  pub few : length setting.codes ≤ 8
 
 -- the cell at a place of the table
 abbrev pub cell_in : Setting → List ℕ → Option ℕ

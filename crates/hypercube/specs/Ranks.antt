@@ -1,11 +1,12 @@
 -- The order in which a search goes through the edges of each variable: by what the corner of an edge alone costs (own).
-use Rattle.std.specs.Prelude.{◌≡◌, ℕ, ◌+◌, ◌<◌, Bool, true, false, if◌then◌else◌, List, [], ◌∷◌, length, map, filter, take, slice_get, slice_index_or, slice_set, Option}
+use Rattle.std.specs.Prelude.{◌≡◌, ℕ, ◌+◌, ◌<◌, ◌≤◌, Bool, true, false, if◌then◌else◌, List, [], ◌∷◌, length, map, filter, take, slice_get, slice_index_or, slice_set, Option}
+use Rattle.std.specs.List.{AllByRecursion}
 use Rattle.std.specs.List.Sorted.{IsNonDecreasingBy, IsPermutation}
 use Rattle.std.specs.Option.{option_map_or}
 use Rattle.sdc_base.specs.Cubes.{bears, corner_at, sign_over}
 use Rattle.sdc_base.specs.declared.cube.Corner.{Corner}
 use Rattle.sdc_base.specs.declared.cube.Edge.{Edge}
-use Rattle.hypercube.specs.Branches.{Setting, cell_in}
+use Rattle.hypercube.specs.Branches.{Setting, begin_at, cell_in}
 use Rattle.hypercube.specs.LeastCubes.{is_marked, price_in}
 use Rattle.hypercube.specs.declared.ranking.Priced.{Priced}
 
@@ -34,24 +35,40 @@ with_price setting k edge = record { price = price_over setting k edge; edge = e
 abbrev pub priced_of : Setting → ℕ → List Edge → List Priced
 priced_of setting k edges = map (with_price setting k) (filter (serves_over setting k) edges)
 
--- the edges of variable k in another order: those whose own corner bears the levels, and none costs less than one
--- before it
-pub record IsRanking (setting : Setting) (k : ℕ) (edges ranked : List Edge) : Type 0 where
-  pub same : IsPermutation (filter (serves_over setting k) edges) ranked
-  pub rising : IsNonDecreasingBy (price_over setting k) ranked
+-- edges of variable k with their prices: those whose own corner bears the levels, and none costs less than one before
+-- it
+pub record IsRanking (setting : Setting) (k : ℕ) (edges : List Edge) (ranked : List Priced) : Type 0 where
+  pub same : IsPermutation (priced_of setting k edges) ranked
+  pub rising : IsNonDecreasingBy (λ one. one.price) ranked
 
 -- list by list from variable k on
-abbrev pub AreRankings : Setting → ℕ → List (List Edge) → List (List Edge) → Type 0
+abbrev pub AreRankings : Setting → ℕ → List (List Edge) → List (List Priced) → Type 0
 AreRankings setting k [] [] = Unit {0}
 AreRankings setting k [] (ranked ∷ more) = ⊥
 AreRankings setting k (edges ∷ lists) [] = ⊥
 AreRankings setting k (edges ∷ lists) (ranked ∷ more) = IsRanking setting k edges ranked
     × AreRankings setting (k + 1) lists more
 
--- in each list none costs less than one before it
-abbrev pub AreRising : Setting → Type 0
-AreRising setting =
-    (k : ℕ) → k < length setting.lists → IsNonDecreasingBy (price_over setting k) (slice_index_or setting.lists k [])
+-- ---- in a search
+
+-- the edges without their prices
+abbrev pub edges_in : List Priced → List Edge
+edges_in priced = map (λ one. one.edge) priced
+
+-- the same of each list
+abbrev pub edge_lists : List (List Priced) → List (List Edge)
+edge_lists lists = map edges_in lists
+
+-- edges of variable k with the prices of their own corners, of which none costs less than one before it
+pub record ArePriced (setting : Setting) (k : ℕ) (priced : List Priced) : Type 0 where
+  pub prices : AllByRecursion (λ one. one.price ≡ price_over setting k one.edge) priced
+  pub rising : IsNonDecreasingBy (λ one. one.price) priced
+
+-- the lists of at most 8 variables, each with edges from the cell's code by their prices
+pub record AreRanked (setting : Setting) (lists : List (List Priced)) : Type 0 where
+  pub few : length lists ≤ 8
+  pub begun : begin_at setting.codes (edge_lists lists) ≡ true
+  pub priced : (k : ℕ) → k < length lists → ArePriced setting k (slice_index_or lists k [])
 
 -- edges that begin at the cell's codes for the first variables
 abbrev pub BeginAt : Setting → List Edge → Type 0

@@ -1,4 +1,4 @@
-ghost use Rattle.std.specs.Prelude.{◌≡◌, ◌<◌, ◌≤◌, ◌++◌, ◌∷◌, [], ◌≤ℤ◌, pos, length, drop, option_map, true, None, Some, if◌then◌else◌, slice_index_or, All, IfOk};
+ghost use Rattle.std.specs.Prelude.{◌≡◌, ◌<◌, ◌++◌, ◌∷◌, [], ◌≤ℤ◌, pos, length, drop, option_map, true, None, Some, if◌then◌else◌, slice_index_or, All, IfOk};
 ghost use Rattle.cost_rule.specs.Costs.{AreCosted};
 ghost use Rattle.std.specs.Option.{ForSome};
 ghost use Rattle.sdc_base.specs.Cubes as spec;
@@ -11,7 +11,7 @@ use crate::corners::{corners_of, place_over, sign_over};
 use crate::edges::{codes_at, codes_behind, edges_at};
 use crate::order::{Offer, better_of, costs_more};
 use crate::pricing::{price_of_hiding, price_to_hide};
-use crate::ranking::all_rankings;
+use crate::ranking::{Priced, all_rankings, list_at};
 use crate::serving::{bears_at, serve};
 use arrayvec::ArrayVec;
 use cost_rule::{CostRule, TellsCosts};
@@ -62,16 +62,6 @@ pub fn cheapest<F: TellsCosts>(
     let table = table_of(book, subtable.table);
     let lists = edges_at(alloc, book, &name, &table, &subtable.parents)?;
     let codes = codes_at(&name, &table, &subtable.parents);
-    let unranked = Search {
-        book,
-        cells,
-        rule,
-        table: subtable.table,
-        levels,
-        codes: &codes,
-        lists: lists.as_slice(),
-    };
-    let ranked_lists = all_rankings(alloc, &unranked)?;
     let search = Search {
         book,
         cells,
@@ -79,9 +69,9 @@ pub fn cheapest<F: TellsCosts>(
         table: subtable.table,
         levels,
         codes: &codes,
-        lists: ranked_lists.as_slice(),
     };
-    let best = search.better(alloc, &Few::empty(), None)?;
+    let ranked = all_rankings(alloc, &search, lists.as_slice())?;
+    let best = search.better(alloc, ranked.as_slice(), &Few::empty(), None)?;
     Ok(cube_of(best))
 }
 
@@ -124,8 +114,6 @@ pub(crate) struct Search<'a, F: TellsCosts> {
     levels: Levels,
     // The cell's codes, variable by variable of the table.
     codes: &'a Place,
-    // The edges from each of them.
-    lists: &'a [Items<Edge>],
 }
 
 impl<'a, F: TellsCosts> Model for Search<'a, F> {
@@ -133,9 +121,9 @@ impl<'a, F: TellsCosts> Model for Search<'a, F> {
 
     ghost Value = { Setting };
 
-    ghost view = { λ s. record { book = s.book.now; cells = s.cells.now; cost = s.rule.now; table = s.table; levels = s.levels; codes = s.codes.now; lists = s.lists.now } };
+    ghost view = { λ s. record { book = s.book.now; cells = s.cells.now; cost = s.rule.now; table = s.table; levels = s.levels; codes = s.codes.now } };
 
-    ghost invariant = { λ s. IsSearchable (record { book = s.book.now; cells = s.cells.now; cost = s.rule.now; table = s.table; levels = s.levels; codes = s.codes.now; lists = s.lists.now }) };
+    ghost invariant = { λ s. IsSearchable (record { book = s.book.now; cells = s.cells.now; cost = s.rule.now; table = s.table; levels = s.levels; codes = s.codes.now }) };
 }
 
 impl<'a, F: TellsCosts> Search<'a, F> {
@@ -145,13 +133,14 @@ impl<'a, F: TellsCosts> Search<'a, F> {
     fn better(
         &self,
         alloc: Global,
+        lists: &[Items<Priced>],
         chosen: &Few<Edge, 8>,
         best: Option<Offer>,
     ) -> Result<Option<Offer>, Memory>
-        requires rising { ranks.AreRising self.now }
+        requires ranked { ranks.AreRanked self.now lists.now }
         requires begun { ranks.BeginAt self.now chosen.now }
         ensures { IfOk result (λ found. found
-            ≡ best_beyond self.now best chosen.now (drop (length chosen.now) self.now.lists)) }
+            ≡ best_beyond self.now best chosen.now (drop (length chosen.now) (ranks.edge_lists lists.now))) }
     {
         let k = chosen.len();
         let corners = self.shared_corners(alloc, chosen)?;
@@ -162,50 +151,23 @@ impl<'a, F: TellsCosts> Search<'a, F> {
         if costs_more(price, &best) {
             return Ok(best);
         }
-        if k >= self.lists.len() {
+        if k >= lists.len() {
             return Ok(Some(better_of(best, (price, corners))));
         }
         let mut found = best;
-        let next = self.list(k);
-        'edges: for edge in next {
-            let more = price.saturating_add(u128::from(self.price_over(k, *edge)));
+        let next = list_at(lists, k);
+        'edges: for one in next {
+            let more = price.saturating_add(u128::from(one.price));
             if costs_more(more, &found) {
                 return Ok(found);
             }
-            let longer = with_edge(chosen, *edge);
-            found = self.better(alloc, &longer, found)?;
+            let longer = with_edge(chosen, one.edge);
+            found = self.better(alloc, lists, &longer, found)?;
         }
         Ok(found)
     }
 
-    /// How many variables there are.
-    pub(crate) fn variables(&self) -> usize
-        ensures { result ≡ length self.now.lists }
-    {
-        self.lists.len()
-    }
-
-    /// The edges of variable k; none behind the last variable.
-    pub(crate) fn list(&self, k: usize) -> &[Edge]
-        ensures { result.now ≡ slice_index_or self.now.lists k [] }
-    {
-        match self.lists.get(k) {
-            Some(edges) => edges.as_slice(),
-            None => &[],
-        }
-    }
-
-    /// What the own corner of an edge of variable k costs.
-    pub(crate) fn price_over(&self, k: usize, edge: Edge) -> u64
-        ensures { result ≡ ranks.price_over self.now k edge }
-    {
-        match self.corner_over(k, edge) {
-            Some(corner) => price_to_hide(self.book, self.cells, self.rule, corner.cell),
-            None => 0,
-        }
-    }
-
-    /// The same where that corner bears the levels.
+    /// What the own corner of an edge of variable k costs, where it bears the levels.
     pub(crate) fn price_where_served(&self, k: usize, edge: Edge) -> Option<u64>
         ensures { result ≡ (if ranks.serves_over self.now k edge then Some (ranks.price_over self.now k edge) else None) }
     {
