@@ -18,3 +18,4 @@ pub mod OwnCorners
 pub mod Leaving
 pub mod Rankings
 pub mod PricedLists
+pub mod Opposite

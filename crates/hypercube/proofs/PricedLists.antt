@@ -1,5 +1,5 @@
 -- A search through lists of edges with their prices, in words of the edges alone.
-use Rattle.std.proofs.Common.{◌≡◌, ℕ, zero, suc, ◌+◌, ◌<◌, ◌≤◌, true, List, [], ◌∷◌, ◌++◌, length, map, drop, get_or, slice_index_or, Option, refl, ap, sym, ◌∙◌, subst, arith}
+use Rattle.std.proofs.Common.{◌≡◌, ℕ, zero, suc, ◌+◌, ◌<◌, ◌≤◌, true, List, [], ◌∷◌, ◌++◌, length, map, drop, get_or, slice_index_or, Option, refl, ap, sym, ◌∙◌, subst, length-append, arith}
 use Rattle.std.specs.List.{AllByRecursion}
 use Rattle.std.specs.List.Sorted.{IsNonDecreasingBy}
 use Rattle.std.proofs.lemmas.List.{drop_all, drop_more, length-map}
@@ -7,7 +7,8 @@ use Rattle.sdc_base.specs.Cubes.{Offer}
 use Rattle.sdc_base.specs.declared.cube.Edge.{Edge}
 use Rattle.hypercube.specs.declared.ranking.Priced.{Priced}
 use Rattle.hypercube.specs.Branches.{Setting, best_beyond, costs_more, price_of, shared_corners}
-use Rattle.hypercube.specs.Ranks.{ArePriced, AreRanked, BeginAt, edge_lists, edges_in, price_over, with_price}
+use Rattle.hypercube.specs.Ranks.{ArePriced, AreRanked, BeginAt, IsLeft, edge_lists, edges_in, price_over, with_price}
+use Rattle.hypercube.proofs.Opposite.{passed-over}
 use Rattle.hypercube.proofs.Leaving.{all-get, begin-next, leaving}
 use Rattle.hypercube.proofs.Searches.{among-next, best_among, beyond-begun}
 
@@ -90,3 +91,21 @@ pub next-ended : (setting : Setting) (lists : List (List Priced)) (best : Option
 next-ended setting lists best chosen next i past =
     let longer = length-map next (λ (p : Priced). p.edge) in
     ap (λ (left : List Edge). best_among setting best chosen left (drop (length chosen + 1) (edge_lists lists))) (drop_all i (edges_in next) (omega (arith, longer, past)))
+
+-- an edge that is left
+pub next-left : (setting : Setting) (lists : List (List Priced)) (best : Option Offer) (chosen : List Edge) (next : List Priced) (i : ℕ) (one : Priced) (price : ℕ) → AreRanked setting lists → BeginAt setting chosen
+    → length chosen < length lists → next ≡ slice_index_or lists (length chosen) [] → i < length next → price ≤ price_of setting (shared_corners setting chosen) + (get_or next i one).price
+    → IsLeft setting (chosen ++ (get_or next i one).edge ∷ []) price best
+    → best_among setting best chosen (drop (i + 1) (edges_in next)) (drop (length chosen + 1) (edge_lists lists)) ≡ best_among setting best chosen (drop i (edges_in next)) (drop (length chosen + 1) (edge_lists lists))
+next-left setting lists best chosen next i one price ranked front inside is within above left =
+    let k = length chosen in
+    let edge : Edge = (get_or next i one).edge in
+    let rest : List (List Edge) = drop (k + 1) (edge_lists lists) in
+    let are : ArePriced setting k next = subst (λ (l : List Priced). ArePriced setting k l) (sym is) (ranked.priced k inside) in
+    let own = price-at setting k next i one are within in
+    let long : length (chosen ++ edge ∷ []) ≡ k + 1 = length-append chosen (edge ∷ []) in
+    let same : best_beyond setting best (chosen ++ edge ∷ []) rest ≡ best =
+    ap (λ (n : ℕ). best_beyond setting best (chosen ++ edge ∷ []) (drop n (edge_lists lists))) (sym long)
+    ∙ passed-over setting (edge_lists lists) best chosen edge price ranked.begun (next-begins setting lists chosen next i one ranked front inside is within) (omega (arith, above, own)) left
+    in
+    ap (λ (kept : Option Offer). best_among setting kept chosen (drop (i + 1) (edges_in next)) rest) (sym same) ∙ next-among setting best chosen next i one rest within

@@ -165,11 +165,11 @@ picks-within setting k (first ∷ lists) [] cube are picked = absurd are
 picks-within setting k (first ∷ lists) (one ∷ all) [] are picked = absurd picked
 picks-within setting k (first ∷ lists) (one ∷ all) (edge ∷ cube) (are, rest) (here, picked) = (ranking-within setting k first one edge are here, picks-within setting (k + 1) lists all cube rest picked)
 
-front-codes : (before : List Edge) (codes : List ℕ) → take (length before) (codes_of before ++ codes) ≡ codes_of before
+pub front-codes : (before : List Edge) (codes : List ℕ) → take (length before) (codes_of before ++ codes) ≡ codes_of before
 front-codes [] codes = refl
 front-codes (edge ∷ before) codes = ap (λ (rest : List ℕ). edge.code ∷ rest) (front-codes before codes)
 
-back-codes : (before : List Edge) (codes : List ℕ) → drop (length before) (codes_of before ++ codes) ≡ codes
+pub back-codes : (before : List Edge) (codes : List ℕ) → drop (length before) (codes_of before ++ codes) ≡ codes
 back-codes [] codes = refl
 back-codes (edge ∷ before) codes = back-codes before codes
 

@@ -3,7 +3,7 @@ use Rattle.std.specs.Prelude.{◌≡◌, ℕ, ◌≤◌, ◌==◌, ◌&&◌, nat
 use Rattle.std.specs.List.{filter_map, list_all}
 use Rattle.std.specs.Option.{option_map_or}
 use Rattle.sdc_base.specs.Records.{Name}
-use Rattle.sdc_base.specs.Cubes.{Offer, better, choices, comes_before, corner_at, corner_places, corners_of, offers, price_of_hiding}
+use Rattle.sdc_base.specs.Cubes.{Offer, better, choices, comes_before, corner_at, corner_places, corners_of, offers, price_of_hiding, sign_over}
 use Rattle.sdc_base.specs.declared.cell.Cell.{Cell}
 use Rattle.sdc_base.specs.declared.cube.Corner.{Corner}
 use Rattle.sdc_base.specs.declared.cube.Edge.{Edge}
@@ -32,6 +32,10 @@ corners_beyond number place plus edges =
 -- the number at a place that these codes complete
 abbrev pub number_with_codes : (List ℕ → Option ℕ) → List ℕ → List ℕ → Option ℕ
 number_with_codes number codes place = number (place ++ codes)
+
+-- the sign at the partners of all these edges
+abbrev pub sign_beyond : List Edge → Bool
+sign_beyond edges = fold (λ plus edge. sign_over edge plus) true edges
 
 -- ---- the search
 

@@ -1,7 +1,8 @@
-ghost use Rattle.std.specs.Prelude.{◌≡◌, ◌<◌, ◌≤◌, ◌+◌, ◌++◌, [], true, fold, length, drop, insert, option_to_list, slice_set, IfOk, OnOk};
+ghost use Rattle.std.specs.Prelude.{◌≡◌, ◌<◌, ◌≤◌, ◌+◌, ◌++◌, [], true, fold, map, length, drop, insert, option_to_list, slice_set, IfOk, OnOk};
 ghost use Rattle.sdc_base.specs.Cubes as spec;
 ghost use Rattle.linked_tables.specs.BookCells.{cell_at};
 ghost use Rattle.hypercube.specs.Branches.{number_with_codes, corners_beyond};
+ghost use Rattle.hypercube.specs.Branches as branches;
 
 use arrayvec::ArrayVec;
 use linked_tables::Book;
@@ -84,8 +85,8 @@ fn add_corner(
     Ok(())
 }
 
-// A place with these codes behind it.
-fn place_with(place: &Place, codes: &[u32]) -> ArrayVec<u32, 16>
+/// A place with these codes behind it.
+pub(crate) fn place_with(place: &Place, codes: &[u32]) -> ArrayVec<u32, 16>
     requires { length codes.now ≤ 8 }
     ensures { result.items ≡ place.now ++ codes.now }
 {
@@ -109,6 +110,29 @@ pub(crate) fn place_over(codes: &Place, k: usize, other: u32) -> Place
         place[k] = other;
     }
     Few::new(place)
+}
+
+/// The partners of these edges.
+pub(crate) fn partners_of(edges: &Few<Edge, 8>) -> Place
+    ensures { result ≡ map (λ edge. edge.other) edges.now }
+{
+    let _ = edges.len();
+    let mut partners: ArrayVec<u32, 8> = ArrayVec::new();
+    'edges: for edge in edges.as_slice() {
+        partners.push(edge.other);
+    }
+    Few::new(partners)
+}
+
+/// The sign at the partners of all these edges.
+pub(crate) fn sign_beyond(edges: &[Edge]) -> bool
+    ensures { result ≡ branches.sign_beyond edges.now }
+{
+    let mut plus = true;
+    'edges: for edge in edges {
+        plus = sign_over(*edge, plus);
+    }
+    plus
 }
 
 /// The sign at the other end of an edge.

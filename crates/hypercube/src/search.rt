@@ -7,7 +7,7 @@ ghost use Rattle.hypercube.specs.Branches.{best_beyond, shared_corners};
 ghost use Rattle.hypercube.specs.LeastCubes.{least_cube};
 ghost use Rattle.hypercube.specs.Ranks as ranks;
 
-use crate::corners::{corners_of, place_over, sign_over};
+use crate::corners::{corners_of, partners_of, place_over, place_with, sign_beyond, sign_over};
 use crate::edges::{codes_at, codes_behind, edges_at};
 use crate::order::{Offer, better_of, costs_more};
 use crate::pricing::{price_of_hiding, price_to_hide};
@@ -129,7 +129,8 @@ impl<'a, F: TellsCosts> Model for Search<'a, F> {
 impl<'a, F: TellsCosts> Search<'a, F> {
     // The best of an offer and those of the cubes that have these edges and go on with one of each list that is
     // left. All of them are left out where a corner that they share doesn't bear the levels, or where their shared
-    // corners cost more than the offer. A list is left at the first edge whose own corner makes them cost more.
+    // corners cost more than the offer. A list is left at the first edge whose own corner makes them cost more, and an
+    // edge is passed over where the corner at all partners does.
     fn better(
         &self,
         alloc: Global,
@@ -162,16 +163,41 @@ impl<'a, F: TellsCosts> Search<'a, F> {
                 return Ok(found);
             }
             let longer = with_edge(chosen, one.edge);
+            if self.is_left(&longer, more, &found) {
+                continue 'edges;
+            }
             found = self.better(alloc, lists, &longer, found)?;
         }
         Ok(found)
+    }
+
+    // Whether no cube with these edges is better than the best offer so far, since the corner at all their partners
+    // doesn't bear the levels, or costs too much beside others that cost at least so much. Of one edge that is its own
+    // corner, which has been looked at.
+    fn is_left(&self, edges: &Few<Edge, 8>, price: u128, best: &Option<Offer>) -> bool
+        ensures { result ≡ true → ranks.IsLeft self.now edges.now price best.now }
+    {
+        if edges.len() < 2 {
+            return false;
+        }
+        match self.price_where_borne(self.opposite(edges)) {
+            Some(own) => costs_more(price.saturating_add(u128::from(own)), best),
+            None => true,
+        }
     }
 
     /// What the own corner of an edge of variable k costs, where it bears the levels.
     pub(crate) fn price_where_served(&self, k: usize, edge: Edge) -> Option<u64>
         ensures { result ≡ (if ranks.serves_over self.now k edge then Some (ranks.price_over self.now k edge) else None) }
     {
-        let Some(corner) = self.corner_over(k, edge) else {
+        self.price_where_borne(self.corner_over(k, edge))
+    }
+
+    // What a corner costs, where it bears the levels.
+    fn price_where_borne(&self, corner: Option<Corner>) -> Option<u64>
+        ensures { result ≡ (if ranks.serves_at self.now corner then Some (ranks.price_at self.now corner) else None) }
+    {
+        let Some(corner) = corner else {
             return Some(0);
         };
         if !bears_at(self.cells, self.levels, corner) {
@@ -187,6 +213,17 @@ impl<'a, F: TellsCosts> Search<'a, F> {
         let place = place_over(self.codes, k, edge.other);
         let cell = self.book.id(self.table, place.as_slice())?;
         let plus = sign_over(edge, true);
+        Some(Corner { cell, plus })
+    }
+
+    // The corner at the partners of all these edges, which has the cell's own code for each further variable.
+    fn opposite(&self, edges: &Few<Edge, 8>) -> Option<Corner>
+        ensures { result ≡ ranks.opposite self.now edges.now }
+    {
+        let codes = codes_behind(self.codes.as_slice(), edges.len());
+        let place = place_with(&partners_of(edges), codes);
+        let cell = self.book.id(self.table, place.as_slice())?;
+        let plus = sign_beyond(edges.as_slice());
         Some(Corner { cell, plus })
     }
 

@@ -5,9 +5,9 @@ use Rattle.sdc_base.specs.declared.cube.Corner.{Corner}
 use Rattle.sdc_base.specs.declared.cube.Edge.{Edge}
 use Rattle.hypercube.specs.declared.ranking.Priced.{Priced}
 use Rattle.hypercube.specs.Branches.{Setting, best_beyond, costs_more, price_of, shared_corners}
-use Rattle.hypercube.specs.Ranks.{BeginAt, edge_lists, edges_in}
+use Rattle.hypercube.specs.Ranks.{BeginAt, IsLeft, edge_lists, edges_in}
 use Rattle.hypercube.proofs.Pruning.{left-out, whole-cube}
-use Rattle.hypercube.proofs.PricedLists.{next-among, next-begins, next-begun, next-ended, next-leaves}
+use Rattle.hypercube.proofs.PricedLists.{next-among, next-begins, next-begun, next-ended, next-leaves, next-left}
 use Rattle.hypercube.proofs.Searches.{best_among}
 use Rattle.hypercube.proofs.search.Search.+better.Goals as goal
 
@@ -99,6 +99,28 @@ returns-then-costs_more-2 g t c =
     omega (arith, c.saturating_add-more.ensures, c.from.ensures, price)
     in
     sym (next-leaves setting lists c.edges.found chosen next i d c.saturating_add-more.result c.requires.ranked c.requires.begun inside is c.edges-test.true above (sym c.costs_more-in-edges.ensures ∙ c.if-costs_more-2.true))
+    ∙ c.edges.invariant
+
+pub edges-preserved-then-is_left : goal.edges-preserved-then-is_left
+edges-preserved-then-is_left g t c =
+    let setting : Setting = c.args.self.now in
+    let chosen : List Edge = c.args.chosen.now in
+    let lists : List (List Priced) = c.args.lists.now in
+    let price : price_of setting (shared_corners setting chosen) ≡ c.price_of_hiding-price.result =
+    subst (λ (s : Setting). price_of s (shared_corners setting chosen) ≡ c.price_of_hiding-price.result) c.self.view_is
+    (ap (λ (corners : List Corner). price_of (record { book = c.self.inside.book.now; cells = c.self.inside.cells.now; cost = c.self.inside.rule.now; table = c.self.inside.table; levels = c.self.inside.levels; codes = c.self.inside.codes.now }) corners) (sym (c.as_slice-2.ensures ∙ c.in_ok-corners.ensures)) ∙ sym c.price_of_hiding-price.ensures)
+    in
+    let next : List Priced = c.list_at-next.result.now in
+    let i = c.edges.one-index in
+    let d : Priced = record { price = 0; edge = record { code = 0; other = 0; equal = false } } in
+    let inside : length chosen < length lists = omega (arith, c.len-k.ensures.len, c.if-k-lists.false) in
+    let is : next ≡ slice_index_or lists (length chosen) [] = c.list_at-next.ensures ∙ ap (λ (k : ℕ). slice_index_or lists k []) c.len-k.ensures.len in
+    let above : c.saturating_add-more.result ≤ price_of setting (shared_corners setting chosen) + (slice_index_or next i d).price =
+    omega (arith, c.saturating_add-more.ensures, c.from.ensures, price)
+    in
+    let edge : Edge = (slice_index_or next i d).edge in
+    let left : IsLeft setting (chosen ++ edge ∷ []) c.saturating_add-more.result c.edges.found = subst (λ (es : List Edge). IsLeft setting es c.saturating_add-more.result c.edges.found) c.with_edge-longer.ensures (c.is_left.ensures c.if-is_left.true) in
+    next-left setting lists c.edges.found chosen next i d c.saturating_add-more.result c.requires.ranked c.requires.begun inside is c.edges-test.true above left
     ∙ c.edges.invariant
 
 pub returns : goal.returns
