@@ -3,7 +3,7 @@ use Rattle.std.specs.Prelude.{◌≡◌, ℕ, ◌≤◌, ◌==◌, ◌&&◌, nat
 use Rattle.std.specs.List.{filter_map, list_all}
 use Rattle.std.specs.Option.{option_map_or}
 use Rattle.sdc_base.specs.Records.{Name}
-use Rattle.sdc_base.specs.Cubes.{Offer, better, choices, comes_before, corner_at, corner_places, corners_of, offers, price_of_hiding, sign_over}
+use Rattle.sdc_base.specs.Cubes.{Offer, better, choices, comes_before, corner_at, corner_places, corners_of, offers, price_of_hiding, sign_over, with_corner}
 use Rattle.sdc_base.specs.declared.cell.Cell.{Cell}
 use Rattle.sdc_base.specs.declared.cube.Corner.{Corner}
 use Rattle.sdc_base.specs.declared.cube.Edge.{Edge}
@@ -32,6 +32,14 @@ corners_beyond number place plus edges =
 -- the number at a place that these codes complete
 abbrev pub number_with_codes : (List ℕ → Option ℕ) → List ℕ → List ℕ → Option ℕ
 number_with_codes number codes place = number (place ++ codes)
+
+-- the cell of a table at a place that these codes complete
+abbrev pub cell_with_codes : BookView → ℕ → List ℕ → List ℕ → Option ℕ
+cell_with_codes book t codes place = number_with_codes (cell_at book t) codes place
+
+-- corners with others put among them
+abbrev pub with_corners : List Corner → List Corner → List Corner
+with_corners corners others = fold with_corner corners others
 
 -- the sign at the partners of all these edges
 abbrev pub sign_beyond : List Edge → Bool

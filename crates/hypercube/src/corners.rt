@@ -1,7 +1,6 @@
-ghost use Rattle.std.specs.Prelude.{◌≡◌, ◌<◌, ◌≤◌, ◌+◌, ◌++◌, [], true, fold, map, length, drop, insert, option_to_list, slice_set, IfOk, OnOk};
+ghost use Rattle.std.specs.Prelude.{◌≡◌, ◌<◌, ◌≤◌, ◌+◌, ◌++◌, [], true, map, length, drop, insert, option_to_list, slice_set, IfOk, OnOk};
 ghost use Rattle.sdc_base.specs.Cubes as spec;
-ghost use Rattle.linked_tables.specs.BookCells.{cell_at};
-ghost use Rattle.hypercube.specs.Branches.{number_with_codes, corners_beyond};
+ghost use Rattle.hypercube.specs.Branches.{cell_with_codes, corners_beyond, with_corners};
 ghost use Rattle.hypercube.specs.Branches as branches;
 
 use arrayvec::ArrayVec;
@@ -21,7 +20,7 @@ pub(crate) fn corners_of(
     requires few { length edges.now ≤ 8 }
     requires fewer { length codes.now ≤ 8 }
     ensures { IfOk result (λ corners. corners
-        ≡ spec.corners_of (number_with_codes (cell_at book.now t) codes.now) edges.now) }
+        ≡ spec.corners_of (cell_with_codes book.now t codes.now) edges.now) }
 {
     let mut corners = Vec::new(alloc);
     add_corners(book, t, edges, codes, &Few::empty(), true, &mut corners)?;
@@ -41,9 +40,8 @@ fn add_corners(
     requires few { length edges.now ≤ 8 }
     requires fewer { length codes.now ≤ 8 }
     ensures { OnOk result (corners.new.items
-        ≡ fold spec.with_corner corners.old.items
-        (corners_beyond (number_with_codes (cell_at book.now t) codes.now) place.now plus
-        (drop (length place.now) edges.now))) }
+        ≡ with_corners corners.old.items
+        (corners_beyond (cell_with_codes book.now t codes.now) place.now plus (drop (length place.now) edges.now))) }
 {
     let k = place.len();
     if k >= edges.len() {
@@ -75,8 +73,8 @@ fn add_corner(
 ) -> Result<(), Memory>
     requires fewer { length codes.now ≤ 8 }
     ensures { OnOk result (corners.new.items
-        ≡ fold spec.with_corner corners.old.items
-        (option_to_list (spec.corner_at (number_with_codes (cell_at book.now t) codes.now) (place.now, plus)))) }
+        ≡ with_corners corners.old.items
+        (option_to_list (spec.corner_at (cell_with_codes book.now t codes.now) (place.now, plus)))) }
 {
     let whole = place_with(place, codes);
     if let Some(cell) = book.id(t, whole.as_slice()) {

@@ -33,9 +33,11 @@ use std::marker::Model;
 /// for each other variable: a partner whose own corner doesn't bear the levels is never chosen, and the others are
 /// tried by the prices of theirs, upwards. A choice is left as soon as one of the corners that all its cubes share
 /// doesn't bear the levels, or these corners together cost more than the best cube so far; and a variable as soon as
-/// the next partner's own corner makes them cost more. That takes a look-up for each partner of each variable and a
-/// sort of them, one for each partner that is come to, and for each choice that isn't left 2 to the number of variables
-/// look-ups; and memory for the partners and for as many corners.
+/// the next partner's own corner makes them cost more. From the second variable on a partner is passed over where the
+/// corner that has it and all partners chosen before doesn't bear the levels, or makes them cost more. That takes a
+/// look-up for each partner of each variable and a sort of them, one for each that is come to from the second variable
+/// on, and for each choice that isn't left 2 to the number of its partners look-ups; and memory for the partners and
+/// for as many corners.
 ///
 /// Cubes, partners and signs are those of the handbook's hypercube method; the levels that they serve and the order of
 /// cubes are argus's own.
