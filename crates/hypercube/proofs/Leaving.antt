@@ -63,19 +63,19 @@ begin-list k (code ∷ codes) [] h inside = absurd cc
 begin-list zero (code ∷ codes) (edges ∷ lists) h inside = (and-parts (list_all (λ edge. edge.code == code) edges) (begin_at codes lists) h).0
 begin-list (suc k) (code ∷ codes) (edges ∷ lists) h inside = begin-list k codes lists (and-parts (list_all (λ edge. edge.code == code) edges) (begin_at codes lists) h).1 (omega (arith, inside))
 
-all-get : {X : Type 0} (P : X → Type 0) (xs : List X) (i : ℕ) (d : X) → AllByRecursion P xs → i < length xs → P (get_or xs i d)
+pub all-get : {X : Type 0} (P : X → Type 0) (xs : List X) (i : ℕ) (d : X) → AllByRecursion P xs → i < length xs → P (get_or xs i d)
 all-get P [] i d all inside = absurd (omega (arith, inside))
 all-get P (x ∷ xs) zero d (here, all) inside = here
 all-get P (x ∷ xs) (suc i) d (here, all) inside = all-get P xs i d all (omega (arith, inside))
 
 -- one edge more
-pub begin-next : (setting : Setting) (chosen items : List Edge) (i : ℕ) (d : Edge) → begin_at setting.codes setting.lists ≡ true → BeginAt setting chosen → length chosen < length setting.lists
-    → items ≡ slice_index_or setting.lists (length chosen) [] → i < length items → BeginAt setting (chosen ++ get_or items i d ∷ [])
-begin-next setting chosen items i d begun front inside is within =
+pub begin-next : (setting : Setting) (lists : List (List Edge)) (chosen items : List Edge) (i : ℕ) (d : Edge) → begin_at setting.codes lists ≡ true → BeginAt setting chosen → length chosen < length lists
+    → items ≡ slice_index_or lists (length chosen) [] → i < length items → BeginAt setting (chosen ++ get_or items i d ∷ [])
+begin-next setting lists chosen items i d begun front inside is within =
     let k = length chosen in
     let edge : Edge = get_or items i d in
-    let long = as-long setting.codes setting.lists begun in
-    let all = codes-same (get_or setting.codes k 0) (get_or setting.lists k []) (begin-list k setting.codes setting.lists begun inside) in
+    let long = as-long setting.codes lists begun in
+    let all = codes-same (get_or setting.codes k 0) (get_or lists k []) (begin-list k setting.codes lists begun inside) in
     let code : edge.code ≡ get_or setting.codes k 0 = all-get (λ (one : Edge). one.code ≡ get_or setting.codes k 0) items i d (subst (λ (l : List Edge). AllByRecursion (λ (one : Edge). one.code ≡ get_or setting.codes k 0) l) (sym is) all) within in
     map-append (λ (one : Edge). one.code) chosen (edge ∷ [])
     ∙ ap (λ (codes : List ℕ). codes ++ edge.code ∷ []) front
@@ -103,20 +103,20 @@ all-dear setting best chosen next least rest code codes front back begun dear al
         dearer-more best (price_of setting (shared_corners setting chosen) + least) (price_of setting (corners_in setting (chosen ++ one ∷ others))) (omega (arith, own, above)) dear
 
 -- behind an edge that costs too much no cube is better
-pub leaving : (setting : Setting) (best : Option Offer) (chosen items : List Edge) (i : ℕ) (d : Edge) (price : ℕ) → begin_at setting.codes setting.lists ≡ true → BeginAt setting chosen → length chosen < length setting.lists
-    → items ≡ slice_index_or setting.lists (length chosen) [] → IsNonDecreasingBy (price_over setting (length chosen)) items → i < length items
+pub leaving : (setting : Setting) (lists : List (List Edge)) (best : Option Offer) (chosen items : List Edge) (i : ℕ) (d : Edge) (price : ℕ) → begin_at setting.codes lists ≡ true → BeginAt setting chosen → length chosen < length lists
+    → items ≡ slice_index_or lists (length chosen) [] → IsNonDecreasingBy (price_over setting (length chosen)) items → i < length items
     → price ≤ price_of setting (shared_corners setting chosen) + price_over setting (length chosen) (get_or items i d) → costs_more best price ≡ true
-    → best_among setting best chosen (drop i items) (drop (length chosen + 1) setting.lists) ≡ best
-leaving setting best chosen items i d price begun front inside is rising within above dear =
+    → best_among setting best chosen (drop i items) (drop (length chosen + 1) lists) ≡ best
+leaving setting lists best chosen items i d price begun front inside is rising within above dear =
     let k = length chosen in
-    let rest = drop (k + 1) setting.lists in
+    let rest = drop (k + 1) lists in
     let codes : List ℕ = drop (k + 1) setting.codes in
     let code : ℕ = get_or setting.codes k 0 in
     let least = price_over setting k (get_or items i d) in
-    let long = as-long setting.codes setting.lists begun in
-    let all = codes-same code (get_or setting.lists k []) (begin-list k setting.codes setting.lists begun inside) in
+    let long = as-long setting.codes lists begun in
+    let all = codes-same code (get_or lists k []) (begin-list k setting.codes lists begun inside) in
     let same = all-drop (λ (one : Edge). one.code ≡ code) items i (subst (λ (l : List Edge). AllByRecursion (λ (one : Edge). one.code ≡ code) l) (sym is) all) in
     none-better setting best (cubes_beyond chosen (drop i items) rest)
-    (all-dear setting best chosen (drop i items) least rest code codes front (sym (drop_more setting.codes k 0 (omega (arith, long, inside)))) (begin-behind (k + 1) setting.codes setting.lists begun)
+    (all-dear setting best chosen (drop i items) least rest code codes front (sym (drop_more setting.codes k 0 (omega (arith, long, inside)))) (begin-behind (k + 1) setting.codes lists begun)
     (dearer-more best price (price_of setting (shared_corners setting chosen) + least) above dear)
     (all-both (λ (one : Edge). one.code ≡ code) (λ (one : Edge). least ≤ price_over setting k one) (drop i items) same (from-here (price_over setting k) items i d rising within)))

@@ -17,3 +17,5 @@ pub mod Reordered
 pub mod OwnCorners
 pub mod Leaving
 pub mod Rankings
+pub mod PricedLists
+pub mod Opposite

@@ -13,7 +13,7 @@ use Rattle.hypercube.proofs.Pruning.{corners_in}
 use Rattle.hypercube.proofs.SharedCorners.{bears_at, begun-sum, codes_of, corners-sum, counted, ends-sum, failure, first-place, followed, none-fails}
 
 -- the places of the shared corners, and the place of the edge's own, are among those of the cube
-over-sum : (g : List ℕ × Bool → ℕ) (chosen : List Edge) (edge : Edge) (more : List Edge)
+pub over-sum : (g : List ℕ × Bool → ℕ) (chosen : List Edge) (edge : Edge) (more : List Edge)
     → sum_by (λ place. g (followed (codes_of (edge ∷ more)) place)) (corner_places chosen) + g (codes_of chosen ++ edge.other ∷ codes_of more, sign_over edge true) ≤ sum_by g (corner_places (chosen ++ edge ∷ more))
 over-sum g [] edge more =
     let own = first-place (λ place. g (own_end edge place)) more in
@@ -43,7 +43,7 @@ set-behind [] code other behind = refl
 set-behind (first ∷ front) code other behind = ap (λ (rest : List ℕ). first ∷ rest) (set-behind front code other behind)
 
 -- the place of the edge's own corner
-own-place : (codes : List ℕ) (chosen : List Edge) (edge : Edge) (more : List Edge) → codes_of chosen ≡ take (length chosen) codes → codes_of (edge ∷ more) ≡ drop (length chosen) codes
+pub own-place : (codes : List ℕ) (chosen : List Edge) (edge : Edge) (more : List Edge) → codes_of chosen ≡ take (length chosen) codes → codes_of (edge ∷ more) ≡ drop (length chosen) codes
     → slice_set codes (length chosen) edge.other ≡ codes_of chosen ++ edge.other ∷ codes_of more
 own-place codes chosen edge more front back =
     let whole : codes ≡ codes_of chosen ++ edge.code ∷ codes_of more =
@@ -65,7 +65,7 @@ own-dearer setting chosen edge more front back =
 abbrev amount : Bool → ℕ
 amount b = if b then 0 else 1
 
-none-failed : (test : Corner → Bool) (met : Option Corner) → option_map_or (failure test) met 0 ≡ 0 → option_map_or test met true ≡ true
+pub none-failed : (test : Corner → Bool) (met : Option Corner) → option_map_or (failure test) met 0 ≡ 0 → option_map_or test met true ≡ true
 none-failed test None h = refl
 none-failed test (Some corner) h =
     elim (test corner) as (λ b. amount b ≡ 0 → b ≡ true) [

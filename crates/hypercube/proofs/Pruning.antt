@@ -73,15 +73,15 @@ no-better setting best chosen more same (inr h) =
     (shared-sum (cell_in setting) (λ corner. if is_marked setting.book corner.cell then 0 else price_in setting.book setting.cells setting.cost corner.cell) chosen more)) h)
 
 -- all cubes that begin with these edges are left out
-pub left-out : (setting : Setting) (best : Option Offer) (chosen : List Edge) → begin_at setting.codes setting.lists ≡ true
+pub left-out : (setting : Setting) (lists : List (List Edge)) (best : Option Offer) (chosen : List Edge) → begin_at setting.codes lists ≡ true
     → (serve setting.cells setting.levels (shared_corners setting chosen) ≡ false) ⊎ (costs_more best (price_of setting (shared_corners setting chosen)) ≡ true)
-    → best ≡ best_beyond setting best chosen (drop (length chosen) setting.lists)
-left-out setting best chosen begun either =
-    let rest = drop (length chosen) setting.lists in
+    → best ≡ best_beyond setting best chosen (drop (length chosen) lists)
+left-out setting lists best chosen begun either =
+    let rest = drop (length chosen) lists in
     sym (none-better setting best (map (λ more. chosen ++ more) (choices rest))
     (all-map (IsNoBetter setting best) (λ more. chosen ++ more) (choices rest)
     (all-more (λ more. codes_of more ≡ drop (length chosen) setting.codes) (λ more. IsNoBetter setting best (chosen ++ more)) (choices rest) (λ more same. no-better setting best chosen more same either)
-    (choices-begin (drop (length chosen) setting.codes) rest (begin-behind (length chosen) setting.codes setting.lists begun)))))
+    (choices-begin (drop (length chosen) setting.codes) rest (begin-behind (length chosen) setting.codes lists begun)))))
 
 -- ---- a whole cube
 
@@ -96,9 +96,9 @@ as-long (code ∷ codes) (edges ∷ lists) h = ap (λ n. suc n) (as-long codes l
     and-later false b h = absurd cc
 
 -- where all edges are chosen the shared corners are all
-all-chosen : (setting : Setting) (chosen : List Edge) → length setting.lists ≤ length chosen → begin_at setting.codes setting.lists ≡ true → shared_corners setting chosen ≡ corners_in setting chosen
-all-chosen setting chosen past begun =
-    let long = as-long setting.codes setting.lists begun in
+all-chosen : (setting : Setting) (lists : List (List Edge)) (chosen : List Edge) → length lists ≤ length chosen → begin_at setting.codes lists ≡ true → shared_corners setting chosen ≡ corners_in setting chosen
+all-chosen setting lists chosen past begun =
+    let long = as-long setting.codes lists begun in
     ap (λ (codes : List ℕ). corners_of (number_with_codes (cell_in setting) codes) chosen) (drop_all (length chosen) setting.codes (omega (arith, long, past)))
     ∙ ap (λ (number : List ℕ → Option ℕ). corners_of number chosen) (fun_ext (λ place. ap (cell_in setting) (append-nil place)))
 
@@ -107,12 +107,12 @@ one-offer : (setting : Setting) (best : Option Offer) (cube : List Edge) → ser
 one-offer setting best cube served = rw served refl
 
 -- and there is one cube
-pub whole-cube : (setting : Setting) (best : Option Offer) (chosen : List Edge) → length setting.lists ≤ length chosen → begin_at setting.codes setting.lists ≡ true
+pub whole-cube : (setting : Setting) (lists : List (List Edge)) (best : Option Offer) (chosen : List Edge) → length lists ≤ length chosen → begin_at setting.codes lists ≡ true
     → serve setting.cells setting.levels (shared_corners setting chosen) ≡ true
-    → better comes_before best (price_of setting (shared_corners setting chosen), shared_corners setting chosen) ≡ best_beyond setting best chosen (drop (length chosen) setting.lists)
-whole-cube setting best chosen past begun served =
-    let same = all-chosen setting chosen past begun in
+    → better comes_before best (price_of setting (shared_corners setting chosen), shared_corners setting chosen) ≡ best_beyond setting best chosen (drop (length chosen) lists)
+whole-cube setting lists best chosen past begun served =
+    let same = all-chosen setting lists chosen past begun in
     ap (λ (corners : List Corner). better comes_before best (price_of setting corners, corners)) same
     ∙ one-offer setting best chosen (subst (λ (corners : List Corner). serve setting.cells setting.levels corners ≡ true) same served)
     ∙ ap (λ (cube : List Edge). fold (better comes_before) best (offers_of setting (cube ∷ []))) (sym (append-nil chosen))
-    ∙ ap (best_beyond setting best chosen) (sym (drop_all (length chosen) setting.lists past))
+    ∙ ap (best_beyond setting best chosen) (sym (drop_all (length chosen) lists past))

@@ -13,7 +13,7 @@ use Rattle.hypercube.specs.declared.ranking.Priced.{Priced}
 use Rattle.linked_tables.specs.BookCells.{IsBook}
 use Rattle.hypercube.specs.Branches.{Setting, begin_at, best_beyond, cell_in, codes_at, offers_of}
 use Rattle.hypercube.specs.LeastCubes.{is_marked, price_in}
-use Rattle.hypercube.specs.Ranks.{AreRankings, IsRanking, price_over, priced_of, serves_over, with_price}
+use Rattle.hypercube.specs.Ranks.{ArePriced, AreRanked, AreRankings, IsRanking, edge_lists, edges_in, price_over, priced_of, serves_over, with_price}
 use Rattle.hypercube.proofs.AllOf.{all-more}
 use Rattle.hypercube.proofs.Members.{Among, Picks, all-among, all-itself, among-contains, choices-pick, contains-among, picks-among}
 use Rattle.hypercube.proofs.OwnCorners.{own-serves}
@@ -45,49 +45,32 @@ prices-are : (setting : Setting) (k : ℕ) (edges : List Edge) → AllByRecursio
 prices-are setting k [] = tt
 prices-are setting k (edge ∷ edges) = (refl, prices-are setting k edges)
 
-get-map : (priced : List Priced) (i : ℕ) (one : Priced) → i < length priced → get_or (map (λ (p : Priced). p.edge) priced) i one.edge ≡ (get_or priced i one).edge
-get-map [] i one inside = absurd (omega (arith, inside))
-get-map (p ∷ priced) zero one inside = refl
-get-map (p ∷ priced) (suc i) one inside = get-map priced i one (omega (arith, inside))
-
-rises-by-edge : (setting : Setting) (k : ℕ) (priced : List Priced) → AllByRecursion (λ (one : Priced). one.price ≡ price_over setting k one.edge) priced → IsNonDecreasingBy (λ (one : Priced). one.price) priced
-    → IsNonDecreasingBy (price_over setting k) (map (λ (one : Priced). one.edge) priced)
-rises-by-edge setting k priced prices rising i j d upto inside =
-    let long = length-map priced (λ (one : Priced). one.edge) in
-    let one : Priced = with_price setting k d in
-    let below : j < length priced = omega (arith, long, inside) in
-    let under : i < length priced = omega (arith, below, upto) in
-    let less = rising i j one upto below in
-    let here : (get_or priced i one).price ≡ price_over setting k (get_or priced i one).edge = at priced i one prices under in
-    let there : (get_or priced j one).price ≡ price_over setting k (get_or priced j one).edge = at priced j one prices below in
-    subst (λ (e : Edge). price_over setting k e ≤ price_over setting k (get_or (map (λ (p : Priced). p.edge) priced) j d)) (sym (get-map priced i one under))
-    (subst (λ (e : Edge). price_over setting k (get_or priced i one).edge ≤ price_over setting k e) (sym (get-map priced j one below)) (omega (arith, less, here, there)))
-  where
-    at : (list : List Priced) (n : ℕ) (e : Priced) → AllByRecursion (λ (one : Priced). one.price ≡ price_over setting k one.edge) list → n < length list → (get_or list n e).price ≡ price_over setting k (get_or list n e).edge
-    at [] n e all inside = absurd (omega (arith, inside))
-    at (p ∷ list) zero e (here, all) inside = here
-    at (p ∷ list) (suc n) e (here, all) inside = at list n e all (omega (arith, inside))
-
 -- what has each member of one list among its own, where P holds of all of these
 moved : {X : Type 0} (P : X → Type 0) (xs ys : List X) → IsPermutation xs ys → AllByRecursion P xs → AllByRecursion P ys
 moved P xs ys same all =
     all-more (Among ys) P ys (λ y among. all-among P xs y all (contains-among xs y (Contains-permutation ys xs y (IsPermutation-sym xs ys same) (among-contains ys y among)))) (all-itself ys)
 
--- priced edges, sorted
-sorted-rank : (setting : Setting) (k : ℕ) (edges : List Edge) (priced : List Priced) → IsPermutation (priced_of setting k edges) priced → IsNonDecreasingBy (λ (one : Priced). one.price) priced → IsRanking setting k edges (map (λ (one : Priced). one.edge) priced)
-sorted-rank setting k edges priced same rising = record {
-  same = subst (λ (l : List Edge). IsPermutation l (map (λ (one : Priced). one.edge) priced)) (edges-again setting k (filter (serves_over setting k) edges)) (IsPermutation-map (λ (one : Priced). one.edge) (priced_of setting k edges) priced same);
-  rising = rises-by-edge setting k priced (moved (λ (one : Priced). one.price ≡ price_over setting k one.edge) (priced_of setting k edges) priced same (prices-are setting k (filter (serves_over setting k) edges))) rising;
-}
+-- ---- as edges alone
 
-pub if-ranked : {E : Type 0} (setting : Setting) (k : ℕ) (edges : List Edge) (priced : List Priced) (result : Result (List Edge) E) → IsPermutation (priced_of setting k edges) priced → IsNonDecreasingBy (λ (one : Priced). one.price) priced
-    → IfOk result (λ ranked. ranked ≡ map (λ (one : Priced). one.edge) priced) → IfOk result (λ ranked. IsRanking setting k edges ranked)
-if-ranked setting k edges priced (Ok ranked) same rising is = subst (λ (l : List Edge). IsRanking setting k edges l) (sym is) (sorted-rank setting k edges priced same rising)
-if-ranked setting k edges priced (Err e) same rising is = is
+-- list by list from variable k on: the edges whose own corner bears the levels, in another order
+abbrev pub AreReordered : Setting → ℕ → List (List Edge) → List (List Edge) → Type 0
+AreReordered setting k [] [] = Unit {0}
+AreReordered setting k [] (one ∷ more) = ⊥
+AreReordered setting k (edges ∷ lists) [] = ⊥
+AreReordered setting k (edges ∷ lists) (one ∷ more) = IsPermutation (filter (serves_over setting k) edges) one × AreReordered setting (k + 1) lists more
+
+pub reordered : (setting : Setting) (k : ℕ) (lists : List (List Edge)) (ranked : List (List Priced)) → AreRankings setting k lists ranked → AreReordered setting k lists (edge_lists ranked)
+reordered setting k [] [] are = tt
+reordered setting k [] (one ∷ ranked) are = absurd are
+reordered setting k (edges ∷ lists) [] are = absurd are
+reordered setting k (edges ∷ lists) (one ∷ ranked) (are, rest) = (
+  subst (λ (l : List Edge). IsPermutation l (edges_in one)) (edges-again setting k (filter (serves_over setting k) edges)) (IsPermutation-map (λ (p : Priced). p.edge) (priced_of setting k edges) one are.same),
+  reordered setting (k + 1) lists ranked rest,
+)
 
 -- ---- list by list
 
-pub rankings-more : (setting : Setting) (k : ℕ) (lists all : List (List Edge)) (edges ranked : List Edge) → AreRankings setting k lists all → IsRanking setting (k + length lists) edges ranked → AreRankings setting k (lists ++ edges ∷ []) (all ++ ranked ∷ [])
+pub rankings-more : (setting : Setting) (k : ℕ) (lists : List (List Edge)) (all : List (List Priced)) (edges : List Edge) (ranked : List Priced) → AreRankings setting k lists all → IsRanking setting (k + length lists) edges ranked → AreRankings setting k (lists ++ edges ∷ []) (all ++ ranked ∷ [])
 rankings-more setting k [] [] edges ranked are here = (subst (λ (n : ℕ). IsRanking setting n edges ranked) (omega arith) here, tt)
 rankings-more setting k [] (first ∷ all) edges ranked are here = absurd are
 rankings-more setting k (first ∷ lists) [] edges ranked are here = absurd are
@@ -95,20 +78,27 @@ rankings-more setting k (first ∷ lists) (one ∷ all) edges ranked (are, rest)
     let next : k + suc (length lists) ≡ (k + 1) + length lists = omega arith in
     (are, rankings-more setting (k + 1) lists all edges ranked rest (subst (λ (n : ℕ). IsRanking setting n edges ranked) next here))
 
-pub rankings-long : (setting : Setting) (k : ℕ) (lists all : List (List Edge)) → AreRankings setting k lists all → length all ≡ length lists
+pub rankings-long : (setting : Setting) (k : ℕ) (lists : List (List Edge)) (all : List (List Priced)) → AreRankings setting k lists all → length all ≡ length lists
 rankings-long setting k [] [] are = refl
 rankings-long setting k [] (one ∷ all) are = absurd are
 rankings-long setting k (first ∷ lists) [] are = absurd are
 rankings-long setting k (first ∷ lists) (one ∷ all) (are, rest) = ap suc (rankings-long setting (k + 1) lists all rest)
 
-pub rankings-rise : (setting : Setting) (k : ℕ) (lists all : List (List Edge)) (j : ℕ) → AreRankings setting k lists all → j < length all → IsNonDecreasingBy (price_over setting (k + j)) (get_or all j [])
+-- a ranking has the prices of its edges, upwards
+ranking-priced : (setting : Setting) (k : ℕ) (edges : List Edge) (ranked : List Priced) → IsRanking setting k edges ranked → ArePriced setting k ranked
+ranking-priced setting k edges ranked is = record {
+  prices = moved (λ (one : Priced). one.price ≡ price_over setting k one.edge) (priced_of setting k edges) ranked is.same (prices-are setting k (filter (serves_over setting k) edges));
+  rising = is.rising;
+}
+
+rankings-rise : (setting : Setting) (k : ℕ) (lists : List (List Edge)) (all : List (List Priced)) (j : ℕ) → AreRankings setting k lists all → j < length all → ArePriced setting (k + j) (get_or all j [])
 rankings-rise setting k [] [] j are inside = absurd (omega (arith, inside))
 rankings-rise setting k [] (one ∷ all) j are inside = absurd are
 rankings-rise setting k (first ∷ lists) [] j are inside = absurd are
-rankings-rise setting k (first ∷ lists) (one ∷ all) zero (are, rest) inside = let same : k ≡ k + zero = omega arith in subst (λ (n : ℕ). IsNonDecreasingBy (price_over setting n) one) same are.rising
+rankings-rise setting k (first ∷ lists) (one ∷ all) zero (are, rest) inside = let same : k ≡ k + zero = omega arith in subst (λ (n : ℕ). ArePriced setting n one) same (ranking-priced setting k first one are)
 rankings-rise setting k (first ∷ lists) (one ∷ all) (suc j) (are, rest) inside =
     let same : (k + 1) + j ≡ k + suc j = omega arith in
-    subst (λ (n : ℕ). IsNonDecreasingBy (price_over setting n) (get_or all j [])) same (rankings-rise setting (k + 1) lists all j rest (omega (arith, inside)))
+    subst (λ (n : ℕ). ArePriced setting n (get_or all j [])) same (rankings-rise setting (k + 1) lists all j rest (omega (arith, inside)))
 
 -- ---- members
 
@@ -137,16 +127,16 @@ passing test (y ∷ xs) x (inr among) passes =
     ]
 
 -- a ranking has edges of the list alone
-ranking-within : (setting : Setting) (k : ℕ) (edges ranked : List Edge) (edge : Edge) → IsRanking setting k edges ranked → Among ranked edge → Among edges edge
+ranking-within : (setting : Setting) (k : ℕ) (edges ranked : List Edge) (edge : Edge) → IsPermutation (filter (serves_over setting k) edges) ranked → Among ranked edge → Among edges edge
 ranking-within setting k edges ranked edge is among =
     let kept = filter (serves_over setting k) edges in
-    filtered (serves_over setting k) edges edge (contains-among kept edge (Contains-permutation ranked kept edge (IsPermutation-sym kept ranked is.same) (among-contains ranked edge among)))
+    filtered (serves_over setting k) edges edge (contains-among kept edge (Contains-permutation ranked kept edge (IsPermutation-sym kept ranked is) (among-contains ranked edge among)))
 
 -- and each whose own corner bears the levels
-ranking-kept : (setting : Setting) (k : ℕ) (edges ranked : List Edge) (edge : Edge) → IsRanking setting k edges ranked → Among edges edge → serves_over setting k edge ≡ true → Among ranked edge
+ranking-kept : (setting : Setting) (k : ℕ) (edges ranked : List Edge) (edge : Edge) → IsPermutation (filter (serves_over setting k) edges) ranked → Among edges edge → serves_over setting k edge ≡ true → Among ranked edge
 ranking-kept setting k edges ranked edge is among serves =
     let kept = filter (serves_over setting k) edges in
-    contains-among ranked edge (Contains-permutation kept ranked edge is.same (among-contains kept edge (passing (serves_over setting k) edges edge among serves)))
+    contains-among ranked edge (Contains-permutation kept ranked edge is (among-contains kept edge (passing (serves_over setting k) edges edge among serves)))
 
 tested : {X : Type 0} (test : X → Bool) (xs : List X) → list_all test xs ≡ true → AllByRecursion (λ x. test x ≡ true) xs
 tested test [] h = tt
@@ -157,35 +147,35 @@ all-tested test [] all = refl
 all-tested test (x ∷ xs) (here, all) = ap (λ b. b && list_all test xs) here ∙ all-tested test xs all
 
 -- so they begin at the same codes
-pub rankings-begin : (setting : Setting) (k : ℕ) (codes : List ℕ) (lists all : List (List Edge)) → AreRankings setting k lists all → begin_at codes lists ≡ true → begin_at codes all ≡ true
-rankings-begin setting k codes [] [] are h = h
-rankings-begin setting k codes [] (one ∷ all) are h = absurd are
-rankings-begin setting k codes (first ∷ lists) [] are h = absurd are
-rankings-begin setting k [] (first ∷ lists) (one ∷ all) are h = absurd cc
-rankings-begin setting k (code ∷ codes) (first ∷ lists) (one ∷ all) (are, rest) h =
+pub reordered-begin : (setting : Setting) (k : ℕ) (codes : List ℕ) (lists all : List (List Edge)) → AreReordered setting k lists all → begin_at codes lists ≡ true → begin_at codes all ≡ true
+reordered-begin setting k codes [] [] are h = h
+reordered-begin setting k codes [] (one ∷ all) are h = absurd are
+reordered-begin setting k codes (first ∷ lists) [] are h = absurd are
+reordered-begin setting k [] (first ∷ lists) (one ∷ all) are h = absurd cc
+reordered-begin setting k (code ∷ codes) (first ∷ lists) (one ∷ all) (are, rest) h =
     let two = and-parts (list_all (λ edge. edge.code == code) first) (begin_at codes lists) h in
     let here = all-tested (λ edge. edge.code == code) one (all-more (Among one) (λ edge. (edge.code == code) ≡ true) one (λ edge among. all-among (λ e. (e.code == code) ≡ true) first edge (tested (λ e. e.code == code) first two.0) (ranking-within setting k first one edge are among)) (all-itself one)) in
-    ap (λ b. b && begin_at codes all) here ∙ rankings-begin setting (k + 1) codes lists all rest two.1
+    ap (λ b. b && begin_at codes all) here ∙ reordered-begin setting (k + 1) codes lists all rest two.1
 
 -- ---- cubes
 
-picks-within : (setting : Setting) (k : ℕ) (lists all : List (List Edge)) (cube : List Edge) → AreRankings setting k lists all → Picks all cube → Picks lists cube
+picks-within : (setting : Setting) (k : ℕ) (lists all : List (List Edge)) (cube : List Edge) → AreReordered setting k lists all → Picks all cube → Picks lists cube
 picks-within setting k [] [] cube are picked = picked
 picks-within setting k [] (one ∷ all) cube are picked = absurd are
 picks-within setting k (first ∷ lists) [] cube are picked = absurd are
 picks-within setting k (first ∷ lists) (one ∷ all) [] are picked = absurd picked
 picks-within setting k (first ∷ lists) (one ∷ all) (edge ∷ cube) (are, rest) (here, picked) = (ranking-within setting k first one edge are here, picks-within setting (k + 1) lists all cube rest picked)
 
-front-codes : (before : List Edge) (codes : List ℕ) → take (length before) (codes_of before ++ codes) ≡ codes_of before
+pub front-codes : (before : List Edge) (codes : List ℕ) → take (length before) (codes_of before ++ codes) ≡ codes_of before
 front-codes [] codes = refl
 front-codes (edge ∷ before) codes = ap (λ (rest : List ℕ). edge.code ∷ rest) (front-codes before codes)
 
-back-codes : (before : List Edge) (codes : List ℕ) → drop (length before) (codes_of before ++ codes) ≡ codes
+pub back-codes : (before : List Edge) (codes : List ℕ) → drop (length before) (codes_of before ++ codes) ≡ codes
 back-codes [] codes = refl
 back-codes (edge ∷ before) codes = back-codes before codes
 
 -- a cube that serves has in each list an edge that is kept
-picks-kept : (setting : Setting) (lists all : List (List Edge)) (before cube : List Edge) → AreRankings setting (length before) lists all → Picks lists cube → codes_of (before ++ cube) ≡ setting.codes
+picks-kept : (setting : Setting) (lists all : List (List Edge)) (before cube : List Edge) → AreReordered setting (length before) lists all → Picks lists cube → codes_of (before ++ cube) ≡ setting.codes
     → serve setting.cells setting.levels (corners_in setting (before ++ cube)) ≡ true → Picks all cube
 picks-kept setting [] [] before cube are picked whole served = picked
 picks-kept setting [] (one ∷ all) before cube are picked whole served = absurd are
@@ -197,7 +187,7 @@ picks-kept setting (first ∷ lists) (one ∷ all) before (edge ∷ cube) (are, 
     let back : codes_of (edge ∷ cube) ≡ drop (length before) setting.codes = sym (back-codes before (codes_of (edge ∷ cube))) ∙ ap (λ (l : List ℕ). drop (length before) l) codes in
     let along : (before ++ edge ∷ []) ++ cube ≡ before ++ edge ∷ cube = append_assoc before (edge ∷ []) cube in (
       ranking-kept setting (length before) first one edge are here (own-serves setting before edge cube front back served),
-      picks-kept setting lists all (before ++ edge ∷ []) cube (subst (λ (n : ℕ). AreRankings setting n lists all) (sym (length-append before (edge ∷ []))) rest) picked
+      picks-kept setting lists all (before ++ edge ∷ []) cube (subst (λ (n : ℕ). AreReordered setting n lists all) (sym (length-append before (edge ∷ []))) rest) picked
           (ap (λ (l : List Edge). codes_of l) along ∙ whole) (subst (λ (l : List Edge). serve setting.cells setting.levels (corners_in setting l) ≡ true) (sym along) served),
     )
 
@@ -206,7 +196,7 @@ all-two P Q R [] f a b = tt
 all-two P Q R (x ∷ xs) f (here, a) (there, b) = (f x here there, all-two P Q R xs f a b)
 
 -- the first offer is the same
-pub same-best : (setting : Setting) (lists all : List (List Edge)) → AreRankings setting 0 lists all → begin_at setting.codes lists ≡ true
+pub same-best : (setting : Setting) (lists all : List (List Edge)) → AreReordered setting 0 lists all → begin_at setting.codes lists ≡ true
     → AllByRecursion (λ one. AllByRecursion (IsTied (cell_in setting) (is_marked setting.book) (price_in setting.book setting.cells setting.cost) one) (choices lists)) (choices lists)
     → first_by comes_before (offers_of setting (choices all)) ≡ first_by comes_before (offers_of setting (choices lists))
 same-best setting lists all are begun tied =
@@ -215,13 +205,20 @@ same-best setting lists all are begun tied =
     (all-two (Picks lists) (λ cube. codes_of cube ≡ setting.codes) (λ cube. serve setting.cells setting.levels (corners_in setting cube) ≡ true → Among (choices all) cube) (choices lists)
     (λ cube picked whole served. picks-among all cube (picks-kept setting lists all [] cube are picked whole served)) (choices-pick lists) (choices-begin setting.codes lists begun))
 
-pub rankings-all : (setting : Setting) (lists all : List (List Edge)) (k : ℕ) → AreRankings setting 0 lists all → k < length all → IsNonDecreasingBy (price_over setting k) (get_or all k [])
-rankings-all setting lists all k are inside = let same : 0 + k ≡ k = omega arith in subst (λ (n : ℕ). IsNonDecreasingBy (price_over setting n) (get_or all k [])) same (rankings-rise setting 0 lists all k are inside)
+-- so a search may go through them
+pub are-ranked : (setting : Setting) (lists : List (List Edge)) (all : List (List Priced)) → AreRankings setting 0 lists all → length lists ≤ 8 → begin_at setting.codes lists ≡ true → AreRanked setting all
+are-ranked setting lists all are few begun =
+    let long = rankings-long setting 0 lists all are in
+    record {
+      few = omega (arith, few, long);
+      begun = reordered-begin setting 0 setting.codes lists (edge_lists all) (reordered setting 0 lists all are) begun;
+      priced = λ k inside. let same : 0 + k ≡ k = omega arith in subst (λ (n : ℕ). ArePriced setting n (get_or all k [])) same (rankings-rise setting 0 lists all k are inside);
+    }
 
--- so the search finds the first of all cubes
-pub search-ranked : (setting : Setting) (trees : List Tree) (name : Name) (table parents : List ℕ) (all : List (List Edge)) → IsBook setting.book → setting.codes ≡ codes_at name table parents
-    → AreRankings setting 0 (edges_at trees name table parents) all → best_beyond setting None [] all ≡ first_by comes_before (offers_of setting (cubes_at trees name table parents))
+-- and it finds the first of all cubes
+pub search-ranked : (setting : Setting) (trees : List Tree) (name : Name) (table parents : List ℕ) (all : List (List Priced)) → IsBook setting.book → setting.codes ≡ codes_at name table parents
+    → AreRankings setting 0 (edges_at trees name table parents) all → best_beyond setting None [] (edge_lists all) ≡ first_by comes_before (offers_of setting (cubes_at trees name table parents))
 search-ranked setting trees name table parents all is_book codes are =
-    search-all setting all
-    ∙ same-best setting (edges_at trees name table parents) all are (ap (λ (c : List ℕ). begin_at c (edges_at trees name table parents)) codes ∙ edges-begin trees name table parents)
+    search-all setting (edge_lists all)
+    ∙ same-best setting (edges_at trees name table parents) (edge_lists all) (reordered setting 0 (edges_at trees name table parents) all are) (ap (λ (c : List ℕ). begin_at c (edges_at trees name table parents)) codes ∙ edges-begin trees name table parents)
     (cubes-tied (cell_in setting) (is_marked setting.book) (price_in setting.book setting.cells setting.cost) trees name table parents (own-cells setting.book setting.table is_book))

@@ -3,7 +3,7 @@ use Rattle.std.specs.Prelude.{◌≡◌, ℕ, ◌≤◌, ◌==◌, ◌&&◌, nat
 use Rattle.std.specs.List.{filter_map, list_all}
 use Rattle.std.specs.Option.{option_map_or}
 use Rattle.sdc_base.specs.Records.{Name}
-use Rattle.sdc_base.specs.Cubes.{choices, corner_at, corner_places, corners_of}
+use Rattle.sdc_base.specs.Cubes.{choices, corner_at, corner_places, corners_of, sign_over, with_corner}
 use Rattle.sdc_base.specs.CubeOrder.{Offer, better, comes_before, offers, price_of_hiding}
 use Rattle.sdc_base.specs.declared.cell.Cell.{Cell}
 use Rattle.sdc_base.specs.declared.cube.Corner.{Corner}
@@ -34,6 +34,18 @@ corners_beyond number place plus edges =
 abbrev pub number_with_codes : (List ℕ → Option ℕ) → List ℕ → List ℕ → Option ℕ
 number_with_codes number codes place = number (place ++ codes)
 
+-- the cell of a table at a place that these codes complete
+abbrev pub cell_with_codes : BookView → ℕ → List ℕ → List ℕ → Option ℕ
+cell_with_codes book t codes place = number_with_codes (cell_at book t) codes place
+
+-- corners with others put among them
+abbrev pub with_corners : List Corner → List Corner → List Corner
+with_corners corners others = fold with_corner corners others
+
+-- the sign at the partners of all these edges
+abbrev pub sign_beyond : List Edge → Bool
+sign_beyond edges = fold (λ plus edge. sign_over edge plus) true edges
+
 -- ---- the search
 
 -- the codes of a name, variable by variable of a table with these parents
@@ -49,8 +61,8 @@ begin_at [] (edges ∷ lists) = false
 begin_at (code ∷ codes) [] = false
 begin_at (code ∷ codes) (edges ∷ lists) = list_all (λ edge. edge.code == code) edges && begin_at codes lists
 
--- what a search goes by: a book with its cells, the costs, a table, the levels that a cube has to serve, and for each
--- variable of the table the cell's code with the edges from it
+-- what a search goes by: a book with its cells, the costs, a table, the levels that a cube has to serve, and the cell's
+-- code for each variable of the table
 pub record Setting : Type 0 where
   pub book : BookView
   pub cells : List Cell
@@ -58,15 +70,13 @@ pub record Setting : Type 0 where
   pub table : ℕ
   pub levels : Levels
   pub codes : List ℕ
-  pub lists : List (List Edge)
 
--- all costs are known, the levels are from 0, and the edges of at most 8 variables are those from the cell's codes
+-- all costs are known, the levels are from 0, and the table has at most 8 variables
 pub record IsSearchable (setting : Setting) : Type 0 where
   pub costed : All (λ mark. AreCosted mark.facts) setting.book.marks
   pub up : pos 0 ≤ℤ setting.levels.up
   pub down : pos 0 ≤ℤ setting.levels.down
-  pub few : length setting.lists ≤ 8
-  pub begun : begin_at setting.codes setting.lists ≡ true
+  pub few : length setting.codes ≤ 8
 
 -- the cell at a place of the table
 abbrev pub cell_in : Setting → List ℕ → Option ℕ

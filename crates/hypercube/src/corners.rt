@@ -1,7 +1,7 @@
-ghost use Rattle.std.specs.Prelude.{◌≡◌, ◌<◌, ◌≤◌, ◌+◌, ◌++◌, [], true, fold, length, drop, insert, option_to_list, slice_set, IfOk, OnOk};
+ghost use Rattle.std.specs.Prelude.{◌≡◌, ◌<◌, ◌≤◌, ◌+◌, ◌++◌, [], true, map, length, drop, insert, option_to_list, slice_set, IfOk, OnOk};
 ghost use Rattle.sdc_base.specs.Cubes as spec;
-ghost use Rattle.linked_tables.specs.BookCells.{cell_at};
-ghost use Rattle.hypercube.specs.Branches.{number_with_codes, corners_beyond};
+ghost use Rattle.hypercube.specs.Branches.{cell_with_codes, corners_beyond, with_corners};
+ghost use Rattle.hypercube.specs.Branches as branches;
 
 use arrayvec::ArrayVec;
 use linked_tables::Book;
@@ -20,7 +20,7 @@ pub(crate) fn corners_of(
     requires at_most_8 { length edges.now ≤ 8 }
     requires fewer { length codes.now ≤ 8 }
     ensures { IfOk result (λ corners. corners
-        ≡ spec.corners_of (number_with_codes (cell_at book.now t) codes.now) edges.now) }
+        ≡ spec.corners_of (cell_with_codes book.now t codes.now) edges.now) }
 {
     let mut corners = Vec::new(alloc);
     add_corners(book, t, edges, codes, &Few::empty(), true, &mut corners)?;
@@ -40,9 +40,8 @@ fn add_corners(
     requires at_most_8 { length edges.now ≤ 8 }
     requires fewer { length codes.now ≤ 8 }
     ensures { OnOk result (corners.new.items
-        ≡ fold spec.with_corner corners.old.items
-        (corners_beyond (number_with_codes (cell_at book.now t) codes.now) place.now plus
-        (drop (length place.now) edges.now))) }
+        ≡ with_corners corners.old.items
+        (corners_beyond (cell_with_codes book.now t codes.now) place.now plus (drop (length place.now) edges.now))) }
 {
     let k = place.len();
     if k >= edges.len() {
@@ -74,8 +73,8 @@ fn add_corner(
 ) -> Result<(), Memory>
     requires fewer { length codes.now ≤ 8 }
     ensures { OnOk result (corners.new.items
-        ≡ fold spec.with_corner corners.old.items
-        (option_to_list (spec.corner_at (number_with_codes (cell_at book.now t) codes.now) (place.now, plus)))) }
+        ≡ with_corners corners.old.items
+        (option_to_list (spec.corner_at (cell_with_codes book.now t codes.now) (place.now, plus)))) }
 {
     let whole = place_with(place, codes);
     if let Some(cell) = book.id(t, whole.as_slice()) {
@@ -84,8 +83,8 @@ fn add_corner(
     Ok(())
 }
 
-// A place with these codes behind it.
-fn place_with(place: &Place, codes: &[u32]) -> ArrayVec<u32, 16>
+/// A place with these codes behind it.
+pub(crate) fn place_with(place: &Place, codes: &[u32]) -> ArrayVec<u32, 16>
     requires { length codes.now ≤ 8 }
     ensures { result.items ≡ place.now ++ codes.now }
 {
@@ -109,6 +108,29 @@ pub(crate) fn place_over(codes: &Place, k: usize, other: u32) -> Place
         place[k] = other;
     }
     Few::new(place)
+}
+
+/// The partners of these edges.
+pub(crate) fn partners_of(edges: &Few<Edge, 8>) -> Place
+    ensures { result ≡ map (λ edge. edge.other) edges.now }
+{
+    let _ = edges.len();
+    let mut partners: ArrayVec<u32, 8> = ArrayVec::new();
+    'edges: for edge in edges.as_slice() {
+        partners.push(edge.other);
+    }
+    Few::new(partners)
+}
+
+/// The sign at the partners of all these edges.
+pub(crate) fn sign_beyond(edges: &[Edge]) -> bool
+    ensures { result ≡ branches.sign_beyond edges.now }
+{
+    let mut plus = true;
+    'edges: for edge in edges {
+        plus = sign_over(*edge, plus);
+    }
+    plus
 }
 
 /// The sign at the other end of an edge.

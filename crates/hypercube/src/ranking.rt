@@ -1,4 +1,4 @@
-ghost use Rattle.std.specs.Prelude.{◌≡◌, ◌++◌, ◌∷◌, [], if◌then◌else◌, map, slice_index_or, IfOk, OnOk};
+ghost use Rattle.std.specs.Prelude.{◌≡◌, ◌++◌, ◌∷◌, [], if◌then◌else◌, slice_index_or, IfOk, OnOk};
 ghost use Rattle.hypercube.specs.Ranks.{AreRankings, IsRanking, priced_of, serves_over, with_price};
 
 use crate::search::Search;
@@ -9,25 +9,35 @@ use std::alloc::Global;
 /// An edge with what its own corner costs.
 #[derive(Clone, Copy)]
 pub(crate) struct Priced {
-    price: u64,
-    edge: Edge,
+    pub(crate) price: u64,
+    pub(crate) edge: Edge,
 }
 
-/// The edges of each variable by the prices of their own corners, upwards; those whose own corner doesn't bear the
-/// levels are left out.
+/// The edges of each variable with the prices of their own corners, by these upwards; those whose own corner doesn't
+/// bear the levels are left out.
 pub(crate) fn all_rankings<F: TellsCosts>(
     alloc: Global,
     search: &Search<'_, F>,
-) -> Result<Vec<Items<Edge>>, Memory>
-    ensures { IfOk result (λ lists. AreRankings search.now 0 search.now.lists lists.items) }
+    lists: &[Items<Edge>],
+) -> Result<Vec<Items<Priced>>, Memory>
+    ensures { IfOk result (λ ranked. AreRankings search.now 0 lists.now ranked.items) }
 {
-    let mut lists = Vec::new(alloc);
-    let few = search.variables();
-    'variables: for k in 0..few {
-        let list = ranking(alloc, search, k)?;
-        lists.push(list)?;
+    let mut ranked = Vec::new(alloc);
+    'variables: for k in 0..lists.len() {
+        let list = ranking(alloc, search, k, list_at(lists, k))?;
+        ranked.push(list)?;
     }
-    Ok(lists)
+    Ok(ranked)
+}
+
+/// The list of variable k; none behind the last variable.
+pub(crate) fn list_at<T>(lists: &[Items<T>], k: usize) -> &[T]
+    ensures { result.now ≡ slice_index_or lists.now k [] }
+{
+    match lists.get(k) {
+        Some(list) => list.as_slice(),
+        None => &[],
+    }
 }
 
 // The edges of variable k.
@@ -35,12 +45,13 @@ fn ranking<F: TellsCosts>(
     alloc: Global,
     search: &Search<'_, F>,
     k: usize,
-) -> Result<Items<Edge>, Memory>
-    ensures { IfOk result (λ ranked. IsRanking search.now k (slice_index_or search.now.lists k []) ranked) }
+    edges: &[Edge],
+) -> Result<Items<Priced>, Memory>
+    ensures { IfOk result (λ ranked. IsRanking search.now k edges.now ranked) }
 {
-    let mut priced = priced_edges(alloc, search, k)?;
-    priced.sort_by_key(|one| one.price)?;
-    edges_of(alloc, priced.as_slice())
+    let mut priced = priced_edges(alloc, search, k, edges)?;
+    priced.sort_unstable_by_key(|one| one.price);
+    Ok(Items::new(priced))
 }
 
 // Those whose own corner bears the levels, each with its price.
@@ -48,11 +59,11 @@ fn priced_edges<F: TellsCosts>(
     alloc: Global,
     search: &Search<'_, F>,
     k: usize,
+    edges: &[Edge],
 ) -> Result<Vec<Priced>, Memory>
-    ensures { IfOk result (λ priced. priced.items ≡ priced_of search.now k (slice_index_or search.now.lists k [])) }
+    ensures { IfOk result (λ priced. priced.items ≡ priced_of search.now k edges.now) }
 {
     let mut priced = Vec::new(alloc);
-    let edges = search.list(k);
     'edges: for edge in edges {
         add_priced(search, k, *edge, &mut priced)?;
     }
@@ -74,15 +85,4 @@ fn add_priced<F: TellsCosts>(
         priced.push(Priced { price, edge })?;
     }
     Ok(())
-}
-
-// The edges alone.
-fn edges_of(alloc: Global, priced: &[Priced]) -> Result<Items<Edge>, Memory>
-    ensures { IfOk result (λ edges. edges ≡ map (λ one. one.edge) priced.now) }
-{
-    let mut edges = Vec::new(alloc);
-    'edges: for one in priced {
-        edges.push(one.edge)?;
-    }
-    Ok(Items::new(edges))
 }

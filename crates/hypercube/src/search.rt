@@ -1,4 +1,4 @@
-ghost use Rattle.std.specs.Prelude.{◌≡◌, ◌<◌, ◌≤◌, ◌++◌, ◌∷◌, [], ◌≤ℤ◌, pos, length, drop, option_map, true, None, Some, if◌then◌else◌, slice_index_or, All, IfOk};
+ghost use Rattle.std.specs.Prelude.{◌≡◌, ◌<◌, ◌++◌, ◌∷◌, [], ◌≤ℤ◌, pos, length, drop, option_map, true, None, Some, if◌then◌else◌, slice_index_or, All, IfOk};
 ghost use Rattle.cost_rule.specs.Costs.{AreCosted};
 ghost use Rattle.std.specs.Option.{ForSome};
 ghost use Rattle.sdc_base.specs.Cubes as spec;
@@ -7,11 +7,11 @@ ghost use Rattle.hypercube.specs.Branches.{best_beyond, shared_corners};
 ghost use Rattle.hypercube.specs.LeastCubes.{least_cube};
 ghost use Rattle.hypercube.specs.Ranks as ranks;
 
-use crate::corners::{corners_of, place_over, sign_over};
+use crate::corners::{corners_of, partners_of, place_over, place_with, sign_beyond, sign_over};
 use crate::edges::{codes_at, codes_behind, edges_at};
 use crate::order::{Offer, better_of, costs_more};
 use crate::pricing::{price_of_hiding, price_to_hide};
-use crate::ranking::all_rankings;
+use crate::ranking::{Priced, all_rankings, list_at};
 use crate::serving::{bears_at, serve};
 use arrayvec::ArrayVec;
 use cost_rule::{CostRule, TellsCosts};
@@ -33,9 +33,11 @@ use std::marker::Model;
 /// for each other variable: a partner whose own corner doesn't bear the levels is never chosen, and the others are
 /// tried by the prices of theirs, upwards. A choice is left as soon as one of the corners that all its cubes share
 /// doesn't bear the levels, or these corners together cost more than the best cube so far; and a variable as soon as
-/// the next partner's own corner makes them cost more. That takes a look-up for each partner of each variable and a
-/// sort of them, one for each partner that is come to, and for each choice that isn't left 2 to the number of variables
-/// look-ups; and memory for the partners and for as many corners.
+/// the next partner's own corner makes them cost more. From the second variable on a partner is passed over where the
+/// corner that has it and all partners chosen before doesn't bear the levels, or makes them cost more. That takes a
+/// look-up for each partner of each variable and a sort of them, one for each that is come to from the second variable
+/// on, and for each choice that isn't left 2 to the number of its partners look-ups; and memory for the partners and
+/// for as many corners.
 ///
 /// Cubes, partners and signs are those of the handbook's hypercube method; the levels that they serve and the order of
 /// cubes are argus's own.
@@ -62,16 +64,6 @@ pub fn cheapest<F: TellsCosts>(
     let table = table_of(book, subtable.table);
     let lists = edges_at(alloc, book, &name, &table, &subtable.parents)?;
     let codes = codes_at(&name, &table, &subtable.parents);
-    let unranked = Search {
-        book,
-        cells,
-        rule,
-        table: subtable.table,
-        levels,
-        codes: &codes,
-        lists: lists.as_slice(),
-    };
-    let ranked_lists = all_rankings(alloc, &unranked)?;
     let search = Search {
         book,
         cells,
@@ -79,9 +71,9 @@ pub fn cheapest<F: TellsCosts>(
         table: subtable.table,
         levels,
         codes: &codes,
-        lists: ranked_lists.as_slice(),
     };
-    let best = search.better(alloc, &Few::empty(), None)?;
+    let ranked = all_rankings(alloc, &search, lists.as_slice())?;
+    let best = search.better(alloc, ranked.as_slice(), &Few::empty(), None)?;
     Ok(cube_of(best))
 }
 
@@ -124,8 +116,6 @@ pub(crate) struct Search<'a, F: TellsCosts> {
     levels: Levels,
     // The cell's codes, variable by variable of the table.
     codes: &'a Place,
-    // The edges from each of them.
-    lists: &'a [Items<Edge>],
 }
 
 impl<'a, F: TellsCosts> Model for Search<'a, F> {
@@ -133,25 +123,27 @@ impl<'a, F: TellsCosts> Model for Search<'a, F> {
 
     ghost Value = { Setting };
 
-    ghost view = { λ s. record { book = s.book.now; cells = s.cells.now; cost = s.rule.now; table = s.table; levels = s.levels; codes = s.codes.now; lists = s.lists.now } };
+    ghost view = { λ s. record { book = s.book.now; cells = s.cells.now; cost = s.rule.now; table = s.table; levels = s.levels; codes = s.codes.now } };
 
-    ghost invariant = { λ s. IsSearchable (record { book = s.book.now; cells = s.cells.now; cost = s.rule.now; table = s.table; levels = s.levels; codes = s.codes.now; lists = s.lists.now }) };
+    ghost invariant = { λ s. IsSearchable (record { book = s.book.now; cells = s.cells.now; cost = s.rule.now; table = s.table; levels = s.levels; codes = s.codes.now }) };
 }
 
 impl<'a, F: TellsCosts> Search<'a, F> {
     // The best of an offer and those of the cubes that have these edges and go on with one of each list that is
     // left. All of them are left out where a corner that they share doesn't bear the levels, or where their shared
-    // corners cost more than the offer. A list is left at the first edge whose own corner makes them cost more.
+    // corners cost more than the offer. A list is left at the first edge whose own corner makes them cost more, and an
+    // edge is passed over where the corner at all partners does.
     fn better(
         &self,
         alloc: Global,
+        lists: &[Items<Priced>],
         chosen: &Few<Edge, 8>,
         best: Option<Offer>,
     ) -> Result<Option<Offer>, Memory>
-        requires rising { ranks.AreRising self.now }
+        requires ranked { ranks.AreRanked self.now lists.now }
         requires begun { ranks.BeginAt self.now chosen.now }
         ensures { IfOk result (λ found. found
-            ≡ best_beyond self.now best chosen.now (drop (length chosen.now) self.now.lists)) }
+            ≡ best_beyond self.now best chosen.now (drop (length chosen.now) (ranks.edge_lists lists.now))) }
     {
         let k = chosen.len();
         let corners = self.shared_corners(alloc, chosen)?;
@@ -162,54 +154,52 @@ impl<'a, F: TellsCosts> Search<'a, F> {
         if costs_more(price, &best) {
             return Ok(best);
         }
-        if k >= self.lists.len() {
+        if k >= lists.len() {
             return Ok(Some(better_of(best, (price, corners))));
         }
         let mut found = best;
-        let next = self.list(k);
-        'edges: for edge in next {
-            let more = price.saturating_add(u128::from(self.price_over(k, *edge)));
+        let next = list_at(lists, k);
+        'edges: for one in next {
+            let more = price.saturating_add(u128::from(one.price));
             if costs_more(more, &found) {
                 return Ok(found);
             }
-            let longer = with_edge(chosen, *edge);
-            found = self.better(alloc, &longer, found)?;
+            let longer = with_edge(chosen, one.edge);
+            if self.is_left(&longer, more, &found) {
+                continue 'edges;
+            }
+            found = self.better(alloc, lists, &longer, found)?;
         }
         Ok(found)
     }
 
-    /// How many variables there are.
-    pub(crate) fn variables(&self) -> usize
-        ensures { result ≡ length self.now.lists }
+    // Whether no cube with these edges is better than the best offer so far, since the corner at all their partners
+    // doesn't bear the levels, or costs too much beside others that cost at least so much. Of one edge that is its own
+    // corner, which has been looked at.
+    fn is_left(&self, edges: &Few<Edge, 8>, price: u128, best: &Option<Offer>) -> bool
+        ensures { result ≡ true → ranks.IsLeft self.now edges.now price best.now }
     {
-        self.lists.len()
-    }
-
-    /// The edges of variable k; none behind the last variable.
-    pub(crate) fn list(&self, k: usize) -> &[Edge]
-        ensures { result.now ≡ slice_index_or self.now.lists k [] }
-    {
-        match self.lists.get(k) {
-            Some(edges) => edges.as_slice(),
-            None => &[],
+        if edges.len() < 2 {
+            return false;
+        }
+        match self.price_where_borne(self.opposite(edges)) {
+            Some(own) => costs_more(price.saturating_add(u128::from(own)), best),
+            None => true,
         }
     }
 
-    /// What the own corner of an edge of variable k costs.
-    pub(crate) fn price_over(&self, k: usize, edge: Edge) -> u64
-        ensures { result ≡ ranks.price_over self.now k edge }
-    {
-        match self.corner_over(k, edge) {
-            Some(corner) => price_to_hide(self.book, self.cells, self.rule, corner.cell),
-            None => 0,
-        }
-    }
-
-    /// The same where that corner bears the levels.
+    /// What the own corner of an edge of variable k costs, where it bears the levels.
     pub(crate) fn price_where_served(&self, k: usize, edge: Edge) -> Option<u64>
         ensures { result ≡ (if ranks.serves_over self.now k edge then Some (ranks.price_over self.now k edge) else None) }
     {
-        let Some(corner) = self.corner_over(k, edge) else {
+        self.price_where_borne(self.corner_over(k, edge))
+    }
+
+    // What a corner costs, where it bears the levels.
+    fn price_where_borne(&self, corner: Option<Corner>) -> Option<u64>
+        ensures { result ≡ (if ranks.serves_at self.now corner then Some (ranks.price_at self.now corner) else None) }
+    {
+        let Some(corner) = corner else {
             return Some(0);
         };
         if !bears_at(self.cells, self.levels, corner) {
@@ -225,6 +215,17 @@ impl<'a, F: TellsCosts> Search<'a, F> {
         let place = place_over(self.codes, k, edge.other);
         let cell = self.book.id(self.table, place.as_slice())?;
         let plus = sign_over(edge, true);
+        Some(Corner { cell, plus })
+    }
+
+    // The corner at the partners of all these edges, which has the cell's own code for each further variable.
+    fn opposite(&self, edges: &Few<Edge, 8>) -> Option<Corner>
+        ensures { result ≡ ranks.opposite self.now edges.now }
+    {
+        let codes = codes_behind(self.codes.as_slice(), edges.len());
+        let place = place_with(&partners_of(edges), codes);
+        let cell = self.book.id(self.table, place.as_slice())?;
+        let plus = sign_beyond(edges.as_slice());
         Some(Corner { cell, plus })
     }
 

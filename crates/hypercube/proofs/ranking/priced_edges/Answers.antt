@@ -9,7 +9,7 @@ use Rattle.hypercube.proofs.ranking.priced_edges.Goals as goal
 pub edges-preserved : goal.edges-preserved
 edges-preserved g c =
     let setting = c.args.search.now in
-    let items : List Edge = c.list-edges.result.now in
+    let items : List Edge = c.args.edges.now in
     let i = c.edges.edge-index in
     let d : Edge = record { code = 0; other = 0; equal = false } in
     let left : List Edge = drop (i + 1) items in
