@@ -1,5 +1,5 @@
 -- A code list: a code and its label a line (tau-ARGUS user manual, code lists; commas in quotes and what is passed over own).
-use Rattle.std.specs.Prelude.{ℕ, ◌+◌, ◌-◌, ◌==◌, ◌&&◌, ◌||◌, nat_le, Bool, List, [], ◌∷◌, ◌++◌, length, take, drop, slice_index, if◌then◌else◌, Result, Ok, Err}
+use Rattle.std.specs.Prelude.{ℕ, ◌+◌, ◌-◌, ◌==◌, ◌&&◌, ◌||◌, nat_le, Bool, List, [], ◌∷◌, ◌++◌, length, take, drop, slice_index, if◌then◌else◌, Result, Ok, Err, ◌≡◌}
 use Rattle.std.specs.List.{before_first}
 use Rattle.std.specs.Str.{bytes_eq}
 use Rattle.sdc_base.specs.Lines.{lines as lines_of}
@@ -7,6 +7,7 @@ use Rattle.sdc_base.specs.Blanks.{trim}
 use Rattle.hierarchy.specs.MissingCodes.{has_code}
 use Rattle.hierarchy.specs.declared.tree_fault.TreeFault.{TreeFault}
 use Rattle.hierarchy.specs.declared.tree_fault.TreeFault.TheVariants as fault
+use Rattle.sdc_base.specs.Trees.{Tree, codes}
 
 -- a byte is a comma
 abbrev pub is_comma : ℕ → Bool
@@ -56,3 +57,12 @@ IsListFault other = ⊥
 -- the codes of a code list, or the line of the 5,001st
 abbrev pub codes_of : List ℕ → List ℕ → Result (List (List ℕ)) TreeFault
 codes_of total bytes = codes_listed total 1 [] (lines_of bytes)
+
+-- a statement holds of the total, where the known codes are the total and these
+abbrev pub OfTotal : Tree → List (List ℕ) → (List ℕ → Type 0) → Type 0
+OfTotal known kept statement = (total : List ℕ) → codes known ≡ total ∷ kept → statement total
+
+-- with the code of a line, before which these are kept and after which those, the codes of further lines are listed on
+abbrev pub ListsOn : List ℕ → ℕ → List (List ℕ) → List ℕ → List (List ℕ) → Type 0
+ListsOn total number before code after =
+    (lines : List (List ℕ)) → kept_on total number before code lines ≡ codes_listed total (number + 1) after lines

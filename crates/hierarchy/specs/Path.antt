@@ -1,5 +1,5 @@
 -- What the makers keep: the places above the last node, one at each depth (own).
-use Rattle.std.specs.Prelude.{◌≡◌, ℕ, ◌+◌, ◌-◌, ◌<◌, List, [], ◌∷◌, ◌++◌, length, take, Some, Result, slice_index}
+use Rattle.std.specs.Prelude.{◌≡◌, ℕ, ◌+◌, ◌-◌, ◌<◌, List, [], ◌∷◌, ◌++◌, length, take, Some, Result, slice_index, ◌≤◌}
 use Rattle.sdc_base.specs.Trees.{Tree, codes, climb}
 use Rattle.hierarchy.specs.Growing.{tree_with_node}
 use Rattle.hierarchy.specs.Faults.{tree_unless}
@@ -28,3 +28,7 @@ tree_by_path tree path (line ∷ lines) = tree_by_path (tree_with_node tree line
 abbrev pub read_on : Tree → List ℕ → List LeadLine → Result Tree TreeFault
 read_on tree path lines =
     tree_unless (first_line_fault (length path - 1) (codes tree) lines) (tree_by_path tree path lines)
+
+-- a level of a path, at most the ninth
+abbrev pub IsLevelOf : List ℕ → ℕ → Type 0
+IsLevelOf path depth = (depth < length path) × (depth ≤ 8)

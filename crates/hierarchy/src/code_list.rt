@@ -3,7 +3,7 @@ ghost use Rattle.std.specs.List.{before_first, position_or_len};
 ghost use Rattle.sdc_base.specs.Trees.{codes};
 ghost use Rattle.sdc_base.specs.Answers.{Fails, Gives};
 ghost use Rattle.hierarchy.specs.Faults.{fault_of};
-ghost use Rattle.hierarchy.specs.CodeList.{is_comma, is_quoted, text_without_quotes, code_of_line, codes_listed, kept_on, codes_of, IsListFault};
+ghost use Rattle.hierarchy.specs.CodeList.{is_comma, is_quoted, text_without_quotes, code_of_line, codes_listed, kept_on, codes_of, IsListFault, OfTotal, ListsOn};
 
 use crate::entries::Nodes;
 use crate::tree_fault::TreeFault;
@@ -52,13 +52,11 @@ fn keep(
     number: u32,
 ) -> Result<(), TreeFault>
     requires { (total : List ℕ) × (codes known.old ≡ total ∷ kept.old.items) }
-    ensures known { OnOk result ((total : List ℕ) → codes known.old ≡ total ∷ kept.old.items
-        → codes known.new ≡ total ∷ kept.new.items) }
+    ensures known { OnOk result (OfTotal known.old kept.old.items (λ total. codes known.new ≡ total ∷ kept.new.items)) }
     ensures kind { IfErr result IsListFault }
-    ensures ok { OnOk result ((total : List ℕ) → codes known.old ≡ total ∷ kept.old.items → (lines : List (List ℕ))
-        → kept_on total number kept.old.items code.now lines ≡ codes_listed total (number + 1) kept.new.items lines) }
-    ensures err { IfErr result (λ fault. (total : List ℕ) → codes known.old ≡ total ∷ kept.old.items
-        → (lines : List (List ℕ)) → Fails (fault_of fault) (kept_on total number kept.old.items code.now lines)) }
+    ensures ok { OnOk result (OfTotal known.old kept.old.items (λ total. ListsOn total number kept.old.items code.now kept.new.items)) }
+    ensures err { IfErr result (λ fault. OfTotal known.old kept.old.items (λ total. (lines : List (List ℕ))
+        → Fails (fault_of fault) (kept_on total number kept.old.items code.now lines))) }
 {
     if code.is_empty() {
         return Ok(());

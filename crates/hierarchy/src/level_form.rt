@@ -14,7 +14,7 @@ ghost use Rattle.hierarchy.specs.Faults.{fault_of, AnswersFault};
 ghost use Rattle.hierarchy.specs.Levels.{level, boundaries, prefixes, with_prefixes, codes_with_prefixes, level_fault, first_level_fault, levels_of, tree_of_codes, IsAscending, IsClosed, IsLevelFault};
 ghost use Rattle.hierarchy.specs.Among.{IsIn, AreAmong};
 ghost use Rattle.hierarchy.specs.LevelNodes.{AreLevelNodes};
-ghost use Rattle.hierarchy.specs.Path.{IsPath, next_path};
+ghost use Rattle.hierarchy.specs.Path.{IsPath, next_path, IsLevelOf};
 
 use crate::code_tree::CodeTree;
 use crate::entries::Nodes;
@@ -255,8 +255,7 @@ fn place_code(
     requires path { IsPath nodes.old path.old.items }
     requires new { find nodes.old code.now ≡ None }
     requires fewer_than_5001 { length nodes.old < 5001 }
-    requires within { depth < length path.old.items }
-    requires shallow { depth ≤ 8 }
+    requires level { IsLevelOf path.old.items depth }
     ensures told { IfErr result (λ fault. fault ≡ TreeFault.Memory) }
     ensures grows { OnOk result (nodes.new ≡ tree_with_node nodes.old code.now (slice_index path.old.items depth)) }
     ensures next { OnOk result (path.new.items ≡ next_path path.old.items depth (length nodes.old)) }

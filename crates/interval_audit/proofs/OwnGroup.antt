@@ -6,7 +6,7 @@ use Rattle.interval_audit.specs.declared.question.Question.{Question}
 use Rattle.interval_audit.specs.declared.answer.Answer.{Answer}
 use Rattle.interval_audit.specs.declared.answer.AskFault.{AskFault}
 use Rattle.interval_audit.specs.declared.answer.AskFault.TheVariants as fault
-use Rattle.interval_audit.specs.Answers.{IsCauseIn, IsCauseOf}
+use Rattle.interval_audit.specs.Causes.{IsCauseIn, IsCauseOf}
 use Rattle.interval_audit.specs.Groups.{Group, IsComponentOf}
 
 caused_in : (system : System) (cells : List Cell) (flags : List Bool) (group : Group) (question : Question) (limit : ℕ) (found : AskFault) → IsComponentOf system.relations flags question.cell group → IsCauseIn system cells flags group question limit found → IsCauseOf system cells flags question limit found

@@ -21,7 +21,8 @@ use Rattle.tableau.specs.Readings.{value_for, values_of, slacks_of}
 use Rattle.tableau.specs.Solutions.{AreFeasible}
 use Rattle.tableau.specs.Steps.{IsReached, IsBlocked}
 use Rattle.tableau.specs.Tableaus.{TableauWalk}
-use Rattle.tableau.specs.Tables.{value, number_at as objective_number}
+use Rattle.tableau.specs.Tables.{number_at as objective_number}
+use Rattle.tableau.specs.TableLaws.{value}
 use Rattle.interval_audit.specs.Points.{comes_to, number_at}
 use Rattle.interval_audit.specs.Answers.{HasEnded}
 use Rattle.interval_audit.specs.WalkStates.{state_of, objective_of, IsAtPoint, IsAtEnd}

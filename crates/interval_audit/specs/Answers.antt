@@ -1,5 +1,5 @@
 -- What answers of questions say, and when a question has none (handbook, feasibility interval; linear duality; faults own).
-use Rattle.std.specs.Prelude.{◌≡◌, ℕ, ◌+◌, ◌<◌, ◌≤◌, ◌⊎◌, Bool, List, length, FitsSigned, ℤ, ◌*ℤ◌, ◌<ℤ◌, Err}
+use Rattle.std.specs.Prelude.{◌≡◌, ◌+◌, ◌<◌, ◌≤◌, ◌⊎◌, Bool, List, length, FitsSigned, ℤ, ◌*ℤ◌, ◌<ℤ◌}
 use Rattle.std.specs.Int.{w128}
 use Rattle.sdc_base.specs.declared.cell.Cell.{Cell}
 use Rattle.sdc_base.specs.declared.system.System.{System}
@@ -13,20 +13,15 @@ use Rattle.tableau.specs.Tableaus.{TableauWalk, IsTableauWalk}
 use Rattle.tableau.specs.Widths.{IsWideStep}
 use Rattle.tableau.specs.declared.step.Step.{Step}
 use Rattle.tableau.specs.declared.step.Step.TheVariants.{Improved, Reached, Blocked, Wide}
-use Rattle.worlds.specs.declared.faults.RefutationFault.TheVariants as refutation
 use Rattle.worlds.specs.declared.world.World.{World}
 use Rattle.worlds.specs.declared.multipliers.Multipliers.{Multipliers}
 use Rattle.worlds.specs.NumberLists.{terms_of, number_given}
 use Rattle.worlds.specs.WorldFaults.{IsGivenWorld}
-use Rattle.worlds.specs.RefutationFaults.{IsGivenSum, terms_added, sum_of_bounds}
+use Rattle.worlds.specs.RefutationFaults.{IsGivenSum, terms_added}
 use Rattle.interval_audit.specs.declared.question.Question.{Question}
 use Rattle.interval_audit.specs.declared.answer.Fraction.{Fraction}
 use Rattle.interval_audit.specs.declared.answer.Answer.{Answer}
 use Rattle.interval_audit.specs.declared.answer.Answer.TheVariants.{Reaches, Stops}
-use Rattle.interval_audit.specs.declared.answer.WidePlace.{WidePlace}
-use Rattle.interval_audit.specs.declared.answer.WidePlace.TheVariants.{Pivot, Refutation}
-use Rattle.interval_audit.specs.declared.answer.AskFault.{AskFault}
-use Rattle.interval_audit.specs.declared.answer.AskFault.TheVariants as fault
 use Rattle.interval_audit.specs.QuestionLaws.{IsBest}
 use Rattle.interval_audit.specs.Groups.{Group, IsComponentOf, members}
 use Rattle.interval_audit.specs.Problems.{problem_of}
@@ -91,54 +86,11 @@ IsWalkAnswerIn system cells group question answer =
     (walk : TableauWalk) × IsTableauWalk walk × (walk.problem ≡ problem_of system cells group question)
     × IsReadOff system cells group walk answer
 
--- the check of multipliers needs at a cell a number wider than 128 bits: for their sum, or, at the asked cell, for the
--- target times their denominator
-abbrev pub NeedsWideNumber : System → List Cell → List Bool → Question → Multipliers → ℕ → Type 0
-NeedsWideNumber system cells flags question multipliers cell =
-    (sum_of_bounds system cells flags question.cell question.side multipliers ≡ Err (refutation.Wide cell))
-    ⊎ ((cell ≡ question.cell) × IsGivenSum system cells flags question.cell question.side multipliers
-    × (¬ FitsSigned w128 (multipliers.den *ℤ question.target)))
-
--- a number wider than 128 bits is needed at this place of a walk
-abbrev pub NeedsWideAt : System → List Cell → List Bool → Group → Question → TableauWalk → WidePlace → Type 0
-NeedsWideAt system cells flags group question walk (Pivot row column) = IsWideStep walk.problem walk.table row column
-NeedsWideAt system cells flags group question walk (Refutation cell) =
-    IsBlocked walk.problem walk.table × (multipliers : Multipliers)
-    × AreMultipliersOf system cells group walk.table.den (slacks_of walk.problem walk.table) multipliers
-    × NeedsWideNumber system cells flags question multipliers cell
-
--- Why there is no answer. A component of more than 1,500 cells is looked for first, so every other cause but want of
--- memory, which is free, comes only where there are at most so many.
-abbrev pub IsCauseIn : System → List Cell → List Bool → Group → Question → ℕ → AskFault → Type 0
-IsCauseIn system cells flags group question limit (fault.Work walk) =
-    (walk.question ≡ question) × (walk.tableau.problem ≡ problem_of system cells group question)
-    × (walk.tableau.improved ≡ limit) × (¬ HasEnded walk.tableau) × (length (members group system.cells) ≤ 1500)
-IsCauseIn system cells flags group question limit (fault.Wide walk place) =
-    (walk.question ≡ question) × (walk.tableau.problem ≡ problem_of system cells group question)
-    × NeedsWideAt system cells flags group question walk.tableau place
-    × (length (members group system.cells) ≤ 1500)
-IsCauseIn system cells flags group question limit (fault.Size asked hidden) = (asked ≡ question)
-    × (hidden ≡ length (members group system.cells)) × (1500 < hidden)
-IsCauseIn system cells flags group question limit fault.Memory = Unit {0}
-
 -- the answer is read off the end of the walk of the question in its component
 abbrev pub IsWalkAnswer : System → List Cell → List Bool → Question → Answer → Type 0
 IsWalkAnswer system cells flags question answer =
     (group : Group) × IsComponentOf system.relations flags question.cell group
     × (length (members group system.cells) ≤ 1500) × IsWalkAnswerIn system cells group question answer
-
--- why the question has no answer; want of memory is free
-abbrev pub IsCauseOf : System → List Cell → List Bool → Question → ℕ → AskFault → Type 0
-IsCauseOf system cells flags question limit fault.Memory = Unit {0}
-IsCauseOf system cells flags question limit (fault.Work walk) = (group : Group)
-    × IsComponentOf system.relations flags question.cell group
-    × IsCauseIn system cells flags group question limit (fault.Work walk)
-IsCauseOf system cells flags question limit (fault.Wide walk place) = (group : Group)
-    × IsComponentOf system.relations flags question.cell group
-    × IsCauseIn system cells flags group question limit (fault.Wide walk place)
-IsCauseOf system cells flags question limit (fault.Size asked hidden) = (group : Group)
-    × IsComponentOf system.relations flags question.cell group
-    × IsCauseIn system cells flags group question limit (fault.Size asked hidden)
 
 -- what a question is answered with is one: its walk has one end, and what is read there in lowest terms is one
 abbrev pub AnswerIsOne : Type 0

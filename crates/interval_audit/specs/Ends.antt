@@ -7,7 +7,8 @@ use Rattle.sdc_base.specs.declared.system.System.{System}
 use Rattle.interval_audit.specs.declared.question.Question.{Question}
 use Rattle.interval_audit.specs.declared.answer.Answer.{Answer}
 use Rattle.interval_audit.specs.declared.answer.AskFault.{AskFault}
-use Rattle.interval_audit.specs.Answers.{IsTrueAnswer, IsWalkAnswer, IsCauseOf}
+use Rattle.interval_audit.specs.Answers.{IsTrueAnswer, IsWalkAnswer}
+use Rattle.interval_audit.specs.Causes.{IsCauseOf}
 
 -- the question asks how far the cell lies to the side, with the target 2^110
 pub record IsEndQuestion (cell : ℕ) (side : Side) (question : Question) : Type 0 where

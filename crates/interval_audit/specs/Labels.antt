@@ -1,5 +1,5 @@
 -- The rows of a question, each by a label that says what it keeps (linear programming; the order own).
-use Rattle.std.specs.Prelude.{ℕ, ◌||◌, Bool, false, List, [], ◌∷◌, ◌++◌, length, filter, slice_get, is_some, ℤ, pos, neg_ℤ, ◌-ℤ◌, if◌then◌else◌}
+use Rattle.std.specs.Prelude.{ℕ, ◌||◌, Bool, false, List, [], ◌∷◌, ◌++◌, length, filter, slice_get, is_some, ℤ, pos, neg_ℤ, ◌-ℤ◌, if◌then◌else◌, ◌≡◌}
 use Rattle.std.specs.List.{flat_map, list_any, range_with_len, zip}
 use Rattle.std.specs.Option.{option_map_or}
 use Rattle.sdc_base.specs.declared.cell.Cell.{Cell}
@@ -8,6 +8,7 @@ use Rattle.sdc_base.specs.Forms.{Term, form_times, coefficient}
 use Rattle.sdc_base.specs.Refutations.{rise}
 use Rattle.sdc_base.specs.Systems.{Numbers}
 use Rattle.interval_audit.specs.Groups.{Group, members}
+use Rattle.sdc_base.specs.declared.system.System.{System}
 
 -- what a row keeps: a cell goes up at most as far as its upper bound, or down at most as far as its lower one; a
 -- relation's form is at most 0, or its negated form is
@@ -32,6 +33,12 @@ abbrev pub met_relations : Group → List Relation → List ℕ
 met_relations group relations =
     filter (λ number. option_map_or (is_met group) (slice_get relations number) false)
     (range_with_len 0 (length relations))
+
+-- a statement holds of the group of which these are the members, and these the relations in which one of them stands
+abbrev pub OfGroupWith : System → List ℕ → List ℕ → (Group → Type 0) → Type 0
+OfGroupWith system list met statement =
+    (group : Group) → list ≡ members group system.cells → met ≡ met_relations group system.relations
+    → statement group
 
 -- a relation's form, and its negated form
 abbrev pub forms_for : ℕ → List Label

@@ -10,5 +10,7 @@ pub mod LowestTerms
 pub mod Readings
 pub mod WalkStates
 pub mod Answers
+pub mod Causes
 pub mod WalkLimits
+pub mod Inquiries
 pub mod Ends

@@ -26,6 +26,11 @@ AreDifferences list numbers plus minus given =
     (place : ℕ) → place < length list → given (slice_index list place)
     ≡ number_at numbers (plus + 2 * place) -ℤ number_at numbers (minus + 2 * place)
 
+-- multipliers are these numbers of the relations in a list, over the denominator, in lowest terms
+abbrev pub HasLowestTerms : Multipliers → ℤ → Numbers → List ℕ → Type 0
+HasLowestTerms multipliers den numbers list =
+    AreLowestTermsOf den (nonzero_terms numbers list) multipliers.den multipliers.by_relation
+
 -- the world that amounts of a question's columns make: each cell's up less its down, over the denominator, in lowest
 -- terms
 abbrev pub IsWorldOf : System → Group → ℤ → Numbers → World → Type 0

@@ -1,11 +1,10 @@
-ghost use Rattle.std.specs.Prelude.{◌≡◌, ◌≤◌, ◌<◌, ◌^◌, ◌-◌, ℕ, length, true, IfOk, IfErr};
+ghost use Rattle.std.specs.Prelude.{◌≡◌, ◌≤◌, ◌<◌, ◌^◌, ◌-◌, true, IfOk, IfErr};
 ghost use Rattle.sdc_base.specs.Grounds.{IsGround};
 ghost use Rattle.sdc_base.specs.HiddenSets.{is_hidden};
-ghost use Rattle.interval_audit.specs.Answers.{IsTrueAnswer, IsWalkAnswerIn, IsCauseIn, IsWalkAnswer, IsCauseOf, IsStepOutcome};
-ghost use Rattle.interval_audit.specs.Groups.{Group, IsComponentOf, IsGroup, group_of};
-ghost use Rattle.interval_audit.specs.Groups as groups;
-ghost use Rattle.interval_audit.specs.Problems as problems;
-ghost use Rattle.interval_audit.specs.WalkLimits.{IsAmple, IsCutBelow, IsNotCutOff};
+ghost use Rattle.interval_audit.specs.Answers.{IsTrueAnswer, IsWalkAnswer, IsStepOutcome};
+ghost use Rattle.interval_audit.specs.Causes.{IsCauseOf};
+ghost use Rattle.interval_audit.specs.WalkLimits.{IsAmple, IsNotCutOff};
+ghost use Rattle.interval_audit.specs.Inquiries as inquiries;
 
 use crate::answer::{Answer, AskFault, Walk, WidePlace};
 use crate::finish::{finish, read_state};
@@ -87,15 +86,10 @@ pub fn ask(
 
 // The answer of a walk of at most so many improvements.
 fn walk_on(alloc: Global, inquiry: &Inquiry<'_>, limit: u64) -> Result<Answer, AskFault>
-    ensures right { IfOk result (λ answer. IsTrueAnswer inquiry.now.system.now inquiry.now.cells.now
-        inquiry.now.hidden.now.flags inquiry.now.question answer) }
-    ensures read { IfOk result (λ answer. IsWalkAnswerIn inquiry.now.system.now inquiry.now.cells.now
-        (group_of inquiry.now.of.now inquiry.now.question.cell) inquiry.now.question answer) }
-    ensures cause { IfErr result (λ fault. IsCauseIn inquiry.now.system.now inquiry.now.cells.now
-        inquiry.now.hidden.now.flags (group_of inquiry.now.of.now inquiry.now.question.cell) inquiry.now.question limit
-        fault) }
-    ensures short { IfErr result (λ fault. IsCutBelow inquiry.now.system.now inquiry.now.cells.now
-        (group_of inquiry.now.of.now inquiry.now.question.cell) inquiry.now.question limit fault) }
+    ensures right { IfOk result (λ answer. inquiries.IsRightFor inquiry.now answer) }
+    ensures read { IfOk result (λ answer. inquiries.IsGivenByWalk inquiry.now answer) }
+    ensures cause { IfErr result (λ fault. inquiries.IsCauseFor inquiry.now limit fault) }
+    ensures short { IfErr result (λ fault. inquiries.IsCutOffBelow inquiry.now limit fault) }
 {
     let question = inquiry.question;
     let problem = problem_over(

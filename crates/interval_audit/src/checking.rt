@@ -1,11 +1,10 @@
-ghost use Rattle.std.specs.Prelude.{◌≡◌, ◌<◌, ◌≤ℤ◌, ◌*ℤ◌, FitsSigned, length, pos, IfSome, IfOk, None, true};
+ghost use Rattle.std.specs.Prelude.{◌≡◌, ◌<◌, ◌≤ℤ◌, ◌*ℤ◌, FitsSigned, length, pos, IfSome, None};
 ghost use Rattle.std.specs.Int.{w128};
-ghost use Rattle.sdc_base.specs.Forms.{coefficient};
-ghost use Rattle.sdc_base.specs.Refutations.{AreBounded};
 ghost use Rattle.worlds.specs.NumberLists.{IsListed};
-ghost use Rattle.worlds.specs.RefutationFaults.{IsGivenSum, IsWideFault, terms_added};
+ghost use Rattle.worlds.specs.RefutationFaults.{IsGivenSum, IsWideFault};
 ghost use Rattle.worlds.specs.declared.faults.RefutationFault.TheVariants as refutation;
-ghost use Rattle.interval_audit.specs.Answers.{NeedsWideNumber};
+ghost use Rattle.interval_audit.specs.Causes.{NeedsWideNumber};
+ghost use Rattle.interval_audit.specs.Inquiries as inquiries;
 
 use crate::inquiry::Inquiry;
 use crate::question::Question;
@@ -20,9 +19,7 @@ pub(crate) fn wide_at(
     requires scratch { length scratch.old ≡ inquiry.now.system.now.cells }
     requires positive { pos 1 ≤ℤ multipliers.now.den }
     requires listed { IsListed (length inquiry.now.system.now.relations) multipliers.now.by_relation }
-    requires bounded { AreBounded inquiry.now.cells.now inquiry.now.hidden.now.flags
-        (coefficient (terms_added inquiry.now.system.now inquiry.now.question.cell inquiry.now.question.side
-        multipliers.now)) }
+    requires bounded { inquiries.AddsBounded inquiry.now multipliers.now }
     ensures sum { result ≡ None → IsGivenSum inquiry.now.system.now inquiry.now.cells.now inquiry.now.hidden.now.flags
         inquiry.now.question.cell inquiry.now.question.side multipliers.now }
     ensures product { result ≡ None → FitsSigned w128 (multipliers.now.den *ℤ inquiry.now.question.target) }

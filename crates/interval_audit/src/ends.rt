@@ -4,7 +4,8 @@ ghost use Rattle.sdc_base.specs.HiddenSets.{is_hidden};
 ghost use Rattle.sdc_base.specs.declared.side.Side.{Side as AnySide};
 ghost use Rattle.sdc_base.specs.declared.side.Side.TheVariants.{Above, Below};
 ghost use Rattle.interval_audit.specs.declared.question.Question.{Question as AnyQuestion};
-ghost use Rattle.interval_audit.specs.Answers.{IsTrueAnswer, IsWalkAnswer, IsCauseOf};
+ghost use Rattle.interval_audit.specs.Answers.{IsTrueAnswer, IsWalkAnswer};
+ghost use Rattle.interval_audit.specs.Causes.{IsCauseOf};
 ghost use Rattle.interval_audit.specs.Ends.{IsEndQuestion, IsTrueEnd, IsWalkEnd, IsEndCause, IsIntervalCause};
 
 use crate::answer::{Answer, AskFault};

@@ -1,11 +1,10 @@
-ghost use Rattle.std.specs.Prelude.{◌≡◌, ◌≤◌, ◌<◌, ◌+◌, ◌^◌, ◌++◌, ◌∷◌, [], ℕ, List, length, All, if◌then◌else◌, IfOk, OnOk, pos, neg_ℤ, ◌≤ℤ◌};
+ghost use Rattle.std.specs.Prelude.{◌≡◌, ◌≤◌, ◌<◌, ◌+◌, ◌^◌, ◌++◌, ◌∷◌, [], List, length, All, if◌then◌else◌, IfOk, OnOk, pos, ◌≤ℤ◌};
 ghost use Rattle.std.specs.Ordering.{int_eq};
 ghost use Rattle.sdc_base.specs.Forms.{Term};
 ghost use Rattle.interval_audit.specs.CellNumbers.{AreZeros, AreCoefficients, AreWithin};
 ghost use Rattle.interval_audit.specs.Columns as columns_specs;
 ghost use Rattle.interval_audit.specs.FormSigns.{IsFormSign};
-ghost use Rattle.interval_audit.specs.Groups.{Group};
-ghost use Rattle.interval_audit.specs.Groups as groups;
+ghost use Rattle.interval_audit.specs.Groups.{OfMembers};
 
 use crate::terms::{add_terms, take_terms};
 use sdc_base::Memory;
@@ -27,8 +26,8 @@ pub(crate) fn entries_of(
     requires zeros { AreZeros scratch.old }
     ensures length { length scratch.new ≡ length scratch.old }
     ensures zeros { OnOk result (AreZeros scratch.new) }
-    ensures entries { (group : Group) (n : ℕ) → members.now ≡ groups.members group n
-        → IfOk result (λ entries. entries.items ≡ columns_specs.entries_of group n terms.now) }
+    ensures entries { OfMembers members.now (λ group n. IfOk result (λ entries. entries.items
+        ≡ columns_specs.entries_of group n terms.now)) }
 {
     add_terms(scratch, terms);
     let entries = entries_at(alloc, members, scratch)?;
@@ -41,9 +40,8 @@ fn entries_at(alloc: Global, members: &[u32], numbers: &[i128]) -> Result<Vec<(u
     requires fewer_than_2_31 { length members.now < 2 ^ 31 }
     requires known { All (λ cell. cell < length numbers.now) members.now }
     requires within { AreWithin (pos (2 ^ 32)) numbers.now }
-    ensures { (group : Group) (n : ℕ) (terms : List Term) → members.now ≡ groups.members group n
-        → AreCoefficients numbers.now terms
-        → IfOk result (λ entries. entries.items ≡ columns_specs.entries_of group n terms) }
+    ensures { OfMembers members.now (λ group n. (terms : List Term) → AreCoefficients numbers.now terms
+        → IfOk result (λ entries. entries.items ≡ columns_specs.entries_of group n terms)) }
 {
     let mut entries = Vec::new(alloc);
     'members: for (place, cell) in members.iter().enumerate() {

@@ -1,19 +1,12 @@
-ghost use Rattle.std.specs.Prelude.{◌≡◌, ◌<◌, ◌≤◌, ◌*◌, ◌^◌, ◌*ℤ◌, ◌<ℤ◌, ◌≤ℤ◌, ℕ, All, length, neg_ℤ, pos, IfOk, IfErr, true};
-ghost use Rattle.sdc_base.specs.Worlds.{amount_toward};
-ghost use Rattle.interval_audit.specs.Points.{number_at};
-ghost use Rattle.tableau.specs.Readings.{values_of};
+ghost use Rattle.std.specs.Prelude.{◌≡◌, ◌<◌, ◌≤◌, ◌*◌, ◌^◌, ◌*ℤ◌, ◌<ℤ◌, ◌≤ℤ◌, All, pos, IfOk, IfErr, true};
 ghost use Rattle.tableau.specs.Steps.{IsReached, IsBlocked};
-ghost use Rattle.tableau.specs.Tables.{value};
+ghost use Rattle.tableau.specs.TableLaws.{value};
 ghost use Rattle.tableau.specs.Problems.{numbers_of};
 ghost use Rattle.tableau.specs.Tableaus.{IsTableauWalk};
 ghost use Rattle.interval_audit.specs.WalkStates.{state_of, objective_of, IsAtPoint, IsAtTarget, IsAtOptimum};
 ghost use Rattle.worlds.specs.NumberLists.{terms_of, number_given};
-ghost use Rattle.interval_audit.specs.Answers.{HasEnded, IsTrueAnswer, IsReadOff, IsCauseIn, asked_move_in};
-ghost use Rattle.interval_audit.specs.Groups.{IsGroup, group_of};
-ghost use Rattle.interval_audit.specs.Groups as groups;
-ghost use Rattle.interval_audit.specs.Problems as problems;
-ghost use Rattle.interval_audit.specs.Readings.{IsWorldOf, AreMultipliersOf};
-ghost use Rattle.interval_audit.specs.WalkLimits.{IsCutBelow};
+ghost use Rattle.interval_audit.specs.Answers.{HasEnded, asked_move_in};
+ghost use Rattle.interval_audit.specs.Inquiries as inquiries;
 
 use crate::answer::{Answer, AskFault, Fraction, Walk, WidePlace};
 use crate::checking::wide_at;
@@ -32,19 +25,14 @@ pub(crate) fn finish(
     inquiry: &Inquiry<'_>,
     tableau: Tableau,
 ) -> Result<Answer, AskFault>
-    requires problem { tableau.problem ≡ problems.problem_of inquiry.now.system.now inquiry.now.cells.now
-        (group_of inquiry.now.of.now inquiry.now.question.cell) inquiry.now.question }
+    requires problem { tableau.problem ≡ inquiries.problem_for inquiry.now }
     requires ended { HasEnded tableau }
-    ensures right { IfOk result (λ answer. IsTrueAnswer inquiry.now.system.now inquiry.now.cells.now
-        inquiry.now.hidden.now.flags inquiry.now.question answer) }
-    ensures read { IfOk result (λ answer. IsReadOff inquiry.now.system.now inquiry.now.cells.now
-        (group_of inquiry.now.of.now inquiry.now.question.cell) tableau answer) }
+    ensures right { IfOk result (λ answer. inquiries.IsRightFor inquiry.now answer) }
+    ensures read { IfOk result (λ answer. inquiries.IsReadOffWalk inquiry.now tableau answer) }
     ensures cause { IfErr result (λ fault. (limit : ℕ)
-        → IsCauseIn inquiry.now.system.now inquiry.now.cells.now inquiry.now.hidden.now.flags
-        (group_of inquiry.now.of.now inquiry.now.question.cell) inquiry.now.question limit fault) }
+        → inquiries.IsCauseFor inquiry.now limit fault) }
     ensures short { IfErr result (λ fault. (limit : ℕ)
-        → IsCutBelow inquiry.now.system.now inquiry.now.cells.now
-        (group_of inquiry.now.of.now inquiry.now.question.cell) inquiry.now.question limit fault) }
+        → inquiries.IsCutOffBelow inquiry.now limit fault) }
 {
     read_state(&tableau);
     let world = world_of(alloc, inquiry, &tableau)?;
@@ -74,12 +62,9 @@ pub(crate) fn read_state(tableau: &Tableau)
 // The world that a walk gives, in lowest terms.
 fn world_of(alloc: Global, inquiry: &Inquiry<'_>, tableau: &Tableau) -> Result<World, Memory>
     requires problem { tableau.now.problem
-        ≡ problems.problem_of inquiry.now.system.now inquiry.now.cells.now
-        (group_of inquiry.now.of.now inquiry.now.question.cell) inquiry.now.question }
+        ≡ inquiries.problem_for inquiry.now }
     requires stands { IsAtPoint (state_of tableau.now) }
-    ensures world { IfOk result (λ world. IsWorldOf inquiry.now.system.now
-        (group_of inquiry.now.of.now inquiry.now.question.cell) tableau.now.table.den
-        (number_at (values_of tableau.now.problem tableau.now.table)) world) }
+    ensures world { IfOk result (λ world. inquiries.IsWorldOfWalk inquiry.now tableau.now world) }
     ensures held { IfOk result (λ world. All (λ term. neg_ℤ (pos (2 ^ 127)) <ℤ term.1) (terms_of world.moves)) }
 {
     let members = members_of(
@@ -135,23 +120,17 @@ fn stop(
     world: World,
     num: i128,
 ) -> Result<Answer, AskFault>
-    requires problem { tableau.problem ≡ problems.problem_of inquiry.now.system.now inquiry.now.cells.now
-        (group_of inquiry.now.of.now inquiry.now.question.cell) inquiry.now.question }
+    requires problem { tableau.problem ≡ inquiries.problem_for inquiry.now }
     requires blocked { IsBlocked tableau.problem tableau.table }
     requires stuck { IsAtOptimum (state_of tableau) }
-    requires world { IsWorldOf inquiry.now.system.now (group_of inquiry.now.of.now inquiry.now.question.cell)
-        tableau.table.den (number_at (values_of tableau.problem tableau.table)) world }
+    requires world { inquiries.IsWorldOfWalk inquiry.now tableau world }
     requires num { num ≡ asked_move_in inquiry.now.question world }
-    ensures right { IfOk result (λ answer. IsTrueAnswer inquiry.now.system.now inquiry.now.cells.now
-        inquiry.now.hidden.now.flags inquiry.now.question answer) }
-    ensures read { IfOk result (λ answer. IsReadOff inquiry.now.system.now inquiry.now.cells.now
-        (group_of inquiry.now.of.now inquiry.now.question.cell) tableau answer) }
+    ensures right { IfOk result (λ answer. inquiries.IsRightFor inquiry.now answer) }
+    ensures read { IfOk result (λ answer. inquiries.IsReadOffWalk inquiry.now tableau answer) }
     ensures cause { IfErr result (λ fault. (limit : ℕ)
-        → IsCauseIn inquiry.now.system.now inquiry.now.cells.now inquiry.now.hidden.now.flags
-        (group_of inquiry.now.of.now inquiry.now.question.cell) inquiry.now.question limit fault) }
+        → inquiries.IsCauseFor inquiry.now limit fault) }
     ensures short { IfErr result (λ fault. (limit : ℕ)
-        → IsCutBelow inquiry.now.system.now inquiry.now.cells.now
-        (group_of inquiry.now.of.now inquiry.now.question.cell) inquiry.now.question limit fault) }
+        → inquiries.IsCutOffBelow inquiry.now limit fault) }
 {
     let multipliers = multipliers_of(alloc, inquiry, &tableau)?;
     let mut scratch = Vec::from_elem(alloc, 0, inquiry.system.cells as usize)?;
@@ -181,12 +160,10 @@ fn multipliers_of(
     tableau: &Tableau,
 ) -> Result<Multipliers, Memory>
     requires problem { tableau.now.problem
-        ≡ problems.problem_of inquiry.now.system.now inquiry.now.cells.now
-        (group_of inquiry.now.of.now inquiry.now.question.cell) inquiry.now.question }
+        ≡ inquiries.problem_for inquiry.now }
     requires stuck { IsAtOptimum (state_of tableau.now) }
     ensures { IfOk result (λ read. (ended : IsAtOptimum (state_of tableau.now))
-        → AreMultipliersOf inquiry.now.system.now inquiry.now.cells.now
-        (group_of inquiry.now.of.now inquiry.now.question.cell) tableau.now.table.den ended.weights read) }
+        → inquiries.AreMultipliersOfWalk inquiry.now tableau.now ended.weights read) }
 {
     let met = inquiry.met;
     let slacks = tableau.slacks();

@@ -1,12 +1,12 @@
-ghost use Rattle.std.specs.Prelude.{◌≡◌, ◌≤◌, ◌<◌, ◌^◌, ◌++◌, ℕ, List, map, length, All, IfOk, OnOk, true, pos};
+ghost use Rattle.std.specs.Prelude.{◌≡◌, ◌≤◌, ◌<◌, ◌^◌, ◌++◌, List, map, length, All, IfOk, OnOk, pos};
 ghost use Rattle.std.specs.List.{flat_map};
 ghost use Rattle.sdc_base.specs.declared.cell.Cell.{Cell as AnyCell};
 ghost use Rattle.sdc_base.specs.declared.system.System.{System as AnySystem};
 ghost use Rattle.sdc_base.specs.Worlds.{amount_toward};
-ghost use Rattle.interval_audit.specs.Groups.{Group, group_of};
+ghost use Rattle.interval_audit.specs.Groups.{Group, group_of, OfMembers};
 ghost use Rattle.interval_audit.specs.Groups as groups;
 ghost use Rattle.interval_audit.specs.Columns as columns_specs;
-ghost use Rattle.interval_audit.specs.Labels.{caps_for, forms_for, met_relations};
+ghost use Rattle.interval_audit.specs.Labels.{caps_for, met_relations, OfGroupWith};
 ghost use Rattle.interval_audit.specs.FormSigns.{IsFormSign};
 ghost use Rattle.interval_audit.specs.CellNumbers.{AreZeros};
 ghost use Rattle.interval_audit.specs.Problems.{asked_move, row_of, met_rows};
@@ -92,9 +92,8 @@ fn push_all_caps(
 ) -> Result<(), Memory>
     requires fewer_than_2_31 { length members.now < 2 ^ 31 }
     requires known { All (λ cell. cell < length cells.now) members.now }
-    ensures { (system : AnySystem) (group : Group) (n : ℕ) → members.now ≡ groups.members group n
-        → OnOk result (rows.new.items ≡ rows.old.items
-        ++ map (row_of system cells.now group) (flat_map (caps_for cells.now) members.now)) }
+    ensures { (system : AnySystem) → OfMembers members.now (λ group n. OnOk result (rows.new.items ≡ rows.old.items
+        ++ map (row_of system cells.now group) (flat_map (caps_for cells.now) members.now))) }
 {
     'members: for (place, number) in members.iter().enumerate() {
         push_caps(alloc, rows, 2 * place as u32, &cells[*number as usize])?;
@@ -118,9 +117,8 @@ fn push_all_forms(
     requires zeros { AreZeros scratch.old }
     ensures length { length scratch.new ≡ length scratch.old }
     ensures zeros { OnOk result (AreZeros scratch.new) }
-    ensures rows { (cells : List AnyCell) (group : Group) → members.now ≡ groups.members group system.now.cells
-        → met.now ≡ met_relations group system.now.relations
-        → OnOk result (rows.new.items ≡ rows.old.items ++ met_rows system.now cells group) }
+    ensures rows { (cells : List AnyCell) → OfGroupWith system.now members.now met.now
+        (λ group. OnOk result (rows.new.items ≡ rows.old.items ++ met_rows system.now cells group)) }
 {
     let relations = system.relations.as_slice();
     'numbers: for number in met {

@@ -1,9 +1,9 @@
-ghost use Rattle.std.specs.Prelude.{◌≡◌, ◌<◌, ◌≤◌, ◌+◌, ◌*◌, ◌^◌, ◌++◌, ◌∷◌, [], ℕ, length, slice_index, All, IfOk, OnOk, if◌then◌else◌, pos, neg_ℤ, ◌-ℤ◌, ◌≤ℤ◌, ◌<ℤ◌};
+ghost use Rattle.std.specs.Prelude.{◌≡◌, ◌<◌, ◌≤◌, ◌+◌, ◌*◌, ◌^◌, ◌++◌, ◌∷◌, [], length, All, IfOk, OnOk, if◌then◌else◌, pos, ◌≤ℤ◌, ◌<ℤ◌};
 ghost use Rattle.std.specs.Ordering.{int_eq};
 ghost use Rattle.sdc_base.specs.Systems.{Numbers};
 ghost use Rattle.worlds.specs.NumberLists.{terms_of};
 ghost use Rattle.interval_audit.specs.LowestTerms.{AreLowestTermsOf};
-ghost use Rattle.interval_audit.specs.Readings.{AreDifferences, nonzero_terms};
+ghost use Rattle.interval_audit.specs.Readings.{AreDifferences, nonzero_terms, HasLowestTerms};
 
 use crate::lowest_terms::lowest_terms_of;
 use sdc_base::{Items, Memory};
@@ -49,7 +49,7 @@ pub(crate) fn read_multipliers(
     requires from_zero { All (λ slack. pos 0 ≤ℤ slack) slacks.now }
     requires positive { pos 1 ≤ℤ den }
     ensures { (multipliers : Numbers) → AreDifferences met.now slacks.now (caps + 1) caps multipliers
-        → IfOk result (λ read. AreLowestTermsOf den (nonzero_terms multipliers met.now) read.den read.by_relation) }
+        → IfOk result (λ read. HasLowestTerms read den multipliers met.now) }
 {
     let terms = differences(alloc, met, slacks, caps + 1, caps)?;
     let lower = lowest_terms_of(alloc, den, terms.as_slice())?;

@@ -13,7 +13,7 @@ use Rattle.interval_audit.specs.declared.answer.Answer.TheVariants.{Reaches, Sto
 use Rattle.interval_audit.specs.declared.answer.AskFault.{AskFault}
 use Rattle.interval_audit.specs.declared.answer.AskFault.TheVariants.{Work, Wide, Size, Memory}
 use Rattle.interval_audit.specs.Answers.{IsWalkAnswer}
-use Rattle.interval_audit.specs.Answers.{IsCauseOf}
+use Rattle.interval_audit.specs.Causes.{IsCauseOf}
 
 -- the question whether a cell can be moved to a side as far as its level
 pub record IsLevelQuestion (cells : List Cell) (asked : ℕ × Side) (question : Question) : Type 0 where

@@ -13,7 +13,8 @@ use Rattle.rounding.specs.Neighbours.{is_multiple, neighbour}
 use Rattle.rounding.specs.Choices.{by_choices}
 use Rattle.rounding.specs.Sums.{IsNear}
 use Rattle.rounding.specs.Tasks.{IsTruth, IsProper}
-use Rattle.rounding.specs.Fixes.{Fix, with_fix, by_fixes, FixedCells, number_left, IsFree, IsTaken, allows}
+use Rattle.rounding.specs.Fixes.{Fix, with_fix, by_fixes, FixedCells, number_left, IsFree, allows}
+use Rattle.rounding.specs.FixedSteps.{IsTaken}
 use Rattle.rounding.proofs.Adjacency.{neighbour_is_adjacent, left_within, some_rest}
 use Rattle.rounding.proofs.Choosing.{length-by_choices}
 use Rattle.rounding.proofs.Completeness.{by_choices_adjacent}

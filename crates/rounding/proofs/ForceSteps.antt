@@ -21,7 +21,8 @@ use Rattle.rounding.specs.Choices.{by_choices}
 use Rattle.sdc_base.specs.Forms.{count_of}
 use Rattle.rounding.specs.Extremes.{extreme_numbers, extreme_of_form, change}
 use Rattle.rounding.specs.Tasks.{IsProper}
-use Rattle.rounding.specs.Fixes.{Fix, with_fix, by_fixes, FixedCells, number_left, IsFree, IsWithin, NoneWithin, can_hold, FixesNone, CountsCell, IsForced, HoldFrom, HoldOf}
+use Rattle.rounding.specs.Fixes.{Fix, with_fix, by_fixes, FixedCells, number_left, IsFree, IsWithin, NoneWithin, can_hold, FixesNone, HoldFrom, HoldOf}
+use Rattle.rounding.specs.FixedSteps.{CountsCell, IsForced}
 use Rattle.rounding.specs.Namings.{IsNaming}
 use Rattle.rounding.proofs.Adjacency.{adjacent_is_neighbour}
 use Rattle.rounding.proofs.Betweenness.{neighbour_lies}

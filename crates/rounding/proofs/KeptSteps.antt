@@ -18,7 +18,8 @@ use Rattle.rounding.specs.Extremes.{extreme_of_form}
 use Rattle.rounding.specs.Namings.{IsNamingOf, IsNaming}
 use Rattle.rounding.specs.Sums.{IsNear, AreExtremes, AreSmall}
 use Rattle.rounding.specs.Tasks.{IsProper}
-use Rattle.rounding.specs.Fixes.{Fix, by_fixes, FixedCells, number_left, IsFree, IsSettable, IsKept, allows}
+use Rattle.rounding.specs.Fixes.{Fix, by_fixes, FixedCells, number_left, IsFree, IsSettable, allows}
+use Rattle.rounding.specs.FixedSteps.{IsKept}
 use Rattle.rounding.proofs.FixSteps.{length-by_fixes, one_more_fix, free_is_new, left_near, either_left}
 use Rattle.rounding.proofs.Smallness.{extremes_small}
 

@@ -16,7 +16,8 @@ use Rattle.sdc_base.specs.Forms.{count_of}
 use Rattle.rounding.specs.Extremes.{extreme_numbers, extreme_of_form, spans_none, is_open}
 use Rattle.rounding.specs.Searches.{IsRoundingList, NoneExtends, unrounded_count}
 use Rattle.rounding.specs.Tasks.{IsProper}
-use Rattle.rounding.specs.Fixes.{Fix, with_fix, by_fixes, FixedCells, number_left, allows, IsWithin, NoneWithin, AllCanHold, IsForced, IsTaken}
+use Rattle.rounding.specs.Fixes.{Fix, with_fix, by_fixes, FixedCells, number_left, allows, IsWithin, NoneWithin, AllCanHold}
+use Rattle.rounding.specs.FixedSteps.{IsForced, IsTaken}
 use Rattle.rounding.specs.PartialLists.{AreLeft}
 use Rattle.rounding.proofs.Betweenness.{longer_lies}
 use Rattle.rounding.proofs.Choosing.{unrounded_within, one_more_choice, length-by_choices, whole_leaves_one}

@@ -11,7 +11,8 @@ use Rattle.rounding.specs.Neighbours.{is_multiple}
 use Rattle.rounding.specs.Choices.{Choices, unrounded_cells, by_choices}
 use Rattle.rounding.specs.Namings.{IsNaming}
 use Rattle.rounding.specs.Tasks.{IsProper}
-use Rattle.rounding.specs.Fixes.{Fix, by_fixes, FixedCells, number_left, NoneWithin, can_hold, AllCanHold, IsForced, IsTaken, HoldFrom, FixesNone}
+use Rattle.rounding.specs.Fixes.{Fix, by_fixes, FixedCells, number_left, NoneWithin, can_hold, AllCanHold, HoldFrom, FixesNone}
+use Rattle.rounding.specs.FixedSteps.{IsForced, IsTaken}
 use Rattle.rounding.specs.PartialLists.{Step, choices_of, AreLeft, fixed_before, IsPartial}
 use Rattle.rounding.proofs.LeftSteps.{next_cell, next_inside, next_off, left_none, left_taken, left_forced}
 use Rattle.rounding.proofs.FixSteps.{truths_between}

@@ -1,5 +1,5 @@
 -- Cells fixed one after another at a neighbour of their truth, and the numbers that this leaves the cells (own).
-use Rattle.std.specs.Prelude.{◌≡◌, ℕ, ◌<◌, ◌^◌, ◌++◌, [], Bool, true, false, List, All, length, take, drop, fold, slice_get, slice_index, slice_set, Some, ℤ, pos, negsuc, neg_ℤ, ◌-ℤ◌, ◌≤ℤ◌, int_lt, if◌then◌else◌}
+use Rattle.std.specs.Prelude.{◌≡◌, ℕ, ◌<◌, ◌^◌, [], Bool, true, false, List, All, length, drop, fold, slice_get, slice_index, slice_set, Some, ℤ, pos, neg_ℤ, ◌-ℤ◌, ◌≤ℤ◌, int_lt, if◌then◌else◌}
 use Rattle.sdc_base.specs.declared.relation.Relation.{Relation}
 use Rattle.sdc_base.specs.declared.system.System.{System}
 use Rattle.sdc_base.specs.Systems.{NamesCells}
@@ -9,8 +9,7 @@ use Rattle.rounding.specs.Choices.{by_choices}
 use Rattle.sdc_base.specs.Forms.{count_of}
 use Rattle.rounding.specs.Extremes.{spans_none}
 use Rattle.rounding.specs.Namings.{IsNamingOf}
-use Rattle.rounding.specs.Sums.{AreExtremes, AreSmall}
-use Rattle.rounding.specs.Tasks.{IsProper}
+use Rattle.rounding.specs.Sums.{AreSmall}
 
 -- a cell, and whether it is fixed at the upper neighbour of its truth or at the lower one
 abbrev pub Fix : Type 0
@@ -35,6 +34,14 @@ pub record FixedCells : Type 0 where
 -- what these make
 abbrev pub fixed_cells : System → List ℤ → ℤ → List Fix → FixedCells
 fixed_cells system truths base fixes = record { system = system; truths = truths; base = base; fixes = fixes }
+
+-- values are a rounding of the cells
+abbrev pub IsRoundingOf : FixedCells → List ℤ → Type 0
+IsRoundingOf b values = IsRounding b.system b.truths b.base values
+
+-- the least numbers that are left
+abbrev pub least_left : FixedCells → List ℤ
+least_left b = by_fixes false b.base b.truths b.fixes
 
 -- the least number, for down, or the greatest, for up, that is left a cell
 abbrev pub number_left : Bool → FixedCells → ℕ → ℤ
@@ -88,27 +95,6 @@ HoldOf numbers from b =
     → slice_get b.system.relations (slice_index numbers place) ≡ Some r → FixesNone r (drop from b.fixes)
     → can_hold b r ≡ true
 
--- a relation's form counts a cell above 0 times, or below
-abbrev pub CountsCell : Bool → Relation → ℕ → Type 0
-CountsCell true r cell = pos 1 ≤ℤ count_of r cell
-CountsCell false r cell = count_of r cell ≤ℤ negsuc 0
-
--- Further cells are fixed: the numbers left lie between those before, and no rounding is lost.
-pub record IsForced (before after : FixedCells) : Type 0 where
-  pub more : List Fix
-  pub grown : after ≡ record before { fixes = before.fixes ++ more }
-  pub narrower : (cell : ℕ) → (number_left false before cell ≤ℤ number_left false after cell)
-      × (number_left true after cell ≤ℤ number_left true before cell)
-  pub keeps : (values : List ℤ) → IsRounding before.system before.truths before.base values → IsWithin before values
-      → IsWithin after values
-
--- a cell is fixed at a neighbour of its truth, and only that cell, or it was there already
-pub record IsTaken (cell : ℕ) (up : Bool) (before after : FixedCells) : Type 0 where
-  pub more : List Fix
-  pub grown : after ≡ record before { fixes = before.fixes ++ more }
-  pub alone : All (λ fix. fix.0 ≡ cell) more
-  pub here : (side : Bool) → number_left side after cell ≡ neighbour before.base (number_at before.truths cell) up
-
 -- what a change of one cell's number needs: the relations that name it, a number near, and small sums
 pub record IsSettable (relations : List Relation) (named : List ℕ) (numbers : List ℤ) (cell : ℕ) (to : ℤ)
     (first second : List ℤ) : Type 0 where
@@ -121,13 +107,3 @@ pub record IsSettable (relations : List Relation) (named : List ℕ) (numbers : 
   pub second_each : length second ≡ length relations
   pub first_small : AreSmall first
   pub second_small : AreSmall second
-
--- The numbers and sums that are kept beside fixed cells. Each cell was free before it was fixed.
-pub record IsKept (b : FixedCells) (lows highs mins maxs : List ℤ) : Type 0 where
-  pub proper : IsProper b.system b.truths b.base
-  pub free : (place : ℕ) (fix : Fix) → slice_get b.fixes place ≡ Some fix
-      → IsFree (record b { fixes = take place b.fixes }) fix.0
-  pub lower : lows ≡ by_fixes false b.base b.truths b.fixes
-  pub upper : highs ≡ by_fixes true b.base b.truths b.fixes
-  pub least : AreExtremes lows highs b.system.relations mins
-  pub greatest : AreExtremes highs lows b.system.relations maxs

@@ -5,6 +5,7 @@ pub mod Extremes
 pub mod Sums
 pub mod Namings
 pub mod Fixes
+pub mod FixedSteps
 pub mod Searches
 pub mod PartialLists
 pub mod SearchOrder

@@ -2,7 +2,8 @@ ghost use Rattle.std.specs.Prelude.{◌≡◌, ◌<◌, ◌≤◌, ◌-◌, ◌^
 ghost use Rattle.sdc_base.specs.declared.relation.Relation.{Relation as AnyRelation};
 ghost use Rattle.sdc_base.specs.Roundings.{number_at};
 ghost use Rattle.rounding.specs.Extremes.{extreme_of_form};
-ghost use Rattle.rounding.specs.Fixes.{Fix, by_fixes, fixed_cells, number_left, IsFree, IsTaken};
+ghost use Rattle.rounding.specs.Fixes.{Fix, by_fixes, fixed_cells, number_left, IsFree};
+ghost use Rattle.rounding.specs.FixedSteps.{IsTaken};
 ghost use Rattle.rounding.specs.Fixes as spec;
 ghost use Rattle.rounding.specs.Namings.{IsNaming, IsNamingOf};
 ghost use Rattle.rounding.specs.Neighbours.{is_multiple};
@@ -28,7 +29,8 @@ pub(crate) struct Bounds<'a> {
 }
 
 impl<'a> Model for Bounds<'a> {
-    ghost use Rattle.rounding.specs.Fixes.{FixedCells, fixed_cells, IsKept};
+    ghost use Rattle.rounding.specs.Fixes.{FixedCells, fixed_cells};
+    ghost use Rattle.rounding.specs.FixedSteps.{IsKept};
 
     ghost Value = { FixedCells };
 

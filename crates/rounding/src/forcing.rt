@@ -1,6 +1,7 @@
 ghost use Rattle.std.specs.Prelude.{◌≡◌, ◌<◌, ◌≤◌, ◌^◌, ◌≤ℤ◌, neg_ℤ, pos, false, true, ℕ, length, slice_get, slice_index, Some, IsTrue, IfOk, OnOk};
 ghost use Rattle.sdc_base.specs.declared.relation.Relation.{Relation as AnyRelation};
-ghost use Rattle.rounding.specs.Fixes.{IsForced, NoneWithin, AllCanHold, HoldFrom, HoldOf, CountsCell, can_hold};
+ghost use Rattle.rounding.specs.Fixes.{NoneWithin, AllCanHold, HoldFrom, HoldOf, can_hold};
+ghost use Rattle.rounding.specs.FixedSteps.{IsForced, CountsCell};
 ghost use Rattle.rounding.specs.Namings.{IsNaming};
 ghost use Rattle.rounding.specs.Tasks.{IsProper};
 

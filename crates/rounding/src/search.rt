@@ -1,6 +1,6 @@
-ghost use Rattle.std.specs.Prelude.{◌≡◌, ◌≢◌, ◌≤◌, [], false, List, ℕ, ℤ, OnOk, IfOk};
+ghost use Rattle.std.specs.Prelude.{◌≡◌, ◌≤◌, [], List, OnOk, IfOk};
 ghost use Rattle.sdc_base.specs.Roundings.{IsRounding};
-ghost use Rattle.rounding.specs.Fixes.{by_fixes};
+ghost use Rattle.rounding.specs.Fixes.{IsRoundingOf, least_left};
 ghost use Rattle.rounding.specs.PartialLists.{IsPartial};
 ghost use Rattle.rounding.specs.Tasks.{IsProper};
 ghost use Rattle.rounding.specs.Searches.{Stops};
@@ -41,10 +41,9 @@ fn search(partial: &mut Partial<'_>, nodes: u64) -> Result<(), RoundFault>
         partial.old.steps.items partial.old.viable }
     requires start { partial.old.steps.items ≡ [] }
     requires nodes { 1 ≤ nodes }
-    ensures found { OnOk result (IsRounding partial.old.bounds.system partial.old.bounds.truths partial.old.bounds.base
-        (by_fixes false partial.new.bounds.base partial.new.bounds.truths partial.new.bounds.fixes)) }
+    ensures found { OnOk result (IsRoundingOf partial.old.bounds (least_left partial.new.bounds)) }
     ensures none { result ≡ Err RoundFault.NoRounding → (values : List ℤ)
-        → IsRounding partial.old.bounds.system partial.old.bounds.truths partial.old.bounds.base values → ⊥ }
+        → IsRoundingOf partial.old.bounds values → ⊥ }
     ensures limit { (n : ℕ) → result ≡ Err (RoundFault.Nodes n)
         → (n ≡ nodes) × Stops partial.old.bounds.system partial.old.bounds.truths partial.old.bounds.base n }
 {

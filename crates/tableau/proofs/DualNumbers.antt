@@ -8,7 +8,8 @@ use Rattle.sdc_base.specs.Forms.{coefficient}
 use Rattle.tableau.specs.Amounts.{value_of}
 use Rattle.sdc_base.proofs.TotalLemmas.{sum_of-cons, sum_below-same, sum_below-times, only}
 use Rattle.sdc_base.proofs.WeakDual.{by_cells}
-use Rattle.tableau.specs.Tables.{Table, HasShape, dot, value}
+use Rattle.tableau.specs.Tables.{Table, HasShape, dot}
+use Rattle.tableau.specs.TableLaws.{value}
 use Rattle.tableau.specs.declared.problem.Problem.{Problem}
 use Rattle.tableau.specs.Problems.{row_at, slack, all_amounts, number_for, IsTrueOf, TablesGiveDuals, rows_of}
 use Rattle.tableau.proofs.Starts.{column_amount, slack_amount, minus_whole}

@@ -9,7 +9,7 @@ use Rattle.tableau.specs.Problems.{NamesColumns, rows_of, row_at, no_row, target
 use Rattle.tableau.specs.ProblemForm.{AreEntries, IsWellFormed}
 use Rattle.tableau.specs.Walks.{IsWalk, IsTableOf}
 use Rattle.tableau.proofs.Independent.{by_less}
-use Rattle.tableau.specs.Tables.{value, CannotImprove}
+use Rattle.tableau.specs.TableLaws.{value, CannotImprove}
 use Rattle.tableau.specs.Problems.{number_for}
 use Rattle.tableau.specs.Readings.{value_for, values_of, slacks_of}
 use Rattle.tableau.specs.Steps.{Enters, IsStepOf, CanImprove, IsReached, IsBlocked}

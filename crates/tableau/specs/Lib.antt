@@ -1,5 +1,6 @@
 pub mod Amounts
 pub mod Tables
+pub mod TableLaws
 pub mod Problems
 pub mod ProblemForm
 pub mod RowLists

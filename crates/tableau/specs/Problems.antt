@@ -6,7 +6,8 @@ use Rattle.sdc_base.specs.Forms.{coefficient}
 use Rattle.tableau.specs.Amounts.{value_of}
 use Rattle.tableau.specs.declared.problem.LinRow.{LinRow}
 use Rattle.tableau.specs.declared.problem.Problem.{Problem}
-use Rattle.tableau.specs.Tables.{Table, Holds, HasShape, value}
+use Rattle.tableau.specs.Tables.{Table, Holds, HasShape}
+use Rattle.tableau.specs.TableLaws.{value}
 
 -- the target as a row: the objective comes to at most the target
 abbrev pub target_row : Problem → LinRow

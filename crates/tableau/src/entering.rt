@@ -1,5 +1,6 @@
 ghost use Rattle.std.specs.Prelude.{◌≡◌, ◌+◌, ◌<◌, length, IfSome, IfNone};
-ghost use Rattle.tableau.specs.Tables.{CannotImprove, number_at};
+ghost use Rattle.tableau.specs.Tables.{number_at};
+ghost use Rattle.tableau.specs.TableLaws.{CannotImprove};
 ghost use Rattle.tableau.specs.Steps.{Enters};
 ghost use Rattle.tableau.specs.Choices.{IsEntering};
 ghost use Rattle.tableau.specs.SparseTables.{table_of};

@@ -4,7 +4,7 @@ ghost use Rattle.tableau.specs.Steps.{IsInLowestTerms};
 ghost use Rattle.tableau.specs.Widths.{IsWidePlace};
 ghost use Rattle.tableau.specs.NewRows.{AreNewRows, placed_lists};
 ghost use Rattle.tableau.specs.CommonDivisors.{AreInLowestTerms};
-ghost use Rattle.tableau.specs.SparseTables.{table_of};
+ghost use Rattle.tableau.specs.SparseTables.{table_of, width_of};
 
 use crate::crossing::made_row;
 use crate::dividing::{divided_rows, quotient};
@@ -67,9 +67,9 @@ fn reduced_rows(
     requires column { column < length table.now.others.items }
     requires above { pos 1 ≤ℤ number_at (slice_index_or (table_of table.now).rows row []) column }
     ensures long { IfOk result (λ made. length made.rows.items ≡ length table.now.rows.items) }
-    ensures ok { IfOk result (λ made. AreInLowestTerms (length table.now.others.items + 1)
-        (exchanged_table (table_of table.now) row column) made.den made.by
-        (placed_lists table.now.rows.items made.rows.items)) }
+    ensures ok { IfOk result (λ made. AreInLowestTerms (width_of table.now)
+        (exchanged_table (table_of table.now) row column)
+        made.den made.by (placed_lists table.now.rows.items made.rows.items)) }
     ensures wide { (k j : ℕ) → result ≡ Err (ExchangeFault.Wide k j) → IsWidePlace (table_of table.now) row column k j }
 {
     let p = entry(table, row, column);

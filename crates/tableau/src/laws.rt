@@ -1,6 +1,6 @@
 //! Laws of the definitions, each the contract of a function with an empty body.
 
-ghost use Rattle.tableau.specs.Tables.{ExchangeOperates, ExchangeKeeps, ExchangeKeepsBack, DivisionKeeps, BlockedIsBest};
+ghost use Rattle.tableau.specs.TableLaws.{ExchangeOperates, ExchangeKeeps, ExchangeKeepsBack, DivisionKeeps, BlockedIsBest};
 ghost use Rattle.tableau.specs.Problems.{StartHolds, TablesGiveDuals, NoRowIsZero};
 ghost use Rattle.tableau.specs.RowLists.{ExchangeRises, DivisionRises, RisingIsTransitive, RisingIsApart, BasisDetermines};
 ghost use Rattle.tableau.specs.Walks.{StepGivesTable, ChainsAreShort, StartGivesTable, WalkGivesTable, WalksAreShort, StepExists, StepIsOne, WalkIsOne, EndIsOne};

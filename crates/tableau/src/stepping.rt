@@ -1,9 +1,9 @@
-ghost use Rattle.std.specs.Prelude.{◌≡◌, ◌≢◌, ◌↔◌, ℕ, ◌+◌, ◌<◌, ◌≤◌, length, Ok, Err, IsTrue, IfOk};
+ghost use Rattle.std.specs.Prelude.{◌≡◌, ◌≢◌, ◌↔◌, ◌+◌, ◌<◌, ◌≤◌, length, Ok, Err, IsTrue, IfOk};
 ghost use Rattle.tableau.specs.ProblemForm.{IsWellFormed};
 ghost use Rattle.tableau.specs.Walks.{IsTableOf};
 ghost use Rattle.tableau.specs.Steps.{IsStepOf, IsReached, IsBlocked};
 ghost use Rattle.tableau.specs.Widths.{name_in, IsWideStep};
-ghost use Rattle.tableau.specs.SparseTables.{table_of};
+ghost use Rattle.tableau.specs.SparseTables.{table_of, NamesPlace};
 
 use crate::entering::entering_place;
 use crate::exchange::exchange;
@@ -46,8 +46,7 @@ fn answer(problem: &Problem, table: &SparseTable, fault: ExchangeFault) -> Resul
     requires within { (k j : ℕ) → fault ≡ ExchangeFault.Wide k j
         → (k ≤ length table.now.members.items) × (j ≤ length table.now.others.items) }
     ensures wide { (row column : ℕ) → result ≡ Ok (Step.Wide row column)
-        → (k : ℕ) × (j : ℕ) × (fault ≡ ExchangeFault.Wide k j) × (row ≡ name_in problem.now table.now.members.items k)
-        × (column ≡ name_in problem.now table.now.others.items j) }
+        → (k : ℕ) × (j : ℕ) × (fault ≡ ExchangeFault.Wide k j) × NamesPlace problem.now table.now k j row column }
     ensures improved { result ≢ Ok Step.Improved }
     ensures reached { result ≢ Ok Step.Reached }
     ensures blocked { result ≢ Ok Step.Blocked }

@@ -1,5 +1,5 @@
 ghost use Rattle.std.specs.Prelude.{◌≡◌, ◌≢◌, ◌↔◌, ℕ, ◌+◌, ◌-◌, ◌^◌, ◌<◌, length, pos, ◌≤ℤ◌, Ok, IsTrue, IfOk};
-ghost use Rattle.tableau.specs.Tables.{CannotImprove};
+ghost use Rattle.tableau.specs.TableLaws.{CannotImprove};
 ghost use Rattle.tableau.specs.Problems.{first_table, numbers_of, number_for, AreDuals};
 ghost use Rattle.tableau.specs.ProblemForm.{IsWellFormed};
 ghost use Rattle.tableau.specs.Steps.{IsStepOf, CanImprove, IsReached, IsBlocked};

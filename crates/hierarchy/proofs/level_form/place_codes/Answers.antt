@@ -23,24 +23,15 @@ place_code-requires-clause-new c =
 pub place_code-requires-clause-fewer_than_5001 : goal.place_code-requires-clause-fewer_than_5001
 place_code-requires-clause-fewer_than_5001 c = omega (arith, length-codes c.codes.nodes, ap length c.codes.invariant.known, length-take c.codes.code-index c.args.codes.now)
 
-pub place_code-requires-clause-within : goal.place_code-requires-clause-within
-place_code-requires-clause-within c =
+pub place_code-requires-clause-level : goal.place_code-requires-clause-level
+place_code-requires-clause-level c =
     let all = c.args.codes.now in
     let i = c.codes.code-index in
     let at : slice_get all i ≡ Some c.code-item.result = slice_get_read all (length all) i c.code-item.result refl c.codes-test.true c.code-item.is in
     let first : c.as_slice.result.now ≡ get_or all i [] = c.as_slice.ensures ∙ sym (get_or_from_slice_get all i c.code-item.result [] at) in
     let place : c.level_of-place.result ≡ level c.args.bounds.now (get_or all i []) = c.level_of-place.ensures.level (get_or all i []) (ap length (sym first)) in
     let next = next-shares c.args.total.now c.args.bounds.now all i c.requires.sorted c.requires.closed c.requires.ascending c.codes-test.true in
-    omega (arith, place, next.within, c.codes.invariant.held.each)
-
-pub place_code-requires-clause-shallow : goal.place_code-requires-clause-shallow
-place_code-requires-clause-shallow c =
-    let all = c.args.codes.now in
-    let i = c.codes.code-index in
-    let at : slice_get all i ≡ Some c.code-item.result = slice_get_read all (length all) i c.code-item.result refl c.codes-test.true c.code-item.is in
-    let first : c.as_slice.result.now ≡ get_or all i [] = c.as_slice.ensures ∙ sym (get_or_from_slice_get all i c.code-item.result [] at) in
-    let place : c.level_of-place.result ≡ level c.args.bounds.now (get_or all i []) = c.level_of-place.ensures.level (get_or all i []) (ap length (sym first)) in
-    omega (arith, place, c.requires.shallow (get_or all i []) (index-in all i c.codes-test.true))
+    (omega (arith, place, next.within, c.codes.invariant.held.each), omega (arith, place, c.requires.shallow (get_or all i []) (index-in all i c.codes-test.true)))
 
 pub codes-preserved : goal.codes-preserved
 codes-preserved c =

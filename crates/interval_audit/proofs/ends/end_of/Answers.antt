@@ -2,7 +2,8 @@ use Rattle.std.proofs.Common.{◌≡◌, ℕ, true, sym, subst}
 use Rattle.sdc_base.specs.HiddenSets.{is_hidden}
 use Rattle.interval_audit.specs.declared.answer.Answer.{Answer}
 use Rattle.interval_audit.specs.declared.answer.AskFault.{AskFault}
-use Rattle.interval_audit.specs.Answers.{IsTrueAnswer, IsWalkAnswer, IsCauseOf}
+use Rattle.interval_audit.specs.Answers.{IsTrueAnswer, IsWalkAnswer}
+use Rattle.interval_audit.specs.Causes.{IsCauseOf}
 use Rattle.interval_audit.specs.Ends.{IsTrueEnd, IsWalkEnd, IsEndCause}
 use Rattle.interval_audit.proofs.QuestionAnswers.{if_ok_more, if_err_more}
 use Rattle.interval_audit.proofs.ends.end_of.Goals as goal

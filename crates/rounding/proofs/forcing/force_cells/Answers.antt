@@ -1,7 +1,7 @@
 use Rattle.std.proofs.Common.{◌∙◌, ℕ, List, false, get_or, length, arith, ap, sym, subst}
 use Rattle.std.proofs.lemmas.Option.{same_Some}
 use Rattle.sdc_base.specs.declared.relation.Relation.{Relation}
-use Rattle.rounding.specs.Fixes.{CountsCell}
+use Rattle.rounding.specs.FixedSteps.{CountsCell}
 use Rattle.rounding.proofs.ForceSteps.{part_counts, same_relation, forced_then}
 use Rattle.rounding.proofs.forcing.force_cells.Goals as goal
 

@@ -1,4 +1,4 @@
-use Rattle.rounding.specs.Fixes.{IsForced}
+use Rattle.rounding.specs.FixedSteps.{IsForced}
 use Rattle.rounding.proofs.forcing.force_cells.Given as goal
 
 abbrev pub invariant-parts : goal.invariant-parts

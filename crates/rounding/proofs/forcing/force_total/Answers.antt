@@ -1,7 +1,7 @@
 use Rattle.std.proofs.Common.{◌∙◌, true, sym, subst}
 use Rattle.std.proofs.lemmas.Option.{same_Some}
 use Rattle.sdc_base.specs.declared.relation.Relation.{Relation}
-use Rattle.rounding.specs.Fixes.{CountsCell}
+use Rattle.rounding.specs.FixedSteps.{CountsCell}
 use Rattle.rounding.proofs.ForceSteps.{total_counts}
 use Rattle.rounding.proofs.forcing.force_total.Goals as goal
 

@@ -1,5 +1,6 @@
 use Rattle.std.proofs.Common.{◌≤◌, ◌-◌, length}
-use Rattle.rounding.specs.Fixes.{IsForced, HoldFrom}
+use Rattle.rounding.specs.Fixes.{HoldFrom}
+use Rattle.rounding.specs.FixedSteps.{IsForced}
 use Rattle.rounding.proofs.forcing.propagate.Given as goal
 
 abbrev pub invariant-fixes : goal.invariant-fixes

@@ -1,6 +1,7 @@
 use Rattle.std.proofs.Common.{◌≡◌, ◌<◌, ℕ, Some, slice_get, get_or, length, drop, true}
 use Rattle.sdc_base.specs.declared.relation.Relation.{Relation}
-use Rattle.rounding.specs.Fixes.{IsForced, FixesNone, can_hold}
+use Rattle.rounding.specs.Fixes.{FixesNone, can_hold}
+use Rattle.rounding.specs.FixedSteps.{IsForced}
 use Rattle.rounding.proofs.forcing.settle_each.Given as goal
 
 abbrev pub invariant-numbers : goal.invariant-numbers

@@ -1,0 +1,71 @@
+-- What holds of a question with what it is asked of: its problem, its answers, and why it has none (own).
+use Rattle.std.specs.Prelude.{ℕ, ℤ, List}
+use Rattle.sdc_base.specs.Forms.{coefficient}
+use Rattle.sdc_base.specs.Refutations.{AreBounded}
+use Rattle.tableau.specs.Readings.{values_of}
+use Rattle.tableau.specs.Tableaus.{TableauWalk}
+use Rattle.tableau.specs.declared.problem.Problem.{Problem}
+use Rattle.worlds.specs.RefutationFaults.{terms_added}
+use Rattle.worlds.specs.declared.multipliers.Multipliers.{Multipliers}
+use Rattle.worlds.specs.declared.world.World.{World}
+use Rattle.interval_audit.specs.declared.answer.Answer.{Answer}
+use Rattle.interval_audit.specs.declared.answer.AskFault.{AskFault}
+use Rattle.interval_audit.specs.declared.inquiry.Inquiry.{Inquiry}
+use Rattle.interval_audit.specs.Groups.{Group, group_of}
+use Rattle.interval_audit.specs.Points.{number_at}
+use Rattle.interval_audit.specs.Problems.{problem_of}
+use Rattle.interval_audit.specs.Readings.{IsWorldOf, AreMultipliersOf}
+use Rattle.interval_audit.specs.Answers.{IsTrueAnswer, IsReadOff, IsWalkAnswerIn}
+use Rattle.interval_audit.specs.Causes.{IsCauseIn}
+use Rattle.interval_audit.specs.WalkLimits.{IsCutBelow}
+
+-- the component of the asked cell
+abbrev pub component_of : Inquiry → Group
+component_of inquiry = group_of inquiry.of.now inquiry.question.cell
+
+-- the problem of the question in that component
+abbrev pub problem_for : Inquiry → Problem
+problem_for inquiry = problem_of inquiry.system.now inquiry.cells.now (component_of inquiry) inquiry.question
+
+-- the numbers that multipliers add up to are bounded
+abbrev pub AddsBounded : Inquiry → Multipliers → Type 0
+AddsBounded inquiry multipliers =
+    AreBounded inquiry.cells.now inquiry.hidden.now.flags
+    (coefficient (terms_added inquiry.system.now inquiry.question.cell inquiry.question.side multipliers))
+
+-- the answer is right
+abbrev pub IsRightFor : Inquiry → Answer → Type 0
+IsRightFor inquiry answer =
+    IsTrueAnswer inquiry.system.now inquiry.cells.now inquiry.hidden.now.flags inquiry.question answer
+
+-- the answer is what a walk of the question that has ended gives
+abbrev pub IsReadOffWalk : Inquiry → TableauWalk → Answer → Type 0
+IsReadOffWalk inquiry walk answer =
+    IsReadOff inquiry.system.now inquiry.cells.now (component_of inquiry) walk answer
+
+-- the answer is what the walk of the question gives
+abbrev pub IsGivenByWalk : Inquiry → Answer → Type 0
+IsGivenByWalk inquiry answer =
+    IsWalkAnswerIn inquiry.system.now inquiry.cells.now (component_of inquiry) inquiry.question answer
+
+-- why there is no answer by a walk of at most so many improvements
+abbrev pub IsCauseFor : Inquiry → ℕ → AskFault → Type 0
+IsCauseFor inquiry limit fault =
+    IsCauseIn inquiry.system.now inquiry.cells.now inquiry.hidden.now.flags (component_of inquiry) inquiry.question
+    limit fault
+
+-- only a limit below the bound of the question's walks cuts one off
+abbrev pub IsCutOffBelow : Inquiry → ℕ → AskFault → Type 0
+IsCutOffBelow inquiry limit fault =
+    IsCutBelow inquiry.system.now inquiry.cells.now (component_of inquiry) inquiry.question limit fault
+
+-- the world is the one that the amounts of a walk's columns make
+abbrev pub IsWorldOfWalk : Inquiry → TableauWalk → World → Type 0
+IsWorldOfWalk inquiry walk world =
+    IsWorldOf inquiry.system.now (component_of inquiry) walk.table.den (number_at (values_of walk.problem walk.table))
+    world
+
+-- the multipliers are those that weights of the rows make over the denominator of a walk
+abbrev pub AreMultipliersOfWalk : Inquiry → TableauWalk → List ℤ → Multipliers → Type 0
+AreMultipliersOfWalk inquiry walk weights multipliers =
+    AreMultipliersOf inquiry.system.now inquiry.cells.now (component_of inquiry) walk.table.den weights multipliers
