@@ -1,4 +1,4 @@
-ghost use Rattle.std.specs.Prelude.{◌≡◌, ◌≤◌, [], List, OnOk, IfOk};
+ghost use Rattle.std.specs.Prelude.{◌≡◌, ◌≤◌, [], List, OnOk, IfOk, ℕ, ℤ};
 ghost use Rattle.sdc_base.specs.Roundings.{IsRounding};
 ghost use Rattle.rounding.specs.Fixes.{IsRoundingOf, least_left};
 ghost use Rattle.rounding.specs.PartialLists.{IsPartial};

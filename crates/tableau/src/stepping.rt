@@ -1,4 +1,4 @@
-ghost use Rattle.std.specs.Prelude.{◌≡◌, ◌≢◌, ◌↔◌, ◌+◌, ◌<◌, ◌≤◌, length, Ok, Err, IsTrue, IfOk};
+ghost use Rattle.std.specs.Prelude.{◌≡◌, ◌≢◌, ◌↔◌, ◌+◌, ◌<◌, ◌≤◌, length, Ok, Err, IsTrue, IfOk, ℕ};
 ghost use Rattle.tableau.specs.ProblemForm.{IsWellFormed};
 ghost use Rattle.tableau.specs.Walks.{IsTableOf};
 ghost use Rattle.tableau.specs.Steps.{IsStepOf, IsReached, IsBlocked};

@@ -23,7 +23,7 @@ codes-preserved c =
     let step = c.in_ok-take_code.ensures in
     let told : level_fault total bounds seen keys code n ≡ _ = ap (level_fault total bounds seen keys code) (sym c.next_number-number.ensures) ∙ step.told in
     record {
-      few = step.few;
+      few = step.at_most_5000;
       apart = step.apart;
       among = step.among c.codes.invariant.among;
       kept = c.codes.invariant.kept ∙ ap (codes_with_prefixes bounds keys) more ∙ ap (λ (k : List (List ℕ)). codes_with_prefixes bounds k rest) (sym step.kept);

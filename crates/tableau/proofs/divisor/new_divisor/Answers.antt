@@ -22,11 +22,11 @@ returns-in-Ok-clause-ok c =
     let list_is : c.as_slice.result.now ≡ map (times_entry c.args.p) own = c.as_slice.ensures ∙ c.in-Ok.ensures.ok ∙ ap (λ q. map (times_entry q) own) (to_z-of_z w128 c.args.p c.ranges.p) in
     let told = c.row_divisor.ensures in
     subst (λ (o : Option (List Term)). IsGreatestDivisor c.args.whole (new_list c.args.p own o) c.row_divisor.result) (sym c.in_default.is)
-    (divisor_of c.args.whole c.as_slice.result.now (map (times_entry c.args.p) own) c.row_divisor.result list_is told.whole told.entries told.greatest)
+    (divisor_of c.args.whole c.as_slice.result.now (map (times_entry c.args.p) own) c.row_divisor.result list_is told.divides_whole told.entries told.greatest)
 
 pub returns-clause-ok : goal.returns-clause-ok
 returns-clause-ok c =
     let own : List Term = c.args.own.now in
     let told = c.row_divisor-2.ensures in
     subst (λ (o : Option (List Term)). IsGreatestDivisor c.args.whole (new_list c.args.p own o) c.row_divisor-2.result) (sym c.in-Some.is)
-    (divisor_of c.args.whole c.as_slice-2.result.now c.in-Some.made c.row_divisor-2.result c.as_slice-2.ensures told.whole told.entries told.greatest)
+    (divisor_of c.args.whole c.as_slice-2.result.now c.in-Some.made c.row_divisor-2.result c.as_slice-2.ensures told.divides_whole told.entries told.greatest)
