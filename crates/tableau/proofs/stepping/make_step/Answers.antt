@@ -42,8 +42,8 @@ returns-clause-wide c row column is =
       wide_column = named.1;
       row_within = wide.0;
       column_within = wide.1;
-      row_name = named.3 ∙ ap (λ (d : SparseTable). name_in c.args.problem.now d.members.items named.0) same;
-      column_name = named.4 ∙ ap (λ (d : SparseTable). name_in c.args.problem.now d.others.items named.1) same;
+      row_name = named.3.0 ∙ ap (λ (d : SparseTable). name_in c.args.problem.now d.members.items named.0) same;
+      column_name = named.3.1 ∙ ap (λ (d : SparseTable). name_in c.args.problem.now d.others.items named.1) same;
       is_wide = wide.2;
     }
 
