@@ -73,6 +73,6 @@ look_at_records files name layout = records_in layout (files name)
 unfoldable pub inputs_of : Purpose → Files → List ℕ → Result Inputs Fault
 inputs_of purpose files name = do
   described ← described_of purpose files name
-    fields ← spanning_fields files described
+  fields ← spanning_fields files described
   records ← look_at_records files described.job.micro (layout_of described.meta.variables described.bound fields)
   Ok (record { described = described; records = records })

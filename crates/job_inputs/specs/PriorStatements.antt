@@ -40,7 +40,7 @@ unfoldable pub with_file : Files → Inputs → ℕ → Option PriorLine → Lis
 with_file files inputs t None priors = Ok priors
 with_file files inputs t (Some line) priors = do
   bytes ← bytes_of_file files line.file (file.Apriori t)
-    with_bytes inputs t line priors bytes
+  with_bytes inputs t line priors bytes
 
 -- what the a priori files of the first so many tables state of each cell, or the first fault of one of them
 unfoldable pub with_files : Files → Inputs → ℕ → Result (List Prior) Fault
