@@ -1,4 +1,4 @@
-ghost use Rattle.std.specs.Prelude.{◌≡◌, ◌≤◌, ◌<◌, ◌+◌, ◌^◌, ◌++◌, ◌∷◌, [], List, length, All, if◌then◌else◌, IfOk, OnOk, pos, ◌≤ℤ◌};
+ghost use Rattle.std.specs.Prelude.{◌≡◌, ◌≤◌, ◌<◌, ◌+◌, ◌^◌, ◌++◌, ◌∷◌, [], List, length, All, if◌then◌else◌, IfOk, OnOk, pos, ◌≤ℤ◌, neg_ℤ};
 ghost use Rattle.std.specs.Ordering.{int_eq};
 ghost use Rattle.sdc_base.specs.Forms.{Term};
 ghost use Rattle.interval_audit.specs.CellNumbers.{AreZeros, AreCoefficients, AreWithin};

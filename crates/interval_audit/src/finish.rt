@@ -1,4 +1,4 @@
-ghost use Rattle.std.specs.Prelude.{◌≡◌, ◌<◌, ◌≤◌, ◌*◌, ◌^◌, ◌*ℤ◌, ◌<ℤ◌, ◌≤ℤ◌, All, pos, IfOk, IfErr, true, ℕ};
+ghost use Rattle.std.specs.Prelude.{◌≡◌, ◌<◌, ◌≤◌, ◌*◌, ◌^◌, ◌*ℤ◌, ◌<ℤ◌, ◌≤ℤ◌, All, pos, IfOk, IfErr, true, ℕ, neg_ℤ};
 ghost use Rattle.tableau.specs.Steps.{IsReached, IsBlocked};
 ghost use Rattle.tableau.specs.TableLaws.{value};
 ghost use Rattle.tableau.specs.Problems.{numbers_of};

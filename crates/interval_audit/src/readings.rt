@@ -1,4 +1,4 @@
-ghost use Rattle.std.specs.Prelude.{◌≡◌, ◌<◌, ◌≤◌, ◌+◌, ◌*◌, ◌^◌, ◌++◌, ◌∷◌, [], length, All, IfOk, OnOk, if◌then◌else◌, pos, ◌≤ℤ◌, ◌<ℤ◌};
+ghost use Rattle.std.specs.Prelude.{◌≡◌, ◌<◌, ◌≤◌, ◌+◌, ◌*◌, ◌^◌, ◌++◌, ◌∷◌, [], length, All, IfOk, OnOk, if◌then◌else◌, pos, ◌≤ℤ◌, ◌<ℤ◌, neg_ℤ};
 ghost use Rattle.std.specs.Ordering.{int_eq};
 ghost use Rattle.sdc_base.specs.Systems.{Numbers};
 ghost use Rattle.worlds.specs.NumberLists.{terms_of};
