@@ -10,7 +10,7 @@ arc_of-requires c =
     rw c.as_slice.ensures (record {
       signs = c.requires.signs;
       named = listed_at c.args.system.now c.in_ok-naming.naming.items c.cells.cell c.index.result.now c.as_slice-named.result.now c.in_ok-naming.ensures c.cells-test.true c.index.ensures c.as_slice-named.ensures;
-      few = omega (arith, few);
+      fewer_than_2_32 = omega (arith, few);
     })
 
 pub cells-preserved : goal.cells-preserved

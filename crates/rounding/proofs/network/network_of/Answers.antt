@@ -6,7 +6,7 @@ use Rattle.rounding.proofs.network.network_of.Goals as goal
 pub touching_of-requires : goal.touching_of-requires
 touching_of-requires c =
     rw (c.as_slice-2.ensures.value, c.as_slice.ensures) (record {
-      few = c.in_ok-arcs.ensures.fewer_than_2_32;
+      fewer_than_2_32 = c.in_ok-arcs.ensures.fewer_than_2_32;
       within = arcs_within c.args.system.now.relations c.args.signs.now c.args.system.now.cells c.in_ok-arcs.arcs.items c.in_ok-arcs.ensures.arcs;
     })
 

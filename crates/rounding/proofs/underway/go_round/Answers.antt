@@ -14,7 +14,7 @@ go-requires c =
     let by : FitsSigned w128 c.room_for-by.result = omega (arith, ints, c.room_for-by.ensures.low, c.room_for-by.ensures.high) in
     simp to_z-of_z (record {
       each = All-weaker (IsMove base numbers) (λ (s : Step). (s.cell < length numbers) × ((s.turn ≡ pos 1) ⊎ (s.turn ≡ negsuc 0))) (λ s one. (one.inside, one.turned)) c.args.steps.now c.requires.moves.each;
-      few = c.requires.at_most_2_32;
+      at_most_2_32 = c.requires.at_most_2_32;
       by = (c.room_for-by.ensures.low, c.room_for-by.ensures.high);
       numbers = in_range c.args.task.now.truths.now base numbers c.requires.beside;
     })
