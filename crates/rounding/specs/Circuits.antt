@@ -57,10 +57,3 @@ pub record GoesRound (arcs : List Arc) (base : ℤ) (numbers : List ℤ) (steps 
 -- the turns of the steps
 abbrev pub turns_of : List Step → List Term
 turns_of steps = map (λ step. (step.cell, step.turn)) steps
-
--- a step goes on from the end of another over another cell that isn't a multiple
-pub record IsNextStep (arcs : List Arc) (base : ℤ) (numbers : List ℤ) (step next : Step) : Type 0 where
-  pub start : next.start ≡ step.end
-  pub other : next.cell ≢ step.cell
-  pub moves : IsMove base numbers next
-  pub along : IsAlong (arc_at arcs next.cell) next

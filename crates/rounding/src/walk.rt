@@ -5,7 +5,7 @@ ghost use Rattle.sdc_base.specs.Roundings.{number_at};
 ghost use Rattle.rounding.specs.Neighbours as spec;
 ghost use Rattle.rounding.specs.Arcs.{IsBalanced, IsNetwork, arc_at};
 ghost use Rattle.rounding.specs.Rings.{AreBeside, AreWholeBelow};
-ghost use Rattle.rounding.specs.Circuits.{IsMove, IsAlong, GoesRound, IsNextStep};
+ghost use Rattle.rounding.specs.Circuits.{IsMove, IsAlong, GoesRound};
 
 use crate::network::Network;
 use crate::steps::{Step, place_of_start, step_from};
@@ -68,7 +68,10 @@ fn next_step(network: &Network, task: &Task<'_>, numbers: &[i128], first: u32, s
     requires moves { IsMove task.now.base numbers.now step }
     requires along { IsAlong (arc_at network.now.arcs.items step.cell) step }
     requires apart { step.start ≢ step.end }
-    ensures { IsNextStep network.now.arcs.items task.now.base numbers.now step result }
+    ensures start { result.start ≡ step.end }
+    ensures other { result.cell ≢ step.cell }
+    ensures moves { IsMove task.now.base numbers.now result }
+    ensures along { IsAlong (arc_at network.now.arcs.items result.cell) result }
 {
     let cells = network.touching[step.end as usize].as_slice();
     let left = cells_behind(cells, place_from(cells, first));
