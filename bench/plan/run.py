@@ -20,7 +20,7 @@ HERE = os.path.dirname(os.path.abspath(__file__))
 PROGRAM = os.path.join(os.path.dirname(os.path.dirname(HERE)), "out", "argus")
 METADATA = "{}V {} 4\n<NUMERIC>\n"
 JOB = (
-    '<OPENMICRODATA> "m.asc"\n<OPENMETADATA> "m.rda"\n<SPECIFYTABLE> {}|"V"\n<SAFETYRULE> FREQ({},0)\n<SUPPRESS> MOD()\n'
+    '<OPENMICRODATA> "m.asc"\n<OPENMETADATA> "m.rda"\n<SPECIFYTABLE> {}|"V"\n<SAFETYRULE> FREQ({},0)\n<SUPPRESS> MOD()\n<STEPS> 1\n'
     '<WRITETABLE> (1,"t.csv")\n<CERTIFICATE> "t.cert"\n'
 )
 
