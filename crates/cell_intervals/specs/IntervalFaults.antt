@@ -23,7 +23,7 @@ pub record HasBothEnds (system : System) (cells : List Cell) (flags : List Bool)
 pub record HasSmallComponent (system : System) (flags : List Bool) (cell : ℕ) : Type 0 where
   pub group : Group
   pub is_component : IsComponentOf system.relations flags cell group
-  pub few : length (members group system.cells) ≤ 1500
+  pub at_most_1500 : length (members group system.cells) ≤ 1500
 
 -- the fault is one of this hidden cell's two questions, and those of all hidden cells before it have ended with answers
 pub record IsFaultAt (system : System) (cells : List Cell) (flags : List Bool) (limit : ℕ) (fault : AskFault)

@@ -64,7 +64,7 @@ outcome-by c prices method steps limit (verdict.Cannot cell side multipliers) is
 pub text-by : (book : BookView) (system : System) (cells : List Cell) (prices : List ℕ) (method : Method) (steps : List PlanStep) (one : Verdict) → AreNarrow book.tables → AllByRecursion (IsWholeStep book cells) steps
     → IsVerdict (case system cells) prices (planned_from (case system cells) steps) one → HasText (protection_by method (case system cells) steps one)
 text-by book system cells prices method steps (verdict.Protected protected repairs needs) narrow whole is =
-    spellable book method system cells prices (planned_from (case system cells) steps) (hide_subjects (planned_from (case system cells) steps) repairs) protected steps repairs needs narrow.few narrow.each whole is.0 is.1
+    spellable book method system cells prices (planned_from (case system cells) steps) (hide_subjects (planned_from (case system cells) steps) repairs) protected steps repairs needs narrow.at_most_8_tables narrow.each whole is.0 is.1
 text-by book system cells prices method steps (verdict.Cannot cell side multipliers) narrow whole is = tt
 
 -- the steps and the prices are those by a job's own kind of costs, before the plan marked any cell

@@ -154,9 +154,9 @@ step-spelled book cells step few narrow whole =
     let corners : 1 ≤ length step.corners = subst (λ n. 1 ≤ n) (sym whole.all) (one-le-pow (length whole.variables) 2 (omega arith)) in
     record {
       table = omega (arith, at.0, few);
-      some_parent = omega (arith, whole.parents, at.1.0);
-      few = omega (arith, whole.parents, at.1.1);
-      some_corner = corners;
+      has_parent = omega (arith, whole.parents, at.1.0);
+      at_most_8_parents = omega (arith, whole.parents, at.1.1);
+      has_corner = corners;
       ascending = rising-ascends 0 step.corners whole.ascending (λ some. omega arith);
     }
 

@@ -23,7 +23,7 @@ passes_of (method.Rnd base) = 0
 
 -- at most eight tables, each of one to eight variables
 pub record AreNarrow (tables : List (List ℕ)) : Type 0 where
-  pub few : length tables ≤ 8
+  pub at_most_8_tables : length tables ≤ 8
   pub each : All (λ table. (1 ≤ length table) × (length table ≤ 8)) tables
 
 -- the set with which repairing begins: the primary cells and the corners of the planned steps

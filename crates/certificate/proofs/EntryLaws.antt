@@ -67,12 +67,12 @@ step_reads table parents cell corners number centre places others some few any i
 pub step_again : (step : PlanStep) → IsStepSpellable step → IsStepWithinTypes step → step_of (step_arguments step) ≡ Ok step
 unfolding step_of only_of
 step_again step fine wide =
-    let cut = listed_cut step.parents fine.some_parent wide.parents in
-    let others = listed_cut step.corners fine.some_corner wide.corners in
-    let few : nat_lt 8 (length (pieces 44 (comma_list step.parents))) ≡ false = rw cut (not-past (length (map decimal step.parents)) (omega (arith, length-map step.parents decimal, fine.few))) in
+    let cut = listed_cut step.parents fine.has_parent wide.parents in
+    let others = listed_cut step.corners fine.has_corner wide.corners in
+    let few : nat_lt 8 (length (pieces 44 (comma_list step.parents))) ≡ false = rw cut (not-past (length (map decimal step.parents)) (omega (arith, length-map step.parents decimal, fine.at_most_8_parents))) in
     let back : step.table + 1 - 1 ≡ step.table = omega arith in
     step_reads (decimal (step.table + 1)) (comma_list step.parents) (decimal step.cell) (comma_list step.corners) (step.table + 1) step.cell step.parents step.corners
-    (listed_some step.parents fine.some_parent wide.parents) few (listed_some step.corners fine.some_corner wide.corners)
+    (listed_some step.parents fine.has_parent wide.parents) few (listed_some step.corners fine.has_corner wide.corners)
     (natural_again 1 (step.table + 1) (omega arith) (omega (arith, fine.table))) (rw cut (numbers_again step.parents wide.parents)) (natural_again 0 step.cell (omega arith) wide.cell)
     (rw others (numbers_again step.corners wide.corners)) fine.ascending
     ∙ ap (λ (n : ℕ). Ok (record step { table = n })) back
@@ -108,9 +108,9 @@ step-by-text table parents cell corners step h =
           ∙ ap (λ (t : List ℕ). decimal (d.0 - 1 + 1) ∷ comma_list e.0 ∷ decimal f.0 ∷ t ∷ []) (joined_again 44 corners (map decimal g.0) others.0);
       fine = record {
         table = omega (arith, number.1, number.2);
-        some_parent = omega (arith, pieces-some 44 parents, ap length places.0, length-map e.0 decimal);
-        few = omega (arith, few, ap length places.0, length-map e.0 decimal);
-        some_corner = omega (arith, pieces-some 44 corners, ap length others.0, length-map g.0 decimal);
+        has_parent = omega (arith, pieces-some 44 parents, ap length places.0, length-map e.0 decimal);
+        at_most_8_parents = omega (arith, few, ap length places.0, length-map e.0 decimal);
+        has_corner = omega (arith, pieces-some 44 corners, ap length others.0, length-map g.0 decimal);
         ascending = not-false (ascends g.0) (not_refused Order (not (ascends g.0)) k.0 k.1);
       };
       wide = record { parents = places.1; cell = centre.2; corners = others.1 };

@@ -27,9 +27,9 @@ hidden_of tokens = do
 -- a step by its four tokens; tables are counted from 1 in the text
 unfoldable pub step_by : List ℕ → List ℕ → List ℕ → List ℕ → Result PlanStep CertWhy
 step_by table parents cell corners = do
-  some_parent ← refuse Shape (length parents == 0)
+  has_parent ← refuse Shape (length parents == 0)
   few ← refuse Shape (nat_lt 8 (length (pieces comma parents)))
-  some_corner ← refuse Shape (length corners == 0)
+  has_corner ← refuse Shape (length corners == 0)
   number ← natural_of 1 table
   places ← numbers_of (pieces comma parents)
   centre ← natural_of 0 cell

@@ -13,9 +13,9 @@ use Rattle.certificate.specs.Numerals.{greatest_number, ascends}
 -- a step has 1 to 8 parents and a corner, its corners ascend, and the number of its table, from 1, isn't too great
 pub record IsStepSpellable (step : PlanStep) : Type 0 where
   pub table : step.table < greatest_number
-  pub some_parent : 0 < length step.parents
-  pub few : length step.parents ≤ 8
-  pub some_corner : 0 < length step.corners
+  pub has_parent : 0 < length step.parents
+  pub at_most_8_parents : length step.parents ≤ 8
+  pub has_corner : 0 < length step.corners
   pub ascending : ascends step.corners ≡ true
 
 -- the denominator of a refutation is from 1 on, its relations ascend, and none counts 0

@@ -62,10 +62,10 @@ last_or_below k n h = grind arith
 pub grown-is_tree : (tree : Tree) → IsCodeTree tree → (code : List ℕ) (parent : ℕ) → find tree code ≡ None → length tree < 5001 → IsUnder tree (length tree - 1) parent → HasRoomBelow tree parent → parent < length tree
     → IsCodeTree (tree_with_node tree code parent)
 grown-is_tree tree is code parent none few under room inside = record {
-  some = omega (arith, is.some, longer);
-  few = omega (arith, longer);
+  has_total = omega (arith, is.has_total, longer);
+  at_most_5001 = omega (arith, longer);
   distinct = distinct-grown tree code parent is.distinct none;
-  total = total-stays tree _ is.some is.total;
+  total = total-stays tree _ is.has_total is.total;
   earlier = λ place positive within. by_place place within (λ old. let e = is.earlier place positive old in (e.0, parent-grown tree _ place e.0 e.1, e.2)) (λ last. (parent, subst (λ k. parent_at (tree_with_node tree code parent) k ≡ Some parent) (sym last) (parent-last tree code parent), omega (arith, inside, last)));
   preorder = λ place above h. elim (parent-split tree code parent (place + 1) above h) [
     | inl old ↦ let u = is.preorder place above old in (u.0, climb-grown tree _ u.0 place above u.1)
@@ -85,8 +85,8 @@ grown-is_tree tree is code parent none few under room inside = record {
 pub total-is_tree : (total : List ℕ) → IsCodeTree ((total, None) ∷ [])
 unfolding IsDistinct
 total-is_tree total = record {
-  some = omega arith;
-  few = omega arith;
+  has_total = omega arith;
+  at_most_5001 = omega arith;
   distinct = (tt, tt);
   total = refl;
   earlier = λ place positive within. absurd (omega arith);
@@ -108,4 +108,4 @@ above-inside tree is (suc steps) place above inside h =
     (λ parent at rest. above-inside tree is steps parent above (parent_inside tree is place parent inside at) rest)
 
 pub under-inside : (tree : Tree) → IsCodeTree tree → (above : ℕ) → IsUnder tree (length tree - 1) above → above < length tree
-under-inside tree is above u = above-inside tree is u.0 (length tree - 1) above (omega (arith, is.some)) u.1
+under-inside tree is above u = above-inside tree is u.0 (length tree - 1) above (omega (arith, is.has_total)) u.1

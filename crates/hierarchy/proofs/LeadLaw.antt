@@ -67,8 +67,8 @@ next-is tree front code parent rest path is whole some at there =
     let fits = by-walk above beyond walk.0 walk.1 in
     record {
       none = no-line-fault (length path - 1) (codes front) line (code-some code there) (omega (arith, leads, fits.0)) (omega (arith, leads, deep.1))
-          ∙ fault-new front code k some (new-code front code parent rest (subst HasDistinctCodes whole is.distinct)) (omega (arith, is.few, longer));
-      inside = omega (arith, leads, fits.0, at.some);
+          ∙ fault-new front code k some (new-code front code parent rest (subst HasDistinctCodes whole is.distinct)) (omega (arith, is.at_most_5001, longer));
+      inside = omega (arith, leads, fits.0, at.has_total);
       above = sym (at-seam front (code, parent) rest) ∙ ap (λ (t : Tree). parent_at t k) (sym whole) ∙ to ∙ ap Some fits.1 ∙ ap (λ (n : ℕ). Some (slice_index path n)) (sym leads);
     })
   where
@@ -111,8 +111,8 @@ next-is tree front code parent rest path is whole some at there =
     deep-in : climb tree last (k - 1) ≡ Some 0
     deep-in =
         let top : length path - 1 - 0 ≡ last = omega arith in
-        let root : slice_index path 0 ≡ 0 = some-is-zero (slice_index path 0) (at.deep 0 at.some) in
-        subst (λ n. climb tree n (k - 1) ≡ Some 0) top (above-in 0 at.some ∙ ap Some root)
+        let root : slice_index path 0 ≡ 0 = some-is-zero (slice_index path 0) (at.deep 0 at.has_total) in
+        subst (λ n. climb tree n (k - 1) ≡ Some 0) top (above-in 0 at.has_total ∙ ap Some root)
       where
         some-is-zero : (place : ℕ) → Some place ≡ Some 0 → place ≡ 0
         some-is-zero place h = cc
@@ -122,7 +122,7 @@ next-is tree front code parent rest path is whole some at there =
         let whole-way : climb tree (steps + up) (k - 1) ≡ Some 0 = climb-add tree steps up (k - 1) ∙ ap (option_and_then (climb tree up)) to ∙ beyond in
         let same : last ≡ steps + up = one-depth tree is.total last (steps + up) (k - 1) deep-in whole-way in
         let left : length path - 1 - up ≡ steps = omega (arith, same) in
-        (omega (arith, same), some-same above (slice_index path up) (sym to ∙ subst (λ n. climb tree n (k - 1) ≡ Some (slice_index path up)) left (above-in up (omega (arith, same, at.some)))))
+        (omega (arith, same), some-same above (slice_index path up) (sym to ∙ subst (λ n. climb tree n (k - 1) ≡ Some (slice_index path up)) left (above-in up (omega (arith, same, at.has_total)))))
       where
         some-same : (a b : ℕ) → Some a ≡ Some b → a ≡ b
         some-same a b h = cc
@@ -133,16 +133,16 @@ nodes-on : (tree : Tree) (lead : List ℕ) → IsCodeTree tree → (rest front :
 nodes-on tree lead is [] front path place whole count some at can = ap (λ (t : Tree). Ok t) (sym (whole ∙ append-nil front))
 nodes-on tree lead is ((code, parent) ∷ rest) front path place whole count some at can =
     let line : LeadLine = record { number = length front; leads = depth_of tree (length front) - 1; code = code } in
-    let next = next-is tree front code parent rest path is whole some at can.0.some in
+    let next = next-is tree front code parent rest path is whole some at can.0.has_byte in
     let node : Tree = tree_with_node front code (slice_index path line.leads) in
     let longer : length node ≡ length front + 1 = length-append front ((code, Some (slice_index path line.leads)) ∷ []) in
     let one : tree ≡ node ++ rest = whole ∙ ap (λ (up : Option ℕ). front ++ (code, up) ∷ rest) next.above ∙ sym (append_assoc front ((code, Some (slice_index path line.leads)) ∷ []) rest) in
     ap (λ (n : ℕ). read_on front path (record { number = n; leads = depth_of tree n - 1; code = code } ∷ read_nodes tree (n + 1) rest)) count
-    ∙ read-step front path line (read_nodes tree (length front + 1) rest) at.some next.none
+    ∙ read-step front path line (read_nodes tree (length front + 1) rest) at.has_total next.none
     ∙ nodes-on tree lead is rest node (next_path path line.leads (length front)) (length front + 1) one (sym longer) (omega (arith, longer)) (path-next front some path at code line.leads next.inside) can.1
 
 from-total : (lead : List ℕ) (tree : Tree) → 0 < length lead → HasNoFeed lead → IsCodeTree tree → AllByRecursion (IsWritable lead) (codes (drop 1 tree)) → lead_of lead (code_in tree 0) (lead_text lead tree) ≡ Ok tree
-from-total lead [] some h is can = absurd (let none = is.some in omega (arith, none))
+from-total lead [] some h is can = absurd (let none = is.has_total in omega (arith, none))
 from-total lead ((total, parent) ∷ rest) some h is can =
     let tree : Tree = (total, parent) ∷ rest in
     let root : parent ≡ None = is.total in

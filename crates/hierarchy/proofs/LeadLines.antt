@@ -45,7 +45,7 @@ line-read lead tree number place code some can =
     let line = leads_text lead n ++ code in
     let found : leads_of lead line ≡ (n, code) = leads-read lead code n (length line) (omega (arith, leads-long lead n some, length-append (leads_text lead n) code)) can.front in
     line-split lead line number n code code (sym (ap (λ (f : ℕ × List ℕ). f.0) found)) (sym (ap (λ (f : ℕ × List ℕ). f.1) found)) (sym can.trimmed)
-    ∙ line-by-code number n code can.some
+    ∙ line-by-code number n code can.has_byte
 
 -- the lines of nodes are read as lines with leads and codes
 pub nodes-read : (lead : List ℕ) (tree : Tree) (place : ℕ) (nodes : Tree) → 0 < length lead → AllByRecursion (IsWritable lead) (codes nodes) → lead_lines lead place (node_lines lead tree place nodes) ≡ read_nodes tree place nodes
@@ -79,7 +79,7 @@ lines-are lead tree place (node ∷ nodes) h can =
     let n = depth_of tree place - 1 in (
       record {
         no_feed = feeds-append (leads_text lead n) node.0 (feeds-leads lead n h) can.0.line.no_feed;
-        no_return = strip-append (leads_text lead n) node.0 can.0.some can.0.line.no_return;
+        no_return = strip-append (leads_text lead n) node.0 can.0.has_byte can.0.line.no_return;
       },
       lines-are lead tree (place + 1) nodes h can.1,
     )

@@ -65,7 +65,7 @@ with-passed total before kept line spoken so = record {
   each = λ code inside. let e = so.each code inside in ((e.0.0, in-front before (line ∷ []) e.0.0 e.0.1, e.0.2), e.1, e.2);
   all = λ other inside. elim (last-in before line other inside) [ inl old ↦ so.all other old | inr here ↦ subst (IsSpoken total kept) (sym here) spoken ];
   once = so.once;
-  few = so.few;
+  at_most_5000 = so.at_most_5000;
 }
 
 with-kept : (total : List ℕ) (before kept : List (List ℕ)) (line : List ℕ) → IsFresh total kept (code_of_line line) → length kept < 5000 → AreTheListed total before kept → AreTheListed total (before ++ line ∷ []) (kept ++ code_of_line line ∷ [])

@@ -40,7 +40,7 @@ last_or_below k n h = grind arith
 -- the path after one more node
 pub path-next : (tree : Tree) → 0 < length tree → (path : List ℕ) → IsPath tree path → (code : List ℕ) (leads : ℕ) → leads < length path → IsPath (tree_with_node tree code (slice_index path leads)) (next_path path leads (length tree))
 path-next tree some path is code leads h = record {
-  some = omega (arith, len);
+  has_total = omega (arith, len);
   above = λ depth below. elim (last_or_below depth (leads + 1) (omega (arith, len, below))) [
     | inl old ↦
         let steps : length (next_path path leads (length tree)) - 1 - depth ≡ suc (leads - depth) = omega (arith, len, old) in
@@ -74,7 +74,7 @@ path-next tree some path is code leads h = record {
 -- the path of the total alone
 pub path-total : (total : List ℕ) → IsPath ((total, None) ∷ []) (0 ∷ [])
 path-total total = record {
-  some = omega arith;
+  has_total = omega arith;
   above = λ depth below. let zeroth : depth ≡ 0 = omega arith in rw zeroth refl;
   deep = λ depth below. let zeroth : depth ≡ 0 = omega arith in rw zeroth refl;
 }

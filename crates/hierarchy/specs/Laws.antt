@@ -40,7 +40,7 @@ pub record AreTheListed (total : List ℕ) (texts kept : List (List ℕ)) : Type
   pub all : (line : List ℕ) → IsIn line texts
       → (code_of_line line ≡ []) ⊎ ((code_of_line line ≡ total) ⊎ IsIn (code_of_line line) kept)
   pub once : IsDistinct bytes_eq kept
-  pub few : length kept ≤ 5000
+  pub at_most_5000 : length kept ≤ 5000
 
 -- a code list gives the codes of its lines, but the empty one and the total, each once
 abbrev pub ListGivesItsCodes : Type 0

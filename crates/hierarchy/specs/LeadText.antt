@@ -31,7 +31,7 @@ lead_text lead tree = text_of_lines (node_lines lead tree 1 (drop 1 tree))
 -- A code that the lead form can write: it has a byte, doesn't begin with the lead, has no blank at its ends,
 -- no LF in it and no CR at its end.
 pub record IsWritable (lead code : List ℕ) : Type 0 where
-  pub some : code ≢ []
+  pub has_byte : code ≢ []
   pub front : begins_with lead code ≡ false
   pub trimmed : trim code ≡ code
   pub line : IsLine code

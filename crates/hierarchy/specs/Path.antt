@@ -9,7 +9,7 @@ use Rattle.hierarchy.specs.declared.tree_fault.TreeFault.{TreeFault}
 -- The path has at each depth the place above the last node, the node itself last; the place at depth d is d steps from
 -- the total.
 pub record IsPath (tree : Tree) (path : List ℕ) : Type 0 where
-  pub some : 0 < length path
+  pub has_total : 0 < length path
   pub above : (depth : ℕ) → depth < length path
       → climb tree (length path - 1 - depth) (length tree - 1) ≡ Some (slice_index path depth)
   pub deep : (depth : ℕ) → depth < length path → climb tree depth (slice_index path depth) ≡ Some 0

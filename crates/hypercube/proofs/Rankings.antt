@@ -210,7 +210,7 @@ pub are-ranked : (setting : Setting) (lists : List (List Edge)) (all : List (Lis
 are-ranked setting lists all are few begun =
     let long = rankings-long setting 0 lists all are in
     record {
-      few = omega (arith, few, long);
+      at_most_8_lists = omega (arith, few, long);
       begun = reordered-begin setting 0 setting.codes lists (edge_lists all) (reordered setting 0 lists all are) begun;
       priced = λ k inside. let same : 0 + k ≡ k = omega arith in subst (λ (n : ℕ). ArePriced setting n (get_or all k [])) same (rankings-rise setting 0 lists all k are inside);
     }

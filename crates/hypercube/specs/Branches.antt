@@ -76,7 +76,7 @@ pub record IsSearchable (setting : Setting) : Type 0 where
   pub costed : All (λ mark. AreCosted mark.facts) setting.book.marks
   pub up : pos 0 ≤ℤ setting.levels.up
   pub down : pos 0 ≤ℤ setting.levels.down
-  pub few : length setting.codes ≤ 8
+  pub at_most_8_codes : length setting.codes ≤ 8
 
 -- the cell at a place of the table
 abbrev pub cell_in : Setting → List ℕ → Option ℕ

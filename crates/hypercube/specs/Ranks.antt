@@ -74,7 +74,7 @@ pub record ArePriced (setting : Setting) (k : ℕ) (priced : List Priced) : Type
 
 -- the lists of at most 8 variables, each with edges from the cell's code by their prices
 pub record AreRanked (setting : Setting) (lists : List (List Priced)) : Type 0 where
-  pub few : length lists ≤ 8
+  pub at_most_8_lists : length lists ≤ 8
   pub begun : begin_at setting.codes (edge_lists lists) ≡ true
   pub priced : (k : ℕ) → k < length lists → ArePriced setting k (slice_index_or lists k [])
 

@@ -113,7 +113,7 @@ form_at_few : (relations : List Relation) (times : ℤ) (number : ℕ) → lengt
 form_at_few relations times number =
     elim (slice_get relations number) as (λ o. length (option_map_or (form_times times) o []) ≤ 2 ^ 32) [
       | None ↦ omega arith
-      | Some r ↦ omega (arith, r.few, length-map {B = Term} r.parts (λ part. (part, neg_ℤ times)))
+      | Some r ↦ omega (arith, r.fewer_than_2_32, length-map {B = Term} r.parts (λ part. (part, neg_ℤ times)))
     ]
 
 one_entry : (columns column : ℕ) → column < columns → AreEntries columns ((column, pos 1) ∷ [])
@@ -196,5 +196,5 @@ problem_is system cells group question few = record {
       (All-weaker (IsLabel system cells group) (λ label. pos 0 ≤ℤ (row_of system cells group label).bound) (λ label is. bound_of_row system cells group label) (labels system.relations cells group system.cells) (labels_are system cells group));
   objective = entries_are group (asked_move question.cell question.side) system.cells (All-cons (λ (t : Term). IsFormSign t.1) (question.cell, amount_toward question.side (pos 1)) [] (one_is question.side) (All-nil (λ (t : Term). IsFormSign t.1))) (omega arith);
   target = question.target_from_zero;
-  few = omega (arith, few, rows_long system cells group, caps_few cells (members group system.cells), rank-most (meets group system.relations) (length system.relations), system.few);
+  fewer_than_2_32 = omega (arith, few, rows_long system cells group, caps_few cells (members group system.cells), rank-most (meets group system.relations) (length system.relations), system.at_most_2_30);
 }

@@ -69,7 +69,7 @@ slacks_long system cells group slacks weights has = ap length has.slacks_are ∙
 
 pub slacks_few : (system : System) (cells : List Cell) (group : Group) (slacks weights : List ℤ) → length (members group system.cells) ≤ 1500 → HasSlacks system cells group slacks weights → length slacks < 2 ^ 32
 slacks_few system cells group slacks weights few has =
-    omega (arith, few, slacks_long system cells group slacks weights has, caps_few cells (members group system.cells), rank-most (meets group system.relations) (length system.relations), system.few)
+    omega (arith, few, slacks_long system cells group slacks weights has, caps_few cells (members group system.cells), rank-most (meets group system.relations) (length system.relations), system.at_most_2_30)
 
 pub multipliers_by_place : (system : System) (cells : List Cell) (group : Group) (slacks weights : List ℤ) (list : List ℕ) (caps : ℕ) → HasSlacks system cells group slacks weights → list ≡ met_relations group system.relations → caps + 2 * length list + 1 ≡ length slacks → (place : ℕ) → place < length list
     → multiplier weights (labels system.relations cells group system.cells) (slice_index list place) ≡ number_at slacks (caps + 1 + 2 * place) -ℤ number_at slacks (caps + 2 * place)

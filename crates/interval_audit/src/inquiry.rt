@@ -19,6 +19,6 @@ pub(crate) struct Inquiry<'a> {
     pub question: Question,
     ghost one_each: { IsGround system.now cells.now hidden.now.flags },
     ghost met_are: { met.now ≡ met_relations (group_of of.now question.cell) system.now.relations },
-    ghost few: { length (members (group_of of.now question.cell) system.now.cells) ≤ 1500 },
+    ghost at_most_1500: { length (members (group_of of.now question.cell) system.now.cells) ≤ 1500 },
     ghost group: { IsGroup system.now hidden.now.flags (group_of of.now question.cell) question.cell },
 }

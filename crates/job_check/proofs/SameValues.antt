@@ -86,11 +86,11 @@ short-once : (sum : Sum) → IsProp (IsShort sum)
 short-once sum = Prim.hlevel props
 
 relation-of : (sum : Sum) → IsShort sum → Relation
-relation-of sum few = record { total = sum.0; parts = sum.1; few = few }
+relation-of sum few = record { total = sum.0; parts = sum.1; fewer_than_2_32 = few }
 
 same-relation : (one other : Relation) → sum_in one ≡ sum_in other → one ≡ other
 unfolding relation-of
-same-relation one other same = same-made IsShort short-once relation-of (sum_in one) (sum_in other) one.few other.few same
+same-relation one other same = same-made IsShort short-once relation-of (sum_in one) (sum_in other) one.fewer_than_2_32 other.fewer_than_2_32 same
 
 same-relations : (one other : List Relation) → map sum_in one ≡ map sum_in other → one ≡ other
 same-relations [] [] same = refl
@@ -108,17 +108,17 @@ Parts = ℕ × List Relation
 
 record IsNamed (parts : Parts) : Type 0 where
   named : All (NamesCells parts.0) parts.1
-  few : length parts.1 ≤ 2 ^ 30
+  at_most_2_30 : length parts.1 ≤ 2 ^ 30
 
 named-once : (parts : Parts) → IsProp (IsNamed parts)
 named-once parts = Prim.hlevel props
 
 system-of : (parts : Parts) → IsNamed parts → System
-system-of parts is = record { cells = parts.0; relations = parts.1; named = is.named; few = is.few }
+system-of parts is = record { cells = parts.0; relations = parts.1; named = is.named; at_most_2_30 = is.at_most_2_30 }
 
 -- systems of as many cells whose relations have the same totals and parts are the same
 pub same-systems : (one other : System) → one.cells ≡ other.cells → map sum_in one.relations ≡ map sum_in other.relations → one ≡ other
 unfolding system-of
 same-systems one other cells sums =
-    same-made IsNamed named-once system-of (one.cells, one.relations) (other.cells, other.relations) (record { named = one.named; few = one.few }) (record { named = other.named; few = other.few })
+    same-made IsNamed named-once system-of (one.cells, one.relations) (other.cells, other.relations) (record { named = one.named; at_most_2_30 = one.at_most_2_30 }) (record { named = other.named; at_most_2_30 = other.at_most_2_30 })
     (ap₂ (λ (n : ℕ) (relations : List Relation). (n, relations)) cells (same-relations one.relations other.relations sums))

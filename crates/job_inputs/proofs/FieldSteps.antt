@@ -96,7 +96,7 @@ fields-come files variables places i v fields f held inside is read comes = reco
   one = (slice_index_or places i 0, v);
   behind = variables_at variables (drop (suc i) places);
   stands = variables-cut variables places i v inside is;
-  fine = rw read refl;
+  no_fault_before = rw read refl;
   comes = comes;
 }
 

@@ -44,12 +44,12 @@ none-twice = tt
 
 -- no codes at all are listed ones
 pub none_listed : (total : List ℕ) (codes : List (List ℕ)) → codes ≡ [] → AreListed total codes
-none_listed total codes none = rw none (record { distinct = with-total total [] tt none-twice; few = omega arith })
+none_listed total codes none = rw none (record { distinct = with-total total [] tt none-twice; at_most_5000 = omega arith })
 
 pub are-listed : ListGivesItsCodes → (total bytes : List ℕ) (kept : List (List ℕ)) → codes_of total bytes ≡ Ok kept → AreListed total kept
 are-listed law total bytes kept read =
     let are = law total bytes kept read in
-    record { distinct = with-total total kept (none-is total kept (λ code is. (are.each code is).2)) are.once; few = are.few }
+    record { distinct = with-total total kept (none-is total kept (λ code is. (are.each code is).2)) are.once; at_most_5000 = are.at_most_5000 }
 
 -- ---- a code list
 

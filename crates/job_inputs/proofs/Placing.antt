@@ -94,7 +94,7 @@ pub weight-within : (described : Described) (place : ℕ) → IsSound described 
 weight-within described place h is = let found = weight-found described place h is in get-within described.meta.variables place found.0 found.1
 
 placed-number : (most : ℕ) (v : Variable) → IsVariable v → v.decimals ≤ most → IsPlacedNumber most (number_field v)
-placed-number most v h fine = record { placed = record { from_one = h.first_from_one; some = h.some_width; inside = h.inside }; decimals = fine }
+placed-number most v h fine = record { placed = record { from_one = h.first_from_one; width_from_one = h.width_from_one; inside = h.inside }; decimals = fine }
 
 number-is : (variables : List Variable) (place : ℕ) (v : Variable) → slice_get variables place ≡ Some v → number_at variables place ≡ number_field v
 number-is variables place v is = rw is refl
@@ -103,13 +103,13 @@ pub response-placed : (described : Described) → IsSound described → IsPlaced
 response-placed described h =
     let v = h.bound.response.0 in
     let one = h.meta.each described.bound.response v h.bound.response.1 in
-    rw (number-is described.meta.variables described.bound.response v h.bound.response.1) (placed-number 9 v one one.fine)
+    rw (number-is described.meta.variables described.bound.response v h.bound.response.1) (placed-number 9 v one one.at_most_9_decimals)
 
 pub weight-placed : (described : Described) (place : ℕ) → IsSound described → described.bound.weight ≡ Some place → IsPlacedNumber 4 (number_at described.meta.variables place)
 weight-placed described place h is =
     let found = weight-found described place h is in
     let one = h.meta.each place found.0 found.1 in
-    rw (number-is described.meta.variables place found.0 found.1) (placed-number 4 found.0 one (one.weight_fine found.2))
+    rw (number-is described.meta.variables place found.0 found.1) (placed-number 4 found.0 one (one.weight_at_most_4_decimals found.2))
 
 pub weight-is-placed : (described : Described) → IsSound described → ForSome (weight_in described.meta.variables described.bound) (IsPlacedNumber 4)
 weight-is-placed described h = by-place described.bound.weight refl
@@ -137,7 +137,7 @@ last-inside n [] few all = few
 last-inside n (field ∷ fields) few all = last-inside (up_to_field n field) fields (omega (arith, few, all.0.placed.inside)) all.1
 
 within-by : (needed first width : ℕ) → IsPlaced first width → last_position first width ≤ needed → IsWithin needed first width
-within-by needed first width h ends = record { from_one = h.from_one; some = h.some; inside = omega (arith, h.from_one, ends) }
+within-by needed first width h ends = record { from_one = h.from_one; width_from_one = h.width_from_one; inside = omega (arith, h.from_one, ends) }
 
 fields-within : (needed : ℕ) (fields : List Field) → AllByRecursion IsPlacedField fields → AllByRecursion (EndsBy needed) fields → AllByRecursion (IsField needed) fields
 fields-within needed [] all ends = tt
@@ -176,7 +176,7 @@ is_layout described fields h all many =
     let few : last ≤ 1000 = omega (arith, first, placed.placed.inside) in
     let later : last ≤ needed = weight-later last weight in
     record {
-      few = omega (arith, many, h.bound.few);
+      at_most_8_spanning = omega (arith, many, h.bound.at_most_8_spanning);
       measures = record {
         needed = weight-inside last weight few heavy;
         response = number-within needed 9 response placed (omega (arith, later));
@@ -227,6 +227,6 @@ are-records described fields layout records h many is within trees leaves =
     record {
       as_many = here.trees ∙ many;
       trees = trees;
-      rows = record { few = here.few; each = subst (λ (scale : ℕ). AllByRecursion (IsRow scale records.trees) records.rows) (scale-is described h) here.rows };
+      rows = record { at_most_1000000 = here.at_most_1000000; each = subst (λ (scale : ℕ). AllByRecursion (IsRow scale records.trees) records.rows) (scale-is described h) here.rows };
       leaves = leaves;
     }

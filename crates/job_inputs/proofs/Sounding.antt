@@ -32,11 +32,11 @@ as-many (v ∷ vs) =
 
 pub meta_variables : (meta : Meta) → IsMeta meta → AreVariables meta.variables
 meta_variables meta h = record {
-  few = h.few;
+  at_most_64_variables = h.at_most_64_variables;
   names = h.distinct;
   weights = rw (as-many meta.variables) h.one_weight;
-  decimals = at_each (λ (v : Variable). v.decimals ≤ 9) meta.variables (λ place v is. (h.each place v is).fine);
-  weight_decimals = at_each (λ (v : Variable). IsTrue v.weight → v.decimals ≤ 4) meta.variables (λ place v is. (h.each place v is).weight_fine);
+  decimals = at_each (λ (v : Variable). v.decimals ≤ 9) meta.variables (λ place v is. (h.each place v is).at_most_9_decimals);
+  weight_decimals = at_each (λ (v : Variable). IsTrue v.weight → v.decimals ≤ 4) meta.variables (λ place v is. (h.each place v is).weight_at_most_4_decimals);
 }
 
 pub bound-is : (job : Job) (meta : Meta) (bound : Bound) → bound_of job meta ≡ Ok bound → bound ≡ places_of job meta.variables

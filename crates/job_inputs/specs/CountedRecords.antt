@@ -25,7 +25,7 @@ pub record IsReady (counted : Counted) : Type 0 where
   pub sound : IsSound counted.described
   pub book : IsReadyFor counted.described counted.book
   pub one_each : length counted.book.marks ≡ length (cells counted.book)
-  pub few : length counted.book.marks < 2 ^ 32
+  pub fewer_than_2_32 : length counted.book.marks < 2 ^ 32
 
 -- The answer, with these priors after it, is what is stated with a table's a priori file beside those before it, or the
 -- first fault of the file: of inputs whose records are counted so, and files of this shelf as far as they are told.

@@ -6,4 +6,4 @@ use Rattle.std.specs.Str.{bytes_eq}
 -- the total and the codes are distinct, and there are at most 5,000 codes
 pub record AreListed (total : List ℕ) (codes : List (List ℕ)) : Type 0 where
   pub distinct : IsDistinct bytes_eq (total ∷ codes)
-  pub few : length codes ≤ 5000
+  pub at_most_5000 : length codes ≤ 5000

@@ -67,7 +67,7 @@ pub record FieldsComeTo (files : Files) (variables : List (ℕ × Variable)) (f 
   pub one : ℕ × Variable
   pub behind : List (ℕ × Variable)
   pub stands : variables ≡ before ++ one ∷ behind
-  pub fine : IsOk (fields_of files before)
+  pub no_fault_before : IsOk (fields_of files before)
   pub comes : FieldComesTo files one.0 one.1 f held
 
 -- the a priori files of the tables before this one have no fault, and its own has this name

@@ -7,7 +7,7 @@ use Rattle.microdata.specs.declared.layout.NumberField.{NumberField}
 -- it begins at a position from 1, has at least one byte, and ends at position 1,000 at the latest
 pub record IsPlaced (first width : ℕ) : Type 0 where
   pub from_one : 1 ≤ first
-  pub some : 1 ≤ width
+  pub width_from_one : 1 ≤ width
   pub inside : first + width ≤ 1001
 
 -- a field of a spanning variable, with codes that can be read by

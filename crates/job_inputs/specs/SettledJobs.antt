@@ -73,4 +73,4 @@ pub record IsReadyJob (job : SettledJob) : Type 0 where
   pub settled : length job.cells ≡ length job.book.marks
   pub levels : All HasLevelsInRange job.cells
   pub truths : map (λ mark. mark.facts.truth) job.book.marks ≡ map (λ cell. cell.truth) job.cells
-  pub few : length job.cells < 2 ^ 32
+  pub fewer_than_2_32 : length job.cells < 2 ^ 32

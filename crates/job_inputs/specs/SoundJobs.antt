@@ -22,7 +22,7 @@ pub record IsSound (described : Described) : Type 0 where
 
 -- at most a million records, each of these trees and within its limits
 pub record AreRows (trees : List Tree) (scale : ℕ) (rows : List Row) : Type 0 where
-  pub few : length rows ≤ 1000000
+  pub at_most_1000000 : length rows ≤ 1000000
   pub each : AllByRecursion (IsRow scale trees) rows
 
 -- no record has a code with others below it in its tree

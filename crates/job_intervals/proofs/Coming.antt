@@ -70,7 +70,7 @@ input_comes files name out file.Out held h = h
 table_at : (files : Files) (name out : List ℕ) (settled : SettledInputs) (t : ℕ) (f : FileRef) (held : List ℕ) → settled_of purpose.Intervals files name ≡ Ok settled → refuse fault.OutName (overwrites name out settled.inputs.described) ≡ Ok tt
     → f ≡ file.Table t → TablesComeTo files settled.inputs.described.job t held → ComesTo files name out f held
 table_at files name out settled t f held read fine is comes =
-    rw is (record { settled = settled; read = read; fine = not_refused fault.OutName (overwrites name out settled.inputs.described) fine; comes = comes })
+    rw is (record { settled = settled; read = read; overwrites_none = not_refused fault.OutName (overwrites name out settled.inputs.described) fine; comes = comes })
 
 -- and so is a table, where the inputs and the name of the file to be put have no fault
 pub table_comes : (files : Files) (name out : List ℕ) (settled : SettledInputs) (described : Described) (f : FileRef) (held : List ℕ) → settled_of purpose.Intervals files name ≡ Ok settled → refuse fault.OutName (overwrites name out settled.inputs.described) ≡ Ok tt

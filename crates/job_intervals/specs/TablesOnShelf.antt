@@ -51,7 +51,7 @@ pub record IsReadyShelved (shelved : ShelvedJob) : Type 0 where
 pub record ComesToTable (files : Files) (name out : List ℕ) (t : ℕ) (held : List ℕ) : Type 0 where
   pub settled : SettledInputs
   pub read : settled_of purpose.Intervals files name ≡ Ok settled
-  pub fine : overwrites name out settled.inputs.described ≡ false
+  pub overwrites_none : overwrites name out settled.inputs.described ≡ false
   pub comes : TablesComeTo files settled.inputs.described.job t held
 
 -- the run comes to this file, which has this name, and nothing before it has a fault

@@ -338,7 +338,7 @@ bound_known job variables is fit none =
     let spots = tables_spots (spanning_of job.tables variables) variables job.tables (λ q g. spot job.tables variables q free.tables g) in
     record {
       ascending = ascending (λ v. is_spanning job.tables v.name) 0 variables;
-      few = spanning_few job.tables variables is fit;
+      at_most_8_spanning = spanning_few job.tables variables is fit;
       spanning = placed (IsNumericAt false variables) (λ v. is_spanning job.tables v.name) 0 variables (λ k v at spans.
           let same : 0 + k ≡ k = omega arith in
           let known = plain_name variables v.name job.tables free.tables spans in
@@ -346,7 +346,7 @@ bound_known job variables is fit none =
       tables = tables_wide (spanning_of job.tables variables) variables job.tables;
       within = tables_within (spanning_of job.tables variables) variables job.tables spots;
       once = tables_distinct (spanning_of job.tables variables) variables job.tables spots is.once;
-      response = response_numeric variables job.tables is.some fit.names free.tables;
+      response = response_numeric variables job.tables is.has_table fit.names free.tables;
       decimals = let a = response_few job.tables variables fit in let b = weight_few job.rules variables fit in omega (arith, a, b);
       scale = (refl, weight_few job.rules variables fit);
     }

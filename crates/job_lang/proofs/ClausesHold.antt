@@ -117,7 +117,7 @@ rules_known text =
     then_known AreInRange (refuse BadValue (not (are_rules clauses))) _ (λ fine h1.
     let all = known (AllByRecursion IsClause) (clauses_in (pieces text)) clauses (clauses_known (pieces text)) h in
     let few = few_named (length (named_in clauses)) (nat_lt (count_by is_frequency clauses) 2) (nat_lt (count_by is_man clauses) 2) (nat_lt (count_by is_weights clauses) 2) (not_refused BadValue (not (are_rules clauses)) fine h1) in
-    record { some = few.0; few = few.1; ranges = named_known clauses all; man = man_within clauses all }))
+    record { has_rule = few.0; at_most_8_rules = few.1; ranges = named_known clauses all; man = man_within clauses all }))
 
 pub work_known : (text : List ℕ) → IfOk (work_argument text) IsWork
 unfolding work_argument

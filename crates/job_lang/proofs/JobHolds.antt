@@ -127,7 +127,7 @@ made_known draft is placed =
     then_known IsJob (needed_value command.Certificate (file_line (said_by keyword.Certificate draft.said))) _ (λ certificate h6.
     record {
       tables = record {
-        some = some_tables (length draft.tables) (not_refused (0, Missing command.SpecifyTable) (length draft.tables == 0) some h2);
+        has_table = some_tables (length draft.tables) (not_refused (0, Missing command.SpecifyTable) (length draft.tables == 0) some h2);
         response = is.response;
         once = is.once;
         variables = is.names;

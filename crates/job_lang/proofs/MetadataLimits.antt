@@ -12,9 +12,9 @@ each_holds P (v ∷ variables) h = (h 0 v refl, each_holds P variables (λ place
 
 pub metadata_fit : MetadataFit
 metadata_fit meta is = record {
-  few = is.few;
+  at_most_64_variables = is.at_most_64_variables;
   names = is.distinct;
   weights = let count = length-filter (λ (v : Variable). v.weight) meta.variables in omega (arith, count, is.one_weight);
-  decimals = each_holds (λ v. v.decimals ≤ 9) meta.variables (λ place v at. (is.each place v at).fine);
-  weight_decimals = each_holds (λ v. IsTrue v.weight → v.decimals ≤ 4) meta.variables (λ place v at. (is.each place v at).weight_fine);
+  decimals = each_holds (λ v. v.decimals ≤ 9) meta.variables (λ place v at. (is.each place v at).at_most_9_decimals);
+  weight_decimals = each_holds (λ v. IsTrue v.weight → v.decimals ≤ 4) meta.variables (λ place v at. (is.each place v at).weight_at_most_4_decimals);
 }

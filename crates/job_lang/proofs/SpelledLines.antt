@@ -138,7 +138,7 @@ argument_ended : (one : Said) → IsSpellable one → IsEnded (62 ∷ argument_t
 argument_ended (said.Microdata name) h = named_end name
 argument_ended (said.Metadata name) h = named_end name
 argument_ended (said.Table variables response) h = ended_behind (62 ∷ 32 ∷ quoted_each variables) (124 ∷ quoted_name response) (ended_behind (124 ∷ 34 ∷ response) (34 ∷ []) (ended_with 34 refl refl))
-argument_ended (said.Safety rules) h = ended_behind (62 ∷ 32 ∷ []) (rules_text rules) (rules_ended rules h.0.some)
+argument_ended (said.Safety rules) h = ended_behind (62 ∷ 32 ∷ []) (rules_text rules) (rules_ended rules h.0.has_rule)
 argument_ended said.Read h = ended_with 62 refl refl
 argument_ended (said.Prior file number separator) h =
     ended_behind (62 ∷ 32 ∷ quoted_name file) (44 ∷ number ++ 44 ∷ quoted_name (separator ∷ []))

@@ -227,8 +227,8 @@ unfolding rules_in
 rules_read rules h once =
     let fine : are_rules (clauses_of rules) ≡ true =
     within_room _ (count_by is_frequency (clauses_of rules)) (count_by is_man (clauses_of rules)) (count_by is_weights (clauses_of rules))
-    (subst (λ (l : List Rule). 0 < length l) (sym (named_again rules.list rules.man rules.weighted)) h.some)
-    (subst (λ (l : List Rule). length l ≤ 8) (sym (named_again rules.list rules.man rules.weighted)) h.few)
+    (subst (λ (l : List Rule). 0 < length l) (sym (named_again rules.list rules.man rules.weighted)) h.has_rule)
+    (subst (λ (l : List Rule). length l ≤ 8) (sym (named_again rules.list rules.man rules.weighted)) h.at_most_8_rules)
     (subst (λ (n : ℕ). n ≤ 1) (sym (frequencies rules.list rules.man rules.weighted)) once)
     (one_man rules.list rules.man rules.weighted) (one_weights rules.list rules.man rules.weighted) in
-    rw (text_of rules.list rules.man rules.weighted h.some h.ranges h.man, fine, named_again rules.list rules.man rules.weighted, man_again rules.list rules.man rules.weighted, weighted_again rules.list rules.man rules.weighted) refl
+    rw (text_of rules.list rules.man rules.weighted h.has_rule h.ranges h.man, fine, named_again rules.list rules.man rules.weighted, man_again rules.list rules.man rules.weighted, weighted_again rules.list rules.man rules.weighted) refl

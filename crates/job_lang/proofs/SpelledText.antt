@@ -61,8 +61,8 @@ all_spellable job h =
     let read = front_of_all IsNamed (reads_of job) (puts_of job) h.files in
     let put = back_of_all IsNamed (reads_of job) (puts_of job) h.files in
     let tables = tables_spellable job.tables h.limits.variables h.limits.tables.once h.names in
-    let priors = priors_spellable job.priors (all_below (length job.tables) job.priors h.limits.few h.limits.priors) h.separators read.1.1 in
-    let outputs = outputs_spellable 0 job.outputs (omega (arith, h.limits.outputs, h.limits.few)) put.1 in
+    let priors = priors_spellable job.priors (all_below (length job.tables) job.priors h.limits.at_most_8_tables h.limits.priors) h.separators read.1.1 in
+    let outputs = outputs_spellable 0 job.outputs (omega (arith, h.limits.outputs, h.limits.at_most_8_tables)) put.1 in
     let last : AllByRecursion IsSpellable (said.Certificate job.certificate ∷ []) = (put.0, tt) in (
       read.0,
       (
@@ -88,11 +88,11 @@ pub text_read : AreReadAgain → (job : Job) → IsWritable job → job_of (job_
 unfolding job_of
 text_read law job h =
     let can = all_spellable job h in
-    let few = all_below (length job.tables) job.priors h.limits.few h.limits.priors in
-    let fits = fit (response_of job.tables) [] job.tables (omega (arith, h.limits.few)) h.limits.tables.variables tt h.limits.tables.response in
+    let few = all_below (length job.tables) job.priors h.limits.at_most_8_tables h.limits.priors in
+    let fits = fit (response_of job.tables) [] job.tables (omega (arith, h.limits.at_most_8_tables)) h.limits.tables.variables tt h.limits.tables.response in
     ap (λ (ts : List (List ℕ)). lines_say 0 empty_draft ts >>= closed_job) (law (map said_line (job_says job)) (lines_fine (job_says job) can))
-    ∙ ap (λ r. r >>= closed_job) (lines_are 0 empty_draft (job_says job) can ∙ text_says_all job fits few h.priors (omega (arith, h.limits.outputs, h.limits.few)))
-    ∙ closed_again job h.limits.tables.some h.limits.few h.limits.outputs h.limits.priors few h.puts h.apart
+    ∙ ap (λ r. r >>= closed_job) (lines_are 0 empty_draft (job_says job) can ∙ text_says_all job fits few h.priors (omega (arith, h.limits.outputs, h.limits.at_most_8_tables)))
+    ∙ closed_again job h.limits.tables.has_table h.limits.at_most_8_tables h.limits.outputs h.limits.priors few h.puts h.apart
 
 pub round_trip : AreReadAgain → (job : Job) → IsWritable job → in_text job ≡ job → job_of (job_text job) ≡ Ok job
 round_trip law job h same = text_read law job h ∙ ap (λ (j : Job). Ok j) same

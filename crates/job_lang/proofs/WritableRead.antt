@@ -272,7 +272,7 @@ writable bytes job h =
     let written = known AreWritten (lines_say 0 empty_draft (lines bytes)) draft (lines_kept 0 empty_draft (lines bytes) (record { tables = tt; said = tt; other = tt }) (lines_free bytes)) is.says in
     let j = job_with draft made.micro made.meta made.rules made.method made.outputs made.certificate in
     let back = sym made.whole in
-    let few : length draft.tables ≤ 8 = (subst IsJob back limits).few in
+    let few : length draft.tables ≤ 8 = (subst IsJob back limits).at_most_8_tables in
     let placed = none_each (λ s. is_astray (length draft.tables) s.said) draft.said (no_strays (length draft.tables) draft.said tt is.placed) in
     let micro = line_named draft.said _ made.micro written.said made.is_micro in
     let meta = line_named draft.said _ made.meta written.said made.is_meta in

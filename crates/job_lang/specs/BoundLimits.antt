@@ -10,7 +10,7 @@ use Rattle.job_lang.specs.Binding.{weight_decimals}
 -- Metadata of which a job can be bound: at most 64 variables of distinct names, one of them a weight at most; at most 9
 -- digits behind the point, and of a weight at most 4.
 pub record AreVariables (variables : List Variable) : Type 0 where
-  pub few : length variables ≤ 64
+  pub at_most_64_variables : length variables ≤ 64
   pub names : IsDistinct bytes_eq (map (λ v. v.name) variables)
   pub weights : count_by (λ v. v.weight) variables ≤ 1
   pub decimals : AllByRecursion (λ v. v.decimals ≤ 9) variables
@@ -29,7 +29,7 @@ IsNumericAt numeric variables place = (v : Variable) × (slice_get variables pla
 -- twice, and the response is numeric.
 pub record IsBound (job : Job) (variables : List Variable) (bound : Bound) : Type 0 where
   pub ascending : AreAscending bound.spanning
-  pub few : length bound.spanning ≤ 8
+  pub at_most_8_spanning : length bound.spanning ≤ 8
   pub spanning : AllByRecursion (IsNumericAt false variables) bound.spanning
   pub tables : map (λ places. length places) bound.tables ≡ map (λ t. length t.variables) job.tables
   pub within : AllByRecursion (λ places. AllByRecursion (λ k. k < length bound.spanning) places) bound.tables

@@ -19,7 +19,7 @@ HasNoTwice table = IsDistinct bytes_eq table.variables
 
 -- What a job needs to be bound: tables of one response, each of distinct variables, which are at most 8 in all.
 pub record AreTables (tables : List TableLine) : Type 0 where
-  pub some : 0 < length tables
+  pub has_table : 0 < length tables
   pub response : AllByRecursion (λ t. t.response ≡ response_of tables) tables
   pub once : AllByRecursion HasNoTwice tables
   pub variables : distinct_count bytes_eq (names_in tables) ≤ 8
@@ -36,8 +36,8 @@ IsInRange (Percent p) = (1 ≤ p) × (p ≤ 1000)
 
 -- one to eight rules in their ranges
 pub record AreInRange (rules : Rules) : Type 0 where
-  pub some : 0 < length rules.list
-  pub few : length rules.list ≤ 8
+  pub has_rule : 0 < length rules.list
+  pub at_most_8_rules : length rules.list ≤ 8
   pub ranges : AllByRecursion IsInRange rules.list
   pub man : rules.man ≤ 1000
 
@@ -54,7 +54,7 @@ IsWork n = (1 ≤ n) × (n ≤ 10 ^ 12)
 -- a job within all limits
 pub record IsJob (job : Job) : Type 0 where
   pub tables : AreTables job.tables
-  pub few : length job.tables ≤ 8
+  pub at_most_8_tables : length job.tables ≤ 8
   pub variables : AllByRecursion HasVariables job.tables
   pub outputs : length job.outputs ≡ length job.tables
   pub priors : AllByRecursion (λ prior. prior.table < length job.tables) job.priors

@@ -75,7 +75,7 @@ from-memory seed records outcome after tray (Ok demo) calm still went is = recor
   answer = report_of outcome;
   after = after;
   tray = tray;
-  run = release-run job_name outcome _ after empty_tray tray went.told went.left went.some went.released went.cause went.come;
+  run = release-run job_name outcome _ after empty_tray tray went.told went.left went.two_to_nine_puts went.released went.cause went.come;
   says = says seed records outcome after tray demo calm still (went.told (demo_files seed records) refl) went.cause (went.released (demo_files seed records) refl) (sym is);
 }
 from-memory seed records outcome after tray (Err none) calm still went is = tt

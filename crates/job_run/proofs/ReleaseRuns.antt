@@ -52,5 +52,5 @@ release-run name r old new before after told left some released cause come = rec
   released = λ fs held s is. report-released r s (λ t. Releases fs name t before after) is (λ release ok. releases-by fs name release before after (subst (λ (o : Result Release Stop). IfOk o (λ one. HasReleased fs name one before after)) ok (released fs held)));
   complete = λ fs held no_read no_write. settles (report_of r) (settled_of purpose.Release fs name) (told fs held) (λ f is. no_read (cause.read_fault f is)) (λ f is. no_write (cause.write_fault f is));
   came_to = come;
-  some = λ s is. made-puts r s _ some is;
+  two_to_nine_puts = λ s is. made-puts r s _ some is;
 }

@@ -114,6 +114,6 @@ each-narrow (table ∷ tables) (line ∷ lines) same all =
 pub narrow : (described : Described) (book : BookView) → IsSound described → IsReadyFor described book → AreNarrow book.tables
 narrow described book sound ready =
     subst AreNarrow (sym ready.tables) (record {
-      few = (let many = as-many described.bound.tables described.job.tables sound.bound.tables in omega (arith, many, sound.job.few));
+      at_most_8_tables = (let many = as-many described.bound.tables described.job.tables sound.bound.tables in omega (arith, many, sound.job.at_most_8_tables));
       each = by-place _ described.bound.tables (each-narrow described.bound.tables described.job.tables sound.bound.tables sound.job.variables);
     })

@@ -28,5 +28,5 @@ pub record IsReleaseRunOf (name : List ℕ) (answer : Report) (old new : ShelfSt
   pub complete : WhereTold old.files (λ fs. ¬ HasRisen old.faults new.faults → ¬ HasRisen before.faults after.faults
       → AnswersExactly answer (settled_of purpose.Release fs name))
   pub came_to : WhereTold old.files (λ fs. HasComeTo (ComesTo purpose.Release fs name) answer fs new)
-  pub some : (summary : Summary) → answer ≡ report.Released summary
+  pub two_to_nine_puts : (summary : Summary) → answer ≡ report.Released summary
       → (count : ℕ) × (2 ≤ count) × (count ≤ 9) × (after.puts ≡ count_after before.puts count)

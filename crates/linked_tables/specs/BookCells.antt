@@ -63,7 +63,7 @@ pub record IsTable (variables : ℕ) (table : List ℕ) : Type 0 where
 
 -- what holds of every book
 pub record IsBook (book : BookView) : Type 0 where
-  pub few : length book.trees ≤ 8
+  pub at_most_8_trees : length book.trees ≤ 8
   pub trees : All IsCodeTree book.trees
   pub tables : All (IsTable (length book.trees)) book.tables
   pub one_each : length book.marks ≡ length (cells book)

@@ -23,7 +23,7 @@ pub record IsNumbered (trees : List Tree) (tables : List (List ℕ)) (names : Li
 -- the invariant of a book
 pub record IsKept (trees : List Tree) (tables : List (List ℕ)) (names : List Name) (starts : List ℕ)
     (marks : List Mark) : Type 0 where
-  pub few : length trees ≤ 8
+  pub at_most_8_trees : length trees ≤ 8
   pub each : All IsCodeTree trees
   pub countable : length tables < 2 ^ 32
   pub numbered : IsNumbered trees tables names starts

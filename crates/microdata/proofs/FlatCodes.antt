@@ -122,7 +122,7 @@ grown-sound codes total old code new sound leaf room =
       among = among-insert codes old.nodes old.codes code sound.among;
       back = back-insert codes old.nodes old.codes code sound.back;
       count = omega (arith, sound.count, length-insert old.nodes code, more);
-      few = omega (arith, not_at _ _ room, more);
+      at_most_5000_codes = omega (arith, not_at _ _ room, more);
     }
 
 pub flat-sound : (codes : List (List ℕ)) (total : List ℕ) (old new : Seen) (code : List ℕ) → list_any (bytes_eq code) old.codes ≡ false → AreFlatCodes codes total old

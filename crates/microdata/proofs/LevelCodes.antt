@@ -60,11 +60,11 @@ grown-sound widths total old code new sound plain short apart room =
     let bounds = boundaries 0 widths in
     record {
       nodes = ap (λ nodes. with_prefixes bounds nodes code) sound.nodes ∙ sym (gathered-more bounds old.codes [] code);
-      fine = fine-more total bounds 1 [] [] old.codes code sound.fine
+      no_level_fault = fine-more total bounds 1 [] [] old.codes code sound.no_level_fault
           (λ m. no-fault total bounds old.codes (codes_with_prefixes bounds [] old.codes) code m plain apart new (subst (λ nodes. nat_lt 5000 (length (with_prefixes bounds nodes code)) ≡ false) sound.nodes room));
       short = All-append (λ code. length code ≤ sum widths) old.codes (code ∷ []) sound.short (All-cons (λ code. length code ≤ sum widths) code [] (not_below _ _ short) (All-nil (λ code. length code ≤ sum widths)));
       among = among-more bounds old.codes old.nodes code sound.among;
-      few = not_below 5000 _ room;
+      at_most_5000_nodes = not_below 5000 _ room;
     }
 
 pub level-sound : (widths total : List ℕ) (old new : Seen) (code : List ℕ) → list_any (bytes_eq code) old.codes ≡ false → AreLevelCodes widths total old

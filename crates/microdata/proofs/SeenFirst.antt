@@ -16,13 +16,13 @@ use Rattle.microdata.proofs.FlatCodes.{none-before}
 
 pub first-sound : (s : Source) → IsSource s → AreSeen s (seen_first s)
 first-sound (source.Listed tree) h = refl
-first-sound (source.Levels widths total) h = record { nodes = refl; fine = refl; short = All-nil (λ code. length code ≤ sum widths); among = λ code inside. inside; few = omega arith }
+first-sound (source.Levels widths total) h = record { nodes = refl; no_level_fault = refl; short = All-nil (λ code. length code ≤ sum widths); among = λ code inside. inside; at_most_5000_nodes = omega arith }
 first-sound (source.Flat codes total) h = record {
   distinct = subst (λ all. IsDistinct bytes_eq (total ∷ all)) (sym (append-nil codes)) h.0;
   among = λ code inside. subst (IsIn code) (append-nil codes) inside;
   back = λ code inside. subst (IsIn code) (sym (append-nil codes)) inside;
   count = omega arith;
-  few = h.1;
+  at_most_5000_codes = h.1;
 }
 
 abbrev pub first_of : Field → Variable

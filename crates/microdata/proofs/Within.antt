@@ -103,6 +103,6 @@ within_limits layout bytes records h =
     let rows = rows-in (scale_of layout.weight) a.0.variables a.0.rows b.0 good.rows b.1 in
     subst (AreWithinLimits layout) (value_of_ok _ records b.2) (record {
       trees = as-many-trees a.0.variables ∙ ap length good.fields;
-      few = omega (arith, rows.1, good.few, good.records);
+      at_most_1000000 = omega (arith, rows.1, good.few, good.records);
       rows = rows.0;
     })

@@ -18,10 +18,10 @@ use Rattle.microdata.specs.declared.taking.Seen.{Seen}
 -- the codes by levels make a tree, with their prefixes in order
 pub record AreLevelCodes (widths total : List ℕ) (seen : Seen) : Type 0 where
   pub nodes : seen.nodes ≡ codes_with_prefixes (boundaries 0 widths) [] seen.codes
-  pub fine : first_level_fault total (boundaries 0 widths) 1 [] [] seen.codes ≡ None
+  pub no_level_fault : first_level_fault total (boundaries 0 widths) 1 [] [] seen.codes ≡ None
   pub short : All (λ code. length code ≤ sum widths) seen.codes
   pub among : AreAmong seen.codes seen.nodes
-  pub few : length seen.nodes ≤ 5000
+  pub at_most_5000_nodes : length seen.nodes ≤ 5000
 
 -- the listed codes and the further ones in order make a tree
 pub record AreFlatCodes (codes : List (List ℕ)) (total : List ℕ) (seen : Seen) : Type 0 where
@@ -29,7 +29,7 @@ pub record AreFlatCodes (codes : List (List ℕ)) (total : List ℕ) (seen : See
   pub among : AreAmong (codes ++ seen.nodes) seen.codes
   pub back : AreAmong seen.codes (codes ++ seen.nodes)
   pub count : length codes + length seen.nodes ≤ length seen.codes
-  pub few : length seen.codes ≤ 5000
+  pub at_most_5000_codes : length seen.codes ≤ 5000
 
 -- the codes so far of a variable
 abbrev pub AreSeen : Source → Seen → Type 0
@@ -46,7 +46,7 @@ pub record IsVariable (needed : ℕ) (variable : Variable) : Type 0 where
 pub record IsSound (measures : Measures) (so_far : SoFar) : Type 0 where
   pub numbers : AreMeasures measures
   pub variables : All (IsVariable measures.needed) so_far.variables
-  pub few : length so_far.variables ≤ 8
+  pub at_most_8_variables : length so_far.variables ≤ 8
   pub records : so_far.number ≤ 1000000
   pub skipped : so_far.skipped ≤ so_far.number
 

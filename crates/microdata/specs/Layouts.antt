@@ -12,7 +12,7 @@ use Rattle.microdata.specs.declared.layout.Source.TheVariants as source
 -- a field begins at a position from 1, has at least one byte, and ends where records have bytes
 pub record IsWithin (needed first width : ℕ) : Type 0 where
   pub from_one : 1 ≤ first
-  pub some : 1 ≤ width
+  pub width_from_one : 1 ≤ width
   pub inside : first + width ≤ needed + 1
 
 -- levels have 1 to 9 widths above 0; listed codes are distinct, at most 5,000, and none is the total
@@ -48,6 +48,6 @@ measures_of layout = record { response = layout.response; weight = layout.weight
 
 -- a layout that records can be read by
 pub record IsLayout (layout : Layout) : Type 0 where
-  pub few : length layout.spanning ≤ 8
+  pub at_most_8_spanning : length layout.spanning ≤ 8
   pub measures : AreMeasures (measures_of layout)
   pub fields : All (IsField layout.needed) layout.spanning

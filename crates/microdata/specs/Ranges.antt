@@ -27,7 +27,7 @@ pub record IsRow (scale : ℕ) (trees : List Tree) (row : Row) : Type 0 where
 -- at most a million records, each within its limits, and a tree for each spanning variable
 pub record AreWithinLimits (layout : Layout) (records : Records) : Type 0 where
   pub trees : length records.trees ≡ length layout.spanning
-  pub few : length records.rows ≤ 1000000
+  pub at_most_1000000 : length records.rows ≤ 1000000
   pub rows : AllByRecursion (IsRow (scale_of layout.weight) records.trees) records.rows
 
 -- whatever is read is within its limits

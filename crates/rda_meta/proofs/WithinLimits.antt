@@ -194,10 +194,10 @@ levels-fit width ws a h =
 
 pub record IsEntry (e : Entry) : Type 0 where
   pub first_from_one : 0 < e.first
-  pub some_width : 0 < e.width
+  pub width_from_one : 0 < e.width
   pub narrow : e.width ≤ 255
   pub inside : e.first + e.width ≤ 1001
-  pub few_missing : length e.missing ≤ 2
+  pub at_most_2_missing : length e.missing ≤ 2
   pub each : AllByRecursion (IsSaid e.width) e.said
 
 number-at-within : (most : ℕ) (ws : List (List ℕ)) (n : ℕ × List (List ℕ)) → number_at most ws ≡ Ok n → (0 < n.0) × (n.0 ≤ most)
@@ -245,7 +245,7 @@ fresh-at line es ws e h =
     let short : first.0.0 + width.0.0 - 1 ≤ 1000 = grind (arith, nat_tests) in
     let free : length es < 64 = grind (arith, nat_tests) in
     subst (IsFresh es) made (record {
-      entry = record { first_from_one = some.0; some_width = wide.0; narrow = wide.1; inside = omega (arith, short); few_missing = few-of width.0.1 missing.0 missing.1; each = tt };
+      entry = record { first_from_one = some.0; width_from_one = wide.0; narrow = wide.1; inside = omega (arith, short); at_most_2_missing = few-of width.0.1 missing.0 missing.1; each = tt };
       none = refl;
       new = refuse-ok Twice (is_named name.0.0 es) fresh.0 fresh.1;
       room = free;
@@ -297,7 +297,7 @@ all-more P (y ∷ ys) x all h = (all.0, all-more P ys x all.1 h)
 entries-take : (es : List Entry) (s : Setting) → LastTakes s es → AllByRecursion IsEntry es → AllByRecursion IsEntry (with_setting s es)
 entries-take [] s last all = tt
 entries-take (e ∷ []) s last all =
-    (record { first_from_one = all.0.first_from_one; some_width = all.0.some_width; narrow = all.0.narrow; inside = all.0.inside; few_missing = all.0.few_missing; each = all-more (IsSaid e.width) e.said s all.0.each last.0 }, tt)
+    (record { first_from_one = all.0.first_from_one; width_from_one = all.0.width_from_one; narrow = all.0.narrow; inside = all.0.inside; at_most_2_missing = all.0.at_most_2_missing; each = all-more (IsSaid e.width) e.said s all.0.each last.0 }, tt)
 entries-take (e ∷ next ∷ es) s last all = (all.0, entries-take (next ∷ es) s last.0 all.1)
 
 names-stay : (es : List Entry) (s : Setting) → map (λ e. e.name) (with_setting s es) ≡ map (λ e. e.name) es
@@ -497,15 +497,15 @@ is-variable : (e : Entry) → IsEntry e → is_clashing e.said ≡ false → IsV
 unfolding variable_of
 is-variable e entry fine = record {
   first_from_one = entry.first_from_one;
-  some_width = entry.some_width;
+  width_from_one = entry.width_from_one;
   narrow = entry.narrow;
   inside = entry.inside;
-  few_missing = entry.few_missing;
-  fine = few-decimals (argument_said Decimals e.said) (said-fits e.width Decimals FewDecimals (decimals-fit e.width) e.said entry.each);
-  weight_fine = weight-clash (has_keyword Weight e.said) (has_keyword HierLevels e.said && has_keyword HierCodeList e.said) (has_keyword Hierarchical e.said && not (has_tree e.said)) (is_numeric e.said && has_tree e.said) (decimals_of e.said) fine;
+  at_most_2_missing = entry.at_most_2_missing;
+  at_most_9_decimals = few-decimals (argument_said Decimals e.said) (said-fits e.width Decimals FewDecimals (decimals-fit e.width) e.said entry.each);
+  weight_at_most_4_decimals = weight-clash (has_keyword Weight e.said) (has_keyword HierLevels e.said && has_keyword HierCodeList e.said) (has_keyword Hierarchical e.said && not (has_tree e.said)) (is_numeric e.said && has_tree e.said) (decimals_of e.said) fine;
   weight_numeric = or-true (has_keyword Numeric e.said) (has_keyword Weight e.said);
   list = file-list (argument_said CodeList e.said) (said-fits e.width CodeList IsFile (list-fits e.width) e.said entry.each);
-  shaped = shaped-from e.width (argument_said HierLevels e.said) (argument_said HierCodeList e.said) (lead_of e.said) entry.some_width
+  shaped = shaped-from e.width (argument_said HierLevels e.said) (argument_said HierCodeList e.said) (lead_of e.said) entry.width_from_one
       (said-fits e.width HierLevels (AreLevels e.width) (levels-fit e.width) e.said entry.each)
       (said-fits e.width HierCodeList IsFile (hierarchy-fits e.width) e.said entry.each)
       (lead-is (argument_said HierLeadString e.said) (said-fits e.width HierLeadString IsLeadWord (lead-fits e.width) e.said entry.each));
@@ -541,7 +541,7 @@ within_limits bytes meta h =
     let kept = lines-keep 0 no_lines all.0 (lines bytes) all.1 (record { each = tt; few = omega arith; distinct = none-twice; one = omega arith }) in
     let es = all.0.entries in
     subst IsMeta made (record {
-      few = rw length-map kept.few;
+      at_most_64_variables = rw length-map kept.few;
       distinct = subst (λ (names : List (List ℕ)). IsDistinct bytes_eq names) (sym (variable-names es)) kept.distinct;
       one_weight = omega (arith, variable-weights es, kept.one);
       each = each-variable es kept.each (none-clash es fine.0 fine.1);

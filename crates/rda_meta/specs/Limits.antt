@@ -21,12 +21,12 @@ IsShaped width (shape.Listed file lead) = (is_file_name file ≡ true) × (is_le
 -- a variable within its limits: its field ends at position 1,000 at the latest
 pub record IsVariable (v : Variable) : Type 0 where
   pub first_from_one : 0 < v.first
-  pub some_width : 0 < v.width
+  pub width_from_one : 0 < v.width
   pub narrow : v.width ≤ 255
   pub inside : v.first + v.width ≤ 1001
-  pub few_missing : length v.missing ≤ 2
-  pub fine : v.decimals ≤ 9
-  pub weight_fine : v.weight ≡ true → v.decimals ≤ 4
+  pub at_most_2_missing : length v.missing ≤ 2
+  pub at_most_9_decimals : v.decimals ≤ 9
+  pub weight_at_most_4_decimals : v.weight ≡ true → v.decimals ≤ 4
   pub weight_numeric : v.weight ≡ true → v.numeric ≡ true
   pub list : ForSome v.codes (λ file. is_file_name file ≡ true)
   pub shaped : IsShaped v.width v.shape
@@ -37,7 +37,7 @@ weights variables = filter (λ v. v.weight) variables
 
 -- metadata within their limits: at most 64 variables, each of a name of its own, and at most one of them a weight
 pub record IsMeta (meta : Meta) : Type 0 where
-  pub few : length meta.variables ≤ 64
+  pub at_most_64_variables : length meta.variables ≤ 64
   pub distinct : IsDistinct bytes_eq (map (λ v. v.name) meta.variables)
   pub one_weight : length (weights meta.variables) ≤ 1
   pub each : (place : ℕ) (v : Variable) → slice_get meta.variables place ≡ Some v → IsVariable v

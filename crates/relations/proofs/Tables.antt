@@ -33,7 +33,7 @@ of-table trees table name good sound h =
   where
     inside : (variable : ℕ) → variable < length trees → (b : Bool) → (if b then nat_lt (slice_index name variable) (length (slice_index_or trees variable [])) else slice_index name variable == 0) ≡ true → slice_index name variable < length (slice_index_or trees variable [])
     inside variable below true h = grind (arith, nat_tests)
-    inside variable below false h = let some = (good variable [] below).some in let zero : slice_index name variable ≡ 0 = (Decides-eqb (slice_index name variable) 0).0 h in omega (arith, some, zero)
+    inside variable below false h = let some = (good variable [] below).has_total in let zero : slice_index name variable ≡ 0 = (Decides-eqb (slice_index name variable) 0).0 h in omega (arith, some, zero)
 
 of-tables : (trees : List Tree) (tables : List (List ℕ)) (name : Name) → All IsCodeTree trees → ((t : ℕ) (table : List ℕ) → slice_get tables t ≡ Some table → IsTable (length trees) table)
     → is_named (flat_map (named_by trees) tables) name ≡ true → IsOfTrees trees name

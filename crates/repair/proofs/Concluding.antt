@@ -76,7 +76,7 @@ try_stop_by c prices planned flags repairs place limit fault shown is stop =
       are_shown = own.are_shown;
       place = own.has_fault.0;
       question = own.has_fault.1;
-      onward = λ none. absurd (own.some none);
+      onward = λ none. absurd (own.shows_a_cell none);
     }
 
 pub stops_trying : (c : Case) (prices : List ℕ) (planned flags : List Bool) (repairs : List Refuted) (place : ℕ) (limit : ℕ) (fault : AskFault) (shown : List ℕ) → IsRepaired c prices planned flags repairs place → TriesStopFor c flags limit fault shown → StopsFor c prices planned limit fault (list_with_fault fault repairs) (list_with_fault fault shown)

@@ -318,7 +318,7 @@ try_stop c larger n flags worlds needs shown limit fault one_each inside hidden 
             let here : 0 + cell ≡ cell = omega arith in
             subst Needed here (each_other Needed flags 0 (take n c.cells) others cell free_cell.cell (get_taken c.cells n cell free_cell.cell less free_cell.found) (subst (λ m. is_hidden flags m ≡ true) (sym here) first) (ap is_primary free_cell.is_kind));
       };
-      some = λ none. none_is_more shown n (sym none);
+      shows_a_cell = λ none. none_is_more shown n (sym none);
       has_fault = subst (λ (f : List Bool). HasFault c f limit fault) (sym set_is) has;
     }
 

@@ -89,7 +89,7 @@ HasTried task larger n progress tried =
 -- a question has a fault while a cell, the last of those shown, is being tried
 pub record IsTryStop (c : Case) (larger : List Bool) (limit : ℕ) (fault : AskFault) (shown : List ℕ) : Type 0 where
   pub are_shown : AreShown c larger shown
-  pub some : shown ≢ []
+  pub shows_a_cell : shown ≢ []
   pub has_fault : HasFault c (show_all larger shown) limit fault
 
 -- the same, but nothing under want of memory

@@ -35,7 +35,7 @@ signed_none false n none = omega (arith, ints, none)
 unnamed : (relations : List Relation) (signs : List Bool) (number cell : ℕ) (named : List ℕ) → IsNamingOf relations cell named → number < length relations → IsNotIn named number → signed_count relations signs number cell ≡ pos 0
 unnamed relations signs number cell named naming below lacks =
     let one = item_there relations number below in
-    count_is relations signs number cell one.0 one.1 ∙ signed_none (get_or signs number true) (count_of one.0 cell) (naming.whole number one.0 one.1 lacks)
+    count_is relations signs number cell one.0 one.1 ∙ signed_none (get_or signs number true) (count_of one.0 cell) (naming.each_counting number one.0 one.1 lacks)
 
 -- an arc as it is joined to the first of the relations that name a cell
 pub record IsJoined (relations : List Relation) (signs : List Bool) (cell : ℕ) (named : List ℕ) (arc : Arc) (passed : ℕ) : Type 0 where

@@ -79,7 +79,7 @@ never_stuck truths base arcs touching numbers step network each balanced are mov
     others other inside apart_from =
         elim (untouched_brings (arc_at arcs other) step.end) as (λ _. (brings_to (arc_at arcs other) step.end ≡ pos 0) ⊎ IsMultiple base (number_at numbers other)) [
           | inl touches ↦
-              elim (All-contains (λ (cell : ℕ). (cell ≡ step.cell) ⊎ (is_multiple base (number_at numbers cell) ≡ true)) (cells_at touching step.end) other all (network.touched.whole step.end other inside touches)) as (λ _. (brings_to (arc_at arcs other) step.end ≡ pos 0) ⊎ IsMultiple base (number_at numbers other)) [
+              elim (All-contains (λ (cell : ℕ). (cell ≡ step.cell) ⊎ (is_multiple base (number_at numbers cell) ≡ true)) (cells_at touching step.end) other all (network.touched.each_touching step.end other inside touches)) as (λ _. (brings_to (arc_at arcs other) step.end ≡ pos 0) ⊎ IsMultiple base (number_at numbers other)) [
                 | inl same ↦ absurd (apart_from same)
                 | inr is ↦ inr (whole_multiple base (number_at numbers other) is)
               ]
@@ -111,7 +111,7 @@ pub record IsReady (base : ℤ) (numbers : List ℤ) (steps : List Step) : Type 
 pub round_ready : (base : ℤ) (arcs : List Arc) (touching : List (List ℕ)) (numbers : List ℤ) (steps circuit : List Step) (place : ℕ) → IsNetwork arcs touching → length arcs ≡ length numbers → GoesRound arcs base numbers steps place → circuit ≡ drop place steps → IsReady base numbers circuit
 round_ready base arcs touching numbers steps circuit place network each round is =
     let few = steps_few (length numbers) (drop place steps) round.moved.once (All-weaker (IsMove base numbers) (λ (s : Step). s.cell < length numbers) (λ s one. one.inside) (drop place steps) round.moved.each) in
-    let most = network.few in
+    let most = network.fewer_than_2_32 in
     let inside = round.place_inside in
     subst (λ (ss : List Step). IsReady base numbers ss) (sym is) (record { moves = round.moved; some = omega (arith, length-drop place steps, inside); few = omega (arith, few, each, most) })
 

@@ -319,7 +319,7 @@ ready_on before after naming next cell item numbers forced is inside cell_is bel
           hold at_place.0 r at_place.1.0 (ap (λ (j : ℕ). slice_get after.system.relations j) at_place.1.1 ∙ there) (subst (λ (fs : List Fix). FixesNone r fs) (sym more) both.1)
       | inr lacks ↦
           let fix = found_at before.fixes next inside in
-          let none : count_of r fix.0.0 ≡ pos 0 = ap (λ (j : ℕ). count_of r j) (sym (cell_is fix.0 fix.1)) ∙ listed.whole n r found lacks in
+          let none : count_of r fix.0.0 ≡ pos 0 = ap (λ (j : ℕ). count_of r j) (sym (cell_is fix.0 fix.1)) ∙ listed.each_counting n r found lacks in
           let here : drop next before.fixes ≡ fix.0 ∷ drop (next + 1) before.fixes = drop-cons before.fixes next fix.0 inside ∙ ap (λ (f : Fix). f ∷ drop (suc next) before.fixes) (get_or_from_slice_get before.fixes next fix.0 fix.0 fix.1) ∙ ap (λ (k : ℕ). fix.0 ∷ drop k before.fixes) (sym (add-one next)) in
           holds_on before after n r forced found both.1 (ready n r found (subst (λ (fs : List Fix). FixesNone r fs) (sym here) (All-cons (λ (f : Fix). count_of r f.0 ≡ pos 0) fix.0 (drop (next + 1) before.fixes) none both.0)))
     ]

@@ -99,7 +99,7 @@ all_noted system relations naming number same past inside each noted whole =
       each = each;
       listed = λ cell below. record {
         ascends = ascends_below number (length system.relations) (get_or naming cell []) (omega (arith, long)) (noted cell);
-        whole = λ n r there lacks.
+        each_counting = λ n r there lacks.
             let found : slice_get relations n ≡ Some r = ap (λ (rs : List Relation). slice_get rs n) same ∙ there in
             whole cell n r (omega (arith, slice_get_within relations n r found)) found lacks;
       };

@@ -55,7 +55,7 @@ open_whole_rounds system truths base list proper whole is =
     let at_values : list_all (spans_none (number_at values) (number_at values)) system.relations ≡ true = subst (λ (upper : List ℤ). list_all (spans_none (number_at values) (number_at upper)) system.relations ≡ true) one is in
     let each : All (λ r. spans_none (number_at values) (number_at values) r ≡ true) system.relations = AllPass-from_list_all (spans_none (number_at values) (number_at values)) system.relations at_values in
     record {
-      whole = whole;
+      one_for_each = whole;
       rounding = record {
         each = length-by_choices false base truths list ∙ proper.each;
         adjacent = λ cell below. by_choices_adjacent false base truths list proper.from_one proper.within cell (omega (arith, proper.each));
@@ -73,4 +73,4 @@ none_left system truths base proper none values rounding =
     let hold : HoldOn (number_at (by_choices false base truths list)) system.relations = subst (λ (numbers : List ℤ). HoldOn (number_at numbers) system.relations) (sym made) rounding.hold in
     each_reached P (is_open system truths base) (unrounded_count truths base) [] list found.1.whole
     (λ first last is. extended_is_open system truths base first last proper.from_one (subst (λ (whole : Choices). HoldOn (number_at (by_choices false base truths whole)) system.relations) is hold))
-    none (record { whole = found.1.whole; rounding = subst (λ (numbers : List ℤ). IsRounding system truths base numbers) (sym made) rounding })
+    none (record { one_for_each = found.1.whole; rounding = subst (λ (numbers : List ℤ). IsRounding system truths base numbers) (sym made) rounding })

@@ -93,7 +93,7 @@ partial_on b mid after naming cells steps steps' viable viable' up mark cell kep
       proper = subst (λ (a : FixedCells). IsProper a.system a.truths a.base) (sym grown) kept.proper;
       listed = subst (λ (a : FixedCells). IsNaming a.system naming) (sym grown) kept.listed;
       unrounded = kept.unrounded ∙ ap (λ (a : FixedCells). unrounded_cells a.base 0 a.truths) (sym grown);
-      few = omega (arith, ap (λ (ss : List Step). length ss) longer, length-append steps (step ∷ []), below);
+      at_most_cells = omega (arith, ap (λ (ss : List Step). length ss) longer, length-append steps (step ∷ []), below);
       ascending = λ one other s t less first second.
           elim (find other t second) as (λ _. s.1 ≤ t.1) [
             | inl before ↦ elim (find one s first) as (λ _. s.1 ≤ t.1) [ inl earlier ↦ kept.ascending one other s t less earlier.1 before.1 | inr last ↦ absurd (omega (arith, last.0, before.0)) ]
@@ -173,7 +173,7 @@ partial_back b after naming cells steps rest step viable kept longer made =
       proper = subst (λ (a : FixedCells). IsProper a.system a.truths a.base) (sym made) kept.proper;
       listed = subst (λ (a : FixedCells). IsNaming a.system naming) (sym made) kept.listed;
       unrounded = kept.unrounded ∙ ap (λ (a : FixedCells). unrounded_cells a.base 0 a.truths) (sym made);
-      few = omega (arith, kept.few, ap (λ (ss : List Step). length ss) longer, length-append rest (step ∷ []));
+      at_most_cells = omega (arith, kept.at_most_cells, ap (λ (ss : List Step). length ss) longer, length-append rest (step ∷ []));
       ascending = λ one other s t less first second. kept.ascending one other s t less (there_before one s first) (there_before other t second);
       marks = λ place one found. omega (arith, long, kept.ascending place (length rest) one step (slice_get_within rest place one found) (there_before place one found) last);
       earlier = λ place one found.
@@ -203,7 +203,7 @@ partial_none b naming cells steps viable proper none is unrounded no_steps is_vi
       proper = proper;
       listed = is;
       unrounded = unrounded;
-      few = omega (arith, empty);
+      at_most_cells = omega (arith, empty);
       ascending = λ one other s t less first second. absurd (omega (arith, slice_get_within steps one s first, empty));
       marks = λ place step there. absurd (omega (arith, slice_get_within steps place step there, empty));
       earlier = λ place step there. absurd (omega (arith, slice_get_within steps place step there, empty));

@@ -30,7 +30,7 @@ found_values first b naming cells steps viable kept same is whole =
 
 -- a list that isn't whole, or isn't viable, is no rounding
 pub not_whole : (b : FixedCells) (naming : List (List ℕ)) (cells : List ℕ) (steps : List Step) (viable : Bool) → IsPartial b naming cells steps viable → (length steps ≡ length cells → ⊥) → IsRoundingList b.system b.truths b.base (choices_of steps) → ⊥
-not_whole b naming cells steps viable kept partly rounds = partly (omega (arith, rounds.whole, length-choices_of steps, ap (λ (ns : List ℕ). length ns) kept.unrounded))
+not_whole b naming cells steps viable kept partly rounds = partly (omega (arith, rounds.one_for_each, length-choices_of steps, ap (λ (ns : List ℕ). length ns) kept.unrounded))
 
 pub not_viable : (b : FixedCells) (naming : List (List ℕ)) (cells : List ℕ) (steps : List Step) (viable : Bool) → IsPartial b naming cells steps viable → viable ≡ false → IsRoundingList b.system b.truths b.base (choices_of steps) → ⊥
 not_viable b naming cells steps viable kept is rounds = none_extends b (choices_of steps) kept.left (kept.none is) [] (subst (λ (list : Choices). IsRoundingList b.system b.truths b.base list) (sym (append-nil (choices_of steps))) rounds)

@@ -18,7 +18,7 @@ nothing_seen system truths base =
     let whole : cells ≡ cells - 0 = omega arith in
     record {
       front = [];
-      whole = ap (λ (k : ℕ). lists_from (is_open system truths base) k []) whole ∙ sym (append-nil (lists_from (is_open system truths base) (cells - 0) []));
+      front_and_rest = ap (λ (k : ℕ). lists_from (is_open system truths base) k []) whole ∙ sym (append-nil (lists_from (is_open system truths base) (cells - 0) []));
       many = omega arith;
       none = All-nil (λ list. IsRoundingList system truths base list → ⊥);
     }
@@ -31,7 +31,7 @@ all_both {X} P (x ∷ xs) ys first second = All-cons P x (xs ++ ys) (All-head P 
 pub pass : (system : System) (truths : List ℤ) (base : ℤ) (seen more : ℕ) (part rest lists : List Choices) → HasSeen system truths base seen lists → lists ≡ part ++ rest → All (λ list. IsRoundingList system truths base list → ⊥) part → more ≤ length part → HasSeen system truths base (seen + more) rest
 pass system truths base seen more part rest lists has is none few = record {
   front = has.front ++ part;
-  whole = has.whole ∙ ap (λ (xs : List Choices). has.front ++ xs) is ∙ sym (append_assoc has.front part rest);
+  front_and_rest = has.front_and_rest ∙ ap (λ (xs : List Choices). has.front ++ xs) is ∙ sym (append_assoc has.front part rest);
   many = omega (arith, has.many, few, length-append has.front part);
   none = all_both (λ list. IsRoundingList system truths base list → ⊥) has.front part has.none none;
 }
@@ -45,7 +45,7 @@ all_taken {X} P (suc n) (x ∷ xs) all = All-cons P x (take n xs) (All-head P x 
 pub seen_stops : (system : System) (truths : List ℤ) (base : ℤ) (seen : ℕ) (lists : List Choices) → HasSeen system truths base seen lists → Stops system truths base seen
 seen_stops system truths base seen lists has =
     let P : Choices → Type 0 = λ list. IsRoundingList system truths base list → ⊥ in
-    let all : lists_of system truths base ≡ has.front ++ lists = has.whole in
+    let all : lists_of system truths base ≡ has.front ++ lists = has.front_and_rest in
     record {
       many = omega (arith, ap (λ (xs : List Choices). length xs) all, length-append has.front lists, has.many);
       none = subst (λ (xs : List Choices). All P xs) (sym (ap (λ (xs : List Choices). take seen xs) all ∙ take-append-le seen has.front lists has.many)) (all_taken P seen has.front has.none);
@@ -83,7 +83,7 @@ plus_none system truths base seen lists has = let same : seen + 0 ≡ seen = ome
 pub on_down : (system : System) (truths : List ℤ) (base : ℤ) (seen : ℕ) (list : Choices) → is_open system truths base list ≡ true → length list < unrounded_count truths base → HasSeen system truths base seen (ahead_in system truths base list) → HasSeen system truths base (seen + 1) (ahead_in system truths base (list ++ false ∷ []))
 on_down system truths base seen list opens short has =
     pass system truths base seen 1 (list ∷ []) (ahead_in system truths base (list ++ false ∷ [])) (ahead_in system truths base list) has (ahead_open (is_open system truths base) (unrounded_count truths base) list short opens)
-    (All-cons (λ one. IsRoundingList system truths base one → ⊥) list [] (λ rounds. omega (arith, rounds.whole, short)) (All-nil (λ one. IsRoundingList system truths base one → ⊥))) (omega arith)
+    (All-cons (λ one. IsRoundingList system truths base one → ⊥) list [] (λ rounds. omega (arith, rounds.one_for_each, short)) (All-nil (λ one. IsRoundingList system truths base one → ⊥))) (omega arith)
 
 -- or to the one with up, where no rounding extends the other
 pub on_up : (system : System) (truths : List ℤ) (base : ℤ) (seen : ℕ) (list : Choices) → is_open system truths base list ≡ true → length list < unrounded_count truths base → NoneExtends system truths base (list ++ false ∷ []) → HasSeen system truths base seen (ahead_in system truths base list) → HasSeen system truths base (seen + 1) (ahead_in system truths base (list ++ true ∷ []))
@@ -124,7 +124,7 @@ looked_stops system truths base seen list not has =
 -- where nothing is ahead, there is no rounding
 pub none_ahead : (system : System) (truths : List ℤ) (base : ℤ) (seen : ℕ) → IsProper system truths base → HasSeen system truths base seen [] → (values : List ℤ) → IsRounding system truths base values → ⊥
 none_ahead system truths base seen proper has values rounding =
-    none_left system truths base proper (subst (λ (lists : List Choices). All (λ list. IsRoundingList system truths base list → ⊥) lists) (sym (has.whole ∙ append-nil has.front)) has.none) values rounding
+    none_left system truths base proper (subst (λ (lists : List Choices). All (λ list. IsRoundingList system truths base list → ⊥) lists) (sym (has.front_and_rest ∙ append-nil has.front)) has.none) values rounding
 
 -- a search has fewer lists than twice 2 to the number of its cells
 pub stops_below : (system : System) (truths : List ℤ) (base : ℤ) (nodes : ℕ) → 2 ^ (unrounded_count truths base + 1) ≤ nodes → Stops system truths base nodes → ⊥

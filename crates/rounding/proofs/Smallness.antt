@@ -37,7 +37,7 @@ choices_near side base truths choices positive most all c =
 extreme_small : (one other t : Numbers) (r : Relation) → ((c : ℕ) → IsNear (10 ^ 22) (one c) (t c)) → ((c : ℕ) → IsNear (10 ^ 22) (other c) (t c)) → form t r ≡ pos 0 → (neg_ℤ (pos (2 ^ 120)) ≤ℤ extreme_of_form one other r) × (extreme_of_form one other r ≤ℤ pos (2 ^ 120))
 extreme_small one other t r first second holds =
     let near = form_near (10 ^ 22) (extreme_numbers r one other) t r (λ c. mixed_near (10 ^ 22) r one other t c (first c) (second c)) in
-    let few : 1 + length r.parts ≤ 2 ^ 32 = omega (arith, r.few) in
+    let few : 1 + length r.parts ≤ 2 ^ 32 = omega (arith, r.fewer_than_2_32) in
     let most : (1 + length r.parts) * 10 ^ 22 ≤ 2 ^ 32 * 10 ^ 22 = mul-le-mul_right (10 ^ 22) few in
     (omega (arith, ints, near.low, holds, most), omega (arith, ints, near.high, holds, most))
 

@@ -114,7 +114,7 @@ all_moved relations named old now cell one other k past inside naming are n r th
           let place : get_or named found.0 0 ≡ n = found.1.1 in
           subst (λ (i : ℕ). number_at now i ≡ number_at old i +ℤ change r cell one other) place (are.moved found.0 r (omega (arith, found.1.0)) (ap (λ (i : ℕ). slice_get relations i) place ∙ there))
       | inr lacks ↦
-          let none = no_change r cell one other (naming.whole n r there lacks) in
+          let none = no_change r cell one other (naming.each_counting n r there lacks) in
           are.rest n (λ j below. lacks j (omega arith)) ∙ omega (arith, ints, none)
     ]
 

@@ -58,7 +58,7 @@ added_ascends point cell before after other added sorted most = subst IsNonDecre
 
 pub none_touching : (arcs : List Arc) (touching : List (List ℕ)) → ((point : ℕ) → cells_at touching point ≡ []) → AreTouching arcs 0 touching
 none_touching arcs touching empty = record {
-  whole = λ point cell below. absurd (omega (arith, below));
+  each_touching = λ point cell below. absurd (omega (arith, below));
   ascending = λ point. subst IsNonDecreasing (sym (empty point)) (IsNonDecreasingBy-short (λ (x : ℕ). x) [] (omega arith));
   only = λ point cell has.
       let none : Contains [] cell = subst (λ (xs : List ℕ). Contains xs cell) (empty point) has in
@@ -67,9 +67,9 @@ none_touching arcs touching empty = record {
 
 pub one_more_touching : (arcs : List Arc) (k : ℕ) (before between after : List (List ℕ)) → IsAdded (arc_at arcs k).from k before between → IsAdded (arc_at arcs k).to k between after → AreTouching arcs k before → AreTouching arcs (k + 1) after
 one_more_touching arcs k before between after first second are = record {
-  whole = λ point cell below touches.
+  each_touching = λ point cell below touches.
       elim (cases_lt cell k) as (λ _. Contains (cells_at after point) cell) [
-        | inl less ↦ keeps (arc_at arcs k).to k between after point cell second (keeps (arc_at arcs k).from k before between point cell first (are.whole point cell less touches))
+        | inl less ↦ keeps (arc_at arcs k).to k between after point cell second (keeps (arc_at arcs k).from k before between point cell first (are.each_touching point cell less touches))
         | inr not_less ↦
             let same : k ≡ cell = omega arith in
             subst (λ (c : ℕ). Contains (cells_at after point) c) same (here point (subst (λ (c : ℕ). Touches (arc_at arcs c) point) (sym same) touches))

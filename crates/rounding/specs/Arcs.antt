@@ -50,7 +50,7 @@ cells_at touching point = slice_index_or touching point []
 
 -- for each point those of the first cells whose arcs touch it, ascending
 pub record AreTouching (arcs : List Arc) (cells : ℕ) (touching : List (List ℕ)) : Type 0 where
-  pub whole : (point cell : ℕ) → cell < cells → Touches (arc_at arcs cell) point
+  pub each_touching : (point cell : ℕ) → cell < cells → Touches (arc_at arcs cell) point
       → Contains (cells_at touching point) cell
   pub ascending : (point : ℕ) → IsNonDecreasing (cells_at touching point)
   pub only : (point cell : ℕ) → Contains (cells_at touching point) cell
@@ -58,7 +58,7 @@ pub record AreTouching (arcs : List Arc) (cells : ℕ) (touching : List (List �
 
 -- arcs between points, and for each point the cells whose arcs touch it
 pub record IsNetwork (arcs : List Arc) (touching : List (List ℕ)) : Type 0 where
-  pub few : length arcs < 2 ^ 32
+  pub fewer_than_2_32 : length arcs < 2 ^ 32
   pub within : (cell : ℕ) → cell < length arcs
       → ((arc_at arcs cell).from < length touching) × ((arc_at arcs cell).to < length touching)
   pub touched : AreTouching arcs (length arcs) touching

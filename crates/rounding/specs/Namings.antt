@@ -17,7 +17,7 @@ pub record Ascends (below : ℕ) (numbers : List ℕ) : Type 0 where
 -- the numbers of relations, ascending; a relation that isn't among them doesn't count the cell
 pub record IsNamingOf (relations : List Relation) (cell : ℕ) (numbers : List ℕ) : Type 0 where
   pub ascends : Ascends (length relations) numbers
-  pub whole : (number : ℕ) (r : Relation) → slice_get relations number ≡ Some r → IsNotIn numbers number
+  pub each_counting : (number : ℕ) (r : Relation) → slice_get relations number ≡ Some r → IsNotIn numbers number
       → count_of r cell ≡ pos 0
 
 -- such numbers for each cell

@@ -33,7 +33,7 @@ pub record IsPartial (b : FixedCells) (naming : List (List ℕ)) (cells : List �
   pub proper : IsProper b.system b.truths b.base
   pub listed : IsNaming b.system naming
   pub unrounded : cells ≡ unrounded_cells b.base 0 b.truths
-  pub few : length steps ≤ length cells
+  pub at_most_cells : length steps ≤ length cells
   pub ascending : (one other : ℕ) (s t : Step) → one < other → slice_get steps one ≡ Some s
       → slice_get steps other ≡ Some t → s.1 ≤ t.1
   pub marks : (place : ℕ) (step : Step) → slice_get steps place ≡ Some step → step.1 ≤ length b.fixes

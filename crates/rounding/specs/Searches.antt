@@ -22,7 +22,7 @@ lists_of system truths base = lists_from (is_open system truths base) (unrounded
 
 -- a list has a choice for every cell that isn't a multiple, and what it chooses is a rounding
 pub record IsRoundingList (system : System) (truths : List ℤ) (base : ℤ) (list : Choices) : Type 0 where
-  pub whole : length list ≡ unrounded_count truths base
+  pub one_for_each : length list ≡ unrounded_count truths base
   pub rounding : IsRounding system truths base (by_choices false base truths list)
 
 -- The lists that come after all those that extend a prefix with these further choices, with so many cells left behind
@@ -58,6 +58,6 @@ NoneExtends system truths base list = (rest : Choices) → IsRoundingList system
 -- ahead.
 pub record HasSeen (system : System) (truths : List ℤ) (base : ℤ) (seen : ℕ) (lists : List Choices) : Type 0 where
   pub front : List Choices
-  pub whole : lists_of system truths base ≡ front ++ lists
+  pub front_and_rest : lists_of system truths base ≡ front ++ lists
   pub many : seen ≤ length front
   pub none : All (λ list. IsRoundingList system truths base list → ⊥) front

@@ -41,8 +41,8 @@ next_parent total below place parent h = subst (λ k. parent_at (flat_tree total
 
 pub flat_is_code_tree : FlatIsCodeTree
 flat_is_code_tree total below distinct few = record {
-  some = omega arith;
-  few = omega (arith, length_below below);
+  has_total = omega arith;
+  at_most_5001 = omega (arith, length_below below);
   distinct = subst (λ list. IsDistinct bytes_eq (total ∷ list)) (sym (codes_below below)) distinct;
   total = refl;
   earlier = λ place some within. earlier_parent total below place some (omega (arith, length_below below, within));

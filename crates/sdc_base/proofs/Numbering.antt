@@ -66,7 +66,7 @@ count-most test (x ∷ xs) = let rest = count-most test xs in elim (test x) as (
 
 pub numbered-none : (flags : List Bool) (lower : List ℕ) → AreNumbered flags lower [] []
 numbered-none flags lower = record {
-  few = omega arith;
+  no_more_than_cells = omega arith;
   shown = λ cell h. refl;
   hidden = λ cell inside h. absurd (omega (arith, inside));
   below = λ cell number h. absurd cc;
@@ -82,7 +82,7 @@ numbered-none flags lower = record {
 pub numbered-shown : (flags : List Bool) (lower : List ℕ) (of : List (Option ℕ)) (sizes : List ℕ) → AreNumbered flags lower of sizes → ((cell : ℕ) → slice_index lower cell ≤ cell) → is_hidden flags (length of) ≡ false
     → AreNumbered flags lower (of ++ None ∷ []) sizes
 numbered-shown flags lower of sizes is falls shown = record {
-  few = omega (arith, is.few, longer of None);
+  no_more_than_cells = omega (arith, is.no_more_than_cells, longer of None);
   shown = λ cell h. none-same cell ∙ is.shown cell h;
   hidden = λ cell inside h. let one = is.hidden cell (old cell inside h) h in (one.0, none-same cell ∙ one.1);
   below = λ cell number h. is.below cell number (sym (none-same cell) ∙ h);
@@ -162,7 +162,7 @@ points-itself flags lower of sizes is falls hidden none = by (where_is (slice_in
 pub numbered-begun : (flags : List Bool) (lower : List ℕ) (of : List (Option ℕ)) (sizes : List ℕ) → AreNumbered flags lower of sizes → ((cell : ℕ) → slice_index lower cell ≤ cell) → is_hidden flags (length of) ≡ true → slice_index lower (length of) ≡ length of
     → AreNumbered flags lower (of ++ Some (length sizes) ∷ []) (sizes ++ 1 ∷ [])
 numbered-begun flags lower of sizes is falls hidden end = record {
-  few = omega (arith, is.few, longer of (Some (length sizes)), longer sizes 1);
+  no_more_than_cells = omega (arith, is.no_more_than_cells, longer of (Some (length sizes)), longer sizes 1);
   shown = keeps.shown;
   hidden = keeps.hidden;
   below = λ cell number h. below cell number (push-some of (Some here) cell number h);
@@ -226,7 +226,7 @@ numbered-begun flags lower of sizes is falls hidden end = record {
 pub numbered-joined : (flags : List Bool) (lower : List ℕ) (of : List (Option ℕ)) (sizes : List ℕ) (here : ℕ) → AreNumbered flags lower of sizes → ((cell : ℕ) → slice_index lower cell ≤ cell) → is_hidden flags (length of) ≡ true
     → slice_index lower (length of) < length of → component of (slice_index lower (length of)) ≡ Some here → AreNumbered flags lower (of ++ Some here ∷ []) (slice_set sizes here (slice_index sizes here + 1))
 numbered-joined flags lower of sizes here is falls hidden under at = record {
-  few = omega (arith, is.few, longer of (Some here), long);
+  no_more_than_cells = omega (arith, is.no_more_than_cells, longer of (Some here), long);
   shown = keeps.shown;
   hidden = keeps.hidden;
   below = λ cell number h. below cell number (push-some of (Some here) cell number h);

@@ -32,7 +32,7 @@ Joins flags lower r =
 
 -- the numbers of the cells' components so far, and how many cells each has
 pub record AreNumbered (flags : List Bool) (lower : List ℕ) (of : List (Option ℕ)) (sizes : List ℕ) : Type 0 where
-  pub few : length sizes ≤ length of
+  pub no_more_than_cells : length sizes ≤ length of
   pub shown : (cell : ℕ) → is_hidden flags cell ≡ false → component of cell ≡ None
   pub hidden : (cell : ℕ) → cell < length of → is_hidden flags cell ≡ true
       → (number : ℕ) × (component of cell ≡ Some number)

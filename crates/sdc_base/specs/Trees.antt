@@ -71,8 +71,8 @@ IsShallow tree place = (depth : ℕ) × (depth ≤ 9) × (climb tree depth place
 -- a tree that a file can give: the total and at most 5,000 distinct codes below it, in preorder, at most nine levels
 -- deep
 pub record IsCodeTree (tree : Tree) : Type 0 where
-  pub some : 0 < length tree
-  pub few : length tree ≤ 5001
+  pub has_total : 0 < length tree
+  pub at_most_5001 : length tree ≤ 5001
   pub distinct : HasDistinctCodes tree
   pub total : parent_at tree 0 ≡ None
   pub earlier : (place : ℕ) → 0 < place → place < length tree → HasEarlierParent tree place

@@ -9,5 +9,5 @@ pub struct Relation {
     pub total: u32,
     /// The numbers of the cells that are the parts.
     pub parts: Items<u32>,
-    ghost few: { length parts < 2 ^ 32 },
+    ghost fewer_than_2_32: { length parts < 2 ^ 32 },
 }

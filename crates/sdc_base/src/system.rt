@@ -12,5 +12,5 @@ pub struct System {
     /// The relations in the order of their numbers, which begin at 0.
     pub relations: Items<Relation>,
     ghost named: { All (NamesCells cells) relations },
-    ghost few: { length relations ≤ 2 ^ 30 },
+    ghost at_most_2_30: { length relations ≤ 2 ^ 30 },
 }

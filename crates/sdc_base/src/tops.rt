@@ -46,9 +46,9 @@ pub struct Tops {
     pub list: Few<Unit, 10>,
     ghost at_least_two: { 2 ≤ keep },
     ghost at_most_ten: { keep ≤ 10 },
-    ghost whole: { 1 ≤ scale },
-    ghost fine: { scale ≤ 10000 },
-    ghost few: { length list ≤ keep },
+    ghost scale_from_one: { 1 ≤ scale },
+    ghost scale_at_most_10000: { scale ≤ 10000 },
+    ghost at_most_keep: { length list ≤ keep },
     ghost heavy: { AreHeavy scale list },
 }
 

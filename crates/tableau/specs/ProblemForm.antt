@@ -21,4 +21,4 @@ pub record IsWellFormed (problem : Problem) : Type 0 where
   pub bounds : All (λ row. pos 0 ≤ℤ row.bound) problem.rows
   pub objective : AreEntries problem.columns problem.objective
   pub target : pos 0 ≤ℤ problem.target
-  pub few : problem.columns + length problem.rows + 1 < 2 ^ 32 - 1
+  pub fewer_than_2_32 : problem.columns + length problem.rows + 1 < 2 ^ 32 - 1

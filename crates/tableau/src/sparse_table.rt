@@ -12,7 +12,7 @@ pub(crate) struct SparseTable {
     pub(crate) others: Vec<u32>,
     pub(crate) rows: Vec<Items<(u32, i128)>>,
     ghost filled: { length rows.items ≡ length members.items + 1 },
-    ghost few: { length others.items + 1 < 2 ^ 32 },
+    ghost fewer_than_2_32: { length others.items + 1 < 2 ^ 32 },
     ghost each: { AreSparse (length others.items + 1) rows.items } by { AreSparse-prop (length others.items + 1) rows.items },
 }
 

@@ -9,7 +9,7 @@ use Rattle.hierarchy.proofs.FlatSteps.{flat-grown, codes-flat, flat-next, flat-s
 use Rattle.hierarchy.proofs.flat_form.flat.Goals as goal
 
 pub add-requires-clause-under : goal.add-requires-clause-under
-add-requires-clause-under c = let s = c.codes.invariant.tree.shallow (length c.codes.nodes - 1) (omega (arith, c.codes.invariant.tree.some)) in (s.0, s.2)
+add-requires-clause-under c = let s = c.codes.invariant.tree.shallow (length c.codes.nodes - 1) (omega (arith, c.codes.invariant.tree.has_total)) in (s.0, s.2)
 
 pub returns-in_err-add-clause-exact : goal.returns-in_err-add-clause-exact
 returns-in_err-add-clause-exact c =

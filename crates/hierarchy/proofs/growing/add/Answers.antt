@@ -11,10 +11,10 @@ returns-in-Some-clause-told c =
     rw c.known_code.ensures.fault (tells-known c.in-Some.place c.args.number (code_fault (codes c.args.nodes.now) c.args.code.now c.args.number) told)
 
 pub returns-then-len-gt-MOST-clause-told : goal.returns-then-len-gt-MOST-clause-told
-returns-then-len-gt-MOST-clause-told c = fault-many c.args.nodes.now c.args.code.now c.args.number c.requires.tree.some (sym c.in_default.ensures.place) (omega arith)
+returns-then-len-gt-MOST-clause-told c = fault-many c.args.nodes.now c.args.code.now c.args.number c.requires.tree.has_total (sym c.in_default.ensures.place) (omega arith)
 
 pub returns-clause-told : goal.returns-clause-told
-returns-clause-told c = fault-new c.args.nodes.now c.args.code.now c.args.number c.requires.tree.some (sym c.in_default.ensures.place) (omega arith)
+returns-clause-told c = fault-new c.args.nodes.now c.args.code.now c.args.number c.requires.tree.has_total (sym c.in_default.ensures.place) (omega arith)
 
 pub returns-clause-tree : goal.returns-clause-tree
 returns-clause-tree c =

@@ -17,4 +17,4 @@ returns-clause-path c =
     let items : c.push.new.self.items ≡ next_path path c.args.leads (length tree) =
     c.in_ok-push.ensures.items ∙ ap (λ (front : List ℕ). front ++ c.len-place.result ∷ []) c.truncate.ensures.items ∙ ap (next_path path c.args.leads) c.len-place.ensures.len in
     subst (λ (grows : Tree). IsPath grows c.push.new.self.items) (sym nodes)
-    (subst (IsPath (tree_with_node tree c.args.code.now (slice_index path c.args.leads))) (sym items) (path-next tree c.requires.tree.some path c.requires.path c.args.code.now c.args.leads h))
+    (subst (IsPath (tree_with_node tree c.args.code.now (slice_index path c.args.leads))) (sym items) (path-next tree c.requires.tree.has_total path c.requires.path c.args.code.now c.args.leads h))

@@ -12,4 +12,4 @@ returns-clause-ok c =
       | else-leads-eq0-via-then-leads-eq0+else-is_empty w ↦ split ∙ line-by-code c.args.number c.split_leads-leads.result.0 c.trim-code.result.now (code-there c.trim-code.result.now (sym w.is_empty.ensures ∙ w.if-is_empty.false))
       | else-leads-eq0-via-else-leads-eq0 w ↦ split ∙ line-by-leads c.args.number c.split_leads-leads.result.0 c.trim-code.result.now w.if-leads-eq0.false
     ] in
-    read-ok c.add_line.result c.args.nodes.now c.add_line.new.nodes c.args.path.now.items c.add_line.new.path.items line _ here c.requires.path.some c.add_line.ensures.told c.add_line.ensures.grows c.add_line.ensures.next
+    read-ok c.add_line.result c.args.nodes.now c.add_line.new.nodes c.args.path.now.items c.add_line.new.path.items line _ here c.requires.path.has_total c.add_line.ensures.told c.add_line.ensures.grows c.add_line.ensures.next

@@ -28,4 +28,4 @@ returns-clause-path c =
     let items : c.push-2.new.self.items ≡ next_path path c.args.depth (length tree) =
     c.in_ok-push-2.ensures.items ∙ ap (λ (front : List ℕ). front ++ c.len-place.result ∷ []) c.truncate.ensures.items ∙ ap (next_path path c.args.depth) c.len-place.ensures.len in
     subst (λ (grows : Tree). IsPath grows c.push-2.new.self.items) (sym nodes)
-    (subst (IsPath (tree_with_node tree c.args.code.now (slice_index path c.args.depth))) (sym items) (path-next tree c.requires.tree.some path c.requires.path c.args.code.now c.args.depth c.requires.level.0))
+    (subst (IsPath (tree_with_node tree c.args.code.now (slice_index path c.args.depth))) (sym items) (path-next tree c.requires.tree.has_total path c.requires.path c.args.code.now c.args.depth c.requires.level.0))

@@ -28,7 +28,7 @@ invariant_of-search g c =
       costed = c.requires.costed;
       up = c.requires.up;
       down = c.requires.down;
-      few = omega (arith, c.in_ok-lists.ensures.at_most_8, long);
+      at_most_8_codes = omega (arith, c.in_ok-lists.ensures.at_most_8, long);
     }
 
 pub better-requires-clause-ranked : goal.better-requires-clause-ranked

@@ -36,7 +36,7 @@ invariant_of-inquiry c =
       one_each = c.requires.ground;
       met_are = c.list_of-met.ensures c.args.system.now.relations (length c.in_ok-grouping.grouping.sizes)
           (ap lists_in c.as_slice-rows.ensures.value ∙ c.in_ok-lists.ensures ∙ ap (λ (of : List (Option ℕ)). rows_of c.args.system.now.relations of (length c.in_ok-grouping.grouping.sizes)) (sym c.as_slice-of.ensures));
-      few = omega (arith, size, ap (λ (xs : List ℕ). length xs) c.in_ok-members.ensures, c.if-size-gt1500.false);
+      at_most_1500 = omega (arith, size, ap (λ (xs : List ℕ). length xs) c.in_ok-members.ensures, c.if-size-gt1500.false);
       group = components_are_groups c.args.system.now c.args.hidden.now.flags of c.in_ok-grouping.grouping.sizes c.args.question.cell c.requires.ground.each_flag are c.requires.hidden;
     }
 

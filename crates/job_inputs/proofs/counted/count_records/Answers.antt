@@ -23,10 +23,10 @@ returns-clause-counted c = record {
 
 pub returns-clause-ready : goal.returns-clause-ready
 returns-clause-ready c =
-    let few : length c.as_slice.result.now ≤ 1000000 = omega (arith, ap (λ (rows : List Row). length rows) c.as_slice.ensures, c.requires.records.rows.few) in
+    let few : length c.as_slice.result.now ≤ 1000000 = omega (arith, ap (λ (rows : List Row). length rows) c.as_slice.ensures, c.requires.records.rows.at_most_1000000) in
     record {
       sound = c.requires.described;
       book = is-ready c.args.inputs.described c.filled-book.result c.as_slice.result.now c.filled-book.ensures.told few c.filled-book.ensures.one_each (c.filled-book.ensures.tables ∙ c.in_ok-book.ensures.tables);
       one_each = c.filled-book.ensures.one_each;
-      few = c.filled-book.ensures.fewer_than_2_32;
+      fewer_than_2_32 = c.filled-book.ensures.fewer_than_2_32;
     }

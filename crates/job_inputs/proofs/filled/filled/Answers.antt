@@ -9,7 +9,7 @@ tabulate-requires-clause-scale_from_one c = (scale-range c.args.described.now c.
 pub tabulate-requires-clause-rows : goal.tabulate-requires-clause-rows
 tabulate-requires-clause-rows c = record {
   each = rows-are c.args.book.trees c.args.described.now.bound.scale c.args.rows.now c.requires.rows.each;
-  at_most_1000000 = c.requires.rows.few;
+  at_most_1000000 = c.requires.rows.at_most_1000000;
 }
 
 pub returns-clause-told : goal.returns-clause-told

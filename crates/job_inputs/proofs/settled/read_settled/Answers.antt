@@ -158,7 +158,7 @@ pub returns-clause-ready : goal.returns-clause-ready
 returns-clause-ready g c =
     let ready = c.in_ok-counted.ensures.ready in
     let as_many = c.in_ok-cells.ensures.one_each in
-    record { sound = ready.sound; book = ready.book; one_each = ready.one_each; settled = as_many; levels = c.in_ok-cells.ensures.levels; truths = c.in_ok-cells.ensures.truths; few = subst (λ n. n < 2 ^ 32) (sym as_many) ready.few }
+    record { sound = ready.sound; book = ready.book; one_each = ready.one_each; settled = as_many; levels = c.in_ok-cells.ensures.levels; truths = c.in_ok-cells.ensures.truths; fewer_than_2_32 = subst (λ n. n < 2 ^ 32) (sym as_many) ready.fewer_than_2_32 }
 
 pub returns-clause-only_read : goal.returns-clause-only_read
 returns-clause-only_read g c = only-read-on _ _ _ c.in_ok-inputs.ensures.reads.only_read c.in_ok-priors.ensures.only_read

@@ -26,7 +26,7 @@ pub overflow_cast-cells : goal.overflow_cast-cells
 overflow_cast-cells c =
     let all = ap (λ (intervals : List CellInterval). length intervals) c.as_slice-3.ensures in
     let few = few_intervals c.in_ok-system.system c.as_slice.result.now c.args.hidden.now.flags c.in_ok-intervals.intervals c.in_ok-intervals.ensures.intervals in
-    omega (arith, all, few, c.requires.each, c.requires.ready.job.few)
+    omega (arith, all, few, c.requires.each, c.requires.ready.job.fewer_than_2_32)
 
 pub returns : goal.returns
 returns c = record {

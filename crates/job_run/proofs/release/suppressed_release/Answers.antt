@@ -24,7 +24,7 @@ overflow_cast-summary c =
     let few = few-hidden _ _ _ _ _ c.in_ok-protection.protection c.in-Protected.protected c.in-Protected.certificate c.in-Protected.is c.in_ok-protection.ensures.outcome in
     let listed : length c.as_slice-in-Protected.result.now ≡ length c.in-Protected.certificate.hidden = ap (λ (numbers : List ℕ). length numbers) c.as_slice-in-Protected.ensures in
     let counted = c.in_ok-system.ensures.cells in
-    record { fits = omega (arith, few, listed, counted, ready.one_each, ready.settled, ready.few) }
+    record { fits = omega (arith, few, listed, counted, ready.one_each, ready.settled, ready.fewer_than_2_32) }
 
 pub returns-in-Protected-clause-comes : goal.returns-in-Protected-clause-comes
 returns-in-Protected-clause-comes c = λ settled is.

@@ -141,8 +141,8 @@ returns-clause-two_to_nine_puts g c =
     let many : length puts ≡ 1 + length c.in_ok-settled.settled.described.job.tables = c.in_ok-release.ensures.one_more_than_tables in
     let whole = subst (λ (puts : List Put). AllWhole puts (g.T.Tray.state c.args.tray.now) (g.T.Tray.state c.put_files.new.tray)) c.as_slice.ensures c.in_ok-put_files.ensures.has_put_all in (
       length puts,
-      omega (arith, many, job.tables.some),
-      omega (arith, many, job.few),
+      omega (arith, many, job.tables.has_table),
+      omega (arith, many, job.at_most_8_tables),
       whole.puts_made,
     )
 

@@ -6,12 +6,12 @@ use Rattle.microdata.proofs.taking.take_level_code.Goals as goal
 pub overflow_cast-result : goal.overflow_cast-result
 overflow_cast-result c =
     let few = few-among c.args.seen.now.codes c.args.seen.now.nodes c.len-count.ensures.distinct c.requires.sound.among in
-    omega (arith, few, c.requires.sound.few, c.in-Some.ensures.within)
+    omega (arith, few, c.requires.sound.at_most_5000_nodes, c.in-Some.ensures.within)
 
 pub overflow_cast-result-2 : goal.overflow_cast-result-2
 overflow_cast-result-2 c =
     let few = few-among c.args.seen.now.codes c.args.seen.now.nodes c.len-count.ensures.distinct c.requires.sound.among in
-    omega (arith, few, c.requires.sound.few, c.len-count.ensures.len)
+    omega (arith, few, c.requires.sound.at_most_5000_nodes, c.len-count.ensures.len)
 
 pub returns-clause-seen : goal.returns-clause-seen
 returns-clause-seen c =

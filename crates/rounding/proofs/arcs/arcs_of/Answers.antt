@@ -6,7 +6,7 @@ use Rattle.rounding.proofs.arcs.arcs_of.Goals as goal
 
 pub arc_of-requires : goal.arc_of-requires
 arc_of-requires c =
-    let few = c.args.system.now.few in
+    let few = c.args.system.now.at_most_2_30 in
     rw c.as_slice.ensures (record {
       signs = c.requires.signs;
       named = listed_at c.args.system.now c.in_ok-naming.naming.items c.cells.cell c.index.result.now c.as_slice-named.result.now c.in_ok-naming.ensures c.cells-test.true c.index.ensures c.as_slice-named.ensures;

@@ -19,7 +19,7 @@ returns-clause-network c =
     let many = c.in_ok-touching.ensures.each ∙ ap (λ (relations : List Relation). length relations + 1) c.as_slice.ensures in
     let within = arcs_within c.args.system.now.relations c.args.signs.now c.args.system.now.cells c.in_ok-arcs.arcs.items c.in_ok-arcs.ensures.arcs in
     record {
-      few = c.in_ok-arcs.ensures.fewer_than_2_32;
+      fewer_than_2_32 = c.in_ok-arcs.ensures.fewer_than_2_32;
       within = λ cell below. (omega (arith, many, (within cell below).0), omega (arith, many, (within cell below).1));
       touched = touched;
     }

@@ -6,7 +6,7 @@ use Rattle.rounding.proofs.SumSteps.{sum_of_more, sum_of_all}
 use Rattle.rounding.proofs.numbers.extreme_of.Goals as goal
 
 few : (c : goal.After-distance-sum-in-parts) → c.parts.part-index < 2 ^ 32
-few c = let long = ap (λ (ys : List ℕ). length ys) c.as_slice-part-items.ensures in omega (arith, long, c.parts-test.true, c.args.relation.now.few)
+few c = let long = ap (λ (ys : List ℕ). length ys) c.as_slice-part-items.ensures in omega (arith, long, c.parts-test.true, c.args.relation.now.fewer_than_2_32)
 
 pub overflow_sub-sum : goal.overflow_sub-sum
 overflow_sub-sum c = omega (arith, ints, few c, c.parts.invariant.low, c.parts.invariant.high, c.distance-sum-in-parts.ensures.low, c.distance-sum-in-parts.ensures.high)

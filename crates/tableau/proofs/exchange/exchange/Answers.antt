@@ -33,7 +33,7 @@ invariant_of-table c =
     let others_long : length others ≡ length d.others.items = length-set d.others.items c.args.column c.index-leaving.result.now in
     record {
       filled = ap length rows_are ∙ long ∙ ap (λ n. n + 1) members_long;
-      few = subst (λ n. n + 1 < 2 ^ 32) (sym others_long) d.few;
+      fewer_than_2_32 = subst (λ n. n + 1 < 2 ^ 32) (sym others_long) d.fewer_than_2_32;
       each = subst (λ n. AreSparse (n + 1) c.place_rows.new.rows.items) (sym others_long) (subst (λ (r : List (List Term)). AreSparse (length d.others.items + 1) r) (sym rows_are) c.in-Ok.ensures.ok.sparse);
     }
 

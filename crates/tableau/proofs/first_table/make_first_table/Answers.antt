@@ -27,7 +27,7 @@ invariant_of-result c =
     let are = first_rows problem c.in_ok-lists.lists.items c.push.new.self.items c.push-2.new.self.items c.in_ok-target.target c.in_ok-objective.objective slacks target objective c.in_ok-push.ensures.items c.in_ok-push-2.ensures.items in
     record {
       filled = are.long ∙ length-append t.rows (t.objective ∷ []) ∙ ap (λ n. n + 1) ((start_shaped problem).rows ∙ ap length (sym members_are));
-      few = omega (arith, wide, c.requires.few);
+      fewer_than_2_32 = omega (arith, wide, c.requires.fewer_than_2_32);
       each = subst (λ n. AreSparse (n + 1) c.push-2.new.self.items) (sym wide) (rows_sparse (problem.columns + 1) (all_rows t) c.push-2.new.self.items are);
     }
 

@@ -7,7 +7,7 @@ invariant_of-result c = rw (c.new.ensures, c.in_ok-variables.ensures, c.new-2.en
   record {
     numbers = c.requires.measures;
     variables = variables-sound c.args.layout.needed c.args.layout.spanning c.requires.fields;
-    few = omega (arith, c.requires.few, as-many c.args.layout.spanning);
+    at_most_8_variables = omega (arith, c.requires.at_most_8_spanning, as-many c.args.layout.spanning);
     records = omega arith;
     skipped = omega arith;
   },
