@@ -1,4 +1,5 @@
--- The faults of a priori files with the table and the line of each, as errors name them (own); want of memory names none.
+-- The faults of a priori files with the table and the line of each, as errors name them (own); want of memory names
+-- none.
 use Rattle.std.specs.Prelude.{ℕ, Option, None, Some}
 use Rattle.apriori.specs.declared.faults.PriorWhy.{PriorWhy}
 use Rattle.apriori.specs.declared.faults.PriorError.{PriorError}

@@ -1,5 +1,5 @@
--- What each cell is to its protection: primary, fixed or free, with its levels, bounds and price (handbook, sensitive cells and
--- protection levels; a priori statements: own).
+-- What each cell is to its protection: primary, fixed or free, with its levels, bounds and price (handbook, sensitive
+-- cells and protection levels; a priori statements: own).
 use Rattle.std.specs.Prelude.{◌≡◌, ◌≤◌, ◌==◌, ◌||◌, ◌&&◌, nat_lt, ℕ, Bool, is_some, if◌then◌else◌, List, length, map, fold, slice_get, Option, None, Some, unwrap_or, option_map, Result, Ok, Err, ℤ, pos, Vec}
 use Rattle.std.specs.List.{zip}
 use Rattle.sdc_base.specs.Steps.{◌>>=◌}

@@ -25,8 +25,9 @@ use std::alloc::Global;
 /// field are dropped, and blank lines are passed over.
 ///
 /// The first line with a fault is refused, the faults of a line in this order: `BadShape`, `UnknownCode`, `BadNumber`,
-/// `EmptyUnsafe`, `OutsideTruth`, and `Twice` where it contradicts what an earlier line or an earlier file says of the cell;
-/// want of memory is `Memory`. After a refusal nothing has changed. A line that says what is said already is accepted.
+/// `EmptyUnsafe`, `OutsideTruth`, and `Twice` where it contradicts what an earlier line or an earlier file says of the
+/// cell; want of memory is `Memory`. After a refusal nothing has changed. A line that says what is said already is
+/// accepted.
 ///
 /// It takes a table of the book, fewer than `2^32` bytes, at most 13 decimals, and one prior for each cell, as
 /// [`blank_priors`](crate::blank_priors) and this call make them. The cost is a copy of the priors, and for each line

@@ -1,4 +1,5 @@
--- How far worlds take a hidden cell from its truth to a side (handbook, feasibility interval; 2^110 as the farthest that is asked: own).
+-- How far worlds take a hidden cell from its truth to a side (handbook, feasibility interval; 2^110 as the farthest
+-- that is asked: own).
 use Rattle.std.specs.Prelude.{◌≡◌, ◌<◌, ◌*◌, ◌^◌, ℕ, Bool, List, pos, ℤ, ◌*ℤ◌}
 use Rattle.sdc_base.specs.declared.cell.Cell.{Cell}
 use Rattle.sdc_base.specs.declared.side.Side.{Side}

@@ -1,5 +1,6 @@
--- The feasibility intervals of hidden cells: the least and the greatest value that a complete table gives a cell, of all that agree
--- with what is shown (handbook, feasibility interval; that the upper end is open from 2^110 above the truth on: own).
+-- The feasibility intervals of hidden cells: the least and the greatest value that a complete table gives a cell, of
+-- all that agree with what is shown (handbook, feasibility interval; that the upper end is open from 2^110 above the
+-- truth on: own).
 use Rattle.std.specs.Prelude.{◌≡◌, ◌^◌, ℕ, Bool, List, All, filter, length, map, slice_get, Some, ℤ, pos, ◌+ℤ◌, ◌*ℤ◌, ◌≤ℤ◌, ◌<ℤ◌}
 use Rattle.std.specs.List.{range_with_len}
 use Rattle.sdc_base.specs.declared.cell.Cell.{Cell}

@@ -1,4 +1,5 @@
--- What an accepted certificate shows of its release (handbook, feasibility interval; linear duality; controlled rounding; own).
+-- What an accepted certificate shows of its release (handbook, feasibility interval; linear duality; controlled
+-- rounding; own).
 use Rattle.std.specs.Prelude.{◌≡◌, ℕ, Bool, List, [], ◌∷◌, length, map, slice_get, All, ℤ, ◌≤ℤ◌, ◌*ℤ◌}
 use Rattle.sdc_base.specs.declared.cell.Cell.{Cell}
 use Rattle.sdc_base.specs.declared.cell.Kind.TheVariants.{Primary}

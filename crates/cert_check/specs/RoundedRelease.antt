@@ -1,4 +1,5 @@
--- The first fault of a rounded release: its tables, then its cells, then its relations (zero-restricted controlled rounding; own).
+-- The first fault of a rounded release: its tables, then its cells, then its relations (zero-restricted controlled
+-- rounding; own).
 use Rattle.std.specs.Prelude.{ℕ, ◌+◌, ◌&&◌, Bool, List, [], ◌∷◌, if◌then◌else◌, Option, None, Some, Result, ℤ, pos, ◌+ℤ◌, ◌-ℤ◌, int_lt}
 use Rattle.std.specs.Int.RustNames.{int_rem}
 use Rattle.std.specs.Ordering.{int_eq}

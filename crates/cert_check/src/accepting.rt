@@ -27,10 +27,10 @@ use std::alloc::Global;
 
 /// Whether a certificate shows that a release is protected, or that it is rounded: its first fault, if it has one.
 ///
-/// `case` is what the inputs of a job make; `release` has the bytes of each table, in the order of the book's tables. The cells are
-/// those of the system and of the book, whose marks have their truths; the corners of the trail are numbers of cells; there is a list
-/// of names for each table, and decimals are at most 13; a base by which is rounded is 1 or more. Any certificate and any bytes may
-/// be given.
+/// `case` is what the inputs of a job make; `release` has the bytes of each table, in the order of the book's tables.
+/// The cells are those of the system and of the book, whose marks have their truths; the corners of the trail are
+/// numbers of cells; there is a list of names for each table, and decimals are at most 13; a base by which is rounded
+/// is 1 or more. Any certificate and any bytes may be given.
 ///
 /// The fault is the first in the order of [`CheckFault`]: the counts and numbers of the certificate and its method. Of
 /// a suppressed release then its hidden set, its tables line by line, the steps, repair by repair, the hidden cells

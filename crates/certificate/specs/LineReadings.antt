@@ -1,5 +1,5 @@
--- What each kind of line says, by the tokens behind its word, or its first fault: in all tokens first Shape, then Number,
--- then Order (own).
+-- What each kind of line says, by the tokens behind its word, or its first fault: in all tokens first Shape, then
+-- Number, then Order (own).
 use Rattle.std.specs.Prelude.{ℕ, ◌-◌, ◌==◌, nat_lt, not, List, length, map, if◌then◌else◌, Result, Ok, Err}
 use Rattle.std.specs.List.{list_all}
 use Rattle.std.specs.Str.{bytes_eq}

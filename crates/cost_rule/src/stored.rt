@@ -31,8 +31,8 @@ impl<F: TellsCosts> Model for CostRule<F> {
 impl<F: TellsCosts> CostRule<F> {
     /// The rule of this kind, told by `f`.
     ///
-    /// `f` must be one that may be asked about all facts with a truth from 0 and at most 1,000,000 records, and that tells
-    /// the costs of the kind for them. Nothing is refused. It doesn't ask `f`, and takes no memory.
+    /// `f` must be one that may be asked about all facts with a truth from 0 and at most 1,000,000 records, and that
+    /// tells the costs of the kind for them. Nothing is refused. It doesn't ask `f`, and takes no memory.
     pub fn new(kind: CostKind, f: F) -> CostRule<F>
         requires told { IsTold F.may_ask F.may_say f kind }
         ensures kind { result ≡ kind }

@@ -1,4 +1,5 @@
--- Numbers drawn one after the other from a seed: a linear congruential generator of 64 bits (Knuth's constants; the taking of the upper bits own).
+-- Numbers drawn one after the other from a seed: a linear congruential generator of 64 bits (Knuth's constants; the
+-- taking of the upper bits own).
 use Rattle.std.specs.Prelude.{ℕ, zero, suc, ◌+◌, ◌*◌, ◌^◌, ◌/◌, ◌%◌}
 
 -- the state after another one

@@ -1,4 +1,5 @@
--- A code list: a code and its label a line (tau-ARGUS user manual, code lists; commas in quotes and what is passed over own).
+-- A code list: a code and its label a line (tau-ARGUS user manual, code lists; commas in quotes and what is passed over
+-- own).
 use Rattle.std.specs.Prelude.{ℕ, ◌+◌, ◌-◌, ◌==◌, ◌&&◌, ◌||◌, nat_le, Bool, List, [], ◌∷◌, ◌++◌, length, take, drop, slice_index, if◌then◌else◌, Result, Ok, Err, ◌≡◌}
 use Rattle.std.specs.List.{before_first}
 use Rattle.std.specs.Str.{bytes_eq}

@@ -1,4 +1,5 @@
--- The lead form: a code a line, after as many leads as the code is levels below the first (tau-ARGUS user manual, hierarchy files; blanks and the order of faults own).
+-- The lead form: a code a line, after as many leads as the code is levels below the first (tau-ARGUS user manual,
+-- hierarchy files; blanks and the order of faults own).
 use Rattle.std.specs.Prelude.{ℕ, zero, suc, ◌+◌, ◌==◌, nat_lt, nat_le, Bool, List, [], ◌∷◌, ◌++◌, length, take, drop, if◌then◌else◌, Option, None, Some, option_map, Result}
 use Rattle.std.specs.Str.{bytes_eq}
 use Rattle.sdc_base.specs.Lines.{lines as lines_of}

@@ -1,4 +1,5 @@
--- The level form: codes that have their levels in their digits (tau-ARGUS user manual, hierarchical codes by digits; codes that end between two boundaries and the order of faults own).
+-- The level form: codes that have their levels in their digits (tau-ARGUS user manual, hierarchical codes by digits;
+-- codes that end between two boundaries and the order of faults own).
 use Rattle.std.specs.Prelude.{ℕ, ◌+◌, ◌<◌, nat_le, nat_lt, fold, List, [], ◌∷◌, ◌++◌, length, take, slice_index_or, if◌then◌else◌, Option, None, Some, Result}
 use Rattle.std.specs.BTreeSet.{insert_key}
 use Rattle.std.specs.Cmp.Lexicographic.{slice_cmp}

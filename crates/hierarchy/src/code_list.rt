@@ -54,7 +54,8 @@ fn keep(
     requires { (total : List ℕ) × (codes known.old ≡ total ∷ kept.old.items) }
     ensures known { OnOk result (OfTotal known.old kept.old.items (λ total. codes known.new ≡ total ∷ kept.new.items)) }
     ensures kind { IfErr result IsListFault }
-    ensures ok { OnOk result (OfTotal known.old kept.old.items (λ total. ListsOn total number kept.old.items code.now kept.new.items)) }
+    ensures ok { OnOk result (OfTotal known.old kept.old.items
+        (λ total. ListsOn total number kept.old.items code.now kept.new.items)) }
     ensures err { IfErr result (λ fault. OfTotal known.old kept.old.items (λ total. (lines : List (List ℕ))
         → Fails (fault_of fault) (kept_on total number kept.old.items code.now lines))) }
 {

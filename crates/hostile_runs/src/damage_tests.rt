@@ -19,8 +19,8 @@ fn checked(alloc: Global, certificate: &str) -> Result<String, Memory> {
     run_over(alloc, &["check", "r.job"], &files)
 }
 
-// Why a front part of the certificate is none: it ends before the line `end`, or its last line has no end, which in the first
-// line is the fault only where its words are whole.
+// Why a front part of the certificate is none: it ends before the line `end`, or its last line has no end, which in the
+// first line is the fault only where its words are whole.
 fn refusal_of_front(alloc: Global, front: &str) -> Result<String, Memory> {
     let line = front.split('\n').count();
     let kind = if front.is_empty() || front.ends_with('\n') {
@@ -49,11 +49,12 @@ fn cut_certificates(rt: HostRuntime) -> Result<(), Fail> {
 
 // What is said of the certificate with one of its digits raised by one, digit by digit.
 //
-// Cell 0 equals cells 1 and 4, cell 1 equals cells 2 and 3, and cell 4 equals cell 5. The hidden cells are 1, 3, 4 and 5, with
-// the truths 75, 15, 42 and 42. Cells 4 and 5 are primary with the levels 3 and 3. With cell 2 for cell 1 among the hidden cells
-// the third line of the table would show 75. A world with the den 2 moves its cell by one and a half. A refutation of cell 4
-// has cell 4 itself and the sum of its relations. Where cell 4 or 5 or 1 is left with a number above 0, it may rise without
-// end; where a number below 0 is left at cell 4, that cell falls by up to 42, which isn't below 3.
+// Cell 0 equals cells 1 and 4, cell 1 equals cells 2 and 3, and cell 4 equals cell 5. The hidden cells are 1, 3, 4 and
+// 5, with the truths 75, 15, 42 and 42. Cells 4 and 5 are primary with the levels 3 and 3. With cell 2 for cell 1 among
+// the hidden cells the third line of the table would show 75. A world with the den 2 moves its cell by one and a half.
+// A refutation of cell 4 has cell 4 itself and the sum of its relations. Where cell 4 or 5 or 1 is left with a number
+// above 0, it may rise without end; where a number below 0 is left at cell 4, that cell falls by up to 42, which isn't
+// below 3.
 const RAISED: [&str; 53] = [
     "2 refused: certificate line 1: Version\n",
     "3 not accepted: Counts\n",
@@ -143,8 +144,8 @@ fn raised_digits(rt: HostRuntime) -> Result<(), Fail> {
     Ok(())
 }
 
-// With any other byte raised by one its line is none of a certificate: its first word is another, a token is missing, a number
-// isn't spelled so, or it runs on into the next line.
+// With any other byte raised by one its line is none of a certificate: its first word is another, a token is missing, a
+// number isn't spelled so, or it runs on into the next line.
 #[test]
 fn other_raised_bytes(rt: HostRuntime) -> Result<(), Fail> {
     for (at, byte) in FIRMS_CERTIFICATE.bytes().enumerate() {
@@ -160,9 +161,9 @@ fn other_raised_bytes(rt: HostRuntime) -> Result<(), Fail> {
     Ok(())
 }
 
-// What is said of the first records of the survey, by how many they are, and the table that is put. The first rule names a cell
-// of one or two records; the other one names codes `2` and `21` also with three, where 40 of 42 are one firm's. Where code `12`
-// alone is primary, code `11` is hidden for it, at a lower price than code `1`.
+// What is said of the first records of the survey, by how many they are, and the table that is put. The first rule
+// names a cell of one or two records; the other one names codes `2` and `21` also with three, where 40 of 42 are one
+// firm's. Where code `12` alone is primary, code `11` is hidden for it, at a lower price than code `1`.
 const FIRST_RECORDS: [(&str, &str); 11] = [
     (
         "0 released: 0 records, 0 skipped, 2 passed over, 1 cells, 0 primary, 0 hidden\n",

@@ -35,11 +35,13 @@ fn first_wrong(
     Ok(None)
 }
 
-// Each call of the shelf fails in turn, and at last the call after the last, which no run makes. It gives the first that is
-// answered otherwise than by a fault of the file that the run had come to with nothing put, or at last by the release.
+// Each call of the shelf fails in turn, and at last the call after the last, which no run makes. It gives the first
+// that is answered otherwise than by a fault of the file that the run had come to with nothing put, or at last by the
+// release.
 //
-// The files stand in the order in which a run reads them, each once and to its end, so the calls of each are those behind the
-// calls of the files before it. By pieces of 1,000 bytes each file takes three calls, and the sixth is the last of the metadata.
+// The files stand in the order in which a run reads them, each once and to its end, so the calls of each are those
+// behind the calls of the files before it. By pieces of 1,000 bytes each file takes three calls, and the sixth is the
+// last of the metadata.
 fn wrong_call(
     alloc: Global,
     files: &[(&str, &str)],
@@ -126,8 +128,8 @@ fn half_of(text: &str) -> &str {
     text.get(..text.len() / 2).unwrap_or(text)
 }
 
-// Whether a run whose put of this number fails says and leaves this, and a second run over its tray then says and leaves what
-// a run without a fault does.
+// Whether a run whose put of this number fails says and leaves this, and a second run over its tray then says and
+// leaves what a run without a fault does.
 fn is_mended(
     alloc: Global,
     files: &[(&str, &str)],
@@ -141,8 +143,8 @@ fn is_mended(
     Ok(first.as_str() == left && second.as_str() == release)
 }
 
-// Each put of a job of one table fails in turn, and at last the put after the last, which no run makes. It gives the first that
-// isn't mended, or after which the last run doesn't say and leave what one without a fault does.
+// Each put of a job of one table fails in turn, and at last the put after the last, which no run makes. It gives the
+// first that isn't mended, or after which the last run doesn't say and leave what one without a fault does.
 fn wrong_put(
     alloc: Global,
     files: &[(&str, &str)],

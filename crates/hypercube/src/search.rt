@@ -123,9 +123,23 @@ impl<'a, F: TellsCosts> Model for Search<'a, F> {
 
     ghost Value = { Setting };
 
-    ghost view = { λ s. record { book = s.book.now; cells = s.cells.now; cost = s.rule.now; table = s.table; levels = s.levels; codes = s.codes.now } };
+    ghost view = { λ s. record {
+      book = s.book.now;
+      cells = s.cells.now;
+      cost = s.rule.now;
+      table = s.table;
+      levels = s.levels;
+      codes = s.codes.now;
+    } };
 
-    ghost invariant = { λ s. IsSearchable (record { book = s.book.now; cells = s.cells.now; cost = s.rule.now; table = s.table; levels = s.levels; codes = s.codes.now }) };
+    ghost invariant = { λ s. IsSearchable (record {
+      book = s.book.now;
+      cells = s.cells.now;
+      cost = s.rule.now;
+      table = s.table;
+      levels = s.levels;
+      codes = s.codes.now;
+    }) };
 }
 
 impl<'a, F: TellsCosts> Search<'a, F> {

@@ -1,4 +1,5 @@
--- What answers of questions say, and when a question has none (handbook, feasibility interval; linear duality; faults own).
+-- What answers of questions say, and when a question has none (handbook, feasibility interval; linear duality; faults
+-- own).
 use Rattle.std.specs.Prelude.{◌≡◌, ◌+◌, ◌<◌, ◌≤◌, ◌⊎◌, Bool, List, length, FitsSigned, ℤ, ◌*ℤ◌, ◌<ℤ◌}
 use Rattle.std.specs.Int.{w128}
 use Rattle.sdc_base.specs.declared.cell.Cell.{Cell}

@@ -1,4 +1,5 @@
--- The columns of a question: for each cell of the group how far it goes up, and how far down (linear programming; the order own).
+-- The columns of a question: for each cell of the group how far it goes up, and how far down (linear programming; the
+-- order own).
 use Rattle.std.specs.Prelude.{ℕ, ◌+◌, ◌*◌, List, [], ◌∷◌, length, ℤ, pos, neg_ℤ, ◌-ℤ◌, if◌then◌else◌}
 use Rattle.std.specs.List.{flat_map}
 use Rattle.std.specs.Ordering.{int_eq}

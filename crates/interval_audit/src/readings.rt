@@ -23,7 +23,8 @@ pub(crate) fn read_world(
     requires from_zero { All (λ value. pos 0 ≤ℤ value) values.now }
     requires positive { pos 1 ≤ℤ den }
     ensures read { (moves : Numbers) → AreDifferences members.now values.now 0 1 moves
-        → IfOk result (λ world. AreLowestTermsOf den (nonzero_terms moves members.now) world.den (terms_of world.moves)) }
+        → IfOk result
+        (λ world. AreLowestTermsOf den (nonzero_terms moves members.now) world.den (terms_of world.moves)) }
     ensures held { IfOk result (λ world. All (λ term. neg_ℤ (pos (2 ^ 127)) <ℤ term.1) (terms_of world.moves)) }
 {
     let terms = differences(alloc, members, values, 0, 1)?;

@@ -1,4 +1,5 @@
--- What holds of the judgement of releases: what protection writes is accepted, and settled inputs are judged in one way (own).
+-- What holds of the judgement of releases: what protection writes is accepted, and settled inputs are judged in one way
+-- (own).
 use Rattle.std.specs.Prelude.{◌≡◌, ℕ, false, List, Ok}
 use Rattle.sdc_base.specs.declared.system.System.{System}
 use Rattle.cell_protection.specs.Protections.{IsProtectedWith, passes_of}

@@ -1,4 +1,5 @@
--- What holds of the judgement of rounded releases: a rounding that was written is accepted (zero-restricted controlled rounding; own).
+-- What holds of the judgement of rounded releases: a rounding that was written is accepted (zero-restricted controlled
+-- rounding; own).
 use Rattle.std.specs.Prelude.{◌≡◌, ℕ, ◌≤◌, true, List, length, map, slice_get, Ok, ℤ}
 use Rattle.sdc_base.specs.Relations.{relations_among}
 use Rattle.sdc_base.specs.Roundings.{IsRounding}

@@ -1,4 +1,5 @@
--- What it is to read inputs from a shelf: what is told, to which file it comes, what the shelf does, and the cause of each refusal (own).
+-- What it is to read inputs from a shelf: what is told, to which file it comes, what the shelf does, and the cause of
+-- each refusal (own).
 use Rattle.std.specs.Prelude.{◌≡◌, ◌≢◌, ℕ, ◌+◌, List, Option, None, Some, Result, Err, IsErrOf, []}
 use Rattle.sdc_base.specs.Answers.{Gives}
 use Rattle.sdc_base.specs.Counts.{HasRisen}

@@ -33,9 +33,11 @@ pub(crate) fn read_priors<S: Shelf>(
 ) -> Result<Items<Prior>, InputStop>
     requires { IsReady counted.now }
     ensures told { (inputs : AnyInputs) → IsCountedOf inputs counted.now
-        → WhereTold (S.state shelf.old).files (λ fs. Gives stopped_for (λ priors. priors) result (priors_of fs inputs)) }
+        → WhereTold (S.state shelf.old).files
+        (λ fs. Gives stopped_for (λ priors. priors) result (priors_of fs inputs)) }
     ensures came_to { (inputs : AnyInputs) → IsCountedOf inputs counted.now
-        → WhereTold (S.state shelf.old).files (λ fs. HasComeTo (ComesToStatements fs inputs) result fs (S.state shelf.new)) }
+        → WhereTold (S.state shelf.old).files
+        (λ fs. HasComeTo (ComesToStatements fs inputs) result fs (S.state shelf.new)) }
     ensures only_read { HasOnlyRead (S.state shelf.old) (S.state shelf.new) }
     ensures cause { HasCause result (S.state shelf.old) (S.state shelf.new) }
     ensures fit { IfOk result (λ priors. ArePriors counted.now.book.marks priors) }

@@ -1,4 +1,5 @@
--- What the tables of a job come to, when the intervals of the cells that they hide are asked for (handbook, feasibility interval; own).
+-- What the tables of a job come to, when the intervals of the cells that they hide are asked for (handbook, feasibility
+-- interval; own).
 use Rattle.std.specs.Prelude.{◌≡◌, ◌≢◌, Bool, List, length, Result, Ok, Err, IsOkAnd}
 use Rattle.sdc_base.specs.Answers.{Fails}
 use Rattle.sdc_base.specs.declared.system.System.{System}

@@ -19,16 +19,16 @@ use std::alloc::Global;
 /// cell, in ascending order of the cells' numbers, the least and the greatest value that a complete table gives it, of
 /// all that agree with the shown cells, the relations and the bounds.
 ///
-/// `name` is the name of the job, `out` that of the file to be put; both may be any bytes. The inputs of the job are read for
-/// intervals, in their order (`job_inputs::read_settled`); then `out` is refused where a put would overwrite the job's file, a file that
-/// the job names, or a code list or hierarchy file of a variable that spans a table; then the tables that stand under the names
-/// of the job's outputs are read. The certificate isn't looked at.
+/// `name` is the name of the job, `out` that of the file to be put; both may be any bytes. The inputs of the job are
+/// read for intervals, in their order (`job_inputs::read_settled`); then `out` is refused where a put would overwrite
+/// the job's file, a file that the job names, or a code list or hierarchy file of a variable that spans a table; then
+/// the tables that stand under the names of the job's outputs are read. The certificate isn't looked at.
 ///
-/// The refusals, in this order: `Inputs` with the first fault of the inputs, of the name `out` or of the files of tables, or
-/// with a fault of the shelf; `NotAccepted` with `Release` and the first line that the texts of no hidden set have, or with
-/// `FixedHidden` and the first fixed cell that is hidden; `Undecided` with the fault of the first question that has no answer. A
-/// primary cell that is shown is no fault. Want of memory is that of the inputs, and may come at any time. Nothing is put, and
-/// the shelf is only read from.
+/// The refusals, in this order: `Inputs` with the first fault of the inputs, of the name `out` or of the files of
+/// tables, or with a fault of the shelf; `NotAccepted` with `Release` and the first line that the texts of no hidden
+/// set have, or with `FixedHidden` and the first fixed cell that is hidden; `Undecided` with the fault of the first
+/// question that has no answer. A primary cell that is shown is no fault. Want of memory is that of the inputs, and may
+/// come at any time. Nothing is put, and the shelf is only read from.
 ///
 /// Over a shelf that tells nothing of its files, that a file is absent, that one is too long and a fault of the shelf
 /// have their cause in its counts.
@@ -46,7 +46,8 @@ pub fn find_intervals<S: Shelf>(
 ) -> Result<IntervalFile, IntervalStop>
     // The answer is what the told files come to: the first fault of inputs, name and tables' files, or else what the
     // tables come to.
-    ensures told { WhereTold (S.state shelf.old).files (λ fs. AnswersIntervals (shelved_of fs name.now out.now) result) }
+    ensures told { WhereTold (S.state shelf.old).files (λ fs. AnswersIntervals (shelved_of fs name.now out.now) result)
+        }
 
     // Over a shelf that tells nothing too, the answer is that of some inputs within their limits, with some tables.
     ensures found { IsFound result }

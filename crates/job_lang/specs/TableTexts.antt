@@ -1,4 +1,5 @@
--- The argument of SPECIFYTABLE: variables, response, and parts that say nothing more (tau-ARGUS user manual; profile own).
+-- The argument of SPECIFYTABLE: variables, response, and parts that say nothing more (tau-ARGUS user manual; profile
+-- own).
 use Rattle.std.specs.Prelude.{ℕ, zero, suc, Bool, not, ◌==◌, ◌&&◌, ◌||◌, nat_lt, if◌then◌else◌, List, [], ◌∷◌, length, Result, Ok, Err}
 use Rattle.std.specs.List.{list_all}
 use Rattle.std.specs.Set.{distinct_count}

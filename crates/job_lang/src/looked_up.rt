@@ -171,7 +171,12 @@ fn prior_line(
     separator: u8,
 ) -> Result<PriorLine, Memory>
     ensures { IfOk result (λ prior. prior
-        ≡ record { line = line; file = file.now; table = closing_looks.table_place number.now; separator = separator }) }
+        ≡ record {
+          line = line;
+          file = file.now;
+          table = closing_looks.table_place number.now;
+          separator = separator;
+        }) }
 {
     let file = file.copy(alloc)?;
     Ok(PriorLine {

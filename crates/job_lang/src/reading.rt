@@ -26,10 +26,10 @@ const USUAL_NODES: u64 = 1_000_000;
 /// The job that the bytes of a file state, or the line of the first fault and what is wrong with it.
 ///
 /// Lines are looked at in their order, and each for `BadLine`, `UnknownCommand`, `BadValue`, `Twice`, `TooMany` and
-/// `OtherResponse`. Where no line has a fault there follow `NoSuchTable` and `SameName`, each at the first line that has
-/// it, and at line 0 `Missing` with the first command that lacks, in the order of `Command`. Nothing is kept of a job
-/// with a fault. The words are those of tau-ARGUS's batch files, but for `COST`, `STEPS`, `NODES` and `CERTIFICATE`;
-/// the exact form, the ranges and the order of the faults are argus's own.
+/// `OtherResponse`. Where no line has a fault there follow `NoSuchTable` and `SameName`, each at the first line that
+/// has it, and at line 0 `Missing` with the first command that lacks, in the order of `Command`. Nothing is kept of a
+/// job with a fault. The words are those of tau-ARGUS's batch files, but for `COST`, `STEPS`, `NODES` and
+/// `CERTIFICATE`; the exact form, the ranges and the order of the faults are argus's own.
 ///
 /// The caller sees to it that there are fewer than `2^32` bytes, so that a line's number fits. Want of memory aside,
 /// the answer is the definition's.

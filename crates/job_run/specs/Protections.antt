@@ -1,4 +1,5 @@
--- What becomes of settled inputs that are to be protected (handbook, secondary suppression; repairs, needs and certificate: own).
+-- What becomes of settled inputs that are to be protected (handbook, secondary suppression; repairs, needs and
+-- certificate: own).
 use Rattle.std.specs.Prelude.{◌≡◌, List, ℕ, length, None, Ok}
 use Rattle.sdc_base.specs.declared.system.System.{System}
 use Rattle.certificate.specs.Certificates.{certificate_of}

@@ -46,7 +46,11 @@ fn certificate_put(
 ) -> Result<Put, Memory>
     requires { IsSpellable certificate.now }
     ensures put { IfOk result (λ put. put
-        ≡ record { file = FileRef.Certificate; name = described.now.job.certificate; bytes = text_of certificate.now }) }
+        ≡ record {
+          file = FileRef.Certificate;
+          name = described.now.job.certificate;
+          bytes = text_of certificate.now;
+        }) }
     ensures read_back { IfOk result (λ put. certificate_of (text_of certificate.now) ≡ Ok certificate.now) }
 {
     Ok(Put {

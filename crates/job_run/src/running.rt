@@ -32,11 +32,11 @@ use std::alloc::Global;
 /// the job's names is one, `intervals JOB OUT` puts what a reader of its tables can find out of each hidden cell, and
 /// `demo SEED RECORDS` protects a made survey of so many records, 1 to 1,000,000, drawn from a seed.
 ///
-/// Of a job its metadata, the code lists and hierarchies of its spanning variables and its microdata are looked at in this order,
-/// then the number of cells, the a priori files by table, the cells with what is stated of them, and whether a put would take the
-/// name of an input; for `check` then the certificate, and for `check` and `intervals` the tables. The first fault is the answer.
-/// `intervals` refuses a job that rounds as soon as it is read. The microdata are read in pieces, every other file whole. All that is
-/// put is made before the first put.
+/// Of a job its metadata, the code lists and hierarchies of its spanning variables and its microdata are looked at in
+/// this order, then the number of cells, the a priori files by table, the cells with what is stated of them, and
+/// whether a put would take the name of an input; for `check` then the certificate, and for `check` and `intervals` the
+/// tables. The first fault is the answer. `intervals` refuses a job that rounds as soon as it is read. The microdata
+/// are read in pieces, every other file whole. All that is put is made before the first put.
 ///
 /// A job that hides comes to a release, to a cell that can't be protected, or to a question that stopped short. A job
 /// that rounds comes to a release, to no rounding, or to a search that stopped short; its primary cells are counted and

@@ -1,4 +1,5 @@
--- Which tables can stand in a book, and the first of them that can't (tau-ARGUS user manual, linked tables; limit and order: own).
+-- Which tables can stand in a book, and the first of them that can't (tau-ARGUS user manual, linked tables; limit and
+-- order: own).
 use Rattle.std.specs.Prelude.{ℕ, ◌==◌, ◌||◌, nat_le, nat_lt, Bool, false, List, [], ◌∷◌, ◌++◌, length, if◌then◌else◌, Option, None, Some, Result, Ok, Err}
 use Rattle.std.specs.List.{list_any}
 use Rattle.sdc_base.specs.Trees.{Tree}

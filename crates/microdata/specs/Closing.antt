@@ -1,4 +1,5 @@
--- What becomes of the codes behind the last record: the trees of the variables, and the records' places in them (tau-ARGUS user manual, hierarchies; order of further codes own).
+-- What becomes of the codes behind the last record: the trees of the variables, and the records' places in them
+-- (tau-ARGUS user manual, hierarchies; order of further codes own).
 use Rattle.std.specs.Prelude.{ℕ, if◌then◌else◌, List, [], ◌∷◌, ◌++◌, map, slice_index_or, None, is_some, Result, Ok, Err}
 use Rattle.std.specs.Option.{unwrap_or}
 use Rattle.sdc_base.specs.Steps.{◌>>=◌}

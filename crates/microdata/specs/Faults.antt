@@ -1,4 +1,5 @@
--- The faults of microdata with the numbers of their records, as the errors of calls name them (own); want of memory names none.
+-- The faults of microdata with the numbers of their records, as the errors of calls name them (own); want of memory
+-- names none.
 use Rattle.std.specs.Prelude.{ℕ, Option, None, Some, Result}
 use Rattle.sdc_base.specs.Steps.{map_fault}
 use Rattle.microdata.specs.declared.faults.RowWhy.{RowWhy}

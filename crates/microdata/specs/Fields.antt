@@ -1,4 +1,5 @@
--- The fields of a record, and the numbers in them (tau-ARGUS user manual, fixed-format microdata; limits and first fault own).
+-- The fields of a record, and the numbers in them (tau-ARGUS user manual, fixed-format microdata; limits and first
+-- fault own).
 use Rattle.std.specs.Prelude.{ℕ, ◌-◌, ◌^◌, ◌==◌, ◌||◌, nat_lt, Bool, false, if◌then◌else◌, List, [], ◌∷◌, length, take, drop, Option, None, Some, Result, Ok, Err, ℤ, pos, negsuc}
 use Rattle.std.specs.List.{list_any}
 use Rattle.std.specs.Str.{bytes_eq}

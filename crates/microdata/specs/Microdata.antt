@@ -1,4 +1,5 @@
--- The records of microdata: lines, what each says after those before it, and the closing look at the codes (tau-ARGUS user manual, fixed-format microdata; limits and first fault own).
+-- The records of microdata: lines, what each says after those before it, and the closing look at the codes (tau-ARGUS
+-- user manual, fixed-format microdata; limits and first fault own).
 use Rattle.std.specs.Prelude.{ℕ, List, map, Result, Ok}
 use Rattle.sdc_base.specs.Lines.{lines}
 use Rattle.sdc_base.specs.Steps.{◌>>=◌}

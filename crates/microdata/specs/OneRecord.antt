@@ -1,4 +1,5 @@
--- What one record adds to those before it, or its first fault (tau-ARGUS user manual, fixed-format microdata; limits and first fault own).
+-- What one record adds to those before it, or its first fault (tau-ARGUS user manual, fixed-format microdata; limits
+-- and first fault own).
 use Rattle.std.specs.Prelude.{ℕ, ◌+◌, nat_lt, nat_le, if◌then◌else◌, List, [], ◌∷◌, ◌++◌, length, map, Result, Ok, pos}
 use Rattle.sdc_base.specs.Steps.{◌>>=◌, refuse}
 use Rattle.microdata.specs.declared.faults.RowWhy.{RowWhy}

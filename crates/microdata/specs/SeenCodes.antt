@@ -1,4 +1,5 @@
--- The codes that records bring: what is wrong with one, and what the codes so far are with it (tau-ARGUS user manual, codes and their levels; limits and first fault own).
+-- The codes that records bring: what is wrong with one, and what the codes so far are with it (tau-ARGUS user manual,
+-- codes and their levels; limits and first fault own).
 use Rattle.std.specs.Prelude.{ℕ, ◌==◌, ◌||◌, nat_lt, nat_le, Bool, List, [], ◌∷◌, ◌++◌, length, sum, position, Option, None, Some, is_some, Result, Ok}
 use Rattle.std.specs.BTreeSet.{insert_key}
 use Rattle.std.specs.Cmp.Lexicographic.{slice_cmp}

@@ -1,4 +1,5 @@
--- What each step of a trail is: the whole cube of a cell in a subtable, of cells that may be hidden (handbook, modular method; own).
+-- What each step of a trail is: the whole cube of a cell in a subtable, of cells that may be hidden (handbook, modular
+-- method; own).
 use Rattle.std.specs.Prelude.{◌≡◌, ℕ, ◌^◌, false, List, length, slice_get, Some}
 use Rattle.std.specs.List.{AllByRecursion}
 use Rattle.std.specs.List.Sorted.{IsStrictlyIncreasing}

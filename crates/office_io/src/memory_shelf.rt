@@ -43,7 +43,15 @@ impl MemoryShelf {
     pub fn new(files: Vec<(Text, Vec<u8>)>, failing: Vec<u64>, piece: u32) -> MemoryShelf
         requires { 1 ≤ piece }
         ensures state { ⟦<MemoryShelf as Shelf>⟧.state result
-            ≡ record { files = Some (file_of files.items); left = Some []; taken = 0; reads = 0; last = None; faults = 0; absences = 0 } }
+            ≡ record {
+              files = Some (file_of files.items);
+              left = Some [];
+              taken = 0;
+              reads = 0;
+              last = None;
+              faults = 0;
+              absences = 0;
+            } }
         ensures calls { shelf_calls result ≡ 0 }
         ensures failing { shelf_failing result ≡ failing.items }
         ensures piece { shelf_piece result ≡ piece }

@@ -26,7 +26,8 @@ pub fn read_all<S: Shelf>(
     limit: u64,
 ) -> Result<Vec<u8>, FileFault>
     requires { limit < 2 ^ 62 }
-    ensures whole_file { IfOk result (λ bytes. IsWhole name.now limit bytes.items (S.state shelf.old) (S.state shelf.new)) }
+    ensures whole_file { IfOk result (λ bytes. IsWhole name.now limit bytes.items (S.state shelf.old)
+        (S.state shelf.new)) }
     ensures absent { IsErrOf result FileFault.Absent → IsAbsent name.now (S.state shelf.old) (S.state shelf.new) }
     ensures failed { IsErrOf result FileFault.Failed → HasRisen (S.state shelf.old).faults (S.state shelf.new).faults }
     ensures too_long { IsErrOf result FileFault.TooLong ↔ ((S.state shelf.new).taken ≡ limit + 1) }

@@ -1,4 +1,5 @@
--- Where rules name a cell, and which levels it then has, in words of their own (handbook, sensitivity rules; the words: own).
+-- Where rules name a cell, and which levels it then has, in words of their own (handbook, sensitivity rules; the words:
+-- own).
 use Rattle.std.specs.Prelude.{◌≡◌, ◌↔◌, ◌≤◌, ◌<◌, ◌⊎◌, false, IsTrue, List, All, Any, None, Some, ℤ, pos, ◌*ℤ◌, ◌≤ℤ◌, ◌<ℤ◌}
 use Rattle.sdc_base.specs.RuleLevels.{Figures, Fraction, names, rest_beside_two, wanted_level, rounded_up, IsRoundedUp, level_of}
 use Rattle.sdc_base.specs.declared.facts.Levels.{Levels}

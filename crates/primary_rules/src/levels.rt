@@ -14,11 +14,11 @@ use sdc_base::{CellFacts, Levels, Rule, Rules};
 
 /// The levels of a cell by the rules, in units; none exactly where no rule names the cell.
 ///
-/// The frequency rule `FREQ(n,r)` names a cell with a record and fewer than `n`, and wants it `r` percent of the truth open
-/// upwards. The dominance rule `NK(n,k)` names a cell where `100 * T > k * X`, with the truth `X` and the sum `T` over the
-/// `n` largest contributions, and wants `100 * T / k - X`. The p-percent rule `P(p)` names a cell where
-/// `100 * R < p * x`, with the largest contribution `x` and the rest `R` of the truth beside the two largest, and wants
-/// `p * x / 100 - R`. What a rule wants is rounded up to a unit and at least 1; the greatest of the rules that name the cell
+/// The frequency rule `FREQ(n,r)` names a cell with a record and fewer than `n`, and wants it `r` percent of the truth
+/// open upwards. The dominance rule `NK(n,k)` names a cell where `100 * T > k * X`, with the truth `X` and the sum `T`
+/// over the `n` largest contributions, and wants `100 * T / k - X`. The p-percent rule `P(p)` names a cell where `100 *
+/// R < p * x`, with the largest contribution `x` and the rest `R` of the truth beside the two largest, and wants `p * x
+/// / 100 - R`. What a rule wants is rounded up to a unit and at least 1; the greatest of the rules that name the cell
 /// is the upper level, and the lesser of it and the truth the lower one.
 ///
 /// The rules must be in their ranges, the truth from 0 to `10^29` units, and the facts must keep at least [`keep`]

@@ -1,4 +1,5 @@
--- What the keyword lines of one variable say, with defaults, and what clashes (tau-ARGUS user manual; the total Total and the lead string @ own).
+-- What the keyword lines of one variable say, with defaults, and what clashes (tau-ARGUS user manual; the total Total
+-- and the lead string @ own).
 use Rattle.std.specs.Prelude.{ℕ, Bool, ◌||◌, ◌&&◌, not, nat_lt, codes, if◌then◌else◌, List, [], ◌∷◌, Option, None, Some, unwrap_or}
 use Rattle.std.specs.List.{list_any}
 use Rattle.rda_meta.specs.declared.setting.Keyword.{Keyword}

@@ -1,4 +1,5 @@
--- What metadata that are read mean: each variable has what its own lines say, and the lines that are passed over are counted (own).
+-- What metadata that are read mean: each variable has what its own lines say, and the lines that are passed over are
+-- counted (own).
 use Rattle.std.specs.Prelude.{◌≡◌, ◌&&◌, length, ℕ, ◌+◌, ◌-◌, Bool, false, List, [], ◌∷◌, map, filter, slice_get, drop, not, ◌==◌, ◌++◌, if◌then◌else◌, Some, Result, Ok, Err}
 use Rattle.sdc_base.specs.Blanks.{trim}
 use Rattle.sdc_base.specs.Lines.{lines}

@@ -1,4 +1,5 @@
--- A variable line: name, first position, width, and at most two missing codes (tau-ARGUS user manual; limits and order of faults own).
+-- A variable line: name, first position, width, and at most two missing codes (tau-ARGUS user manual; limits and order
+-- of faults own).
 use Rattle.std.specs.Prelude.{ℕ, ◌+◌, ◌-◌, Bool, ◌&&◌, not, nat_lt, if◌then◌else◌, List, [], ◌∷◌, length, map, Result, Ok, Err}
 use Rattle.std.specs.List.{list_any}
 use Rattle.std.specs.Str.{bytes_eq}

@@ -1,4 +1,5 @@
--- The words of a line of metadata: in double quotes, or runs without blanks (tau-ARGUS user manual; quotes without a second one own).
+-- The words of a line of metadata: in double quotes, or runs without blanks (tau-ARGUS user manual; quotes without a
+-- second one own).
 use Rattle.std.specs.Prelude.{ℕ, zero, suc, Bool, false, ◌&&◌, ◌==◌, List, [], ◌∷◌, length, drop, if◌then◌else◌}
 use Rattle.std.specs.List.{list_any, before_first, after_first}
 use Rattle.sdc_base.specs.Blanks.{is_blank, trim}

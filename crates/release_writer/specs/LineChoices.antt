@@ -1,4 +1,5 @@
--- What a cell of a line of a release may show: its truth or nothing, a rounded number, or what an earlier line shows (own).
+-- What a cell of a line of a release may show: its truth or nothing, a rounded number, or what an earlier line shows
+-- (own).
 use Rattle.std.specs.Prelude.{ℕ, ◌+◌, ◌-◌, Bool, List, [], ◌∷◌, ◌++◌, length, take, drop, slice_get, bytes_eq, if◌then◌else◌, Option, None, Some, option_map, Result, Ok, Err, ℤ}
 use Rattle.std.specs.List.{before_first}
 use Rattle.std.specs.Option.{option_and_then}

@@ -1,4 +1,5 @@
--- What the cells of a book show in a release, and the text of a table of it (own; `x` for a hidden cell: tau-ARGUS user manual).
+-- What the cells of a book show in a release, and the text of a table of it (own; `x` for a hidden cell: tau-ARGUS user
+-- manual).
 use Rattle.std.specs.Prelude.{◌≡◌, ℕ, Bool, false, List, [], length, slice_get, slice_index_or, if◌then◌else◌, All, Option, None, option_map, ℤ, pos, ◌≤ℤ◌, ◌<ℤ◌}
 use Rattle.std.specs.Option.{option_and_then}
 use Rattle.sdc_base.specs.Records.{Name}

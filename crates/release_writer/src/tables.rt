@@ -18,9 +18,10 @@ use std::alloc::Global;
 /// order, with its codes and what its cell shows. Each line ends in LF, its fields have commas between them, and a
 /// field stands in quotes exactly where it has a comma, a quote, CR or LF, with each quote inside doubled.
 ///
-/// `t` is a table of the book, numbered from 0. `names` are those of the table's variables and of the response. `decimals`
-/// are those of a unit, at most 13. `shown` has a flag for each cell, and truths are from 0, or a number for each cell, from
-/// 0 and below `10^37` units. A hidden cell shows `x`, whatever hides it; nothing of its truth enters the text.
+/// `t` is a table of the book, numbered from 0. `names` are those of the table's variables and of the response.
+/// `decimals` are those of a unit, at most 13. `shown` has a flag for each cell, and truths are from 0, or a number for
+/// each cell, from 0 and below `10^37` units. A hidden cell shows `x`, whatever hides it; nothing of its truth enters
+/// the text.
 ///
 /// Want of memory is the only refusal, and leaves the book as it is. It takes one look-up for each place.
 ///

@@ -16,8 +16,8 @@ use Rattle.repair.specs.Stops.{IsQuestion}
 use Rattle.repair.specs.Tasks.{case_of}
 use Rattle.repair.specs.Verdicts.{IsCannot}
 
--- A protection is ready for a repair: the hidden set is permitted, and there are a flag of it and a number of the scratch
--- for each cell of the system.
+-- A protection is ready for a repair: the hidden set is permitted, and there are a flag of it and a number of the
+-- scratch for each cell of the system.
 pub record IsReadyForRepair (task : Task) (scratch : List ℤ) (progress : Progress) : Type 0 where
   pub long : length scratch ≡ task.system.now.cells
   pub each : length progress.hidden.flags ≡ task.system.now.cells

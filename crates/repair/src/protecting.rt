@@ -144,7 +144,8 @@ fn narrowed_question<'a>(
     requires scratch { length scratch.old ≡ task.now.system.now.cells }
     requires each { length repaired.hidden.flags ≡ task.now.system.now.cells }
     requires permitted { IsPermitted task.now.cells.now repaired.hidden.flags }
-    requires served { AreServed (case_of task.now) repaired.hidden.flags (asked_of 0 task.now.cells.now) repaired.worlds }
+    requires served { AreServed (case_of task.now) repaired.hidden.flags (asked_of 0 task.now.cells.now) repaired.worlds
+        }
     ensures verdict { IfOk result (λ verdict. (planned : List Bool) → IsRepairedForAll task.now planned repaired
         → IsVerdict (case_of task.now) task.now.prices.now planned verdict) }
     ensures stopped { IfErr result (λ stopped. (planned : List Bool) → IsRepairedForAll task.now planned repaired
@@ -172,7 +173,8 @@ fn verdict_of<'a>(
     requires scratch { length scratch.old ≡ task.now.system.now.cells }
     requires each { length progress.hidden.flags ≡ task.now.system.now.cells }
     requires permitted { IsPermitted task.now.cells.now progress.hidden.flags }
-    requires served { AreServed (case_of task.now) progress.hidden.flags (asked_of 0 task.now.cells.now) progress.worlds }
+    requires served { AreServed (case_of task.now) progress.hidden.flags (asked_of 0 task.now.cells.now) progress.worlds
+        }
     ensures { (planned : List Bool) → IsNarrowed task.now planned progress needs
         → IsVerdict (case_of task.now) task.now.prices.now planned result }
 {

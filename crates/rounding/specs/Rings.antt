@@ -1,4 +1,5 @@
--- Going round: numbers between the neighbours of the truths move up or down together until a cell more is a multiple (own).
+-- Going round: numbers between the neighbours of the truths move up or down together until a cell more is a multiple
+-- (own).
 use Rattle.std.specs.Prelude.{◌≡◌, ◌⊎◌, ℕ, ◌<◌, ◌^◌, true, false, List, All, length, ℤ, pos, negsuc, ◌+ℤ◌, ◌-ℤ◌, ◌*ℤ◌, ◌≤ℤ◌, int_lt, if◌then◌else◌}
 use Rattle.std.specs.Int.RustNames.{int_rem}
 use Rattle.sdc_base.specs.Systems.{Numbers}

@@ -36,7 +36,8 @@ impl<'a> Model for Bounds<'a> {
 
     ghost view = { λ b. fixed_cells b.system.now b.truths.now b.base b.fixes.items };
 
-    ghost invariant = { λ b. IsKept (fixed_cells b.system.now b.truths.now b.base b.fixes.items) b.lower.items b.upper.items b.least.items b.greatest.items };
+    ghost invariant = { λ b. IsKept (fixed_cells b.system.now b.truths.now b.base b.fixes.items)
+        b.lower.items b.upper.items b.least.items b.greatest.items };
 }
 
 impl<'a> Bounds<'a> {

@@ -90,7 +90,8 @@ impl<'a> Partial<'a> {
             self.old.viable }
         requires barred { self.old.viable ≡ false }
         ensures kept { IfOk result (λ more. IsTrue more
-            → IsPartial self.new.bounds self.new.naming.items self.new.cells.items self.new.steps.items self.new.viable) }
+            → IsPartial self.new.bounds self.new.naming.items self.new.cells.items
+            self.new.steps.items self.new.viable) }
         ensures same { IfOk result (λ more. IsTrue more → IsSameTask self.old.bounds self.new.bounds) }
         ensures on { IfOk result (λ more. IsTrue more
             → LeadsTo self.old.bounds (choices_of self.old.steps.items)

@@ -47,9 +47,9 @@ impl<'a> Rounding<'a> {
 
 /// A rounding of truths to a base (zero-restricted controlled rounding; own).
 ///
-/// `truths` has a truth for each cell of `system`, from 0 to 10^29 units, on which the relations hold; `base` is from 1 to 10^22
-/// units; `nodes` is how many lists of choices may be looked at where there are no signs, from 1. A truth that is a multiple of
-/// the base stays. Which of several roundings is given is free. `Memory` leaves nothing behind.
+/// `truths` has a truth for each cell of `system`, from 0 to 10^29 units, on which the relations hold; `base` is from 1
+/// to 10^22 units; `nodes` is how many lists of choices may be looked at where there are no signs, from 1. A truth that
+/// is a multiple of the base stays. Which of several roundings is given is free. `Memory` leaves nothing behind.
 ///
 /// Where the relations have signs, as those of a table of one variable and of two flat ones have, each cell is an arc
 /// between two points, which are the relations and one more outside. No point has just one cell that isn't a multiple,

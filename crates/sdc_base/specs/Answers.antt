@@ -1,4 +1,5 @@
--- What a call answers, against a definition that gives a value or the first fault; want of memory is the one free answer (own).
+-- What a call answers, against a definition that gives a value or the first fault; want of memory is the one free
+-- answer (own).
 use Rattle.std.specs.Prelude.{◌≡◌, Option, None, Some, Result, Ok, Err}
 
 -- the definition gives this fault; want of memory (None) says nothing

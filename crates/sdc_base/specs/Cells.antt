@@ -1,4 +1,5 @@
--- Cells of linked tables: their names, and the order in which tables first name them (tau-ARGUS user manual, linked tables).
+-- Cells of linked tables: their names, and the order in which tables first name them (tau-ARGUS user manual, linked
+-- tables).
 use Rattle.std.specs.Prelude.{ℕ, ◌==◌, Bool, List, [], ◌∷◌, ◌++◌, length, map, flat_map, fold, slice_index_or, if◌then◌else◌, bytes_eq}
 use Rattle.std.specs.List.{list_any, range_with_len}
 use Rattle.sdc_base.specs.Trees.{Tree}

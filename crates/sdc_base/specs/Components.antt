@@ -1,4 +1,5 @@
--- Which hidden cells relations link: the connected parts of a hidden set (handbook, secondary suppression; the numbering own).
+-- Which hidden cells relations link: the connected parts of a hidden set (handbook, secondary suppression; the
+-- numbering own).
 use Rattle.std.specs.Prelude.{◌≡◌, ◌↔◌, ℕ, zero, suc, ◌<◌, ◌==◌, ◌||◌, Bool, true, false, List, length, slice_get, slice_index, slice_index_or, Option, None, Some}
 use Rattle.std.specs.List.{list_any}
 use Rattle.sdc_base.specs.declared.relation.Relation.{Relation}

@@ -1,4 +1,5 @@
--- The least cube of a cell: what hiding its corners costs, and which of two comes first (handbook, hypercube method; order own).
+-- The least cube of a cell: what hiding its corners costs, and which of two comes first (handbook, hypercube method;
+-- order own).
 use Rattle.std.specs.Prelude.{ℕ, ◌==◌, ◌&&◌, ◌||◌, nat_lt, Bool, true, false, if◌then◌else◌, List, [], ◌∷◌, map, filter, fold, Option, None, Some, option_map}
 use Rattle.std.specs.List.{sum_by}
 use Rattle.std.specs.Option.{option_map_or}

@@ -1,4 +1,5 @@
--- Cubes of a cell in a subtable: edges, corners with their signs, and the levels that they serve (handbook, hypercube method; signs and levels own).
+-- Cubes of a cell in a subtable: edges, corners with their signs, and the levels that they serve (handbook, hypercube
+-- method; signs and levels own).
 use Rattle.std.specs.Prelude.{ℕ, ◌==◌, ◌&&◌, ◌||◌, nat_lt, Bool, true, false, not, if◌then◌else◌, List, [], ◌∷◌, ◌++◌, map, filter, flat_map, fold, slice_get, slice_index, slice_index_or, Option, option_map, ℤ, neg_ℤ, ◌+ℤ◌, int_le}
 use Rattle.std.specs.List.{filter_map, list_all}
 use Rattle.std.specs.Option.{option_map_or}

@@ -1,4 +1,5 @@
--- Which cells are hidden, and which sets of hidden cells are permitted (handbook, secondary suppression; fixed cells: own).
+-- Which cells are hidden, and which sets of hidden cells are permitted (handbook, secondary suppression; fixed cells:
+-- own).
 use Rattle.std.specs.Prelude.{◌≡◌, ℕ, Bool, true, false, List, map, slice_get, slice_index_or, Some}
 use Rattle.sdc_base.specs.declared.cell.Cell.{Cell}
 use Rattle.sdc_base.specs.declared.cell.Kind.{Kind}

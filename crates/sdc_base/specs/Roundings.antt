@@ -1,4 +1,5 @@
--- Roundings: each cell at a multiple of a base next to its truth, all relations holding (zero-restricted controlled rounding; own).
+-- Roundings: each cell at a multiple of a base next to its truth, all relations holding (zero-restricted controlled
+-- rounding; own).
 use Rattle.std.specs.Prelude.{◌≡◌, ℕ, ◌<◌, List, length, slice_index_or, ℤ, pos, ◌+ℤ◌, ◌-ℤ◌, ◌*ℤ◌, ◌<ℤ◌}
 use Rattle.sdc_base.specs.declared.system.System.{System}
 use Rattle.sdc_base.specs.Systems.{Numbers, HoldOn}

@@ -1,5 +1,5 @@
--- What the primary rules say of a cell: which rule names it, and how far it must then be open (handbook, sensitivity rules
--- and protection levels; rounding up to a unit, the least level and the lower level: own).
+-- What the primary rules say of a cell: which rule names it, and how far it must then be open (handbook, sensitivity
+-- rules and protection levels; rounding up to a unit, the least level and the lower level: own).
 use Rattle.std.specs.Prelude.{ℕ, ◌*◌, max, Bool, if◌then◌else◌, List, [], ◌∷◌, fold, Option, None, Some, option_map, ℤ, pos, neg_ℤ, ◌+ℤ◌, ◌*ℤ◌, ◌≤ℤ◌, int_lt}
 use Rattle.std.specs.Int.{int_div_euclid}
 use Rattle.sdc_base.specs.Trees.{Tree}

@@ -1,4 +1,5 @@
--- The trail of a plan: steps, each of which hides the corners of a least cube (handbook, modular method; levels of secondary cells and the trail own).
+-- The trail of a plan: steps, each of which hides the corners of a least cube (handbook, modular method; levels of
+-- secondary cells and the trail own).
 use Rattle.std.specs.Prelude.{ℕ, ◌==◌, ◌||◌, Bool, not, if◌then◌else◌, List, [], ◌∷◌, ◌++◌, map, slice_get, Option, None, Some, pos}
 use Rattle.std.specs.Int.{int_min}
 use Rattle.std.specs.List.{list_any}

@@ -1,4 +1,5 @@
--- Worlds: complete tables that agree with all that is shown and with the stated bounds (handbook, feasibility interval).
+-- Worlds: complete tables that agree with all that is shown and with the stated bounds (handbook, feasibility
+-- interval).
 use Rattle.std.specs.Prelude.{◌≡◌, ℕ, ◌<◌, Bool, false, List, slice_get, Some, ℤ, pos, neg_ℤ, ◌+ℤ◌, ◌*ℤ◌, ◌≤ℤ◌}
 use Rattle.std.specs.Option.{ForSome, option_map_or}
 use Rattle.sdc_base.specs.declared.cell.Cell.{Cell}

@@ -40,7 +40,8 @@ impl Model for Tableau {
 
     ghost view = { λ t. tableau_walk t.problem t.improved (table_of t.table) };
 
-    ghost invariant = { λ t. IsTableau (tableau_walk t.problem t.improved (table_of t.table)) t.values.items t.slacks.items };
+    ghost invariant = { λ t. IsTableau (tableau_walk t.problem t.improved (table_of t.table))
+        t.values.items t.slacks.items };
 }
 
 impl Tableau {

@@ -51,7 +51,8 @@ fn add_form(numbers: &mut [i128], relation: &Relation, times: i128) -> Result<()
     requires { NamesCells (length numbers.old) relation.now }
     ensures length { length numbers.new ≡ length numbers.old }
     ensures ok { OnOk result ((rest : List Term)
-        → numbers_with_terms numbers.old (form_times times relation.now ++ rest) ≡ numbers_with_terms numbers.new rest) }
+        → numbers_with_terms numbers.old (form_times times relation.now ++ rest)
+        ≡ numbers_with_terms numbers.new rest) }
     ensures err { IfErr result (λ fault. (rest : List Term)
         → numbers_with_terms numbers.old (form_times times relation.now ++ rest) ≡ Err fault) }
 {
