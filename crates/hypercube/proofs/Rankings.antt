@@ -9,7 +9,7 @@ use Rattle.sdc_base.specs.Records.{Name}
 use Rattle.sdc_base.specs.Cubes.{choices, cubes_at, edges_at, serve}
 use Rattle.sdc_base.specs.CubeOrder.{comes_before, first_by}
 use Rattle.sdc_base.specs.declared.cube.Edge.{Edge}
-use Rattle.hypercube.specs.declared.ranking.Priced.{Priced}
+use Rattle.hypercube.specs.declared.ranking.PricedEdge.{PricedEdge}
 use Rattle.linked_tables.specs.BookCells.{IsBook}
 use Rattle.hypercube.specs.Branches.{Setting, begin_at, best_beyond, cell_in, codes_at, offers_of}
 use Rattle.hypercube.specs.LeastCubes.{is_marked, price_in}
@@ -27,7 +27,7 @@ use Rattle.hypercube.proofs.Tied.{IsTied, cubes-tied, own-cells}
 -- ---- making one
 
 -- one edge on
-pub priced-next : (setting : Setting) (k : ℕ) (edge : Edge) (edges : List Edge) (done : List Priced)
+pub priced-next : (setting : Setting) (k : ℕ) (edge : Edge) (edges : List Edge) (done : List PricedEdge)
     → (if serves_over setting k edge then done ++ with_price setting k edge ∷ [] else done) ++ priced_of setting k edges ≡ done ++ priced_of setting k (edge ∷ edges)
 priced-next setting k edge edges done =
     elim (serves_over setting k edge) as (λ b. (if b then done ++ with_price setting k edge ∷ [] else done) ++ priced_of setting k edges ≡ done ++ map (with_price setting k) (cond b (edge ∷ filter (serves_over setting k) edges) (filter (serves_over setting k) edges))) [
@@ -36,12 +36,12 @@ priced-next setting k edge edges done =
     ]
 
 -- the edges of those with prices
-edges-again : (setting : Setting) (k : ℕ) (edges : List Edge) → map (λ (one : Priced). one.edge) (map (with_price setting k) edges) ≡ edges
+edges-again : (setting : Setting) (k : ℕ) (edges : List Edge) → map (λ (one : PricedEdge). one.edge) (map (with_price setting k) edges) ≡ edges
 edges-again setting k [] = refl
 edges-again setting k (edge ∷ edges) = ap (λ (rest : List Edge). edge ∷ rest) (edges-again setting k edges)
 
 -- the price is that of the edge
-prices-are : (setting : Setting) (k : ℕ) (edges : List Edge) → AllByRecursion (λ (one : Priced). one.price ≡ price_over setting k one.edge) (map (with_price setting k) edges)
+prices-are : (setting : Setting) (k : ℕ) (edges : List Edge) → AllByRecursion (λ (one : PricedEdge). one.price ≡ price_over setting k one.edge) (map (with_price setting k) edges)
 prices-are setting k [] = tt
 prices-are setting k (edge ∷ edges) = (refl, prices-are setting k edges)
 
@@ -59,18 +59,18 @@ AreReordered setting k [] (one ∷ more) = ⊥
 AreReordered setting k (edges ∷ lists) [] = ⊥
 AreReordered setting k (edges ∷ lists) (one ∷ more) = IsPermutation (filter (serves_over setting k) edges) one × AreReordered setting (k + 1) lists more
 
-pub reordered : (setting : Setting) (k : ℕ) (lists : List (List Edge)) (ranked : List (List Priced)) → AreRankings setting k lists ranked → AreReordered setting k lists (edge_lists ranked)
+pub reordered : (setting : Setting) (k : ℕ) (lists : List (List Edge)) (ranked : List (List PricedEdge)) → AreRankings setting k lists ranked → AreReordered setting k lists (edge_lists ranked)
 reordered setting k [] [] are = tt
 reordered setting k [] (one ∷ ranked) are = absurd are
 reordered setting k (edges ∷ lists) [] are = absurd are
 reordered setting k (edges ∷ lists) (one ∷ ranked) (are, rest) = (
-  subst (λ (l : List Edge). IsPermutation l (edges_in one)) (edges-again setting k (filter (serves_over setting k) edges)) (IsPermutation-map (λ (p : Priced). p.edge) (priced_of setting k edges) one are.same),
+  subst (λ (l : List Edge). IsPermutation l (edges_in one)) (edges-again setting k (filter (serves_over setting k) edges)) (IsPermutation-map (λ (p : PricedEdge). p.edge) (priced_of setting k edges) one are.same),
   reordered setting (k + 1) lists ranked rest,
 )
 
 -- ---- list by list
 
-pub rankings-more : (setting : Setting) (k : ℕ) (lists : List (List Edge)) (all : List (List Priced)) (edges : List Edge) (ranked : List Priced) → AreRankings setting k lists all → IsRanking setting (k + length lists) edges ranked → AreRankings setting k (lists ++ edges ∷ []) (all ++ ranked ∷ [])
+pub rankings-more : (setting : Setting) (k : ℕ) (lists : List (List Edge)) (all : List (List PricedEdge)) (edges : List Edge) (ranked : List PricedEdge) → AreRankings setting k lists all → IsRanking setting (k + length lists) edges ranked → AreRankings setting k (lists ++ edges ∷ []) (all ++ ranked ∷ [])
 rankings-more setting k [] [] edges ranked are here = (subst (λ (n : ℕ). IsRanking setting n edges ranked) (omega arith) here, tt)
 rankings-more setting k [] (first ∷ all) edges ranked are here = absurd are
 rankings-more setting k (first ∷ lists) [] edges ranked are here = absurd are
@@ -78,20 +78,20 @@ rankings-more setting k (first ∷ lists) (one ∷ all) edges ranked (are, rest)
     let next : k + suc (length lists) ≡ (k + 1) + length lists = omega arith in
     (are, rankings-more setting (k + 1) lists all edges ranked rest (subst (λ (n : ℕ). IsRanking setting n edges ranked) next here))
 
-pub rankings-long : (setting : Setting) (k : ℕ) (lists : List (List Edge)) (all : List (List Priced)) → AreRankings setting k lists all → length all ≡ length lists
+pub rankings-long : (setting : Setting) (k : ℕ) (lists : List (List Edge)) (all : List (List PricedEdge)) → AreRankings setting k lists all → length all ≡ length lists
 rankings-long setting k [] [] are = refl
 rankings-long setting k [] (one ∷ all) are = absurd are
 rankings-long setting k (first ∷ lists) [] are = absurd are
 rankings-long setting k (first ∷ lists) (one ∷ all) (are, rest) = ap suc (rankings-long setting (k + 1) lists all rest)
 
 -- a ranking has the prices of its edges, upwards
-ranking-priced : (setting : Setting) (k : ℕ) (edges : List Edge) (ranked : List Priced) → IsRanking setting k edges ranked → ArePriced setting k ranked
+ranking-priced : (setting : Setting) (k : ℕ) (edges : List Edge) (ranked : List PricedEdge) → IsRanking setting k edges ranked → ArePriced setting k ranked
 ranking-priced setting k edges ranked is = record {
-  prices = moved (λ (one : Priced). one.price ≡ price_over setting k one.edge) (priced_of setting k edges) ranked is.same (prices-are setting k (filter (serves_over setting k) edges));
+  prices = moved (λ (one : PricedEdge). one.price ≡ price_over setting k one.edge) (priced_of setting k edges) ranked is.same (prices-are setting k (filter (serves_over setting k) edges));
   rising = is.rising;
 }
 
-rankings-rise : (setting : Setting) (k : ℕ) (lists : List (List Edge)) (all : List (List Priced)) (j : ℕ) → AreRankings setting k lists all → j < length all → ArePriced setting (k + j) (get_or all j [])
+rankings-rise : (setting : Setting) (k : ℕ) (lists : List (List Edge)) (all : List (List PricedEdge)) (j : ℕ) → AreRankings setting k lists all → j < length all → ArePriced setting (k + j) (get_or all j [])
 rankings-rise setting k [] [] j are inside = absurd (omega (arith, inside))
 rankings-rise setting k [] (one ∷ all) j are inside = absurd are
 rankings-rise setting k (first ∷ lists) [] j are inside = absurd are
@@ -206,7 +206,7 @@ same-best setting lists all are begun tied =
     (λ cube picked whole served. picks-among all cube (picks-kept setting lists all [] cube are picked whole served)) (choices-pick lists) (choices-begin setting.codes lists begun))
 
 -- so a search may go through them
-pub are-ranked : (setting : Setting) (lists : List (List Edge)) (all : List (List Priced)) → AreRankings setting 0 lists all → length lists ≤ 8 → begin_at setting.codes lists ≡ true → AreRanked setting all
+pub are-ranked : (setting : Setting) (lists : List (List Edge)) (all : List (List PricedEdge)) → AreRankings setting 0 lists all → length lists ≤ 8 → begin_at setting.codes lists ≡ true → AreRanked setting all
 are-ranked setting lists all are few begun =
     let long = rankings-long setting 0 lists all are in
     record {
@@ -216,7 +216,7 @@ are-ranked setting lists all are few begun =
     }
 
 -- and it finds the first of all cubes
-pub search-ranked : (setting : Setting) (trees : List Tree) (name : Name) (table parents : List ℕ) (all : List (List Priced)) → IsBook setting.book → setting.codes ≡ codes_at name table parents
+pub search-ranked : (setting : Setting) (trees : List Tree) (name : Name) (table parents : List ℕ) (all : List (List PricedEdge)) → IsBook setting.book → setting.codes ≡ codes_at name table parents
     → AreRankings setting 0 (edges_at trees name table parents) all → best_beyond setting None [] (edge_lists all) ≡ first_by comes_before (offers_of setting (cubes_at trees name table parents))
 search-ranked setting trees name table parents all is_book codes are =
     search-all setting (edge_lists all)

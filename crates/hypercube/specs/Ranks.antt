@@ -9,7 +9,7 @@ use Rattle.sdc_base.specs.declared.cube.Corner.{Corner}
 use Rattle.sdc_base.specs.declared.cube.Edge.{Edge}
 use Rattle.hypercube.specs.Branches.{Setting, begin_at, cell_in, costs_more, sign_beyond}
 use Rattle.hypercube.specs.LeastCubes.{is_marked, price_in}
-use Rattle.hypercube.specs.declared.ranking.Priced.{Priced}
+use Rattle.hypercube.specs.declared.ranking.PricedEdge.{PricedEdge}
 
 -- the corner of an edge of variable k alone: it has the partner's code for this variable and the cell's own for all
 -- others
@@ -36,21 +36,21 @@ abbrev pub serves_over : Setting → ℕ → Edge → Bool
 serves_over setting k edge = serves_at setting (corner_over setting k edge)
 
 -- an edge with that price
-abbrev pub with_price : Setting → ℕ → Edge → Priced
+abbrev pub with_price : Setting → ℕ → Edge → PricedEdge
 with_price setting k edge = record { price = price_over setting k edge; edge = edge }
 
 -- the edges whose own corner bears the levels, each with its price
-abbrev pub priced_of : Setting → ℕ → List Edge → List Priced
+abbrev pub priced_of : Setting → ℕ → List Edge → List PricedEdge
 priced_of setting k edges = map (with_price setting k) (filter (serves_over setting k) edges)
 
 -- edges of variable k with their prices: those whose own corner bears the levels, and none costs less than one before
 -- it
-pub record IsRanking (setting : Setting) (k : ℕ) (edges : List Edge) (ranked : List Priced) : Type 0 where
+pub record IsRanking (setting : Setting) (k : ℕ) (edges : List Edge) (ranked : List PricedEdge) : Type 0 where
   pub same : IsPermutation (priced_of setting k edges) ranked
   pub rising : IsNonDecreasingBy (λ one. one.price) ranked
 
 -- list by list from variable k on
-abbrev pub AreRankings : Setting → ℕ → List (List Edge) → List (List Priced) → Type 0
+abbrev pub AreRankings : Setting → ℕ → List (List Edge) → List (List PricedEdge) → Type 0
 AreRankings setting k [] [] = Unit {0}
 AreRankings setting k [] (ranked ∷ more) = ⊥
 AreRankings setting k (edges ∷ lists) [] = ⊥
@@ -60,20 +60,20 @@ AreRankings setting k (edges ∷ lists) (ranked ∷ more) = IsRanking setting k 
 -- ---- in a search
 
 -- the edges without their prices
-abbrev pub edges_in : List Priced → List Edge
+abbrev pub edges_in : List PricedEdge → List Edge
 edges_in priced = map (λ one. one.edge) priced
 
 -- the same of each list
-abbrev pub edge_lists : List (List Priced) → List (List Edge)
+abbrev pub edge_lists : List (List PricedEdge) → List (List Edge)
 edge_lists lists = map edges_in lists
 
 -- edges of variable k with the prices of their own corners, of which none costs less than one before it
-pub record ArePriced (setting : Setting) (k : ℕ) (priced : List Priced) : Type 0 where
+pub record ArePriced (setting : Setting) (k : ℕ) (priced : List PricedEdge) : Type 0 where
   pub prices : AllByRecursion (λ one. one.price ≡ price_over setting k one.edge) priced
   pub rising : IsNonDecreasingBy (λ one. one.price) priced
 
 -- the lists of at most 8 variables, each with edges from the cell's code by their prices
-pub record AreRanked (setting : Setting) (lists : List (List Priced)) : Type 0 where
+pub record AreRanked (setting : Setting) (lists : List (List PricedEdge)) : Type 0 where
   pub at_most_8_lists : length lists ≤ 8
   pub begun : begin_at setting.codes (edge_lists lists) ≡ true
   pub priced : (k : ℕ) → k < length lists → ArePriced setting k (slice_index_or lists k [])

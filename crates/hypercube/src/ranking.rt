@@ -8,7 +8,7 @@ use std::alloc::Global;
 
 /// An edge with what its own corner costs.
 #[derive(Clone, Copy)]
-pub(crate) struct Priced {
+pub(crate) struct PricedEdge {
     pub(crate) price: u64,
     pub(crate) edge: Edge,
 }
@@ -19,7 +19,7 @@ pub(crate) fn all_rankings<F: TellsCosts>(
     alloc: Global,
     search: &Search<'_, F>,
     lists: &[Items<Edge>],
-) -> Result<Vec<Items<Priced>>, Memory>
+) -> Result<Vec<Items<PricedEdge>>, Memory>
     ensures { IfOk result (λ ranked. AreRankings search.now 0 lists.now ranked.items) }
 {
     let mut ranked = Vec::new(alloc);
@@ -46,7 +46,7 @@ fn ranking<F: TellsCosts>(
     search: &Search<'_, F>,
     k: usize,
     edges: &[Edge],
-) -> Result<Items<Priced>, Memory>
+) -> Result<Items<PricedEdge>, Memory>
     ensures { IfOk result (λ ranked. IsRanking search.now k edges.now ranked) }
 {
     let mut priced = priced_edges(alloc, search, k, edges)?;
@@ -60,7 +60,7 @@ fn priced_edges<F: TellsCosts>(
     search: &Search<'_, F>,
     k: usize,
     edges: &[Edge],
-) -> Result<Vec<Priced>, Memory>
+) -> Result<Vec<PricedEdge>, Memory>
     ensures { IfOk result (λ priced. priced.items ≡ priced_of search.now k edges.now) }
 {
     let mut priced = Vec::new(alloc);
@@ -75,14 +75,14 @@ fn add_priced<F: TellsCosts>(
     search: &Search<'_, F>,
     k: usize,
     edge: Edge,
-    priced: &mut Vec<Priced>,
+    priced: &mut Vec<PricedEdge>,
 ) -> Result<(), Memory>
     ensures { OnOk result (priced.new.items
         ≡ (if serves_over search.now k edge then priced.old.items ++ with_price search.now k edge ∷ []
         else priced.old.items)) }
 {
     if let Some(price) = search.price_where_served(k, edge) {
-        priced.push(Priced { price, edge })?;
+        priced.push(PricedEdge { price, edge })?;
     }
     Ok(())
 }

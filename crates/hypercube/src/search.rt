@@ -11,7 +11,7 @@ use crate::corners::{corners_of, partners_of, place_over, place_with, sign_beyon
 use crate::edges::{codes_at, codes_behind, edges_at};
 use crate::order::{Offer, better_of, costs_more};
 use crate::pricing::{price_of_hiding, price_to_hide};
-use crate::ranking::{Priced, all_rankings, list_at};
+use crate::ranking::{PricedEdge, all_rankings, list_at};
 use crate::serving::{bears_at, serve};
 use arrayvec::ArrayVec;
 use cost_rule::{CostRule, TellsCosts};
@@ -150,7 +150,7 @@ impl<'a, F: TellsCosts> Search<'a, F> {
     fn better(
         &self,
         alloc: Global,
-        lists: &[Items<Priced>],
+        lists: &[Items<PricedEdge>],
         chosen: &Few<Edge, 8>,
         best: Option<Offer>,
     ) -> Result<Option<Offer>, Memory>

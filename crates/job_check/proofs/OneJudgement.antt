@@ -27,7 +27,7 @@ use Rattle.release_writer.specs.ReleaseReading.{LinePlace, rounded_read}
 use Rattle.repair.specs.HidingOrder.{case as protected_case, corners_of, hide_subjects, planned_set}
 use Rattle.job_inputs.specs.SettledJobs.{SettledInputs, IsSettledOf}
 use Rattle.job_inputs.specs.Tables.{names_of}
-use Rattle.job_inputs.specs.declared.described.Described.{Described}
+use Rattle.job_inputs.specs.declared.described.DescribedJob.{DescribedJob}
 use Rattle.job_inputs.specs.declared.settled.SettledJob.{SettledJob}
 use Rattle.job_check.proofs.OneText.{AreAlike, rounded-same, tables-same}
 use Rattle.job_check.proofs.OneTrail.{same-system, same-trail}
@@ -114,7 +114,7 @@ one-described settled one other is are = is.described ∙ sym are.described
 one-trail : (settled : SettledInputs) (one other : SettledJob) → IsSettledOf settled one → IsSettledOf settled other
     → trail_of one.book one.cells one.described.job.cost (passes_of one.described.job.method) ≡ trail_of other.book other.cells other.described.job.cost (passes_of other.described.job.method)
 one-trail settled one other is are =
-    ap (λ (d : Described). trail_of one.book one.cells d.job.cost (passes_of d.job.method)) (one-described settled one other is are)
+    ap (λ (d : DescribedJob). trail_of one.book one.cells d.job.cost (passes_of d.job.method)) (one-described settled one other is are)
     ∙ ap (λ (cells : List Cell). trail_of one.book cells other.described.job.cost (passes_of other.described.job.method)) (one-cells settled one other is are)
     ∙ same-trail settled.inputs one.book other.book other.cells other.described.job.cost (passes_of other.described.job.method) is.book are.book
 
@@ -129,10 +129,10 @@ rest-alike settled one other tables is are fits fit =
       system = same-system is.job.book are.job.book one.system.now other.system.now trees all is.system are.system;
       cells = here;
       steps = is.trail ∙ one-trail settled is.job are.job is.job_is are.job_is ∙ sym are.trail;
-      method = is.method ∙ ap (λ (d : Described). d.job.method) described ∙ sym are.method;
-      base = is.base ∙ ap (λ (d : Described). base_of d.job.method d.bound.decimals) described ∙ sym are.base;
-      names = is.names ∙ ap (λ (d : Described). map names_of d.job.tables) described ∙ sym are.names;
-      decimals = is.decimals ∙ ap (λ (d : Described). d.bound.decimals) described ∙ sym are.decimals;
+      method = is.method ∙ ap (λ (d : DescribedJob). d.job.method) described ∙ sym are.method;
+      base = is.base ∙ ap (λ (d : DescribedJob). base_of d.job.method d.bound.decimals) described ∙ sym are.base;
+      names = is.names ∙ ap (λ (d : DescribedJob). map names_of d.job.tables) described ∙ sym are.names;
+      decimals = is.decimals ∙ ap (λ (d : DescribedJob). d.bound.decimals) described ∙ sym are.decimals;
       book = record {
         trees = is.book.trees ∙ trees ∙ sym are.book.trees;
         tables = is.book.tables ∙ all ∙ sym are.book.tables;
@@ -154,7 +154,7 @@ written-is-accepted settled job system prices protected certificate case tables 
     let relations : system ≡ case.system.now = same-system job.book is.job.book system case.system.now trees all system_is is.system in
     let steps : List PlanStep = trail_of job.book job.cells job.described.job.cost (passes_of job.described.job.method) in
     let trail : steps ≡ case.trail.now.steps = one-trail settled job is.job job_is is.job_is ∙ sym is.trail in
-    let method : job.described.job.method ≡ case.method = ap (λ (d : Described). d.job.method) (one-described settled job is.job job_is is.job_is) ∙ sym is.method in
+    let method : job.described.job.method ≡ case.method = ap (λ (d : DescribedJob). d.job.method) (one-described settled job is.job job_is is.job_is) ∙ sym is.method in
     protection-is-accepted case tables prices protected certificate fits hides
     (subst (λ (s : System). IsProtectedWith (protected_case s case.cells.now) prices case.method case.trail.now.steps protected certificate) relations
     (subst (λ (cs : List Cell). IsProtectedWith (protected_case system cs) prices case.method case.trail.now.steps protected certificate) cells

@@ -8,7 +8,7 @@ use Rattle.job_inputs.specs.CertificateFile.{certificate_in}
 use Rattle.job_inputs.specs.Looks.{IsFile, ComesTo as InputsComeTo}
 use Rattle.job_inputs.specs.SettledJobs.{SettledInputs, settled_of, IsSettledOf}
 use Rattle.job_inputs.specs.Tables.{tables_of, ComesToTables, TablesComeTo}
-use Rattle.job_inputs.specs.declared.described.Described.{Described}
+use Rattle.job_inputs.specs.declared.described.DescribedJob.{DescribedJob}
 use Rattle.job_inputs.specs.declared.faults.Fault.{Fault}
 use Rattle.job_inputs.specs.declared.file_ref.FileRef.{FileRef}
 use Rattle.job_inputs.specs.declared.file_ref.FileRef.TheVariants as file
@@ -62,22 +62,22 @@ inputs-of files name job was = let it = ok-and (λ settled. IsSettledOf settled 
 pub no-certificate : (files : Files) (name : List ℕ) (job : SettledJob) (o : Option Fault) → WasSettled files name job → Fails o (certificate_in files job.described.job) → Fails o (released_of files name)
 no-certificate files name job o was h =
     let it = inputs-of files name job was in
-    certificate-fails files name it.settled o it.read (subst (λ (d : Described). Fails o (certificate_in files d.job)) it.is.described h)
+    certificate-fails files name it.settled o it.read (subst (λ (d : DescribedJob). Fails o (certificate_in files d.job)) it.is.described h)
 
 -- and what stops a table
 pub no-tables : (files : Files) (name : List ℕ) (job : SettledJob) (certificate : Certificate) (o : Option Fault) → WasSettled files name job → certificate_in files job.described.job ≡ Ok certificate → Fails o (tables_of files job.described.job)
     → Fails o (released_of files name)
 no-tables files name job certificate o was signed h =
     let it = inputs-of files name job was in
-    tables-fail files name it.settled certificate o it.read (subst (λ (d : Described). certificate_in files d.job ≡ Ok certificate) it.is.described signed) (subst (λ (d : Described). Fails o (tables_of files d.job)) it.is.described h)
+    tables-fail files name it.settled certificate o it.read (subst (λ (d : DescribedJob). certificate_in files d.job ≡ Ok certificate) it.is.described signed) (subst (λ (d : DescribedJob). Fails o (tables_of files d.job)) it.is.described h)
 
 -- job, certificate and tables are all that there is
 pub all-read : (files : Files) (name : List ℕ) (read : ReadRelease) → WasSettled files name read.job → certificate_in files read.job.described.job ≡ Ok read.certificate → tables_of files read.job.described.job ≡ Ok read.tables
     → IsOkAnd (released_of files name) (λ released. IsReleasedOf released read)
 all-read files name read was signed put =
     let it = inputs-of files name read.job was in
-    rw (released-is files name it.settled read.certificate read.tables it.read (subst (λ (d : Described). certificate_in files d.job ≡ Ok read.certificate) it.is.described signed)
-    (subst (λ (d : Described). tables_of files d.job ≡ Ok read.tables) it.is.described put))
+    rw (released-is files name it.settled read.certificate read.tables it.read (subst (λ (d : DescribedJob). certificate_in files d.job ≡ Ok read.certificate) it.is.described signed)
+    (subst (λ (d : DescribedJob). tables_of files d.job ≡ Ok read.tables) it.is.described put))
     (record { settled = it.is; certificate = refl; tables = refl })
 
 -- ---- to which file it comes
@@ -96,11 +96,11 @@ inputs-come files name file.Out held h = absurd h
 pub certificate-comes : (files : Files) (name : List ℕ) (job : SettledJob) (f : FileRef) (held : List ℕ) → WasSettled files name job → IsFile file.Certificate job.described.job.certificate f held → ComesTo files name f held
 certificate-comes files name job f held was comes =
     let it = inputs-of files name job was in
-    rw comes.is_file (it.settled, it.read, comes.is_name ∙ ap (λ (d : Described). d.job.certificate) it.is.described)
+    rw comes.is_file (it.settled, it.read, comes.is_name ∙ ap (λ (d : DescribedJob). d.job.certificate) it.is.described)
 
 pub tables-come : (files : Files) (name : List ℕ) (job : SettledJob) (certificate : Certificate) (f : FileRef) (held : List ℕ) → WasSettled files name job → certificate_in files job.described.job ≡ Ok certificate
     → ComesToTables files job.described.job f held → ComesTo files name f held
 tables-come files name job certificate f held was signed comes =
     let it = inputs-of files name job was in
-    let here = subst (λ (d : Described). certificate_in files d.job ≡ Ok certificate) it.is.described signed in
-    rw comes.1 (it.settled, it.read, rw here refl, subst (λ (d : Described). TablesComeTo files d.job comes.0 held) it.is.described comes.2)
+    let here = subst (λ (d : DescribedJob). certificate_in files d.job ≡ Ok certificate) it.is.described signed in
+    rw comes.1 (it.settled, it.read, rw here refl, subst (λ (d : DescribedJob). TablesComeTo files d.job comes.0 held) it.is.described comes.2)

@@ -38,7 +38,7 @@ use Rattle.job_lang.specs.JobLimits.{IsMethod}
 use Rattle.job_inputs.proofs.Facts.{cells-are, facts-in}
 use Rattle.job_inputs.specs.Cells.{cells, truth_in}
 use Rattle.job_inputs.specs.TabulatedBooks.{IsBookOf}
-use Rattle.job_inputs.specs.declared.described.Described.{Described}
+use Rattle.job_inputs.specs.declared.described.DescribedJob.{DescribedJob}
 use Rattle.job_inputs.specs.declared.inputs.Inputs.{Inputs}
 use Rattle.job_check.proofs.CaseParts.{by-facts, length-map}
 use Rattle.job_check.proofs.OneTrail.{same-system}
@@ -175,14 +175,14 @@ written-rounding-is-accepted settled book system values case tables sound book_i
     λ k inside. subst (λ (list : List ℤ). (pos 0 ≤ℤ number_at list k) × (number_at list k ≤ℤ pos (10 ^ 29))) (own-truths own held is.book.facts ∙ fits.truths) (truths-within inputs own its k (omega (arith, inside, many))) in
     let most : case.base ≤ℤ pos (10 ^ 22) =
     subst (λ (b : ℤ). b ≤ℤ pos (10 ^ 22)) (sym is.base)
-    (subst (λ (d : Described). base_of d.job.method d.bound.decimals ≤ℤ pos (10 ^ 22)) (sym is.job_is.described) (base-most inputs.described.job.method inputs.described.bound.decimals sound.job.method sound.bound.decimals)) in
+    (subst (λ (d : DescribedJob). base_of d.job.method d.bound.decimals ≤ℤ pos (10 ^ 22)) (sym is.job_is.described) (base-most inputs.described.job.method inputs.described.bound.decimals sound.job.method sound.bound.decimals)) in
     let frame : cells_in held ≡ cells_in own = ap₂ (λ (ts : List Tree) (each : List (List ℕ)). cells_in (record { trees = ts; tables = each; marks = held.marks })) is.book.trees is.book.tables in
     let one_each : length held.marks ≡ length (cells_in held) = sym (length-map (λ (mark : Mark). mark.facts.truth) held.marks) ∙ ap (λ (list : List ℤ). length list) (sym (own-truths own held is.book.facts)) ∙ length-map (λ (mark : Mark). mark.facts.truth) own.marks ∙ its.one_each ∙ ap (λ (names : List Name). length names) (sym frame) in
     rounding-is-accepted case tables values
     (without_hidden_cells inputs.described.job.method (length (cells inputs)) (length (relations_among inputs.records.trees inputs.described.bound.tables)))
     fits rounding one_each
     (record {
-      same_method = ap (λ (d : Described). d.job.method) (sym is.job_is.described) ∙ sym is.method;
+      same_method = ap (λ (d : DescribedJob). d.job.method) (sym is.job_is.described) ∙ sym is.method;
       same_cells = ap (λ (names : List Name). length names) (sym (cells-are inputs own its)) ∙ sym is.system.cells;
       same_relations =
           ap₂ (λ (ts : List Tree) (each : List (List ℕ)). length (relations_among ts each)) (sym its.trees) (sym its.tables) ∙ ap (λ sums. length sums) (sym is.system.relations) ∙ length-map sum_in case.system.now.relations;

@@ -12,7 +12,7 @@ use Rattle.sdc_base.specs.Answers.{Fails}
 use Rattle.job_inputs.specs.Laws.{OnlyCellsAreTooMany}
 use Rattle.job_inputs.specs.Refusals.{IsForCells}
 use Rattle.job_inputs.specs.SoundJobs.{IsSound}
-use Rattle.job_inputs.specs.declared.described.Described.{Described}
+use Rattle.job_inputs.specs.declared.described.DescribedJob.{DescribedJob}
 
 abbrev IsTooMany : BookFault → Type 0
 IsTooMany one = (t : ℕ) × (one ≡ book.TooManyCells t)
@@ -68,7 +68,7 @@ of-cells : (one : BookFault) → IsTooMany one → IsForCells one
 of-cells one h = rw h.1 tt
 
 -- so a book that isn't made has too many cells, or wants memory
-pub is-for-cells : OnlyCellsAreTooMany → (described : Described) (trees : List Tree) (tables : List (List ℕ)) (one : BookFault) → IsSound described → length trees ≡ length described.bound.spanning → tables ≡ described.bound.tables
+pub is-for-cells : OnlyCellsAreTooMany → (described : DescribedJob) (trees : List Tree) (tables : List (List ℕ)) (one : BookFault) → IsSound described → length trees ≡ length described.bound.spanning → tables ≡ described.bound.tables
     → Fails (fault_of one) (book_of trees tables) → IsForCells one
 is-for-cells law described trees tables (book.NoSuchVariable t) sound many is h = of-cells (book.NoSuchVariable t) (law described trees (book.NoSuchVariable t) sound many (ap (book_of trees) (sym is) ∙ h))
 is-for-cells law described trees tables (book.TwiceInTable t) sound many is h = of-cells (book.TwiceInTable t) (law described trees (book.TwiceInTable t) sound many (ap (book_of trees) (sym is) ∙ h))

@@ -13,7 +13,7 @@ use Rattle.job_inputs.specs.CodeSources.{codes_in, fields_of, spanning_variables
 use Rattle.job_inputs.specs.Cells.{cells_fault}
 use Rattle.job_inputs.specs.declared.inputs.Inputs.{Inputs}
 use Rattle.job_inputs.specs.Looks.{IsFile, IsListedIn, IsHierarchyOf, IsCodeListOf, FieldComesTo, FieldsComeTo, ComesFirstTo, StatementsComeTo, ComesTo}
-use Rattle.job_inputs.specs.declared.described.Described.{Described}
+use Rattle.job_inputs.specs.declared.described.DescribedJob.{DescribedJob}
 use Rattle.job_inputs.specs.declared.file_ref.FileRef.{FileRef}
 use Rattle.job_inputs.specs.declared.file_ref.FileRef.TheVariants as file
 use Rattle.job_inputs.specs.declared.purpose.Purpose.{Purpose}
@@ -48,7 +48,7 @@ first-comes purpose files name file.Certificate held h = absurd h
 first-comes purpose files name (file.Table t) held h = absurd h
 first-comes purpose files name file.Out held h = absurd h
 
-pub fields-come-to : (purpose : Purpose) (files : Files) (name : List ℕ) (described : Described) (f : FileRef) (held : List ℕ) → described_of purpose files name ≡ Ok described → FieldsComeTo files (spanning_variables described) f held → ComesTo purpose files name f held
+pub fields-come-to : (purpose : Purpose) (files : Files) (name : List ℕ) (described : DescribedJob) (f : FileRef) (held : List ℕ) → described_of purpose files name ≡ Ok described → FieldsComeTo files (spanning_variables described) f held → ComesTo purpose files name f held
 fields-come-to purpose files name described file.Job held read h = absurd h.comes
 fields-come-to purpose files name described file.Metadata held read h = absurd h.comes
 fields-come-to purpose files name described (file.CodeList at) held read h = (described, read, h)
@@ -59,7 +59,7 @@ fields-come-to purpose files name described file.Certificate held read h = absur
 fields-come-to purpose files name described (file.Table t) held read h = absurd h.comes
 fields-come-to purpose files name described file.Out held read h = absurd h.comes
 
-pub microdata-comes : (purpose : Purpose) (files : Files) (name : List ℕ) (described : Described) (fields : List Field) (f : FileRef) (held : List ℕ) → described_of purpose files name ≡ Ok described → fields_of files (spanning_variables described) ≡ Ok fields
+pub microdata-comes : (purpose : Purpose) (files : Files) (name : List ℕ) (described : DescribedJob) (fields : List Field) (f : FileRef) (held : List ℕ) → described_of purpose files name ≡ Ok described → fields_of files (spanning_variables described) ≡ Ok fields
     → IsFile file.Microdata described.job.micro f held → ComesTo purpose files name f held
 microdata-comes purpose files name described fields f held read laid comes = rw comes.is_file (described, read, rw laid refl, comes.is_name)
 

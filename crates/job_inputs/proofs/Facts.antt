@@ -2,7 +2,7 @@
 use Rattle.std.proofs.Common.{◌≡◌, ℕ, suc, ◌≤◌, Bool, true, false, cond, List, [], ◌∷◌, filter, length, Some, refl, ap, sym, subst, ◌∙◌, arith, ℤ}
 use Rattle.std.proofs.lemmas.List.Elements.{All-nil, All-cons, All-head, All-tail}
 use Rattle.primary_rules.specs.Ranges.{IsTruth}
-use Rattle.job_inputs.specs.declared.described.Described.{Described}
+use Rattle.job_inputs.specs.declared.described.DescribedJob.{DescribedJob}
 use Rattle.std.specs.Prelude.{All, map, slice_get}
 use Rattle.sdc_base.specs.Records.{Name, row_falls}
 use Rattle.cost_rule.specs.Costs.{AreCosted}
@@ -98,7 +98,7 @@ no-more test (x ∷ xs) = elim (test x) as (λ b. length (cond b (x ∷ filter t
 ]
 
 -- a tabulated book of a job is ready for its rules and texts
-pub is-ready : (described : Described) (book : BookView) (rows : List Row) → AreTabulated book rows (keep_of described.job.rules.list) described.bound.scale → length rows ≤ 1000000 → length book.marks ≡ length (cells_in book) → book.tables ≡ described.bound.tables
+pub is-ready : (described : DescribedJob) (book : BookView) (rows : List Row) → AreTabulated book rows (keep_of described.job.rules.list) described.bound.scale → length rows ≤ 1000000 → length book.marks ≡ length (cells_in book) → book.tables ≡ described.bound.tables
     → IsReadyFor described book
 is-ready described book rows told few many tables =
     let keep = keep_of described.job.rules.list in

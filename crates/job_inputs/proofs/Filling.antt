@@ -19,7 +19,7 @@ use Rattle.tabulate.specs.TabulatedMarks.{IsRow, HasNone}
 use Rattle.job_lang.specs.Binding.{weight_decimals}
 use Rattle.std.specs.Prelude.{◌^◌}
 use Rattle.job_inputs.specs.SoundJobs.{IsSound}
-use Rattle.job_inputs.specs.declared.described.Described.{Described}
+use Rattle.job_inputs.specs.declared.described.DescribedJob.{DescribedJob}
 
 -- ---- rules
 
@@ -86,7 +86,7 @@ power-range (suc (suc (suc (suc zero)))) h = (omega arith, omega arith)
 power-range (suc (suc (suc (suc (suc n))))) h = absurd (omega (arith, h))
 
 -- the scale of a bound job is from 1 to 10,000
-pub scale-range : (described : Described) → IsSound described → (1 ≤ described.bound.scale) × (described.bound.scale ≤ 10000)
+pub scale-range : (described : DescribedJob) → IsSound described → (1 ≤ described.bound.scale) × (described.bound.scale ≤ 10000)
 scale-range described h = subst (λ (n : ℕ). (1 ≤ n) × (n ≤ 10000)) (sym h.bound.scale.0) (power-range (weight_decimals described.job.rules described.meta.variables) h.bound.scale.1)
 
 -- ---- what the book is of

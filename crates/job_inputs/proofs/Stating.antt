@@ -17,8 +17,8 @@ use Rattle.job_inputs.proofs.Refusing.{fails-on}
 use Rattle.job_inputs.specs.ReadFiles.{bytes_of_file}
 use Rattle.job_inputs.specs.declared.file_ref.FileRef.TheVariants as file
 use Rattle.job_inputs.specs.PriorStatements.{basis_in, prior_line, with_file, with_files}
-use Rattle.job_inputs.specs.declared.counted.Counted.{Counted}
-use Rattle.job_inputs.specs.declared.described.Described.{Described}
+use Rattle.job_inputs.specs.declared.counted.CountedJob.{CountedJob}
+use Rattle.job_inputs.specs.declared.described.DescribedJob.{DescribedJob}
 use Rattle.job_inputs.specs.declared.inputs.Inputs.{Inputs}
 use Rattle.job_inputs.specs.declared.faults.Fault.{Fault}
 
@@ -28,11 +28,11 @@ unfolding with_files
 files-none files inputs priors n blanks many = rw (blanks, many) refl
 
 -- the file of one table more
-pub files-more : (files : Files) (inputs : Inputs) (described : Described) (t : ℕ) (stated next : List Prior) → described ≡ inputs.described → with_files files inputs t ≡ Ok stated
+pub files-more : (files : Files) (inputs : Inputs) (described : DescribedJob) (t : ℕ) (stated next : List Prior) → described ≡ inputs.described → with_files files inputs t ≡ Ok stated
     → with_file files inputs t (prior_line t described.job.priors) stated ≡ Ok next → with_files files inputs (t + 1) ≡ Ok next
 unfolding with_files
 files-more files inputs described t stated next is before one =
-    let here = subst (λ (d : Described). with_file files inputs t (prior_line t d.job.priors) stated ≡ Ok next) is one in
+    let here = subst (λ (d : DescribedJob). with_file files inputs t (prior_line t d.job.priors) stated ≡ Ok next) is one in
     rw (add-one, before) here
 
 -- a fault stands, however many tables follow
@@ -43,15 +43,15 @@ files-err files inputs (suc more) t tables f is h =
     let one : tables ≡ suc (more + t) = omega (arith, is) in
     rw (one, files-err files inputs more t (more + t) f refl h) refl
 
-one-stops : (files : Files) (inputs : Inputs) (described : Described) (t : ℕ) (stated : List Prior) (f : Fault) → described ≡ inputs.described → with_files files inputs t ≡ Ok stated
+one-stops : (files : Files) (inputs : Inputs) (described : DescribedJob) (t : ℕ) (stated : List Prior) (f : Fault) → described ≡ inputs.described → with_files files inputs t ≡ Ok stated
     → with_file files inputs t (prior_line t described.job.priors) stated ≡ Err f → with_files files inputs (t + 1) ≡ Err f
 unfolding with_files
 one-stops files inputs described t stated f is before stops =
-    let here = subst (λ (d : Described). with_file files inputs t (prior_line t d.job.priors) stated ≡ Err f) is stops in
+    let here = subst (λ (d : DescribedJob). with_file files inputs t (prior_line t d.job.priors) stated ≡ Err f) is stops in
     rw (add-one, before) here
 
 -- what stops one table's file stops all
-pub files-stop : (files : Files) (inputs : Inputs) (described : Described) (t tables : ℕ) (stated : List Prior) (o : Option Fault) → described ≡ inputs.described → with_files files inputs t ≡ Ok stated
+pub files-stop : (files : Files) (inputs : Inputs) (described : DescribedJob) (t tables : ℕ) (stated : List Prior) (o : Option Fault) → described ≡ inputs.described → with_files files inputs t ≡ Ok stated
     → Fails o (with_file files inputs t (prior_line t described.job.priors) stated) → t < tables → Fails o (with_files files inputs tables)
 files-stop files inputs described t tables stated None is before stops within = tt
 files-stop files inputs described t tables stated (Some f) is before stops within =
@@ -60,18 +60,18 @@ files-stop files inputs described t tables stated (Some f) is before stops withi
     files-err files inputs more (t + 1) tables f whole (one-stops files inputs described t stated f is before stops)
 
 -- what the code's book says of a file is what the inputs say of it
-pub apply-same : (inputs : Inputs) (counted : Counted) (t : ℕ) (line : PriorLine) (bytes : List ℕ) (priors : List Prior) → IsCountedOf inputs counted
+pub apply-same : (inputs : Inputs) (counted : CountedJob) (t : ℕ) (line : PriorLine) (bytes : List ℕ) (priors : List Prior) → IsCountedOf inputs counted
     → file_says (basis_of counted.book) t line.separator counted.described.bound.decimals priors bytes ≡ file_says (basis_in inputs) t line.separator inputs.described.bound.decimals priors bytes
 apply-same inputs counted t line bytes priors is =
-    ap (λ (d : Described). file_says (basis_of counted.book) t line.separator d.bound.decimals priors bytes) is.described
+    ap (λ (d : DescribedJob). file_says (basis_of counted.book) t line.separator d.bound.decimals priors bytes) is.described
     ∙ ap (λ (basis : Basis). file_says basis t line.separator inputs.described.bound.decimals priors bytes) (basis-is inputs counted.book is.book)
 
 -- a table's own file is looked at where those of the tables before it have no fault
-pub comes-statement : (files : Files) (inputs : Inputs) (described : Described) (t : ℕ) (stated : List Prior) (line : PriorLine) (held : List ℕ) → described ≡ inputs.described → with_files files inputs t ≡ Ok stated
+pub comes-statement : (files : Files) (inputs : Inputs) (described : DescribedJob) (t : ℕ) (stated : List Prior) (line : PriorLine) (held : List ℕ) → described ≡ inputs.described → with_files files inputs t ≡ Ok stated
     → prior_line t described.job.priors ≡ Some line → held ≡ line.file → StatementsComeTo files inputs t held
 comes-statement files inputs described t stated line held is before stands named = record {
   line = line;
-  stands = subst (λ (d : Described). prior_line t d.job.priors ≡ Some line) is stands;
+  stands = subst (λ (d : DescribedJob). prior_line t d.job.priors ≡ Some line) is stands;
   before = rw before refl;
   names = named;
 }

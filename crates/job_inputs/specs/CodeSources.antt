@@ -13,7 +13,7 @@ use Rattle.microdata.specs.declared.layout.Field.{Field}
 use Rattle.microdata.specs.declared.layout.Source.{Source}
 use Rattle.microdata.specs.declared.layout.Source.TheVariants as source
 use Rattle.job_inputs.specs.Layouts.{variables_at}
-use Rattle.job_inputs.specs.declared.described.Described.{Described}
+use Rattle.job_inputs.specs.declared.described.DescribedJob.{DescribedJob}
 use Rattle.job_inputs.specs.declared.file_ref.FileRef.{FileRef}
 use Rattle.job_inputs.specs.declared.file_ref.FileRef.TheVariants as file
 use Rattle.job_inputs.specs.declared.faults.Fault.{Fault}
@@ -71,9 +71,9 @@ fields_of files (one ∷ more) = do
   Ok (field ∷ fields)
 
 -- the variables that span a job's tables, each with its place in the metadata
-abbrev pub spanning_variables : Described → List (ℕ × Variable)
+abbrev pub spanning_variables : DescribedJob → List (ℕ × Variable)
 spanning_variables described = variables_at described.meta.variables described.bound.spanning
 
 -- the fields of the variables that span a job's tables, or the first fault of their files
-abbrev pub spanning_fields : Files → Described → Result (List Field) Fault
+abbrev pub spanning_fields : Files → DescribedJob → Result (List Field) Fault
 spanning_fields files described = fields_of files (spanning_variables described)

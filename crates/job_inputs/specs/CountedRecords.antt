@@ -3,7 +3,7 @@ use Rattle.std.specs.Prelude.{◌≡◌, ◌<◌, ◌^◌, length, ℕ, List, Re
 use Rattle.linked_tables.specs.BookCells.{cells}
 use Rattle.job_inputs.specs.SoundJobs.{IsSound}
 use Rattle.job_inputs.specs.TabulatedBooks.{IsBookOf, IsReadyFor}
-use Rattle.job_inputs.specs.declared.counted.Counted.{Counted}
+use Rattle.job_inputs.specs.declared.counted.CountedJob.{CountedJob}
 use Rattle.job_inputs.specs.declared.inputs.Inputs.{Inputs}
 use Rattle.sdc_base.specs.Answers.{Gives}
 use Rattle.sdc_base.specs.WhereTold.{WhereTold}
@@ -14,14 +14,14 @@ use Rattle.job_inputs.specs.Reading.{stopped_for}
 use Rattle.job_inputs.specs.declared.stop.InputStop.{InputStop}
 
 -- the job, its book with its records, and how many records there are and were skipped are those of the inputs
-pub record IsCountedOf (inputs : Inputs) (counted : Counted) : Type 0 where
+pub record IsCountedOf (inputs : Inputs) (counted : CountedJob) : Type 0 where
   pub described : counted.described ≡ inputs.described
   pub book : IsBookOf inputs counted.book
   pub records : counted.records ≡ length inputs.records.rows
   pub skipped : counted.skipped ≡ inputs.records.skipped
 
 -- the job is within its limits, and its book has a mark for each cell and is ready for what a release wants of it
-pub record IsReady (counted : Counted) : Type 0 where
+pub record IsReady (counted : CountedJob) : Type 0 where
   pub sound : IsSound counted.described
   pub book : IsReadyFor counted.described counted.book
   pub one_each : length counted.book.marks ≡ length (cells counted.book)
@@ -29,7 +29,7 @@ pub record IsReady (counted : Counted) : Type 0 where
 
 -- The answer, with these priors after it, is what is stated with a table's a priori file beside those before it, or the
 -- first fault of the file: of inputs whose records are counted so, and files of this shelf as far as they are told.
-abbrev pub StatesFile : ShelfState → Counted → ℕ → Result (Unit {0}) InputStop → List Prior → List Prior → Type 0
+abbrev pub StatesFile : ShelfState → CountedJob → ℕ → Result (Unit {0}) InputStop → List Prior → List Prior → Type 0
 StatesFile shelf counted t result before after =
     (inputs : Inputs) → IsCountedOf inputs counted → WhereTold shelf.files (λ fs.
     Gives stopped_for (λ fine. after) result (with_file fs inputs t (prior_line t counted.described.job.priors) before))

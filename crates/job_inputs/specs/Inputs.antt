@@ -15,7 +15,7 @@ use Rattle.microdata.specs.declared.records.Records.{Records}
 use Rattle.job_inputs.specs.Layouts.{layout_of}
 use Rattle.job_inputs.specs.Purposes.{is_unfit}
 use Rattle.job_inputs.specs.declared.purpose.Purpose.{Purpose}
-use Rattle.job_inputs.specs.declared.described.Described.{Described}
+use Rattle.job_inputs.specs.declared.described.DescribedJob.{DescribedJob}
 use Rattle.job_inputs.specs.declared.inputs.Inputs.{Inputs}
 use Rattle.job_inputs.specs.declared.file_ref.FileRef.TheVariants as file
 use Rattle.job_inputs.specs.declared.faults.Fault.{Fault}
@@ -34,7 +34,7 @@ job_for purpose bytes = do
 
 -- The job, its metadata, and the job's variables looked up in these, or the first fault: the job's file, what it says
 -- for this purpose, the metadata's file, what they say, and then what of the job they don't have.
-unfoldable pub described_of : Purpose → Files → List ℕ → Result Described Fault
+unfoldable pub described_of : Purpose → Files → List ℕ → Result DescribedJob Fault
 described_of purpose files name = do
   bytes ← bytes_of_file files name file.Job
   job ← job_for purpose bytes

@@ -12,7 +12,7 @@ use Rattle.job_inputs.specs.Inputs.{job_for, described_of, inputs_of}
 use Rattle.job_inputs.specs.CodeSources.{codes_in, fields_of, spanning_variables}
 use Rattle.job_inputs.specs.ReadFiles.{bytes_of_file}
 use Rattle.job_inputs.specs.PriorStatements.{prior_line, with_files}
-use Rattle.job_inputs.specs.declared.described.Described.{Described}
+use Rattle.job_inputs.specs.declared.described.DescribedJob.{DescribedJob}
 use Rattle.job_inputs.specs.declared.inputs.Inputs.{Inputs}
 use Rattle.job_inputs.specs.declared.file_ref.FileRef.{FileRef}
 use Rattle.job_inputs.specs.declared.file_ref.FileRef.TheVariants as file
@@ -90,14 +90,14 @@ IsPriorFileOf t lines f held =
 abbrev pub ComesTo : Purpose → Files → List ℕ → FileRef → List ℕ → Type 0
 ComesTo purpose files name file.Job held = ComesFirstTo purpose files name file.Job held
 ComesTo purpose files name file.Metadata held = ComesFirstTo purpose files name file.Metadata held
-ComesTo purpose files name (file.CodeList at) held = (described : Described)
+ComesTo purpose files name (file.CodeList at) held = (described : DescribedJob)
     × (described_of purpose files name ≡ Ok described)
     × FieldsComeTo files (spanning_variables described) (file.CodeList at) held
-ComesTo purpose files name (file.Hierarchy at) held = (described : Described)
+ComesTo purpose files name (file.Hierarchy at) held = (described : DescribedJob)
     × (described_of purpose files name ≡ Ok described)
     × FieldsComeTo files (spanning_variables described) (file.Hierarchy at) held
 ComesTo purpose files name file.Microdata held =
-    (described : Described) × (described_of purpose files name ≡ Ok described)
+    (described : DescribedJob) × (described_of purpose files name ≡ Ok described)
     × IsOk (fields_of files (spanning_variables described)) × (held ≡ described.job.micro)
 ComesTo purpose files name (file.Apriori t) held = (inputs : Inputs) × (inputs_of purpose files name ≡ Ok inputs)
     × IsOk (book_of inputs.records.trees inputs.described.bound.tables) × StatementsComeTo files inputs t held

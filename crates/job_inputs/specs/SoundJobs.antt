@@ -10,11 +10,11 @@ use Rattle.job_lang.specs.Binding.{places_of}
 use Rattle.microdata.specs.Leaves.{AreLeaves}
 use Rattle.microdata.specs.Ranges.{IsRow}
 use Rattle.microdata.specs.declared.records.Records.{Records}
-use Rattle.job_inputs.specs.declared.described.Described.{Described}
+use Rattle.job_inputs.specs.declared.described.DescribedJob.{DescribedJob}
 use Rattle.job_inputs.specs.declared.inputs.Inputs.{Inputs}
 
 -- the job, the metadata and the places of the job's variables are within their limits
-pub record IsSound (described : Described) : Type 0 where
+pub record IsSound (described : DescribedJob) : Type 0 where
   pub job : IsJob described.job
   pub meta : IsMeta described.meta
   pub bound : IsBound described.job described.meta.variables described.bound

@@ -6,7 +6,7 @@ use Rattle.linked_tables.specs.BookViews.{BookView}
 use Rattle.linked_tables.specs.BookCells.{cells}
 use Rattle.primary_rules.specs.Ranges.{IsTruth}
 use Rattle.tabulate.specs.TabulatedMarks.{AreTabulated}
-use Rattle.job_inputs.specs.declared.described.Described.{Described}
+use Rattle.job_inputs.specs.declared.described.DescribedJob.{DescribedJob}
 use Rattle.job_inputs.specs.declared.inputs.Inputs.{Inputs}
 
 -- the book has the trees of the inputs, the tables of the job, and a mark for each cell, which tells of the cell's
@@ -20,7 +20,7 @@ pub record IsBookOf (inputs : Inputs) (book : BookView) : Type 0 where
 
 -- the book has a job's tables, its truths and numbers of records are within their limits, and its lists keep as many as
 -- the rules look at
-pub record IsReadyFor (described : Described) (book : BookView) : Type 0 where
+pub record IsReadyFor (described : DescribedJob) (book : BookView) : Type 0 where
   pub tables : book.tables ≡ described.bound.tables
   pub truths : All (λ mark. IsTruth mark.facts.truth) book.marks
   pub costed : All (λ mark. AreCosted mark.facts) book.marks

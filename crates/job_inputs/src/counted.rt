@@ -7,8 +7,8 @@ ghost use Rattle.job_inputs.specs.Refusals.{refused_for};
 ghost use Rattle.job_inputs.specs.Cells.{cells_fault};
 ghost use Rattle.job_inputs.specs.SoundJobs.{AreSound};
 
-use crate::described::Described;
-use crate::filled::{filled, linked_book};
+use crate::described::DescribedJob;
+use crate::filled::{book_with_records, linked_book};
 use crate::inputs::Inputs;
 use crate::refusal::Refusal;
 use linked_tables::Book;
@@ -17,8 +17,8 @@ use std::alloc::Global;
 
 /// A job with its book, whose cells have their records, and with how many records there are and were skipped.
 #[derive(Drop)]
-pub(crate) struct Counted {
-    pub described: Described,
+pub(crate) struct CountedJob {
+    pub described: DescribedJob,
     pub book: Book,
     pub records: u64,
     pub skipped: u64,
@@ -27,7 +27,7 @@ pub(crate) struct Counted {
 /// The inputs of a job with the records in the cells of its tables.
 ///
 /// It is refused with the first table up to which there are too many cells.
-pub(crate) fn count_records(alloc: Global, inputs: Inputs) -> Result<Counted, Refusal>
+pub(crate) fn count_records(alloc: Global, inputs: Inputs) -> Result<CountedJob, Refusal>
     requires { AreSound inputs }
     ensures told { Gives refused_for (λ counted. (counted.book.trees, counted.book.tables)) result
         (map_fault cells_fault (book_of inputs.records.trees inputs.described.bound.tables)) }
@@ -41,9 +41,9 @@ pub(crate) fn count_records(alloc: Global, inputs: Inputs) -> Result<Counted, Re
         skipped,
     } = records;
     let book = linked_book(alloc, &described, trees)?;
-    let book = filled(book, &described, rows.as_slice());
+    let book = book_with_records(book, &described, rows.as_slice());
     let records = rows.as_slice().len() as u64;
-    Ok(Counted {
+    Ok(CountedJob {
         described,
         book,
         records,

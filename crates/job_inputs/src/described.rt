@@ -27,7 +27,7 @@ use std::alloc::Global;
 
 /// A job with its metadata, and its variables looked up in these.
 #[derive(Drop)]
-pub struct Described {
+pub struct DescribedJob {
     pub job: Job,
     pub meta: Meta,
     pub bound: Bound,
@@ -44,7 +44,7 @@ pub(crate) fn read_described<S: Shelf>(
     shelf: &mut S,
     name: &Text,
     purpose: Purpose,
-) -> Result<Described, InputStop>
+) -> Result<DescribedJob, InputStop>
     ensures reads { IsReadFrom (λ read. read) (λ fs. described_of purpose fs name.now)
         (λ fs. ComesFirstTo purpose fs name.now) result (S.state shelf.old) (S.state shelf.new) }
     ensures sound { IfOk result IsSound }
@@ -54,7 +54,7 @@ pub(crate) fn read_described<S: Shelf>(
     let text = load(alloc, shelf, &job.meta, FileRef::Metadata)?;
     let meta = meta_in(alloc, text.as_slice())?;
     let bound = bound_in(alloc, &job, &meta)?;
-    Ok(Described { job, meta, bound })
+    Ok(DescribedJob { job, meta, bound })
 }
 
 // The job that the bytes state, for a purpose.

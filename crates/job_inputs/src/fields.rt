@@ -10,7 +10,7 @@ ghost use Rattle.job_inputs.specs.Reading.{IsReadFrom};
 ghost use Rattle.job_inputs.specs.SoundJobs.{IsSound};
 
 use crate::codes::{read_list, read_tree};
-use crate::described::Described;
+use crate::described::DescribedJob;
 use crate::stop::InputStop;
 use microdata::{Field, Source};
 use office_io::Shelf;
@@ -25,7 +25,7 @@ use std::alloc::Global;
 pub(crate) fn read_fields<S: Shelf>(
     alloc: Global,
     shelf: &mut S,
-    described: &Described,
+    described: &DescribedJob,
 ) -> Result<Items<Field>, InputStop>
     requires { IsSound described.now }
     ensures reads { IsReadFrom (λ fields. fields) (λ fs. spanning_fields fs described.now)

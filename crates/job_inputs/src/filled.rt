@@ -11,7 +11,7 @@ ghost use Rattle.job_inputs.specs.Refusals as refusals;
 ghost use Rattle.job_inputs.specs.Cells.{cells_fault};
 ghost use Rattle.job_inputs.specs.SoundJobs.{IsSound, AreRows};
 
-use crate::described::Described;
+use crate::described::DescribedJob;
 use crate::faults::Fault;
 use crate::refusal::Refusal;
 use hierarchy::CodeTree;
@@ -27,7 +27,7 @@ use tabulate::tabulate;
 #[tactic(auto, using(crate::proofs::Refusing::cells_refuse))]
 pub(crate) fn linked_book(
     alloc: Global,
-    described: &Described,
+    described: &DescribedJob,
     trees: Items<CodeTree>,
 ) -> Result<Book, Refusal>
     requires sound { IsSound described.now }
@@ -70,7 +70,7 @@ fn cells_refusal(fault: BookFault) -> Refusal
 
 /// The book with the records in its cells: each mark has the sum, the number and the largest of those that fall in its
 /// cell.
-pub(crate) fn filled(book: Book, described: &Described, rows: &[Row]) -> Book
+pub(crate) fn book_with_records(book: Book, described: &DescribedJob, rows: &[Row]) -> Book
     requires sound { IsSound described.now }
     requires blank { All IsBlank book.marks }
     requires rows { AreRows book.trees described.now.bound.scale rows.now }

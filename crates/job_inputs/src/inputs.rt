@@ -4,7 +4,7 @@ ghost use Rattle.job_inputs.specs.Looks.{ComesTo};
 ghost use Rattle.job_inputs.specs.Reading.{IsReadFrom};
 ghost use Rattle.job_inputs.specs.SoundJobs.{AreSound};
 
-use crate::described::{Described, read_described};
+use crate::described::{DescribedJob, read_described};
 use crate::fields::read_fields;
 use crate::layouts::layout_for;
 use crate::microdata_file::read_records;
@@ -18,7 +18,7 @@ use std::alloc::Global;
 /// All that the input files of a job hold.
 #[derive(Drop)]
 pub struct Inputs {
-    pub described: Described,
+    pub described: DescribedJob,
     pub records: Records,
 }
 

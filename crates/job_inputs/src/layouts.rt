@@ -6,7 +6,7 @@ ghost use Rattle.job_inputs.specs.Layouts as spec;
 ghost use Rattle.job_inputs.specs.PlacedFields.{IsPlaced, IsPlacedField, IsPlacedNumber};
 ghost use Rattle.job_inputs.specs.SoundJobs.{IsSound};
 
-use crate::described::Described;
+use crate::described::DescribedJob;
 use crate::fields::variable_at;
 use microdata::{Field, Layout, NumberField};
 use rda_meta::Variable;
@@ -17,7 +17,7 @@ use std::alloc::Global;
 #[tactic(auto, using(crate::proofs::Placing::is_layout))]
 pub(crate) fn layout_for(
     alloc: Global,
-    described: &Described,
+    described: &DescribedJob,
     fields: Items<Field>,
 ) -> Result<Layout, Memory>
     requires sound { IsSound described.now }
@@ -38,7 +38,7 @@ pub(crate) fn layout_for(
 }
 
 // The response.
-fn response_of(alloc: Global, described: &Described) -> Result<NumberField, Memory>
+fn response_of(alloc: Global, described: &DescribedJob) -> Result<NumberField, Memory>
     requires { IsSound described.now }
     ensures exact { IfOk result (λ number. number ≡ number_at described.now.meta.variables described.now.bound.response) }
 {
@@ -50,7 +50,7 @@ fn response_of(alloc: Global, described: &Described) -> Result<NumberField, Memo
 }
 
 // The weight, where the job has weights.
-fn weight_of(alloc: Global, described: &Described) -> Result<Option<NumberField>, Memory>
+fn weight_of(alloc: Global, described: &DescribedJob) -> Result<Option<NumberField>, Memory>
     requires { IsSound described.now }
     ensures exact { IfOk result (λ weight. weight ≡ weight_in described.now.meta.variables described.now.bound) }
 {

@@ -26,7 +26,7 @@ mod stop;
 mod tables;
 
 pub use certificate_file::read_certificate_file;
-pub use described::Described;
+pub use described::DescribedJob;
 pub use faults::Fault;
 pub use file_ref::FileRef;
 pub use inputs::Inputs;

@@ -14,8 +14,8 @@ ghost use Rattle.job_inputs.specs.SettledJobs as spec;
 ghost use Rattle.job_inputs.specs.SoundJobs.{AreSound};
 ghost use Rattle.job_inputs.specs.declared.inputs.Inputs.{Inputs as AnyInputs};
 
-use crate::counted::{Counted, count_records};
-use crate::described::Described;
+use crate::counted::{CountedJob, count_records};
+use crate::described::DescribedJob;
 use crate::inputs::read_inputs;
 use crate::outputs::check_outputs;
 use crate::purpose::Purpose;
@@ -32,7 +32,7 @@ use std::alloc::Global;
 /// and how many records there are and were skipped.
 #[derive(Drop)]
 pub struct SettledJob {
-    pub described: Described,
+    pub described: DescribedJob,
     pub book: Book,
     pub cells: Items<Cell>,
     pub records: u64,
@@ -79,7 +79,11 @@ pub fn read_settled<S: Shelf>(
 
 // What each cell is to its protection.
 #[tactic(auto, using(crate::proofs::Refusing::prior_is_for_contents))]
-fn settled_cells(alloc: Global, counted: &Counted, priors: &[Prior]) -> Result<Items<Cell>, Refusal>
+fn settled_cells(
+    alloc: Global,
+    counted: &CountedJob,
+    priors: &[Prior],
+) -> Result<Items<Cell>, Refusal>
     requires ready { IsReady counted.now }
     requires priors { ArePriors counted.now.book.marks priors.now }
     ensures gives { (inputs : AnyInputs) → IsCountedOf inputs counted.now

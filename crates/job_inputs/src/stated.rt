@@ -12,7 +12,7 @@ ghost use Rattle.job_inputs.specs.PriorStatements.{with_file, priors_of};
 ghost use Rattle.job_inputs.specs.PriorStatements as spec;
 ghost use Rattle.job_inputs.specs.declared.inputs.Inputs.{Inputs as AnyInputs};
 
-use crate::counted::Counted;
+use crate::counted::CountedJob;
 use crate::file_ref::FileRef;
 use crate::loading::load;
 use crate::refusal::Refusal;
@@ -29,7 +29,7 @@ use std::alloc::Global;
 pub(crate) fn read_priors<S: Shelf>(
     alloc: Global,
     shelf: &mut S,
-    counted: &Counted,
+    counted: &CountedJob,
 ) -> Result<Items<Prior>, InputStop>
     requires { IsReady counted.now }
     ensures told { (inputs : AnyInputs) → IsCountedOf inputs counted.now
@@ -55,7 +55,7 @@ pub(crate) fn read_priors<S: Shelf>(
 fn add_file<S: Shelf>(
     alloc: Global,
     shelf: &mut S,
-    counted: &Counted,
+    counted: &CountedJob,
     t: u32,
     priors: &mut Vec<Prior>,
 ) -> Result<(), InputStop>
@@ -93,7 +93,7 @@ fn prior_line(lines: &[PriorLine], t: u32) -> Option<&PriorLine>
 #[tactic(auto, using(crate::proofs::Refusing::prior_is_for_contents))]
 fn state(
     alloc: Global,
-    counted: &Counted,
+    counted: &CountedJob,
     t: u32,
     line: &PriorLine,
     priors: &mut Vec<Prior>,

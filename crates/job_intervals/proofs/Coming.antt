@@ -7,7 +7,7 @@ use Rattle.job_inputs.proofs.Refusing.{fails-on}
 use Rattle.job_inputs.specs.Looks.{ComesTo as ComesToInput}
 use Rattle.job_inputs.specs.SettledJobs.{SettledInputs, settled_of}
 use Rattle.job_inputs.specs.Tables.{tables_of, TablesComeTo, ComesToTables}
-use Rattle.job_inputs.specs.declared.described.Described.{Described}
+use Rattle.job_inputs.specs.declared.described.DescribedJob.{DescribedJob}
 use Rattle.job_inputs.specs.declared.faults.Fault.{Fault}
 use Rattle.job_inputs.specs.declared.faults.Fault.TheVariants as fault
 use Rattle.job_inputs.specs.declared.file_ref.FileRef.{FileRef}
@@ -46,8 +46,8 @@ unfolding shelved_of
 shelved_is files name out settled tables read fine are = rw (read, fine, are) refl
 
 -- the name of the file to be put is looked at alike for the job that was read and for the told one
-pub out_same : (name out : List ℕ) (one other : Described) (looked : Result (Unit {0}) Fault) → looked ≡ refuse fault.OutName (overwrites name out one) → one ≡ other → refuse fault.OutName (overwrites name out other) ≡ looked
-out_same name out one other looked is same = sym (is ∙ ap (λ (d : Described). refuse fault.OutName (overwrites name out d)) same)
+pub out_same : (name out : List ℕ) (one other : DescribedJob) (looked : Result (Unit {0}) Fault) → looked ≡ refuse fault.OutName (overwrites name out one) → one ≡ other → refuse fault.OutName (overwrites name out other) ≡ looked
+out_same name out one other looked is same = sym (is ∙ ap (λ (d : DescribedJob). refuse fault.OutName (overwrites name out d)) same)
 
 -- ---- to which file the run came
 
@@ -73,7 +73,7 @@ table_at files name out settled t f held read fine is comes =
     rw is (record { settled = settled; read = read; overwrites_none = not_refused fault.OutName (overwrites name out settled.inputs.described) fine; comes = comes })
 
 -- and so is a table, where the inputs and the name of the file to be put have no fault
-pub table_comes : (files : Files) (name out : List ℕ) (settled : SettledInputs) (described : Described) (f : FileRef) (held : List ℕ) → settled_of purpose.Intervals files name ≡ Ok settled → refuse fault.OutName (overwrites name out settled.inputs.described) ≡ Ok tt
+pub table_comes : (files : Files) (name out : List ℕ) (settled : SettledInputs) (described : DescribedJob) (f : FileRef) (held : List ℕ) → settled_of purpose.Intervals files name ≡ Ok settled → refuse fault.OutName (overwrites name out settled.inputs.described) ≡ Ok tt
     → described ≡ settled.inputs.described → ComesToTables files described.job f held → ComesTo files name out f held
 table_comes files name out settled described f held read fine is comes =
-    table_at files name out settled comes.0 f held read fine comes.1 (subst (λ (d : Described). TablesComeTo files d.job comes.0 held) is comes.2)
+    table_at files name out settled comes.0 f held read fine comes.1 (subst (λ (d : DescribedJob). TablesComeTo files d.job comes.0 held) is comes.2)

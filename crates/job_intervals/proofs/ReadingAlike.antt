@@ -21,7 +21,7 @@ use Rattle.job_inputs.specs.Cells.{cells, truth_in}
 use Rattle.job_inputs.specs.SettledJobs.{SettledInputs, IsSettledOf}
 use Rattle.job_inputs.specs.Tables.{names_of}
 use Rattle.job_inputs.specs.TabulatedBooks.{IsBookOf}
-use Rattle.job_inputs.specs.declared.described.Described.{Described}
+use Rattle.job_inputs.specs.declared.described.DescribedJob.{DescribedJob}
 use Rattle.job_inputs.specs.declared.inputs.Inputs.{Inputs}
 use Rattle.job_inputs.specs.declared.settled.SettledJob.{SettledJob}
 use Rattle.job_intervals.specs.ShownTables.{flags_in, lines_read}
@@ -113,7 +113,7 @@ same_flags one other tables lines fixed = rw lines (bind_same (lines_read other 
 
 same_lines : (one other : SettledJob) (tables : List (List ℕ)) → one.described ≡ other.described → hidden_read one.book (map names_of other.described.job.tables) other.described.bound.decimals tables ≡ hidden_read other.book (map names_of other.described.job.tables) other.described.bound.decimals tables
     → lines_read one tables ≡ lines_read other tables
-same_lines one other tables described alike = ap (λ (d : Described). map_fault at_line (hidden_read one.book (map names_of d.job.tables) d.bound.decimals tables)) described ∙ ap (map_fault at_line) alike
+same_lines one other tables described alike = ap (λ (d : DescribedJob). map_fault at_line (hidden_read one.book (map names_of d.job.tables) d.bound.decimals tables)) described ∙ ap (map_fault at_line) alike
 
 -- so tables show one hidden set, or have one first fault, for all jobs of the same settled inputs
 pub tables_are_read_alike : (settled : SettledInputs) (one other : SettledJob) (tables : List (List ℕ)) → IsSettledOf settled one → IsSettledOf settled other → flags_in one tables ≡ flags_in other tables

@@ -6,7 +6,7 @@ use Rattle.rda_meta.specs.declared.meta.Variable.{Variable}
 use Rattle.job_lang.specs.BindingFaults.{is_code_list, is_hierarchy_file}
 use Rattle.job_lang.specs.declared.job.Job.{Job}
 use Rattle.job_inputs.specs.CodeSources.{spanning_variables}
-use Rattle.job_inputs.specs.declared.described.Described.{Described}
+use Rattle.job_inputs.specs.declared.described.DescribedJob.{DescribedJob}
 
 -- the job names this file: as its microdata, its metadata, an a priori file, the file of a table or the certificate
 abbrev pub is_named_in : List ℕ → Job → Bool
@@ -19,10 +19,10 @@ abbrev pub is_coded_by : List ℕ → Variable → Bool
 is_coded_by file variable = is_code_list file variable.codes || is_hierarchy_file file variable.shape
 
 -- the codes of a variable that spans a table, or their hierarchy, are in this file
-abbrev pub has_codes_in : List ℕ → Described → Bool
+abbrev pub has_codes_in : List ℕ → DescribedJob → Bool
 has_codes_in file described = list_any (λ one. is_coded_by file one.1) (spanning_variables described)
 
 -- A file that is put under the name `out` would overwrite the file of the job, which has this name, or one that the job
 -- names, or the code list or the hierarchy file of a variable that spans a table.
-abbrev pub overwrites : List ℕ → List ℕ → Described → Bool
+abbrev pub overwrites : List ℕ → List ℕ → DescribedJob → Bool
 overwrites name out described = bytes_eq name out || is_named_in out described.job || has_codes_in out described

@@ -46,8 +46,7 @@ pub fn find_intervals<S: Shelf>(
 ) -> Result<IntervalFile, IntervalStop>
     // The answer is what the told files come to: the first fault of inputs, name and tables' files, or else what the
     // tables come to.
-    ensures told { WhereTold (S.state shelf.old).files (λ fs. AnswersIntervals (shelved_of fs name.now out.now) result)
-        }
+    ensures told { WhereTold (S.state shelf.old).files (λ fs. AnswersIntervals (shelved_of fs name.now out.now) result) }
 
     // Over a shelf that tells nothing too, the answer is that of some inputs within their limits, with some tables.
     ensures found { IsFound result }

@@ -6,14 +6,14 @@ ghost use Rattle.sdc_base.specs.Steps.{refuse};
 ghost use Rattle.job_lang.specs.BindingFaults as binding;
 ghost use Rattle.job_intervals.specs.OutNames as spec;
 
-use job_inputs::{Described, Fault};
+use job_inputs::{DescribedJob, Fault};
 use job_lang::{Job, OutputLine, PriorLine};
 use rda_meta::{Shape, Variable};
 use sdc_base::Text;
 
 /// Refuses a file to be put that would overwrite the job's file, a file that the job names, or one that the metadata
 /// name for a variable that spans a table.
-pub(crate) fn check_out(name: &Text, out: &Text, described: &Described) -> Result<(), Fault>
+pub(crate) fn check_out(name: &Text, out: &Text, described: &DescribedJob) -> Result<(), Fault>
     ensures { result ≡ refuse Fault.OutName (spec.overwrites name.now out.now described.now) }
 {
     if name.equals(out) || is_named_in(out, &described.job) || has_codes_in(out, described) {
@@ -49,7 +49,7 @@ fn is_output(file: &Text, outputs: &[OutputLine]) -> bool
 
 // Whether a variable that spans a table has its codes or their hierarchy in this file.
 #[tactic(auto, using(crate::proofs::Overwriting::any_spanning))]
-fn has_codes_in(file: &Text, described: &Described) -> bool
+fn has_codes_in(file: &Text, described: &DescribedJob) -> bool
     ensures { result ≡ spec.has_codes_in file.now described.now }
 {
     is_of_any(

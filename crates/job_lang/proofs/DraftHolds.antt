@@ -17,8 +17,8 @@ use Rattle.job_lang.specs.declared.faults.JobWhy.TheVariants.{BadValue, UnknownC
 use Rattle.job_lang.specs.declared.job.TableLine.{TableLine}
 use Rattle.job_lang.specs.declared.statement.Keyword.{Keyword}
 use Rattle.job_lang.specs.declared.statement.Keyword.TheVariants.{OpenMicrodata, OpenMetadata, SpecifyTable, SafetyRule, ReadMicrodata, Apriori, Cost, Steps, Nodes, Suppress, WriteTable, Certificate}
-use Rattle.job_lang.specs.declared.statement.Said.{Said}
-use Rattle.job_lang.specs.declared.statement.Said.TheVariants as said
+use Rattle.job_lang.specs.declared.statement.Instruction.{Instruction}
+use Rattle.job_lang.specs.declared.statement.Instruction.TheVariants as said
 use Rattle.job_lang.specs.declared.statement.Draft.{Draft}
 use Rattle.job_lang.specs.Faults.{at_line}
 use Rattle.job_lang.specs.LineTokens.{is_next, behind_mark, quoted_at, digits_at, end_of_tokens, closing_token}
@@ -34,7 +34,7 @@ use Rattle.job_lang.proofs.Known.{then_known, known, either_known, not_refused, 
 use Rattle.job_lang.proofs.ClausesHold.{rules_known, work_known, method_known}
 
 -- what is said of a table, rules, a method and work is within the limits
-abbrev pub IsSaid : Said → Type 0
+abbrev pub IsSaid : Instruction → Type 0
 IsSaid (said.Table variables response) = (0 < length variables) × (length variables ≤ 4) × IsDistinct bytes_eq variables
 IsSaid (said.Safety rules) = AreInRange rules
 IsSaid (said.Steps steps) = IsWork steps
@@ -158,7 +158,7 @@ table_kept line draft variables response is fits =
       said = is.said;
     }))
 
-statement_kept : (line : ℕ) (draft : Draft) (one : Said) → IsDraft draft → IsSaid one → IfOk (with_statement line draft one) IsDraft
+statement_kept : (line : ℕ) (draft : Draft) (one : Instruction) → IsDraft draft → IsSaid one → IfOk (with_statement line draft one) IsDraft
 unfolding with_statement
 statement_kept line draft one is fits =
     then_known IsDraft (refuse Twice (is_again one draft.said)) _ (λ once h.
@@ -171,7 +171,7 @@ statement_kept line draft one is fits =
       said = all_and_last (λ s. IsSaid s.said) draft.said (record { line = line; said = one }) is.said fits;
     })
 
-said_kept : (line : ℕ) (draft : Draft) (one : Said) → IsDraft draft → IsSaid one → IfOk (with_said line draft one) IsDraft
+said_kept : (line : ℕ) (draft : Draft) (one : Instruction) → IsDraft draft → IsSaid one → IfOk (with_said line draft one) IsDraft
 unfolding with_said
 said_kept line draft (said.Table variables response) is fits = table_kept line draft variables response is fits
 said_kept line draft one is fits = statement_kept line draft one is fits

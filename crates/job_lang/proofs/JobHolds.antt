@@ -14,8 +14,8 @@ use Rattle.job_lang.specs.declared.job.PriorLine.{PriorLine}
 use Rattle.job_lang.specs.declared.looked_up.RulesLine.{RulesLine}
 use Rattle.job_lang.specs.declared.statement.Keyword.{Keyword}
 use Rattle.job_lang.specs.declared.statement.Keyword.TheVariants as keyword
-use Rattle.job_lang.specs.declared.statement.Said.{Said}
-use Rattle.job_lang.specs.declared.statement.Said.TheVariants as said
+use Rattle.job_lang.specs.declared.statement.Instruction.{Instruction}
+use Rattle.job_lang.specs.declared.statement.Instruction.TheVariants as said
 use Rattle.job_lang.specs.declared.statement.Statement.{Statement}
 use Rattle.job_lang.specs.declared.statement.Draft.{Draft}
 use Rattle.job_lang.specs.Statements.{is_by, lines_say, empty_draft}
@@ -41,7 +41,7 @@ IfSaid o = (s : Statement) → o ≡ Some s → IsSaid s.said
 by_known : (word : Keyword) (all : List Statement) → AllByRecursion (λ s. IsSaid s.said) all → IfSaid (said_by word all)
 by_known word all holds s h = find_known (λ s. IsSaid s.said) (λ s. is_by word s.said) all holds s h
 
-rules_from_known : (line : ℕ) (one : Said) (r : RulesLine) → IsSaid one → rules_from line one ≡ Some r → AreInRange r.rules
+rules_from_known : (line : ℕ) (one : Instruction) (r : RulesLine) → IsSaid one → rules_from line one ≡ Some r → AreInRange r.rules
 rules_from_known line (said.Safety rules) r fits h =
     let same : ◌≡◌ {A = RulesLine} (record { line = line; rules = rules }) r = cc in
     subst (λ (r : RulesLine). AreInRange r.rules) same fits
@@ -51,7 +51,7 @@ rules_line_known : (o : Option Statement) (r : RulesLine) → IfSaid o → rules
 rules_line_known None r holds h = absurd cc
 rules_line_known (Some s) r holds h = rules_from_known s.line s.said r (holds s refl) h
 
-method_from_known : (one : Said) (m : Method) → IsSaid one → method_from one ≡ Some m → IsMethod m
+method_from_known : (one : Instruction) (m : Method) → IsSaid one → method_from one ≡ Some m → IsMethod m
 method_from_known (said.Suppress method) m fits h = let same : method ≡ m = cc in subst IsMethod same fits
 method_from_known one m fits h = absurd cc
 
@@ -59,7 +59,7 @@ method_of_known : (o : Option Statement) (m : Method) → IfSaid o → method_of
 method_of_known None m holds h = absurd cc
 method_of_known (Some s) m holds h = method_from_known s.said m (holds s refl) h
 
-work_from_known : (usual : ℕ) (one : Said) → IsSaid one → IsWork usual → IsWork (work_from usual one)
+work_from_known : (usual : ℕ) (one : Instruction) → IsSaid one → IsWork usual → IsWork (work_from usual one)
 work_from_known usual (said.Steps n) fits w = fits
 work_from_known usual (said.Nodes n) fits w = fits
 work_from_known usual one fits w = w
@@ -91,7 +91,7 @@ place_within count number few h =
     let there = wider (is_number number) (digits_value 10 number) count few (was_there _ (digits_value 10 number) h) in
     rw there.0 (omega (arith, there.1, there.2))
 
-prior_known : (count line : ℕ) (one : Said) → count ≤ 8 → is_astray count one ≡ false → AllByRecursion (λ (p : PriorLine). p.table < count) (prior_in line one)
+prior_known : (count line : ℕ) (one : Instruction) → count ≤ 8 → is_astray count one ≡ false → AllByRecursion (λ (p : PriorLine). p.table < count) (prior_in line one)
 prior_known count line (said.Prior file number separator) few h = (place_within count number few h, tt)
 prior_known count line one few h = tt
 

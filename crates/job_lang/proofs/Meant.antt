@@ -19,8 +19,8 @@ use Rattle.job_lang.specs.declared.job.TableLine.{TableLine}
 use Rattle.job_lang.specs.declared.looked_up.RulesLine.{RulesLine}
 use Rattle.job_lang.specs.declared.statement.Keyword.{Keyword}
 use Rattle.job_lang.specs.declared.statement.Keyword.TheVariants as keyword
-use Rattle.job_lang.specs.declared.statement.Said.{Said}
-use Rattle.job_lang.specs.declared.statement.Said.TheVariants as said
+use Rattle.job_lang.specs.declared.statement.Instruction.{Instruction}
+use Rattle.job_lang.specs.declared.statement.Instruction.TheVariants as said
 use Rattle.job_lang.specs.declared.statement.Statement.{Statement}
 use Rattle.job_lang.specs.declared.statement.Draft.{Draft}
 use Rattle.job_lang.specs.Faults.{at_line}
@@ -67,14 +67,14 @@ table_adds line draft next variables response h =
     let is = same_value (record draft { tables = draft.tables ++ record { line = line; variables = variables; response = response } ∷ [] }) next b.2 in
     record { tables = ap (λ (d : Draft). d.tables) (sym is); said = ap (λ (d : Draft). d.said) (sym is) ∙ sym (append-nil draft.said) }
 
-other_adds : (line : ℕ) (draft next : Draft) (one : Said) → with_statement line draft one ≡ Ok next → (next.tables ≡ draft.tables) × (next.said ≡ draft.said ++ record { line = line; said = one } ∷ []) × (is_again one draft.said ≡ false)
+other_adds : (line : ℕ) (draft next : Draft) (one : Instruction) → with_statement line draft one ≡ Ok next → (next.tables ≡ draft.tables) × (next.said ≡ draft.said ++ record { line = line; said = one } ∷ []) × (is_again one draft.said ≡ false)
 unfolding with_statement
 other_adds line draft next one h =
     let a = bind_ok (refuse Twice (is_again one draft.said)) _ next h in
     let is = same_value (record draft { said = draft.said ++ record { line = line; said = one } ∷ [] }) next a.2 in
     (ap (λ (d : Draft). d.tables) (sym is), ap (λ (d : Draft). d.said) (sym is), not_refused Twice (is_again one draft.said) a.0 a.1)
 
-said_adds : (line : ℕ) (draft next : Draft) (one : Said) → with_said line draft one ≡ Ok next → Adds draft next (record { line = line; said = one } ∷ [])
+said_adds : (line : ℕ) (draft next : Draft) (one : Instruction) → with_said line draft one ≡ Ok next → Adds draft next (record { line = line; said = one } ∷ [])
 unfolding with_said
 said_adds line draft next (said.Table variables response) h = table_adds line draft next variables response h
 said_adds line draft next one h = let a = other_adds line draft next one h in record { tables = a.0 ∙ sym (append-nil draft.tables); said = a.1 }
@@ -109,7 +109,7 @@ lines_add before draft next (text ∷ texts) h =
 abbrev is_single : Keyword → Bool
 is_single word = not ((place_of word == 2) || (place_of word == 5) || (place_of word == 10))
 
-again_by : (one : Said) (before : List Statement) → is_single (command_of one) ≡ true → is_again one before ≡ false → list_any (λ s. is_by (command_of one) s.said) before ≡ false
+again_by : (one : Instruction) (before : List Statement) → is_single (command_of one) ≡ true → is_again one before ≡ false → list_any (λ s. is_by (command_of one) s.said) before ≡ false
 again_by (said.Table variables response) before single h = absurd cc
 again_by (said.Prior file number separator) before single h = absurd cc
 again_by (said.Output number file) before single h = absurd cc
@@ -137,7 +137,7 @@ same_any : (a b : Keyword) (all : List Statement) → place_of a ≡ place_of b 
 same_any a b [] h = refl
 same_any a b (s ∷ rest) h = rw (h, same_any a b rest h) refl
 
-one_more : (line : ℕ) (all : List Statement) (one : Said) → AreSingle all → is_again one all ≡ false → AreSingle (all ++ record { line = line; said = one } ∷ [])
+one_more : (line : ℕ) (all : List Statement) (one : Instruction) → AreSingle all → is_again one all ≡ false → AreSingle (all ++ record { line = line; said = one } ∷ [])
 one_more line all one single again word is =
     let s : Statement = record { line = line; said = one } in
     let before = single word is in
@@ -150,7 +150,7 @@ one_more line all one single again word is =
       | false ↦ λ by. rw (by_both word all (s ∷ []), by, append-nil (by_command word all)) before
     ] refl
 
-said_single : (line : ℕ) (draft next : Draft) (one : Said) → AreSingle draft.said → with_said line draft one ≡ Ok next → AreSingle next.said
+said_single : (line : ℕ) (draft next : Draft) (one : Instruction) → AreSingle draft.said → with_said line draft one ≡ Ok next → AreSingle next.said
 unfolding with_said
 said_single line draft next (said.Table variables response) single h =
     let a = (table_adds line draft next variables response h).said ∙ append-nil draft.said in
@@ -211,57 +211,57 @@ absent test (y ∷ all) h = elim (test y) as (λ t. cond t (Some y) (find test a
 once : (word : Keyword) (all : List Statement) (s : Statement) → said_by word all ≡ Some s → AreSingle all → is_single word ≡ true → (by_command word all ≡ s ∷ []) × (is_by word s.said ≡ true)
 once word all s h single is = only (λ s. is_by word s.said) all s h (single word is)
 
-abbrev Line : ℕ → Said → Statement
+abbrev Line : ℕ → Instruction → Statement
 Line line one = record { line = line; said = one }
 
-abbrev Filed : ℕ → Said → OutputLine → Type 0
+abbrev Filed : ℕ → Instruction → OutputLine → Type 0
 Filed line one o = option_map (λ (file : List ℕ). record { line = line; file = file }) (file_said one) ≡ Some o
 
-micro_is : (line : ℕ) (one : Said) (o : OutputLine) → is_by keyword.OpenMicrodata one ≡ true → Filed line one o → Line line one ≡ Line o.line (said.Microdata o.file)
+micro_is : (line : ℕ) (one : Instruction) (o : OutputLine) → is_by keyword.OpenMicrodata one ≡ true → Filed line one o → Line line one ≡ Line o.line (said.Microdata o.file)
 micro_is line (said.Microdata file) o by h =
     let is : ◌≡◌ {A = OutputLine} (record { line = line; file = file }) o = cc in
     ap (λ (o : OutputLine). Line o.line (said.Microdata o.file)) is
 micro_is line one o by h = absurd cc
 
-meta_is : (line : ℕ) (one : Said) (o : OutputLine) → is_by keyword.OpenMetadata one ≡ true → Filed line one o → Line line one ≡ Line o.line (said.Metadata o.file)
+meta_is : (line : ℕ) (one : Instruction) (o : OutputLine) → is_by keyword.OpenMetadata one ≡ true → Filed line one o → Line line one ≡ Line o.line (said.Metadata o.file)
 meta_is line (said.Metadata file) o by h =
     let is : ◌≡◌ {A = OutputLine} (record { line = line; file = file }) o = cc in
     ap (λ (o : OutputLine). Line o.line (said.Metadata o.file)) is
 meta_is line one o by h = absurd cc
 
-certificate_is : (line : ℕ) (one : Said) (o : OutputLine) → is_by keyword.Certificate one ≡ true → Filed line one o → Line line one ≡ Line o.line (said.Certificate o.file)
+certificate_is : (line : ℕ) (one : Instruction) (o : OutputLine) → is_by keyword.Certificate one ≡ true → Filed line one o → Line line one ≡ Line o.line (said.Certificate o.file)
 certificate_is line (said.Certificate file) o by h =
     let is : ◌≡◌ {A = OutputLine} (record { line = line; file = file }) o = cc in
     ap (λ (o : OutputLine). Line o.line (said.Certificate o.file)) is
 certificate_is line one o by h = absurd cc
 
-rules_is : (line : ℕ) (one : Said) (r : RulesLine) → is_by keyword.SafetyRule one ≡ true → rules_from line one ≡ Some r → Line line one ≡ Line r.line (said.Safety r.rules)
+rules_is : (line : ℕ) (one : Instruction) (r : RulesLine) → is_by keyword.SafetyRule one ≡ true → rules_from line one ≡ Some r → Line line one ≡ Line r.line (said.Safety r.rules)
 rules_is line (said.Safety rules) r by h =
     let is : ◌≡◌ {A = RulesLine} (record { line = line; rules = rules }) r = cc in
     ap (λ (r : RulesLine). Line r.line (said.Safety r.rules)) is
 rules_is line one r by h = absurd cc
 
-method_is : (line : ℕ) (one : Said) (m : Method) → is_by keyword.Suppress one ≡ true → method_from one ≡ Some m → Line line one ≡ Line line (said.Suppress m)
+method_is : (line : ℕ) (one : Instruction) (m : Method) → is_by keyword.Suppress one ≡ true → method_from one ≡ Some m → Line line one ≡ Line line (said.Suppress m)
 method_is line (said.Suppress method) m by h =
     let is : method ≡ m = cc in
     ap (λ (m : Method). Line line (said.Suppress m)) is
 method_is line one m by h = absurd cc
 
-cost_is : (line : ℕ) (one : Said) → is_by keyword.Cost one ≡ true → Line line one ≡ Line line (said.Cost (cost_of (Some (Line line one))))
+cost_is : (line : ℕ) (one : Instruction) → is_by keyword.Cost one ≡ true → Line line one ≡ Line line (said.Cost (cost_of (Some (Line line one))))
 cost_is line (said.Cost cost) by = refl
 cost_is line one by = absurd cc
 
-steps_is : (line usual : ℕ) (one : Said) → is_by keyword.Steps one ≡ true → Line line one ≡ Line line (said.Steps (work_from usual one))
+steps_is : (line usual : ℕ) (one : Instruction) → is_by keyword.Steps one ≡ true → Line line one ≡ Line line (said.Steps (work_from usual one))
 steps_is line usual (said.Steps n) by = refl
 steps_is line usual one by = absurd cc
 
-nodes_is : (line usual : ℕ) (one : Said) → is_by keyword.Nodes one ≡ true → Line line one ≡ Line line (said.Nodes (work_from usual one))
+nodes_is : (line usual : ℕ) (one : Instruction) → is_by keyword.Nodes one ≡ true → Line line one ≡ Line line (said.Nodes (work_from usual one))
 nodes_is line usual (said.Nodes n) by = refl
 nodes_is line usual one by = absurd cc
 
 -- the file of a command that is said once
-file_once : (word : Keyword) (make : List ℕ → Said) (all : List Statement) (o : OutputLine) → AreSingle all → is_single word ≡ true
-    → ((line : ℕ) (one : Said) → is_by word one ≡ true → Filed line one o → Line line one ≡ Line o.line (make o.file))
+file_once : (word : Keyword) (make : List ℕ → Instruction) (all : List Statement) (o : OutputLine) → AreSingle all → is_single word ≡ true
+    → ((line : ℕ) (one : Instruction) → is_by word one ≡ true → Filed line one o → Line line one ≡ Line o.line (make o.file))
     → file_line (said_by word all) ≡ Some o → by_command word all ≡ Line o.line (make o.file) ∷ []
 file_once word make all o single is step h =
     elim (said_by word all) as (λ f. said_by word all ≡ f → file_line f ≡ Some o → by_command word all ≡ Line o.line (make o.file) ∷ []) [

@@ -16,8 +16,8 @@ use Rattle.job_lang.specs.declared.job.OutputLine.{OutputLine}
 use Rattle.job_lang.specs.declared.job.PriorLine.{PriorLine}
 use Rattle.job_lang.specs.declared.job.TableLine.{TableLine}
 use Rattle.job_lang.specs.declared.statement.Keyword.TheVariants as keyword
-use Rattle.job_lang.specs.declared.statement.Said.{Said}
-use Rattle.job_lang.specs.declared.statement.Said.TheVariants as said
+use Rattle.job_lang.specs.declared.statement.Instruction.{Instruction}
+use Rattle.job_lang.specs.declared.statement.Instruction.TheVariants as said
 use Rattle.job_lang.specs.declared.statement.Statement.{Statement}
 use Rattle.job_lang.specs.declared.statement.Draft.{Draft}
 use Rattle.job_lang.specs.Statements.{is_by}
@@ -71,13 +71,13 @@ IsUnread all name = list_any (λ s. is_read_file name s.said) all ≡ false
 unread : (all : List Statement) (name : List ℕ) → is_shared name all ≡ false → IsUnread all name
 unread all name h = (false_left (nat_lt 1 (count_by (λ s. puts name s.said) all)) _ h).1
 
-certificate_unread : (all : List Statement) (one : Said) (line : ℕ) (o : OutputLine) → is_by keyword.Certificate one ≡ true → is_meeting all one ≡ false → option_map (λ (file : List ℕ). record { line = line; file = file }) (file_said one) ≡ Some o → IsUnread all o.file
+certificate_unread : (all : List Statement) (one : Instruction) (line : ℕ) (o : OutputLine) → is_by keyword.Certificate one ≡ true → is_meeting all one ≡ false → option_map (λ (file : List ℕ). record { line = line; file = file }) (file_said one) ≡ Some o → IsUnread all o.file
 certificate_unread all (said.Certificate name) line o by apart h =
     let is : ◌≡◌ {A = OutputLine} (record { line = line; file = name }) o = cc in
     subst (λ (o : OutputLine). IsUnread all o.file) is (unread all name apart)
 certificate_unread all one line o by apart h = absurd cc
 
-output_unread : (all : List Statement) (place : ℕ) (one : Said) (line : ℕ) (o : OutputLine) → is_output_at place one ≡ true → is_meeting all one ≡ false → option_map (λ (file : List ℕ). record { line = line; file = file }) (file_said one) ≡ Some o → IsUnread all o.file
+output_unread : (all : List Statement) (place : ℕ) (one : Instruction) (line : ℕ) (o : OutputLine) → is_output_at place one ≡ true → is_meeting all one ≡ false → option_map (λ (file : List ℕ). record { line = line; file = file }) (file_said one) ≡ Some o → IsUnread all o.file
 output_unread all place (said.Output number name) line o by apart h =
     let is : ◌≡◌ {A = OutputLine} (record { line = line; file = name }) o = cc in
     subst (λ (o : OutputLine). IsUnread all o.file) is (unread all name apart)
@@ -108,13 +108,13 @@ unread_each : (name : List ℕ) (said : List Statement) → list_any (λ s. is_r
 unread_each name [] h = tt
 unread_each name (s ∷ rest) h = let both = false_left (is_read_file name s.said) _ h in (both.0, unread_each name rest both.1)
 
-micro_read : (name : List ℕ) (one : Said) (line : ℕ) (o : OutputLine) → is_by keyword.OpenMicrodata one ≡ true → is_read_file name one ≡ false → option_map (λ (file : List ℕ). record { line = line; file = file }) (file_said one) ≡ Some o → name ≢ o.file
+micro_read : (name : List ℕ) (one : Instruction) (line : ℕ) (o : OutputLine) → is_by keyword.OpenMicrodata one ≡ true → is_read_file name one ≡ false → option_map (λ (file : List ℕ). record { line = line; file = file }) (file_said one) ≡ Some o → name ≢ o.file
 micro_read name (said.Microdata file) line o by free h =
     let is : ◌≡◌ {A = OutputLine} (record { line = line; file = file }) o = cc in
     subst (λ (o : OutputLine). name ≢ o.file) is (differ file name free)
 micro_read name one line o by free h = absurd cc
 
-meta_read : (name : List ℕ) (one : Said) (line : ℕ) (o : OutputLine) → is_by keyword.OpenMetadata one ≡ true → is_read_file name one ≡ false → option_map (λ (file : List ℕ). record { line = line; file = file }) (file_said one) ≡ Some o → name ≢ o.file
+meta_read : (name : List ℕ) (one : Instruction) (line : ℕ) (o : OutputLine) → is_by keyword.OpenMetadata one ≡ true → is_read_file name one ≡ false → option_map (λ (file : List ℕ). record { line = line; file = file }) (file_said one) ≡ Some o → name ≢ o.file
 meta_read name (said.Metadata file) line o by free h =
     let is : ◌≡◌ {A = OutputLine} (record { line = line; file = file }) o = cc in
     subst (λ (o : OutputLine). name ≢ o.file) is (differ file name free)
@@ -128,7 +128,7 @@ all_mapped : {A : Type 0} (P : List ℕ → Type 0) (f : A → List ℕ) (xs : L
 all_mapped P f [] all = tt
 all_mapped P f (x ∷ xs) all = (all.0, all_mapped P f xs all.1)
 
-prior_read : (name : List ℕ) (line : ℕ) (one : Said) → is_read_file name one ≡ false → AllByRecursion (λ p. name ≢ p.file) (prior_in line one)
+prior_read : (name : List ℕ) (line : ℕ) (one : Instruction) → is_read_file name one ≡ false → AllByRecursion (λ p. name ≢ p.file) (prior_in line one)
 prior_read name line (said.Prior file number separator) free = (differ file name free, tt)
 prior_read name line one free = tt
 

@@ -16,8 +16,8 @@ use Rattle.job_lang.specs.declared.faults.Command.TheVariants as command
 use Rattle.job_lang.specs.declared.job.Job.{Job}
 use Rattle.job_lang.specs.declared.job.OutputLine.{OutputLine}
 use Rattle.job_lang.specs.declared.statement.Keyword.TheVariants as keyword
-use Rattle.job_lang.specs.declared.statement.Said.{Said}
-use Rattle.job_lang.specs.declared.statement.Said.TheVariants as said
+use Rattle.job_lang.specs.declared.statement.Instruction.{Instruction}
+use Rattle.job_lang.specs.declared.statement.Instruction.TheVariants as said
 use Rattle.job_lang.specs.declared.statement.Statement.{Statement}
 use Rattle.job_lang.specs.Statements.{is_by}
 use Rattle.job_lang.specs.ClosingLooks.{is_output_at, output_said, file_said, file_line}
@@ -75,14 +75,14 @@ two_counted p t u (s ∷ rest) x y h g is also apart =
 abbrev IsPutBy : List Statement → (Statement → Bool) → OutputLine → Type 0
 IsPutBy all test o = (s : Statement) × (find test all ≡ Some s) × (puts o.file s.said ≡ true) × (is_shared o.file all ≡ false)
 
-put_by_output : (all : List Statement) (place : ℕ) (one : Said) (line : ℕ) (o : OutputLine) → is_output_at place one ≡ true → is_meeting all one ≡ false
+put_by_output : (all : List Statement) (place : ℕ) (one : Instruction) (line : ℕ) (o : OutputLine) → is_output_at place one ≡ true → is_meeting all one ≡ false
     → option_map (λ (file : List ℕ). record { line = line; file = file }) (file_said one) ≡ Some o → (puts o.file one ≡ true) × (is_shared o.file all ≡ false)
 put_by_output all place (said.Output number name) line o by apart h =
     let is : ◌≡◌ {A = OutputLine} (record { line = line; file = name }) o = cc in
     subst (λ (o : OutputLine). (puts o.file (said.Output number name) ≡ true) × (is_shared o.file all ≡ false)) is (nat_list_eq_equiv.refl name, apart)
 put_by_output all place one line o by apart h = absurd cc
 
-put_by_certificate : (all : List Statement) (one : Said) (line : ℕ) (o : OutputLine) → is_by keyword.Certificate one ≡ true → is_meeting all one ≡ false
+put_by_certificate : (all : List Statement) (one : Instruction) (line : ℕ) (o : OutputLine) → is_by keyword.Certificate one ≡ true → is_meeting all one ≡ false
     → option_map (λ (file : List ℕ). record { line = line; file = file }) (file_said one) ≡ Some o → (puts o.file one ≡ true) × (is_shared o.file all ≡ false)
 put_by_certificate all (said.Certificate name) line o by apart h =
     let is : ◌≡◌ {A = OutputLine} (record { line = line; file = name }) o = cc in
@@ -104,7 +104,7 @@ put_by all test apart step o h =
 few : (n : ℕ) (b : Bool) → (nat_lt 1 n || b) ≡ false → 2 ≤ n → ⊥
 few n b h g = grind arith
 
-puts_same : (a b : List ℕ) (one : Said) → a ≡ b → puts b one ≡ true → puts a one ≡ true
+puts_same : (a b : List ℕ) (one : Instruction) → a ≡ b → puts b one ≡ true → puts a one ≡ true
 puts_same a b one h g = subst (λ (name : List ℕ). puts name one ≡ true) (sym h) g
 
 -- two of them have two names
@@ -138,11 +138,11 @@ are_outputs all (suc more) place outputs apart h =
 not_both : (x : Bool) (p q d : ℕ) → p < q → is_some {T = ℕ} (cond (x && (nat_le (p + 1) d && nat_le d (p + 1))) (Some d) None) ≡ true → is_some {T = ℕ} (cond (x && (nat_le (q + 1) d && nat_le d (q + 1))) (Some d) None) ≡ false
 not_both x p q d h g = grind arith
 
-other_place : (p q : ℕ) (one : Said) → p < q → is_output_at p one ≡ true → is_output_at q one ≡ false
+other_place : (p q : ℕ) (one : Instruction) → p < q → is_output_at p one ≡ true → is_output_at q one ≡ false
 other_place p q (said.Output number file) h g = not_both (is_number number) p q (digits_value 10 number) h g
 other_place p q one h g = refl
 
-no_output : (q : ℕ) (one : Said) → is_by keyword.Certificate one ≡ true → is_output_at q one ≡ false
+no_output : (q : ℕ) (one : Instruction) → is_by keyword.Certificate one ≡ true → is_output_at q one ≡ false
 no_output q (said.Output number file) h = absurd cc
 no_output q one h = refl
 

@@ -16,7 +16,7 @@ use Rattle.sdc_base.specs.Blanks.{trim}
 use Rattle.sdc_base.specs.Tokens.{is_quote, is_name_byte, is_file_name}
 use Rattle.sdc_base.specs.declared.method.Method.{Method}
 use Rattle.sdc_base.specs.declared.method.Method.TheVariants.{Gh, Modular, Rnd}
-use Rattle.job_lang.specs.declared.statement.Said.TheVariants as said
+use Rattle.job_lang.specs.declared.statement.Instruction.TheVariants as said
 use Rattle.job_lang.specs.LineTokens.{begins_with, is_break, is_next, behind_mark, quoted_at, number_at, digits_at, end_of_tokens, closing_token}
 use Rattle.job_lang.specs.TableTexts.{names_up_to, is_twice, quoted_part, behind_again, are_free_parts, table_argument}
 use Rattle.job_lang.specs.Arguments.{file_at, only_file, may_separate, prior_argument, output_argument, cost_of, cost_argument, most_work, work_argument}

@@ -15,8 +15,8 @@ use Rattle.job_lang.specs.declared.job.Job.{Job}
 use Rattle.job_lang.specs.declared.statement.Draft.{Draft}
 use Rattle.job_lang.specs.declared.statement.Keyword.{Keyword}
 use Rattle.job_lang.specs.declared.statement.Keyword.TheVariants as keyword
-use Rattle.job_lang.specs.declared.statement.Said.{Said}
-use Rattle.job_lang.specs.declared.statement.Said.TheVariants as said
+use Rattle.job_lang.specs.declared.statement.Instruction.{Instruction}
+use Rattle.job_lang.specs.declared.statement.Instruction.TheVariants as said
 use Rattle.job_lang.specs.declared.statement.Statement.{Statement}
 use Rattle.job_lang.specs.Faults.{at_line}
 use Rattle.job_lang.specs.Keywords.{place_of}
@@ -29,11 +29,11 @@ use Rattle.job_lang.proofs.SpelledLines.{line_read, line_trimmed}
 use Rattle.job_lang.proofs.TableRoom.{Fit}
 
 -- what lines say one after the other, each by what it says
-abbrev pub says : ℕ → Draft → List Said → Result Draft (ℕ × JobWhy)
+abbrev pub says : ℕ → Draft → List Instruction → Result Draft (ℕ × JobWhy)
 says before draft [] = Ok draft
 says before draft (one ∷ rest) = at_line (before + 1) (with_said (before + 1) draft one) >>= λ next. says (before + 1) next rest
 
-pub lines_are : (before : ℕ) (draft : Draft) (all : List Said) → AllByRecursion IsSpellable all → lines_say before draft (map said_line all) ≡ says before draft all
+pub lines_are : (before : ℕ) (draft : Draft) (all : List Instruction) → AllByRecursion IsSpellable all → lines_say before draft (map said_line all) ≡ says before draft all
 unfolding lines_say
 lines_are before draft [] can = refl
 lines_are before draft (one ∷ rest) can =
@@ -41,7 +41,7 @@ lines_are before draft (one ∷ rest) can =
     ∙ ap (λ r. at_line (before + 1) r >>= λ next. lines_say (before + 1) next (map said_line rest)) (line_read one (before + 1) draft can.0)
     ∙ bind_same (at_line (before + 1) (with_said (before + 1) draft one)) _ _ (λ next. lines_are (before + 1) next rest can.1)
 
-step : (before line : ℕ) (draft next : Draft) (one : Said) (rest : List Said) → before + 1 ≡ line → with_said line draft one ≡ Ok next → says before draft (one ∷ rest) ≡ says line next rest
+step : (before line : ℕ) (draft next : Draft) (one : Instruction) (rest : List Instruction) → before + 1 ≡ line → with_said line draft one ≡ Ok next → says before draft (one ∷ rest) ≡ says line next rest
 step before line draft next one rest is said = rw (is, said) refl
 
 -- ---- tables
@@ -51,7 +51,7 @@ table_fits : (line : ℕ) (draft : Draft) (table : TableLine) → is_past_room t
 unfolding with_said with_table
 table_fits line draft table space same = rw (space, same) refl
 
-pub tables_say : (before : ℕ) (front tables : List TableLine) (before_said : List Statement) (rest : List Said) → Fit front tables
+pub tables_say : (before : ℕ) (front tables : List TableLine) (before_said : List Statement) (rest : List Instruction) → Fit front tables
     → says before (record { tables = front; said = before_said }) (map table_said tables ++ rest) ≡ says (before + length tables) (record { tables = front ++ tables_from (before + 1) tables; said = before_said }) rest
 tables_say before front [] before_said rest fits =
     let same : before ≡ before + 0 = omega arith in
@@ -67,7 +67,7 @@ tables_say before front (table ∷ tables) before_said rest fits =
 
 -- ---- one statement
 
-stated : (line : ℕ) (draft : Draft) (one : Said) → is_again one draft.said ≡ false → with_statement line draft one ≡ Ok (record draft { said = draft.said ++ record { line = line; said = one } ∷ [] })
+stated : (line : ℕ) (draft : Draft) (one : Instruction) → is_again one draft.said ≡ false → with_statement line draft one ≡ Ok (record draft { said = draft.said ++ record { line = line; said = one } ∷ [] })
 unfolding with_statement
 stated line draft one once = rw once refl
 
@@ -108,7 +108,7 @@ prior_taken : (line : ℕ) (tables : List TableLine) (before : List Statement) (
 unfolding with_said
 prior_taken line tables before prior new = stated line (drafted tables before) (prior_said prior) new
 
-pub priors_say : (before : ℕ) (tables : List TableLine) (all : List Statement) (priors : List PriorLine) (rest : List Said) → AreNew all priors → IsDistinct ◌==◌ (map (λ p. p.table) priors)
+pub priors_say : (before : ℕ) (tables : List TableLine) (all : List Statement) (priors : List PriorLine) (rest : List Instruction) → AreNew all priors → IsDistinct ◌==◌ (map (λ p. p.table) priors)
     → says before (drafted tables all) (map prior_said priors ++ rest) ≡ says (before + length priors) (drafted tables (all ++ priors_stated (before + 1) priors)) rest
 priors_say before tables all [] rest new once =
     let same : before ≡ before + 0 = omega arith in
@@ -140,7 +140,7 @@ output_taken : (line place : ℕ) (tables : List TableLine) (all : List Statemen
 unfolding with_said
 output_taken line place tables all output new = stated line (drafted tables all) (said.Output (table_number place) output.file) new
 
-pub outputs_say : (before place : ℕ) (tables : List TableLine) (all : List Statement) (outputs : List OutputLine) (rest : List Said) → place + length outputs ≤ 8 → HasNone place all
+pub outputs_say : (before place : ℕ) (tables : List TableLine) (all : List Statement) (outputs : List OutputLine) (rest : List Instruction) → place + length outputs ≤ 8 → HasNone place all
     → says before (drafted tables all) (outputs_said place outputs ++ rest) ≡ says (before + length outputs) (drafted tables (all ++ outputs_stated (before + 1) place outputs)) rest
 outputs_say before place tables all [] rest few none =
     let same : before ≡ before + 0 = omega arith in
@@ -204,18 +204,18 @@ statements_of job =
     front_of job ++ (priors_stated (5 + length job.tables) job.priors ++ (middle_of (cost_line job) job ++ (outputs_stated (outputs_line job) 0 job.outputs
     ++ record { line = outputs_line job + length job.outputs; said = said.Certificate job.certificate } ∷ [])))
 
-first_two : (job : Job) (rest : List Said) → says 0 empty_draft (said.Microdata job.micro ∷ said.Metadata job.meta ∷ rest)
+first_two : (job : Job) (rest : List Instruction) → says 0 empty_draft (said.Microdata job.micro ∷ said.Metadata job.meta ∷ rest)
     ≡ says 2 (drafted [] (record { line = 1; said = said.Microdata job.micro } ∷ record { line = 2; said = said.Metadata job.meta } ∷ [])) rest
 unfolding with_said with_statement
 first_two job rest = refl
 
-next_two : (job : Job) (tables : List TableLine) (before line next : ℕ) (rest : List Said) → before + 1 ≡ line → line + 1 ≡ next
+next_two : (job : Job) (tables : List TableLine) (before line next : ℕ) (rest : List Instruction) → before + 1 ≡ line → line + 1 ≡ next
     → says before (drafted tables (record { line = 1; said = said.Microdata job.micro } ∷ record { line = 2; said = said.Metadata job.meta } ∷ [])) (said.Safety job.rules ∷ said.Read ∷ rest)
     ≡ says next (drafted tables (record { line = 1; said = said.Microdata job.micro } ∷ record { line = 2; said = said.Metadata job.meta } ∷ record { line = line; said = said.Safety job.rules } ∷ record { line = next; said = said.Read } ∷ [])) rest
 unfolding with_said with_statement
 next_two job tables before line next rest is then = rw (is, then) refl
 
-single_taken : (line : ℕ) (tables : List TableLine) (all : List Statement) (one : Said) → with_said line (drafted tables all) one ≡ with_statement line (drafted tables all) one → is_again one all ≡ false
+single_taken : (line : ℕ) (tables : List TableLine) (all : List Statement) (one : Instruction) → with_said line (drafted tables all) one ≡ with_statement line (drafted tables all) one → is_again one all ≡ false
     → with_said line (drafted tables all) one ≡ Ok (drafted tables (all ++ record { line = line; said = one } ∷ []))
 single_taken line tables all one is once = is ∙ stated line (drafted tables all) one once
 
@@ -240,7 +240,7 @@ unfolding with_said
 certificate_as line draft job = refl
 
 -- four statements that stand once
-middle_say : (before line : ℕ) (job : Job) (tables : List TableLine) (all : List Statement) (rest : List Said) → before + 1 ≡ line
+middle_say : (before line : ℕ) (job : Job) (tables : List TableLine) (all : List Statement) (rest : List Instruction) → before + 1 ≡ line
     → IsUnsaid keyword.Cost all → IsUnsaid keyword.Steps all → IsUnsaid keyword.Nodes all → IsUnsaid keyword.Suppress all
     → says before (drafted tables all) (said.Cost job.cost ∷ said.Steps job.steps ∷ said.Nodes job.nodes ∷ said.Suppress job.method ∷ rest) ≡ says (line + 1 + 1 + 1) (drafted tables (all ++ middle_of line job)) rest
 middle_say before line job tables all rest is cost steps nodes method =
@@ -275,10 +275,10 @@ text_says_all job fits few once outputs =
     let middle = middle_of (cost_line job) job in
     let before = front ++ priors in
     let whole = before ++ middle in
-    let last : List Said = said.Certificate job.certificate ∷ [] in
-    let r3 : List Said = outputs_said 0 job.outputs ++ last in
-    let r2 : List Said = said.Cost job.cost ∷ said.Steps job.steps ∷ said.Nodes job.nodes ∷ said.Suppress job.method ∷ r3 in
-    let r1 : List Said = said.Safety job.rules ∷ said.Read ∷ (map prior_said job.priors ++ r2) in
+    let last : List Instruction = said.Certificate job.certificate ∷ [] in
+    let r3 : List Instruction = outputs_said 0 job.outputs ++ last in
+    let r2 : List Instruction = said.Cost job.cost ∷ said.Steps job.steps ∷ said.Nodes job.nodes ∷ said.Suppress job.method ∷ r3 in
+    let r1 : List Instruction = said.Safety job.rules ∷ said.Read ∷ (map prior_said job.priors ++ r2) in
     let done = outputs_stated (outputs_line job) 0 job.outputs in
     let z : Statement = record { line = outputs_line job + length job.outputs; said = said.Certificate job.certificate } in
     let line_a : 4 + n + 1 ≡ 5 + n = omega arith in

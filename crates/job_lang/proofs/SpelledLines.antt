@@ -23,8 +23,8 @@ use Rattle.job_lang.specs.declared.rule_clauses.RuleClause.TheVariants.{Named, M
 use Rattle.job_lang.specs.declared.statement.Draft.{Draft}
 use Rattle.job_lang.specs.declared.statement.Keyword.{Keyword}
 use Rattle.job_lang.specs.declared.statement.Keyword.TheVariants.{OpenMicrodata, OpenMetadata, SpecifyTable, SafetyRule, ReadMicrodata, Apriori, Cost, Steps, Nodes, Suppress, WriteTable, Certificate}
-use Rattle.job_lang.specs.declared.statement.Said.{Said}
-use Rattle.job_lang.specs.declared.statement.Said.TheVariants as said
+use Rattle.job_lang.specs.declared.statement.Instruction.{Instruction}
+use Rattle.job_lang.specs.declared.statement.Instruction.TheVariants as said
 use Rattle.job_lang.specs.Keywords.{keyword_of, word_in}
 use Rattle.job_lang.specs.LineTokens.{end_of_tokens}
 use Rattle.job_lang.specs.Arguments.{argument_of}
@@ -48,7 +48,7 @@ nothing_read : argument_of ReadMicrodata [] ≡ Ok said.Read
 unfolding argument_of end_of_tokens
 nothing_read = refl
 
-pub argument_read : (one : Said) → IsSpellable one → argument_of (command_of one) (argument_text one) ≡ Ok one
+pub argument_read : (one : Instruction) → IsSpellable one → argument_of (command_of one) (argument_text one) ≡ Ok one
 unfolding argument_of
 argument_read (said.Microdata name) h = rw (only_file_read name h) refl
 argument_read (said.Metadata name) h = rw (only_file_read name h) refl
@@ -81,7 +81,7 @@ word_read WriteTable text line draft = refl
 word_read Certificate text line draft = refl
 
 -- a line that was spelled says what it is the line of
-pub line_read : (one : Said) (line : ℕ) (draft : Draft) → IsSpellable one → text_says line draft (said_line one) ≡ with_said line draft one
+pub line_read : (one : Instruction) (line : ℕ) (draft : Draft) → IsSpellable one → text_says line draft (said_line one) ≡ with_said line draft one
 line_read one line draft h = word_read (command_of one) (argument_text one) line draft ∙ ap (λ r. r >>= λ one. with_said line draft one) (argument_read one h)
 
 word_says : (word : Keyword) (text : List ℕ) → line_says (60 ∷ word_of word ++ 62 ∷ text) ≡ argument_of word text
@@ -134,7 +134,7 @@ method_ended Modular h = (77 ∷ 79 ∷ 68 ∷ 40 ∷ [], 41, refl, refl, refl)
 method_ended (Rnd (pos n)) h = ended_behind (82 ∷ 78 ∷ 68 ∷ 40 ∷ decimal n) (41 ∷ []) (ended_with 41 refl refl)
 method_ended (Rnd (negsuc n)) h = absurd (omega (arith, ints, h.0))
 
-argument_ended : (one : Said) → IsSpellable one → IsEnded (62 ∷ argument_text one)
+argument_ended : (one : Instruction) → IsSpellable one → IsEnded (62 ∷ argument_text one)
 argument_ended (said.Microdata name) h = named_end name
 argument_ended (said.Metadata name) h = named_end name
 argument_ended (said.Table variables response) h = ended_behind (62 ∷ 32 ∷ quoted_each variables) (124 ∷ quoted_name response) (ended_behind (124 ∷ 34 ∷ response) (34 ∷ []) (ended_with 34 refl refl))
@@ -150,10 +150,10 @@ argument_ended (said.Suppress method) h = ended_behind (62 ∷ 32 ∷ []) (metho
 argument_ended (said.Output number file) h = ended_behind (62 ∷ 32 ∷ 40 ∷ number) (44 ∷ quoted_name file ++ 41 ∷ []) (ended_behind (44 ∷ quoted_name file) (41 ∷ []) (ended_with 41 refl refl))
 argument_ended (said.Certificate name) h = named_end name
 
-line_ended : (one : Said) → IsSpellable one → IsEnded (said_line one)
+line_ended : (one : Instruction) → IsSpellable one → IsEnded (said_line one)
 line_ended one h = ended_behind (60 ∷ word_of (command_of one)) (62 ∷ argument_text one) (argument_ended one h)
 
-pub line_trimmed : (one : Said) → IsSpellable one → trim (said_line one) ≡ said_line one
+pub line_trimmed : (one : Instruction) → IsSpellable one → trim (said_line one) ≡ said_line one
 line_trimmed one h = trim_dark 60 (word_of (command_of one) ++ 62 ∷ argument_text one) refl (line_ended one h)
 
 no_return : (front : List ℕ) (last : ℕ) → (last == 13) ≡ false → strip_carriage_return (front ++ last ∷ []) ≡ front ++ last ∷ []
@@ -234,7 +234,7 @@ method_free (Rnd (negsuc n)) h = absurd (omega (arith, ints, h.0))
 separator_free : (separator : ℕ) → is_line_feed separator ≡ false → HasNoFeed (44 ∷ quoted_name (separator ∷ []))
 separator_free separator h = rw h refl
 
-argument_free : (one : Said) → IsSpellable one → HasNoFeed (argument_text one)
+argument_free : (one : Instruction) → IsSpellable one → HasNoFeed (argument_text one)
 argument_free (said.Microdata name) h = alone_free name (file_free name h)
 argument_free (said.Metadata name) h = alone_free name (file_free name h)
 argument_free (said.Table variables response) h = each_free variables (124 ∷ quoted_name response) h.3 (alone_free response h.4.1)
@@ -266,7 +266,7 @@ word_free Suppress text = refl
 word_free WriteTable text = refl
 word_free Certificate text = refl
 
-pub line_line : (one : Said) → IsSpellable one → IsLine (said_line one)
+pub line_line : (one : Instruction) → IsSpellable one → IsLine (said_line one)
 line_line one h = record {
   no_feed = word_free (command_of one) (argument_text one) ∙ argument_free one h;
   no_return = ended_line (said_line one) (line_ended one h);

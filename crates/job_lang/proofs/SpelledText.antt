@@ -9,8 +9,8 @@ use Rattle.job_lang.specs.declared.job.Job.{Job}
 use Rattle.job_lang.specs.declared.job.OutputLine.{OutputLine}
 use Rattle.job_lang.specs.declared.job.PriorLine.{PriorLine}
 use Rattle.job_lang.specs.declared.job.TableLine.{TableLine}
-use Rattle.job_lang.specs.declared.statement.Said.{Said}
-use Rattle.job_lang.specs.declared.statement.Said.TheVariants as said
+use Rattle.job_lang.specs.declared.statement.Instruction.{Instruction}
+use Rattle.job_lang.specs.declared.statement.Instruction.TheVariants as said
 use Rattle.job_lang.specs.Statements.{lines_say, empty_draft}
 use Rattle.job_lang.specs.JobLimits.{HasNoTwice, HasVariables}
 use Rattle.job_lang.specs.Jobs.{closed_job, job_of}
@@ -80,7 +80,7 @@ all_spellable job h =
       ),
     )
 
-lines_fine : (all : List Said) → AllByRecursion IsSpellable all → AllByRecursion IsLine (map said_line all)
+lines_fine : (all : List Instruction) → AllByRecursion IsSpellable all → AllByRecursion IsLine (map said_line all)
 lines_fine [] can = tt
 lines_fine (one ∷ all) can = (line_line one can.0, lines_fine all can.1)
 

@@ -22,8 +22,8 @@ use Rattle.job_lang.specs.declared.job.OutputLine.{OutputLine}
 use Rattle.job_lang.specs.declared.job.PriorLine.{PriorLine}
 use Rattle.job_lang.specs.declared.looked_up.RulesLine.{RulesLine}
 use Rattle.job_lang.specs.declared.statement.Draft.{Draft}
-use Rattle.job_lang.specs.declared.statement.Said.{Said}
-use Rattle.job_lang.specs.declared.statement.Said.TheVariants as said
+use Rattle.job_lang.specs.declared.statement.Instruction.{Instruction}
+use Rattle.job_lang.specs.declared.statement.Instruction.TheVariants as said
 use Rattle.job_lang.specs.declared.statement.Statement.{Statement}
 use Rattle.job_lang.specs.Faults.{at_line}
 use Rattle.job_lang.specs.Keywords.{keyword_of, word_in}
@@ -70,7 +70,7 @@ lines_free (b ∷ bytes) =
 -- ---- what lines say, one after the other
 
 -- the later of two a priori files isn't of the earlier one's table
-abbrev IsOther : Said → Said → Type 0
+abbrev IsOther : Instruction → Instruction → Type 0
 IsOther earlier (said.Prior file number separator) = is_prior_of number earlier ≡ false
 IsOther earlier one = Unit {0}
 
@@ -91,7 +91,7 @@ no_claim : (all : List Statement) → AllByRecursion (λ s. Unit {0}) all
 no_claim [] = tt
 no_claim (s ∷ rest) = (tt, no_claim rest)
 
-not_again : (one : Said) (all : List Statement) → is_again one all ≡ false → AllByRecursion (λ s. IsOther s.said one) all
+not_again : (one : Instruction) (all : List Statement) → is_again one all ≡ false → AllByRecursion (λ s. IsOther s.said one) all
 not_again (said.Prior file number separator) all h = none_each (λ s. is_prior_of number s.said) all h
 not_again one all h = no_claim all
 
@@ -107,7 +107,7 @@ table_kept line draft variables response is new =
     then_known AreWritten (refuse OtherResponse (is_other_response response draft.tables)) _ (λ same h1.
     record { tables = all_and_last HasQuotable draft.tables (record { line = line; variables = variables; response = response }) is.tables new; said = is.said; other = is.other }))
 
-statement_kept : (line : ℕ) (draft : Draft) (one : Said) → AreWritten draft → IsWritten one → IfOk (with_statement line draft one) AreWritten
+statement_kept : (line : ℕ) (draft : Draft) (one : Instruction) → AreWritten draft → IsWritten one → IfOk (with_statement line draft one) AreWritten
 unfolding with_statement
 statement_kept line draft one is new =
     then_known AreWritten (refuse Twice (is_again one draft.said)) _ (λ once h.
@@ -118,7 +118,7 @@ statement_kept line draft one is new =
       other = other_last draft.said s is.other (not_again one draft.said (not_refused Twice (is_again one draft.said) once h));
     })
 
-said_kept : (line : ℕ) (draft : Draft) (one : Said) → AreWritten draft → IsWritten one → IfOk (with_said line draft one) AreWritten
+said_kept : (line : ℕ) (draft : Draft) (one : Instruction) → AreWritten draft → IsWritten one → IfOk (with_said line draft one) AreWritten
 unfolding with_said
 said_kept line draft (said.Table variables response) is new = table_kept line draft variables response is new
 said_kept line draft one is new = statement_kept line draft one is new
@@ -148,7 +148,7 @@ lines_kept before draft (text ∷ texts) is all =
 
 -- ---- files
 
-file_named : (one : Said) (line : ℕ) (o : OutputLine) → IsWritten one → option_map (λ (file : List ℕ). record { line = line; file = file }) (file_said one) ≡ Some o → IsNamed o.file
+file_named : (one : Instruction) (line : ℕ) (o : OutputLine) → IsWritten one → option_map (λ (file : List ℕ). record { line = line; file = file }) (file_said one) ≡ Some o → IsNamed o.file
 file_named (said.Microdata name) line o w h = let is : ◌≡◌ {A = OutputLine} (record { line = line; file = name }) o = cc in subst (λ (o : OutputLine). IsNamed o.file) is w
 file_named (said.Metadata name) line o w h = let is : ◌≡◌ {A = OutputLine} (record { line = line; file = name }) o = cc in subst (λ (o : OutputLine). IsNamed o.file) is w
 file_named (said.Certificate name) line o w h = let is : ◌≡◌ {A = OutputLine} (record { line = line; file = name }) o = cc in subst (λ (o : OutputLine). IsNamed o.file) is w
@@ -170,7 +170,7 @@ outputs_named all (suc more) place outputs written h =
 
 -- ---- rules
 
-rules_few : (one : Said) (line : ℕ) (r : RulesLine) → IsWritten one → rules_from line one ≡ Some r → count_by is_on_frequencies r.rules.list ≤ 1
+rules_few : (one : Instruction) (line : ℕ) (r : RulesLine) → IsWritten one → rules_from line one ≡ Some r → count_by is_on_frequencies r.rules.list ≤ 1
 rules_few (said.Safety rules) line r w h = let is : ◌≡◌ {A = RulesLine} (record { line = line; rules = rules }) r = cc in subst (λ (r : RulesLine). count_by is_on_frequencies r.rules.list ≤ 1) is w
 rules_few one line r w h = absurd cc
 
@@ -183,7 +183,7 @@ rules_found all test r written h =
 
 -- ---- a priori files
 
-prior_files : (line : ℕ) (one : Said) → IsWritten one → AllByRecursion IsNamed (map (λ p. p.file) (prior_in line one))
+prior_files : (line : ℕ) (one : Instruction) → IsWritten one → AllByRecursion IsNamed (map (λ p. p.file) (prior_in line one))
 prior_files line (said.Prior file number separator) w = (w.0, tt)
 prior_files line one w = tt
 
@@ -195,7 +195,7 @@ priors_files : (all : List Statement) → AllByRecursion (λ s. IsWritten s.said
 priors_files [] written = tt
 priors_files (s ∷ rest) written = all_files (prior_in s.line s.said) (priors_in rest) (prior_files s.line s.said written.0) (priors_files rest written.1)
 
-prior_separator : (line : ℕ) (one : Said) → IsWritten one → AllByRecursion HasSeparator (prior_in line one)
+prior_separator : (line : ℕ) (one : Instruction) → IsWritten one → AllByRecursion HasSeparator (prior_in line one)
 prior_separator line (said.Prior file number separator) w = ((w.2, w.3), tt)
 prior_separator line one w = tt
 
@@ -245,7 +245,7 @@ apart_from count number file separator [] few is other written placed = tt
 apart_from count number file separator (t ∷ rest) few is other written placed =
     one t.line t.said other.0 written.0 placed.0 (apart_from count number file separator rest few is other.1 written.1 placed.1)
   where
-    one : (line : ℕ) (said_ : Said) → IsOther (said.Prior file number separator) said_ → IsWritten said_ → is_astray count said_ ≡ false
+    one : (line : ℕ) (said_ : Instruction) → IsOther (said.Prior file number separator) said_ → IsWritten said_ → is_astray count said_ ≡ false
         → AllByRecursion (λ place. (table_place number == place) ≡ false) (map (λ p. p.table) (priors_in rest)) → AllByRecursion (λ place. (table_place number == place) ≡ false) (map (λ p. p.table) (prior_in line said_ ++ priors_in rest))
     one line (said.Prior file' number' separator') h w g all = (numbers_differ number number' (table_place number) (table_place number') is (own_number count number' few w.1 g) h, all)
     one line said_ h w g all = all
@@ -255,7 +255,7 @@ unfolding IsDistinct
 priors_once count [] few other written placed = tt
 priors_once count (s ∷ rest) few other written placed = one s.line s.said other.0 written.0 placed.0 (priors_once count rest few other.1 written.1 placed.1)
   where
-    one : (line : ℕ) (said_ : Said) → AllByRecursion (λ t. IsOther said_ t.said) rest → IsWritten said_ → is_astray count said_ ≡ false
+    one : (line : ℕ) (said_ : Instruction) → AllByRecursion (λ t. IsOther said_ t.said) rest → IsWritten said_ → is_astray count said_ ≡ false
         → IsDistinct ◌==◌ (map (λ p. p.table) (priors_in rest)) → IsDistinct ◌==◌ (map (λ p. p.table) (prior_in line said_ ++ priors_in rest))
     one line (said.Prior file number separator) h w g all =
         IsDistinct-cons ◌==◌ (table_place number) (map (λ p. p.table) (priors_in rest)) (apart_from count number file separator rest few (own_number count number few w.1 g) h written.1 placed.1) all

@@ -15,8 +15,8 @@ use Rattle.job_lang.specs.declared.rule_clauses.RuleClause.{RuleClause}
 use Rattle.job_lang.specs.declared.rule_clauses.RuleClause.TheVariants.{Named, Man, Weights}
 use Rattle.job_lang.specs.declared.statement.Keyword.{Keyword}
 use Rattle.job_lang.specs.declared.statement.Keyword.TheVariants.{OpenMicrodata, OpenMetadata, SpecifyTable, SafetyRule, ReadMicrodata, Apriori, Cost, Steps, Nodes, Suppress, WriteTable, Certificate}
-use Rattle.job_lang.specs.declared.statement.Said.{Said}
-use Rattle.job_lang.specs.declared.statement.Said.TheVariants as said
+use Rattle.job_lang.specs.declared.statement.Instruction.{Instruction}
+use Rattle.job_lang.specs.declared.statement.Instruction.TheVariants as said
 use Rattle.job_lang.specs.Keywords.{is_close, word_in}
 use Rattle.job_lang.specs.LineTokens.{is_next, behind_mark, quoted_at, run_of, behind_run, digits_at, without_zeros, end_of_tokens, closing_token}
 use Rattle.job_lang.specs.Pieces.{pieces}
@@ -131,7 +131,7 @@ abbrev pub IsNamed : List ℕ → Type 0
 IsNamed name = is_file_name name ≡ true
 
 -- what is said has names that can be written, at most one rule on frequencies, and numbers by their digits
-abbrev pub IsWritten : Said → Type 0
+abbrev pub IsWritten : Instruction → Type 0
 IsWritten (said.Microdata name) = IsNamed name
 IsWritten (said.Metadata name) = IsNamed name
 IsWritten (said.Table variables response) = AllByRecursion IsQuotable variables × IsQuotable response

@@ -12,8 +12,8 @@ use Rattle.job_lang.specs.declared.faults.JobWhy.{JobWhy}
 use Rattle.job_lang.specs.declared.faults.JobWhy.TheVariants.{BadValue}
 use Rattle.job_lang.specs.declared.statement.Keyword.{Keyword}
 use Rattle.job_lang.specs.declared.statement.Keyword.TheVariants.{OpenMicrodata, OpenMetadata, SpecifyTable, SafetyRule, ReadMicrodata, Apriori, Cost, Steps, Nodes, Suppress, WriteTable, Certificate}
-use Rattle.job_lang.specs.declared.statement.Said.{Said}
-use Rattle.job_lang.specs.declared.statement.Said.TheVariants as said
+use Rattle.job_lang.specs.declared.statement.Instruction.{Instruction}
+use Rattle.job_lang.specs.declared.statement.Instruction.TheVariants as said
 use Rattle.job_lang.specs.LineTokens.{behind_mark, quoted_at, run_of, behind_run, number_at, digits_at, end_of_tokens, closing_token}
 use Rattle.job_lang.specs.RuleTexts.{rules_in}
 use Rattle.job_lang.specs.TableTexts.{table_argument}
@@ -44,7 +44,7 @@ separator_of (b ∷ []) = if may_separate b then Some b else None
 separator_of (b ∷ c ∷ word) = None
 
 -- "name", the number of a table, and the separator in quotes
-unfoldable pub prior_argument : List ℕ → Result Said JobWhy
+unfoldable pub prior_argument : List ℕ → Result Instruction JobWhy
 prior_argument text = do
   file ← file_at text
   comma ← behind_mark 44 file.1
@@ -56,7 +56,7 @@ prior_argument text = do
   Ok (said.Prior file.0 number.0 separator)
 
 -- (t,"name"): the number of a table and the file that it is put in
-unfoldable pub output_argument : List ℕ → Result Said JobWhy
+unfoldable pub output_argument : List ℕ → Result Instruction JobWhy
 output_argument text = do
   open_ ← behind_mark 40 text
   number ← digits_at open_
@@ -92,7 +92,7 @@ work_argument text = do
   Ok number.0
 
 -- what the text behind a command says
-unfoldable pub argument_of : Keyword → List ℕ → Result Said JobWhy
+unfoldable pub argument_of : Keyword → List ℕ → Result Instruction JobWhy
 argument_of OpenMicrodata text = only_file text >>= λ name. Ok (said.Microdata name)
 argument_of OpenMetadata text = only_file text >>= λ name. Ok (said.Metadata name)
 argument_of SpecifyTable text = table_argument text

@@ -8,8 +8,8 @@ use Rattle.sdc_base.specs.declared.method.Method.{Method}
 use Rattle.job_lang.specs.declared.job.OutputLine.{OutputLine}
 use Rattle.job_lang.specs.declared.job.PriorLine.{PriorLine}
 use Rattle.job_lang.specs.declared.statement.Keyword.{Keyword}
-use Rattle.job_lang.specs.declared.statement.Said.{Said}
-use Rattle.job_lang.specs.declared.statement.Said.TheVariants as said
+use Rattle.job_lang.specs.declared.statement.Instruction.{Instruction}
+use Rattle.job_lang.specs.declared.statement.Instruction.TheVariants as said
 use Rattle.job_lang.specs.declared.statement.Statement.{Statement}
 use Rattle.job_lang.specs.declared.looked_up.RulesLine.{RulesLine}
 use Rattle.job_lang.specs.Statements.{is_by}
@@ -19,7 +19,7 @@ abbrev pub said_by : Keyword → List Statement → Option Statement
 said_by word all = find (λ s. is_by word s.said) all
 
 -- an output of the table at this place, from 0
-abbrev pub is_output_at : ℕ → Said → Bool
+abbrev pub is_output_at : ℕ → Instruction → Bool
 is_output_at place (said.Output number file) = is_some (number_in (place + 1) (place + 1) number)
 is_output_at place one = false
 
@@ -28,7 +28,7 @@ abbrev pub output_said : ℕ → List Statement → Option Statement
 output_said place all = find (λ s. is_output_at place s.said) all
 
 -- the file of a command that names one alone, or of an output
-abbrev pub file_said : Said → Option (List ℕ)
+abbrev pub file_said : Instruction → Option (List ℕ)
 file_said (said.Microdata file) = Some file
 file_said (said.Metadata file) = Some file
 file_said (said.Certificate file) = Some file
@@ -41,7 +41,7 @@ file_line None = None
 file_line (Some s) = option_map (λ file. record { line = s.line; file = file }) (file_said s.said)
 
 -- the rules with their line
-abbrev pub rules_from : ℕ → Said → Option RulesLine
+abbrev pub rules_from : ℕ → Instruction → Option RulesLine
 rules_from line (said.Safety rules) = Some (record { line = line; rules = rules })
 rules_from line one = None
 
@@ -51,7 +51,7 @@ rules_line None = None
 rules_line (Some s) = rules_from s.line s.said
 
 -- the method
-abbrev pub method_from : Said → Option Method
+abbrev pub method_from : Instruction → Option Method
 method_from (said.Suppress method) = Some method
 method_from one = None
 
@@ -61,7 +61,7 @@ method_of None = None
 method_of (Some s) = method_from s.said
 
 -- the kind of cost, its value where nothing else is said
-abbrev pub cost_from : Said → CostKind
+abbrev pub cost_from : Instruction → CostKind
 cost_from (said.Cost cost) = cost
 cost_from one = kind.Value
 
@@ -71,7 +71,7 @@ cost_of None = kind.Value
 cost_of (Some s) = cost_from s.said
 
 -- a number of steps or nodes, or else this one
-abbrev pub work_from : ℕ → Said → ℕ
+abbrev pub work_from : ℕ → Instruction → ℕ
 work_from other (said.Steps steps) = steps
 work_from other (said.Nodes nodes) = nodes
 work_from other one = other
@@ -94,7 +94,7 @@ abbrev pub table_place : List ℕ → ℕ
 table_place number = unwrap_or (number_in 1 8 number) 1 - 1
 
 -- an a priori file with its line
-abbrev pub prior_in : ℕ → Said → List PriorLine
+abbrev pub prior_in : ℕ → Instruction → List PriorLine
 prior_in line (said.Prior file number separator) = record
     { line = line; file = file; table = table_place number; separator = separator } ∷ []
 prior_in line one = []

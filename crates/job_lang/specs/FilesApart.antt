@@ -6,8 +6,8 @@ use Rattle.std.specs.Str.{bytes_eq}
 use Rattle.sdc_base.specs.Tokens.{number_in}
 use Rattle.job_lang.specs.declared.faults.JobWhy.{JobWhy}
 use Rattle.job_lang.specs.declared.faults.JobWhy.TheVariants.{NoSuchTable, SameName}
-use Rattle.job_lang.specs.declared.statement.Said.{Said}
-use Rattle.job_lang.specs.declared.statement.Said.TheVariants as said
+use Rattle.job_lang.specs.declared.statement.Instruction.{Instruction}
+use Rattle.job_lang.specs.declared.statement.Instruction.TheVariants as said
 use Rattle.job_lang.specs.declared.statement.Statement.{Statement}
 
 -- ---- numbers of tables
@@ -17,7 +17,7 @@ abbrev pub is_no_table : ℕ → List ℕ → Bool
 is_no_table count number = is_none (number_in 1 count number)
 
 -- an a priori file or an output of no table
-abbrev pub is_astray : ℕ → Said → Bool
+abbrev pub is_astray : ℕ → Instruction → Bool
 is_astray count (said.Prior file number separator) = is_no_table count number
 is_astray count (said.Output number file) = is_no_table count number
 is_astray count one = false
@@ -30,13 +30,13 @@ no_stray count (s ∷ rest) = if is_astray count s.said then Err (s.line, NoSuch
 -- ---- names of files
 
 -- a file of this name is put
-abbrev pub puts : List ℕ → Said → Bool
+abbrev pub puts : List ℕ → Instruction → Bool
 puts name (said.Output number file) = bytes_eq file name
 puts name (said.Certificate file) = bytes_eq file name
 puts name one = false
 
 -- a file of this name is read
-abbrev pub is_read_file : List ℕ → Said → Bool
+abbrev pub is_read_file : List ℕ → Instruction → Bool
 is_read_file name (said.Microdata file) = bytes_eq file name
 is_read_file name (said.Metadata file) = bytes_eq file name
 is_read_file name (said.Prior file number separator) = bytes_eq file name
@@ -47,7 +47,7 @@ abbrev pub is_shared : List ℕ → List Statement → Bool
 is_shared name all = nat_lt 1 (count_by (λ s. puts name s.said) all) || list_any (λ s. is_read_file name s.said) all
 
 -- a file is put whose name another one has
-abbrev pub is_meeting : List Statement → Said → Bool
+abbrev pub is_meeting : List Statement → Instruction → Bool
 is_meeting all (said.Output number file) = is_shared file all
 is_meeting all (said.Certificate file) = is_shared file all
 is_meeting all one = false

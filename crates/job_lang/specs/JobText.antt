@@ -5,27 +5,27 @@ use Rattle.job_lang.specs.declared.job.Job.{Job}
 use Rattle.job_lang.specs.declared.job.OutputLine.{OutputLine}
 use Rattle.job_lang.specs.declared.job.PriorLine.{PriorLine}
 use Rattle.job_lang.specs.declared.job.TableLine.{TableLine}
-use Rattle.job_lang.specs.declared.statement.Said.{Said}
-use Rattle.job_lang.specs.declared.statement.Said.TheVariants as said
+use Rattle.job_lang.specs.declared.statement.Instruction.{Instruction}
+use Rattle.job_lang.specs.declared.statement.Instruction.TheVariants as said
 use Rattle.job_lang.specs.Spelling.{table_number, said_line}
 
 -- ---- the text
 
 -- a table
-abbrev pub table_said : TableLine → Said
+abbrev pub table_said : TableLine → Instruction
 table_said table = said.Table table.variables table.response
 
 -- an a priori file
-abbrev pub prior_said : PriorLine → Said
+abbrev pub prior_said : PriorLine → Instruction
 prior_said prior = said.Prior prior.file (table_number prior.table) prior.separator
 
 -- the outputs of the tables from this place on
-abbrev pub outputs_said : ℕ → List OutputLine → List Said
+abbrev pub outputs_said : ℕ → List OutputLine → List Instruction
 outputs_said place [] = []
 outputs_said place (output ∷ outputs) = said.Output (table_number place) output.file ∷ outputs_said (place + 1) outputs
 
 -- all that a job says
-abbrev pub job_says : Job → List Said
+abbrev pub job_says : Job → List Instruction
 job_says job =
     said.Microdata job.micro ∷ said.Metadata job.meta ∷ map table_said job.tables
     ++ (said.Safety job.rules ∷ said.Read ∷ map prior_said job.priors

@@ -10,8 +10,8 @@ use Rattle.job_lang.specs.declared.job.Job.{Job}
 use Rattle.job_lang.specs.declared.job.TableLine.{TableLine}
 use Rattle.job_lang.specs.declared.statement.Keyword.{Keyword}
 use Rattle.job_lang.specs.declared.statement.Keyword.TheVariants as keyword
-use Rattle.job_lang.specs.declared.statement.Said.{Said}
-use Rattle.job_lang.specs.declared.statement.Said.TheVariants as said
+use Rattle.job_lang.specs.declared.statement.Instruction.{Instruction}
+use Rattle.job_lang.specs.declared.statement.Instruction.TheVariants as said
 use Rattle.job_lang.specs.declared.statement.Statement.{Statement}
 use Rattle.job_lang.specs.Keywords.{keyword_of, word_in}
 use Rattle.job_lang.specs.Arguments.{argument_of}
@@ -20,14 +20,14 @@ use Rattle.job_lang.specs.ClosingLooks.{priors_in, output_said, file_line}
 use Rattle.job_lang.specs.Jobs.{job_of}
 
 -- what a line says by itself
-unfoldable pub line_says : List ℕ → Result Said JobWhy
+unfoldable pub line_says : List ℕ → Result Instruction JobWhy
 line_says text = do
   word ← word_in text
   keyword ← or_fault UnknownCommand (keyword_of word.0)
   argument_of keyword word.1
 
 -- that with the line's number, where it says something
-abbrev pub said_at : ℕ → Result Said JobWhy → List Statement
+abbrev pub said_at : ℕ → Result Instruction JobWhy → List Statement
 said_at line (Ok one) = record { line = line; said = one } ∷ []
 said_at line (Err why) = []
 
@@ -41,7 +41,7 @@ stated_in before [] = []
 stated_in before (text ∷ texts) = statements_of_line (before + 1) (trim text) ++ stated_in (before + 1) texts
 
 -- a table, where one is stated
-abbrev pub table_in : ℕ → Said → List TableLine
+abbrev pub table_in : ℕ → Instruction → List TableLine
 table_in line (said.Table variables response) = record { line = line; variables = variables; response = response } ∷ []
 table_in line one = []
 
@@ -51,7 +51,7 @@ tables_among [] = []
 tables_among (s ∷ rest) = table_in s.line s.said ++ tables_among rest
 
 -- what is stated but for a table
-abbrev pub other_in : ℕ → Said → List Statement
+abbrev pub other_in : ℕ → Instruction → List Statement
 other_in line (said.Table variables response) = []
 other_in line one = record { line = line; said = one } ∷ []
 
@@ -69,11 +69,11 @@ abbrev pub by_command : Keyword → List Statement → List Statement
 by_command word all = filter (λ s. is_by word s.said) all
 
 -- Exactly one line states something by this command, and it states this.
-abbrev pub IsStatedOnce : Keyword → List Statement → Said → Type 0
+abbrev pub IsStatedOnce : Keyword → List Statement → Instruction → Type 0
 IsStatedOnce word all one = (line : ℕ) × (by_command word all ≡ record { line = line; said = one } ∷ [])
 
 -- Exactly one line does, and it states this; or no line does, and this is so.
-abbrev pub IsStatedOrElse : Keyword → List Statement → Said → Type 0 → Type 0
+abbrev pub IsStatedOrElse : Keyword → List Statement → Instruction → Type 0 → Type 0
 IsStatedOrElse word all one Usual = IsStatedOnce word all one ⊎ ((by_command word all ≡ []) × Usual)
 
 -- A job has its tables in the order of their lines. Each other part is what exactly one line states, or the default

@@ -11,8 +11,8 @@ use Rattle.job_lang.specs.declared.rule_clauses.RuleClause.{RuleClause}
 use Rattle.job_lang.specs.declared.rule_clauses.RuleClause.TheVariants.{Named, Man, Weights}
 use Rattle.job_lang.specs.declared.statement.Keyword.{Keyword}
 use Rattle.job_lang.specs.declared.statement.Keyword.TheVariants.{OpenMicrodata, OpenMetadata, SpecifyTable, SafetyRule, ReadMicrodata, Apriori, Cost, Steps, Nodes, Suppress, WriteTable, Certificate}
-use Rattle.job_lang.specs.declared.statement.Said.{Said}
-use Rattle.job_lang.specs.declared.statement.Said.TheVariants as said
+use Rattle.job_lang.specs.declared.statement.Instruction.{Instruction}
+use Rattle.job_lang.specs.declared.statement.Instruction.TheVariants as said
 use Rattle.job_lang.specs.Statements.{command_of}
 
 -- ---- tokens
@@ -91,7 +91,7 @@ method_text Modular = codes "MOD()"
 method_text (Rnd base) = codes "RND" ++ number_in_parentheses (signed_decimal base)
 
 -- the argument by which it is said, behind a space where there is one
-abbrev pub argument_text : Said → List ℕ
+abbrev pub argument_text : Instruction → List ℕ
 argument_text (said.Microdata name) = 32 ∷ quoted_name name
 argument_text (said.Metadata name) = 32 ∷ quoted_name name
 argument_text (said.Table variables response) = 32 ∷ quoted_each variables ++ 124 ∷ quoted_name response
@@ -107,5 +107,5 @@ argument_text (said.Output number file) = 32 ∷ 40 ∷ number ++ (44 ∷ quoted
 argument_text (said.Certificate name) = 32 ∷ quoted_name name
 
 -- the line by which it is said
-abbrev pub said_line : Said → List ℕ
+abbrev pub said_line : Instruction → List ℕ
 said_line one = 60 ∷ word_of (command_of one) ++ 62 ∷ argument_text one

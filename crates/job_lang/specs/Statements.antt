@@ -10,8 +10,8 @@ use Rattle.job_lang.specs.declared.faults.JobWhy.TheVariants.{UnknownCommand, Tw
 use Rattle.job_lang.specs.declared.job.TableLine.{TableLine}
 use Rattle.job_lang.specs.declared.statement.Keyword.{Keyword}
 use Rattle.job_lang.specs.declared.statement.Keyword.TheVariants.{OpenMicrodata, OpenMetadata, SpecifyTable, SafetyRule, ReadMicrodata, Apriori, Cost, Steps, Nodes, Suppress, WriteTable, Certificate}
-use Rattle.job_lang.specs.declared.statement.Said.{Said}
-use Rattle.job_lang.specs.declared.statement.Said.TheVariants as said
+use Rattle.job_lang.specs.declared.statement.Instruction.{Instruction}
+use Rattle.job_lang.specs.declared.statement.Instruction.TheVariants as said
 use Rattle.job_lang.specs.declared.statement.Statement.{Statement}
 use Rattle.job_lang.specs.declared.statement.Draft.{Draft}
 use Rattle.job_lang.specs.Faults.{at_line}
@@ -19,7 +19,7 @@ use Rattle.job_lang.specs.Keywords.{keyword_of, same_keyword, word_in}
 use Rattle.job_lang.specs.Arguments.{argument_of}
 
 -- the command by which it is said
-abbrev pub command_of : Said → Keyword
+abbrev pub command_of : Instruction → Keyword
 command_of (said.Microdata name) = OpenMicrodata
 command_of (said.Metadata name) = OpenMetadata
 command_of (said.Table variables response) = SpecifyTable
@@ -34,22 +34,22 @@ command_of (said.Output number file) = WriteTable
 command_of (said.Certificate name) = Certificate
 
 -- it is said by this command
-abbrev pub is_by : Keyword → Said → Bool
+abbrev pub is_by : Keyword → Instruction → Bool
 is_by keyword one = same_keyword (command_of one) keyword
 
 -- an a priori file of the table with this number, by its digits without zeros in front
-abbrev pub is_prior_of : List ℕ → Said → Bool
+abbrev pub is_prior_of : List ℕ → Instruction → Bool
 is_prior_of number (said.Prior file other separator) = bytes_eq other number
 is_prior_of number one = false
 
 -- an output of the table with this number
-abbrev pub is_output_of : List ℕ → Said → Bool
+abbrev pub is_output_of : List ℕ → Instruction → Bool
 is_output_of number (said.Output other file) = bytes_eq other number
 is_output_of number one = false
 
 -- It is said before: an a priori file or an output for the same table, all else by the same command. Tables are no
 -- repetition.
-abbrev pub is_again : Said → List Statement → Bool
+abbrev pub is_again : Instruction → List Statement → Bool
 is_again (said.Table variables response) before = false
 is_again (said.Prior file number separator) before = list_any (λ s. is_prior_of number s.said) before
 is_again (said.Output number file) before = list_any (λ s. is_output_of number s.said) before
@@ -78,13 +78,13 @@ with_table line draft variables response = do
   Ok (record draft { tables = draft.tables ++ record { line = line; variables = variables; response = response } ∷ [] })
 
 -- one statement more
-unfoldable pub with_statement : ℕ → Draft → Said → Result Draft JobWhy
+unfoldable pub with_statement : ℕ → Draft → Instruction → Result Draft JobWhy
 with_statement line draft one = do
   once ← refuse Twice (is_again one draft.said)
   Ok (record draft { said = draft.said ++ record { line = line; said = one } ∷ [] })
 
 -- what is said goes to the tables, or to the rest
-unfoldable pub with_said : ℕ → Draft → Said → Result Draft JobWhy
+unfoldable pub with_said : ℕ → Draft → Instruction → Result Draft JobWhy
 with_said line draft (said.Table variables response) = with_table line draft variables response
 with_said line draft one = with_statement line draft one
 

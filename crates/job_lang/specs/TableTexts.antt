@@ -8,8 +8,8 @@ use Rattle.sdc_base.specs.Blanks.{trim}
 use Rattle.sdc_base.specs.Steps.{◌>>=◌, refuse}
 use Rattle.job_lang.specs.declared.faults.JobWhy.{JobWhy}
 use Rattle.job_lang.specs.declared.faults.JobWhy.TheVariants.{BadValue}
-use Rattle.job_lang.specs.declared.statement.Said.{Said}
-use Rattle.job_lang.specs.declared.statement.Said.TheVariants as said
+use Rattle.job_lang.specs.declared.statement.Instruction.{Instruction}
+use Rattle.job_lang.specs.declared.statement.Instruction.TheVariants as said
 use Rattle.job_lang.specs.LineTokens.{is_next, behind_mark, quoted_at}
 use Rattle.job_lang.specs.Pieces.{pieces}
 
@@ -45,7 +45,7 @@ abbrev pub are_free_parts : List ℕ → Bool
 are_free_parts text = ((length (trim text) == 0) || is_next 124 text) && list_all is_free_part (pieces text)
 
 -- 1 to 4 variables, none of them twice, a bar, the response, and perhaps parts that say nothing more
-unfoldable pub table_argument : List ℕ → Result Said JobWhy
+unfoldable pub table_argument : List ℕ → Result Instruction JobWhy
 table_argument text = do
   variables ← names_up_to 4 text
   some ← refuse BadValue (length variables.0 == 0)

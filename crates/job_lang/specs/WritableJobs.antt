@@ -10,8 +10,8 @@ use Rattle.sdc_base.specs.declared.rule.Rule.TheVariants.{Freq}
 use Rattle.job_lang.specs.declared.job.Job.{Job}
 use Rattle.job_lang.specs.declared.job.PriorLine.{PriorLine}
 use Rattle.job_lang.specs.declared.job.TableLine.{TableLine}
-use Rattle.job_lang.specs.declared.statement.Said.{Said}
-use Rattle.job_lang.specs.declared.statement.Said.TheVariants as said
+use Rattle.job_lang.specs.declared.statement.Instruction.{Instruction}
+use Rattle.job_lang.specs.declared.statement.Instruction.TheVariants as said
 use Rattle.job_lang.specs.Arguments.{may_separate}
 use Rattle.job_lang.specs.JobLimits.{IsJob, IsWork, IsMethod, AreInRange}
 use Rattle.job_lang.specs.Jobs.{job_of}
@@ -39,7 +39,7 @@ HasSeparator prior = (may_separate prior.separator ≡ true) × (is_line_feed pr
 
 -- What a line can say in the canonical text: the limits of what is said, names of files, names that can be written, and
 -- the number of a table, which are at most 8.
-abbrev pub IsSpellable : Said → Type 0
+abbrev pub IsSpellable : Instruction → Type 0
 IsSpellable (said.Microdata name) = is_file_name name ≡ true
 IsSpellable (said.Metadata name) = is_file_name name ≡ true
 IsSpellable (said.Table variables response) = (0 < length variables) × (length variables ≤ 4)
@@ -61,7 +61,7 @@ IsSpellable (said.Certificate name) = is_file_name name ≡ true
 -- end.
 abbrev pub LinesAreRead : Type 0
 LinesAreRead =
-    (one : Said) → IsSpellable one → (line_says (said_line one) ≡ Ok one) × (trim (said_line one) ≡ said_line one)
+    (one : Instruction) → IsSpellable one → (line_says (said_line one) ≡ Ok one) × (trim (said_line one) ≡ said_line one)
     × IsLine (said_line one)
 
 -- A job within its limits whose names can be written, with at most one rule on frequencies and one a priori file for

@@ -10,7 +10,7 @@ use crate::faults::{JobWhy, LineError};
 use crate::keywords::spells;
 use crate::rule_texts::one_number;
 use crate::rules::rules_in;
-use crate::statement::{Keyword, Said};
+use crate::statement::{Instruction, Keyword};
 use crate::table_texts::table_argument;
 use crate::texts::text_of;
 use cost_rule::CostKind;
@@ -23,32 +23,36 @@ const MOST_WORK: u64 = 1_000_000_000_000;
 
 /// What the text behind a command says.
 #[tactic(auto, unfolding(crate::specs::Arguments::argument_of))]
-pub(crate) fn argument_of(alloc: Global, keyword: Keyword, text: &[u8]) -> Result<Said, LineError>
+pub(crate) fn argument_of(
+    alloc: Global,
+    keyword: Keyword,
+    text: &[u8],
+) -> Result<Instruction, LineError>
     ensures { Gives why_of (λ said. said) result (spec.argument_of keyword text.now) }
 {
     match keyword {
-        Keyword::OpenMicrodata => Ok(Said::Microdata(only_file(alloc, text)?)),
-        Keyword::OpenMetadata => Ok(Said::Metadata(only_file(alloc, text)?)),
+        Keyword::OpenMicrodata => Ok(Instruction::Microdata(only_file(alloc, text)?)),
+        Keyword::OpenMetadata => Ok(Instruction::Metadata(only_file(alloc, text)?)),
         Keyword::SpecifyTable => table_argument(alloc, text),
-        Keyword::SafetyRule => Ok(Said::Safety(rules_in(alloc, text)?)),
+        Keyword::SafetyRule => Ok(Instruction::Safety(rules_in(alloc, text)?)),
         Keyword::ReadMicrodata => nothing_more(text),
         Keyword::Apriori => prior_argument(alloc, text),
-        Keyword::Cost => Ok(Said::Cost(cost_argument(text)?)),
-        Keyword::Steps => Ok(Said::Steps(work_argument(text)?)),
-        Keyword::Nodes => Ok(Said::Nodes(work_argument(text)?)),
-        Keyword::Suppress => Ok(Said::Suppress(method_argument(text)?)),
+        Keyword::Cost => Ok(Instruction::Cost(cost_argument(text)?)),
+        Keyword::Steps => Ok(Instruction::Steps(work_argument(text)?)),
+        Keyword::Nodes => Ok(Instruction::Nodes(work_argument(text)?)),
+        Keyword::Suppress => Ok(Instruction::Suppress(method_argument(text)?)),
         Keyword::WriteTable => output_argument(alloc, text),
-        Keyword::Certificate => Ok(Said::Certificate(only_file(alloc, text)?)),
+        Keyword::Certificate => Ok(Instruction::Certificate(only_file(alloc, text)?)),
     }
 }
 
 // No token at all.
 #[tactic(auto, unfolding(crate::specs::Arguments::argument_of))]
-fn nothing_more(text: &[u8]) -> Result<Said, LineError>
+fn nothing_more(text: &[u8]) -> Result<Instruction, LineError>
     ensures { Gives why_of (λ said. said) result (spec.argument_of Keyword.ReadMicrodata text.now) }
 {
     at_front(text).end()?;
-    Ok(Said::Read)
+    Ok(Instruction::Read)
 }
 
 // The next token, which must be a file name in quotes.
@@ -56,7 +60,7 @@ fn nothing_more(text: &[u8]) -> Result<Said, LineError>
 fn file_at<'a>(cursor: &mut Cursor<'a>) -> Result<&'a [u8], JobWhy>
     ensures { Gives fault_itself (λ file. (file.now, cursor.new)) result (spec.file_at cursor.old) }
 {
-    let name = cursor.quoted()?;
+    let name = cursor.quoted_word()?;
     if !is_file_name(name) {
         return Err(JobWhy::BadValue);
     }
@@ -94,7 +98,7 @@ fn separator_of(word: &[u8]) -> Option<u8>
 
 // A file, the number of its table and its separator.
 #[tactic(auto, unfolding(crate::specs::Arguments::prior_argument))]
-fn prior_argument(alloc: Global, text: &[u8]) -> Result<Said, LineError>
+fn prior_argument(alloc: Global, text: &[u8]) -> Result<Instruction, LineError>
     ensures { Gives why_of (λ said. said) result (spec.prior_argument text.now) }
 {
     let mut cursor = at_front(text);
@@ -102,14 +106,14 @@ fn prior_argument(alloc: Global, text: &[u8]) -> Result<Said, LineError>
     cursor.mark(b',')?;
     let number = cursor.digits()?;
     cursor.mark(b',')?;
-    let word = cursor.quoted()?;
+    let word = cursor.quoted_word()?;
     let Some(separator) = separator_of(word) else {
         return Err(LineError::Fault(JobWhy::BadValue));
     };
     cursor.end()?;
     let file = text_of(alloc, file)?;
     let number = text_of(alloc, number)?;
-    Ok(Said::Prior {
+    Ok(Instruction::Prior {
         file,
         number,
         separator,
@@ -118,7 +122,7 @@ fn prior_argument(alloc: Global, text: &[u8]) -> Result<Said, LineError>
 
 // The number of a table and its file.
 #[tactic(auto, unfolding(crate::specs::Arguments::output_argument))]
-fn output_argument(alloc: Global, text: &[u8]) -> Result<Said, LineError>
+fn output_argument(alloc: Global, text: &[u8]) -> Result<Instruction, LineError>
     ensures { Gives why_of (λ said. said) result (spec.output_argument text.now) }
 {
     let mut cursor = at_front(text);
@@ -129,7 +133,7 @@ fn output_argument(alloc: Global, text: &[u8]) -> Result<Said, LineError>
     cursor.close()?;
     let number = text_of(alloc, number)?;
     let file = text_of(alloc, file)?;
-    Ok(Said::Output { number, file })
+    Ok(Instruction::Output { number, file })
 }
 
 // The kind of cost of a word, in letters of any case.

@@ -5,7 +5,7 @@ ghost use Rattle.job_lang.specs.Faults.{fault_of};
 ghost use Rattle.job_lang.specs.FilesApart as spec;
 
 use crate::faults::{JobError, JobWhy};
-use crate::statement::{Said, Statement};
+use crate::statement::{Instruction, Statement};
 use plain_text::number_in;
 use sdc_base::Text;
 
@@ -28,13 +28,13 @@ fn is_no_table(count: usize, number: &Text) -> bool
 }
 
 // Whether it is said of no table.
-fn is_astray(count: usize, said: &Said) -> bool
+fn is_astray(count: usize, said: &Instruction) -> bool
     requires { count ≤ 8 }
     ensures { result ≡ spec.is_astray count said.now }
 {
     match said {
-        Said::Prior { number, .. } => is_no_table(count, number),
-        Said::Output { number, .. } => is_no_table(count, number),
+        Instruction::Prior { number, .. } => is_no_table(count, number),
+        Instruction::Output { number, .. } => is_no_table(count, number),
         _ => false,
     }
 }
@@ -54,24 +54,24 @@ pub(crate) fn no_stray(count: usize, said: &[Statement]) -> Result<(), JobError>
 }
 
 // Whether a file of this name is put.
-fn puts(name: &Text, said: &Said) -> bool
+fn puts(name: &Text, said: &Instruction) -> bool
     ensures { result ≡ spec.puts name.now said.now }
 {
     match said {
-        Said::Output { file, .. } => file.equals(name),
-        Said::Certificate(file) => file.equals(name),
+        Instruction::Output { file, .. } => file.equals(name),
+        Instruction::Certificate(file) => file.equals(name),
         _ => false,
     }
 }
 
 // Whether a file of this name is read.
-fn reads(name: &Text, said: &Said) -> bool
+fn reads(name: &Text, said: &Instruction) -> bool
     ensures { result ≡ spec.is_read_file name.now said.now }
 {
     match said {
-        Said::Microdata(file) => file.equals(name),
-        Said::Metadata(file) => file.equals(name),
-        Said::Prior { file, .. } => file.equals(name),
+        Instruction::Microdata(file) => file.equals(name),
+        Instruction::Metadata(file) => file.equals(name),
+        Instruction::Prior { file, .. } => file.equals(name),
         _ => false,
     }
 }
@@ -101,12 +101,12 @@ fn is_shared(name: &Text, all: &[Statement]) -> bool
 }
 
 // Whether a file is put whose name another one has.
-fn is_meeting(all: &[Statement], said: &Said) -> bool
+fn is_meeting(all: &[Statement], said: &Instruction) -> bool
     ensures { result ≡ spec.is_meeting all.now said.now }
 {
     match said {
-        Said::Output { file, .. } => is_shared(file, all),
-        Said::Certificate(file) => is_shared(file, all),
+        Instruction::Output { file, .. } => is_shared(file, all),
+        Instruction::Certificate(file) => is_shared(file, all),
         _ => false,
     }
 }

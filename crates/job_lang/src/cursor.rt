@@ -62,7 +62,7 @@ impl<'a> Cursor<'a> {
 
     /// Takes the next token, which must be a word in quotes.
     #[tactic(auto, unfolding(crate::specs::LineTokens::quoted_at))]
-    pub(crate) fn quoted(&mut self) -> Result<&'a [u8], JobWhy>
+    pub(crate) fn quoted_word(&mut self) -> Result<&'a [u8], JobWhy>
         ensures { Gives fault_itself (λ word. (word.now, self.new)) result (quoted_at self.old) }
     {
         self.mark(b'"')?;

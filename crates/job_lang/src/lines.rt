@@ -11,7 +11,7 @@ use crate::arguments::argument_of;
 use crate::faults::{JobError, JobWhy, LineError, error_at};
 use crate::job::TableLine;
 use crate::keywords::{keyword_of, same_keyword, word_in};
-use crate::statement::{Draft, Keyword, Said, Statement};
+use crate::statement::{Draft, Instruction, Keyword, Statement};
 use crate::texts::{add_texts, distinct_count};
 use plain_text::{lines, trim};
 use sdc_base::{Items, Memory, Text};
@@ -89,11 +89,16 @@ fn command_line(alloc: Global, line: u32, text: &[u8], draft: &mut Draft) -> Res
 
 // What is said goes to the tables, or to the rest.
 #[tactic(auto, unfolding(crate::specs::Statements::with_said))]
-fn take_said(alloc: Global, line: u32, draft: &mut Draft, said: Said) -> Result<(), LineError>
+fn take_said(
+    alloc: Global,
+    line: u32,
+    draft: &mut Draft,
+    said: Instruction,
+) -> Result<(), LineError>
     ensures { Gives why_of (λ _. draft.new) result (statements.with_said line draft.old said) }
 {
     match said {
-        Said::Table {
+        Instruction::Table {
             variables,
             response,
         } => take_table(alloc, line, draft, variables, response),
@@ -161,7 +166,7 @@ fn is_other_response(response: &Text, tables: &[TableLine]) -> bool
 
 // One statement more.
 #[tactic(auto, unfolding(crate::specs::Statements::with_statement))]
-fn take_statement(line: u32, draft: &mut Draft, said: Said) -> Result<(), LineError>
+fn take_statement(line: u32, draft: &mut Draft, said: Instruction) -> Result<(), LineError>
     ensures { Gives why_of (λ _. draft.new) result (statements.with_statement line draft.old said) }
 {
     if is_again(&said, draft.said.as_slice()) {
@@ -172,48 +177,48 @@ fn take_statement(line: u32, draft: &mut Draft, said: Said) -> Result<(), LineEr
 }
 
 // The command by which it is said.
-fn command_of(said: &Said) -> Keyword
+fn command_of(said: &Instruction) -> Keyword
     ensures { result ≡ statements.command_of said.now }
 {
     match said {
-        Said::Microdata(_) => Keyword::OpenMicrodata,
-        Said::Metadata(_) => Keyword::OpenMetadata,
-        Said::Table { .. } => Keyword::SpecifyTable,
-        Said::Safety(_) => Keyword::SafetyRule,
-        Said::Read => Keyword::ReadMicrodata,
-        Said::Prior { .. } => Keyword::Apriori,
-        Said::Cost(_) => Keyword::Cost,
-        Said::Steps(_) => Keyword::Steps,
-        Said::Nodes(_) => Keyword::Nodes,
-        Said::Suppress(_) => Keyword::Suppress,
-        Said::Output { .. } => Keyword::WriteTable,
-        Said::Certificate(_) => Keyword::Certificate,
+        Instruction::Microdata(_) => Keyword::OpenMicrodata,
+        Instruction::Metadata(_) => Keyword::OpenMetadata,
+        Instruction::Table { .. } => Keyword::SpecifyTable,
+        Instruction::Safety(_) => Keyword::SafetyRule,
+        Instruction::Read => Keyword::ReadMicrodata,
+        Instruction::Prior { .. } => Keyword::Apriori,
+        Instruction::Cost(_) => Keyword::Cost,
+        Instruction::Steps(_) => Keyword::Steps,
+        Instruction::Nodes(_) => Keyword::Nodes,
+        Instruction::Suppress(_) => Keyword::Suppress,
+        Instruction::Output { .. } => Keyword::WriteTable,
+        Instruction::Certificate(_) => Keyword::Certificate,
     }
 }
 
 /// Whether it is said by this command.
-pub(crate) fn is_by(keyword: Keyword, said: &Said) -> bool
+pub(crate) fn is_by(keyword: Keyword, said: &Instruction) -> bool
     ensures { result ≡ statements.is_by keyword said.now }
 {
     same_keyword(command_of(said), keyword)
 }
 
 // Whether it is an a priori file of the table with these digits.
-fn is_prior_of(number: &Text, said: &Said) -> bool
+fn is_prior_of(number: &Text, said: &Instruction) -> bool
     ensures { result ≡ statements.is_prior_of number.now said.now }
 {
     match said {
-        Said::Prior { number: other, .. } => other.equals(number),
+        Instruction::Prior { number: other, .. } => other.equals(number),
         _ => false,
     }
 }
 
 // Whether it is an output of the table with these digits.
-fn is_output_of(number: &Text, said: &Said) -> bool
+fn is_output_of(number: &Text, said: &Instruction) -> bool
     ensures { result ≡ statements.is_output_of number.now said.now }
 {
     match said {
-        Said::Output { number: other, .. } => other.equals(number),
+        Instruction::Output { number: other, .. } => other.equals(number),
         _ => false,
     }
 }
@@ -240,13 +245,13 @@ fn has_command(keyword: Keyword, before: &[Statement]) -> bool
 }
 
 // Whether it is said before.
-fn is_again(said: &Said, before: &[Statement]) -> bool
+fn is_again(said: &Instruction, before: &[Statement]) -> bool
     ensures { result ≡ statements.is_again said.now before.now }
 {
     match said {
-        Said::Table { .. } => false,
-        Said::Prior { number, .. } => has_prior(number, before),
-        Said::Output { number, .. } => has_output(number, before),
+        Instruction::Table { .. } => false,
+        Instruction::Prior { number, .. } => has_prior(number, before),
+        Instruction::Output { number, .. } => has_output(number, before),
         _ => has_command(command_of(said), before),
     }
 }

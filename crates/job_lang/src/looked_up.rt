@@ -5,7 +5,7 @@ ghost use Rattle.job_lang.specs.ClosingLooks as closing_looks;
 
 use crate::job::{OutputLine, PriorLine};
 use crate::lines::is_by;
-use crate::statement::{Keyword, Said, Statement};
+use crate::statement::{Instruction, Keyword, Statement};
 use cost_rule::CostKind;
 use plain_text::number_in;
 use sdc_base::{Items, Memory, Method, Rules, Text};
@@ -31,13 +31,13 @@ pub(crate) fn said_by(keyword: Keyword, all: &[Statement]) -> Option<&Statement>
 }
 
 // Whether it is an output of the table at this place, from 0.
-fn is_output_at(place: usize, said: &Said) -> bool
+fn is_output_at(place: usize, said: &Instruction) -> bool
     requires { place < 8 }
     ensures { result ≡ closing_looks.is_output_at place said.now }
 {
     let number = place as u64 + 1;
     match said {
-        Said::Output { number: digits, .. } => {
+        Instruction::Output { number: digits, .. } => {
             number_in(number, number, digits.as_slice()).is_some()
         }
         _ => false,
@@ -58,14 +58,14 @@ pub(crate) fn output_said(place: usize, all: &[Statement]) -> Option<&Statement>
 }
 
 // The file of a command that names one alone, or of an output.
-fn file_said(said: &Said) -> Option<&Text>
+fn file_said(said: &Instruction) -> Option<&Text>
     ensures { option_copied result ≡ closing_looks.file_said said.now }
 {
     match said {
-        Said::Microdata(file) => Some(file),
-        Said::Metadata(file) => Some(file),
-        Said::Certificate(file) => Some(file),
-        Said::Output { file, .. } => Some(file),
+        Instruction::Microdata(file) => Some(file),
+        Instruction::Metadata(file) => Some(file),
+        Instruction::Certificate(file) => Some(file),
+        Instruction::Output { file, .. } => Some(file),
         _ => None,
     }
 }
@@ -107,7 +107,7 @@ pub(crate) fn rules_line(statement: Option<&Statement>) -> Option<RulesLine>
 {
     let statement = statement?;
     match &statement.said {
-        Said::Safety(rules) => Some(RulesLine {
+        Instruction::Safety(rules) => Some(RulesLine {
             line: statement.line,
             rules: copy_rules(rules),
         }),
@@ -120,7 +120,7 @@ pub(crate) fn method_of(statement: Option<&Statement>) -> Option<Method>
     ensures { result ≡ closing_looks.method_of (option_copied statement.entry) }
 {
     match &statement?.said {
-        Said::Suppress(method) => Some(*method),
+        Instruction::Suppress(method) => Some(*method),
         _ => None,
     }
 }
@@ -133,7 +133,7 @@ pub(crate) fn cost_of(statement: Option<&Statement>) -> CostKind
         return CostKind::Value;
     };
     match &statement.said {
-        Said::Cost(cost) => *cost,
+        Instruction::Cost(cost) => *cost,
         _ => CostKind::Value,
     }
 }
@@ -146,8 +146,8 @@ pub(crate) fn work_of(other: u64, statement: Option<&Statement>) -> u64
         return other;
     };
     match &statement.said {
-        Said::Steps(steps) => *steps,
-        Said::Nodes(nodes) => *nodes,
+        Instruction::Steps(steps) => *steps,
+        Instruction::Nodes(nodes) => *nodes,
         _ => other,
     }
 }
@@ -193,7 +193,7 @@ pub(crate) fn priors_in(alloc: Global, all: &[Statement]) -> Result<Items<PriorL
 {
     let mut lines = Items::empty(alloc);
     'all: for statement in all {
-        if let Said::Prior {
+        if let Instruction::Prior {
             file,
             number,
             separator,

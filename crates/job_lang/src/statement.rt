@@ -22,7 +22,7 @@ pub(crate) enum Keyword {
 /// What a line of a job says. The number of a table is kept by its digits, without zeros in front, since it may be of
 /// any size until the tables are counted.
 #[derive(Drop)]
-pub(crate) enum Said {
+pub(crate) enum Instruction {
     Microdata(Text),
     Metadata(Text),
     Table {
@@ -51,7 +51,7 @@ pub(crate) enum Said {
 #[derive(Drop)]
 pub(crate) struct Statement {
     pub(crate) line: u32,
-    pub(crate) said: Said,
+    pub(crate) said: Instruction,
 }
 
 /// What the lines so far say: the tables, and all that isn't a table.

@@ -9,7 +9,7 @@ ghost use Rattle.job_lang.specs.TableTexts as spec;
 use crate::cursor::{Cursor, at_front};
 use crate::faults::{JobWhy, LineError};
 use crate::pieces::pieces_in;
-use crate::statement::Said;
+use crate::statement::Instruction;
 use crate::texts::{is_twice, text_of};
 use plain_text::trim;
 use sdc_base::{Items, Text};
@@ -20,7 +20,7 @@ const MOST_VARIABLES: usize = 4;
 
 /// The table that the text behind SPECIFYTABLE states.
 #[tactic(auto, unfolding(crate::specs::TableTexts::table_argument))]
-pub(crate) fn table_argument(alloc: Global, text: &[u8]) -> Result<Said, LineError>
+pub(crate) fn table_argument(alloc: Global, text: &[u8]) -> Result<Instruction, LineError>
     ensures { Gives why_of (λ said. said) result (spec.table_argument text.now) }
 {
     let mut cursor = at_front(text);
@@ -32,13 +32,13 @@ pub(crate) fn table_argument(alloc: Global, text: &[u8]) -> Result<Said, LineErr
         return Err(LineError::Fault(JobWhy::BadValue));
     }
     cursor.mark(b'|')?;
-    let word = cursor.quoted()?;
+    let word = cursor.quoted_word()?;
     let rest = behind_again(word, cursor.rest());
     if !are_free_parts(rest) {
         return Err(LineError::Fault(JobWhy::BadValue));
     }
     let response = text_of(alloc, word)?;
-    Ok(Said::Table {
+    Ok(Instruction::Table {
         variables,
         response,
     })
@@ -53,7 +53,7 @@ fn variables_at(alloc: Global, cursor: &mut Cursor) -> Result<Items<Text>, LineE
         if !cursor.is_next(b'"') {
             return Ok(names);
         }
-        let name = cursor.quoted()?;
+        let name = cursor.quoted_word()?;
         names.push(text_of(alloc, name)?)?;
     }
     Ok(names)
@@ -66,7 +66,7 @@ fn quoted_part(text: &[u8]) -> Result<(&[u8], &[u8]), JobWhy>
 {
     let mut cursor = at_front(text);
     cursor.mark(b'|')?;
-    let word = cursor.quoted()?;
+    let word = cursor.quoted_word()?;
     Ok((word, cursor.rest()))
 }
 

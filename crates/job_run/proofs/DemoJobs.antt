@@ -33,7 +33,7 @@ use Rattle.job_inputs.specs.CodeSources.{fields_of, spanning_variables}
 use Rattle.job_inputs.specs.ReadFiles.{bytes_of_file, job_fault, meta_fault}
 use Rattle.job_inputs.specs.Purposes.{is_unfit}
 use Rattle.job_inputs.specs.SettledJobs.{SettledInputs, overwrites_job, settled_of}
-use Rattle.job_inputs.specs.declared.described.Described.{Described}
+use Rattle.job_inputs.specs.declared.described.DescribedJob.{DescribedJob}
 use Rattle.job_inputs.specs.declared.file_ref.FileRef.TheVariants as file
 use Rattle.job_inputs.specs.declared.inputs.Inputs.{Inputs}
 use Rattle.job_inputs.specs.declared.purpose.Purpose.{Purpose}
@@ -80,7 +80,7 @@ inputs-described purpose files name inputs is =
     let same : record { described = described.0; records = rows.0 } ≡ inputs = ok-is rows.2 in
     described.1 ∙ ap Ok (ap (λ (one : Inputs). one.described) same)
 
-described-job : (purpose : Purpose) (files : Files) (name : List ℕ) (described : Described) → described_of purpose files name ≡ Ok described
+described-job : (purpose : Purpose) (files : Files) (name : List ℕ) (described : DescribedJob) → described_of purpose files name ≡ Ok described
     → (bytes : List ℕ) × (bytes_of_file files name file.Job ≡ Ok bytes) × (job_for purpose bytes ≡ Ok described.job)
 unfolding described_of
 described-job purpose files name described is =
@@ -90,7 +90,7 @@ described-job purpose files name described is =
     let meta = bind_ok (map_fault meta_fault (meta_of text.0)) _ described text.2 in
     let bound = bind_ok (map_fault job_fault (bound_of job.0 meta.0)) _ described meta.2 in
     let same : record { job = job.0; meta = meta.0; bound = bound.0 } ≡ described = ok-is bound.2 in
-    (bytes.0, bytes.1, job.1 ∙ ap Ok (ap (λ (one : Described). one.job) same))
+    (bytes.0, bytes.1, job.1 ∙ ap Ok (ap (λ (one : DescribedJob). one.job) same))
 
 settled-inputs : (purpose : Purpose) (files : Files) (name : List ℕ) (settled : SettledInputs) → settled_of purpose files name ≡ Ok settled → inputs_of purpose files name ≡ Ok settled.inputs
 unfolding settled_of

@@ -7,14 +7,14 @@ use Rattle.office_io.specs.Files.{Files, files_after_put}
 use Rattle.office_io.specs.Trays.{TrayState, HasPutInPart}
 use Rattle.job_run.specs.Puts.{put_all, OneInPart, SomeWhole}
 use Rattle.job_inputs.specs.declared.file_ref.FileRef.{FileRef}
-use Rattle.job_run.specs.declared.put.Put.{Put}
+use Rattle.job_run.specs.declared.put.FilePut.{FilePut}
 
-put_all-push : (out : Files) (puts : List Put) (p : Put) → put_all out (puts ++ p ∷ []) ≡ files_after_put (put_all out puts) p.name p.bytes
+put_all-push : (out : Files) (puts : List FilePut) (p : FilePut) → put_all out (puts ++ p ∷ []) ≡ files_after_put (put_all out puts) p.name p.bytes
 put_all-push out [] p = refl
 put_all-push out (q ∷ puts) p = put_all-push (files_after_put out q.name q.bytes) puts p
 
 -- a put after the puts so far
-pub put-more : (puts : List Put) (i : ℕ) (p : Put) (start old new : Option Files) → i < length puts → p ≡ get_or puts i p →
+pub put-more : (puts : List FilePut) (i : ℕ) (p : FilePut) (start old new : Option Files) → i < length puts → p ≡ get_or puts i p →
     old ≡ option_map (λ out. put_all out (take i puts)) start → new ≡ option_map (λ out. files_after_put out p.name p.bytes) old →
     new ≡ option_map (λ out. put_all out (take (i + 1) puts)) start
 put-more puts i p None old new below is before after = rw after (rw before refl)
@@ -28,7 +28,7 @@ counted-more before after start zero none once more = omega (arith, none refl, m
 counted-more before after start (suc i) none once more = omega (arith, once (omega arith), more)
 
 -- a put that stopped after some bytes
-pub put-part : (puts : List Put) (i : ℕ) (p : Put) (f : FileRef) (start old new : TrayState) → i < length puts → p ≡ get_or puts i p → p.file ≡ f
+pub put-part : (puts : List FilePut) (i : ℕ) (p : FilePut) (f : FileRef) (start old new : TrayState) → i < length puts → p ≡ get_or puts i p → p.file ≡ f
     → old.files ≡ option_map (λ out. put_all out (take i puts)) start.files → (i ≡ 0 → old ≡ start) → (0 < i → old.puts ≡ count_after start.puts i) → HasPutInPart p.name p.bytes old new → OneInPart puts f start new
 put-part puts i p f start old new below is named before none once part = (
   i,
@@ -47,7 +47,7 @@ put-part puts i p f start old new below is named before none once part = (
     after_all n (Some out) = refl
 
 -- the puts so far, where memory was wanting for the next
-pub some-whole : (puts : List Put) (i : ℕ) (start old new : TrayState) → old.files ≡ option_map (λ out. put_all out (take i puts)) start.files → (i ≡ 0 → old ≡ start) → (0 < i → old.puts ≡ count_after start.puts i)
+pub some-whole : (puts : List FilePut) (i : ℕ) (start old new : TrayState) → old.files ≡ option_map (λ out. put_all out (take i puts)) start.files → (i ≡ 0 → old ≡ start) → (0 < i → old.puts ≡ count_after start.puts i)
     → new ≡ old → SomeWhole puts start new
 some-whole puts zero start old new before none once same = inl (same ∙ none refl)
 some-whole puts (suc i) start old new before none once same =

@@ -33,7 +33,7 @@ use Rattle.worlds.specs.declared.refuted.Refuted.{Refuted}
 use Rattle.job_inputs.specs.Cells.{cells}
 use Rattle.job_inputs.specs.SettledJobs.{SettledInputs, IsSettledOf}
 use Rattle.job_inputs.specs.TabulatedBooks.{IsReadyFor}
-use Rattle.job_inputs.specs.declared.described.Described.{Described}
+use Rattle.job_inputs.specs.declared.described.DescribedJob.{DescribedJob}
 use Rattle.job_inputs.specs.declared.settled.SettledJob.{SettledJob}
 use Rattle.relations.specs.Holding.{IsSystemOf}
 use Rattle.job_run.specs.Endings.{IsReleaseBy}
@@ -103,7 +103,7 @@ from-zero : (marks : List Mark) → All (λ (mark : Mark). IsTruth mark.facts.tr
 from-zero marks all k d within = (all k d within).from_zero
 
 -- a book with its truths in range and a flag for each cell can be shown with cells hidden
-pub hidden-can : (described : Described) (book : BookView) (hidden : Bor Hidden) → IsReadyFor described book → length hidden.now.flags ≡ length book.marks → CanBeShown book (shown.Hidden hidden)
+pub hidden-can : (described : DescribedJob) (book : BookView) (hidden : Bor Hidden) → IsReadyFor described book → length hidden.now.flags ≡ length book.marks → CanBeShown book (shown.Hidden hidden)
 hidden-can described book hidden ready each = (each, from-zero book.marks ready.truths)
 
 -- ---- the numbers of a release
@@ -127,7 +127,7 @@ pub numbers-are : (settled : SettledInputs) (job : SettledJob) (all : List Cell)
 numbers-are settled job all count primary is counted same primaries =
     ap (λ (n : ℕ). summary n job.skipped job.described.meta.passed_over count primary 0) is.records
     ∙ ap (λ (n : ℕ). summary (length settled.inputs.records.rows) n job.described.meta.passed_over count primary 0) is.skipped
-    ∙ ap (λ (d : Described). summary (length settled.inputs.records.rows) settled.inputs.records.skipped d.meta.passed_over count primary 0) is.described
+    ∙ ap (λ (d : DescribedJob). summary (length settled.inputs.records.rows) settled.inputs.records.skipped d.meta.passed_over count primary 0) is.described
     ∙ ap (λ (n : ℕ). summary (length settled.inputs.records.rows) settled.inputs.records.skipped settled.inputs.described.meta.passed_over n primary 0)
     (counted ∙ ap (λ (trees : List Tree). length (cells_of trees job.book.tables)) is.book.trees ∙ ap (λ (tables : List (List ℕ)). length (cells_of settled.inputs.records.trees tables)) is.book.tables)
     ∙ ap (λ (n : ℕ). summary (length settled.inputs.records.rows) settled.inputs.records.skipped settled.inputs.described.meta.passed_over (length (cells settled.inputs)) n 0)

@@ -35,7 +35,7 @@ use Rattle.rounding.specs.declared.fault.RoundFault.{RoundFault}
 use Rattle.rounding.specs.declared.fault.RoundFault.TheVariants as round
 use Rattle.job_inputs.specs.Cells.{cells}
 use Rattle.job_inputs.specs.SettledJobs.{SettledInputs, IsSettledOf}
-use Rattle.job_inputs.specs.declared.described.Described.{Described}
+use Rattle.job_inputs.specs.declared.described.DescribedJob.{DescribedJob}
 use Rattle.job_inputs.specs.declared.settled.SettledJob.{SettledJob}
 use Rattle.job_run.specs.Books.{CanBeReleased}
 use Rattle.job_run.specs.Endings.{IsReleaseBy}
@@ -163,7 +163,7 @@ search-stops settled job system base truths nodes task limit stops more = record
   system = system;
   rounds = its-base settled job system base truths task;
   system_is = its-system settled job system base truths task;
-  limit = limit ∙ ap (λ (d : Described). d.job.nodes) task.is_of.described;
+  limit = limit ∙ ap (λ (d : DescribedJob). d.job.nodes) task.is_of.described;
   stops = subst (λ (ts : List ℤ). Stops system ts base nodes) (its-truths settled job system base truths task) stops;
 }
 
@@ -191,7 +191,7 @@ certificate-is : (settled : SettledInputs) (job : SettledJob) (system : System) 
     → without_hidden_cells job.described.job.method system.cells (length system.relations) ≡ rounded_certificate settled.inputs
 certificate-is settled job system base truths task =
     let is = its-system settled job system base truths task in
-    ap (λ (d : Described). without_hidden_cells d.job.method system.cells (length system.relations)) task.is_of.described
+    ap (λ (d : DescribedJob). without_hidden_cells d.job.method system.cells (length system.relations)) task.is_of.described
     ∙ ap (λ (n : ℕ). without_hidden_cells settled.inputs.described.job.method n (length system.relations)) (as-many-cells settled.inputs system is)
     ∙ ap (λ (n : ℕ). without_hidden_cells settled.inputs.described.job.method (length (cells settled.inputs)) n)
     (sym (length-map system.relations sum_in) ∙ ap length (its-relations settled.inputs system is))

@@ -19,7 +19,7 @@ use Rattle.job_lang.specs.declared.job.TableLine.{TableLine}
 use Rattle.job_lang.specs.JobLimits.{HasVariables}
 use Rattle.job_inputs.specs.SoundJobs.{IsSound}
 use Rattle.job_inputs.specs.TabulatedBooks.{IsBookOf, IsReadyFor}
-use Rattle.job_inputs.specs.declared.described.Described.{Described}
+use Rattle.job_inputs.specs.declared.described.DescribedJob.{DescribedJob}
 use Rattle.job_inputs.specs.declared.inputs.Inputs.{Inputs}
 use Rattle.job_run.proofs.TableSteps.{as-many}
 
@@ -87,7 +87,7 @@ still-book inputs old new same is = record {
 }
 
 -- and still ready for a job
-pub still-ready : (described : Described) (old new : BookView) → IsSameButHidden old new → IsReadyFor described old → IsReadyFor described new
+pub still-ready : (described : DescribedJob) (old new : BookView) → IsSameButHidden old new → IsReadyFor described old → IsReadyFor described new
 still-ready described old new same ready = record {
   tables = same.tables ∙ ready.tables;
   truths = over-facts (λ facts. IsTruth facts.truth) old.marks new.marks same.facts ready.truths;
@@ -111,7 +111,7 @@ each-narrow (table ∷ tables) (line ∷ lines) same all =
     let rest : map (λ (places : List ℕ). length places) tables ≡ map (λ (t : TableLine). length t.variables) lines = cc in
     ((omega (arith, here, all.0.0), omega (arith, here, all.0.1)), each-narrow tables lines rest all.1)
 
-pub narrow : (described : Described) (book : BookView) → IsSound described → IsReadyFor described book → AreNarrow book.tables
+pub narrow : (described : DescribedJob) (book : BookView) → IsSound described → IsReadyFor described book → AreNarrow book.tables
 narrow described book sound ready =
     subst AreNarrow (sym ready.tables) (record {
       at_most_8_tables = (let many = as-many described.bound.tables described.job.tables sound.bound.tables in omega (arith, many, sound.job.at_most_8_tables));

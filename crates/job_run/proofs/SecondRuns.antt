@@ -18,13 +18,13 @@ use Rattle.job_run.specs.Puts.{put_all, AllWhole, IsInPart, OneInPart}
 use Rattle.job_run.specs.Releases.{tables_from, shown_in, value_in}
 use Rattle.job_run.specs.Roundings.{base_of, rounded_certificate}
 use Rattle.job_run.specs.SecondRuns.{is_put_by, SecondRunsComplete}
-use Rattle.job_run.specs.declared.put.Put.{Put}
+use Rattle.job_run.specs.declared.put.FilePut.{FilePut}
 use Rattle.job_run.specs.declared.put.Release.{Release}
 use Rattle.job_run.proofs.Outcomes.{ok-and}
 
 -- none of the puts is of this name
-abbrev OfOthers : List ℕ → List Put → Type 0
-OfOthers other puts = AllByRecursion (λ (p : Put). other ≢ p.name) puts
+abbrev OfOthers : List ℕ → List FilePut → Type 0
+OfOthers other puts = AllByRecursion (λ (p : FilePut). other ≢ p.name) puts
 
 -- ---- puts of other names
 
@@ -35,28 +35,28 @@ put_other files name bytes other differs =
       | false ↦ λ _. refl
     ] refl
 
-all-others : (other : List ℕ) (puts : List Put) (out : Files) → OfOthers other puts → put_all out puts other ≡ out other
+all-others : (other : List ℕ) (puts : List FilePut) (out : Files) → OfOthers other puts → put_all out puts other ≡ out other
 all-others other [] out apart = refl
 all-others other (p ∷ puts) out apart = all-others other puts (files_after_put out p.name p.bytes) apart.1 ∙ put_other out p.name p.bytes other apart.0
 
-front-others : (other : List ℕ) (k : ℕ) (puts : List Put) → OfOthers other puts → OfOthers other (take k puts)
+front-others : (other : List ℕ) (k : ℕ) (puts : List FilePut) → OfOthers other puts → OfOthers other (take k puts)
 front-others other zero puts apart = tt
 front-others other (suc k) [] apart = tt
 front-others other (suc k) (p ∷ puts) apart = (apart.0, front-others other k puts apart.1)
 
-one-other : (other : List ℕ) (k : ℕ) (puts : List Put) (next : Put) → OfOthers other puts → slice_get puts k ≡ Some next → other ≢ next.name
+one-other : (other : List ℕ) (k : ℕ) (puts : List FilePut) (next : FilePut) → OfOthers other puts → slice_get puts k ≡ Some next → other ≢ next.name
 one-other other k [] next apart is = absurd cc
-one-other other zero (p ∷ puts) next apart is = let same : p ≡ next = cc in subst (λ (one : Put). other ≢ one.name) same apart.0
+one-other other zero (p ∷ puts) next apart is = let same : p ≡ next = cc in subst (λ (one : FilePut). other ≢ one.name) same apart.0
 one-other other (suc k) (p ∷ puts) next apart is = one-other other k puts next apart.1 is
 
-whole-others : (other : List ℕ) (puts : List Put) (old new : TrayState) → OfOthers other puts → AllWhole puts old new → told_file new.files other ≡ told_file old.files other
+whole-others : (other : List ℕ) (puts : List FilePut) (old new : TrayState) → OfOthers other puts → AllWhole puts old new → told_file new.files other ≡ told_file old.files other
 whole-others other puts old new apart whole = ap (λ (files : Option Files). told_file files other) whole.files ∙ by old.files
   where
     by : (o : Option Files) → told_file (option_map (λ out. put_all out puts) o) other ≡ told_file o other
     by None = refl
     by (Some out) = ap Some (all-others other puts out apart)
 
-part-others : (other : List ℕ) (puts : List Put) (file : FileRef) (old new : TrayState) → OfOthers other puts → OneInPart puts file old new → told_file new.files other ≡ told_file old.files other
+part-others : (other : List ℕ) (puts : List FilePut) (file : FileRef) (old new : TrayState) → OfOthers other puts → OneInPart puts file old new → told_file new.files other ≡ told_file old.files other
 part-others other puts file old new apart part = ap (λ (files : Option Files). told_file files other) is.files ∙ by old.files
   where
     k : ℕ

@@ -8,11 +8,11 @@ use Rattle.job_lang.specs.declared.job.TableLine.{TableLine}
 use Rattle.job_inputs.specs.Tables.{names_of}
 use Rattle.job_run.specs.Releases.{table_of, tables_from}
 use Rattle.job_inputs.specs.declared.inputs.Inputs.{Inputs}
-use Rattle.job_run.specs.declared.put.Put.{Put}
+use Rattle.job_run.specs.declared.put.FilePut.{FilePut}
 use Rattle.job_inputs.specs.declared.file_ref.FileRef.TheVariants as file
 
 -- table t of a release
-abbrev pub put_at : Inputs → (Name → Option ℤ) → ℕ → TableLine → OutputLine → Put
+abbrev pub put_at : Inputs → (Name → Option ℤ) → ℕ → TableLine → OutputLine → FilePut
 put_at inputs shown t line output = record { file = file.Table t; name = output.file; bytes = table_of inputs shown t (names_of line) }
 
 one-more : (inputs : Inputs) (shown : Name → Option ℤ) (from k : ℕ) (lines : List TableLine) (outputs : List OutputLine) (d : TableLine) (e : OutputLine) → k < length lines → length outputs ≡ length lines
@@ -24,7 +24,7 @@ one-more inputs shown from zero (line ∷ lines) (output ∷ outputs) d e inside
     ap (λ (t : ℕ). put_at inputs shown t line output ∷ []) here
 one-more inputs shown from (suc k) (line ∷ lines) (output ∷ outputs) d e inside many =
     let here : (from + 1) + k ≡ from + suc k = omega arith in
-    ap (λ (puts : List Put). put_at inputs shown from line output ∷ puts)
+    ap (λ (puts : List FilePut). put_at inputs shown from line output ∷ puts)
     (one-more inputs shown (from + 1) k lines outputs d e (omega (arith, inside)) (omega (arith, many))
     ∙ ap (λ (t : ℕ). tables_from inputs shown (from + 1) (take k lines) (take k outputs) ++ put_at inputs shown t (slice_index_or lines k d) (slice_index_or outputs k e) ∷ []) here)
 

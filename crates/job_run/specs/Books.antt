@@ -8,14 +8,14 @@ use Rattle.release_writer.specs.declared.shown.Shown.TheVariants as shown
 use Rattle.job_inputs.specs.SettledJobs.{SettledInputs, IsReadyJob, IsSettledOf}
 use Rattle.job_inputs.specs.SoundJobs.{AreSound, IsSound}
 use Rattle.job_inputs.specs.TabulatedBooks.{IsReadyFor}
-use Rattle.job_inputs.specs.declared.described.Described.{Described}
+use Rattle.job_inputs.specs.declared.described.DescribedJob.{DescribedJob}
 use Rattle.job_inputs.specs.declared.inputs.Inputs.{Inputs}
 use Rattle.job_inputs.specs.declared.settled.SettledJob.{SettledJob}
 use Rattle.job_run.specs.Releases.{shown_in, value_in, put_of_table, tables_from}
 use Rattle.job_lang.specs.declared.job.Job.{Job}
 use Rattle.job_lang.specs.declared.job.TableLine.{TableLine}
 use Rattle.job_lang.specs.declared.job.OutputLine.{OutputLine}
-use Rattle.job_run.specs.declared.put.Put.{Put}
+use Rattle.job_run.specs.declared.put.FilePut.{FilePut}
 
 -- the job is that of settled inputs, and all that was read for these is within its limits
 pub record IsOfInputs (job : SettledJob) : Type 0 where
@@ -34,15 +34,15 @@ shown_by inputs (shown.Hidden hidden) name = shown_in inputs hidden.now.flags na
 shown_by inputs (shown.Rounded values) name = value_in inputs values.now name
 
 -- a table with its line of the job and its output, whose cells show this
-abbrev pub table_showing : Inputs → Shown → ℕ → TableLine → OutputLine → Put
+abbrev pub table_showing : Inputs → Shown → ℕ → TableLine → OutputLine → FilePut
 table_showing inputs how t line output = put_of_table inputs (shown_by inputs how) t line output
 
 -- the tables of a job, whose cells show this
-abbrev pub tables_showing : Inputs → Shown → Job → List Put
+abbrev pub tables_showing : Inputs → Shown → Job → List FilePut
 tables_showing inputs how job = tables_from inputs (shown_by inputs how) 0 job.tables job.outputs
 
 -- the job is within its limits, its book is ready for it, and what is to be shown of its cells can be
-pub record IsShownBook (described : Described) (book : BookView) (shown : Shown) : Type 0 where
+pub record IsShownBook (described : DescribedJob) (book : BookView) (shown : Shown) : Type 0 where
   pub sound : IsSound described
   pub ready : IsReadyFor described book
   pub can : CanBeShown book shown

@@ -4,28 +4,28 @@ use Rattle.sdc_base.specs.Counts.{count_after}
 use Rattle.office_io.specs.Files.{Files, files_after_put}
 use Rattle.office_io.specs.Trays.{TrayState}
 use Rattle.job_inputs.specs.declared.file_ref.FileRef.{FileRef}
-use Rattle.job_run.specs.declared.put.Put.{Put}
+use Rattle.job_run.specs.declared.put.FilePut.{FilePut}
 
 -- a folder after these puts, one after the other
-abbrev pub put_all : Files → List Put → Files
+abbrev pub put_all : Files → List FilePut → Files
 put_all files [] = files
 put_all files (p ∷ puts) = put_all (files_after_put files p.name p.bytes) puts
 
 -- after these puts, each of which was counted once
-pub record AllWhole (puts : List Put) (old new : TrayState) : Type 0 where
+pub record AllWhole (puts : List FilePut) (old new : TrayState) : Type 0 where
   pub files : new.files ≡ option_map (λ out. put_all out puts) old.files
   pub puts_made : new.puts ≡ count_after old.puts (length puts)
 
 -- after some of the puts whole, each of which was counted once, or none
-abbrev pub SomeWhole : List Put → TrayState → TrayState → Type 0
+abbrev pub SomeWhole : List FilePut → TrayState → TrayState → Type 0
 SomeWhole puts old new =
     (new ≡ old) ⊎ ((k : ℕ) × (new.files ≡ option_map (λ out. put_all out (take k puts)) old.files)
     × (new.puts ≡ count_after old.puts k))
 
 -- after k of the puts whole, and the first n bytes of the next, which is that of this file: each was counted once, and
 -- that one too
-pub record IsInPart (puts : List Put) (file : FileRef) (k n : ℕ) (old new : TrayState) : Type 0 where
-  pub next : Put
+pub record IsInPart (puts : List FilePut) (file : FileRef) (k n : ℕ) (old new : TrayState) : Type 0 where
+  pub next : FilePut
   pub is_next : slice_get puts k ≡ Some next
   pub is_of : next.file ≡ file
   pub files : new.files ≡ option_map (λ out. files_after_put (put_all out (take k puts)) next.name (take n next.bytes))
@@ -33,5 +33,5 @@ pub record IsInPart (puts : List Put) (file : FileRef) (k n : ℕ) (old new : Tr
   pub puts_made : new.puts ≡ count_after old.puts (k + 1)
 
 -- after some of the puts whole, and the first bytes of the next, which is that of this file
-abbrev pub OneInPart : List Put → FileRef → TrayState → TrayState → Type 0
+abbrev pub OneInPart : List FilePut → FileRef → TrayState → TrayState → Type 0
 OneInPart puts file old new = (k n : ℕ) × IsInPart puts file k n old new

@@ -15,7 +15,7 @@ use Rattle.job_inputs.specs.SettledJobs.{SettledInputs}
 use Rattle.job_inputs.specs.Tables.{names_of}
 use Rattle.job_inputs.specs.declared.file_ref.FileRef.TheVariants as file
 use Rattle.job_inputs.specs.declared.inputs.Inputs.{Inputs}
-use Rattle.job_run.specs.declared.put.Put.{Put}
+use Rattle.job_run.specs.declared.put.FilePut.{FilePut}
 use Rattle.job_run.specs.declared.report.Summary.{Summary}
 
 -- ---- what cells show
@@ -44,19 +44,19 @@ table_of inputs shown t header =
 -- ---- what is put
 
 -- a table with its line of the job and its output
-abbrev pub put_of_table : Inputs → (Name → Option ℤ) → ℕ → TableLine → OutputLine → Put
+abbrev pub put_of_table : Inputs → (Name → Option ℤ) → ℕ → TableLine → OutputLine → FilePut
 put_of_table inputs shown t line output =
     record { file = file.Table t; name = output.file; bytes = table_of inputs shown t (names_of line) }
 
 -- the tables from number t on, each with its line of the job and its output
-abbrev pub tables_from : Inputs → (Name → Option ℤ) → ℕ → List TableLine → List OutputLine → List Put
+abbrev pub tables_from : Inputs → (Name → Option ℤ) → ℕ → List TableLine → List OutputLine → List FilePut
 tables_from inputs shown t [] outputs = []
 tables_from inputs shown t (line ∷ lines) [] = []
 tables_from inputs shown t (line ∷ lines) (output ∷ outputs) =
     put_of_table inputs shown t line output ∷ tables_from inputs shown (t + 1) lines outputs
 
 -- what is put: first the certificate, then the tables in the order of the job
-abbrev pub puts_of : Inputs → (Name → Option ℤ) → Certificate → List Put
+abbrev pub puts_of : Inputs → (Name → Option ℤ) → Certificate → List FilePut
 puts_of inputs shown certificate =
     record { file = file.Certificate; name = inputs.described.job.certificate; bytes = text_of certificate }
     ∷ tables_from inputs shown 0 inputs.described.job.tables inputs.described.job.outputs

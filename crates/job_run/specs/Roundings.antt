@@ -17,7 +17,7 @@ use Rattle.rounding.specs.Searches.{Stops}
 use Rattle.job_inputs.specs.Cells.{cells, truth_in}
 use Rattle.job_inputs.specs.SettledJobs.{SettledInputs}
 use Rattle.job_inputs.specs.TabulatedBooks.{IsBookOf}
-use Rattle.job_inputs.specs.declared.described.Described.{Described}
+use Rattle.job_inputs.specs.declared.described.DescribedJob.{DescribedJob}
 use Rattle.job_inputs.specs.declared.inputs.Inputs.{Inputs}
 use Rattle.job_run.specs.Releases.{puts_of, summary_of, value_in}
 use Rattle.job_run.specs.declared.put.Release.{Release}
@@ -30,7 +30,7 @@ base_in_units (method.Rnd base) decimals = Some (base *ℤ pos (10 ^ decimals))
 base_in_units hiding decimals = None
 
 -- the base to which a job rounds, in units; a job that hides has none
-abbrev pub base_of : Described → Option ℤ
+abbrev pub base_of : DescribedJob → Option ℤ
 base_of described = base_in_units described.job.method described.bound.decimals
 
 -- the truths of all cells over the records

@@ -5,7 +5,7 @@ use sdc_base::{Items, Text};
 
 /// A file that is to be put.
 #[derive(Drop)]
-pub(crate) struct Put {
+pub(crate) struct FilePut {
     pub file: FileRef,
     pub name: Text,
     pub bytes: Items<u8>,
@@ -14,7 +14,7 @@ pub(crate) struct Put {
 /// What a release puts, in this order, its numbers, and its certificate.
 #[derive(Drop)]
 pub(crate) struct Release {
-    pub puts: Items<Put>,
+    pub puts: Items<FilePut>,
     pub summary: Summary,
     pub certificate: Certificate,
 }

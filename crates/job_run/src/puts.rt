@@ -4,7 +4,7 @@ ghost use Rattle.office_io.specs.Trays.{HasPut, HasPutInPart};
 ghost use Rattle.job_run.specs.Puts.{AllWhole, SomeWhole, OneInPart};
 ghost use Rattle.job_inputs.specs.declared.file_ref.FileRef.{FileRef as AnyFile};
 
-use crate::put::Put;
+use crate::put::FilePut;
 use job_inputs::FileRef;
 use office_io::{PutFault, Tray};
 
@@ -18,7 +18,7 @@ pub(crate) enum PutStop {
 }
 
 // Puts one file.
-fn put_file<T: Tray>(tray: &mut T, next: &Put) -> Result<(), PutStop>
+fn put_file<T: Tray>(tray: &mut T, next: &FilePut) -> Result<(), PutStop>
     ensures has_put { OnOk result (HasPut next.now.name next.now.bytes (T.state tray.old) (T.state tray.new)) }
     ensures part { (f : AnyFile) → IsErrOf result (PutStop.WriteFault f)
         → (next.now.file ≡ f) × HasPutInPart next.now.name next.now.bytes (T.state tray.old) (T.state tray.new) }
@@ -33,7 +33,7 @@ fn put_file<T: Tray>(tray: &mut T, next: &Put) -> Result<(), PutStop>
 }
 
 /// Puts the files, each once and in their order, up to the first that fails.
-pub(crate) fn put_files<T: Tray>(tray: &mut T, puts: &[Put]) -> Result<(), PutStop>
+pub(crate) fn put_files<T: Tray>(tray: &mut T, puts: &[FilePut]) -> Result<(), PutStop>
     requires { 0 < length puts.now }
     ensures has_put_all { OnOk result (AllWhole puts.now (T.state tray.old) (T.state tray.new)) }
     ensures part { (f : AnyFile) → IsErrOf result (PutStop.WriteFault f)

@@ -7,9 +7,9 @@ ghost use Rattle.job_inputs.specs.declared.inputs.Inputs.{Inputs as AnyInputs};
 ghost use Rattle.job_run.specs.Books.{IsShownBook, shown_by, tables_showing, table_showing};
 ghost use Rattle.job_run.specs.Releases as releases;
 
-use crate::put::Put;
+use crate::put::FilePut;
 use certificate::{Certificate, write_certificate};
-use job_inputs::{Described, FileRef, header_for};
+use job_inputs::{DescribedJob, FileRef, header_for};
 use job_lang::{OutputLine, TableLine};
 use linked_tables::Book;
 use release_writer::{Shown, table_bytes};
@@ -19,11 +19,11 @@ use std::alloc::Global;
 /// What a release puts: first its certificate, and then the tables in the order of the job, whose cells show this.
 pub(crate) fn puts_for(
     alloc: Global,
-    described: &Described,
+    described: &DescribedJob,
     book: &Book,
     shown: Shown<'_>,
     certificate: &Certificate,
-) -> Result<Items<Put>, Memory>
+) -> Result<Items<FilePut>, Memory>
     requires shown { IsShownBook described.now book.now shown }
     requires text { IsSpellable certificate.now }
     ensures puts { IfOk result (λ puts. (inputs : AnyInputs) → inputs.described ≡ described.now
@@ -41,9 +41,9 @@ pub(crate) fn puts_for(
 // The certificate.
 fn certificate_put(
     alloc: Global,
-    described: &Described,
+    described: &DescribedJob,
     certificate: &Certificate,
-) -> Result<Put, Memory>
+) -> Result<FilePut, Memory>
     requires { IsSpellable certificate.now }
     ensures put { IfOk result (λ put. put
         ≡ record {
@@ -53,7 +53,7 @@ fn certificate_put(
         }) }
     ensures read_back { IfOk result (λ put. certificate_of (text_of certificate.now) ≡ Ok certificate.now) }
 {
-    Ok(Put {
+    Ok(FilePut {
         file: FileRef::Certificate,
         name: described.job.certificate.copy(alloc)?,
         bytes: Items::new(write_certificate(alloc, certificate)?),
@@ -63,10 +63,10 @@ fn certificate_put(
 // Adds the tables in the order of the job.
 fn add_tables(
     alloc: Global,
-    described: &Described,
+    described: &DescribedJob,
     book: &Book,
     shown: Shown<'_>,
-    puts: &mut Items<Put>,
+    puts: &mut Items<FilePut>,
 ) -> Result<(), Memory>
     requires shown { IsShownBook described.now book.now shown }
     ensures puts { OnOk result ((inputs : AnyInputs) → inputs.described ≡ described.now → IsBookOf inputs book.now
@@ -84,13 +84,13 @@ fn add_tables(
 // A table, with its line of the job and its output.
 fn table_put(
     alloc: Global,
-    described: &Described,
+    described: &DescribedJob,
     book: &Book,
     shown: Shown<'_>,
     t: u32,
     line: &TableLine,
     output: &OutputLine,
-) -> Result<Put, Memory>
+) -> Result<FilePut, Memory>
     requires shown { IsShownBook described.now book.now shown }
     requires table { t < length book.now.tables }
     requires header { length line.now.variables ≡ length (slice_index_or book.now.tables t []) }
@@ -100,7 +100,7 @@ fn table_put(
     let header = header_for(alloc, line)?;
     let decimals = described.bound.decimals;
     let bytes = table_bytes(alloc, book, t, header.as_slice(), decimals, shown)?;
-    Ok(Put {
+    Ok(FilePut {
         file: FileRef::Table(t),
         name: output.file.copy(alloc)?,
         bytes: Items::new(bytes),

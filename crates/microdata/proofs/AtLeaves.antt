@@ -15,10 +15,10 @@ use Rattle.microdata.specs.Layouts.{measures_of}
 use Rattle.microdata.specs.Microdata.{records_of, closed_records}
 use Rattle.microdata.specs.OneRecord.{lines_say, no_records}
 use Rattle.microdata.specs.Leaves.{AreLeaves, RowsAreAtLeaves}
-use Rattle.microdata.specs.declared.closing.Closed.{Closed}
+use Rattle.microdata.specs.declared.closing.ClosedVariable.{ClosedVariable}
 use Rattle.microdata.specs.declared.faults.RowWhy.{RowWhy}
 use Rattle.microdata.specs.declared.faults.RowWhy.TheVariants.{NotLeaf}
-use Rattle.microdata.specs.KeptRows.{Kept as KeptRow}
+use Rattle.microdata.specs.KeptRows.{KeptRow}
 use Rattle.microdata.specs.declared.record.Variable.{Variable}
 use Rattle.microdata.specs.declared.records.Records.{Records}
 use Rattle.microdata.proofs.Kept.{value_of_ok, Fit, IsKept, lines-good, same-value}
@@ -48,10 +48,10 @@ none-from tree above n (suc m) whole none =
 no-children : (tree : Tree) (above : ℕ) → first_child tree above ≡ None → children tree above ≡ []
 no-children tree above none = none-from tree above 0 (length tree) (omega arith) none
 
-abbrev trees_in : List Closed → List Tree
+abbrev trees_in : List ClosedVariable → List Tree
 trees_in closed = map (λ one. one.tree) closed
 
-leaf-lowest : (closed : Closed) (number place : ℕ) → leaf_of closed number ≡ Ok place → children closed.tree place ≡ []
+leaf-lowest : (closed : ClosedVariable) (number place : ℕ) → leaf_of closed number ≡ Ok place → children closed.tree place ≡ []
 leaf-lowest closed number place h = by (first_child closed.tree (place_of closed number)) refl h
   where
     by : (o : Option ℕ) → first_child closed.tree (place_of closed number) ≡ o → cond {A = Result ℕ RowWhy} (is_some o) (Err NotLeaf) (Ok (place_of closed number)) ≡ Ok place → children closed.tree place ≡ []

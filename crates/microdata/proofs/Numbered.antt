@@ -12,11 +12,11 @@ use Rattle.microdata.specs.Layouts.{measures_of}
 use Rattle.microdata.specs.Meaning.{is_record, IsNumberOfRecord, FaultsAreNumbered}
 use Rattle.microdata.specs.Microdata.{records_of, closed_records}
 use Rattle.microdata.specs.OneRecord.{variables_say, response_says, record_says, line_says, lines_say, with_row, with_skipped, no_records}
-use Rattle.microdata.specs.declared.closing.Closed.{Closed}
+use Rattle.microdata.specs.declared.closing.ClosedVariable.{ClosedVariable}
 use Rattle.microdata.specs.declared.faults.RowWhy.{RowWhy}
 use Rattle.microdata.specs.declared.faults.RowWhy.TheVariants.{TooLong, TooMany, Short}
 use Rattle.microdata.specs.declared.layout.Measures.{Measures}
-use Rattle.microdata.specs.KeptRows.{Kept as KeptRow}
+use Rattle.microdata.specs.KeptRows.{KeptRow}
 use Rattle.microdata.specs.declared.record.SoFar.{SoFar}
 use Rattle.microdata.specs.declared.records.Records.{Records}
 use Rattle.microdata.proofs.Kept.{value_of_ok, same-value}
@@ -106,7 +106,7 @@ lines-numbered m before (line ∷ rest) so_far number why counted h =
       | inr next ↦ later next.0 (line-counted m before so_far next.0 line counted next.1) next.2
     ])
 
-rows-numbered : (all : List (List ℕ)) (closed : List Closed) (kept : List KeptRow) (number : ℕ) (why : RowWhy) → AllByRecursion (λ kept. IsNumberOfRecord all kept.number) kept → rows_of closed kept ≡ Err (number, why) → IsNumberOfRecord all number
+rows-numbered : (all : List (List ℕ)) (closed : List ClosedVariable) (kept : List KeptRow) (number : ℕ) (why : RowWhy) → AllByRecursion (λ kept. IsNumberOfRecord all kept.number) kept → rows_of closed kept ≡ Err (number, why) → IsNumberOfRecord all number
 unfolding rows_of
 rows-numbered all closed [] number why counted h = cc
 rows-numbered all closed (one ∷ kept) number why counted h =
@@ -131,7 +131,7 @@ faults_are_numbered layout bytes number why h =
           rows-numbered (lines bytes) (map closed_of next.0.variables) next.0.rows number why counted.rows (closing-stops next.0 (rows_of (map closed_of next.0.variables) next.0.rows) next.2)
     ]
   where
-    closing-stops : (so_far : SoFar) (read : Result (List Row) (ℕ × RowWhy)) → ◌>>=◌ {B = Records} read (λ rows. Ok (record { trees = map (λ (closed : Closed). closed.tree) (map closed_of so_far.variables); rows = rows; skipped = so_far.skipped })) ≡ Err (number, why) → read ≡ Err (number, why)
+    closing-stops : (so_far : SoFar) (read : Result (List Row) (ℕ × RowWhy)) → ◌>>=◌ {B = Records} read (λ rows. Ok (record { trees = map (λ (closed : ClosedVariable). closed.tree) (map closed_of so_far.variables); rows = rows; skipped = so_far.skipped })) ≡ Err (number, why) → read ≡ Err (number, why)
     closing-stops so_far (Ok rows) h = cc
     closing-stops so_far (Err fault) h = ap Err (same-fault fault (number, why) h)
       where

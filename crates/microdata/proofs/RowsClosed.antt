@@ -21,14 +21,14 @@ use Rattle.microdata.specs.Layouts.{measures_of, IsField, IsLayout}
 use Rattle.microdata.specs.Meaning.{is_answered, is_unanswered, ArePlacesOf, IsRowOf, AreRowsOf, RowsAreTheirRecords}
 use Rattle.microdata.specs.Microdata.{records_of, closed_records}
 use Rattle.microdata.specs.OneRecord.{lines_say, no_records}
-use Rattle.microdata.specs.declared.closing.Closed.{Closed}
+use Rattle.microdata.specs.declared.closing.ClosedVariable.{ClosedVariable}
 use Rattle.microdata.specs.declared.faults.RowWhy.{RowWhy}
 use Rattle.microdata.specs.declared.faults.RowWhy.TheVariants.{NotLeaf}
 use Rattle.microdata.specs.declared.layout.Field.{Field}
 use Rattle.microdata.specs.declared.layout.Layout.{Layout}
 use Rattle.microdata.specs.declared.layout.Source.{Source}
 use Rattle.microdata.specs.declared.layout.Source.TheVariants as source
-use Rattle.microdata.specs.KeptRows.{Kept as KeptRow}
+use Rattle.microdata.specs.KeptRows.{KeptRow}
 use Rattle.microdata.specs.declared.record.Variable.{Variable}
 use Rattle.microdata.specs.declared.records.Records.{Records}
 use Rattle.microdata.specs.declared.taking.Seen.{Seen}
@@ -85,7 +85,7 @@ placed (source.Flat listed total) seen number code sound h = found-there (tree_o
 -- ---- the rows
 
 abbrev pub trees_in : List Variable → List Tree
-trees_in variables = map (λ (one : Closed). one.tree) (map closed_of variables)
+trees_in variables = map (λ (one : ClosedVariable). one.tree) (map closed_of variables)
 
 abbrev fields_in : List Variable → List Field
 fields_in variables = map (λ variable. variable.field) variables

@@ -6,8 +6,8 @@ use Rattle.sdc_base.specs.Steps.{◌>>=◌}
 use Rattle.sdc_base.specs.declared.rows.Row.{Row}
 use Rattle.microdata.specs.Closing.{leaves_of, row_of, rows_of}
 use Rattle.microdata.specs.Faults.{why_of, fault_of, at_record, error_of}
-use Rattle.microdata.specs.KeptRows.{Kept as KeptRow, kept_of, kept_rows}
-use Rattle.microdata.specs.declared.closing.Closed.{Closed}
+use Rattle.microdata.specs.KeptRows.{KeptRow, kept_of, kept_rows}
+use Rattle.microdata.specs.declared.closing.ClosedVariable.{ClosedVariable}
 use Rattle.microdata.specs.declared.faults.RowError.{RowError}
 use Rattle.microdata.specs.declared.faults.RowError.TheVariants as row_error
 use Rattle.microdata.specs.declared.faults.RowWhy.{RowWhy}
@@ -23,7 +23,7 @@ kept_more (one ∷ numbers) [] number row same = absurd (omega (arith, same))
 kept_more (one ∷ numbers) (first ∷ rows) number row same = ap (λ (kept : List KeptRow). kept_of one first ∷ kept) (kept_more numbers rows number row (omega (arith, same)))
 
 -- a row whose codes have no places has the fault of these, with the number of its record
-pub fails_placed : (number : ℕ) (e : RecordError) (closed : List Closed) (kept : KeptRow) → Fails (why_of e) (leaves_of closed kept.places) → Fails (fault_of (error_of number e)) (at_record number (row_of closed kept))
+pub fails_placed : (number : ℕ) (e : RecordError) (closed : List ClosedVariable) (kept : KeptRow) → Fails (why_of e) (leaves_of closed kept.places) → Fails (fault_of (error_of number e)) (at_record number (row_of closed kept))
 unfolding row_of
 fails_placed number record_error.Memory closed kept h = tt
 fails_placed number (record_error.Fault why) closed kept h = rw h refl
@@ -36,19 +36,19 @@ regrouped : (front : List Row) (next : Row) (read : Result (List Row) (ℕ × Ro
 regrouped front next (Err fault) = refl
 regrouped front next (Ok rest) = ap Ok (sym (append_assoc front (next ∷ []) rest))
 
-front_next : (closed : List Closed) (front : List Row) (number : ℕ) (row next : Row) (numbers : List ℕ) (rows : List Row) → at_record number (row_of closed (kept_of number row)) ≡ Ok next
+front_next : (closed : List ClosedVariable) (front : List Row) (number : ℕ) (row next : Row) (numbers : List ℕ) (rows : List Row) → at_record number (row_of closed (kept_of number row)) ≡ Ok next
     → with_front front (rows_of closed (kept_rows (number ∷ numbers) (row ∷ rows))) ≡ with_front (front ++ next ∷ []) (rows_of closed (kept_rows numbers rows))
 unfolding rows_of
 front_next closed front number row next numbers rows said = rw said (regrouped front next (rows_of closed (kept_rows numbers rows)))
 
-front_stop : (e : RowError) (closed : List Closed) (front : List Row) (number : ℕ) (row : Row) (numbers : List ℕ) (rows : List Row) → Fails (fault_of e) (at_record number (row_of closed (kept_of number row)))
+front_stop : (e : RowError) (closed : List ClosedVariable) (front : List Row) (number : ℕ) (row : Row) (numbers : List ℕ) (rows : List Row) → Fails (fault_of e) (at_record number (row_of closed (kept_of number row)))
     → Fails (fault_of e) (with_front front (rows_of closed (kept_rows (number ∷ numbers) (row ∷ rows))))
 unfolding rows_of
 front_stop row_error.Memory closed front number row numbers rows h = tt
 front_stop (row_error.At at why) closed front number row numbers rows h = rw h refl
 
 -- the rows up to a place, and what becomes of those from it on
-abbrev pub placed_to : List Closed → List ℕ → List Row → ℕ → Result (List Row) (ℕ × RowWhy)
+abbrev pub placed_to : List ClosedVariable → List ℕ → List Row → ℕ → Result (List Row) (ℕ × RowWhy)
 placed_to closed numbers rows k = with_front (take k rows) (rows_of closed (kept_rows (drop k numbers) (drop k rows)))
 
 -- a row at its place, and the row that is written there
@@ -58,20 +58,20 @@ pub record StandAt (numbers : List ℕ) (rows : List Row) (k number : ℕ) (row 
   pub numbered : number ≡ get_or numbers k number
   pub there : row ≡ get_or rows k row
 
-pub placed_next : (closed : List Closed) (numbers : List ℕ) (rows : List Row) (k number : ℕ) (row next : Row) → StandAt numbers rows k number row → at_record number (row_of closed (kept_of number row)) ≡ Ok next
+pub placed_next : (closed : List ClosedVariable) (numbers : List ℕ) (rows : List Row) (k number : ℕ) (row next : Row) → StandAt numbers rows k number row → at_record number (row_of closed (kept_of number row)) ≡ Ok next
     → placed_to closed numbers rows k ≡ placed_to closed numbers (slice_set rows k next) (k + 1)
 placed_next closed numbers rows k number row next stand said =
     rw (at_place numbers k number stand.beside stand.numbered, at_place rows k row stand.inside stand.there)
     (front_next closed (take k rows) number row next (drop (k + 1) numbers) (drop (k + 1) rows) said
     ∙ rw (take_more_set rows k next stand.inside, drop-set-lt (k + 1) rows k next (omega arith)) refl)
 
-pub placed_stop : (e : RowError) (closed : List Closed) (numbers : List ℕ) (rows : List Row) (k number : ℕ) (row : Row) → StandAt numbers rows k number row → Fails (fault_of e) (at_record number (row_of closed (kept_of number row)))
+pub placed_stop : (e : RowError) (closed : List ClosedVariable) (numbers : List ℕ) (rows : List Row) (k number : ℕ) (row : Row) → StandAt numbers rows k number row → Fails (fault_of e) (at_record number (row_of closed (kept_of number row)))
     → Fails (fault_of e) (placed_to closed numbers rows k)
 placed_stop e closed numbers rows k number row stand fails =
     rw (at_place numbers k number stand.beside stand.numbered, at_place rows k row stand.inside stand.there)
     (front_stop e closed (take k rows) number row (drop (k + 1) numbers) (drop (k + 1) rows) fails)
 
-pub placed_all : (closed : List Closed) (numbers : List ℕ) (rows : List Row) (k : ℕ) → length rows ≤ k → placed_to closed numbers rows k ≡ Ok rows
+pub placed_all : (closed : List ClosedVariable) (numbers : List ℕ) (rows : List Row) (k : ℕ) → length rows ≤ k → placed_to closed numbers rows k ≡ Ok rows
 unfolding rows_of
 placed_all closed numbers rows k end = rw (take_all k rows end, past_end rows k end) (by (drop k numbers))
   where

@@ -15,13 +15,13 @@ use Rattle.microdata.specs.Microdata.{records_of, closed_records}
 use Rattle.microdata.specs.OneRecord.{lines_say, no_records}
 use Rattle.microdata.specs.SeenCodes.{seen_first}
 use Rattle.microdata.specs.Ranges.{AreInTrees, IsRow, AreWithinLimits, ReadIsWithinLimits}
-use Rattle.microdata.specs.declared.closing.Closed.{Closed}
+use Rattle.microdata.specs.declared.closing.ClosedVariable.{ClosedVariable}
 use Rattle.microdata.specs.declared.faults.RowWhy.{RowWhy}
 use Rattle.microdata.specs.declared.faults.RowWhy.TheVariants.{NotLeaf}
 use Rattle.microdata.specs.declared.layout.Field.{Field}
 use Rattle.microdata.specs.declared.layout.Source.{Source}
 use Rattle.microdata.specs.declared.layout.Source.TheVariants as source
-use Rattle.microdata.specs.KeptRows.{Kept as KeptRow}
+use Rattle.microdata.specs.KeptRows.{KeptRow}
 use Rattle.microdata.specs.declared.record.Variable.{Variable}
 use Rattle.microdata.specs.declared.taking.Seen.{Seen}
 use Rattle.microdata.proofs.Kept.{value_of_ok, find-within, bound, bound_of, Fit, IsKept, lines-good, same-value}
@@ -48,7 +48,7 @@ placed (source.Listed tree) seen number h = in-table tree seen.codes number numb
 placed (source.Levels widths total) seen number h = in-table (tree_of (source.Levels widths total) seen) seen.codes number number (longer total (boundaries 0 widths) seen.nodes ((total, None) ∷ []) (omega arith)) (inr h)
 placed (source.Flat codes total) seen number h = in-table (tree_of (source.Flat codes total) seen) seen.codes number number (omega arith) (inr h)
 
-abbrev trees_in : List Closed → List Tree
+abbrev trees_in : List ClosedVariable → List Tree
 trees_in closed = map (λ one. one.tree) closed
 
 leaf-in : (variable : Variable) (number place : ℕ) → number < bound_of variable → leaf_of (closed_of variable) number ≡ Ok place → place < length (closed_of variable).tree

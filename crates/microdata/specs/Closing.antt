@@ -8,8 +8,8 @@ use Rattle.sdc_base.specs.declared.rows.Row.{Row}
 use Rattle.hierarchy.specs.Children.{first_child}
 use Rattle.hierarchy.specs.Levels.{boundaries, tree_of_codes}
 use Rattle.microdata.specs.Faults.{at_record}
-use Rattle.microdata.specs.KeptRows.{Kept}
-use Rattle.microdata.specs.declared.closing.Closed.{Closed}
+use Rattle.microdata.specs.KeptRows.{KeptRow}
+use Rattle.microdata.specs.declared.closing.ClosedVariable.{ClosedVariable}
 use Rattle.microdata.specs.declared.faults.RowWhy.{RowWhy}
 use Rattle.microdata.specs.declared.faults.RowWhy.TheVariants.{NotLeaf}
 use Rattle.microdata.specs.declared.layout.Source.{Source}
@@ -29,22 +29,22 @@ abbrev pub places_in : Tree → List (List ℕ) → List ℕ
 places_in tree codes = map (λ code. unwrap_or (find tree code) 0) codes
 
 -- a variable's tree, and the places in it of its codes in the order of their first records
-abbrev pub closed_of : Variable → Closed
+abbrev pub closed_of : Variable → ClosedVariable
 closed_of variable =
     let tree = tree_of variable.field.source variable.seen in
     record { tree = tree; places = places_in tree variable.seen.codes }
 
 -- the place in the tree of the code with this number; in a listed tree the number is the place
-abbrev pub place_of : Closed → ℕ → ℕ
+abbrev pub place_of : ClosedVariable → ℕ → ℕ
 place_of closed number = slice_index_or closed.places number number
 
 -- the place, where no other codes stand below it
-abbrev pub leaf_of : Closed → ℕ → Result ℕ RowWhy
+abbrev pub leaf_of : ClosedVariable → ℕ → Result ℕ RowWhy
 leaf_of closed number =
     if is_some (first_child closed.tree (place_of closed number)) then Err NotLeaf else Ok (place_of closed number)
 
 -- the places of a record's codes, in the order of the variables
-unfoldable pub leaves_of : List Closed → List ℕ → Result (List ℕ) RowWhy
+unfoldable pub leaves_of : List ClosedVariable → List ℕ → Result (List ℕ) RowWhy
 leaves_of [] numbers = Ok []
 leaves_of (closed ∷ more) [] = Ok []
 leaves_of (closed ∷ more) (number ∷ numbers) = do
@@ -53,13 +53,13 @@ leaves_of (closed ∷ more) (number ∷ numbers) = do
   Ok (place ∷ places)
 
 -- a record with the places of its codes
-unfoldable pub row_of : List Closed → Kept → Result Row RowWhy
+unfoldable pub row_of : List ClosedVariable → KeptRow → Result Row RowWhy
 row_of closed kept = do
   places ← leaves_of closed kept.places
   Ok (record { codes = places; value = kept.value; weight = kept.weight })
 
 -- the records with the places of their codes, or the first one with a code that has others below it
-unfoldable pub rows_of : List Closed → List Kept → Result (List Row) (ℕ × RowWhy)
+unfoldable pub rows_of : List ClosedVariable → List KeptRow → Result (List Row) (ℕ × RowWhy)
 rows_of closed [] = Ok []
 rows_of closed (one ∷ kept) = do
   row ← at_record one.number (row_of closed one)

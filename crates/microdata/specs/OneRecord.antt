@@ -10,7 +10,7 @@ use Rattle.microdata.specs.declared.record.Variable.{Variable}
 use Rattle.microdata.specs.declared.record.SoFar.{SoFar}
 use Rattle.microdata.specs.Faults.{at_record}
 use Rattle.microdata.specs.Fields.{field, has_no_response, value_of, weight_of}
-use Rattle.microdata.specs.KeptRows.{Kept}
+use Rattle.microdata.specs.KeptRows.{KeptRow}
 use Rattle.microdata.specs.SeenCodes.{with_code, seen_first}
 
 -- a variable with the code of one more record, and where that stands
@@ -38,7 +38,7 @@ with_skipped so_far =
     }
 
 -- one record more, with these variables and this row
-abbrev pub with_row : SoFar → List Variable → Kept → SoFar
+abbrev pub with_row : SoFar → List Variable → KeptRow → SoFar
 with_row so_far variables row =
     record {
       variables = variables;

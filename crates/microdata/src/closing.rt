@@ -28,7 +28,7 @@ use std::alloc::Global;
 /// A spanning variable behind the last record: its tree, and the places in it of its codes in the order of their
 /// first records. A listed tree needs no such places, since the records have them already.
 #[derive(Drop)]
-pub(crate) struct Closed {
+pub(crate) struct ClosedVariable {
     pub tree: CodeTree,
     pub places: Items<u32>,
 }
@@ -54,7 +54,7 @@ pub(crate) fn close(alloc: Global, so_far: SoFar) -> Result<Records, RowError>
 }
 
 // The variables with their trees.
-fn closed_variables(alloc: Global, variables: Variables) -> Result<Items<Closed>, Memory>
+fn closed_variables(alloc: Global, variables: Variables) -> Result<Items<ClosedVariable>, Memory>
     requires variables { All (λ variable. IsSource variable.field.source) variables }
     requires seen { All (λ variable. AreSeen variable.field.source variable.seen) variables }
     ensures { IfOk result (λ closed. closed ≡ map closed_of variables) }
@@ -67,7 +67,7 @@ fn closed_variables(alloc: Global, variables: Variables) -> Result<Items<Closed>
 }
 
 // A variable with its tree.
-fn closed_variable(alloc: Global, variable: Variable) -> Result<Closed, Memory>
+fn closed_variable(alloc: Global, variable: Variable) -> Result<ClosedVariable, Memory>
     requires source { IsSource variable.field.source }
     requires seen { AreSeen variable.field.source variable.seen }
     ensures { IfOk result (λ closed. closed ≡ closed_of variable) }
@@ -76,7 +76,7 @@ fn closed_variable(alloc: Global, variable: Variable) -> Result<Closed, Memory>
     let texts = codes.texts(alloc)?;
     let tree = tree_of_source(alloc, variable.field.source, texts.as_slice(), nodes)?;
     let places = places_in_tree(alloc, &tree, texts.as_slice())?;
-    Ok(Closed { tree, places })
+    Ok(ClosedVariable { tree, places })
 }
 
 // The tree of a variable.
@@ -122,7 +122,7 @@ fn places_in_tree(alloc: Global, tree: &CodeTree, codes: &[Text]) -> Result<Item
 }
 
 // The trees alone.
-fn trees_of(alloc: Global, closed: Items<Closed>) -> Result<Items<CodeTree>, Memory>
+fn trees_of(alloc: Global, closed: Items<ClosedVariable>) -> Result<Items<CodeTree>, Memory>
     ensures trees { IfOk result (λ trees. trees ≡ map (λ one. one.tree) closed) }
     ensures made { IfOk result (λ trees. AllByRecursion IsCodeTree trees) }
 {
@@ -135,7 +135,7 @@ fn trees_of(alloc: Global, closed: Items<Closed>) -> Result<Items<CodeTree>, Mem
 
 // The rows with the places of their codes, which are written where their numbers stood, or the first one with a code
 // that has others below it.
-fn rows_of(closed: &[Closed], kept: KeptRows) -> Result<Items<Row>, RowError>
+fn rows_of(closed: &[ClosedVariable], kept: KeptRows) -> Result<Items<Row>, RowError>
     requires at_most_8 { length closed.now ≤ 8 }
     ensures { Gives fault_of (λ rows. rows) result (closing.rows_of closed.now kept) }
 {
@@ -150,7 +150,7 @@ fn rows_of(closed: &[Closed], kept: KeptRows) -> Result<Items<Row>, RowError>
 
 // Writes the places of a row's codes where their numbers stand, or gives its fault with the number of its record.
 #[tactic(auto, unfolding(crate::specs::Closing::row_of), using(crate::proofs::RowsPlaced::fails_placed))]
-fn place_codes(closed: &[Closed], number: u32, row: &mut Row) -> Result<(), RowError>
+fn place_codes(closed: &[ClosedVariable], number: u32, row: &mut Row) -> Result<(), RowError>
     requires at_most_8 { length closed.now ≤ 8 }
     ensures { Gives fault_of (λ _. row.new) result
         (at_record number (closing.row_of closed.now (kept_of number row.old))) }
@@ -166,7 +166,7 @@ fn place_codes(closed: &[Closed], number: u32, row: &mut Row) -> Result<(), RowE
 
 // The places of a record's codes, where no others stand below them.
 #[tactic(auto, unfolding(crate::specs::Closing::leaves_of))]
-fn leaves_of(closed: &[Closed], numbers: &[u32]) -> Result<Place, RecordError>
+fn leaves_of(closed: &[ClosedVariable], numbers: &[u32]) -> Result<Place, RecordError>
     requires at_most_8 { length closed.now ≤ 8 }
     ensures { Gives why_of (λ places. places) result (closing.leaves_of closed.now numbers.now) }
 {
@@ -182,7 +182,7 @@ fn leaves_of(closed: &[Closed], numbers: &[u32]) -> Result<Place, RecordError>
 }
 
 // The place of a code, where no others stand below it.
-fn leaf_of(closed: &Closed, number: u32) -> Result<u32, RecordError>
+fn leaf_of(closed: &ClosedVariable, number: u32) -> Result<u32, RecordError>
     ensures { Gives why_of (λ place. place) result (closing.leaf_of closed.now number) }
 {
     let place = place_of(closed, number);
@@ -193,7 +193,7 @@ fn leaf_of(closed: &Closed, number: u32) -> Result<u32, RecordError>
 }
 
 // The place in the tree of the code with this number.
-fn place_of(closed: &Closed, number: u32) -> u32
+fn place_of(closed: &ClosedVariable, number: u32) -> u32
     ensures { result ≡ closing.place_of closed.now number }
 {
     match closed.places.as_slice().get(number as usize) {

@@ -15,9 +15,9 @@ pub(crate) struct KeptRows {
 
 impl Model for KeptRows {
     ghost use Rattle.std.specs.Prelude.{◌≡◌, List, length};
-    ghost use Rattle.microdata.specs.KeptRows.{Kept, kept_rows};
+    ghost use Rattle.microdata.specs.KeptRows.{KeptRow, kept_rows};
 
-    ghost Value = { List Kept };
+    ghost Value = { List KeptRow };
 
     ghost view = { λ s. kept_rows s.numbers.items s.rows.items };
 

@@ -4,7 +4,7 @@ use Rattle.std.proofs.lemmas.Int.{ints, by_lt_z}
 use Rattle.std.proofs.Math.IntN.{*ℤ_comm}
 use Rattle.std.proofs.lemmas.List.Elements.{All-head, All-tail}
 use Rattle.sdc_base.proofs.WholeNumbers.{distrib, swap_times, minus_times, times_up, times_more}
-use Rattle.sdc_base.specs.RuleLevels.{Figures, divided, names, rest_beside_two, wanted_level, rounded_up, IsRoundedUp, greater_number, upper_of, levels_up_to, level_of}
+use Rattle.sdc_base.specs.RuleLevels.{Figures, fraction_of, names, rest_beside_two, wanted_level, rounded_up, IsRoundedUp, greater_number, upper_of, levels_up_to, level_of}
 use Rattle.sdc_base.specs.declared.rule.Rule.{Rule}
 use Rattle.sdc_base.specs.declared.rule.Rule.TheVariants as rule
 use Rattle.primary_rules.specs.Ranges.{IsInRange}
@@ -30,12 +30,12 @@ reaches_before : (t : ℕ) (a b : ℤ) → 1 ≤ t → (pos t *ℤ a) ≤ℤ (po
 reaches_before t a b h less =
     by_lt_z b a (λ other. let more : (pos t *ℤ b) <ℤ (pos t *ℤ a) = times_more (pos t) b a (omega (arith, ints, h)) other in absurd (omega (arith, ints, less, more))) (λ least. least)
 
-rounded_within : (t d : ℕ) (over : ℤ) → 1 ≤ t → 1 ≤ d → IsWithinRounding t (rounded_up (divided over d)) (rounded_up (divided (pos t *ℤ over) d))
+rounded_within : (t d : ℕ) (over : ℤ) → 1 ≤ t → 1 ≤ d → IsWithinRounding t (rounded_up (fraction_of over d)) (rounded_up (fraction_of (pos t *ℤ over) d))
 rounded_within t d over h under =
-    let level : ℤ = rounded_up (divided over d) in
-    let other : ℤ = rounded_up (divided (pos t *ℤ over) d) in
-    let this : IsRoundedUp (divided over d) level = rounded_is over d under in
-    let that : IsRoundedUp (divided (pos t *ℤ over) d) other = rounded_is (pos t *ℤ over) d under in
+    let level : ℤ = rounded_up (fraction_of over d) in
+    let other : ℤ = rounded_up (fraction_of (pos t *ℤ over) d) in
+    let this : IsRoundedUp (fraction_of over d) level = rounded_is over d under in
+    let that : IsRoundedUp (fraction_of (pos t *ℤ over) d) other = rounded_is (pos t *ℤ over) d under in
     let unit : pos 1 ≤ℤ level = this.unit in
     let one : pos 1 ≤ℤ other = that.unit in
     let reach : over ≤ℤ (pos d *ℤ level) = this.reaches in
@@ -117,17 +117,17 @@ names_rescaled t (rule.Percent p) cell other h are =
 wanted_within : (t : ℕ) (one : Rule) (cell other : Figures) → 1 ≤ t → IsInRange one → IsRescaled t cell other → IsWithinRounding t (rounded_up (wanted_level one cell)) (rounded_up (wanted_level one other))
 wanted_within t (rule.Freq n r) cell other h range are =
     let over : pos r *ℤ other.truth ≡ pos t *ℤ (pos r *ℤ cell.truth) = ap (λ x. pos r *ℤ x) are.truth ∙ swap_times (pos r) (pos t) cell.truth in
-    subst (λ x. IsWithinRounding t (rounded_up (wanted_level (rule.Freq n r) cell)) (rounded_up (divided x 100))) (sym over) (rounded_within t 100 (pos r *ℤ cell.truth) h (omega arith))
+    subst (λ x. IsWithinRounding t (rounded_up (wanted_level (rule.Freq n r) cell)) (rounded_up (fraction_of x 100))) (sym over) (rounded_within t 100 (pos r *ℤ cell.truth) h (omega arith))
 wanted_within t (rule.Nk n k) cell other h range are =
     let over : pos 100 *ℤ other.largest n +ℤ neg_ℤ (pos k *ℤ other.truth) ≡ pos t *ℤ (pos 100 *ℤ cell.largest n +ℤ neg_ℤ (pos k *ℤ cell.truth)) =
     rw (are.truth, are.largest n) (part_rescaled t 100 k (cell.largest n) cell.truth) in
-    subst (λ x. IsWithinRounding t (rounded_up (wanted_level (rule.Nk n k) cell)) (rounded_up (divided x k))) (sym over) (rounded_within t k (pos 100 *ℤ cell.largest n +ℤ neg_ℤ (pos k *ℤ cell.truth)) h range.2)
+    subst (λ x. IsWithinRounding t (rounded_up (wanted_level (rule.Nk n k) cell)) (rounded_up (fraction_of x k))) (sym over) (rounded_within t k (pos 100 *ℤ cell.largest n +ℤ neg_ℤ (pos k *ℤ cell.truth)) h range.2)
 wanted_within t (rule.Percent p) cell other h range are =
     let over : pos p *ℤ other.largest 1 +ℤ neg_ℤ (pos 100 *ℤ rest_beside_two other) ≡ pos t *ℤ (pos p *ℤ cell.largest 1 +ℤ neg_ℤ (pos 100 *ℤ rest_beside_two cell)) =
     ap (λ x. pos p *ℤ other.largest 1 +ℤ neg_ℤ (pos 100 *ℤ x)) (rest_rescaled t cell other are)
     ∙ ap (λ x. pos p *ℤ x +ℤ neg_ℤ (pos 100 *ℤ (pos t *ℤ rest_beside_two cell))) (are.largest 1)
     ∙ part_rescaled t p 100 (cell.largest 1) (rest_beside_two cell) in
-    subst (λ x. IsWithinRounding t (rounded_up (wanted_level (rule.Percent p) cell)) (rounded_up (divided x 100))) (sym over) (rounded_within t 100 (pos p *ℤ cell.largest 1 +ℤ neg_ℤ (pos 100 *ℤ rest_beside_two cell)) h (omega arith))
+    subst (λ x. IsWithinRounding t (rounded_up (wanted_level (rule.Percent p) cell)) (rounded_up (fraction_of x 100))) (sym over) (rounded_within t 100 (pos p *ℤ cell.largest 1 +ℤ neg_ℤ (pos 100 *ℤ rest_beside_two cell)) h (omega arith))
 
 -- ---- all rules
 

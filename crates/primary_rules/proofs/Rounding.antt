@@ -6,7 +6,7 @@ use Rattle.std.proofs.lemmas.Nat.{mod_below}
 use Rattle.std.proofs.Math.IntN.{*ℤ_comm}
 use Rattle.std.proofs.lemmas.Int.{ints}
 use Rattle.sdc_base.proofs.WholeNumbers.{distrib, times_up, minus_times, below_from_times}
-use Rattle.sdc_base.specs.RuleLevels.{Fraction, divided, rounded_up, IsRoundedUp}
+use Rattle.sdc_base.specs.RuleLevels.{Fraction, fraction_of, rounded_up, IsRoundedUp}
 use Rattle.primary_rules.specs.Naming.{RoundingIsLeast}
 
 -- a number is what its quotient comes to, and a rest below the divisor
@@ -45,11 +45,11 @@ up_least over other d h reaches =
     let less : (up +ℤ negsuc 0) <ℤ other = below_from_times (pos d) (up +ℤ negsuc 0) other positive below in
     omega (arith, ints, less)
 
-pub rounded_is : (over : ℤ) (d : ℕ) → 1 ≤ d → IsRoundedUp (divided over d) (rounded_up (divided over d))
+pub rounded_is : (over : ℤ) (d : ℕ) → 1 ≤ d → IsRoundedUp (fraction_of over d) (rounded_up (fraction_of over d))
 rounded_is over d h =
     let up : ℤ = up_of over d in
     let reaches : over ≤ℤ (pos d *ℤ up) = up_reaches over d h in
-    elim (int_lt up (pos 1)) as (λ b. int_lt up (pos 1) ≡ b → IsRoundedUp (divided over d) (if b then pos 1 else up)) [
+    elim (int_lt up (pos 1)) as (λ b. int_lt up (pos 1) ≡ b → IsRoundedUp (fraction_of over d) (if b then pos 1 else up)) [
       | true ↦ λ is.
           let low : up <ℤ pos 1 = grind (arith, ints, is) in
           let more : (pos d *ℤ up) ≤ℤ (pos d *ℤ pos 1) = times_up (pos d) up (pos 1) (omega (arith, ints)) (omega (arith, ints, low)) in

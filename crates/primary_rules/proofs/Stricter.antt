@@ -3,7 +3,7 @@ use Rattle.std.proofs.Common.{◌≡◌, ℕ, ◌≤◌, ◌++◌, true, false, 
 use Rattle.std.proofs.lemmas.Int.{ints}
 use Rattle.std.proofs.Math.IntN.{*ℤ_comm}
 use Rattle.sdc_base.proofs.WholeNumbers.{distrib, times_up}
-use Rattle.sdc_base.specs.RuleLevels.{Figures, divided, names, rest_beside_two, wanted_level, rounded_up, IsRoundedUp, greater_number, upper_of, levels_up_to}
+use Rattle.sdc_base.specs.RuleLevels.{Figures, fraction_of, names, rest_beside_two, wanted_level, rounded_up, IsRoundedUp, greater_number, upper_of, levels_up_to}
 use Rattle.sdc_base.specs.declared.rule.Rule.{Rule}
 use Rattle.sdc_base.specs.declared.rule.Rule.TheVariants as rule
 use Rattle.primary_rules.specs.Ranges.{IsInRange}
@@ -17,23 +17,23 @@ pub times_of : (m n : ℕ) (a : ℤ) → m ≤ n → pos 0 ≤ℤ a → (pos m *
 times_of m n a h from = omega (arith, ints, times_up a (pos m) (pos n) from (omega (arith, ints, h)), *ℤ_comm a (pos m), *ℤ_comm a (pos n))
 
 -- a quotient by the same divisor that is no less rounds up to no less
-pub rounded_more : (over more : ℤ) (d : ℕ) → 1 ≤ d → over ≤ℤ more → rounded_up (divided over d) ≤ℤ rounded_up (divided more d)
+pub rounded_more : (over more : ℤ) (d : ℕ) → 1 ≤ d → over ≤ℤ more → rounded_up (fraction_of over d) ≤ℤ rounded_up (fraction_of more d)
 rounded_more over more d h less =
-    let that : IsRoundedUp (divided more d) (rounded_up (divided more d)) = rounded_is more d h in
-    let reaches : more ≤ℤ (pos d *ℤ rounded_up (divided more d)) = that.reaches in
-    let this : IsRoundedUp (divided over d) (rounded_up (divided over d)) = rounded_is over d h in
-    this.least (rounded_up (divided more d)) that.unit (omega (arith, ints, less, reaches))
+    let that : IsRoundedUp (fraction_of more d) (rounded_up (fraction_of more d)) = rounded_is more d h in
+    let reaches : more ≤ℤ (pos d *ℤ rounded_up (fraction_of more d)) = that.reaches in
+    let this : IsRoundedUp (fraction_of over d) (rounded_up (fraction_of over d)) = rounded_is over d h in
+    this.least (rounded_up (fraction_of more d)) that.unit (omega (arith, ints, less, reaches))
 
 -- the sum over n contributions over k percent, less the truth, and a sum over no fewer over a lower percentage
-share_more : (k l : ℕ) (truth sum more : ℤ) → 1 ≤ l → l ≤ k → pos 0 ≤ℤ truth → sum ≤ℤ more → rounded_up (divided (sum +ℤ neg_ℤ (pos k *ℤ truth)) k) ≤ℤ rounded_up (divided (more +ℤ neg_ℤ (pos l *ℤ truth)) l)
+share_more : (k l : ℕ) (truth sum more : ℤ) → 1 ≤ l → l ≤ k → pos 0 ≤ℤ truth → sum ≤ℤ more → rounded_up (fraction_of (sum +ℤ neg_ℤ (pos k *ℤ truth)) k) ≤ℤ rounded_up (fraction_of (more +ℤ neg_ℤ (pos l *ℤ truth)) l)
 share_more k l truth sum more least h from less =
-    let up : ℤ = rounded_up (divided (more +ℤ neg_ℤ (pos l *ℤ truth)) l) in
-    let that : IsRoundedUp (divided (more +ℤ neg_ℤ (pos l *ℤ truth)) l) up = rounded_is (more +ℤ neg_ℤ (pos l *ℤ truth)) l least in
+    let up : ℤ = rounded_up (fraction_of (more +ℤ neg_ℤ (pos l *ℤ truth)) l) in
+    let that : IsRoundedUp (fraction_of (more +ℤ neg_ℤ (pos l *ℤ truth)) l) up = rounded_is (more +ℤ neg_ℤ (pos l *ℤ truth)) l least in
     let reaches : (more +ℤ neg_ℤ (pos l *ℤ truth)) ≤ℤ (pos l *ℤ up) = that.reaches in
     let unit : pos 1 ≤ℤ up = that.unit in
     let whole : pos 0 ≤ℤ (up +ℤ truth) = omega (arith, ints, unit, from) in
     let wider : (pos l *ℤ (up +ℤ truth)) ≤ℤ (pos k *ℤ (up +ℤ truth)) = times_of l k (up +ℤ truth) h whole in
-    let this : IsRoundedUp (divided (sum +ℤ neg_ℤ (pos k *ℤ truth)) k) (rounded_up (divided (sum +ℤ neg_ℤ (pos k *ℤ truth)) k)) = rounded_is (sum +ℤ neg_ℤ (pos k *ℤ truth)) k (omega (arith, least, h)) in
+    let this : IsRoundedUp (fraction_of (sum +ℤ neg_ℤ (pos k *ℤ truth)) k) (rounded_up (fraction_of (sum +ℤ neg_ℤ (pos k *ℤ truth)) k)) = rounded_is (sum +ℤ neg_ℤ (pos k *ℤ truth)) k (omega (arith, least, h)) in
     this.least up unit (omega (arith, ints, less, reaches, wider, distrib (pos l) up truth, distrib (pos k) up truth))
 
 pub stricter_wants_more : StricterWantsMore
@@ -120,6 +120,6 @@ further_lowers_none before behind one cell =
 
 pub more_lowers_no_manual : MoreLowersNoManual
 more_lowers_no_manual percent more truth h from =
-    let up : rounded_up (divided (pos percent *ℤ truth) 100) ≤ℤ rounded_up (divided (pos more *ℤ truth) 100) =
+    let up : rounded_up (fraction_of (pos percent *ℤ truth) 100) ≤ℤ rounded_up (fraction_of (pos more *ℤ truth) 100) =
     rounded_more (pos percent *ℤ truth) (pos more *ℤ truth) 100 (omega arith) (times_of percent more truth h from) in
-    (up, down_rises (rounded_up (divided (pos percent *ℤ truth) 100)) (rounded_up (divided (pos more *ℤ truth) 100)) truth up)
+    (up, down_rises (rounded_up (fraction_of (pos percent *ℤ truth) 100)) (rounded_up (fraction_of (pos more *ℤ truth) 100)) truth up)

@@ -69,7 +69,7 @@ impl<'a> Bounds<'a> {
     }
 
     // How many cells are fixed.
-    pub fn fixed(&self) -> usize
+    pub fn fix_count(&self) -> usize
         ensures value { result ≡ length self.now.fixes }
         ensures most { result ≤ self.now.system.cells }
     {
@@ -231,7 +231,7 @@ impl<'a> Bounds<'a> {
         requires count { count ≤ length self.old.fixes }
         ensures { self.new ≡ record self.old { fixes = take count self.old.fixes } }
     {
-        'fixes: while self.fixed() > count {
+        'fixes: while self.fix_count() > count {
             self.unfix(naming);
         }
     }

@@ -24,7 +24,7 @@ pub(crate) fn propagate(
     ensures none { IfOk result (λ all. all ≡ false → NoneWithin bounds.new) }
 {
     let mut next = from;
-    'fixes: while next < bounds.fixed() {
+    'fixes: while next < bounds.fix_count() {
         let cell = bounds.fixed_cell(next);
         let all = settle_each(bounds, naming, naming[cell as usize].as_slice())?;
         if !all {

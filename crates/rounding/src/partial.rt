@@ -129,7 +129,7 @@ impl<'a> Partial<'a> {
         ensures choices { OnOk result (choices_of self.new.steps.items ≡ choices_of self.old.steps.items ++ up ∷ []) }
     {
         let cell = self.cells[self.steps.len()];
-        let mark = self.bounds.fixed();
+        let mark = self.bounds.fix_count();
         self.steps.push((up, mark))?;
         let named = self.naming[cell as usize].as_slice();
         self.bounds.take_side(named, cell, up)?;

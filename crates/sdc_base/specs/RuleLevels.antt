@@ -49,20 +49,20 @@ pub record Fraction : Type 0 where
   pub over : ℤ
   pub under : ℕ
 
--- a number divided
-abbrev pub divided : ℤ → ℕ → Fraction
-divided over under = record { over = over; under = under }
+-- one number over another
+abbrev pub fraction_of : ℤ → ℕ → Fraction
+fraction_of over under = record { over = over; under = under }
 
 -- a fraction less a whole number
 abbrev pub fraction_less : Fraction → ℤ → Fraction
-fraction_less q n = divided (q.over +ℤ neg_ℤ (pos q.under *ℤ n)) q.under
+fraction_less q n = fraction_of (q.over +ℤ neg_ℤ (pos q.under *ℤ n)) q.under
 
 -- How far the rule wants a cell that it names to be open upwards: r percent of the truth; what the truth lacks for the
 -- n largest to be k percent of it; or what the rest lacks for p percent of the largest.
 abbrev pub wanted_level : Rule → Figures → Fraction
-wanted_level (rule.Freq n r) cell = divided (pos r *ℤ cell.truth) 100
-wanted_level (rule.Nk n k) cell = fraction_less (divided (pos 100 *ℤ cell.largest n) k) cell.truth
-wanted_level (rule.Percent p) cell = fraction_less (divided (pos p *ℤ cell.largest 1) 100) (rest_beside_two cell)
+wanted_level (rule.Freq n r) cell = fraction_of (pos r *ℤ cell.truth) 100
+wanted_level (rule.Nk n k) cell = fraction_less (fraction_of (pos 100 *ℤ cell.largest n) k) cell.truth
+wanted_level (rule.Percent p) cell = fraction_less (fraction_of (pos p *ℤ cell.largest 1) 100) (rest_beside_two cell)
 
 -- the least whole number that is not below the fraction, and a unit at least
 abbrev pub rounded_up : Fraction → ℤ
@@ -95,7 +95,7 @@ level_of rules cell = option_map (levels_up_to cell.truth) (upper_of rules cell)
 
 -- the levels of a cell that is declared unsafe: so much percent of the truth
 abbrev pub manual_of : ℕ → ℤ → Levels
-manual_of percent truth = levels_up_to truth (rounded_up (divided (pos percent *ℤ truth) 100))
+manual_of percent truth = levels_up_to truth (rounded_up (fraction_of (pos percent *ℤ truth) 100))
 
 -- how many of the largest contributions a rule looks at
 abbrev pub looks_at : Rule → ℕ

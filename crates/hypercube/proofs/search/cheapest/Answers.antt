@@ -7,7 +7,7 @@ use Rattle.sdc_base.specs.declared.cube.Edge.{Edge}
 use Rattle.linked_tables.specs.BookCells.{cell_at, cells as cells_in}
 use Rattle.hypercube.specs.Branches.{Setting, begin_at, best_beyond, codes_at, offers_of}
 use Rattle.hypercube.specs.LeastCubes.{cubes_in, is_marked, least_cube, price_in}
-use Rattle.hypercube.specs.declared.ranking.Priced.{Priced}
+use Rattle.hypercube.specs.declared.ranking.PricedEdge.{PricedEdge}
 use Rattle.hypercube.specs.Ranks.{AreRanked, AreRankings, edge_lists}
 use Rattle.hypercube.proofs.EdgeLists.{edges-begin}
 use Rattle.hypercube.proofs.Firsts.{least-serves}
@@ -42,14 +42,14 @@ better-requires-clause-ranked g c =
       levels = c.args.levels;
       codes = c.codes_at-codes.result;
     } in
-    let all : List (List Priced) = c.in_ok-ranked.ranked.items in
+    let all : List (List PricedEdge) = c.in_ok-ranked.ranked.items in
     let few : length lists ≤ 8 = subst (λ (found : List (List Edge)). length found ≤ 8) (sym c.as_slice.ensures.value) c.in_ok-lists.ensures.at_most_8 in
     let begun : begin_at setting.codes lists ≡ true =
     ap (λ (codes : List ℕ). begin_at codes lists) c.codes_at-codes.ensures
     ∙ ap (λ (found : List (List Edge)). begin_at (codes_at c.name_of-name.result c.table_of-table.result c.args.subtable.now.parents) found) (c.as_slice.ensures.value ∙ c.in_ok-lists.ensures.edges)
     ∙ edges-begin c.args.book.now.trees c.name_of-name.result c.table_of-table.result c.args.subtable.now.parents
     in
-    subst (λ (found : List (List Priced)). AreRanked setting found) (sym c.as_slice-2.ensures.value) (are-ranked setting lists all c.in_ok-ranked.ensures few begun)
+    subst (λ (found : List (List PricedEdge)). AreRanked setting found) (sym c.as_slice-2.ensures.value) (are-ranked setting lists all c.in_ok-ranked.ensures few begun)
 
 pub returns-clause-least : goal.returns-clause-least
 returns-clause-least g c =
@@ -64,7 +64,7 @@ returns-clause-least g c =
       levels = levels;
       codes = c.codes_at-codes.result;
     } in
-    let all : List (List Priced) = c.in_ok-ranked.ranked.items in
+    let all : List (List PricedEdge) = c.in_ok-ranked.ranked.items in
     let name : c.name_of-name.result ≡ slice_index_or (cells_in book) c.args.cell [] = c.name_of-name.ensures in
     let table : c.table_of-table.result ≡ slice_index_or book.tables subtable.table [] = c.table_of-table.ensures in
     let edges : c.as_slice.result.now ≡ edges_at book.trees c.name_of-name.result c.table_of-table.result subtable.parents = c.as_slice.ensures.value ∙ c.in_ok-lists.ensures.edges in
@@ -74,7 +74,7 @@ returns-clause-least g c =
     let found =
     c.in_ok-best.ensures
     ∙ ap (λ (chosen : List Edge). best_beyond setting None chosen (drop (length chosen) (edge_lists c.as_slice-2.result.now))) c.empty.ensures
-    ∙ ap (λ (lists : List (List Priced)). best_beyond setting None [] (edge_lists lists)) c.as_slice-2.ensures.value
+    ∙ ap (λ (lists : List (List PricedEdge)). best_beyond setting None [] (edge_lists lists)) c.as_slice-2.ensures.value
     ∙ search-ranked setting book.trees c.name_of-name.result c.table_of-table.result subtable.parents all c.cells.ensures.book c.codes_at-codes.ensures are
     ∙ ap (λ (codes : Name). first_by comes_before (offers_of setting (cubes_at book.trees codes c.table_of-table.result subtable.parents))) name
     ∙ ap (λ (spanned : List ℕ). first_by comes_before (offers_of setting (cubes_at book.trees (slice_index_or (cells_in book) c.args.cell []) spanned subtable.parents))) table

@@ -12,7 +12,7 @@ use Rattle.job_inputs.proofs.Settling.{inputs-fail, book-fails, priors-fail, cel
 use Rattle.job_inputs.specs.Cells.{figures, prior_fault}
 use Rattle.job_inputs.specs.Refusals.{refused_for}
 use Rattle.job_inputs.specs.SettledJobs.{SettledInputs, overwrites_job}
-use Rattle.job_inputs.specs.declared.described.Described.{Described}
+use Rattle.job_inputs.specs.declared.described.DescribedJob.{DescribedJob}
 use Rattle.job_inputs.specs.declared.faults.Fault.TheVariants as fault
 use Rattle.job_inputs.proofs.settled.read_settled.Goals as goal
 
@@ -119,7 +119,7 @@ returns-in_err-check_outputs-clause-told g c =
     let settled = subst (λ (ps : List Prior). map_fault prior_fault (settle_of inputs.described.job.rules (figures inputs) ps) ≡ Ok (map view_of_cell cells)) c.as_slice.ensures (c.in_ok-cells.ensures.gives inputs counted) in
     rw (p.1, p.2)
     (outputs-fail c.args.purpose fs c.args.name.now inputs _ priors (map view_of_cell cells) c.in_err-check_outputs.field-0.0 (first.told fs told) c.in_ok-counted.ensures.told (c.in_ok-priors.ensures.told inputs counted fs (first.only_read.files ∙ told)) settled
-    (sym (c.in_err-check_outputs.ensures ∙ ap (λ (d : Described). refuse fault.OutName (overwrites_job c.args.name.now d.job)) counted.described)))
+    (sym (c.in_err-check_outputs.ensures ∙ ap (λ (d : DescribedJob). refuse fault.OutName (overwrites_job c.args.name.now d.job)) counted.described)))
 
 pub returns-in_err-check_outputs-clause-came_to : goal.returns-in_err-check_outputs-clause-came_to
 returns-in_err-check_outputs-clause-came_to g c =
@@ -145,7 +145,7 @@ returns-clause-told g c =
     let cells = c.in_ok-cells.cells in
     let settled = subst (λ (ps : List Prior). map_fault prior_fault (settle_of inputs.described.job.rules (figures inputs) ps) ≡ Ok (map view_of_cell cells)) c.as_slice.ensures (c.in_ok-cells.ensures.gives inputs counted) in
     rw (settled-is c.args.purpose fs c.args.name.now inputs _ priors (map view_of_cell cells) (first.told fs told) c.in_ok-counted.ensures.told (c.in_ok-priors.ensures.told inputs counted fs (first.only_read.files ∙ told)) settled
-    (sym (c.in_ok-check_outputs.ensures ∙ ap (λ (d : Described). refuse fault.OutName (overwrites_job c.args.name.now d.job)) counted.described)))
+    (sym (c.in_ok-check_outputs.ensures ∙ ap (λ (d : DescribedJob). refuse fault.OutName (overwrites_job c.args.name.now d.job)) counted.described)))
     (record { described = counted.described; book = counted.book; cells = refl; records = counted.records; skipped = counted.skipped })
 
 pub returns-clause-settled : goal.returns-clause-settled

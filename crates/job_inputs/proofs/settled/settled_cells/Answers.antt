@@ -8,7 +8,7 @@ use Rattle.job_inputs.proofs.Refusing.{prior_refuses}
 use Rattle.job_inputs.proofs.Truths.{truths-are}
 use Rattle.job_inputs.proofs.Facts.{facts-in, are-ready}
 use Rattle.job_inputs.specs.Cells.{cells, figures}
-use Rattle.job_inputs.specs.declared.described.Described.{Described}
+use Rattle.job_inputs.specs.declared.described.DescribedJob.{DescribedJob}
 use Rattle.job_inputs.proofs.settled.settled_cells.Goals as goal
 
 pub settle-requires-clause-ready : goal.settle-requires-clause-ready
@@ -17,7 +17,7 @@ settle-requires-clause-ready c = are-ready c.args.counted.now.described.job.rule
 pub returns-clause-gives : goal.returns-clause-gives
 returns-clause-gives c = λ inputs is.
     let over = c.in_ok-cells.ensures.over_records inputs.records.trees (cells inputs) inputs.records.rows inputs.described.bound.scale (facts-in inputs c.args.counted.now.book is.book) in
-    let same = subst (λ (d : Described). settle_of d.job.rules (figures inputs) c.args.priors.now ≡ Ok (map view_of_cell c.in_ok-cells.cells.items)) is.described over in
+    let same = subst (λ (d : DescribedJob). settle_of d.job.rules (figures inputs) c.args.priors.now ≡ Ok (map view_of_cell c.in_ok-cells.cells.items)) is.described over in
     rw (c.new.ensures, same) refl
 
 pub returns-in_err-cells-clause-gives : goal.returns-in_err-cells-clause-gives
@@ -25,7 +25,7 @@ returns-in_err-cells-clause-gives c = λ inputs is.
     let p = err_from_is_err_and c.from_residual.result c.from_residual.ensures.1 in
     let e = c.in_err-cells.field-0.0 in
     let over = c.in_err-cells.ensures.over_records inputs.records.trees (cells inputs) inputs.records.rows inputs.described.bound.scale (facts-in inputs c.args.counted.now.book is.book) in
-    let same = subst (λ (d : Described). Fails (fault_of e) (settle_of d.job.rules (figures inputs) c.args.priors.now)) is.described over in
+    let same = subst (λ (d : DescribedJob). Fails (fault_of e) (settle_of d.job.rules (figures inputs) c.args.priors.now)) is.described over in
     rw (p.1, p.2) (prior_refuses e (settle_of inputs.described.job.rules (figures inputs) c.args.priors.now) same)
 
 pub returns-clause-truths : goal.returns-clause-truths

@@ -2,7 +2,7 @@ use Rattle.std.proofs.Common.{◌≡◌, ◌<◌, Err, List, length, ap, subst, 
 use Rattle.std.proofs.lemmas.Result.{err_from_is_err_and}
 use Rattle.job_lang.specs.declared.job.TableLine.{TableLine}
 use Rattle.office_io.proofs.Shelves.{only-read-on}
-use Rattle.job_inputs.specs.declared.described.Described.{Described}
+use Rattle.job_inputs.specs.declared.described.DescribedJob.{DescribedJob}
 use Rattle.job_inputs.proofs.Causes.{come-on, cause-on, only-read-nothing}
 use Rattle.job_inputs.proofs.Facts.{cells-are}
 use Rattle.job_inputs.proofs.Stating.{files-none, files-more, files-stop, comes-statement}
@@ -20,7 +20,7 @@ returns-in_err-add_file-clause-told g c =
     λ inputs is fs told.
     let p = err_from_is_err_and c.from_residual-in_err-add_file.result c.from_residual-in_err-add_file.ensures.1 in
     let here = subst (λ (xs : List TableLine). c.tables.t < length xs) c.as_slice-tables.ensures c.tables-test.true in
-    let within = subst (λ (d : Described). c.tables.t < length d.job.tables) is.described here in
+    let within = subst (λ (d : DescribedJob). c.tables.t < length d.job.tables) is.described here in
     rw (p.1, p.2)
     (files-stop fs inputs c.args.counted.now.described c.tables.t (length inputs.described.job.tables) c.tables.priors.items _ is.described (c.tables.invariant.told inputs is fs told)
     (c.in_err-add_file.ensures.told inputs is fs (c.tables.invariant.only_read.files ∙ told)) within)

@@ -5,7 +5,7 @@ use Rattle.job_inputs.proofs.Causes.{come-on, out-name-cause}
 use Rattle.job_inputs.specs.Reading.{stopped_for}
 use Rattle.job_inputs.specs.SettledJobs.{settled_of, IsSettledOf}
 use Rattle.job_inputs.specs.Tables.{tables_of}
-use Rattle.job_inputs.specs.declared.described.Described.{Described}
+use Rattle.job_inputs.specs.declared.described.DescribedJob.{DescribedJob}
 use Rattle.job_inputs.specs.declared.purpose.Purpose.TheVariants as purpose
 use Rattle.job_intervals.proofs.Coming.{ok_and, out_same, settled_fails, out_fails, tables_fail, shelved_is, input_comes, table_comes}
 use Rattle.job_intervals.specs.OutNames.{overwrites}
@@ -53,7 +53,7 @@ returns-in_err-tables-clause-told g c =
     rw (p.1, p.2)
     (tables_fail fs c.args.name.now c.args.out.now one.0 (stopped_for e) one.1
     (out_same c.args.name.now c.args.out.now c.in_ok-job.job.described one.0.inputs.described _ c.in_ok-check_out.ensures one.2.described)
-    (subst (λ (d : Described). Fails (stopped_for e) (tables_of fs d.job)) one.2.described (c.in_err-tables.ensures.reads.told fs (c.in_ok-job.ensures.only_read.files ∙ told))))
+    (subst (λ (d : DescribedJob). Fails (stopped_for e) (tables_of fs d.job)) one.2.described (c.in_err-tables.ensures.reads.told fs (c.in_ok-job.ensures.only_read.files ∙ told))))
 
 pub returns-in_err-tables-clause-came_to : goal.returns-in_err-tables-clause-came_to
 returns-in_err-tables-clause-came_to g c =
@@ -73,7 +73,7 @@ pub returns-clause-told : goal.returns-clause-told
 returns-clause-told g c =
     λ fs told.
     let one = ok_and (λ settled. IsSettledOf settled c.in_ok-job.job) (settled_of purpose.Intervals fs c.args.name.now) (c.in_ok-job.ensures.told fs told) in
-    let are = subst (λ (d : Described). tables_of fs d.job ≡ Ok c.in_ok-tables.tables) one.2.described (c.in_ok-tables.ensures.reads.told fs (c.in_ok-job.ensures.only_read.files ∙ told)) in
+    let are = subst (λ (d : DescribedJob). tables_of fs d.job ≡ Ok c.in_ok-tables.tables) one.2.described (c.in_ok-tables.ensures.reads.told fs (c.in_ok-job.ensures.only_read.files ∙ told)) in
     rw (shelved_is fs c.args.name.now c.args.out.now one.0 c.in_ok-tables.tables one.1
     (out_same c.args.name.now c.args.out.now c.in_ok-job.job.described one.0.inputs.described _ c.in_ok-check_out.ensures one.2.described) are)
     (record { settled = one.2; tables = refl })

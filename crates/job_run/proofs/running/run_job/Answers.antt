@@ -4,7 +4,7 @@ use Rattle.job_inputs.specs.SettledJobs.{IsSettledOf, settled_of}
 use Rattle.job_inputs.specs.declared.purpose.Purpose.TheVariants as purpose
 use Rattle.job_inputs.specs.declared.file_ref.FileRef.{FileRef}
 use Rattle.job_run.specs.Puts.{AllWhole, OneInPart, SomeWhole}
-use Rattle.job_run.specs.declared.put.Put.{Put}
+use Rattle.job_run.specs.declared.put.FilePut.{FilePut}
 use Rattle.job_run.specs.declared.puts.PutStop.TheVariants as stop
 use Rattle.job_run.proofs.Outcomes.{ok-and, inputs-meet, inputs-leave, inputs-leave-all, inputs-cause, inputs-come, stop-meets, stop-leaves, stop-leaves-all, stop-cause, stop-come, puts-meet, puts-leave, puts-leave-all, puts-cause, puts-come, released-cause}
 use Rattle.job_run.proofs.Settling.{release-is}
@@ -87,7 +87,7 @@ returns-in_err-release-clause-came_to g c =
 pub put_files-requires : goal.put_files-requires
 put_files-requires g c =
     let many : length c.in_ok-release.release.puts ≡ 1 + length c.in_ok-settled.settled.described.job.tables = c.in_ok-release.ensures.one_more_than_tables in
-    subst (λ (puts : List Put). 0 < length puts) (sym c.as_slice.ensures) (omega (arith, many))
+    subst (λ (puts : List FilePut). 0 < length puts) (sym c.as_slice.ensures) (omega (arith, many))
 
 pub returns-in_err-put_files-clause-told : goal.returns-in_err-put_files-clause-told
 returns-in_err-put_files-clause-told g c =
@@ -104,8 +104,8 @@ returns-in_err-put_files-clause-left g c =
     rw (p.1, p.2)
     (puts-leave c.in_err-put_files.field-0.0 _ read.0 c.in_ok-release.release _ _ read.1
     (c.in_ok-release.ensures.comes read.0 read.2)
-    (subst (λ (puts : List Put). (f : FileRef) → IsErrOf {T = Unit {0}} (Err c.in_err-put_files.field-0.0) (stop.WriteFault f) → OneInPart puts f (g.T.Tray.state c.args.tray.now) (g.T.Tray.state c.put_files.new.tray)) c.as_slice.ensures c.in_err-put_files.ensures.part)
-    (subst (λ (puts : List Put). IsErrOf {T = Unit {0}} (Err c.in_err-put_files.field-0.0) stop.Memory → SomeWhole puts (g.T.Tray.state c.args.tray.now) (g.T.Tray.state c.put_files.new.tray)) c.as_slice.ensures c.in_err-put_files.ensures.memory))
+    (subst (λ (puts : List FilePut). (f : FileRef) → IsErrOf {T = Unit {0}} (Err c.in_err-put_files.field-0.0) (stop.WriteFault f) → OneInPart puts f (g.T.Tray.state c.args.tray.now) (g.T.Tray.state c.put_files.new.tray)) c.as_slice.ensures c.in_err-put_files.ensures.part)
+    (subst (λ (puts : List FilePut). IsErrOf {T = Unit {0}} (Err c.in_err-put_files.field-0.0) stop.Memory → SomeWhole puts (g.T.Tray.state c.args.tray.now) (g.T.Tray.state c.put_files.new.tray)) c.as_slice.ensures c.in_err-put_files.ensures.memory))
 
 pub returns-in_err-put_files-clause-untouched : goal.returns-in_err-put_files-clause-untouched
 returns-in_err-put_files-clause-untouched g c =
@@ -139,7 +139,7 @@ returns-clause-two_to_nine_puts g c =
     let puts = c.in_ok-release.release.puts in
     let job = c.in_ok-settled.ensures.ready.sound.job in
     let many : length puts ≡ 1 + length c.in_ok-settled.settled.described.job.tables = c.in_ok-release.ensures.one_more_than_tables in
-    let whole = subst (λ (puts : List Put). AllWhole puts (g.T.Tray.state c.args.tray.now) (g.T.Tray.state c.put_files.new.tray)) c.as_slice.ensures c.in_ok-put_files.ensures.has_put_all in (
+    let whole = subst (λ (puts : List FilePut). AllWhole puts (g.T.Tray.state c.args.tray.now) (g.T.Tray.state c.put_files.new.tray)) c.as_slice.ensures c.in_ok-put_files.ensures.has_put_all in (
       length puts,
       omega (arith, many, job.tables.has_table),
       omega (arith, many, job.at_most_8_tables),
@@ -150,7 +150,7 @@ pub returns-clause-released : goal.returns-clause-released
 returns-clause-released g c =
     λ fs told.
     let read = ok-and (λ s. IsSettledOf s c.in_ok-settled.settled) (settled_of purpose.Release fs c.args.name.now) (c.in_ok-settled.ensures.told fs told) in
-    let whole = subst (λ (puts : List Put). AllWhole puts (g.T.Tray.state c.args.tray.now) (g.T.Tray.state c.put_files.new.tray)) c.as_slice.ensures c.in_ok-put_files.ensures.has_put_all in
+    let whole = subst (λ (puts : List FilePut). AllWhole puts (g.T.Tray.state c.args.tray.now) (g.T.Tray.state c.put_files.new.tray)) c.as_slice.ensures c.in_ok-put_files.ensures.has_put_all in
     release-is fs c.args.name.now read.0 c.in_ok-release.release _ _ read.1
     (c.in_ok-release.ensures.comes read.0 read.2) whole
 

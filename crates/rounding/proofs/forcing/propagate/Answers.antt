@@ -13,7 +13,7 @@ fixes-preserved c =
     let after = c.settle_each.new.bounds in
     let naming = c.args.naming.now in
     let forced = c.in_ok-all.ensures.forced in
-    let inside : c.fixes.next < length before.fixes = omega (arith, c.fixes-test.true, c.fixed.ensures.value) in
+    let inside : c.fixes.next < length before.fixes = omega (arith, c.fixes-test.true, c.fix_count.ensures.value) in
     let is : IsNaming before.system naming = subst (λ (a : FixedCells). IsNaming a.system naming) (sym c.fixes.invariant.forced.grown) c.requires.naming in
     record {
       forced = forced_then c.args.bounds.now before after c.fixes.invariant.forced forced;

@@ -4,7 +4,7 @@ use Rattle.sdc_base.specs.Cubes.{serve}
 use Rattle.sdc_base.specs.CubeOrder.{Offer, better, comes_before}
 use Rattle.sdc_base.specs.declared.cube.Corner.{Corner}
 use Rattle.sdc_base.specs.declared.cube.Edge.{Edge}
-use Rattle.hypercube.specs.declared.ranking.Priced.{Priced}
+use Rattle.hypercube.specs.declared.ranking.PricedEdge.{PricedEdge}
 use Rattle.hypercube.specs.Branches.{Setting, best_beyond, costs_more, price_of, shared_corners}
 use Rattle.hypercube.specs.Ranks.{BeginAt, IsLeft, edge_lists, edges_in}
 use Rattle.hypercube.proofs.Pruning.{left-out, whole-cube}
@@ -16,7 +16,7 @@ pub returns-then-not-serve : goal.returns-then-not-serve
 returns-then-not-serve g t c =
     let setting : Setting = c.args.self.now in
     let chosen : List Edge = c.args.chosen.now in
-    let lists : List (List Priced) = c.args.lists.now in
+    let lists : List (List PricedEdge) = c.args.lists.now in
     let served : serve setting.cells setting.levels (shared_corners setting chosen) ≡ c.serve.result =
     subst (λ (s : Setting). serve s.cells s.levels (shared_corners setting chosen) ≡ c.serve.result) c.self.view_is
     (ap (λ (corners : List Corner). serve c.self.inside.cells.now c.self.inside.levels corners) (sym (c.as_slice.ensures ∙ c.in_ok-corners.ensures)) ∙ sym c.serve.ensures)
@@ -27,7 +27,7 @@ pub returns-then-costs_more : goal.returns-then-costs_more
 returns-then-costs_more g t c =
     let setting : Setting = c.args.self.now in
     let chosen : List Edge = c.args.chosen.now in
-    let lists : List (List Priced) = c.args.lists.now in
+    let lists : List (List PricedEdge) = c.args.lists.now in
     let price : price_of setting (shared_corners setting chosen) ≡ c.price_of_hiding-price.result =
     subst (λ (s : Setting). price_of s (shared_corners setting chosen) ≡ c.price_of_hiding-price.result) c.self.view_is
     (ap (λ (corners : List Corner). price_of (record { book = c.self.inside.book.now; cells = c.self.inside.cells.now; cost = c.self.inside.rule.now; table = c.self.inside.table; levels = c.self.inside.levels; codes = c.self.inside.codes.now }) corners) (sym (c.as_slice-2.ensures ∙ c.in_ok-corners.ensures)) ∙ sym c.price_of_hiding-price.ensures)
@@ -38,7 +38,7 @@ pub returns-then-k-lists : goal.returns-then-k-lists
 returns-then-k-lists g t c =
     let setting : Setting = c.args.self.now in
     let chosen : List Edge = c.args.chosen.now in
-    let lists : List (List Priced) = c.args.lists.now in
+    let lists : List (List PricedEdge) = c.args.lists.now in
     let served : serve setting.cells setting.levels (shared_corners setting chosen) ≡ c.serve.result =
     subst (λ (s : Setting). serve s.cells s.levels (shared_corners setting chosen) ≡ c.serve.result) c.self.view_is
     (ap (λ (corners : List Corner). serve c.self.inside.cells.now c.self.inside.levels corners) (sym (c.as_slice.ensures ∙ c.in_ok-corners.ensures)) ∙ sym c.serve.ensures)
@@ -47,7 +47,7 @@ returns-then-k-lists g t c =
     subst (λ (s : Setting). price_of s (shared_corners setting chosen) ≡ c.price_of_hiding-price.result) c.self.view_is
     (ap (λ (corners : List Corner). price_of (record { book = c.self.inside.book.now; cells = c.self.inside.cells.now; cost = c.self.inside.rule.now; table = c.self.inside.table; levels = c.self.inside.levels; codes = c.self.inside.codes.now }) corners) (sym (c.as_slice-2.ensures ∙ c.in_ok-corners.ensures)) ∙ sym c.price_of_hiding-price.ensures)
     in
-    let long = length-map lists (λ (l : List Priced). edges_in l) in
+    let long = length-map lists (λ (l : List PricedEdge). edges_in l) in
     let past : length (edge_lists lists) ≤ length chosen = omega (arith, long, c.len-k.ensures.len, c.if-k-lists.true) in
     c.better_of.ensures
     ∙ ap (λ (p : ℕ). better comes_before c.args.best (p, c.in_ok-corners.corners)) (sym price)
@@ -64,9 +64,9 @@ pub edges-preserved : goal.edges-preserved
 edges-preserved g t c =
     let setting : Setting = c.args.self.now in
     let chosen : List Edge = c.args.chosen.now in
-    let next : List Priced = c.list_at-next.result.now in
+    let next : List PricedEdge = c.list_at-next.result.now in
     let i = c.edges.one-index in
-    let d : Priced = record { price = 0; edge = record { code = 0; other = 0; equal = false } } in
+    let d : PricedEdge = record { price = 0; edge = record { code = 0; other = 0; equal = false } } in
     let edge : Edge = (slice_index_or next i d).edge in
     let lists : List (List Edge) = edge_lists c.args.lists.now in
     let rest = drop (length chosen + 1) lists in
@@ -86,14 +86,14 @@ pub returns-then-costs_more-2 : goal.returns-then-costs_more-2
 returns-then-costs_more-2 g t c =
     let setting : Setting = c.args.self.now in
     let chosen : List Edge = c.args.chosen.now in
-    let lists : List (List Priced) = c.args.lists.now in
+    let lists : List (List PricedEdge) = c.args.lists.now in
     let price : price_of setting (shared_corners setting chosen) ≡ c.price_of_hiding-price.result =
     subst (λ (s : Setting). price_of s (shared_corners setting chosen) ≡ c.price_of_hiding-price.result) c.self.view_is
     (ap (λ (corners : List Corner). price_of (record { book = c.self.inside.book.now; cells = c.self.inside.cells.now; cost = c.self.inside.rule.now; table = c.self.inside.table; levels = c.self.inside.levels; codes = c.self.inside.codes.now }) corners) (sym (c.as_slice-2.ensures ∙ c.in_ok-corners.ensures)) ∙ sym c.price_of_hiding-price.ensures)
     in
-    let next : List Priced = c.list_at-next.result.now in
+    let next : List PricedEdge = c.list_at-next.result.now in
     let i = c.edges.one-index in
-    let d : Priced = record { price = 0; edge = record { code = 0; other = 0; equal = false } } in
+    let d : PricedEdge = record { price = 0; edge = record { code = 0; other = 0; equal = false } } in
     let inside : length chosen < length lists = omega (arith, c.len-k.ensures.len, c.if-k-lists.false) in
     let is : next ≡ slice_index_or lists (length chosen) [] = c.list_at-next.ensures ∙ ap (λ (k : ℕ). slice_index_or lists k []) c.len-k.ensures.len in
     let above : c.saturating_add-more.result ≤ price_of setting (shared_corners setting chosen) + (slice_index_or next i d).price =
@@ -106,14 +106,14 @@ pub edges-preserved-then-is_left : goal.edges-preserved-then-is_left
 edges-preserved-then-is_left g t c =
     let setting : Setting = c.args.self.now in
     let chosen : List Edge = c.args.chosen.now in
-    let lists : List (List Priced) = c.args.lists.now in
+    let lists : List (List PricedEdge) = c.args.lists.now in
     let price : price_of setting (shared_corners setting chosen) ≡ c.price_of_hiding-price.result =
     subst (λ (s : Setting). price_of s (shared_corners setting chosen) ≡ c.price_of_hiding-price.result) c.self.view_is
     (ap (λ (corners : List Corner). price_of (record { book = c.self.inside.book.now; cells = c.self.inside.cells.now; cost = c.self.inside.rule.now; table = c.self.inside.table; levels = c.self.inside.levels; codes = c.self.inside.codes.now }) corners) (sym (c.as_slice-2.ensures ∙ c.in_ok-corners.ensures)) ∙ sym c.price_of_hiding-price.ensures)
     in
-    let next : List Priced = c.list_at-next.result.now in
+    let next : List PricedEdge = c.list_at-next.result.now in
     let i = c.edges.one-index in
-    let d : Priced = record { price = 0; edge = record { code = 0; other = 0; equal = false } } in
+    let d : PricedEdge = record { price = 0; edge = record { code = 0; other = 0; equal = false } } in
     let inside : length chosen < length lists = omega (arith, c.len-k.ensures.len, c.if-k-lists.false) in
     let is : next ≡ slice_index_or lists (length chosen) [] = c.list_at-next.ensures ∙ ap (λ (k : ℕ). slice_index_or lists k []) c.len-k.ensures.len in
     let above : c.saturating_add-more.result ≤ price_of setting (shared_corners setting chosen) + (slice_index_or next i d).price =
@@ -131,10 +131,10 @@ pub better-requires : goal.better-requires
 better-requires g t c κs within =
     let setting : Setting = c.args.self.now in
     let chosen : List Edge = c.args.chosen.now in
-    let lists : List (List Priced) = c.args.lists.now in
-    let next : List Priced = c.list_at-next.result.now in
+    let lists : List (List PricedEdge) = c.args.lists.now in
+    let next : List PricedEdge = c.list_at-next.result.now in
     let i = c.edges.one-index in
-    let d : Priced = record { price = 0; edge = record { code = 0; other = 0; equal = false } } in
+    let d : PricedEdge = record { price = 0; edge = record { code = 0; other = 0; equal = false } } in
     let edge : Edge = (slice_index_or next i d).edge in
     let inside : length chosen < length lists = omega (arith, c.len-k.ensures.len, c.if-k-lists.false) in
     let is : next ≡ slice_index_or lists (length chosen) [] = c.list_at-next.ensures ∙ ap (λ (k : ℕ). slice_index_or lists k []) c.len-k.ensures.len in

@@ -58,10 +58,10 @@ propagate-requires-clause-naming c =
     subst (λ (lists : List (List ℕ)). IsNaming c.take_side.new.self.system lists) (sym c.as_slice.ensures.value) (subst (λ (a : FixedCells). IsNaming a.system c.args.self.now.naming.items) (sym c.in_ok-take_side.ensures.grown) c.requires.kept.listed)
 
 pub propagate-requires-clause-from : goal.propagate-requires-clause-from
-propagate-requires-clause-from c = taken_from c.args.self.now.bounds c.take_side.new.self c.index-cell.result.now c.args.up c.fixed-mark.result c.fixed-mark.ensures.value c.in_ok-take_side.ensures
+propagate-requires-clause-from c = taken_from c.args.self.now.bounds c.take_side.new.self c.index-cell.result.now c.args.up c.fix_count-mark.result c.fix_count-mark.ensures.value c.in_ok-take_side.ensures
 
 pub propagate-requires-clause-ready : goal.propagate-requires-clause-ready
-propagate-requires-clause-ready c = taken_ready c.args.self.now.bounds c.take_side.new.self c.index-cell.result.now c.args.up c.fixed-mark.result c.fixed-mark.ensures.value (c.requires.kept.hold c.requires.viable) c.in_ok-take_side.ensures
+propagate-requires-clause-ready c = taken_ready c.args.self.now.bounds c.take_side.new.self c.index-cell.result.now c.args.up c.fix_count-mark.result c.fix_count-mark.ensures.value (c.requires.kept.hold c.requires.viable) c.in_ok-take_side.ensures
 
 pub returns-clause-kept : goal.returns-clause-kept
 returns-clause-kept c =
@@ -69,11 +69,11 @@ returns-clause-kept c =
     let last : c.len.result ≡ length s.steps.items = omega (arith, c.len.ensures, s.steps.ok) in
     let read = read_cell s.cells.items c.len.result c.index-cell.result.now (omega (arith, last, c.requires.room)) c.index-cell.ensures in
     let next = next_of s.bounds s.naming.items s.cells.items s.steps.items s.viable c.len.result c.index-cell.result.now c.requires.kept c.requires.room last read in
-    partial_on s.bounds c.take_side.new.self c.propagate.new.bounds s.naming.items s.cells.items s.steps.items c.push.new.self.items s.viable c.in_ok-viable.viable c.args.up c.fixed-mark.result c.index-cell.result.now
-    c.requires.kept c.requires.viable c.requires.room next c.in_ok-push.ensures.items c.fixed-mark.ensures.value c.in_ok-take_side.ensures c.in_ok-viable.ensures.forced c.in_ok-viable.ensures.hold c.in_ok-viable.ensures.none
+    partial_on s.bounds c.take_side.new.self c.propagate.new.bounds s.naming.items s.cells.items s.steps.items c.push.new.self.items s.viable c.in_ok-viable.viable c.args.up c.fix_count-mark.result c.index-cell.result.now
+    c.requires.kept c.requires.viable c.requires.room next c.in_ok-push.ensures.items c.fix_count-mark.ensures.value c.in_ok-take_side.ensures c.in_ok-viable.ensures.forced c.in_ok-viable.ensures.hold c.in_ok-viable.ensures.none
 
 pub returns-clause-same : goal.returns-clause-same
 returns-clause-same c = on_same c.args.self.now.bounds c.take_side.new.self c.propagate.new.bounds c.index-cell.result.now c.args.up c.in_ok-take_side.ensures c.in_ok-viable.ensures.forced
 
 pub returns-clause-choices : goal.returns-clause-choices
-returns-clause-choices c = ap (λ (steps : List Step). choices_of steps) c.in_ok-push.ensures.items ∙ choices_more c.args.self.now.steps.items (c.args.up, c.fixed-mark.result)
+returns-clause-choices c = ap (λ (steps : List Step). choices_of steps) c.in_ok-push.ensures.items ∙ choices_more c.args.self.now.steps.items (c.args.up, c.fix_count-mark.result)

@@ -1,7 +1,7 @@
 use Rattle.std.proofs.Common.{arith}
 use Rattle.rounding.specs.Fixes.{fixed_cells}
 use Rattle.rounding.proofs.KeptSteps.{few_fixes}
-use Rattle.rounding.proofs.bounds.Bounds.fixed.Goals as goal
+use Rattle.rounding.proofs.bounds.Bounds.fix_count.Goals as goal
 
 pub returns-clause-most : goal.returns-clause-most
 returns-clause-most c =

@@ -1,7 +1,7 @@
 use Rattle.std.proofs.Common.{ℕ, subst}
 use Rattle.tabulate.specs.TabulatedMarks.{AreTabulated}
 use Rattle.job_inputs.proofs.Filling.{scale-range, rows-are}
-use Rattle.job_inputs.proofs.filled.filled.Goals as goal
+use Rattle.job_inputs.proofs.filled.book_with_records.Goals as goal
 
 pub tabulate-requires-clause-scale_from_one : goal.tabulate-requires-clause-scale_from_one
 tabulate-requires-clause-scale_from_one c = (scale-range c.args.described.now c.requires.sound).0
