@@ -16,12 +16,12 @@ use crate::lines::check_worlds;
 use crate::methods::{check_method, is_rounding};
 use crate::needing::check_needs;
 use crate::outside::check_outside;
-use crate::planned::planned_hidden;
 use crate::release::check_release;
 use crate::repairing::check_repairs;
 use crate::rounded::check_rounded;
 use crate::steps::check_steps;
 use certificate::Certificate;
+use repair::planned_hidden;
 use sdc_base::{Hidden, Text};
 use std::alloc::Global;
 

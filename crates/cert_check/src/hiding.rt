@@ -1,9 +1,9 @@
-ghost use Rattle.std.specs.Prelude.{◌≡◌, ◌<◌, ◌^◌, length, fold, All, IfOk};
+ghost use Rattle.std.specs.Prelude.{◌≡◌, ◌<◌, ◌^◌, length, All, IfOk};
 ghost use Rattle.worlds.specs.ProtectFaults.{primary_shown, fixed_hidden};
-ghost use Rattle.repair.specs.HidingOrder.{hide};
 ghost use Rattle.cert_check.specs.HiddenSet as spec;
 
 use crate::faults::CheckFault;
+use repair::hide_all;
 use sdc_base::{Cell, Hidden, Items, Memory};
 use std::alloc::Global;
 
@@ -17,16 +17,6 @@ pub(crate) fn hidden_set(alloc: Global, cells: u32, numbers: &[u32]) -> Result<H
     Ok(Hidden {
         flags: Items::new(flags),
     })
-}
-
-/// Hides these cells.
-pub(crate) fn hide_all(flags: &mut [bool], cells: &[u32])
-    requires { All (λ cell. cell < length flags.old) cells.now }
-    ensures { flags.new ≡ fold hide flags.old cells.now }
-{
-    for cell in cells {
-        flags[*cell as usize] = true;
-    }
 }
 
 /// Refuses a hidden set in which a primary cell is shown or a fixed one hidden.

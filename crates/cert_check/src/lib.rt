@@ -12,7 +12,6 @@ mod methods;
 mod needing;
 mod numbering;
 mod outside;
-mod planned;
 mod release;
 mod repairing;
 mod rounded;

@@ -52,8 +52,7 @@ fn find_cheapest(cells: &[Cell], flags: &[bool], prices: &[u64], counts: &[i128]
     requires counts { length counts.now ≡ length cells.now }
     requires fewer_than_2_32 { length cells.now < 2 ^ 32 }
     ensures none { IfNone result ((number : ℕ) → breaks_at cells.now flags.now (number_at counts.now) number ≡ false) }
-    ensures cheapest { IfSome result (λ number. IsCheapest cells.now prices.now flags.now (number_at counts.now) number)
-        }
+    ensures cheapest { IfSome result (λ number. IsCheapest cells.now prices.now flags.now (number_at counts.now) number) }
 {
     let mut best = None;
     for (number, cell) in cells.iter().enumerate() {

@@ -19,6 +19,7 @@ mod trying;
 mod verdict;
 
 pub use laws::{open_set_holds, questions_are_in_order};
+pub use planned::{hide_all, planned_hidden};
 pub use protecting::protect;
 pub use questions::questions_of;
 pub use stopped::Stopped;

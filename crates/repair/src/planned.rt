@@ -5,12 +5,9 @@ ghost use Rattle.repair.specs.HidingOrder.{hide, corners_of, planned_set};
 use sdc_base::{Cell, Hidden, Items, Memory, PlanStep};
 use std::alloc::Global;
 
-// The hidden set with which repairing begins: the primary cells and the corners of the steps.
-pub(crate) fn make_planned_set(
-    alloc: Global,
-    cells: &[Cell],
-    steps: &[PlanStep],
-) -> Result<Hidden, Memory>
+/// The hidden set of a plan, with which repairing begins: the primary cells and the corners of the steps, which are
+/// numbers of these cells. Its one refusal is want of memory.
+pub fn planned_hidden(alloc: Global, cells: &[Cell], steps: &[PlanStep]) -> Result<Hidden, Memory>
     requires corners { All (λ corner. corner < length cells.now) (corners_of steps.now) }
     ensures { IfOk result (λ hidden. hidden.flags ≡ planned_set cells.now (corners_of steps.now)) }
 {
@@ -42,8 +39,8 @@ fn hide_corners(flags: &mut [bool], steps: &[PlanStep])
     }
 }
 
-// Hides these cells.
-fn hide_all(flags: &mut [bool], cells: &[u32])
+/// Hides these cells, each of which has a flag.
+pub fn hide_all(flags: &mut [bool], cells: &[u32])
     requires { All (λ cell. cell < length flags.old) cells.now }
     ensures { flags.new ≡ fold hide flags.old cells.now }
 {

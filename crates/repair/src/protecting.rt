@@ -9,7 +9,7 @@ ghost use Rattle.repair.specs.Stops.{StopsAsTold};
 ghost use Rattle.repair.specs.QuestionSteps.{IsRepairedForAll};
 ghost use Rattle.repair.specs.Verdicts.{IsVerdict, IsNarrowed, is_cannot};
 
-use crate::planned::make_planned_set;
+use crate::planned::planned_hidden;
 use crate::prices::list_prices;
 use crate::progress::Progress;
 use crate::questions::questions_of;
@@ -82,7 +82,7 @@ pub fn protect<'a, F: TellsCosts>(
     let Ok(questions) = questions_of(alloc, cells) else {
         return Err(out_of_memory(alloc));
     };
-    let Ok(hidden) = make_planned_set(alloc, cells, trail.steps.as_slice()) else {
+    let Ok(hidden) = planned_hidden(alloc, cells, trail.steps.as_slice()) else {
         return Err(out_of_memory(alloc));
     };
     let Ok(mut scratch) = Vec::from_elem(alloc, 0, cells.len()) else {
@@ -144,8 +144,7 @@ fn narrowed_question<'a>(
     requires scratch { length scratch.old ≡ task.now.system.now.cells }
     requires each { length repaired.hidden.flags ≡ task.now.system.now.cells }
     requires permitted { IsPermitted task.now.cells.now repaired.hidden.flags }
-    requires served { AreServed (case_of task.now) repaired.hidden.flags (asked_of 0 task.now.cells.now) repaired.worlds
-        }
+    requires served { AreServed (case_of task.now) repaired.hidden.flags (asked_of 0 task.now.cells.now) repaired.worlds }
     ensures verdict { IfOk result (λ verdict. (planned : List Bool) → IsRepairedForAll task.now planned repaired
         → IsVerdict (case_of task.now) task.now.prices.now planned verdict) }
     ensures stopped { IfErr result (λ stopped. (planned : List Bool) → IsRepairedForAll task.now planned repaired
@@ -173,8 +172,7 @@ fn verdict_of<'a>(
     requires scratch { length scratch.old ≡ task.now.system.now.cells }
     requires each { length progress.hidden.flags ≡ task.now.system.now.cells }
     requires permitted { IsPermitted task.now.cells.now progress.hidden.flags }
-    requires served { AreServed (case_of task.now) progress.hidden.flags (asked_of 0 task.now.cells.now) progress.worlds
-        }
+    requires served { AreServed (case_of task.now) progress.hidden.flags (asked_of 0 task.now.cells.now) progress.worlds }
     ensures { (planned : List Bool) → IsNarrowed task.now planned progress needs
         → IsVerdict (case_of task.now) task.now.prices.now planned result }
 {

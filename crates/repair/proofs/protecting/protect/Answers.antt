@@ -19,15 +19,15 @@ invariant_of-task g c = record {
 
 pub settle-requires-clause-each : goal.settle-requires-clause-each
 settle-requires-clause-each g c =
-    ap (λ (l : List Bool). length l) c.in-Ok-make_planned_set.ensures
+    ap (λ (l : List Bool). length l) c.in-Ok-planned_hidden.ensures
     ∙ ap (λ steps. length (planned_set c.args.cells.now (corners_of steps))) c.as_slice.ensures
     ∙ planned_length c.args.cells.now (corners_of c.args.trail.now.steps) ∙ c.requires.cells
 
 pub settle-requires-clause-permitted : goal.settle-requires-clause-permitted
 settle-requires-clause-permitted g c =
-    subst (IsPermitted c.args.cells.now) (sym (c.in-Ok-make_planned_set.ensures ∙ ap (λ steps. planned_set c.args.cells.now (corners_of steps)) c.as_slice.ensures))
+    subst (IsPermitted c.args.cells.now) (sym (c.in-Ok-planned_hidden.ensures ∙ ap (λ steps. planned_set c.args.cells.now (corners_of steps)) c.as_slice.ensures))
     (planned_permitted c.args.cells.now (corners_of c.args.trail.now.steps) c.requires.corners)
 
 pub returns-clause-cannot : goal.returns-clause-cannot
 returns-clause-cannot g c =
-    where_ok c.settle.result c.settle.ensures.verdict (λ verdict is. cannot_where (case c.args.system.now c.args.cells.now) c.deref.result.now c.in-Ok-make_planned_set.hidden.flags verdict is)
+    where_ok c.settle.result c.settle.ensures.verdict (λ verdict is. cannot_where (case c.args.system.now c.args.cells.now) c.deref.result.now c.in-Ok-planned_hidden.hidden.flags verdict is)
