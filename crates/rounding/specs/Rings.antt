@@ -6,6 +6,8 @@ use Rattle.sdc_base.specs.Systems.{Numbers}
 use Rattle.sdc_base.specs.Roundings.{number_at}
 use Rattle.rounding.specs.Neighbours.{is_multiple, multiple_down}
 use Rattle.rounding.specs.Tasks.{IsTruth}
+use Rattle.rounding.specs.Arcs.{IsBalanced, IsNetwork}
+use Rattle.rounding.specs.declared.arcs.Arc.{Arc}
 
 -- a number on its way from a truth to one of its neighbours; a truth that is a multiple stays
 pub record IsBeside (base truth number : ℤ) : Type 0 where
@@ -20,6 +22,14 @@ pub record AreBeside (truths : List ℤ) (base : ℤ) (numbers : List ℤ) : Typ
   pub within : All IsTruth truths
   pub each : length numbers ≡ length truths
   pub beside : (cell : ℕ) → cell < length truths → IsBeside base (number_at truths cell) (number_at numbers cell)
+
+-- numbers beside the truths of a network's cells, as much of them coming in at each point as going out
+pub record IsBalancedBeside (arcs : List Arc) (touching : List (List ℕ)) (truths : List ℤ) (base : ℤ)
+    (numbers : List ℤ) : Type 0 where
+  pub network : IsNetwork arcs touching
+  pub each : length arcs ≡ length numbers
+  pub balanced : IsBalanced arcs (length touching) (number_at numbers)
+  pub beside : AreBeside truths base numbers
 
 -- what was a multiple is one
 abbrev pub KeepMultiples : ℤ → List ℤ → List ℤ → Type 0

@@ -3,8 +3,8 @@ ghost use Rattle.std.specs.List.{Contains};
 ghost use Rattle.std.specs.List.Sorted.{IsNonDecreasing};
 ghost use Rattle.sdc_base.specs.Roundings.{number_at};
 ghost use Rattle.rounding.specs.Neighbours as spec;
-ghost use Rattle.rounding.specs.Arcs.{IsBalanced, IsNetwork, arc_at};
-ghost use Rattle.rounding.specs.Rings.{AreBeside, AreWholeBelow};
+ghost use Rattle.rounding.specs.Arcs.{arc_at};
+ghost use Rattle.rounding.specs.Rings.{AreBeside, AreWholeBelow, IsBalancedBeside};
 ghost use Rattle.rounding.specs.Circuits.{IsMove, IsAlong, GoesRound};
 
 use crate::network::Network;
@@ -36,10 +36,8 @@ pub(crate) fn walk_from(
     numbers: &[i128],
     cell: u32,
 ) -> Result<Walk, Memory>
-    requires network { IsNetwork network.now.arcs.items network.now.touching.items }
-    requires each { length network.now.arcs.items ≡ length numbers.now }
-    requires balanced { IsBalanced network.now.arcs.items (length network.now.touching.items) (number_at numbers.now) }
-    requires beside { AreBeside task.now.truths.now task.now.base numbers.now }
+    requires balanced { IsBalancedBeside network.now.arcs.items network.now.touching.items task.now.truths.now
+        task.now.base numbers.now }
     requires cell { cell < length numbers.now }
     requires first { AreWholeBelow task.now.base numbers.now cell }
     requires partly { spec.is_multiple task.now.base (number_at numbers.now cell) ≡ false }
@@ -60,10 +58,8 @@ pub(crate) fn walk_from(
 
 // The step behind one that ends at another point than it starts from: over another cell that isn't a multiple.
 fn next_step(network: &Network, task: &Task<'_>, numbers: &[i128], first: u32, step: Step) -> Step
-    requires network { IsNetwork network.now.arcs.items network.now.touching.items }
-    requires each { length network.now.arcs.items ≡ length numbers.now }
-    requires balanced { IsBalanced network.now.arcs.items (length network.now.touching.items) (number_at numbers.now) }
-    requires beside { AreBeside task.now.truths.now task.now.base numbers.now }
+    requires balanced { IsBalancedBeside network.now.arcs.items network.now.touching.items task.now.truths.now
+        task.now.base numbers.now }
     requires first { AreWholeBelow task.now.base numbers.now first }
     requires moves { IsMove task.now.base numbers.now step }
     requires along { IsAlong (arc_at network.now.arcs.items step.cell) step }

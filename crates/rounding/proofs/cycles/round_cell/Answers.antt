@@ -5,6 +5,14 @@ use Rattle.rounding.specs.Circuits.{IsWalk, start_at}
 use Rattle.rounding.proofs.Circling.{round_ready}
 use Rattle.rounding.proofs.cycles.round_cell.Goals as goal
 
+pub walk_from-requires-clause-balanced : goal.walk_from-requires-clause-balanced
+walk_from-requires-clause-balanced c = record {
+  network = c.requires.network;
+  each = omega (arith, c.requires.each, c.rounds.auto.numbers);
+  balanced = c.rounds.invariant.balanced;
+  beside = c.rounds.invariant.beside;
+}
+
 pub walk_from-requires-clause-first : goal.walk_from-requires-clause-first
 walk_from-requires-clause-first c = λ cell below. c.rounds.invariant.multiples cell (omega (arith, below, c.requires.cell)) (c.requires.first cell below)
 

@@ -11,18 +11,18 @@ pub place_from-requires : goal.place_from-requires
 place_from-requires c =
     let arcs = c.args.network.now.arcs.items in
     let touching = c.args.network.now.touching.items in
-    let below : c.args.step.cell < length arcs = omega (arith, c.requires.each, c.requires.moves.inside) in
-    let is = read_cells touching c.args.step.end c.index.result.now c.as_slice-cells.result.now (ends_inside arcs touching c.args.step c.requires.network below c.requires.along) c.index.ensures c.as_slice-cells.ensures in
-    subst IsNonDecreasing (sym is) (c.requires.network.touched.ascending c.args.step.end)
+    let below : c.args.step.cell < length arcs = omega (arith, c.requires.balanced.each, c.requires.moves.inside) in
+    let is = read_cells touching c.args.step.end c.index.result.now c.as_slice-cells.result.now (ends_inside arcs touching c.args.step c.requires.balanced.network below c.requires.along) c.index.ensures c.as_slice-cells.ensures in
+    subst IsNonDecreasing (sym is) (c.requires.balanced.network.touched.ascending c.args.step.end)
 
 pub other_cell-requires-clause-within : goal.other_cell-requires-clause-within
 other_cell-requires-clause-within c =
     let arcs = c.args.network.now.arcs.items in
     let touching = c.args.network.now.touching.items in
-    let below : c.args.step.cell < length arcs = omega (arith, c.requires.each, c.requires.moves.inside) in
-    let is = read_cells touching c.args.step.end c.index.result.now c.as_slice-cells.result.now (ends_inside arcs touching c.args.step c.requires.network below c.requires.along) c.index.ensures c.as_slice-cells.ensures in
-    let all = subst (λ (n : ℕ). All (λ (cell : ℕ). cell < n) c.as_slice-cells.result.now) c.requires.each
-    (subst (λ (cells : List ℕ). All (λ (cell : ℕ). cell < length arcs) cells) (sym is) (cells_inside arcs touching c.args.step.end c.requires.network)) in
+    let below : c.args.step.cell < length arcs = omega (arith, c.requires.balanced.each, c.requires.moves.inside) in
+    let is = read_cells touching c.args.step.end c.index.result.now c.as_slice-cells.result.now (ends_inside arcs touching c.args.step c.requires.balanced.network below c.requires.along) c.index.ensures c.as_slice-cells.ensures in
+    let all = subst (λ (n : ℕ). All (λ (cell : ℕ). cell < n) c.as_slice-cells.result.now) c.requires.balanced.each
+    (subst (λ (cells : List ℕ). All (λ (cell : ℕ). cell < length arcs) cells) (sym is) (cells_inside arcs touching c.args.step.end c.requires.balanced.network)) in
     subst (λ (cells : List ℕ). All (λ (cell : ℕ). cell < length c.args.numbers.now) cells) (sym c.cells_behind-left.ensures) (All-drop (λ (cell : ℕ). cell < length c.args.numbers.now) c.place_from.result c.as_slice-cells.result.now all)
 
 pub unreachable-requires : goal.unreachable-requires
@@ -32,12 +32,12 @@ unreachable-requires c =
     let base = c.args.task.now.base in
     let numbers = c.args.numbers.now in
     let cells = c.as_slice-cells.result.now in
-    let below : c.args.step.cell < length arcs = omega (arith, c.requires.each, c.requires.moves.inside) in
-    let is = read_cells touching c.args.step.end c.index.result.now c.as_slice-cells.result.now (ends_inside arcs touching c.args.step c.requires.network below c.requires.along) c.index.ensures c.as_slice-cells.ensures in
+    let below : c.args.step.cell < length arcs = omega (arith, c.requires.balanced.each, c.requires.moves.inside) in
+    let is = read_cells touching c.args.step.end c.index.result.now c.as_slice-cells.result.now (ends_inside arcs touching c.args.step c.requires.balanced.network below c.requires.along) c.index.ensures c.as_slice-cells.ensures in
     let front = All-weaker (λ (cell : ℕ). cell < c.args.first) (λ (cell : ℕ). (cell ≡ c.args.step.cell) ⊎ (is_multiple base (number_at numbers cell) ≡ true)) (λ cell under. inr (c.requires.first cell under)) (take c.place_from.result cells) c.place_from.ensures.below in
     let rest = subst (λ (list : List ℕ). All (λ (cell : ℕ). (cell ≡ c.args.step.cell) ⊎ (is_multiple base (number_at numbers cell) ≡ true)) list) c.cells_behind-left.ensures c.in_default.ensures.none in
     let all = with_front (λ (cell : ℕ). (cell ≡ c.args.step.cell) ⊎ (is_multiple base (number_at numbers cell) ≡ true)) cells c.place_from.result front rest in
-    never_stuck c.args.task.now.truths.now base arcs touching numbers c.args.step c.requires.network c.requires.each c.requires.balanced c.requires.beside c.requires.moves c.requires.along c.requires.apart
+    never_stuck c.args.task.now.truths.now base arcs touching numbers c.args.step c.requires.balanced.network c.requires.balanced.each c.requires.balanced.balanced c.requires.balanced.beside c.requires.moves c.requires.along c.requires.apart
     (subst (λ (list : List ℕ). All (λ (cell : ℕ). (cell ≡ c.args.step.cell) ⊎ (is_multiple base (number_at numbers cell) ≡ true)) list) is all)
 
 pub step_from-requires : goal.step_from-requires
@@ -45,7 +45,7 @@ step_from-requires c =
     let arcs = c.args.network.now.arcs.items in
     let touching = c.args.network.now.touching.items in
     let cells = c.as_slice-cells.result.now in
-    let below : c.args.step.cell < length arcs = omega (arith, c.requires.each, c.requires.moves.inside) in
-    let is = read_cells touching c.args.step.end c.index.result.now cells (ends_inside arcs touching c.args.step c.requires.network below c.requires.along) c.index.ensures c.as_slice-cells.ensures in
+    let below : c.args.step.cell < length arcs = omega (arith, c.requires.balanced.each, c.requires.moves.inside) in
+    let is = read_cells touching c.args.step.end c.index.result.now cells (ends_inside arcs touching c.args.step c.requires.balanced.network below c.requires.along) c.index.ensures c.as_slice-cells.ensures in
     let has = found_behind cells c.place_from.result c.in-Some.cell (subst (λ (list : List ℕ). Contains list c.in-Some.cell) c.cells_behind-left.ensures c.in-Some.ensures.another_cell.0) in
-    (found_touches arcs touching c.args.step.end c.in-Some.cell c.index-2.result.now c.requires.network (subst (λ (list : List ℕ). Contains list c.in-Some.cell) is has) c.index-2.ensures).1
+    (found_touches arcs touching c.args.step.end c.in-Some.cell c.index-2.result.now c.requires.balanced.network (subst (λ (list : List ℕ). Contains list c.in-Some.cell) is has) c.index-2.ensures).1

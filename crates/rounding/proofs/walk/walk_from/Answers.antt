@@ -11,8 +11,8 @@ steps-init c =
     let base = c.args.task.now.base in
     let numbers = c.args.numbers.now in
     let step = c.step_from-step.result in
-    let below : c.args.cell < length arcs = omega (arith, c.requires.each, c.requires.cell) in
-    let read = read_step base arcs numbers c.args.cell c.index-arc.result.now step c.requires.each c.requires.cell c.requires.partly c.index-arc.ensures c.step_from-step.ensures.cell c.step_from-step.ensures.along in
+    let below : c.args.cell < length arcs = omega (arith, c.requires.balanced.each, c.requires.cell) in
+    let read = read_step base arcs numbers c.args.cell c.index-arc.result.now step c.requires.balanced.each c.requires.cell c.requires.partly c.index-arc.ensures c.step_from-step.ensures.cell c.step_from-step.ensures.along in
     starts arcs base numbers (arc_at arcs c.args.cell).from c.new-steps.result.items step c.new-steps.ensures.items (from_read arcs c.args.cell c.index-arc.result.now step below c.index-arc.ensures c.step_from-step.ensures.start) read.0 read.1
 
 pub returns-in-Some : goal.returns-in-Some
@@ -20,6 +20,9 @@ returns-in-Some c =
     let arcs = c.args.network.now.arcs.items in
     let found = rw c.as_slice.ensures.value at c.in-Some.ensures.starts_there in
     goes_round arcs c.args.task.now.base c.args.numbers.now (arc_at arcs c.args.cell).from c.steps.steps.items c.push.new.self.items c.steps.step c.in-Some.place c.steps.invariant c.in_ok-push.ensures.items found.0 found.1
+
+pub next_step-step-requires-clause-balanced : goal.next_step-step-requires-clause-balanced
+next_step-step-requires-clause-balanced c = c.requires.balanced
 
 pub next_step-step-requires-clause-apart : goal.next_step-step-requires-clause-apart
 next_step-step-requires-clause-apart c =
@@ -31,7 +34,7 @@ steps-preserved c =
     let arcs = c.args.network.now.arcs.items in
     let next = c.next_step-step.result in
     let unmet = rw c.as_slice.ensures.value at c.in_default.ensures.none in
-    let inside : next.cell < length arcs = omega (arith, c.requires.each, c.next_step-step.ensures.moves.inside) in
+    let inside : next.cell < length arcs = omega (arith, c.requires.balanced.each, c.next_step-step.ensures.moves.inside) in
     goes_on arcs c.args.task.now.base c.args.numbers.now (arc_at arcs c.args.cell).from c.steps.steps.items c.push.new.self.items c.steps.step next c.steps.invariant c.in_ok-push.ensures.items unmet c.next_step-step.ensures.start c.next_step-step.ensures.other (inside, c.next_step-step.ensures.along) c.next_step-step.ensures.moves
 
 pub steps-smaller : goal.steps-smaller
