@@ -29,8 +29,7 @@ pub(crate) fn statement_of(
     requires table { form.table < length book.now.tables }
     requires decimals { form.decimals ≤ 13 }
     requires fewer_than_2_32 { length text.now < 2 ^ 32 }
-    ensures exact { Gives fault_itself (λ said. said) result (spec.statement_of (basis_of book.now) form line text.now)
-        }
+    ensures exact { Gives fault_itself (λ said. said) result (spec.statement_of (basis_of book.now) form line text.now) }
     ensures within { IfOk result (λ said. said.cell < length book.now.marks) }
     ensures fits { IfOk result (IsStatementOf book.now.marks) }
 {

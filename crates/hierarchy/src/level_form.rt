@@ -216,8 +216,7 @@ fn place_codes(
     requires at_most_5000 { length codes.now ≤ 5000 }
     requires shallow { (code : List ℕ) → IsIn code codes.now → level bounds.now code ≤ 8 }
     requires apart { list_any (bytes_eq total.now) codes.now ≡ false }
-    ensures nodes { IfOk result (λ nodes. nodes ≡ tree_of_codes total.now bounds.now ((total.now, None) ∷ []) codes.now)
-        }
+    ensures nodes { IfOk result (λ nodes. nodes ≡ tree_of_codes total.now bounds.now ((total.now, None) ∷ []) codes.now) }
     ensures tree { IfOk result IsCodeTree }
     ensures told { IfErr result (λ fault. fault ≡ TreeFault.Memory) }
 {

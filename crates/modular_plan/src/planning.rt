@@ -113,8 +113,7 @@ fn add_steps<F: TellsCosts>(
     requires one_each { length cells.now ≡ length book.old.marks }
     requires costed { All (λ mark. AreCosted mark.facts) book.old.marks }
     requires marked { AreMarked book.old cells.now steps.old.items }
-    ensures ok { OnOk result (steps.new.items ≡ with_subtable book.old cells.now rule.now steps.old.items subtable.now)
-        }
+    ensures ok { OnOk result (steps.new.items ≡ with_subtable book.old cells.now rule.now steps.old.items subtable.now) }
     ensures stopped { OnErr result (Begins steps.new.items
         (with_subtable book.old cells.now rule.now steps.old.items subtable.now)) }
     ensures marked { AreMarked book.new cells.now steps.new.items }
@@ -141,8 +140,7 @@ fn add_step<F: TellsCosts>(
     requires known { cell < length (book_cells.cells book.old) }
     requires costed { All (λ mark. AreCosted mark.facts) book.old.marks }
     requires marked { AreMarked book.old cells.now steps.old.items }
-    ensures ok { OnOk result (steps.new.items ≡ with_cell book.old cells.now rule.now subtable.now steps.old.items cell)
-        }
+    ensures ok { OnOk result (steps.new.items ≡ with_cell book.old cells.now rule.now subtable.now steps.old.items cell) }
     ensures stopped { OnErr result (steps.new.items ≡ steps.old.items) }
     ensures marked { AreMarked book.new cells.now steps.new.items }
     ensures same { IsSameButHidden book.old book.new }

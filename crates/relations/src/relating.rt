@@ -24,8 +24,7 @@ use std::alloc::Global;
 /// each table; its one refusal is want of memory.
 pub fn relations_of(alloc: Global, book: &Book) -> Result<System, Memory>
     ensures cells { IfOk result (λ system. system.cells ≡ length (book_cells.cells book.now)) }
-    ensures exact { IfOk result (λ system. map sum_in system.relations ≡ relations_among book.now.trees book.now.tables)
-        }
+    ensures exact { IfOk result (λ system. map sum_in system.relations ≡ relations_among book.now.trees book.now.tables) }
     ensures hold { (rows : List Record) → All (IsCoded book.now.trees) rows → HaveNoChildren book.now.trees rows
         → AreTruths book.now rows → IfOk result (λ system. HoldOnTruths book.now system) }
 {

@@ -28,8 +28,7 @@ pub(crate) fn value_there<'a>(
     requires sheet { IsSheet sheet.now }
     requires code_for_each_variable { length place.now ≡ length sheet.now.table.now }
     requires known { ForSome known IsFromZero }
-    ensures fit { IfOk result (λ fit. fit_of fit ≡ spec.value_there (form_of sheet.now) place.now bytes.now cell known)
-        }
+    ensures fit { IfOk result (λ fit. fit_of fit ≡ spec.value_there (form_of sheet.now) place.now bytes.now cell known) }
     ensures from_zero { IfOk result (λ fit. ForSome fit (λ fit. IsFromZero fit.value)) }
 {
     match known {
