@@ -17,7 +17,8 @@ use Rattle.apriori.specs.declared.prior.Prior.{Prior}
 use Rattle.apriori.specs.declared.prior.Status.{Status}
 use Rattle.apriori.specs.declared.prior.Status.TheVariants.{Unsafe, Safe}
 use Rattle.apriori.specs.Faults.{LineOf}
-use Rattle.apriori.specs.Settling.{SettledCell, settled_cell, clash_of, first_of, low_of, high_of, told_of, figures_of, AreFactsIn, IsReadyFor, settle_of}
+use Rattle.apriori.specs.Settling.{SettledCell, settled_cell, low_of, high_of, told_of, figures_of, AreFactsIn, IsReadyFor, settle_of}
+use Rattle.apriori.specs.PrimaryShown.{clash_of, first_of}
 use Rattle.apriori.specs.CellLevels.{wider_levels, rule_levels, stated_or}
 
 -- the cells of two lists agree up to so many of their largest contributions

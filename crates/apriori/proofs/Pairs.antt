@@ -11,7 +11,8 @@ use Rattle.sdc_base.specs.declared.cell.Cell.{Cell}
 use Rattle.linked_tables.specs.declared.mark.Mark.{Mark}
 use Rattle.apriori.specs.declared.prior.Prior.{Prior}
 use Rattle.apriori.specs.Priors.{IsPriorOf, ArePriors}
-use Rattle.apriori.specs.Settling.{SettledCell, view_of_cell, told_of, settled_cell, clash_of, first_of, first_clash}
+use Rattle.apriori.specs.Settling.{SettledCell, view_of_cell, told_of, settled_cell}
+use Rattle.apriori.specs.PrimaryShown.{clash_of, first_of, first_clash}
 
 within : (figures : List Figures) (priors : List Prior) (cell : ℕ) → length priors ≡ length figures → cell < length priors → cell < length (zip figures priors)
 within marks priors cell same inside = let e = length-zip marks priors in omega (arith, same, inside, e)

@@ -1,6 +1,7 @@
 pub mod Priors
 pub mod Faults
 pub mod CellLevels
+pub mod PrimaryShown
 pub mod Settling
 pub mod Fields
 pub mod Keywords

@@ -1,6 +1,6 @@
 -- What each cell is to its protection: primary, fixed or free, with its levels, bounds and price (handbook, sensitive
 -- cells and protection levels; a priori statements: own).
-use Rattle.std.specs.Prelude.{◌≡◌, ◌≤◌, ◌==◌, ◌||◌, ◌&&◌, nat_lt, ℕ, Bool, is_some, if◌then◌else◌, List, length, map, fold, slice_get, Option, None, Some, unwrap_or, option_map, Result, Ok, Err, ℤ, pos, Vec}
+use Rattle.std.specs.Prelude.{◌≡◌, ◌≤◌, ◌==◌, ◌||◌, ℕ, is_some, if◌then◌else◌, List, length, map, slice_get, Option, Some, unwrap_or, option_map, Result, Ok, ℤ, pos, Vec}
 use Rattle.std.specs.List.{zip}
 use Rattle.sdc_base.specs.Steps.{◌>>=◌}
 use Rattle.sdc_base.specs.Trees.{Tree}
@@ -16,12 +16,12 @@ use Rattle.primary_rules.specs.Ranges.{IsTruth}
 use Rattle.linked_tables.specs.declared.mark.Mark.{Mark}
 use Rattle.apriori.specs.declared.prior.Prior.{Prior}
 use Rattle.apriori.specs.declared.faults.PriorWhy.{PriorWhy}
-use Rattle.apriori.specs.declared.faults.PriorWhy.TheVariants.{ProtectedPrimary}
 use Rattle.apriori.specs.Faults.{LineOf, fault_of}
 use Rattle.apriori.specs.CellLevels.{is_primary, levels_of}
 use Rattle.std.specs.declared.alloc.Global.{Global}
 use Rattle.sdc_base.specs.Answers.{Gives}
 use Rattle.apriori.specs.declared.faults.PriorError.{PriorError}
+use Rattle.apriori.specs.PrimaryShown.{first_clash, refuse_line}
 
 -- what a cell is to its protection, all amounts in units
 pub record SettledCell : Type 0 where
@@ -93,29 +93,6 @@ settled_cell rules cell prior = record {
   kind = kind_of rules cell prior;
   price = prior.price;
 }
-
--- a line comes before another: by table, and then by line
-abbrev pub is_before : LineOf → LineOf → Bool
-is_before one other = nat_lt one.0 other.0 || ((one.0 == other.0) && nat_lt one.1 other.1)
-
--- the first of two lines that may be there
-abbrev pub first_of : Option LineOf → Option LineOf → Option LineOf
-first_of None other = other
-first_of (Some one) None = Some one
-first_of (Some one) (Some other) = Some (if is_before other one then other else one)
-
--- the line by which a primary cell is to be always shown
-abbrev pub clash_of : Rules → Figures → Prior → Option LineOf
-clash_of rules cell prior = if is_primary rules cell prior then prior.keep else None
-
--- the first of these lines, over all cells
-abbrev pub first_clash : Rules → List (Figures × Prior) → Option LineOf
-first_clash rules cells = fold (λ first cell. first_of first (clash_of rules cell.0 cell.1)) None cells
-
--- that line is a fault
-abbrev pub refuse_line : Option LineOf → Result (Unit {0}) (LineOf × PriorWhy)
-refuse_line None = Ok tt
-refuse_line (Some line) = Err (line, ProtectedPrimary)
 
 -- the cells with these figures and priors, or the first line by which a primary cell is to be always shown
 unfoldable pub settle_of : Rules → List Figures → List Prior → Result (List SettledCell) (LineOf × PriorWhy)

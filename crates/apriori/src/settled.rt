@@ -7,6 +7,7 @@ ghost use Rattle.apriori.specs.Priors.{CanBeLevels, AreBounds, IsPriorOf};
 ghost use Rattle.apriori.specs.Settling.{view_of_cell};
 ghost use Rattle.apriori.specs.CellLevels.{AreOpen, HasLevelsInRange};
 ghost use Rattle.apriori.specs.Settling as spec;
+ghost use Rattle.apriori.specs.PrimaryShown as primary_shown;
 ghost use Rattle.apriori.specs.CellLevels as cell_levels;
 
 use crate::prior::{Prior, Status};
@@ -52,7 +53,7 @@ pub(crate) fn clash_of(rules: &Rules, facts: &CellFacts, prior: &Prior) -> Optio
     requires truth { IsTruth facts.now.truth }
     requires kept { keep_of rules.now.list ≤ facts.now.tops.keep }
     requires prior { IsPriorOf facts.now prior.now }
-    ensures { result ≡ spec.clash_of rules.now (figures_of_facts facts.now) prior.now }
+    ensures { result ≡ primary_shown.clash_of rules.now (figures_of_facts facts.now) prior.now }
 {
     if primary_levels(rules, facts, prior).is_some() {
         prior.keep

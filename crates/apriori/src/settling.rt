@@ -4,9 +4,11 @@ ghost use Rattle.sdc_base.specs.Answers.{Gives};
 ghost use Rattle.primary_rules.specs.Ranges.{AreInRange};
 ghost use Rattle.apriori.specs.Faults.{fault_of};
 ghost use Rattle.apriori.specs.Priors.{ArePriors};
-ghost use Rattle.apriori.specs.Settling.{view_of_cell, told_of, IsReadyFor, first_of, settle_of, GivesCells, OverRecords};
+ghost use Rattle.apriori.specs.Settling.{view_of_cell, told_of, IsReadyFor, settle_of, GivesCells, OverRecords};
+ghost use Rattle.apriori.specs.PrimaryShown.{first_of};
 ghost use Rattle.apriori.specs.CellLevels.{HasLevelsInRange};
 ghost use Rattle.apriori.specs.Settling as spec;
+ghost use Rattle.apriori.specs.PrimaryShown as primary_shown;
 
 use crate::faults::{PriorError, PriorWhy};
 use crate::prior::Prior;
@@ -76,7 +78,7 @@ fn first_clash(marks: &[Mark], rules: &Rules, priors: &[Prior]) -> Option<(u32, 
     requires in_range { AreInRange rules.now }
     requires ready { All (IsReadyFor rules.now) marks.now }
     requires priors { ArePriors marks.now priors.now }
-    ensures { result ≡ spec.first_clash rules.now (zip (told_of marks.now) priors.now) }
+    ensures { result ≡ primary_shown.first_clash rules.now (zip (told_of marks.now) priors.now) }
 {
     let mut first = None;
     'cells: for (cell, prior) in priors.iter().enumerate() {
@@ -119,7 +121,7 @@ fn first_line(one: Option<(u32, u32)>, other: Option<(u32, u32)>) -> Option<(u32
 
 // Whether a line comes before another: by table, and then by line.
 fn is_before(one: (u32, u32), other: (u32, u32)) -> bool
-    ensures { result ≡ spec.is_before one other }
+    ensures { result ≡ primary_shown.is_before one other }
 {
     one.0 < other.0 || (one.0 == other.0 && one.1 < other.1)
 }

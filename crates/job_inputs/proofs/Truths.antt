@@ -6,7 +6,8 @@ use Rattle.sdc_base.specs.RuleLevels.{Figures}
 use Rattle.sdc_base.specs.declared.cell.Cell.{Cell}
 use Rattle.sdc_base.specs.declared.rule.Rules.{Rules}
 use Rattle.apriori.specs.Faults.{LineOf}
-use Rattle.apriori.specs.Settling.{SettledCell, view_of_cell, told_of, settled_cell, first_clash, refuse_line, settle_of}
+use Rattle.apriori.specs.Settling.{SettledCell, view_of_cell, told_of, settled_cell, settle_of}
+use Rattle.apriori.specs.PrimaryShown.{first_clash, refuse_line}
 use Rattle.apriori.specs.declared.prior.Prior.{Prior}
 use Rattle.linked_tables.specs.declared.mark.Mark.{Mark}
 

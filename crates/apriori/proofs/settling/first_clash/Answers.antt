@@ -2,7 +2,8 @@ use Rattle.std.proofs.Common.{◌≡◌, ℕ, take, length, ap, sym, ◌∙◌, 
 use Rattle.std.specs.Prelude.{Option}
 use Rattle.std.specs.List.{zip}
 use Rattle.apriori.specs.Faults.{LineOf}
-use Rattle.apriori.specs.Settling.{first_of, first_clash, told_of}
+use Rattle.apriori.specs.Settling.{told_of}
+use Rattle.apriori.specs.PrimaryShown.{first_of, first_clash}
 use Rattle.apriori.proofs.Pairs.{prior_at, clash_more, all_pairs}
 use Rattle.apriori.proofs.settling.first_clash.Goals as goal
 
