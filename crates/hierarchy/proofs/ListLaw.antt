@@ -79,7 +79,7 @@ with-kept total before kept line fresh room so = record {
     | inr here ↦ inr (inr (subst (λ (l : List ℕ). IsIn (code_of_line l) (kept ++ code_of_line line ∷ [])) (sym here) (in-behind kept (code_of_line line ∷ []) (code_of_line line) (inl refl))))
   ];
   once = IsDistinct-push nat_list_eq_equiv kept (code_of_line line) so.once fresh.new;
-  few = omega (arith, room, length-append kept (code_of_line line ∷ []));
+  at_most_5000 = omega (arith, room, length-append kept (code_of_line line ∷ []));
 }
 
 not-full : (n : ℕ) → nat_le 5000 n ≡ false → n < 5000
@@ -101,7 +101,7 @@ listed-on total n (line ∷ texts) before kept given so h =
 
 start : (total : List ℕ) → AreTheListed total [] []
 unfolding IsDistinct
-start total = record { each = λ code none. absurd none; all = λ line none. absurd none; once = tt; few = omega arith }
+start total = record { each = λ code none. absurd none; all = λ line none. absurd none; once = tt; at_most_5000 = omega arith }
 
 pub list_gives_its_codes : ListGivesItsCodes
 list_gives_its_codes total bytes kept h = listed-on total 1 (lines bytes) [] [] kept (start total) h

@@ -132,7 +132,7 @@ made_known draft is placed =
         once = is.once;
         variables = is.names;
       };
-      few = is.few;
+      at_most_8_tables = is.few;
       variables = is.variables;
       outputs = known (λ outputs. length outputs ≡ length draft.tables) (outputs_from (length draft.tables) 0 draft.said) outputs (outputs_known (length draft.tables) 0 draft.said) h5;
       priors = placed;
