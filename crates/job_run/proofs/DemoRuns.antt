@@ -64,7 +64,7 @@ says seed records (Err stop.Memory) after tray demo calm still meets cause relea
 pub record WentOn (name : List ℕ) (outcome : Result Release Stop) (old new : ShelfState) (before after : TrayState) : Type 0 where
   pub told : WhereTold old.files (λ fs. AgreesWith (report_of outcome) (settled_of purpose.Release fs name))
   pub left : WhereTold old.files (λ fs. LeavesTray (report_of outcome) (settled_of purpose.Release fs name) before after)
-  pub some : OnOk outcome ((count : ℕ) × (2 ≤ count) × (count ≤ 9) × (after.puts ≡ count_after before.puts count))
+  pub two_to_nine_puts : OnOk outcome ((count : ℕ) × (2 ≤ count) × (count ≤ 9) × (after.puts ≡ count_after before.puts count))
   pub released : WhereTold old.files (λ fs. IfOk outcome (λ release. HasReleased fs name release before after))
   pub cause : HasCause (report_of outcome) old new before after
   pub come : WhereTold old.files (λ fs. HasComeTo (ComesTo purpose.Release fs name) (report_of outcome) fs new)
