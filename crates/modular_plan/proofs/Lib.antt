@@ -1,6 +1,9 @@
 pub mod DepthSteps
 pub mod SubtableLists
-pub mod PlaceTests
+pub mod AscendingNumbers
+pub mod PlaceCells
+pub mod CodeLists
+pub mod PlaceLists
 pub mod Marked
 pub mod SameBooks
 pub mod PlanSteps

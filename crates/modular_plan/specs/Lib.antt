@@ -1,4 +1,5 @@
 pub mod Plans
+pub mod SubtablePlaces
 pub mod Beginnings
 pub mod DepthLaws
 pub mod StepLaws

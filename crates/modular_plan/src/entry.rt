@@ -1,17 +1,19 @@
-ghost use Rattle.std.specs.Prelude.{◌≡◌, ◌<◌, ◌≤◌, ◌++◌, ◌∷◌, ◌==◌, ◌&&◌, [], false, if◌then◌else◌, length, map, slice_index, slice_index_or, slice_get, All, IfOk, OnOk};
+ghost use Rattle.std.specs.Prelude.{◌≡◌, ◌<◌, ◌≤◌, [], length, fold, drop, slice_get, slice_index_or, All, IfOk, OnOk};
 ghost use Rattle.std.specs.Option.{option_map_or};
-ghost use Rattle.sdc_base.specs.Trees.{is_child, parent_at};
-ghost use Rattle.sdc_base.specs.Subtables as spec;
-ghost use Rattle.linked_tables.specs.BookCells.{cells, cell_at};
+ghost use Rattle.sdc_base.specs.Cubes as spec;
+ghost use Rattle.hierarchy.specs.Children.{next_sibling};
+ghost use Rattle.linked_tables.specs.BookCells.{cells};
 ghost use Rattle.hypercube.specs.LeastCubes.{is_marked};
 ghost use Rattle.modular_plan.specs.Plans as plans;
+ghost use Rattle.modular_plan.specs.SubtablePlaces as subtable_places;
 
-use arrayvec::ArrayVec;
+use crate::subtables::first_child_of;
 use linked_tables::Book;
-use sdc_base::{Few, Items, Memory, Place, Subtable};
+use sdc_base::{Few, Items, Memory, Place, Subtable, with_code};
 use std::alloc::Global;
+use std::collections::BTreeSet;
 
-/// The hidden cells of a subtable, by their numbers upwards.
+/// The hidden cells of a subtable, by their numbers upwards. It takes one look-up for each place of the subtable.
 pub(crate) fn hidden_in(
     alloc: Global,
     book: &Book,
@@ -20,24 +22,62 @@ pub(crate) fn hidden_in(
     ensures cells { IfOk result (λ found. found ≡ plans.hidden_in book.now (is_marked book.now) subtable.now) }
     ensures within { IfOk result (λ found. All (λ cell. cell < length (cells book.now)) found) }
 {
-    let mut found = Vec::new(alloc);
-    'cells: for cell in 0..book.cells() {
-        add_cell(book, subtable, cell, &mut found)?;
-    }
-    Ok(Items::new(found))
+    // for the proof: what holds of every book
+    let _cells = book.cells();
+    let lists = code_lists(alloc, book, subtable)?;
+    let mut found = BTreeSet::new(alloc);
+    add_places(
+        book,
+        subtable.table,
+        lists.as_slice(),
+        &Few::empty(),
+        &mut found,
+    )?;
+    let numbers = numbers_in(alloc, found)?;
+    Ok(Items::new(numbers))
 }
 
-// Adds a cell, where it is hidden and one of the subtable.
-fn add_cell(book: &Book, subtable: &Subtable, cell: u32, found: &mut Vec<u32>) -> Result<(), Memory>
-    requires known { cell < length (cells book.now) }
-    requires named { All (λ one. one < length (cells book.now)) found.old.items }
-    ensures within { OnOk result (All (λ one. one < length (cells book.now)) found.new.items) }
-    ensures added { OnOk result (found.new.items
-        ≡ (if is_marked book.now cell && plans.is_cell_of book.now subtable.now cell then found.old.items ++ cell ∷ []
-        else found.old.items)) }
+// The numbers of a set, upwards.
+fn numbers_in(alloc: Global, set: BTreeSet<u32>) -> Result<Vec<u32>, Memory>
+    ensures { IfOk result (λ numbers. numbers.items ≡ set.keys) }
 {
-    if is_hidden(book, cell) && is_cell_of(book, subtable, cell) {
-        found.push(cell)?;
+    let numbers = set.into_iter().collect(alloc)?;
+    Ok(numbers)
+}
+
+// Adds the hidden cells at the places of table t that begin so and go on with a code of each list that is left.
+fn add_places(
+    book: &Book,
+    t: u32,
+    lists: &[Items<u32>],
+    begun: &Place,
+    found: &mut BTreeSet<u32>,
+) -> Result<(), Memory>
+    requires at_most_8 { length lists.now ≤ 8 }
+    ensures { OnOk result (found.new.keys ≡ fold (subtable_places.with_place book.now t) found.old.keys
+        (subtable_places.places_below begun.now (drop (length begun.now) lists.now))) }
+{
+    let k = begun.len();
+    if k >= lists.len() {
+        return add_place(book, t, begun, found);
+    }
+    let list = &lists[k];
+    'codes: for code in list.as_slice() {
+        let longer = with_code(begun.as_slice(), *code);
+        add_places(book, t, lists, &longer, found)?;
+    }
+    Ok(())
+}
+
+// Adds the cell at a place of table t, where one stands there and is hidden.
+fn add_place(book: &Book, t: u32, place: &Place, found: &mut BTreeSet<u32>) -> Result<(), Memory>
+    ensures { OnOk result (found.new.keys ≡ subtable_places.with_place book.now t found.old.keys place.now) }
+{
+    let Some(cell) = book.id(t, place.as_slice()) else {
+        return Ok(());
+    };
+    if is_hidden(book, cell) {
+        found.insert(cell)?;
     }
     Ok(())
 }
@@ -52,104 +92,70 @@ pub(crate) fn is_hidden(book: &Book, cell: u32) -> bool
     }
 }
 
-// Whether a cell is one of a subtable.
-fn is_cell_of(book: &Book, subtable: &Subtable, cell: u32) -> bool
-    requires known { cell < length (cells book.now) }
-    ensures { result ≡ plans.is_cell_of book.now subtable.now cell }
+// The codes of a subtable, variable by variable of its table.
+fn code_lists(alloc: Global, book: &Book, subtable: &Subtable) -> Result<Vec<Items<u32>>, Memory>
+    ensures lists { IfOk result (λ lists. lists.items ≡ subtable_places.code_lists book.now.trees
+        (slice_index_or book.now.tables subtable.now.table []) subtable.now.parents) }
+    ensures at_most_8 { IfOk result (λ lists. length lists.items ≤ 8) }
 {
-    let Some(table) = book.spans(subtable.table) else {
-        return stands_at(book, subtable.table, &[], cell);
-    };
-    let place = codes_at(book, table, cell);
-    is_place_below(book, table, subtable.parents.as_slice(), place.as_slice())
-        && stands_at(book, subtable.table, place.as_slice(), cell)
-}
-
-// Whether the cell stands at a place of table t.
-fn stands_at(book: &Book, t: u32, place: &[u32], cell: u32) -> bool
-    ensures { result ≡ option_map_or (λ found. found == cell) (cell_at book.now t place.now) false }
-{
-    match book.id(t, place) {
-        Some(found) => found == cell,
-        None => false,
-    }
-}
-
-// The codes of a cell for the variables that a table spans.
-fn codes_at(book: &Book, table: &Place, cell: u32) -> Place
-    requires known { cell < length (cells book.now) }
-    ensures { result ≡ plans.codes_at book.now table.now cell }
-{
-    let mut codes: ArrayVec<u32, 8> = ArrayVec::new();
+    let mut lists = Vec::new(alloc);
+    let table = table_of(book, subtable.table);
     let few = table.len();
     'variables: for k in 0..few {
-        codes.push(code_at(book, cell, table.as_slice()[k]));
+        let variable = table.as_slice()[k];
+        let codes = codes_of(alloc, book, variable, subtable.parents.as_slice(), k)?;
+        lists.push(codes)?;
     }
-    Few::new(codes)
+    Ok(lists)
 }
 
-// The code of a cell for a variable.
-fn code_at(book: &Book, cell: u32, variable: u32) -> u32
-    ensures { result ≡ slice_index (slice_index_or (cells book.now) cell []) variable }
+// The variables that a table spans; none where there is no such table.
+fn table_of(book: &Book, t: u32) -> Place
+    ensures { result ≡ slice_index_or book.now.tables t [] }
 {
-    match book.name(cell) {
-        Some(name) => number_at(name.as_slice(), variable),
-        None => 0,
-    }
-}
-
-// The number at a place of a list, and 0 behind its end.
-fn number_at(numbers: &[u32], place: u32) -> u32
-    ensures { result ≡ slice_index numbers.now place }
-{
-    match numbers.get(place as usize) {
-        Some(number) => *number,
-        None => 0,
+    match book.spans(t) {
+        Some(table) => table.copy(),
+        None => Few::empty(),
     }
 }
 
-// Whether each code of a place is a parent or a child of it.
-fn is_place_below(book: &Book, table: &Place, parents: &[u32], place: &[u32]) -> bool
-    ensures { result ≡ spec.is_place_below book.now.trees table.now parents.now place.now }
+// The codes of a variable in a subtable whose parent for it stands at place k; none where there is no such parent.
+fn codes_of(
+    alloc: Global,
+    book: &Book,
+    variable: u32,
+    parents: &[u32],
+    k: usize,
+) -> Result<Items<u32>, Memory>
+    ensures { IfOk result (λ codes. codes
+        ≡ option_map_or (spec.codes_in (slice_index_or book.now.trees variable [])) (slice_get parents.now k) []) }
 {
-    let few = table.len();
-    'variables: for k in 0..few {
-        if k >= parents.len() {
-            return false;
-        }
-        if k >= place.len() {
-            return false;
-        }
-        if !is_code_in(book, table.as_slice()[k], parents[k], place[k]) {
-            return false;
-        }
-    }
-    true
-}
-
-// Whether a code of a variable is the parent or one of its children.
-fn is_code_in(book: &Book, variable: u32, parent: u32, code: u32) -> bool
-    ensures { result ≡ spec.is_code_in (slice_index_or book.now.trees variable []) parent code }
-{
-    code == parent || is_child_of(book, variable, parent, code)
-}
-
-// Whether a code of a variable is a child of another.
-fn is_child_of(book: &Book, variable: u32, parent: u32, code: u32) -> bool
-    ensures { result ≡ is_child (slice_index_or book.now.trees variable []) parent code }
-{
-    match parent_of(book, variable, code) {
-        Some(above) => above == parent,
-        None => false,
+    match parents.get(k) {
+        Some(parent) => codes_in(alloc, book, variable, *parent),
+        None => Ok(Items::new(Vec::new(alloc))),
     }
 }
 
-// The parent of a code of a variable.
-fn parent_of(book: &Book, variable: u32, code: u32) -> Option<u32>
-    ensures { result ≡ parent_at (slice_index_or book.now.trees variable []) code }
+// A code of a variable, and its children.
+fn codes_in(alloc: Global, book: &Book, variable: u32, parent: u32) -> Result<Items<u32>, Memory>
+    ensures { IfOk result (λ codes. codes ≡ spec.codes_in (slice_index_or book.now.trees variable []) parent) }
+{
+    let mut codes = Vec::new(alloc);
+    codes.push(parent)?;
+    let mut met = first_child_of(book, variable, parent);
+    'children: while let Some(child) = met {
+        codes.push(child)?;
+        met = next_beside(book, variable, child);
+    }
+    Ok(Items::new(codes))
+}
+
+// The next code that has the same parent.
+fn next_beside(book: &Book, variable: u32, code: u32) -> Option<u32>
+    ensures { result ≡ next_sibling (slice_index_or book.now.trees variable []) code }
 {
     match book.tree(variable) {
-        Some(tree) => tree.parent(code),
+        Some(tree) => tree.next_sibling(code),
         None => None,
     }
 }

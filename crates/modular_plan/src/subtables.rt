@@ -105,8 +105,8 @@ fn has_children(book: &Book, variable: u32, code: u32) -> bool
     first_child_of(book, variable, code).is_some()
 }
 
-// The first code right below one of a variable.
-fn first_child_of(book: &Book, variable: u32, code: u32) -> Option<u32>
+/// The first code right below one of a variable.
+pub(crate) fn first_child_of(book: &Book, variable: u32, code: u32) -> Option<u32>
     ensures { result ≡ first_child (slice_index_or book.now.trees variable []) code }
 {
     match book.tree(variable) {
