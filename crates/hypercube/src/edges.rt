@@ -1,6 +1,5 @@
 ghost use Rattle.std.specs.Prelude.{◌≡◌, ◌<◌, ◌≤◌, ◌++◌, ◌∷◌, ◌==◌, [], not, if◌then◌else◌, length, drop, slice_index, slice_index_or, IfOk, OnOk};
 ghost use Rattle.sdc_base.specs.Cubes as spec;
-ghost use Rattle.hierarchy.specs.Children.{first_child, next_sibling};
 ghost use Rattle.hypercube.specs.Branches as branches;
 
 use arrayvec::ArrayVec;
@@ -76,10 +75,10 @@ fn edges_from(
 {
     let mut edges = Vec::new(alloc);
     add_edge(parent, code, parent, &mut edges)?;
-    let mut met = first_child_of(book, variable, parent);
+    let mut met = book.first_child(variable, parent);
     'children: while let Some(child) = met {
         add_edge(parent, code, child, &mut edges)?;
-        met = next_beside(book, variable, child);
+        met = book.next_sibling(variable, child);
     }
     Ok(Items::new(edges))
 }
@@ -97,26 +96,6 @@ fn add_edge(parent: u32, code: u32, other: u32, edges: &mut Vec<Edge>) -> Result
         })?;
     }
     Ok(())
-}
-
-// The first code right below one of a variable.
-fn first_child_of(book: &Book, variable: u32, code: u32) -> Option<u32>
-    ensures { result ≡ first_child (slice_index_or book.now.trees variable []) code }
-{
-    match book.tree(variable) {
-        Some(tree) => tree.first_child(code),
-        None => None,
-    }
-}
-
-// The next code that has the same parent.
-fn next_beside(book: &Book, variable: u32, code: u32) -> Option<u32>
-    ensures { result ≡ next_sibling (slice_index_or book.now.trees variable []) code }
-{
-    match book.tree(variable) {
-        Some(tree) => tree.next_sibling(code),
-        None => None,
-    }
 }
 
 // The code of a name for a variable, and the total's where it has none.

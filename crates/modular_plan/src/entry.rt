@@ -1,13 +1,11 @@
 ghost use Rattle.std.specs.Prelude.{◌≡◌, ◌<◌, ◌≤◌, [], length, fold, drop, slice_get, slice_index_or, All, IfOk, OnOk};
 ghost use Rattle.std.specs.Option.{option_map_or};
 ghost use Rattle.sdc_base.specs.Cubes as spec;
-ghost use Rattle.hierarchy.specs.Children.{next_sibling};
 ghost use Rattle.linked_tables.specs.BookCells.{cells};
 ghost use Rattle.hypercube.specs.LeastCubes.{is_marked};
 ghost use Rattle.modular_plan.specs.Plans as plans;
 ghost use Rattle.modular_plan.specs.SubtablePlaces as subtable_places;
 
-use crate::subtables::first_child_of;
 use linked_tables::Book;
 use sdc_base::{Few, Items, Memory, Place, Subtable, with_code};
 use std::alloc::Global;
@@ -142,20 +140,10 @@ fn codes_in(alloc: Global, book: &Book, variable: u32, parent: u32) -> Result<It
 {
     let mut codes = Vec::new(alloc);
     codes.push(parent)?;
-    let mut met = first_child_of(book, variable, parent);
+    let mut met = book.first_child(variable, parent);
     'children: while let Some(child) = met {
         codes.push(child)?;
-        met = next_beside(book, variable, child);
+        met = book.next_sibling(variable, child);
     }
     Ok(Items::new(codes))
-}
-
-// The next code that has the same parent.
-fn next_beside(book: &Book, variable: u32, code: u32) -> Option<u32>
-    ensures { result ≡ next_sibling (slice_index_or book.now.trees variable []) code }
-{
-    match book.tree(variable) {
-        Some(tree) => tree.next_sibling(code),
-        None => None,
-    }
 }

@@ -2,7 +2,6 @@ ghost use Rattle.std.specs.Prelude.{◌≡◌, ◌<◌, ◌≤◌, ◌+◌, ◌+
 ghost use Rattle.sdc_base.specs.Trees.{children};
 ghost use Rattle.sdc_base.specs.Cells.{trees_of};
 ghost use Rattle.sdc_base.specs.Subtables as spec;
-ghost use Rattle.hierarchy.specs.Children.{first_child};
 ghost use Rattle.modular_plan.specs.Beginnings.{subtables_below};
 
 use linked_tables::Book;
@@ -52,7 +51,7 @@ fn inner_codes(alloc: Global, book: &Book, variable: u32) -> Result<Items<u32>, 
     ensures { IfOk result (λ codes. codes ≡ spec.inner_codes (slice_index_or book.now.trees variable [])) }
 {
     let mut codes = Vec::new(alloc);
-    let size = size_of(book, variable);
+    let size = book.size(variable);
     'codes: for code in 0..size {
         add_inner(book, variable, code as u32, &mut codes)?;
     }
@@ -102,26 +101,5 @@ fn add_choices(
 fn has_children(book: &Book, variable: u32, code: u32) -> bool
     ensures { result ≡ not (length (children (slice_index_or book.now.trees variable []) code) == 0) }
 {
-    first_child_of(book, variable, code).is_some()
-}
-
-/// The first code right below one of a variable.
-pub(crate) fn first_child_of(book: &Book, variable: u32, code: u32) -> Option<u32>
-    ensures { result ≡ first_child (slice_index_or book.now.trees variable []) code }
-{
-    match book.tree(variable) {
-        Some(tree) => tree.first_child(code),
-        None => None,
-    }
-}
-
-// How many codes a variable has.
-fn size_of(book: &Book, variable: u32) -> usize
-    ensures size { result ≡ length (slice_index_or book.now.trees variable []) }
-    ensures at_most_5001 { result ≤ 5001 }
-{
-    match book.tree(variable) {
-        Some(tree) => tree.len(),
-        None => 0,
-    }
+    book.first_child(variable, code).is_some()
 }

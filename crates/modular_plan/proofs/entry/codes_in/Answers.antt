@@ -8,16 +8,16 @@ children-init c =
     let tree = slice_index_or c.args.book.now.trees c.args.variable [] in
     let parent = c.args.parent in
     record {
-      rest = ap (λ (codes : List ℕ). codes ++ children_from tree parent c.first_child_of-met.result) (c.in_ok-push.ensures.items ∙ ap (λ (codes : List ℕ). codes ++ parent ∷ []) c.new-codes.ensures.items)
-          ∙ ap (λ (codes : List ℕ). parent ∷ codes) (ap (children_from tree parent) c.first_child_of-met.ensures ∙ sym (children-are tree parent));
-      child = λ child is. first-is_child tree parent child (sym c.first_child_of-met.ensures ∙ is);
+      rest = ap (λ (codes : List ℕ). codes ++ children_from tree parent c.first_child-met.result) (c.in_ok-push.ensures.items ∙ ap (λ (codes : List ℕ). codes ++ parent ∷ []) c.new-codes.ensures.items)
+          ∙ ap (λ (codes : List ℕ). parent ∷ codes) (ap (children_from tree parent) c.first_child-met.ensures ∙ sym (children-are tree parent));
+      child = λ child is. first-is_child tree parent child (sym c.first_child-met.ensures ∙ is);
     }
 
 pub children-smaller : goal.children-smaller
 children-smaller c =
     let tree = slice_index_or c.args.book.now.trees c.args.variable [] in
     let one = c.children.invariant.child c.in-Some.child c.in-Some.is in
-    subst (λ (met : Option ℕ). left_from tree c.next_beside-met.result < left_from tree met) (sym c.in-Some.is) (next-smaller tree c.args.parent c.in-Some.child c.next_beside-met.result one c.next_beside-met.ensures)
+    subst (λ (met : Option ℕ). left_from tree c.next_sibling-met.result < left_from tree met) (sym c.in-Some.is) (next-smaller tree c.args.parent c.in-Some.child c.next_sibling-met.result one c.next_sibling-met.ensures)
 
 pub children-preserved : goal.children-preserved
 children-preserved c =
@@ -28,13 +28,13 @@ children-preserved c =
     let old : List ℕ = c.children.codes.items in
     let left : List ℕ = children_from tree parent (next_sibling tree child) in
     record {
-      rest = ap (λ (codes : List ℕ). codes ++ children_from tree parent c.next_beside-met.result) c.in_ok-push-2.ensures.items
-          ∙ ap (λ (met : Option ℕ). (old ++ child ∷ []) ++ children_from tree parent met) c.next_beside-met.ensures
+      rest = ap (λ (codes : List ℕ). codes ++ children_from tree parent c.next_sibling-met.result) c.in_ok-push-2.ensures.items
+          ∙ ap (λ (met : Option ℕ). (old ++ child ∷ []) ++ children_from tree parent met) c.next_sibling-met.ensures
           ∙ append_assoc old (child ∷ []) left
           ∙ ap (λ (codes : List ℕ). old ++ codes) (sym (children-next tree parent child one.within one.parent))
           ∙ ap (λ (met : Option ℕ). old ++ children_from tree parent met) (sym c.in-Some.is)
           ∙ c.children.invariant.rest;
       child = λ next is.
-          let more = next-is_child tree parent child next one.within one.parent (sym c.next_beside-met.ensures ∙ is) in
+          let more = next-is_child tree parent child next one.within one.parent (sym c.next_sibling-met.ensures ∙ is) in
           record { behind = omega arith; within = more.within; parent = more.parent };
     }
