@@ -18,7 +18,7 @@ use Rattle.job_lang.specs.Faults.{at_line}
 use Rattle.job_lang.specs.Statements.{text_says, lines_say, empty_draft}
 use Rattle.job_lang.specs.ClosingLooks.{said_by, file_line, rules_line, method_of, output_said}
 use Rattle.job_lang.specs.MissingCommands.{needed_value, output_of_table, outputs_from}
-use Rattle.job_lang.specs.FilesApart.{is_astray, no_stray, is_meeting, no_same_name}
+use Rattle.job_lang.specs.FilesApart.{is_astray, no_stray, puts_shared_file, no_same_name}
 use Rattle.job_lang.specs.Jobs.{job_made, closed_job, job_of}
 use Rattle.job_lang.specs.Laws.{IsLineFault, lacks_output, lacks_command, must_have, IsFirstStray, IsFirstMeeting, IsFirstLack}
 use Rattle.job_lang.proofs.Known.{not_refused}
@@ -70,22 +70,22 @@ no_strays count (s ∷ rest) t h =
       | false ↦ λ g. no_strays count rest t g
     ] h
 
-meeting_fault : (all said : List Statement) (line : ℕ) (why : JobWhy) → no_same_name all said ≡ Err (line, why) → (s : Statement) × (find (λ s. is_meeting all s.said) said ≡ Some s) × (line ≡ s.line) × (why ≡ SameName)
+shared_fault : (all said : List Statement) (line : ℕ) (why : JobWhy) → no_same_name all said ≡ Err (line, why) → (s : Statement) × (find (λ s. puts_shared_file all s.said) said ≡ Some s) × (line ≡ s.line) × (why ≡ SameName)
 unfolding no_same_name
-meeting_fault all [] line why h = absurd cc
-meeting_fault all (s ∷ rest) line why h =
-    elim (is_meeting all s.said) as (λ t. cond t (Err (s.line, SameName)) (no_same_name all rest) ≡ Err (line, why) → (x : Statement) × (cond t (Some s) (find (λ s. is_meeting all s.said) rest) ≡ Some x) × (line ≡ x.line) × (why ≡ SameName)) [
+shared_fault all [] line why h = absurd cc
+shared_fault all (s ∷ rest) line why h =
+    elim (puts_shared_file all s.said) as (λ t. cond t (Err (s.line, SameName)) (no_same_name all rest) ≡ Err (line, why) → (x : Statement) × (cond t (Some s) (find (λ s. puts_shared_file all s.said) rest) ≡ Some x) × (line ≡ x.line) × (why ≡ SameName)) [
       | true ↦ λ g. let both = pair_of line s.line why SameName g in (s, refl, both.0, both.1)
-      | false ↦ λ g. meeting_fault all rest line why g
+      | false ↦ λ g. shared_fault all rest line why g
     ] h
 
-pub no_meetings : (all said : List Statement) (t : Unit {0}) → no_same_name all said ≡ Ok t → list_any (λ s. is_meeting all s.said) said ≡ false
+pub no_shared_file : (all said : List Statement) (t : Unit {0}) → no_same_name all said ≡ Ok t → list_any (λ s. puts_shared_file all s.said) said ≡ false
 unfolding no_same_name
-no_meetings all [] t h = refl
-no_meetings all (s ∷ rest) t h =
-    elim (is_meeting all s.said) as (λ b. cond b (Err (s.line, SameName)) (no_same_name all rest) ≡ Ok t → (b || list_any (λ s. is_meeting all s.said) rest) ≡ false) [
+no_shared_file all [] t h = refl
+no_shared_file all (s ∷ rest) t h =
+    elim (puts_shared_file all s.said) as (λ b. cond b (Err (s.line, SameName)) (no_same_name all rest) ≡ Ok t → (b || list_any (λ s. puts_shared_file all s.said) rest) ≡ false) [
       | true ↦ λ g. absurd cc
-      | false ↦ λ g. no_meetings all rest t g
+      | false ↦ λ g. no_shared_file all rest t g
     ] h
 
 -- ---- commands that lack
@@ -186,9 +186,9 @@ in_order bytes line why h =
               | inr (placed, is_placed, h) ↦
                   let a = no_strays (length draft.tables) draft.said placed is_placed in
                   elim (bind_err (no_same_name draft.said draft.said) _ (line, why) h) as (λ _. IsFirstStray draft line why ⊎ IsFirstMeeting draft line why ⊎ IsFirstLack draft line why) [
-                    | inl failed ↦ let m = meeting_fault draft.said draft.said line why failed in inr (inl (m.0, a, m.1, m.2, m.3))
+                    | inl failed ↦ let m = shared_fault draft.said draft.said line why failed in inr (inl (m.0, a, m.1, m.2, m.3))
                     | inr (apart, is_apart, h) ↦
-                        let b = no_meetings draft.said draft.said apart is_apart in
+                        let b = no_shared_file draft.said draft.said apart is_apart in
                         let l = first_lack draft line why h in
                         inr (inr (l.0, a, b, l.1, l.2, l.3))
                   ]

@@ -23,12 +23,12 @@ use Rattle.job_lang.specs.declared.statement.Draft.{Draft}
 use Rattle.job_lang.specs.Statements.{is_by}
 use Rattle.job_lang.specs.ClosingLooks.{is_output_at, output_said, file_said, file_line, prior_in, priors_in}
 use Rattle.job_lang.specs.MissingCommands.{output_of_table, outputs_from}
-use Rattle.job_lang.specs.FilesApart.{puts, is_read_file, is_shared, is_meeting}
+use Rattle.job_lang.specs.FilesApart.{puts, is_read_file, is_shared, puts_shared_file}
 use Rattle.job_lang.specs.Binding.{unless_fault, bound_of}
 use Rattle.job_lang.specs.BindingFaults.{is_spanning, is_code_list, is_hierarchy_file, is_file_of, file_fault, earliest_fault}
 use Rattle.job_lang.specs.FileLaws.{codes_named, tree_named, files_of, puts_of, reads_of, PutsAreNotRead, PutsAreNotNamed}
 use Rattle.job_lang.proofs.Known.{was_some}
-use Rattle.job_lang.proofs.FirstFault.{no_meetings}
+use Rattle.job_lang.proofs.FirstFault.{no_shared_file}
 use Rattle.job_lang.proofs.BoundHolds.{clean}
 use Rattle.job_lang.proofs.Made.{IsMade, read}
 
@@ -49,11 +49,11 @@ false_left false b h = (refl, h)
 
 -- none of the statements puts a file whose name another has
 abbrev pub AreApart : List Statement → List Statement → Type 0
-AreApart all said = AllByRecursion (λ s. is_meeting all s.said ≡ false) said
+AreApart all said = AllByRecursion (λ s. puts_shared_file all s.said ≡ false) said
 
-pub all_apart : (all said : List Statement) → list_any (λ s. is_meeting all s.said) said ≡ false → AreApart all said
+pub all_apart : (all said : List Statement) → list_any (λ s. puts_shared_file all s.said) said ≡ false → AreApart all said
 all_apart all [] h = tt
-all_apart all (s ∷ rest) h = let both = false_left (is_meeting all s.said) _ h in (both.0, all_apart all rest both.1)
+all_apart all (s ∷ rest) h = let both = false_left (puts_shared_file all s.said) _ h in (both.0, all_apart all rest both.1)
 
 pub found : {A : Type 0} (P : A → Type 0) (test : A → Bool) (xs : List A) → AllByRecursion P xs → (x : A) → find test xs ≡ Some x → P x × (test x ≡ true)
 found P test [] all x h = absurd cc
@@ -71,13 +71,13 @@ IsUnread all name = list_any (λ s. is_read_file name s.said) all ≡ false
 unread : (all : List Statement) (name : List ℕ) → is_shared name all ≡ false → IsUnread all name
 unread all name h = (false_left (nat_lt 1 (count_by (λ s. puts name s.said) all)) _ h).1
 
-certificate_unread : (all : List Statement) (one : Instruction) (line : ℕ) (o : OutputLine) → is_by keyword.Certificate one ≡ true → is_meeting all one ≡ false → option_map (λ (file : List ℕ). record { line = line; file = file }) (file_said one) ≡ Some o → IsUnread all o.file
+certificate_unread : (all : List Statement) (one : Instruction) (line : ℕ) (o : OutputLine) → is_by keyword.Certificate one ≡ true → puts_shared_file all one ≡ false → option_map (λ (file : List ℕ). record { line = line; file = file }) (file_said one) ≡ Some o → IsUnread all o.file
 certificate_unread all (said.Certificate name) line o by apart h =
     let is : ◌≡◌ {A = OutputLine} (record { line = line; file = name }) o = cc in
     subst (λ (o : OutputLine). IsUnread all o.file) is (unread all name apart)
 certificate_unread all one line o by apart h = absurd cc
 
-output_unread : (all : List Statement) (place : ℕ) (one : Instruction) (line : ℕ) (o : OutputLine) → is_output_at place one ≡ true → is_meeting all one ≡ false → option_map (λ (file : List ℕ). record { line = line; file = file }) (file_said one) ≡ Some o → IsUnread all o.file
+output_unread : (all : List Statement) (place : ℕ) (one : Instruction) (line : ℕ) (o : OutputLine) → is_output_at place one ≡ true → puts_shared_file all one ≡ false → option_map (λ (file : List ℕ). record { line = line; file = file }) (file_said one) ≡ Some o → IsUnread all o.file
 output_unread all place (said.Output number name) line o by apart h =
     let is : ◌≡◌ {A = OutputLine} (record { line = line; file = name }) o = cc in
     subst (λ (o : OutputLine). IsUnread all o.file) is (unread all name apart)
@@ -99,7 +99,7 @@ outputs_unread all (suc more) place outputs apart h =
     let one = bind_ok (output_of_table place all) _ outputs h in
     let rest = bind_ok (outputs_from more (place + 1) all) _ outputs one.2 in
     let is : ◌≡◌ {A = List OutputLine} (one.0 ∷ rest.0) outputs = cc in
-    let first = line_of (λ s. is_meeting all s.said ≡ false) all (λ s. is_output_at place s.said) (λ o. IsUnread all o.file) apart (λ s o by free g. output_unread all place s.said s.line o by free g) one.0 (was_some (0, Missing command.WriteTable) (file_line (output_said place all)) one.0 one.1) in
+    let first = line_of (λ s. puts_shared_file all s.said ≡ false) all (λ s. is_output_at place s.said) (λ o. IsUnread all o.file) apart (λ s o by free g. output_unread all place s.said s.line o by free g) one.0 (was_some (0, Missing command.WriteTable) (file_line (output_said place all)) one.0 one.1) in
     subst (λ (os : List OutputLine). AllByRecursion (λ o. IsUnread all o.file) os) is (first, outputs_unread all more (place + 1) rest.0 apart rest.1)
 
 -- ---- what reads a file
@@ -152,9 +152,9 @@ outputs_not_read draft job (o ∷ outputs) is all = (none_read draft job o.file 
 pub not_read : PutsAreNotRead
 not_read bytes job h =
     let is = read bytes job h in
-    let apart = all_apart is.draft.said is.draft.said (no_meetings is.draft.said is.draft.said tt is.apart) in
+    let apart = all_apart is.draft.said is.draft.said (no_shared_file is.draft.said is.draft.said tt is.apart) in
     let outputs = outputs_unread is.draft.said (length is.draft.tables) 0 is.is_made.outputs apart is.is_made.are_outputs in
-    let certificate = line_of (λ s. is_meeting is.draft.said s.said ≡ false) is.draft.said (λ s. is_by keyword.Certificate s.said) (λ o. IsUnread is.draft.said o.file) apart (λ s o by free g. certificate_unread is.draft.said s.said s.line o by free g) is.is_made.certificate is.is_made.is_certificate in
+    let certificate = line_of (λ s. puts_shared_file is.draft.said s.said ≡ false) is.draft.said (λ s. is_by keyword.Certificate s.said) (λ o. IsUnread is.draft.said o.file) apart (λ s o by free g. certificate_unread is.draft.said s.said s.line o by free g) is.is_made.certificate is.is_made.is_certificate in
     let puts : AllByRecursion (λ put. AllByRecursion (λ read. put ≢ read) (reads_of job)) (is.is_made.certificate.file ∷ map (λ o. o.file) is.is_made.outputs) =
     (none_read is.draft job is.is_made.certificate.file is.is_made certificate, outputs_not_read is.draft job is.is_made.outputs is.is_made outputs) in
     let same : ◌≡◌ {A = List (List ℕ)} (is.is_made.certificate.file ∷ map (λ o. o.file) is.is_made.outputs) (puts_of job) = ap puts_of is.is_made.whole in

@@ -22,10 +22,10 @@ use Rattle.job_lang.specs.declared.statement.Statement.{Statement}
 use Rattle.job_lang.specs.Statements.{is_by}
 use Rattle.job_lang.specs.ClosingLooks.{is_output_at, output_said, file_said, file_line}
 use Rattle.job_lang.specs.MissingCommands.{output_of_table, outputs_from}
-use Rattle.job_lang.specs.FilesApart.{puts, is_read_file, is_shared, is_meeting}
+use Rattle.job_lang.specs.FilesApart.{puts, is_read_file, is_shared, puts_shared_file}
 use Rattle.job_lang.specs.FileLaws.{puts_of, PutsDiffer}
 use Rattle.job_lang.proofs.Known.{was_some}
-use Rattle.job_lang.proofs.FirstFault.{no_meetings}
+use Rattle.job_lang.proofs.FirstFault.{no_shared_file}
 use Rattle.job_lang.proofs.NamesApart.{AreApart, all_apart, found}
 use Rattle.job_lang.proofs.Made.{read}
 
@@ -75,14 +75,14 @@ two_counted p t u (s ∷ rest) x y h g is also apart =
 abbrev IsPutBy : List Statement → (Statement → Bool) → OutputLine → Type 0
 IsPutBy all test o = (s : Statement) × (find test all ≡ Some s) × (puts o.file s.said ≡ true) × (is_shared o.file all ≡ false)
 
-put_by_output : (all : List Statement) (place : ℕ) (one : Instruction) (line : ℕ) (o : OutputLine) → is_output_at place one ≡ true → is_meeting all one ≡ false
+put_by_output : (all : List Statement) (place : ℕ) (one : Instruction) (line : ℕ) (o : OutputLine) → is_output_at place one ≡ true → puts_shared_file all one ≡ false
     → option_map (λ (file : List ℕ). record { line = line; file = file }) (file_said one) ≡ Some o → (puts o.file one ≡ true) × (is_shared o.file all ≡ false)
 put_by_output all place (said.Output number name) line o by apart h =
     let is : ◌≡◌ {A = OutputLine} (record { line = line; file = name }) o = cc in
     subst (λ (o : OutputLine). (puts o.file (said.Output number name) ≡ true) × (is_shared o.file all ≡ false)) is (nat_list_eq_equiv.refl name, apart)
 put_by_output all place one line o by apart h = absurd cc
 
-put_by_certificate : (all : List Statement) (one : Instruction) (line : ℕ) (o : OutputLine) → is_by keyword.Certificate one ≡ true → is_meeting all one ≡ false
+put_by_certificate : (all : List Statement) (one : Instruction) (line : ℕ) (o : OutputLine) → is_by keyword.Certificate one ≡ true → puts_shared_file all one ≡ false
     → option_map (λ (file : List ℕ). record { line = line; file = file }) (file_said one) ≡ Some o → (puts o.file one ≡ true) × (is_shared o.file all ≡ false)
 put_by_certificate all (said.Certificate name) line o by apart h =
     let is : ◌≡◌ {A = OutputLine} (record { line = line; file = name }) o = cc in
@@ -90,13 +90,13 @@ put_by_certificate all (said.Certificate name) line o by apart h =
 put_by_certificate all one line o by apart h = absurd cc
 
 put_by : (all : List Statement) (test : Statement → Bool) → AreApart all all
-    → ((s : Statement) (o : OutputLine) → test s ≡ true → is_meeting all s.said ≡ false → option_map (λ (file : List ℕ). record { line = s.line; file = file }) (file_said s.said) ≡ Some o → (puts o.file s.said ≡ true) × (is_shared o.file all ≡ false))
+    → ((s : Statement) (o : OutputLine) → test s ≡ true → puts_shared_file all s.said ≡ false → option_map (λ (file : List ℕ). record { line = s.line; file = file }) (file_said s.said) ≡ Some o → (puts o.file s.said ≡ true) × (is_shared o.file all ≡ false))
     → (o : OutputLine) → file_line (find test all) ≡ Some o → IsPutBy all test o
 put_by all test apart step o h =
     elim (find test all) as (λ f. find test all ≡ f → file_line f ≡ Some o → IsPutBy all test o) [
       | None ↦ λ is g. absurd cc
       | Some s ↦ λ is g.
-          let at = found (λ s. is_meeting all s.said ≡ false) test all apart s is in
+          let at = found (λ s. puts_shared_file all s.said ≡ false) test all apart s is in
           let both = step s o at.1 at.0 g in
           (s, is, both.0, both.1)
     ] refl h
@@ -166,7 +166,7 @@ pub differ : PutsDiffer
 differ bytes job h =
     let is = read bytes job h in
     let all = is.draft.said in
-    let apart = all_apart all all (no_meetings all all tt is.apart) in
+    let apart = all_apart all all (no_shared_file all all tt is.apart) in
     let outputs = are_outputs all (length is.draft.tables) 0 is.is_made.outputs apart is.is_made.are_outputs in
     let certificate = put_by all (λ s. is_by keyword.Certificate s.said) apart (λ s o by free g. put_by_certificate all s.said s.line o by free g) is.is_made.certificate is.is_made.is_certificate in
     let first = from_others all (λ s. is_by keyword.Certificate s.said) is.is_made.certificate 0 is.is_made.outputs certificate outputs (λ q s above by. no_output q s.said by) in

@@ -29,7 +29,7 @@ use Rattle.job_lang.specs.Keywords.{place_of}
 use Rattle.job_lang.specs.Statements.{is_by}
 use Rattle.job_lang.specs.ClosingLooks.{said_by, is_output_at, output_said, file_line, rules_line, method_of, cost_of, work_of, usual_steps, usual_nodes, table_place, priors_in}
 use Rattle.job_lang.specs.MissingCommands.{outputs_from}
-use Rattle.job_lang.specs.FilesApart.{is_no_table, is_astray, no_stray, puts, is_read_file, is_shared, is_meeting, no_same_name}
+use Rattle.job_lang.specs.FilesApart.{is_no_table, is_astray, no_stray, puts, is_read_file, is_shared, puts_shared_file, no_same_name}
 use Rattle.job_lang.specs.Jobs.{job_made, closed_job}
 use Rattle.job_lang.specs.FileLaws.{puts_of, reads_of}
 use Rattle.job_lang.specs.Spelling.{table_number}
@@ -180,10 +180,10 @@ all_placed count job few priors outputs =
 
 -- ---- names of files
 
-apart : (all said : List Statement) → list_any (λ s. is_meeting all s.said) said ≡ false → no_same_name all said ≡ Ok tt
+apart : (all said : List Statement) → list_any (λ s. puts_shared_file all s.said) said ≡ false → no_same_name all said ≡ Ok tt
 unfolding no_same_name
 apart all [] h = refl
-apart all (s ∷ rest) h = elim (is_meeting all s.said) as (λ t. (t || list_any (λ s. is_meeting all s.said) rest) ≡ false → cond t (Err (s.line, SameName)) (no_same_name all rest) ≡ Ok tt) [
+apart all (s ∷ rest) h = elim (puts_shared_file all s.said) as (λ t. (t || list_any (λ s. puts_shared_file all s.said) rest) ≡ false → cond t (Err (s.line, SameName)) (no_same_name all rest) ≡ Ok tt) [
   | true ↦ λ g. absurd cc
   | false ↦ λ g. apart all rest g
 ] h
@@ -275,22 +275,22 @@ unshared name job distinct all =
     let count = puts_counted name job in
     alone (count_by (λ s. puts name s.said) (statements_of job)) (list_any (λ s. is_read_file name s.said) (statements_of job)) (omega (arith, few, count)) (all_unread name job all)
 
-priors_meet_none : (all : List Statement) (line : ℕ) (priors : List PriorLine) → list_any (λ s. is_meeting all s.said) (priors_stated line priors) ≡ false
-priors_meet_none all line [] = refl
-priors_meet_none all line (prior ∷ priors) = priors_meet_none all (line + 1) priors
+priors_share_none : (all : List Statement) (line : ℕ) (priors : List PriorLine) → list_any (λ s. puts_shared_file all s.said) (priors_stated line priors) ≡ false
+priors_share_none all line [] = refl
+priors_share_none all line (prior ∷ priors) = priors_share_none all (line + 1) priors
 
 outputs_apart : (job : Job) (line place : ℕ) (outputs : List OutputLine) → IsDistinct bytes_eq (puts_of job) → AllByRecursion (λ put. AllByRecursion (λ read. put ≢ read) (reads_of job)) (map (λ o. o.file) outputs)
-    → list_any (λ s. is_meeting (statements_of job) s.said) (outputs_stated line place outputs) ≡ false
+    → list_any (λ s. puts_shared_file (statements_of job) s.said) (outputs_stated line place outputs) ≡ false
 outputs_apart job line place [] distinct all = refl
 outputs_apart job line place (output ∷ outputs) distinct all = rw (unshared output.file job distinct all.0, outputs_apart job (line + 1) (place + 1) outputs distinct all.1) refl
 
 all_apart : (job : Job) → IsDistinct bytes_eq (puts_of job) → AllByRecursion (λ put. AllByRecursion (λ read. put ≢ read) (reads_of job)) (puts_of job) → no_same_name (statements_of job) (statements_of job) ≡ Ok tt
 all_apart job distinct all =
     let z : Statement = record { line = outputs_line job + length job.outputs; said = said.Certificate job.certificate } in
-    let test : Statement → Bool = λ s. is_meeting (statements_of job) s.said in
+    let test : Statement → Bool = λ s. puts_shared_file (statements_of job) s.said in
     let last : list_any test (z ∷ []) ≡ false = rw (unshared job.certificate job distinct all.0) refl in
     apart (statements_of job) (statements_of job)
-    (any_past test (priors_stated (5 + length job.tables) job.priors) (behind_priors job) (priors_meet_none (statements_of job) (5 + length job.tables) job.priors)
+    (any_past test (priors_stated (5 + length job.tables) job.priors) (behind_priors job) (priors_share_none (statements_of job) (5 + length job.tables) job.priors)
     ∙ any_past test (outputs_stated (outputs_line job) 0 job.outputs) (z ∷ []) (outputs_apart job (outputs_line job) 0 job.outputs distinct all.1)
     ∙ last)
 

@@ -47,12 +47,12 @@ abbrev pub is_shared : List ℕ → List Statement → Bool
 is_shared name all = nat_lt 1 (count_by (λ s. puts name s.said) all) || list_any (λ s. is_read_file name s.said) all
 
 -- a file is put whose name another one has
-abbrev pub is_meeting : List Statement → Instruction → Bool
-is_meeting all (said.Output number file) = is_shared file all
-is_meeting all (said.Certificate file) = is_shared file all
-is_meeting all one = false
+abbrev pub puts_shared_file : List Statement → Instruction → Bool
+puts_shared_file all (said.Output number file) = is_shared file all
+puts_shared_file all (said.Certificate file) = is_shared file all
+puts_shared_file all one = false
 
 -- the first line that puts such a file is a fault
 unfoldable pub no_same_name : List Statement → List Statement → Result (Unit {0}) (ℕ × JobWhy)
 no_same_name all [] = Ok tt
-no_same_name all (s ∷ rest) = if is_meeting all s.said then Err (s.line, SameName) else no_same_name all rest
+no_same_name all (s ∷ rest) = if puts_shared_file all s.said then Err (s.line, SameName) else no_same_name all rest

@@ -14,7 +14,7 @@ use Rattle.job_lang.specs.declared.statement.Statement.{Statement}
 use Rattle.job_lang.specs.declared.statement.Draft.{Draft}
 use Rattle.job_lang.specs.Statements.{text_says, lines_say, empty_draft}
 use Rattle.job_lang.specs.ClosingLooks.{said_by, file_line, rules_line, method_of, output_said}
-use Rattle.job_lang.specs.FilesApart.{is_astray, is_meeting}
+use Rattle.job_lang.specs.FilesApart.{is_astray, puts_shared_file}
 use Rattle.job_lang.specs.Jobs.{job_of}
 use Rattle.job_lang.specs.BoundLimits.{AreVariables}
 
@@ -57,13 +57,13 @@ IsFirstStray draft line why =
 abbrev pub IsFirstMeeting : Draft → ℕ → JobWhy → Type 0
 IsFirstMeeting draft line why =
     (s : Statement) × (list_any (λ s. is_astray (length draft.tables) s.said) draft.said ≡ false)
-    × (find (λ s. is_meeting draft.said s.said) draft.said ≡ Some s) × (line ≡ s.line) × (why ≡ SameName)
+    × (find (λ s. puts_shared_file draft.said s.said) draft.said ≡ Some s) × (line ≡ s.line) × (why ≡ SameName)
 
 -- Neither is so, and this is the first command that lacks; the line is 0.
 abbrev pub IsFirstLack : Draft → ℕ → JobWhy → Type 0
 IsFirstLack draft line why =
     (which : Command) × (list_any (λ s. is_astray (length draft.tables) s.said) draft.said ≡ false)
-    × (list_any (λ s. is_meeting draft.said s.said) draft.said ≡ false)
+    × (list_any (λ s. puts_shared_file draft.said s.said) draft.said ≡ false)
     × (find (lacks_command draft) must_have ≡ Some which) × (line ≡ 0) × (why ≡ Missing which)
 
 -- The fault that is given is that of the first line that has one; else the first number of no table, the first name

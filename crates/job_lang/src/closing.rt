@@ -101,8 +101,8 @@ fn is_shared(name: &Text, all: &[Statement]) -> bool
 }
 
 // Whether a file is put whose name another one has.
-fn is_meeting(all: &[Statement], said: &Instruction) -> bool
-    ensures { result ≡ spec.is_meeting all.now said.now }
+fn puts_shared_file(all: &[Statement], said: &Instruction) -> bool
+    ensures { result ≡ spec.puts_shared_file all.now said.now }
 {
     match said {
         Instruction::Output { file, .. } => is_shared(file, all),
@@ -117,7 +117,7 @@ pub(crate) fn no_same_name(all: &[Statement]) -> Result<(), JobError>
     ensures { Gives fault_of (λ fine. fine) result (spec.no_same_name all.now all.now) }
 {
     'said: for statement in all {
-        if is_meeting(all, &statement.said) {
+        if puts_shared_file(all, &statement.said) {
             return Err(at(statement, JobWhy::SameName));
         }
     }

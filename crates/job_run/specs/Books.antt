@@ -34,12 +34,12 @@ shown_by inputs (shown.Hidden hidden) name = shown_in inputs hidden.now.flags na
 shown_by inputs (shown.Rounded values) name = value_in inputs values.now name
 
 -- a table with its line of the job and its output, whose cells show this
-abbrev pub table_showing : Inputs → Shown → ℕ → TableLine → OutputLine → FilePut
-table_showing inputs how t line output = put_of_table inputs (shown_by inputs how) t line output
+abbrev pub put_of_shown_table : Inputs → Shown → ℕ → TableLine → OutputLine → FilePut
+put_of_shown_table inputs how t line output = put_of_table inputs (shown_by inputs how) t line output
 
 -- the tables of a job, whose cells show this
-abbrev pub tables_showing : Inputs → Shown → Job → List FilePut
-tables_showing inputs how job = tables_from inputs (shown_by inputs how) 0 job.tables job.outputs
+abbrev pub puts_of_shown_tables : Inputs → Shown → Job → List FilePut
+puts_of_shown_tables inputs how job = tables_from inputs (shown_by inputs how) 0 job.tables job.outputs
 
 -- the job is within its limits, its book is ready for it, and what is to be shown of its cells can be
 pub record IsShownBook (described : DescribedJob) (book : BookView) (shown : Shown) : Type 0 where

@@ -4,7 +4,7 @@ ghost use Rattle.certificate.specs.Certificates.{certificate_of};
 ghost use Rattle.certificate.specs.Texts.{text_of};
 ghost use Rattle.job_inputs.specs.TabulatedBooks.{IsBookOf};
 ghost use Rattle.job_inputs.specs.declared.inputs.Inputs.{Inputs as AnyInputs};
-ghost use Rattle.job_run.specs.Books.{IsShownBook, shown_by, tables_showing, table_showing};
+ghost use Rattle.job_run.specs.Books.{IsShownBook, shown_by, puts_of_shown_tables, put_of_shown_table};
 ghost use Rattle.job_run.specs.Releases as releases;
 
 use crate::put::FilePut;
@@ -70,7 +70,7 @@ fn add_tables(
 ) -> Result<(), Memory>
     requires shown { IsShownBook described.now book.now shown }
     ensures puts { OnOk result ((inputs : AnyInputs) → inputs.described ≡ described.now → IsBookOf inputs book.now
-        → puts.new ≡ puts.old ++ tables_showing inputs shown.entry described.now.job) }
+        → puts.new ≡ puts.old ++ puts_of_shown_tables inputs shown.entry described.now.job) }
     ensures each { OnOk result (length puts.new ≡ length puts.old + length described.now.job.tables) }
 {
     let outputs = described.job.outputs.as_slice();
@@ -95,7 +95,7 @@ fn table_put(
     requires table { t < length book.now.tables }
     requires header { length line.now.variables ≡ length (slice_index_or book.now.tables t []) }
     ensures { IfOk result (λ put. (inputs : AnyInputs) → inputs.described ≡ described.now → IsBookOf inputs book.now
-        → put ≡ table_showing inputs shown.entry t line.now output.now) }
+        → put ≡ put_of_shown_table inputs shown.entry t line.now output.now) }
 {
     let header = header_for(alloc, line)?;
     let decimals = described.bound.decimals;
