@@ -15,7 +15,8 @@ use Rattle.cell_intervals.specs.declared.interval.UpperEnd.TheVariants.{At, Open
 use Rattle.cell_intervals.specs.declared.ratio.Ratio.{Ratio}
 use Rattle.cell_intervals.specs.Farthest.{IsFarthest, IsOpenTo}
 use Rattle.cell_intervals.specs.Intervals.{IsGreatestValue, IsIntervalOf, IsLeastValue, IsUpperEnd}
-use Rattle.cell_intervals.proofs.Reaching.{cancel_le, size_is}
+use Rattle.interval_audit.proofs.Best.{cancel_le}
+use Rattle.cell_intervals.proofs.Reaching.{size_is}
 
 -- ---- products
 

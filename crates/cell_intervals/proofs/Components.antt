@@ -1,7 +1,6 @@
 -- Which faults come with which components.
 use Rattle.std.proofs.Common.{◌≡◌, ◌↔◌, ◌≤◌, ℕ, Bool, true, false, List, length, inl, inr, arith, refl, ap, sym, subst}
 use Rattle.sdc_base.specs.declared.cell.Cell.{Cell}
-use Rattle.sdc_base.specs.declared.relation.Relation.{Relation}
 use Rattle.sdc_base.specs.declared.side.Side.{Side}
 use Rattle.sdc_base.specs.declared.system.System.{System}
 use Rattle.interval_audit.specs.declared.answer.AskFault.{AskFault}
@@ -13,18 +12,7 @@ use Rattle.interval_audit.specs.Ends.{IsEndCause, IsEndQuestion, IsIntervalCause
 use Rattle.interval_audit.specs.Groups.{Group, IsComponentOf, members}
 use Rattle.cell_intervals.specs.IntervalFaults.{HasSmallComponent}
 use Rattle.cell_intervals.specs.Laws.{SizeIsLarge}
-
-same_tests : (a b : Bool) → ((a ≡ true) ↔ (b ≡ true)) → a ≡ b
-same_tests true true h = refl
-same_tests true false h = sym (h.0 refl)
-same_tests false true h = h.1 refl
-same_tests false false h = refl
-
--- two components of a cell are one
-groups_alike : (relations : List Relation) (flags : List Bool) (asked : ℕ) (one other : Group) → IsComponentOf relations flags asked one → IsComponentOf relations flags asked other → one ≡ other
-groups_alike relations flags asked one other first second =
-    let same : (cell : ℕ) → one cell ≡ other cell = (λ cell. same_tests (one cell) (other cell) ((λ is. (second cell).1 ((first cell).0 is)), (λ is. (first cell).1 ((second cell).0 is)))) in
-    λ i cell. same cell i
+use Rattle.interval_audit.proofs.SameGroups.{groups_alike}
 
 -- a component of at most so many cells, of the cell that a question asks about
 asked_small : (system : System) (flags : List Bool) (cell : ℕ) (side : Side) (question : Question) (group : Group) → IsEndQuestion cell side question → IsComponentOf system.relations flags question.cell group → length (members group system.cells) ≤ 1500 → HasSmallComponent system flags cell

@@ -20,7 +20,7 @@ use Rattle.cell_intervals.specs.Intervals.{IsGreatestValue, IsIntervalOf, IsLeas
 use Rattle.cell_intervals.specs.IntervalTexts.{fraction_text, line_text, ratio_text, upper_text}
 use Rattle.cell_intervals.specs.Laws.{FileIsOne}
 use Rattle.cell_intervals.proofs.Divisors.{rest_divides}
-use Rattle.cell_intervals.proofs.Reaching.{cancel_le, cancel_same}
+use Rattle.interval_audit.proofs.Best.{cancel_le, cancel_same}
 
 -- ---- fractions in lowest terms
 

@@ -4,7 +4,7 @@ use Prim.Native.Nat.{◌∣◌}
 use Rattle.std.specs.Int.{w128}
 use Rattle.std.proofs.Math.IntN.{*ℤ_comm}
 use Rattle.std.proofs.Math.Nat.{dvd-mul_left, mul_assoc}
-use Rattle.std.proofs.lemmas.Int.{ints, unsigned_abs-mul, by_lt_z}
+use Rattle.std.proofs.lemmas.Int.{ints, unsigned_abs-mul}
 use Rattle.std.proofs.lemmas.Nat.Gcd.{le_of_dvd}
 use Rattle.sdc_base.specs.declared.cell.Cell.{Cell}
 use Rattle.sdc_base.specs.declared.relation.Relation.{Relation}
@@ -16,7 +16,7 @@ use Rattle.sdc_base.specs.Refutations.{bound_sum}
 use Rattle.sdc_base.specs.Systems.{form, Numbers}
 use Rattle.sdc_base.specs.Totals.{sum_of}
 use Rattle.sdc_base.specs.Worlds.{IsWorld, amount_toward}
-use Rattle.sdc_base.proofs.WholeNumbers.{assoc, below_from_times, swap_times, times_more}
+use Rattle.sdc_base.proofs.WholeNumbers.{assoc, below_from_times, swap_times}
 use Rattle.sdc_base.proofs.TotalLemmas.{sum_of-cons}
 use Rattle.worlds.specs.declared.multipliers.Multipliers.{Multipliers}
 use Rattle.worlds.specs.declared.world.World.{World}
@@ -30,22 +30,13 @@ use Rattle.interval_audit.specs.QuestionLaws.{IsBest}
 use Rattle.cell_intervals.specs.declared.ratio.Ratio.{Ratio}
 use Rattle.cell_intervals.specs.Farthest.{IsFarthest, IsOpenTo}
 use Rattle.cell_intervals.specs.Lowering.{IsLoweredTo}
+use Rattle.interval_audit.proofs.Best.{cancel_le, cancel_same}
 
 -- ---- whole numbers
 
 pub size_is : (z : ℤ) → pos 0 ≤ℤ z → z ≡ pos (unsigned_abs z)
 size_is (pos n) from = refl
 size_is (negsuc n) from = absurd (omega (arith, ints, from))
-
--- a factor above 0 is cancelled
-pub cancel_le : (k a b : ℤ) → pos 1 ≤ℤ k → (k *ℤ a) ≤ℤ (k *ℤ b) → a ≤ℤ b
-cancel_le k a b up h = by_lt_z b a (λ less. let more : (k *ℤ b) <ℤ (k *ℤ a) = times_more k b a up less in absurd (omega (arith, ints, more, h))) (λ r. r)
-
-pub cancel_same : (k a b : ℤ) → pos 1 ≤ℤ k → k *ℤ a ≡ k *ℤ b → a ≡ b
-cancel_same k a b up h =
-    let one : a ≤ℤ b = cancel_le k a b up (omega (arith, ints, h)) in
-    let other : b ≤ℤ a = cancel_le k b a up (omega (arith, ints, h)) in
-    omega (arith, ints, one, other)
 
 -- ---- the truths are a world
 

@@ -27,7 +27,7 @@ use Rattle.worlds.specs.declared.multipliers.Multipliers.{Multipliers}
 use Rattle.worlds.specs.declared.world.World.{World}
 use Rattle.worlds.specs.NumberLists.{terms_of, number_given}
 use Rattle.worlds.specs.WorldFaults.{world_fault}
-use Rattle.worlds.specs.ProtectFaults.{line_number, primary_shown, fixed_hidden, asked_of, is_reaching, lines_fault as worlds_lines, IsProtecting}
+use Rattle.worlds.specs.ProtectFaults.{line_number, primary_shown, fixed_hidden, asked_of, is_reaching, IsProtecting, lines_fault as worlds_lines}
 use Rattle.worlds.specs.RefutationFaults.{terms_added, refutation_fault, IsGivenRefutation}
 use Rattle.worlds.proofs.Bounds.{decides_le}
 use Rattle.worlds.proofs.TrueTests.{and_true, not_true}
@@ -35,7 +35,7 @@ use Rattle.worlds.proofs.WorldLaws.{not_refused, none_refused, world_law}
 use Rattle.worlds.proofs.ProtectLaws.{protect_law}
 use Rattle.worlds.proofs.RefutationLaws.{refutation_law}
 use Rattle.certificate.specs.declared.certificate.WorldLine.{WorldLine}
-use Rattle.repair.specs.HidingOrder.{case as protected_case, IsOfKind, hide, show, coefficients_for}
+use Rattle.repair.specs.HidingOrder.{IsOfKind, hide, show, coefficients_for, case as protected_case}
 use Rattle.repair.specs.Repairs.{cell_and_side, IsJustified, EachRepair}
 use Rattle.repair.proofs.Fewer.{share_from_zero}
 use Rattle.cert_check.specs.declared.faults.CheckFault.{CheckFault}
@@ -50,6 +50,7 @@ use Rattle.cert_check.specs.Acceptance.{IsWorldFor, EachWorld, IsNeeded}
 use Rattle.linked_tables.specs.BookViews.{BookView}
 use Rattle.release_writer.specs.ShownCells.{open_truth}
 use Rattle.release_writer.specs.ReadingLaws.{AreTexts}
+use Rattle.repair.proofs.Repairing.{free_is}
 
 -- ---- steps
 
@@ -198,11 +199,6 @@ needs_good system cells flags k (subject ∷ subjects) (need ∷ needs) each nam
     }
 
 -- ---- repairs
-
-free_is : (kind : Kind) → is_free kind ≡ true → kind ≡ Free
-free_is Primary is = absurd cc
-free_is Free is = refl
-free_is Fixed is = absurd cc
 
 free_at : (cells : List Cell) (number : ℕ) → option_map_or (λ (cell : Cell). is_free cell.kind) (slice_get cells number) false ≡ true → IsOfKind cells number Free
 free_at cells number is =

@@ -1,18 +1,13 @@
 -- How long hidden sets are, and that truths are from 0.
-use Rattle.std.proofs.Common.{◌≡◌, ℕ, zero, suc, Bool, true, false, List, [], ◌∷◌, length, length-set, fold, map, replicate, All, pos, ◌≤ℤ◌, arith, refl, ap, ◌∙◌}
+use Rattle.std.proofs.Common.{◌≡◌, ℕ, zero, suc, Bool, true, false, List, [], ◌∷◌, length, length-set, map, replicate, All, pos, ◌≤ℤ◌, arith, refl, ap, ◌∙◌}
 use Rattle.std.proofs.lemmas.Int.{ints}
 use Rattle.std.proofs.lemmas.List.Elements.{All-nil, All-cons}
 use Rattle.sdc_base.specs.declared.cell.Cell.{Cell}
 use Rattle.linked_tables.specs.declared.mark.Mark.{Mark}
-use Rattle.linked_tables.specs.BookViews.{BookView}
-use Rattle.release_writer.specs.Sheets.{HasTruthsFromZero}
 use Rattle.worlds.specs.declared.refuted.Refuted.{Refuted}
 use Rattle.repair.specs.HidingOrder.{hide, hide_subjects}
 use Rattle.cert_check.specs.HiddenSet.{hidden_set}
-
-hide_length : (flags : List Bool) (cells : List ℕ) → length (fold hide flags cells) ≡ length flags
-hide_length flags [] = refl
-hide_length flags (cell ∷ cells) = hide_length (hide flags cell) cells ∙ length-set flags cell true
+use Rattle.repair.proofs.Flags.{length-hidden}
 
 fresh_length : (n : ℕ) → length (replicate n false) ≡ n
 fresh_length zero = refl
@@ -20,7 +15,7 @@ fresh_length (suc n) = ap suc (fresh_length n)
 
 -- there is a flag for each cell
 pub set_length : (n : ℕ) (numbers : List ℕ) → length (hidden_set n numbers) ≡ n
-set_length n numbers = hide_length (replicate n false) numbers ∙ fresh_length n
+set_length n numbers = length-hidden (replicate n false) numbers ∙ fresh_length n
 
 pub repaired_length : (flags : List Bool) (repairs : List Refuted) → length (hide_subjects flags repairs) ≡ length flags
 repaired_length flags [] = refl

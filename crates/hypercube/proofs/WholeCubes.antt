@@ -1,5 +1,5 @@
 -- Each corner of a cube has a cell.
-use Rattle.std.proofs.Common.{◌≡◌, ◌⊎◌, inl, inr, All, ℕ, zero, suc, ◌+◌, ◌*◌, ◌^◌, ◌<◌, ◌≤◌, ◌==◌, ◌&&◌, ◌||◌, nat_lt, Bool, true, false, not, cond, List, [], ◌∷◌, length, map, filter, fold, is_some, get_or, slice_get, slice_index, slice_index_or, Option, None, Some, option_map, if◌then◌else◌, refl, ap, sym, subst, length-append, ◌∙◌, arith}
+use Rattle.std.proofs.Common.{◌≡◌, ◌⊎◌, inl, inr, All, ℕ, zero, suc, ◌+◌, ◌*◌, ◌^◌, ◌<◌, ◌≤◌, ◌==◌, ◌||◌, nat_lt, Bool, true, false, not, cond, List, [], ◌∷◌, length, map, filter, fold, is_some, get_or, slice_get, slice_index, slice_index_or, Option, None, Some, option_map, if◌then◌else◌, refl, ap, sym, subst, length-append, ◌∙◌, arith}
 use Rattle.std.specs.List.{AllByRecursion, list_any, cons_option, filter_map, range_with_len}
 use Rattle.std.specs.Option.{option_map_or}
 use Rattle.std.proofs.lemmas.Bool.Decides.{Decides-eqb, nat_tests}
@@ -17,7 +17,7 @@ use Rattle.linked_tables.specs.BookViews.{BookView}
 use Rattle.linked_tables.specs.BookCells.{IsTable, cell_at, is_in, name_in_table}
 use Rattle.linked_tables.specs.Tables.{has_twice}
 use Rattle.linked_tables.proofs.Numbers.{numbers_are_names}
-use Rattle.linked_tables.proofs.Sharing.{known-below, name-codes}
+use Rattle.linked_tables.proofs.Sharing.{known-below, name-codes, place-long}
 use Rattle.linked_tables.proofs.Finding.{cell-found}
 use Rattle.hypercube.proofs.AllOf.{all-append, all-flat, all-map, all-more}
 use Rattle.hypercube.specs.CornerLaws.{AreInTrees, AreWhole, CubesAreWhole}
@@ -208,16 +208,6 @@ same-places (variable ∷ table) (c ∷ one) (d ∷ other) once long longer each
     parts : (a b : Bool) → (a || b) ≡ false → (a ≡ false) × (b ≡ false)
     parts true b h = absurd cc
     parts false b h = (refl, h)
-
-place-long : (trees : List Tree) (table place : List ℕ) → is_place_in (trees_of trees table) place ≡ true → length place ≡ length table
-place-long trees [] [] h = refl
-place-long trees [] (code ∷ place) h = absurd cc
-place-long trees (variable ∷ table) [] h = absurd cc
-place-long trees (variable ∷ table) (code ∷ place) h = ap suc (place-long trees table place (later (nat_lt code (length (slice_index_or trees variable []))) (is_place_in (trees_of trees table) place) h))
-  where
-    later : (a b : Bool) → (a && b) ≡ true → b ≡ true
-    later true b h = h
-    later false b h = absurd cc
 
 -- two places of one table with one cell are the same
 pub same-cell : (book : BookView) (t : ℕ) (table one other : List ℕ) (cell : ℕ) → IsTable (length book.trees) table → slice_get book.tables t ≡ Some table

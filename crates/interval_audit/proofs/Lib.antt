@@ -13,7 +13,7 @@ mod Scaling
 mod Proper
 mod ReadStates
 mod QuestionAnswers
-mod SameGroups
+pub mod SameGroups
 mod Spread
 mod Members
 mod Moves
@@ -24,7 +24,7 @@ mod Forms
 mod Weights
 mod Shares
 mod Furthest
-mod Best
+pub mod Best
 mod OwnGroup
 mod CutOff
 mod OneAnswer

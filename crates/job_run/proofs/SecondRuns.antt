@@ -1,5 +1,5 @@
 -- A second run completes what the first left in part.
-use Rattle.std.proofs.Common.{◌≡◌, ◌≢◌, ◌∙◌, ℕ, zero, suc, ◌+◌, Bool, true, false, ◌||◌, List, [], ◌∷◌, Option, None, Some, Result, Ok, option_map, if◌then◌else◌, map, take, slice_get, refl, ap, sym, subst, ℤ}
+use Rattle.std.proofs.Common.{◌≡◌, ◌≢◌, ◌∙◌, ℕ, zero, suc, ◌+◌, Bool, true, false, ◌||◌, List, [], ◌∷◌, Option, None, Some, Result, Ok, option_map, map, take, slice_get, refl, ap, sym, subst, ℤ}
 use Rattle.std.specs.List.{AllByRecursion, list_any}
 use Rattle.std.specs.Str.{bytes_eq}
 use Rattle.std.proofs.lemmas.Slice.Eq.{bytes_eq-Decides}
@@ -21,19 +21,13 @@ use Rattle.job_run.specs.SecondRuns.{is_put_by, SecondRunsComplete}
 use Rattle.job_run.specs.declared.put.FilePut.{FilePut}
 use Rattle.job_run.specs.declared.put.Release.{Release}
 use Rattle.job_run.proofs.Outcomes.{ok-and}
+use Rattle.office_io.proofs.Puts.{put_other}
 
 -- none of the puts is of this name
 abbrev OfOthers : List ℕ → List FilePut → Type 0
 OfOthers other puts = AllByRecursion (λ (p : FilePut). other ≢ p.name) puts
 
 -- ---- puts of other names
-
-put_other : (files : Files) (name bytes other : List ℕ) → other ≢ name → files_after_put files name bytes other ≡ files other
-put_other files name bytes other differs =
-    elim (bytes_eq name other) as (λ same. bytes_eq name other ≡ same → (if same then Some bytes else files other) ≡ files other) [
-      | true ↦ λ is. absurd (differs (sym ((bytes_eq-Decides name other).0 is)))
-      | false ↦ λ _. refl
-    ] refl
 
 all-others : (other : List ℕ) (puts : List FilePut) (out : Files) → OfOthers other puts → put_all out puts other ≡ out other
 all-others other [] out apart = refl

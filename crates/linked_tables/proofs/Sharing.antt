@@ -1,5 +1,6 @@
 -- Which cells a table names, by their codes, and which two tables share.
 use Rattle.std.proofs.Common.{◌≡◌, ℕ, suc, ◌<◌, ◌==◌, ◌&&◌, ◌||◌, nat_le, nat_lt, Bool, true, false, List, [], ◌∷◌, length, map, get_or, slice_index_or, if◌then◌else◌, bytes_eq, All, arith, refl, ap, sym, ◌∙◌, subst}
+use Rattle.std.specs.List.{list_any}
 use Rattle.std.proofs.lemmas.Bool.Decides.{nat_tests, Decides-eqb}
 use Rattle.std.proofs.lemmas.List.{get_or-replicate, length-replicate}
 use Rattle.std.proofs.lemmas.List.FromFn.{get_or-map-range_with_len}
@@ -11,7 +12,7 @@ use Rattle.sdc_base.specs.Cells.{code_for, is_named, named_by, name_of, places, 
 use Rattle.sdc_base.specs.CellOrder.{is_place_in}
 use Rattle.sdc_base.proofs.Places.{places_are_lexicographic}
 use Rattle.sdc_base.proofs.PlaceLists.{name_length}
-use Rattle.linked_tables.specs.Tables.{has_unknown}
+use Rattle.linked_tables.specs.Tables.{has_twice, has_unknown}
 use Rattle.linked_tables.specs.BookCells.{IsTable}
 use Rattle.linked_tables.specs.Laws.{is_code, CellsByCode, TurnedShareAll, ApartShareTotal, grand_total}
 use Rattle.linked_tables.proofs.Finding.{named-map}
@@ -108,6 +109,62 @@ known-below variables (spanned ∷ table) variable known h =
 
     below : nat_le variables spanned ≡ false → spanned < variables
     below h = grind (arith, nat_tests)
+
+-- ---- a place is that of its name
+
+pub place-long : (trees : List Tree) (table place : List ℕ) → is_place_in (trees_of trees table) place ≡ true → length place ≡ length table
+place-long trees [] [] h = refl
+place-long trees [] (code ∷ place) h = cc
+place-long trees (variable ∷ table) [] h = cc
+place-long trees (variable ∷ table) (code ∷ place) h =
+    let rest = place-long trees table place (second (nat_lt code (length (slice_index_or trees variable []))) (is_place_in (trees_of trees table) place) h) in
+    omega (arith, rest)
+  where
+    second : (a b : Bool) → (a && b) ≡ true → b ≡ true
+    second true b h = h
+    second false b h = cc
+
+skip : (variable code : ℕ) (table place some : List ℕ) → list_any (λ other. other == variable) some ≡ false → map (code_for (variable ∷ table) (code ∷ place)) some ≡ map (code_for table place) some
+skip variable code table place [] apart = refl
+skip variable code table place (one ∷ some) apart =
+    let parts = both (one == variable) (list_any (λ other. other == variable) some) apart in
+    let test : (variable == one) ≡ false = grind (arith, nat_tests, parts.0) in
+    let rest = skip variable code table place some parts.1 in
+    rw (test, rest) refl
+  where
+    both : (a b : Bool) → (a || b) ≡ false → (a ≡ false) × (b ≡ false)
+    both true b h = cc
+    both false b h = (refl, h)
+
+codes-forth : (table place : List ℕ) → has_twice table ≡ false → length place ≡ length table → map (code_for table place) table ≡ place
+codes-forth [] [] once long = refl
+codes-forth [] (code ∷ place) once long = cc
+codes-forth (variable ∷ table) [] once long = cc
+codes-forth (variable ∷ table) (code ∷ place) once long =
+    let parts = both (list_any (λ other. other == variable) table) (has_twice table) once in
+    let here : (variable == variable) ≡ true = (Decides-eqb variable variable).1 refl in
+    let rest : map (code_for (variable ∷ table) (code ∷ place)) table ≡ place = skip variable code table place table parts.0 ∙ codes-forth table place parts.1 (omega (arith, long)) in
+    rw (here, rest) refl
+  where
+    both : (a b : Bool) → (a || b) ≡ false → (a ≡ false) × (b ≡ false)
+    both true b h = cc
+    both false b h = (refl, h)
+
+codes-of-name : (n : ℕ) (table place some : List ℕ) → has_unknown n some ≡ false → codes_at (name_of n table place) some ≡ map (code_for table place) some
+codes-of-name n table place [] known = refl
+codes-of-name n table place (variable ∷ some) known =
+    let parts = both (nat_le n variable) (has_unknown n some) known in
+    let below : variable < n = grind (arith, nat_tests, parts.0) in
+    let first = name-codes n table place variable below in
+    let rest = codes-of-name n table place some parts.1 in
+    rw (first, rest) refl
+  where
+    both : (a b : Bool) → (a || b) ≡ false → (a ≡ false) × (b ≡ false)
+    both true b h = cc
+    both false b h = (refl, h)
+
+pub place-of-name : (trees : List Tree) (table place : List ℕ) → IsTable (length trees) table → is_place_in (trees_of trees table) place ≡ true → codes_at (name_of (length trees) table place) table ≡ place
+place-of-name trees table place sound inside = codes-of-name (length trees) table place table sound.known ∙ codes-forth table place sound.once (place-long trees table place inside)
 
 -- ---- the cells of a table by their codes
 

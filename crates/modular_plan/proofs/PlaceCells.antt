@@ -1,25 +1,22 @@
 -- The cells at the places of a subtable are its cells, and those that are hidden are found there.
-use Rattle.std.proofs.Common.{◌≡◌, inl, inr, ℕ, suc, ◌+◌, ◌<◌, ◌==◌, ◌&&◌, ◌||◌, nat_le, nat_lt, Bool, true, false, if◌then◌else◌, List, [], ◌∷◌, length, map, filter, fold, get_or, slice_get, slice_index, slice_index_or, All, Option, None, Some, is_some, refl, ap, sym, ◌∙◌, subst, arith}
+use Rattle.std.proofs.Common.{◌≡◌, inl, inr, ℕ, suc, ◌+◌, ◌<◌, ◌==◌, ◌&&◌, ◌||◌, Bool, true, false, if◌then◌else◌, List, [], ◌∷◌, length, map, filter, fold, get_or, slice_get, slice_index, slice_index_or, All, Option, None, Some, is_some, refl, ap, sym, ◌∙◌, subst, arith}
 use Rattle.std.specs.BTreeSet.{insert_key}
 use Rattle.std.specs.List.{list_any, range_with_len}
 use Rattle.std.specs.Option.{option_map_or}
 use Rattle.std.specs.Ordering.{nat_cmp}
-use Rattle.std.proofs.lemmas.Bool.Decides.{nat_tests, Decides-eqb}
+use Rattle.std.proofs.lemmas.Bool.Decides.{Decides-eqb}
 use Rattle.std.proofs.lemmas.List.Elements.{All-filter, filter_agree}
 use Rattle.std.proofs.lemmas.List.FromFn.{get_or-range_with_len, length-range_with_len}
 use Rattle.std.proofs.lemmas.Option.{slice_get_within, get_or_from_slice_get}
-use Rattle.sdc_base.specs.Trees.{Tree}
 use Rattle.sdc_base.specs.Records.{Name}
-use Rattle.sdc_base.specs.Cells.{code_for, name_of, trees_of}
-use Rattle.sdc_base.specs.CellOrder.{is_place_in}
+use Rattle.sdc_base.specs.Cells.{name_of}
 use Rattle.sdc_base.specs.Cubes.{choices}
 use Rattle.sdc_base.specs.Subtables.{is_place_below}
 use Rattle.sdc_base.specs.declared.cube.Subtable.{Subtable}
 use Rattle.linked_tables.specs.BookViews.{BookView}
-use Rattle.linked_tables.specs.Tables.{has_twice, has_unknown}
 use Rattle.linked_tables.specs.BookCells.{IsBook, IsTable, cells, cell_at, is_in, name_at}
 use Rattle.linked_tables.proofs.Finding.{cell-found, cell-named}
-use Rattle.linked_tables.proofs.Sharing.{name-codes}
+use Rattle.linked_tables.proofs.Sharing.{place-of-name}
 use Rattle.hypercube.specs.LeastCubes.{is_marked}
 use Rattle.hypercube.proofs.Members.{Among, Picks, all-among, choices-pick, picks-among}
 use Rattle.modular_plan.specs.Plans.{codes_at, hidden_in, is_cell_of}
@@ -33,47 +30,9 @@ stands_at book t cell place = option_map_or (λ found. found == cell) (cell_at b
 
 -- ---- a place is that of its name
 
-first-false : (a b : Bool) → (a || b) ≡ false → (a ≡ false) × (b ≡ false)
-first-false true b h = cc
-first-false false b h = (refl, h)
-
 both : (a b : Bool) → (a && b) ≡ true → (a ≡ true) × (b ≡ true)
 both true b h = (refl, h)
 both false b h = cc
-
-skip : (variable code : ℕ) (table place some : List ℕ) → list_any (λ other. other == variable) some ≡ false → map (code_for (variable ∷ table) (code ∷ place)) some ≡ map (code_for table place) some
-skip variable code table place [] apart = refl
-skip variable code table place (one ∷ some) apart =
-    let parts = first-false (one == variable) (list_any (λ other. other == variable) some) apart in
-    let test : (variable == one) ≡ false = grind (arith, nat_tests, parts.0) in
-    let rest = skip variable code table place some parts.1 in
-    rw (test, rest) refl
-
-codes-forth : (table place : List ℕ) → has_twice table ≡ false → length place ≡ length table → map (code_for table place) table ≡ place
-codes-forth [] [] once long = refl
-codes-forth [] (code ∷ place) once long = cc
-codes-forth (variable ∷ table) [] once long = cc
-codes-forth (variable ∷ table) (code ∷ place) once long =
-    let parts = first-false (list_any (λ other. other == variable) table) (has_twice table) once in
-    let here : (variable == variable) ≡ true = (Decides-eqb variable variable).1 refl in
-    let rest : map (code_for (variable ∷ table) (code ∷ place)) table ≡ place = skip variable code table place table parts.0 ∙ codes-forth table place parts.1 (omega (arith, long)) in
-    rw (here, rest) refl
-
-codes-of-name : (n : ℕ) (table place some : List ℕ) → has_unknown n some ≡ false → map (λ variable. slice_index (name_of n table place) variable) some ≡ map (code_for table place) some
-codes-of-name n table place [] known = refl
-codes-of-name n table place (variable ∷ some) known =
-    let parts = first-false (nat_le n variable) (has_unknown n some) known in
-    let below : variable < n = grind (arith, nat_tests, parts.0) in
-    let first = name-codes n table place variable below in
-    let rest = codes-of-name n table place some parts.1 in
-    rw (first, rest) refl
-
-place-long : (trees : List Tree) (table place : List ℕ) → is_place_in (trees_of trees table) place ≡ true → length place ≡ length table
-place-long trees [] [] h = refl
-place-long trees [] (code ∷ place) h = cc
-place-long trees (variable ∷ table) [] h = cc
-place-long trees (variable ∷ table) (code ∷ place) h =
-    ap suc (place-long trees table place (both (nat_lt code (length (slice_index_or trees variable []))) (is_place_in (trees_of trees table) place) h).1)
 
 -- the codes of a cell are those of a place where it stands
 place-codes : (book : BookView) → IsBook book → (t cell : ℕ) (place : List ℕ) → cell_at book t place ≡ Some cell → codes_at book (slice_index_or book.tables t []) cell ≡ place
@@ -89,8 +48,7 @@ place-codes book is_book t cell place at = by (slice_get book.tables t) refl (ap
         let name : slice_index_or (cells book) cell [] ≡ name_of (length book.trees) table place = get_or_from_slice_get (cells book) cell (name_of (length book.trees) table place) [] named in
         ap (λ (spanned : List ℕ). codes_at book spanned cell) same
         ∙ ap (λ (one : Name). map (λ variable. slice_index one variable) table) name
-        ∙ codes-of-name (length book.trees) table place table sound.known
-        ∙ codes-forth table place sound.once (place-long book.trees table place (sym inside))
+        ∙ place-of-name book.trees table place sound (sym inside)
       where
         book_tables : (k : ℕ) → k < length book.tables → IsTable (length book.trees) (slice_index_or book.tables k [])
         book_tables k within = is_book.tables k [] within

@@ -43,7 +43,8 @@ fn numbers_in(alloc: Global, set: BTreeSet<u32>) -> Result<Vec<u32>, Memory>
     Ok(numbers)
 }
 
-// Adds the hidden cells at the places of table t that begin so and go on with a code of each list that is left.
+// Adds the hidden cells at the places of table t that begin so and go on with a code of each list that is left. There
+// are at most eight lists, one for each variable of a table, and so many codes a place can hold.
 fn add_places(
     book: &Book,
     t: u32,

@@ -1,4 +1,4 @@
 mod Places
-mod Puts
+pub mod Puts
 mod Told
 pub mod Shelves

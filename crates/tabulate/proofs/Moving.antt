@@ -22,12 +22,12 @@ use Rattle.sdc_base.proofs.FirstNames.{all_named, names_are_first, stay}
 use Rattle.sdc_base.proofs.Walks.{parent_is_earlier}
 use Rattle.linked_tables.specs.BookViews.{BookView}
 use Rattle.linked_tables.specs.Laws.{is_code}
-use Rattle.linked_tables.specs.Tables.{has_twice, has_unknown}
 use Rattle.linked_tables.specs.BookCells.{IsBook, IsTable, cells, first_own, number_of}
 use Rattle.linked_tables.proofs.Finding.{found-name, named-found}
-use Rattle.linked_tables.proofs.Sharing.{cells_by_code, codes_at, known-below, name-long, named-codes, place-good}
+use Rattle.linked_tables.proofs.Sharing.{cells_by_code, codes_at, known-below, name-long, named-codes, place-good, place-of-name}
 use Rattle.linked_tables.proofs.TableSteps.{cells-next}
-use Rattle.tabulate.proofs.Standing.{at-front, found-early, found-where, front-cells, name-back, named-where, once-cells, own-named, place-of-name, spanned-code}
+use Rattle.tabulate.proofs.Standing.{at-front, found-early, front-cells, name-back, named-where, once-cells, own-named, spanned-code}
+use Rattle.linked_tables.proofs.Guessing.{found-where}
 
 -- ---- a table that has one has the other
 

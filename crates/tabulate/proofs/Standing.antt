@@ -1,53 +1,27 @@
 -- At which places of a table a cell stands.
-use Rattle.std.proofs.Common.{◌≡◌, ℕ, zero, suc, ◌+◌, ◌<◌, ◌≤◌, ◌==◌, ◌&&◌, ◌||◌, nat_le, nat_lt, Bool, true, false, cond, List, [], ◌∷◌, ◌++◌, length, map, take, drop, get_or, slice_get, slice_index_or, bytes_eq, if◌then◌else◌, Option, None, Some, option_map, is_some, refl, ap, sym, ◌∙◌, subst, arith, add-one}
-use Rattle.std.specs.List.{IsDistinct, AllByRecursion, list_any, flat_map}
+use Rattle.std.proofs.Common.{◌≡◌, ℕ, zero, suc, ◌+◌, ◌<◌, ◌≤◌, ◌==◌, ◌&&◌, ◌||◌, nat_le, nat_lt, Bool, true, false, cond, List, [], ◌∷◌, ◌++◌, length, take, drop, get_or, slice_get, slice_index_or, bytes_eq, if◌then◌else◌, Option, None, Some, option_map, is_some, refl, ap, sym, ◌∙◌, subst, arith, add-one}
+use Rattle.std.specs.List.{IsDistinct, flat_map}
 use Rattle.std.specs.Option.{option_map_or, option_and_then}
 use Rattle.std.proofs.lemmas.Bool.Decides.{nat_tests, Decides-eqb}
 use Rattle.std.proofs.lemmas.List.{take-append-drop}
-use Rattle.std.proofs.lemmas.Map.Keys.{IsDistinct-head, IsDistinct-tail}
 use Rattle.std.proofs.lemmas.Slice.Eq.{bytes_eq-Decides}
 use Rattle.sdc_base.specs.Trees.{Tree}
 use Rattle.sdc_base.specs.Records.{Name}
 use Rattle.sdc_base.specs.Places.{first_place}
-use Rattle.sdc_base.specs.Cells.{cells_of, code_for, is_named, named_by, name_of, trees_of, spans}
+use Rattle.sdc_base.specs.Cells.{cells_of, is_named, named_by, name_of, trees_of, spans}
 use Rattle.sdc_base.specs.CellOrder.{is_place_in}
 use Rattle.sdc_base.proofs.FirstNames.{all_named, names_are_first}
 use Rattle.sdc_base.proofs.PlaceLists.{name_length}
 use Rattle.linked_tables.specs.BookViews.{BookView}
-use Rattle.linked_tables.specs.Tables.{has_twice, has_unknown}
 use Rattle.linked_tables.specs.BookCells.{IsTable, cells, cell_at, first_own, is_in, name_at, name_in_table, number_of}
 use Rattle.linked_tables.proofs.CellLists.{cells-stay}
 use Rattle.linked_tables.proofs.TableSteps.{cells-next}
 use Rattle.linked_tables.proofs.Finding.{cell-found, cell-named, place-named}
-use Rattle.linked_tables.proofs.Sharing.{codes_at, code-back, known-below, name-codes, name-long, named-codes, place-good, same-items}
+use Rattle.linked_tables.proofs.Sharing.{codes_at, code-back, known-below, name-codes, name-long, named-codes, place-good, place-of-name, same-items}
 use Rattle.tabulate.specs.RecordsByPlace.{is_at}
+use Rattle.linked_tables.proofs.Guessing.{found-where}
 
 -- ---- numbers of distinct names
-
-head-apart : (y x : Name) (ys : List Name) (k : ℕ) → AllByRecursion (λ other. bytes_eq y other ≡ false) ys → slice_get ys k ≡ Some x → bytes_eq y x ≡ false
-head-apart y x [] k all at = cc
-head-apart y x (z ∷ ys) zero all at = let same : z ≡ x = some-same at in subst (λ one. bytes_eq y one ≡ false) same all.0
-  where
-    some-same : Some z ≡ Some x → z ≡ x
-    some-same h = cc
-head-apart y x (z ∷ ys) (suc k) all at = head-apart y x ys k all.1 at
-
--- a name that stands once is found where it stands
-pub found-where : (names : List Name) (k : ℕ) (name : Name) → IsDistinct bytes_eq names → slice_get names k ≡ Some name → first_place (bytes_eq name) names ≡ Some k
-found-where [] k name once at = cc
-found-where (first ∷ names) zero name once at =
-    let same : first ≡ name = cc in
-    let test : bytes_eq name first ≡ true = (bytes_eq-Decides name first).1 (sym same) in
-    rw test refl
-found-where (first ∷ names) (suc k) name once at =
-    let apart : bytes_eq first name ≡ false = head-apart first name names k (IsDistinct-head bytes_eq first names once) at in
-    let test : bytes_eq name first ≡ false = turned (bytes_eq name first) refl apart in
-    let rest = found-where names k name (IsDistinct-tail bytes_eq first names once) at in
-    rw (test, rest) (ap Some (add-one k))
-  where
-    turned : (b : Bool) → bytes_eq name first ≡ b → bytes_eq first name ≡ false → bytes_eq name first ≡ false
-    turned true is apart = let same : bytes_eq first name ≡ true = (bytes_eq-Decides first name).1 (sym ((bytes_eq-Decides name first).0 is)) in cc
-    turned false is apart = is
 
 -- a name that is among the first ones has a number below theirs
 pub found-early : (names more : List Name) (name : Name) (k : ℕ) → is_named names name ≡ true → first_place (bytes_eq name) (names ++ more) ≡ Some k → k < length names
@@ -133,61 +107,6 @@ cell-early book t found place is = by_table (slice_get book.tables t) refl is
     by_table (Some table) at is = inside table at (is_in book table place) refl is
 
 -- ---- the one place of a cell in a table
-
-place-long : (trees : List Tree) (table place : List ℕ) → is_place_in (trees_of trees table) place ≡ true → length place ≡ length table
-place-long trees [] [] h = refl
-place-long trees [] (code ∷ place) h = cc
-place-long trees (variable ∷ table) [] h = cc
-place-long trees (variable ∷ table) (code ∷ place) h =
-    let rest = place-long trees table place (second (nat_lt code (length (slice_index_or trees variable []))) (is_place_in (trees_of trees table) place) h) in
-    omega (arith, rest)
-  where
-    second : (a b : Bool) → (a && b) ≡ true → b ≡ true
-    second true b h = h
-    second false b h = cc
-
-skip : (variable code : ℕ) (table place some : List ℕ) → list_any (λ other. other == variable) some ≡ false → map (code_for (variable ∷ table) (code ∷ place)) some ≡ map (code_for table place) some
-skip variable code table place [] apart = refl
-skip variable code table place (one ∷ some) apart =
-    let parts = both (one == variable) (list_any (λ other. other == variable) some) apart in
-    let test : (variable == one) ≡ false = grind (arith, nat_tests, parts.0) in
-    let rest = skip variable code table place some parts.1 in
-    rw (test, rest) refl
-  where
-    both : (a b : Bool) → (a || b) ≡ false → (a ≡ false) × (b ≡ false)
-    both true b h = cc
-    both false b h = (refl, h)
-
-codes-forth : (table place : List ℕ) → has_twice table ≡ false → length place ≡ length table → map (code_for table place) table ≡ place
-codes-forth [] [] once long = refl
-codes-forth [] (code ∷ place) once long = cc
-codes-forth (variable ∷ table) [] once long = cc
-codes-forth (variable ∷ table) (code ∷ place) once long =
-    let parts = both (list_any (λ other. other == variable) table) (has_twice table) once in
-    let here : (variable == variable) ≡ true = (Decides-eqb variable variable).1 refl in
-    let rest : map (code_for (variable ∷ table) (code ∷ place)) table ≡ place = skip variable code table place table parts.0 ∙ codes-forth table place parts.1 (omega (arith, long)) in
-    rw (here, rest) refl
-  where
-    both : (a b : Bool) → (a || b) ≡ false → (a ≡ false) × (b ≡ false)
-    both true b h = cc
-    both false b h = (refl, h)
-
-codes-of-name : (n : ℕ) (table place some : List ℕ) → has_unknown n some ≡ false → codes_at (name_of n table place) some ≡ map (code_for table place) some
-codes-of-name n table place [] known = refl
-codes-of-name n table place (variable ∷ some) known =
-    let parts = both (nat_le n variable) (has_unknown n some) known in
-    let below : variable < n = grind (arith, nat_tests, parts.0) in
-    let first = name-codes n table place variable below in
-    let rest = codes-of-name n table place some parts.1 in
-    rw (first, rest) refl
-  where
-    both : (a b : Bool) → (a || b) ≡ false → (a ≡ false) × (b ≡ false)
-    both true b h = cc
-    both false b h = (refl, h)
-
--- a place is that of its name
-pub place-of-name : (trees : List Tree) (table place : List ℕ) → IsTable (length trees) table → is_place_in (trees_of trees table) place ≡ true → codes_at (name_of (length trees) table place) table ≡ place
-place-of-name trees table place sound inside = codes-of-name (length trees) table place table sound.known ∙ codes-forth table place sound.once (place-long trees table place inside)
 
 pub spanned-code : (trees : List Tree) (table : List ℕ) (name : Name) → IsTable (length trees) table → is_named (named_by trees table) name ≡ true → (variable : ℕ) → spans table variable ≡ true → nat_lt (get_or name variable 0) (length (slice_index_or trees variable [])) ≡ true
 spanned-code trees table name sound h variable variables_of =
