@@ -5,7 +5,7 @@ use Rattle.sdc_base.specs.declared.cell.Cell.{Cell}
 use Rattle.sdc_base.specs.declared.system.System.{System}
 use Rattle.tableau.specs.Readings.{slacks_of}
 use Rattle.tableau.specs.Steps.{IsBlocked}
-use Rattle.tableau.specs.Tableaus.{TableauWalk}
+use Rattle.tableau.specs.Tableaus.{TableauWalk, IsTableauWalk}
 use Rattle.tableau.specs.Widths.{IsWideStep}
 use Rattle.tableau.specs.declared.step.Step.TheVariants.{Wide}
 use Rattle.worlds.specs.declared.faults.RefutationFault.TheVariants as refutation
@@ -37,16 +37,18 @@ NeedsWideAt system cells flags group question walk (Refutation cell) =
     × AreMultipliersOf system cells group walk.table.den (slacks_of walk.problem walk.table) multipliers
     × NeedsWideNumber system cells flags question multipliers cell
 
--- Why there is no answer. A component of more than 1,500 cells is looked for first, so every other cause but want of
--- memory, which is free, comes only where there are at most so many.
+-- Why there is no answer: a walk over the question's problem that was cut off, or that needs a wide number. A component
+-- of more than 1,500 cells is looked for first, so every other cause but want of memory, which is free, comes only where
+-- there are at most so many.
 abbrev pub IsCauseIn : System → List Cell → List Bool → Group → Question → ℕ → AskFault → Type 0
 IsCauseIn system cells flags group question limit (fault.Work walk) =
     (walk.question ≡ question) × (walk.tableau.problem ≡ problem_of system cells group question)
     × (walk.tableau.improved ≡ limit) × (¬ HasEnded walk.tableau) × (length (members group system.cells) ≤ 1500)
+    × IsTableauWalk walk.tableau
 IsCauseIn system cells flags group question limit (fault.Wide walk place) =
     (walk.question ≡ question) × (walk.tableau.problem ≡ problem_of system cells group question)
     × NeedsWideAt system cells flags group question walk.tableau place
-    × (length (members group system.cells) ≤ 1500)
+    × (length (members group system.cells) ≤ 1500) × IsTableauWalk walk.tableau
 IsCauseIn system cells flags group question limit (fault.Size asked hidden) = (asked ≡ question)
     × (hidden ≡ length (members group system.cells)) × (1500 < hidden)
 IsCauseIn system cells flags group question limit fault.Memory = Unit {0}

@@ -110,6 +110,8 @@ fn walk_on(alloc: Global, inquiry: &Inquiry<'_>, limit: u64) -> Result<Answer, A
                 return finish(alloc, inquiry, tableau);
             }
             Step::Wide { row, column } => {
+                // for the proof: what is known of a walk
+                read_state(&tableau);
                 let walk = Walk { question, tableau };
                 return Err(AskFault::Wide(walk, WidePlace::Pivot { row, column }));
             }

@@ -121,6 +121,7 @@ fn stop(
     num: i128,
 ) -> Result<Answer, AskFault>
     requires problem { tableau.problem ≡ inquiries.problem_for inquiry.now }
+    requires walked { IsTableauWalk tableau }
     requires blocked { IsBlocked tableau.problem tableau.table }
     requires stuck { IsAtOptimum (state_of tableau) }
     requires world { inquiries.IsWorldOfWalk inquiry.now tableau world }

@@ -19,16 +19,16 @@ start-requires c =
 
 pub finish-requires-2-clause-ended : goal.finish-requires-2-clause-ended
 finish-requires-2-clause-ended c =
-    ended_where c.walk.tableau c.read_state.ensures.bounded (λ neither. let on : c.can_improve.result ≡ true = c.can_improve.ensures.neither.1 neither in let clash : true ≡ false = sym on ∙ c.if-can_improve.false in absurd cc)
+    ended_where c.walk.tableau c.read_state-2.ensures.bounded (λ neither. let on : c.can_improve.result ≡ true = c.can_improve.ensures.neither.1 neither in let clash : true ≡ false = sym on ∙ c.if-can_improve.false in absurd cc)
 
 pub returns-clause-read : goal.returns-clause-read
 returns-clause-read c =
     let group : Group = group_of c.args.inquiry.now.of.now c.args.inquiry.now.question.cell in
     if_ok_more (λ (answer : Answer). IsReadOff c.args.inquiry.now.system.now c.args.inquiry.now.cells.now group c.walk.tableau answer) (λ (answer : Answer). IsWalkAnswerIn c.args.inquiry.now.system.now c.args.inquiry.now.cells.now group c.args.inquiry.now.question answer)
-    c.finish-2.result (λ answer own. (c.walk.tableau, c.read_state.ensures.walked, c.walk.invariant.problem, own)) c.finish-2.ensures.read
+    c.finish-2.result (λ answer own. (c.walk.tableau, c.read_state-2.ensures.walked, c.walk.invariant.problem, own)) c.finish-2.ensures.read
 
 pub returns-then-can_improve-clause-short : goal.returns-then-can_improve-clause-short
 returns-then-can_improve-clause-short c =
     let inquiry = c.args.inquiry.now in
     let past : c.args.limit ≤ c.walk.made = omega (arith, c.walk-test.false) in
-    limit_below inquiry.system.now inquiry.cells.now (group_of inquiry.of.now inquiry.question.cell) inquiry.question c.args.limit c.walk.made c.walk.tableau.improved c.walk.tableau.problem past c.walk.invariant.improved c.walk.invariant.problem c.read_state.ensures.short
+    limit_below inquiry.system.now inquiry.cells.now (group_of inquiry.of.now inquiry.question.cell) inquiry.question c.args.limit c.walk.made c.walk.tableau.improved c.walk.tableau.problem past c.walk.invariant.improved c.walk.invariant.problem c.read_state-2.ensures.short
