@@ -23,9 +23,10 @@ use Rattle.job_intervals.specs.declared.interval_file.IntervalFile.{IntervalFile
 use Rattle.job_intervals.specs.declared.stop.IntervalStop.{IntervalStop}
 use Rattle.job_intervals.specs.declared.stop.IntervalStop.TheVariants as stop
 
--- The file is that of the intervals of the cells that are hidden: each of them, ascending, with the least and the
--- greatest value that a complete table gives it, as a text, and their number.
+-- Each cell is hidden or shown, and the file is that of the intervals of the hidden ones: each of them, ascending, with
+-- the least and the greatest value that a complete table gives it, as a text, and their number.
 pub record IsFileFor (job : SettledJob) (flags : List Bool) (file : IntervalFile) : Type 0 where
+  pub one_each : length flags ≡ length job.cells
   pub system : System
   pub intervals : List CellInterval
   pub system_is : IsSystemOf job.book system

@@ -151,7 +151,9 @@ no-rounding : (settled : SettledInputs) (job : SettledJob) (system : System) (ba
 no-rounding settled job system base truths task none more = record {
   more = more;
   base = base;
+  system = system;
   rounds = its-base settled job system base truths task;
+  system_is = its-system settled job system base truths task;
   none = λ values found. none values (subst (λ (ts : List ℤ). IsRounding system ts base values) (sym (its-truths settled job system base truths task))
       (rounding-elsewhere settled.inputs found.system system (truths_in settled.inputs) base values found.system_is (its-system settled job system base truths task) found.rounding));
 }

@@ -62,10 +62,13 @@ IsOneOrTwoWay trees tables = ⊥
 abbrev pub IsAlwaysRounded : Inputs → Type 0
 IsAlwaysRounded inputs = IsOneOrTwoWay inputs.records.trees inputs.described.bound.tables
 
--- the job rounds, not one or two flat variables alone, and no values at all are a rounding for it
+-- the job rounds, not one or two flat variables alone, its cells have relations, and no values at all are a rounding for
+-- it
 pub record HasNoRounding (settled : SettledInputs) : Type 0 where
   pub base : ℤ
+  pub system : System
   pub rounds : base_of settled.inputs.described ≡ Some base
+  pub system_is : IsSystemIn settled.inputs system
   pub none : (values : List ℤ) → ¬ IsRoundingFor settled.inputs base values
   pub more : ¬ IsAlwaysRounded settled.inputs
 

@@ -30,6 +30,7 @@ overflow_cast-cells c =
 
 pub returns : goal.returns
 returns c = record {
+  one_each = c.requires.each;
   system = c.in_ok-system.system;
   intervals = c.in_ok-intervals.intervals;
   system_is = record { cells = c.in_ok-system.ensures.cells; relations = c.in_ok-system.ensures.exact };
