@@ -13,8 +13,6 @@ mod reading;
 mod settled;
 mod settling;
 mod statement;
-#[cfg(test)]
-mod tests;
 
 pub use applying::apply;
 pub use faults::{PriorError, PriorWhy};

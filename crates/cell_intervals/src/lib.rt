@@ -7,8 +7,6 @@ mod interval;
 mod intervals;
 mod laws;
 mod ratio;
-#[cfg(test)]
-mod tests;
 mod texts;
 
 pub use interval::{CellInterval, UpperEnd};

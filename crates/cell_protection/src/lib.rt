@@ -5,8 +5,6 @@
 mod certifying;
 mod planning;
 mod protection;
-#[cfg(test)]
-mod tests;
 
 pub use planning::trail_for;
 pub use protection::{Protection, protect_cells};

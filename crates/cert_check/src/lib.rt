@@ -16,8 +16,6 @@ mod release;
 mod repairing;
 mod rounded;
 mod steps;
-#[cfg(test)]
-mod tests;
 
 pub use accepting::accept;
 pub use case::Case;

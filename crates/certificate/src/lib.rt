@@ -10,8 +10,6 @@ mod numerals;
 mod pieces;
 mod reader;
 mod reading;
-#[cfg(test)]
-mod tests;
 mod tokens;
 mod writing;
 

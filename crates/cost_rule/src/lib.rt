@@ -4,8 +4,6 @@
 mod kind;
 mod stored;
 mod tells;
-#[cfg(test)]
-mod tests;
 
 pub use kind::CostKind;
 pub use stored::CostRule;

@@ -20,6 +20,3 @@ pub use lead_form::from_lead;
 pub use level_form::from_levels;
 pub use missing_codes::with_missing;
 pub use tree_fault::TreeFault;
-
-#[cfg(test)]
-mod tests;

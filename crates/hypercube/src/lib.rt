@@ -9,8 +9,6 @@ mod pricing;
 mod ranking;
 mod search;
 mod serving;
-#[cfg(test)]
-mod tests;
 
 pub use laws::{cubes_are_whole, least_is_first};
 pub use sdc_base::{Corner, Cube, Subtable};

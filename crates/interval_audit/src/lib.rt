@@ -16,8 +16,6 @@ mod question;
 mod readings;
 mod rows;
 mod terms;
-#[cfg(test)]
-mod tests;
 
 pub use answer::{Answer, AskFault, Fraction, Walk, WidePlace};
 pub use asking::ask;

@@ -20,8 +20,6 @@ mod rule_texts;
 mod rules;
 mod statement;
 mod table_texts;
-#[cfg(test)]
-mod tests;
 mod texts;
 
 pub use binding::bind;

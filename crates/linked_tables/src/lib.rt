@@ -11,8 +11,6 @@ mod numbering;
 mod places;
 mod questions;
 mod table_mut;
-#[cfg(test)]
-mod tests;
 
 pub use book::Book;
 pub use book_fault::BookFault;

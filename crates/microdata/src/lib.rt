@@ -16,8 +16,6 @@ mod reader;
 mod record;
 mod records;
 mod taking;
-#[cfg(test)]
-mod tests;
 
 pub use faults::{RowError, RowWhy};
 pub use laws::{

@@ -7,8 +7,6 @@ mod marking;
 mod ordering;
 mod planning;
 mod subtables;
-#[cfg(test)]
-mod tests;
 
 pub use laws::{no_depth_is_greater, steps_are_whole};
 pub use planning::plan;

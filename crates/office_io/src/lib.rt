@@ -10,8 +10,6 @@ mod memory_shelf;
 mod memory_tray;
 mod reading;
 mod shelf;
-#[cfg(test)]
-mod tests;
 mod tray;
 
 pub use faults::{BeginFault, Failed, FileFault, PutFault};

@@ -6,8 +6,6 @@ mod cuts;
 mod file_names;
 mod laws;
 mod line_reader;
-#[cfg(test)]
-mod tests;
 mod units;
 mod units_text;
 mod whole_numbers;

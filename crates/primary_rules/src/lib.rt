@@ -5,8 +5,6 @@ mod laws;
 mod levels;
 mod naming;
 mod quotient;
-#[cfg(test)]
-mod tests;
 
 pub use laws::{
     further_is_not_named, kept_are_enough, levels_are_greatest, names_where_disclosing,

@@ -13,8 +13,6 @@ mod numbers;
 mod reading;
 mod said;
 mod setting;
-#[cfg(test)]
-mod tests;
 mod variable_lines;
 mod words;
 

@@ -6,8 +6,6 @@ mod below;
 mod having;
 mod laws;
 mod relating;
-#[cfg(test)]
-mod tests;
 
 pub use laws::{one_variable_has_signs, two_flat_variables_have_signs};
 pub use relating::relations_of;

@@ -8,15 +8,11 @@ mod laws;
 mod lines;
 mod numbers;
 mod reading;
-#[cfg(test)]
-mod reading_tests;
 mod release;
 mod release_fault;
 mod sheet;
 mod shown;
 mod tables;
-#[cfg(test)]
-mod tests;
 
 pub use laws::{hidden_sets_are_read_back, only_what_is_shown_enters, rounded_numbers_have_texts};
 pub use release::{hidden_of, rounded_of};

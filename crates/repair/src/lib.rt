@@ -12,8 +12,6 @@ mod questions;
 mod serving;
 mod stopped;
 mod task;
-#[cfg(test)]
-mod tests;
 mod trial;
 mod trying;
 mod verdict;

@@ -16,8 +16,6 @@ mod partial;
 mod rounding;
 mod search;
 mod steps;
-#[cfg(test)]
-mod tests;
 mod underway;
 mod walk;
 

@@ -25,8 +25,6 @@ mod rule;
 mod rules;
 mod side;
 mod system;
-#[cfg(test)]
-mod tests;
 mod text;
 mod tops;
 mod trail;

@@ -6,8 +6,6 @@ mod folding;
 mod placing;
 mod reading;
 mod tabulating;
-#[cfg(test)]
-mod tests;
 
 pub use sdc_base::TopList;
 pub use tabulating::tabulate;

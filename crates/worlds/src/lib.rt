@@ -15,8 +15,6 @@ mod refuted;
 mod relations;
 mod shares;
 mod sums;
-#[cfg(test)]
-mod tests;
 mod world;
 mod world_check;
 

@@ -1,0 +1,11 @@
+//! Cubes, plans, repairs and protections of cells, called on worked rows, as tests alone.
+#![tactic(auto)]
+
+#[cfg(test)]
+mod cell_protection_tests;
+#[cfg(test)]
+mod hypercube_tests;
+#[cfg(test)]
+mod modular_plan_tests;
+#[cfg(test)]
+mod repair_tests;

@@ -1,0 +1,275 @@
+ghost use Rattle.std.specs.Prelude.{◌≤◌, All, IfOk, length};
+
+use hierarchy::{CodeTree, TreeFault, flat, from_lead, from_levels, read_codes, with_missing};
+use sdc_base::Text;
+use std::alloc::{AllocError, Global};
+use std::test::Fail;
+
+fn text(alloc: Global, bytes: &str) -> Result<Text, AllocError> {
+    Ok(Text::new(Vec::from_slice(alloc, bytes.as_bytes())?))
+}
+
+// The texts that are no longer than the most.
+fn texts(alloc: Global, bytes: &[&str], most: usize) -> Result<Vec<Text>, AllocError>
+    ensures { IfOk result (λ made. All (λ text. length text ≤ most) made.items) }
+{
+    let mut made = Vec::new(alloc);
+    'bytes: for one in bytes {
+        let text = text(alloc, one)?;
+        if text.as_slice().len() <= most {
+            made.push(text)?;
+        }
+    }
+    Ok(made)
+}
+
+// A place as a digit.
+fn digit(place: Option<u32>) -> u8 {
+    match place {
+        None => b'-',
+        Some(place) if place < 10 => b'0' + place as u8,
+        Some(_) => b'+',
+    }
+}
+
+// Each of the first twenty codes with its parent, depth, first child and next sibling.
+fn shown(alloc: Global, tree: &CodeTree) -> Result<Vec<u8>, TreeFault> {
+    let mut text = Vec::new(alloc);
+    'places: for place in 0..20u32 {
+        if let Some(code) = tree.code(place) {
+            text.extend_from_slice(code)?;
+            text.push(b':')?;
+            text.push(digit(tree.parent(place)))?;
+            text.push(digit(tree.depth(place)))?;
+            text.push(digit(tree.first_child(place)))?;
+            text.push(digit(tree.next_sibling(place)))?;
+            text.push(b' ')?;
+        }
+    }
+    Ok(text)
+}
+
+// Whether the answer is the expected tree or fault.
+fn agrees(answer: Result<Vec<u8>, TreeFault>, expected: Result<&str, TreeFault>) -> bool {
+    match answer {
+        Ok(text) => match expected {
+            Ok(tree) => text.as_slice() == tree.as_bytes(),
+            Err(_) => false,
+        },
+        Err(fault) => match expected {
+            Ok(_) => false,
+            Err(other) => fault == other,
+        },
+    }
+}
+
+// `from_lead`, where it may be called.
+fn lead_shown(alloc: Global, lead: &str, bytes: &str) -> Result<Vec<u8>, TreeFault> {
+    let (lead, total) = (text(alloc, lead)?, text(alloc, "Total")?);
+    if lead.as_slice().is_empty() || bytes.len() > 1000 {
+        return Err(TreeFault::Memory);
+    }
+    let tree = from_lead(alloc, bytes.as_bytes(), &lead, &total)?;
+    shown(alloc, &tree)
+}
+
+#[test]
+fn hierarchy_files(rt: HostRuntime) -> Result<(), Fail> {
+    let alloc = rt.alloc();
+    for (lead, bytes, expected) in [
+        (
+            "@",
+            "Nr\n@1\n@2\nOs\n@3\n",
+            Ok("Total:-01- Nr:0124 1:12-3 2:12-- Os:015- 3:42-- "),
+        ),
+        ("@", "", Ok("Total:-0-- ")),
+        ("@", "Nr\n@@1", Err(TreeFault::Jump(2))),
+        ("@", "@1", Err(TreeFault::Jump(1))),
+        // blank lines are passed over, and blanks round a code are dropped after the leads
+        ("@", "a\r\n\r\n \t\r\n@ b ", Ok("Total:-01- a:012- b:12-- ")),
+        ("@", "a\n @b", Ok("Total:-01- a:01-2 @b:01-- ")),
+        // nine levels, and ten
+        (
+            "@",
+            "a\n@b\n@@c\n@@@d\n@@@@e\n@@@@@f\n@@@@@@g\n@@@@@@@h\n@@@@@@@@i",
+            Ok("Total:-01- a:012- b:123- c:234- d:345- e:456- f:567- g:678- h:789- i:89-- "),
+        ),
+        (
+            "@",
+            "a\n@b\n@@c\n@@@d\n@@@@e\n@@@@@f\n@@@@@@g\n@@@@@@@h\n@@@@@@@@i\n@@@@@@@@@j",
+            Err(TreeFault::TooDeep(10)),
+        ),
+        // leads of two bytes, and a code that begins with half a lead
+        (
+            "--",
+            "a\n--b\n---c",
+            Ok("Total:-01- a:012- b:12-3 -c:12-- "),
+        ),
+        // the faults of a line in their order
+        ("@", "Nr\n@ \n", Err(TreeFault::NoCode(2))),
+        ("@", "@", Err(TreeFault::NoCode(1))),
+        ("@", "@Total", Err(TreeFault::Jump(1))),
+        ("@", "Nr\n Total", Err(TreeFault::IsTotal(2))),
+        ("@", "Nr\n\n@Nr\n", Err(TreeFault::Twice(3))),
+        ("@", "Nr\n@1\nOs\n@1", Err(TreeFault::Twice(4))),
+    ] {
+        assert_eq!(rt;
+            agrees(lead_shown(alloc, lead, bytes), expected),
+            true,
+            "{bytes}"
+        );
+    }
+    Ok(())
+}
+
+// `from_levels` with two widths, where it may be called.
+fn level_shown(alloc: Global, first: u8, second: u8, codes: &[&str]) -> Result<Vec<u8>, TreeFault> {
+    let total = text(alloc, "T")?;
+    if first == 0 || second == 0 {
+        return Err(TreeFault::Memory);
+    }
+    let codes = texts(alloc, codes, first as usize + second as usize)?;
+    let tree = from_levels(alloc, &codes, &[first, second], &total)?;
+    shown(alloc, &tree)
+}
+
+#[test]
+fn level_codes(rt: HostRuntime) -> Result<(), Fail> {
+    let alloc = rt.alloc();
+    for (first, second, codes, expected) in [
+        (
+            1,
+            1,
+            ["11", "12", "21"],
+            Ok("T:-01- 1:0124 11:12-3 12:12-- 2:015- 21:42-- "),
+        ),
+        (
+            1,
+            1,
+            ["21", "12", "11"],
+            Ok("T:-01- 1:0124 11:12-3 12:12-- 2:015- 21:42-- "),
+        ),
+        // the empty code is a child of the total
+        (1, 1, ["", "a", "ab"], Ok("T:-01- :01-2 a:013- ab:22-- ")),
+        // a code that ends between two boundaries is no parent
+        (
+            2,
+            2,
+            ["1", "12", "123"],
+            Ok("T:-01- 1:01-2 12:013- 123:22-- "),
+        ),
+        // the faults of a code in their order
+        (1, 1, ["a", "b ", "T"], Err(TreeFault::Blank(2))),
+        (1, 1, ["a", "T ", "b"], Err(TreeFault::Blank(2))),
+        (1, 1, ["a", "b", "Tb"], Err(TreeFault::IsTotal(3))),
+        (1, 1, ["T", "T", "b"], Err(TreeFault::IsTotal(1))),
+        (1, 1, ["ab", "b", "ab"], Err(TreeFault::Twice(3))),
+    ] {
+        assert_eq!(rt;
+            agrees(level_shown(alloc, first, second, &codes), expected),
+            true,
+            "{first} {second}"
+        );
+    }
+    Ok(())
+}
+
+// `flat`, and then `with_missing`.
+fn completed(alloc: Global, codes: &[&str], missing: &[&str]) -> Result<Vec<u8>, TreeFault> {
+    let total = text(alloc, "T")?;
+    let codes = texts(alloc, codes, 9)?;
+    let tree = flat(alloc, &codes, &total)?;
+    if missing.len() > 9 {
+        return Err(TreeFault::Memory);
+    }
+    let missing = texts(alloc, missing, 9)?;
+    if missing.len() > 9 {
+        return Err(TreeFault::Memory);
+    }
+    let whole = with_missing(alloc, tree, &missing)?;
+    shown(alloc, &whole)
+}
+
+#[test]
+fn flat_and_missing_codes(rt: HostRuntime) -> Result<(), Fail> {
+    let alloc = rt.alloc();
+    for (codes, missing, expected) in [
+        (
+            ["b", "a"],
+            ["x", "y"],
+            Ok("T:-01- b:01-2 a:01-3 x:01-4 y:01-- "),
+        ),
+        // a missing code that is there stays where it is
+        (["b", "a"], ["a", "y"], Ok("T:-01- b:01-2 a:01-3 y:01-- ")),
+        (["b", "a"], ["y", "y"], Ok("T:-01- b:01-2 a:01-3 y:01-- ")),
+        (["b", "a"], ["b", "T"], Err(TreeFault::IsTotal(2))),
+        (["b", "T"], ["b", "T"], Err(TreeFault::IsTotal(2))),
+        (["b", "b"], ["T", "T"], Err(TreeFault::Twice(2))),
+    ] {
+        assert_eq!(rt; agrees(completed(alloc, &codes, &missing), expected), true);
+    }
+    Ok(())
+}
+
+// The codes of a code list, with a bar behind each.
+fn listed(alloc: Global, bytes: &[u8]) -> Result<Vec<u8>, TreeFault> {
+    let total = text(alloc, "Total")?;
+    if bytes.len() > 100_000 {
+        return Err(TreeFault::Memory);
+    }
+    let codes = read_codes(alloc, bytes, &total)?;
+    let mut joined = Vec::new(alloc);
+    'codes: for code in &codes {
+        joined.extend_from_slice(code.as_slice())?;
+        joined.push(b'|')?;
+    }
+    Ok(joined)
+}
+
+// Codes of four digits each, the numbers from the first one on and before the last one, with this byte behind each.
+fn numbered(alloc: Global, first: u32, past: u32, end: u8) -> Result<Vec<u8>, AllocError> {
+    let mut lines = Vec::new(alloc);
+    'numbers: for i in first..past {
+        lines.push(b'0' + (i / 1000 % 10) as u8)?;
+        lines.push(b'0' + (i / 100 % 10) as u8)?;
+        lines.push(b'0' + (i / 10 % 10) as u8)?;
+        lines.push(b'0' + (i % 10) as u8)?;
+        lines.push(end)?;
+    }
+    Ok(lines)
+}
+
+#[test]
+fn code_lists(rt: HostRuntime) -> Result<(), Fail> {
+    let alloc = rt.alloc();
+    for (bytes, expected) in [
+        ("a,A\nb,B\n", Ok("a|b|")),
+        (" a \t,x\r\nb", Ok("a|b|")),
+        // one pair of quotes is taken off, and the code ends at the first comma
+        (
+            "\"a\",x\n\" b \",x\n\"\"c\"\",x\n\"d,e\",x",
+            Ok("a| b |\"c\"|\"d|"),
+        ),
+        ("\",\n", Ok("\"|")),
+        // an empty code, the total's and a repeated one are passed over
+        ("b,x\n,none\n\nTotal,all\n\"\",x\nb\nc,x", Ok("b|c|")),
+    ] {
+        assert_eq!(rt;
+            agrees(listed(alloc, bytes.as_bytes()), expected),
+            true,
+            "{bytes}"
+        );
+    }
+    // 0001 to 2000, and as many codes as there may be
+    for past in [2001, 5001] {
+        let read = listed(alloc, numbered(alloc, 1, past, b'\n')?.as_slice())?;
+        let codes = numbered(alloc, 1, past, b'|')?;
+        assert_eq!(rt; read.as_slice() == codes.as_slice(), true);
+    }
+    let more = agrees(
+        listed(alloc, numbered(alloc, 0, 5001, b'\n')?.as_slice()),
+        Err(TreeFault::TooMany(5001)),
+    );
+    assert_eq!(rt; more, true);
+    Ok(())
+}

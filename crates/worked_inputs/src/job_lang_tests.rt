@@ -1,0 +1,320 @@
+use job_lang::{Command, JobError, JobWhy, bind, metadata_fit, read_job};
+use rda_meta::read_meta;
+use std::alloc::Global;
+use std::rt::HostRuntime;
+use std::test::Fail;
+
+// How many tables and rules a job has, or the line of its first fault and what is wrong with it.
+type Answer = Result<(usize, usize), (u32, JobWhy)>;
+
+// What reading the text gives; nothing where memory wants.
+fn answer(alloc: Global, text: &[u8]) -> Option<Answer> {
+    if text.len() > 10000 {
+        return None;
+    }
+    match read_job(alloc, text) {
+        Ok(job) => Some(Ok((job.tables.as_slice().len(), job.rules.list.as_slice().len()))),
+        Err(JobError::At { line, why }) => Some(Err((line, why))),
+        Err(JobError::Memory) => None,
+    }
+}
+
+#[test]
+fn whole_jobs(rt: HostRuntime) {
+    use JobWhy::{BadLine, Missing, OtherResponse, SameName, TooMany};
+    let rows = [
+        // in any order of the lines, with CR and LF, without the last end
+        (
+            "<CERTIFICATE> \"c\"\r\n<WRITETABLE>(1,\"t\")\r\n<SUPPRESS>mod( )\r\n<SAFETYRULE>p(10)\r\n<SPECIFYTABLE>\"A\"|\"V\"\r\n<OPENMETADATA>\"m\"\r\n<OPENMICRODATA>\"d\"",
+            Ok((1, 1)),
+        ),
+        // two outputs of one name: the earlier line
+        (
+            "<OPENMICRODATA> \"d\"\n<OPENMETADATA> \"m\"\n<SPECIFYTABLE> \"A\"|\"V\"\n<SPECIFYTABLE> \"B\"|\"V\"\n<WRITETABLE> (2,\"t\")\n<WRITETABLE> (1,\"t\")\n",
+            Err((5, SameName)),
+        ),
+        (
+            "<CERTIFICATE> \"t\"\n<SPECIFYTABLE> \"A\"|\"V\"\n<WRITETABLE> (1,\"t\")\n",
+            Err((1, SameName)),
+        ),
+        (
+            "<WRITETABLE> (1,\"d\")\n<SPECIFYTABLE> \"A\"|\"V\"\n<OPENMICRODATA> \"d\"\n",
+            Err((1, SameName)),
+        ),
+        // what is missing
+        ("", Err((0, Missing(Command::OpenMicrodata)))),
+        (
+            "<OPENMICRODATA> \"d\"",
+            Err((0, Missing(Command::OpenMetadata))),
+        ),
+        (
+            "<OPENMICRODATA> \"d\"\n<OPENMETADATA> \"d\"\n",
+            Err((0, Missing(Command::SpecifyTable))),
+        ),
+        (
+            "<OPENMICRODATA> \"d\"\n<OPENMETADATA> \"m\"\n<SPECIFYTABLE> \"A\"|\"V\"",
+            Err((0, Missing(Command::SafetyRule))),
+        ),
+        (
+            "<OPENMICRODATA> \"d\"\n<OPENMETADATA> \"m\"\n<SPECIFYTABLE> \"A\"|\"V\"\n<SAFETYRULE> P(1)",
+            Err((0, Missing(Command::Suppress))),
+        ),
+        (
+            "<OPENMICRODATA> \"d\"\n<OPENMETADATA> \"m\"\n<SPECIFYTABLE> \"A\"|\"V\"\n<SAFETYRULE> P(1)\n<SUPPRESS> GH(8)",
+            Err((0, Missing(Command::WriteTable))),
+        ),
+        (
+            "<OPENMICRODATA> \"d\"\n<OPENMETADATA> \"m\"\n<SPECIFYTABLE> \"A\"|\"V\"\n<SAFETYRULE> P(1)\n<SUPPRESS> RND(1000000000)\n<WRITETABLE> (1,\"t\")",
+            Err((0, Missing(Command::Certificate))),
+        ),
+        // eight different variables, and one more
+        (
+            "<SPECIFYTABLE> \"A\"\"B\"\"C\"\"D\"|\"V\"\n<SPECIFYTABLE> \"E\"\"F\"\"G\"\"H\"|\"V\"\n<SPECIFYTABLE> \"A\"\"H\"|\"V\"",
+            Err((0, Missing(Command::OpenMicrodata))),
+        ),
+        (
+            "<SPECIFYTABLE> \"A\"\"B\"\"C\"\"D\"|\"V\"\n<SPECIFYTABLE> \"E\"\"F\"\"G\"\"H\"|\"V\"\n<SPECIFYTABLE> \"I\"|\"W\"\nx",
+            Err((3, TooMany)),
+        ),
+        (
+            "<SPECIFYTABLE> \"A\"|\"V\"\n<SPECIFYTABLE> \"B\"|\"v\"\nx",
+            Err((2, OtherResponse)),
+        ),
+        // eight tables, and one more
+        (
+            "<SPECIFYTABLE>\"A\"|\"V\"\n<SPECIFYTABLE>\"A\"|\"V\"\n<SPECIFYTABLE>\"A\"|\"V\"\n<SPECIFYTABLE>\"A\"|\"V\"\n<SPECIFYTABLE>\"A\"|\"V\"\n<SPECIFYTABLE>\"A\"|\"V\"\n<SPECIFYTABLE>\"A\"|\"V\"\n<SPECIFYTABLE>\"A\"|\"V\"\nx",
+            Err((9, BadLine)),
+        ),
+        (
+            "<SPECIFYTABLE>\"A\"|\"V\"\n<SPECIFYTABLE>\"A\"|\"V\"\n<SPECIFYTABLE>\"A\"|\"V\"\n<SPECIFYTABLE>\"A\"|\"V\"\n<SPECIFYTABLE>\"A\"|\"V\"\n<SPECIFYTABLE>\"A\"|\"V\"\n<SPECIFYTABLE>\"A\"|\"V\"\n<SPECIFYTABLE>\"A\"|\"V\"\n<SPECIFYTABLE>\"A\"|\"V\"\n",
+            Err((9, TooMany)),
+        ),
+    ];
+    for (text, expected) in &rows {
+        let found = answer(rt.alloc(), text.as_bytes());
+        assert_eq!(rt; found, Some(*expected));
+    }
+}
+
+#[test]
+fn rules_and_their_bounds(rt: HostRuntime) -> Result<(), Fail> {
+    let rows = [
+        ("FREQ(1,0)", true),
+        ("FREQ(1000000,1000)", true),
+        ("FREQ(0,30)", false),
+        ("FREQ(1000001,30)", false),
+        ("FREQ(3,1001)", false),
+        ("NK(1,1)", true),
+        ("NK(10,100)", true),
+        ("NK(0,1)", false),
+        ("NK(11,1)", false),
+        ("NK(1,0)", false),
+        ("NK(1,101)", false),
+        ("P(0)", false),
+        ("P(1)", true),
+        ("P(1000)", true),
+        ("P(1001)", false),
+        ("P(10,1)", true),
+        ("P(10,2)", false),
+        ("P(10,)", false),
+        ("P(1)|MAN(0)", true),
+        ("P(1)|MAN(1001)", false),
+        ("P(1)|MAN(1)|MAN(1)", false),
+        ("MAN(20)", false),
+        ("P(1)|WGT(1)", true),
+        ("P(1)|WGT(2)", false),
+        ("P(1)|WGT(0)|WGT(1)", false),
+        ("FREQ(3,30)|FREQ(3,30)", false),
+        ("freq ( 003 , 30 ) | wgt ( 1 )", true),
+        ("P(1)|P(1)|P(1)|P(1)|P(1)|P(1)|P(1)|P(1)", true),
+        ("P(1)|P(1)|P(1)|P(1)|P(1)|P(1)|P(1)|P(1)|P(1)", false),
+        ("P(1)|", false),
+        ("P(1) P(2)", false),
+        ("P 1", false),
+        ("", false),
+    ];
+    for (rules, accepted) in &rows {
+        let text = format!(in rt.alloc(); "<SAFETYRULE> {rules}\n")?;
+        let expected = if *accepted {
+            Err((0, JobWhy::Missing(Command::OpenMicrodata)))
+        } else {
+            Err((1, JobWhy::BadValue))
+        };
+        let found = answer(rt.alloc(), text.as_bytes());
+        assert_eq!(rt; found, Some(expected));
+    }
+    Ok(())
+}
+
+#[test]
+fn a_ninth_line(rt: HostRuntime) -> Result<(), Fail> {
+    use JobWhy::{
+        BadLine, BadValue, Missing, NoSuchTable, OtherResponse, SameName, Twice, UnknownCommand,
+    };
+    let rows = [
+        (" \t", Ok((1, 1))),
+        ("  // <x", Ok((1, 1))),
+        ("/ x", Err((9, BadLine))),
+        ("STEPS 1", Err((9, BadLine))),
+        ("<STEPS 1", Err((9, BadLine))),
+        ("<>", Err((9, BadLine))),
+        ("< STEPS> 1", Err((9, UnknownCommand))),
+        ("<RECODE> \"A\"", Err((9, UnknownCommand))),
+        ("<steps>001", Ok((1, 1))),
+        ("<STEPS> 0", Err((9, BadValue))),
+        ("<STEPS> 1000000000000", Ok((1, 1))),
+        ("<STEPS> 1000000000001", Err((9, BadValue))),
+        ("<NODES> 1 1", Err((9, BadValue))),
+        ("<NODES> -1", Err((9, BadValue))),
+        ("<COST> unit", Ok((1, 1))),
+        ("<COST> price", Err((9, BadValue))),
+        ("<OPENMICRODATA> \"x\"", Err((9, Twice))),
+        ("<OPENMICRODATA> x", Err((9, BadValue))),
+        ("<OPENMETADATA> \"x\"", Err((9, Twice))),
+        ("<OPENMETADATA> \"\"", Err((9, BadValue))),
+        ("<SAFETYRULE> P(1)", Err((9, Twice))),
+        ("<READMICRODATA>", Err((9, Twice))),
+        ("<READMICRODATA> x", Err((9, BadValue))),
+        ("<SUPPRESS> GH(1)", Err((9, Twice))),
+        ("<SUPPRESS> GH(9)", Err((9, BadValue))),
+        ("<SUPPRESS> RND(0)", Err((9, BadValue))),
+        ("<SUPPRESS> OPT(1)", Err((9, BadValue))),
+        ("<CERTIFICATE> \"c\"", Err((9, Twice))),
+        ("<WRITETABLE> (01,\"u\")", Err((9, Twice))),
+        ("<WRITETABLE> (2,\"u\")", Err((9, NoSuchTable))),
+        ("<WRITETABLE> (0,\"u\")", Err((9, NoSuchTable))),
+        (
+            "<WRITETABLE> (99999999999999999999,\"u\")",
+            Err((9, NoSuchTable)),
+        ),
+        ("<APRIORI> \"p\",1,\",\"", Ok((1, 1))),
+        ("<APRIORI> \"p\" , 1 , \";\"", Ok((1, 1))),
+        ("<APRIORI> \"p\",1,\"\t\"", Err((9, BadValue))),
+        ("<APRIORI> \"p\",1,\"'\"", Ok((1, 1))),
+        ("<APRIORI> \"p\",1,\"5\"", Err((9, BadValue))),
+        ("<APRIORI> \"p\",1,\".\"", Err((9, BadValue))),
+        ("<APRIORI> \"p\",1,\" \"", Err((9, BadValue))),
+        ("<APRIORI> \"p\",1,\";;\"", Err((9, BadValue))),
+        ("<APRIORI> \"p\",2,\",\"", Err((9, NoSuchTable))),
+        ("<APRIORI> \"t.csv\",1,\",\"", Err((7, SameName))),
+        ("<APRIORI> \"t.cert\",1,\",\"", Err((8, SameName))),
+        ("<SPECIFYTABLE> \"B\"|\"W\"", Err((9, OtherResponse))),
+        (
+            "<SPECIFYTABLE> \"B\"|\"V\"",
+            Err((0, Missing(Command::WriteTable))),
+        ),
+        (
+            "<SPECIFYTABLE> \"B\"\"C\"\"D\"\"E\"|\"V\"|\"V\"|\"\"||",
+            Err((0, Missing(Command::WriteTable))),
+        ),
+        ("<SPECIFYTABLE> \"B\"|\"V\"|\"B\"", Err((9, BadValue))),
+        ("<SPECIFYTABLE> \"B\"|\"V\"||\"V\"", Err((9, BadValue))),
+        ("<SPECIFYTABLE> \"B\"|\"V\" \"\"", Err((9, BadValue))),
+        ("<SPECIFYTABLE> \"B\"\"C\"\"B\"|\"V\"", Err((9, BadValue))),
+        (
+            "<SPECIFYTABLE> \"B\"\"C\"\"D\"\"E\"\"F\"|\"V\"",
+            Err((9, BadValue)),
+        ),
+        ("<SPECIFYTABLE> |\"V\"", Err((9, BadValue))),
+    ];
+    for (line, expected) in &rows {
+        let text = format!(in rt.alloc();
+            "<OPENMICRODATA> \"m.asc\"\n<OPENMETADATA> \"m.rda\"\n<SPECIFYTABLE> \"A\"|\"V\"\n<SAFETYRULE> FREQ(3,30)\n<READMICRODATA>\n<SUPPRESS> MOD()\n<WRITETABLE> (1,\"t.csv\")\n<CERTIFICATE> \"t.cert\"\n{line}\n"
+        )?;
+        let found = answer(rt.alloc(), text.as_bytes());
+        assert_eq!(rt; found, Some(*expected));
+    }
+    Ok(())
+}
+
+// The places of a bound job: how many variables span its tables, the response, the digits of a unit and the scale; or
+// the line of the first fault and what is wrong with it.
+type Places = Result<(usize, u32, u8, u32), (u32, JobWhy)>;
+
+// What binding the job of one text to the metadata of another gives; nothing where one isn't read or memory wants.
+fn places(alloc: Global, job: &[u8], meta: &[u8]) -> Option<Places> {
+    metadata_fit();
+    if job.len() > 10000 || meta.len() > 10000 {
+        return None;
+    }
+    let Ok(job) = read_job(alloc, job) else {
+        return None;
+    };
+    let Ok(meta) = read_meta(alloc, meta) else {
+        return None;
+    };
+    match bind(alloc, &job, &meta) {
+        Ok(bound) => Some(Ok((
+            bound.spanning.as_slice().len(),
+            bound.response,
+            bound.decimals,
+            bound.scale,
+        ))),
+        Err(JobError::At { line, why }) => Some(Err((line, why))),
+        Err(JobError::Memory) => None,
+    }
+}
+
+#[test]
+fn jobs_bound_to_metadata(rt: HostRuntime) {
+    use JobWhy::{NoSuchVariable, NoWeight, NotNumeric, NotSpanning, SameName};
+    let flat =
+        "<OPENMICRODATA> \"m.asc\"\n<OPENMETADATA> \"m.rda\"\n<SPECIFYTABLE> \"A\"|\"V\"\n<SAFETYRULE> FREQ(3,30)\n<SUPPRESS> MOD()\n<WRITETABLE> (1,\"t.csv\")\n<CERTIFICATE> \"t.cert\"\n";
+    let weighted =
+        "<WRITETABLE> (1,\"t.csv\")\n<SAFETYRULE> P(10)|WGT(1)\n<OPENMICRODATA> \"m.asc\"\n<OPENMETADATA> \"m.rda\"\n<SPECIFYTABLE> \"B\"\"A\"|\"V\"\n<SUPPRESS> MOD()\n<CERTIFICATE> \"t.cert\"\n";
+    let rows = [
+        (flat, "A 1 1\nV 2 3\n<NUMERIC>\n", Ok((1, 1, 0, 1))),
+        (
+            flat,
+            "V 2 3\n<NUMERIC>\n<DECIMALS> 2\nW 5 1\n<WEIGHT>\n<DECIMALS> 3\nA 1 1\n",
+            Ok((1, 0, 2, 1)),
+        ),
+        (flat, "a 1 1\nV 2 3\n<NUMERIC>\n", Err((3, NoSuchVariable))),
+        (
+            flat,
+            "A 1 1\n<NUMERIC>\nW 2 3\n<NUMERIC>\n",
+            Err((3, NoSuchVariable)),
+        ),
+        (flat, "A 1 1\n<NUMERIC>\nV 2 3\n", Err((3, NotSpanning))),
+        (flat, "A 1 1\nV 2 3\n", Err((3, NotNumeric))),
+        (
+            flat,
+            "A 1 1\n<CODELIST> t.csv\nV 2 3\n<NUMERIC>\n",
+            Err((6, SameName)),
+        ),
+        (
+            flat,
+            "A 1 1\n<HIERCODELIST> t.cert\nV 2 3\n<NUMERIC>\n",
+            Err((7, SameName)),
+        ),
+        (
+            flat,
+            "A 1 1\nB 1 1\n<CODELIST> t.csv\nV 2 3\n<NUMERIC>\n<CODELIST> t.csv\n",
+            Ok((1, 2, 0, 1)),
+        ),
+        (
+            weighted,
+            "A 1 1\nB 1 1\nV 2 3\n<NUMERIC>\n",
+            Err((2, NoWeight)),
+        ),
+        (
+            weighted,
+            "A 1 1\n<CODELIST> t.csv\nB 1 1\nV 2 3\n<NUMERIC>\n",
+            Err((1, SameName)),
+        ),
+        (
+            weighted,
+            "A 1 1\nC 1 1\nV 2 3\n<NUMERIC>\nW 5 3\n<WEIGHT>\n",
+            Err((5, NoSuchVariable)),
+        ),
+        (
+            weighted,
+            "A 1 1\nB 1 1\nV 2 3\n<NUMERIC>\n<DECIMALS> 1\nW 5 3\n<WEIGHT>\n<DECIMALS> 2\n",
+            Ok((2, 2, 3, 100)),
+        ),
+    ];
+    for (job, meta, expected) in &rows {
+        let found = places(rt.alloc(), job.as_bytes(), meta.as_bytes());
+        assert_eq!(rt; found, Some(*expected));
+    }
+}

@@ -1,0 +1,166 @@
+use hierarchy::{CodeTree, flat};
+use linked_tables::{Book, BookFault};
+use sdc_base::{Few, Place, Text};
+use std::alloc::Global;
+use std::rt::HostRuntime;
+use std::test::Fail;
+
+// The total and so many other codes.
+fn tree_of(alloc: Global, size: u32) -> Result<CodeTree, Fail> {
+    let mut codes = Vec::new(alloc);
+    for code in 1..size {
+        codes.push(Text::new(code.to_string(alloc)?.into_bytes()))?;
+    }
+    Ok(flat(alloc, &codes, &Text::new(Vec::from_slice(alloc, b"Total")?))?)
+}
+
+fn place_of(codes: &[u32]) -> Place {
+    let mut place = Few::empty();
+    for code in codes {
+        let at = place.len();
+        if at < 8 {
+            place.insert(at, *code);
+        }
+    }
+    place
+}
+
+// The book of tables over variables with trees of these sizes.
+fn book_of(
+    alloc: Global,
+    sizes: &[u32],
+    tables: &[&[u32]],
+) -> Result<Result<Book, BookFault>, Fail> {
+    let mut trees = Vec::new(alloc);
+    for size in sizes {
+        trees.push(tree_of(alloc, *size)?)?;
+    }
+    let mut spanned = Vec::new(alloc);
+    for table in tables {
+        spanned.push(place_of(table))?;
+    }
+    if trees.len() > 8 || spanned.len() > 100 {
+        return Ok(Err(BookFault::Memory));
+    }
+    Ok(Book::new(alloc, trees, spanned))
+}
+
+// How many cells the book has, or why there is none.
+fn cells_of(made: Result<Book, BookFault>) -> Result<u32, BookFault> {
+    let book = made?;
+    Ok(book.cells())
+}
+
+// The codes of a cell's name.
+fn name_of(book: &Book, cell: u32) -> &[u32] {
+    match book.name(cell) {
+        Some(name) => name.as_slice(),
+        None => &[],
+    }
+}
+
+#[test]
+fn cells_and_refusals(rt: HostRuntime) -> Result<(), Fail> {
+    let alloc = rt.alloc();
+    let no_tables: &[&[u32]] = &[];
+    let total_alone: &[&[u32]] = &[&[]];
+    let two_way: &[&[u32]] = &[&[0, 1]];
+    let linked: &[&[u32]] = &[&[0, 1], &[0, 2]];
+    let turned: &[&[u32]] = &[&[0, 1], &[1, 0], &[0, 1]];
+    let apart: &[&[u32]] = &[&[0], &[1]];
+    let twice: &[&[u32]] = &[&[0, 1], &[1, 1], &[7]];
+    let unknown: &[&[u32]] = &[&[0, 1], &[4, 4], &[1, 1]];
+    let two_ways_full: &[&[u32]] = &[&[0, 1]];
+    let one_more: &[&[u32]] = &[&[0, 1], &[0], &[2], &[0, 0]];
+    let wide: &[&[u32]] = &[&[0, 1, 2, 3]];
+    for (sizes, tables, expected) in [
+        ([3, 3, 3, 1], no_tables, Ok(0)),
+        ([3, 3, 3, 1], total_alone, Ok(1)),
+        ([3, 3, 3, 1], two_way, Ok(9)),
+        ([3, 3, 3, 1], linked, Ok(15)),
+        ([3, 3, 3, 1], turned, Ok(9)),
+        ([3, 3, 3, 1], apart, Ok(5)),
+        ([3, 3, 3, 1], twice, Err(BookFault::TwiceInTable(1))),
+        ([3, 3, 3, 1], unknown, Err(BookFault::NoSuchVariable(1))),
+        ([200, 100, 2, 1], two_ways_full, Ok(20000)),
+        ([200, 100, 2, 1], one_more, Err(BookFault::TooManyCells(2))),
+        ([5001, 1, 1, 1], apart, Ok(5001)),
+        (
+            [5001, 5001, 5001, 5001],
+            wide,
+            Err(BookFault::TooManyCells(0)),
+        ),
+    ] {
+        let made = book_of(alloc, sizes.as_slice(), tables)?;
+        assert_eq!(rt; cells_of(made), expected);
+    }
+    Ok(())
+}
+
+#[test]
+fn linked_cells(rt: HostRuntime) -> Result<(), Fail> {
+    let alloc = rt.alloc();
+    let tables: &[&[u32]] = &[&[0, 1], &[0, 2], &[2, 0]];
+    let Ok(mut book) = book_of(alloc, &[3, 3, 3], tables)? else {
+        return Ok(assert_eq!(rt; true, false));
+    };
+    for (t, place, cell) in [
+        (0, [0, 0], Some(0)),
+        (0, [0, 2], Some(2)),
+        (0, [1, 0], Some(3)),
+        (0, [1, 1], Some(4)),
+        (0, [2, 2], Some(8)),
+        (1, [0, 0], Some(0)),
+        (1, [1, 0], Some(3)),
+        (1, [2, 0], Some(6)),
+        (1, [0, 1], Some(9)),
+        (1, [0, 2], Some(10)),
+        (1, [1, 1], Some(11)),
+        (1, [2, 2], Some(14)),
+        (2, [2, 1], Some(12)),
+        (2, [0, 3], None),
+        (3, [0, 0], None),
+    ] {
+        assert_eq!(rt; book.id(t, place.as_slice()), cell);
+    }
+    assert_eq!(rt; book.id(0, &[0]), None);
+    assert_eq!(rt; book.id(0, &[0, 0, 0]), None);
+    assert_eq!(rt; name_of(&book, 4), [1, 1, 0].as_slice());
+    assert_eq!(rt; name_of(&book, 12), [1, 0, 2].as_slice());
+    assert_eq!(rt; name_of(&book, 15).len(), 0);
+    assert_eq!(rt; book.number(&place_of(&[1, 0, 2])), Some(12));
+    assert_eq!(rt; book.number(&place_of(&[1, 1, 1])), None);
+    assert_eq!(rt; (book.cells(), book.tables(), book.variables()), (15, 3, 3));
+    assert_eq!(rt; book.tree(2).is_some(), true);
+    assert_eq!(rt; book.tree(3).is_none(), true);
+    assert_eq!(rt; book.spans(3).is_none(), true);
+    assert_eq!(rt; book.table(3).is_none(), true);
+    assert_eq!(rt; book.lend(3).is_none(), true);
+    // a mark written through one table is that of the others
+    if let Some(mut table) = book.table(2) {
+        assert_eq!(rt; table.cell_mut(&[3, 0]).is_none(), true);
+        if let Some(mark) = table.cell_mut(&[0, 2]) {
+            mark.hidden = true;
+        }
+    }
+    for (cell, mark) in book.marks().iter().enumerate() {
+        assert_eq!(rt; mark.hidden, cell == 6);
+        assert_eq!(rt; mark.facts.freq, 0);
+    }
+    // the cells that the second table is the first to name
+    if let Some(mut lent) = book.lend(1) {
+        assert_eq!(rt; lent.earlier().len(), 9);
+        let own = lent.own();
+        assert_eq!(rt; own.len(), 6);
+        if own.len() == 6 {
+            own[3].hidden = true;
+        }
+    }
+    for (cell, mark) in book.marks().iter().enumerate() {
+        assert_eq!(rt; mark.hidden, cell == 6 || cell == 12);
+    }
+    if let Some(mut lent) = book.lend(2) {
+        assert_eq!(rt; (lent.earlier().len(), lent.own().len()), (15, 0));
+    }
+    Ok(())
+}

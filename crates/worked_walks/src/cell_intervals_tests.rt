@@ -1,0 +1,282 @@
+ghost use Rattle.std.specs.Prelude.{◌≡◌, ◌≤◌, ◌≤ℤ◌, ◌^◌, All, true, pos};
+ghost use Rattle.std.specs.Option.{ForSome};
+ghost use Rattle.sdc_base.specs.Systems.{NamesCells};
+
+use cell_intervals::{CellInterval, interval_text, intervals_of};
+use interval_audit::AskFault;
+use sdc_base::{Cell, Hidden, Items, Kind, Relation, System};
+use std::alloc::Global;
+use std::rt::HostRuntime;
+use std::test::Fail;
+
+// What is asked of: a system, its cells and which are hidden.
+#[derive(Drop)]
+struct Case {
+    system: System,
+    cells: Vec<Cell>,
+    hidden: Hidden,
+}
+
+// Whether a relation names cells below a number.
+fn is_named(relation: &Relation, cells: u32) -> bool
+    ensures { result ≡ true → NamesCells cells relation.now }
+{
+    if relation.total >= cells {
+        return false;
+    }
+    relation.parts.as_slice().iter().all(|part| *part < cells)
+}
+
+// A system of so many cells; none where a relation names another.
+fn system_of(cells: u32, relations: Vec<Relation>) -> Option<System> {
+    if relations.len() > 10 {
+        return None;
+    }
+    if !relations.iter().all(|relation| is_named(relation, cells)) {
+        return None;
+    }
+    let relations = Items::new(relations);
+    Some(System { cells, relations })
+}
+
+// The relation that a cell is the sum of others.
+fn relation_of(alloc: Global, total: u32, parts: &[u32]) -> Result<Option<Relation>, Fail> {
+    let parts = Items::new(Vec::from_slice(alloc, parts)?);
+    if parts.as_slice().len() > 2000 {
+        return Ok(None);
+    }
+    Ok(Some(Relation { total, parts }))
+}
+
+// A free cell of a truth between its bounds; none where it is outside of them.
+fn cell_of(truth: i128, low: i128, high: Option<i128>) -> Option<Cell> {
+    if low < 0 || truth < low {
+        return None;
+    }
+    match high {
+        Some(high) if high < truth => None,
+        Some(high) => Some(free_cell(truth, low, Some(high))),
+        None => Some(free_cell(truth, low, None)),
+    }
+}
+
+fn free_cell(truth: i128, low: i128, high: Option<i128>) -> Cell
+    requires low { pos 0 ≤ℤ low }
+    requires within { low ≤ℤ truth }
+    requires high { ForSome high (λ bound. truth ≤ℤ bound) }
+{
+    Cell {
+        truth,
+        low,
+        high,
+        up: 0,
+        down: 0,
+        kind: Kind::Free,
+        price: None,
+    }
+}
+
+// Which of so many cells are hidden.
+fn hidden_of(alloc: Global, count: usize, cells: &[u32]) -> Result<Hidden, Fail> {
+    let mut flags = vec![in alloc; false; count]?;
+    for cell in cells {
+        if (*cell as usize) < flags.len() {
+            flags[*cell as usize] = true;
+        }
+    }
+    Ok(Hidden {
+        flags: Items::new(flags),
+    })
+}
+
+// The cells of truths, with no bounds but 0 and those of one cell.
+fn cells_of(
+    alloc: Global,
+    truths: &[i128],
+    bounded: (u32, i128, Option<i128>),
+) -> Result<Option<Vec<Cell>>, Fail> {
+    let mut cells = Vec::new(alloc);
+    for (number, truth) in truths.iter().enumerate() {
+        let made = if number == bounded.0 as usize {
+            cell_of(*truth, bounded.1, bounded.2)
+        } else {
+            cell_of(*truth, 0, None)
+        };
+        let Some(cell) = made else {
+            return Ok(None);
+        };
+        cells.push(cell)?;
+    }
+    Ok(Some(cells))
+}
+
+// A case of relations and of truths, with the bounds of one cell.
+fn case_of(
+    alloc: Global,
+    relations: &[(u32, &[u32])],
+    truths: &[i128],
+    bounded: (u32, i128, Option<i128>),
+    hidden: &[u32],
+) -> Result<Option<Case>, Fail> {
+    let mut all = Vec::new(alloc);
+    for (total, parts) in relations {
+        let Some(relation) = relation_of(alloc, *total, parts)? else {
+            return Ok(None);
+        };
+        all.push(relation)?;
+    }
+    let Some(cells) = cells_of(alloc, truths, bounded)? else {
+        return Ok(None);
+    };
+    if cells.len() > 5000 {
+        return Ok(None);
+    }
+    let count = cells.len();
+    let Some(system) = system_of(count as u32, all) else {
+        return Ok(None);
+    };
+    let hidden = hidden_of(alloc, count, hidden)?;
+    Ok(Some(Case {
+        system,
+        cells,
+        hidden,
+    }))
+}
+
+// Whether no truth is above the greatest.
+fn are_in_range(cells: &[Cell]) -> bool
+    ensures { result ≡ true → All (λ cell. cell.truth ≤ℤ pos (10 ^ 29)) cells.now }
+{
+    cells.iter().all(|cell| cell.truth <= 100_000_000_000_000_000_000_000_000_000)
+}
+
+// The intervals of a case; none where it can't be asked so.
+fn intervals_in(
+    alloc: Global,
+    case: &Case,
+    limit: u64,
+) -> Option<Result<Items<CellInterval>, AskFault>> {
+    let size = case.system.cells as usize;
+    let flags = case.hidden.flags.as_slice();
+    if case.cells.len() != size || flags.len() != size || limit < 1 {
+        return None;
+    }
+    let cells = case.cells.as_slice();
+    if !are_in_range(cells) {
+        return None;
+    }
+    Some(intervals_of(alloc, &case.system, cells, &case.hidden, limit))
+}
+
+// Whether the file of the intervals of a case is this one, with a limit of 100.
+fn has_text(alloc: Global, case: Option<Case>, wanted: &[u8]) -> Result<bool, Fail> {
+    let Some(case) = case else {
+        return Ok(false);
+    };
+    let Some(Ok(intervals)) = intervals_in(alloc, &case, 100) else {
+        return Ok(false);
+    };
+    let Ok(text) = interval_text(alloc, intervals.as_slice()) else {
+        return Ok(false);
+    };
+    Ok(text.as_slice() == wanted)
+}
+
+// A table of two variables with two codes each: the total, the codes of the first variable's total, and so on. Four
+// inner cells are hidden.
+fn two_by_two(alloc: Global) -> Result<Option<Case>, Fail> {
+    let relations = [
+        (0, [3, 6].as_slice()),
+        (0, [1, 2].as_slice()),
+        (1, [4, 7].as_slice()),
+        (2, [5, 8].as_slice()),
+        (3, [4, 5].as_slice()),
+        (6, [7, 8].as_slice()),
+    ];
+    let truths = [140, 50, 90, 70, 20, 50, 70, 30, 40];
+    case_of(alloc, &relations, &truths, (5, 0, None), &[4, 5, 7, 8])
+}
+
+// All four cells move together: by 20 at most until cell 4 is 0, and by 30 at most until cell 7 is.
+#[test]
+fn four_cells_of_a_table(rt: HostRuntime) -> Result<(), Fail> {
+    let alloc = rt.alloc();
+    let text = b"cell,low,high\n4,0,50\n5,20,70\n7,0,50\n8,20,70\n".as_slice();
+    assert!(&rt; has_text(alloc, two_by_two(alloc)?, text)?);
+    Ok(())
+}
+
+// A cell in no relation, without an upper bound, beside one that has bounds and is shown.
+#[test]
+fn cell_without_upper_bound_is_open(rt: HostRuntime) -> Result<(), Fail> {
+    let alloc = rt.alloc();
+    let case = case_of(alloc, &[], &[5, 7], (0, 3, Some(8)), &[1])?;
+    let text = b"cell,low,high\n1,0,open\n".as_slice();
+    assert!(&rt; has_text(alloc, case, text)?);
+    Ok(())
+}
+
+// Cells 3, 4 and 5 in a ring: 3 and 4, and 4 and 5, have shown sums, so 4 moves against 3, and 5 moves with it; cell 2,
+// the sum of 3 and 5, moves by twice as much, and it may rise by 1 and fall by 2. So 3 and 5 fall by 1 and rise by a
+// half.
+#[test]
+fn ring_of_three_ends_at_halves(rt: HostRuntime) -> Result<(), Fail> {
+    let alloc = rt.alloc();
+    let relations = [
+        (0, [3, 4].as_slice()),
+        (1, [4, 5].as_slice()),
+        (2, [3, 5].as_slice()),
+    ];
+    let truths = [20, 20, 20, 10, 10, 10];
+    let bounds = (2, 18, Some(21));
+    let case = case_of(alloc, &relations, &truths, bounds, &[2, 3, 4, 5])?;
+    let text = b"cell,low,high\n2,18,21\n3,9,21/2\n4,19/2,11\n5,9,21/2\n".as_slice();
+    assert!(&rt; has_text(alloc, case, text)?);
+    Ok(())
+}
+
+// A total with so many parts, of which all but the total are hidden.
+fn parts_hidden(alloc: Global, parts: u32) -> Result<Option<Case>, Fail> {
+    let mut numbers = Vec::new(alloc);
+    let mut truths = Vec::new(alloc);
+    truths.push(i128::from(parts))?;
+    for part in 1..=parts {
+        numbers.push(part)?;
+        truths.push(1)?;
+    }
+    let hidden = numbers.as_slice();
+    let relations = [(0, hidden)];
+    case_of(alloc, &relations, truths.as_slice(), (0, 0, None), hidden)
+}
+
+// The cell of the first question that has no answer, where that is for the size of its component.
+fn cell_too_large(alloc: Global, parts: u32) -> Result<Option<u32>, Fail> {
+    let Some(large) = parts_hidden(alloc, parts)? else {
+        return Ok(None);
+    };
+    match intervals_in(alloc, &large, 1) {
+        Some(Err(AskFault::Size { question, hidden })) if hidden == parts => Ok(Some(
+            question.cell,
+        )),
+        _ => Ok(None),
+    }
+}
+
+// The cell of the first question of the two-way table that takes more than one improvement.
+fn cell_cut_off(alloc: Global) -> Result<Option<u32>, Fail> {
+    let Some(table) = two_by_two(alloc)? else {
+        return Ok(None);
+    };
+    match intervals_in(alloc, &table, 1) {
+        Some(Err(AskFault::Work(walk))) => Ok(Some(walk.question.cell)),
+        _ => Ok(None),
+    }
+}
+
+#[test]
+fn first_question_without_an_answer_is_named(rt: HostRuntime) -> Result<(), Fail> {
+    let alloc = rt.alloc();
+    assert_eq!(&rt; cell_too_large(alloc, 1501)?, Some(1));
+    assert_eq!(&rt; cell_cut_off(alloc)?, Some(4));
+    Ok(())
+}

@@ -1,0 +1,453 @@
+ghost use Rattle.std.specs.Prelude.{◌≡◌, ◌≤◌, ◌<◌, ◌≤ℤ◌, ◌^◌, length, All, true, pos};
+ghost use Rattle.std.specs.Option.{ForSome};
+ghost use Rattle.sdc_base.specs.Systems.{NamesCells};
+
+use interval_audit::{Answer, AskFault, Question, TwoEnds, ask, interval};
+use sdc_base::{Cell, Hidden, Items, Kind, Relation, Side, System};
+use std::alloc::Global;
+use std::rt::HostRuntime;
+use std::test::Fail;
+use worlds::{Multipliers, World};
+
+// A table of two variables with two codes each: the total, the codes of the first variable's total, and so on.
+const TWO_BY_TWO: [(u32, [u32; 2]); 6] = [
+    (0, [3, 6]),
+    (0, [1, 2]),
+    (1, [4, 7]),
+    (2, [5, 8]),
+    (3, [4, 5]),
+    (6, [7, 8]),
+];
+
+// Its truths.
+const TRUTHS: [i128; 9] = [140, 50, 90, 70, 20, 50, 70, 30, 40];
+
+// What is asked of: a system, its cells and which are hidden.
+#[derive(Drop)]
+struct Case {
+    system: System,
+    cells: Vec<Cell>,
+    hidden: Hidden,
+}
+
+// Whether a relation names cells below a number.
+fn is_named(relation: &Relation, cells: u32) -> bool
+    ensures { result ≡ true → NamesCells cells relation.now }
+{
+    if relation.total >= cells {
+        return false;
+    }
+    relation.parts.as_slice().iter().all(|part| *part < cells)
+}
+
+// A system of so many cells; none where a relation names another.
+fn system_of(cells: u32, relations: Vec<Relation>) -> Option<System> {
+    if relations.len() > 10 {
+        return None;
+    }
+    if !relations.iter().all(|relation| is_named(relation, cells)) {
+        return None;
+    }
+    let relations = Items::new(relations);
+    Some(System { cells, relations })
+}
+
+// The relation that a cell is the sum of others.
+fn relation_of(alloc: Global, total: u32, parts: &[u32]) -> Result<Option<Relation>, Fail> {
+    let parts = Items::new(Vec::from_slice(alloc, parts)?);
+    if parts.as_slice().len() > 2000 {
+        return Ok(None);
+    }
+    Ok(Some(Relation { total, parts }))
+}
+
+// A free cell; none where its truth is outside its bounds.
+fn cell_of(truth: i128, low: i128, high: Option<i128>) -> Option<Cell> {
+    if low < 0 || truth < low {
+        return None;
+    }
+    match high {
+        Some(high) if high < truth => None,
+        Some(high) => Some(free_cell(truth, low, Some(high))),
+        None => Some(free_cell(truth, low, None)),
+    }
+}
+
+fn free_cell(truth: i128, low: i128, high: Option<i128>) -> Cell
+    requires low { pos 0 ≤ℤ low }
+    requires within { low ≤ℤ truth }
+    requires high { ForSome high (λ bound. truth ≤ℤ bound) }
+{
+    Cell {
+        truth,
+        low,
+        high,
+        up: 0,
+        down: 0,
+        kind: Kind::Free,
+        price: None,
+    }
+}
+
+// Which of so many cells are hidden.
+fn hidden_of(alloc: Global, count: usize, cells: &[u32]) -> Result<Hidden, Fail> {
+    let mut flags = vec![in alloc; false; count]?;
+    for cell in cells {
+        if (*cell as usize) < flags.len() {
+            flags[*cell as usize] = true;
+        }
+    }
+    Ok(Hidden {
+        flags: Items::new(flags),
+    })
+}
+
+// A case of relations and of truths, with the bounds of one cell.
+fn case_of(
+    alloc: Global,
+    relations: &[(u32, &[u32])],
+    truths: &[i128],
+    bounded: (u32, i128, i128),
+    hidden: &[u32],
+) -> Result<Option<Case>, Fail> {
+    let mut all = Vec::new(alloc);
+    for (total, parts) in relations {
+        let Some(relation) = relation_of(alloc, *total, parts)? else {
+            return Ok(None);
+        };
+        all.push(relation)?;
+    }
+    let mut cells = Vec::new(alloc);
+    for (number, truth) in truths.iter().enumerate() {
+        let made = if number == bounded.0 as usize {
+            cell_of(*truth, bounded.1, Some(bounded.2))
+        } else {
+            cell_of(*truth, 0, None)
+        };
+        let Some(cell) = made else {
+            return Ok(None);
+        };
+        cells.push(cell)?;
+    }
+    if cells.len() > 5000 {
+        return Ok(None);
+    }
+    let count = cells.len();
+    let Some(system) = system_of(count as u32, all) else {
+        return Ok(None);
+    };
+    let hidden = hidden_of(alloc, count, hidden)?;
+    Ok(Some(Case {
+        system,
+        cells,
+        hidden,
+    }))
+}
+
+// The table of two by two with some cells hidden, and bounds of the cell of the first and the second code.
+fn two_by_two(alloc: Global, low: i128, high: i128, hidden: &[u32]) -> Result<Option<Case>, Fail> {
+    let mut relations = Vec::new(alloc);
+    for (total, parts) in &TWO_BY_TWO {
+        relations.push((*total, parts.as_slice()))?;
+    }
+    case_of(alloc, relations.as_slice(), &TRUTHS, (5, low, high), hidden)
+}
+
+// The answer of a question; none where the case can't be asked so.
+fn answer_of(
+    alloc: Global,
+    case: &Case,
+    cell: u32,
+    side: Side,
+    target: i128,
+    limit: u64,
+) -> Option<Result<Answer, AskFault>> {
+    let size = case.system.cells as usize;
+    let flags = case.hidden.flags.as_slice();
+    if case.cells.len() != size || flags.len() != size || cell as usize >= size {
+        return None;
+    }
+    if !flags[cell as usize] || target < 0 || target > 1 << 110 || limit < 1 {
+        return None;
+    }
+    let question = Question { cell, side, target };
+    Some(ask(
+        alloc,
+        &case.system,
+        &case.cells,
+        &case.hidden,
+        question,
+        limit,
+    ))
+}
+
+// The two ends for a cell, with a limit of 100; none where the case can't be asked so, or there are none.
+fn ends_of(alloc: Global, case: &Case, cell: u32) -> Option<TwoEnds> {
+    let size = case.system.cells as usize;
+    let flags = case.hidden.flags.as_slice();
+    if case.cells.len() != size || flags.len() != size || cell as usize >= size {
+        return None;
+    }
+    if !flags[cell as usize] {
+        return None;
+    }
+    match interval(alloc, &case.system, &case.cells, &case.hidden, cell, 100) {
+        Ok(ends) => Some(ends),
+        Err(_) => None,
+    }
+}
+
+// Whether a world has this denominator and these moves.
+fn has_moves(world: &World, den: i128, moves: &[(u32, i128)]) -> bool {
+    let all = world.moves.as_slice();
+    if world.den != den || all.len() != moves.len() {
+        return false;
+    }
+    for (place, one) in all.iter().enumerate() {
+        if place >= moves.len() || (one.cell, one.by) != moves[place] {
+            return false;
+        }
+    }
+    true
+}
+
+// Whether multipliers have this denominator and these numbers of relations.
+fn has_multipliers(multipliers: &Multipliers, den: i128, by_relation: &[(u32, i128)]) -> bool {
+    multipliers.den == den && multipliers.by_relation.as_slice() == by_relation
+}
+
+// What an answer is to be: a world that reaches; or the best value, the world that attains it, and multipliers where
+// they are looked at.
+#[derive(Drop)]
+struct Wanted<'a> {
+    best: Option<(i128, i128)>,
+    world: (i128, &'a [(u32, i128)]),
+    multipliers: Option<(i128, &'a [(u32, i128)])>,
+}
+
+// Whether an answer is the one that is wanted.
+fn is_wanted(answer: &Answer, wanted: &Wanted<'_>) -> bool {
+    match answer {
+        Answer::Reaches(world) => {
+            wanted.best == None && has_moves(world, wanted.world.0, wanted.world.1)
+        }
+        Answer::Stops {
+            best,
+            world,
+            multipliers,
+        } => {
+            let Some((den, by_relation)) = wanted.multipliers else {
+                return wanted.best == Some((best.num, best.den))
+                    && has_moves(world, wanted.world.0, wanted.world.1);
+            };
+            wanted.best == Some((best.num, best.den))
+                && has_moves(world, wanted.world.0, wanted.world.1)
+                && has_multipliers(multipliers, den, by_relation)
+        }
+    }
+}
+
+// Whether the two ends for a cell are those that are wanted.
+fn are_ends(alloc: Global, case: &Case, cell: u32, below: &Wanted<'_>, above: &Wanted<'_>) -> bool {
+    let Some(ends) = ends_of(alloc, case, cell) else {
+        return false;
+    };
+    is_wanted(&ends.below, below) && is_wanted(&ends.above, above)
+}
+
+#[test]
+fn cell_alone_stops_at_once(rt: HostRuntime) -> Result<(), Fail> {
+    let alloc = rt.alloc();
+    let Some(case) = two_by_two(alloc, 0, 90, &[4])? else {
+        assert!(&rt; false);
+        return Ok(());
+    };
+    for (side, times) in [(Side::Above, 1), (Side::Below, -1)] {
+        let wanted = Wanted {
+            best: Some((0, 1)),
+            world: (1, &[]),
+            multipliers: Some((1, &[(4, times)])),
+        };
+        assert!(&rt; is_answered(alloc, &case, side, &wanted));
+    }
+    Ok(())
+}
+
+// How many improvements a question took that was cut off after one, with its cell and target.
+fn cut_off(alloc: Global, case: &Case) -> Option<(u64, u32, i128)> {
+    let Some(Err(AskFault::Work(walk))) = answer_of(alloc, case, 4, Side::Above, 6, 1) else {
+        return None;
+    };
+    Some((
+        walk.tableau.improved(),
+        walk.question.cell,
+        walk.question.target,
+    ))
+}
+
+// Whether the answer to a question about the first inner cell is this one.
+fn is_answered(alloc: Global, case: &Case, side: Side, wanted: &Wanted<'_>) -> bool {
+    let answer = answer_of(alloc, case, 4, side, 6, 100);
+    matches!(&answer, Some(Ok(found)) if is_wanted(found, wanted))
+}
+
+#[test]
+fn four_cells_reach_the_target(rt: HostRuntime) -> Result<(), Fail> {
+    let alloc = rt.alloc();
+    let Some(case) = two_by_two(alloc, 0, 90, &[4, 5, 7, 8])? else {
+        assert!(&rt; false);
+        return Ok(());
+    };
+    let wanted = Wanted {
+        best: None,
+        world: (1, &[(4, 6), (5, -6), (7, -6), (8, 6)]),
+        multipliers: None,
+    };
+    assert!(&rt; is_answered(alloc, &case, Side::Above, &wanted));
+    assert_eq!(&rt; cut_off(alloc, &case), Some((1, 4, 6)));
+    Ok(())
+}
+
+// The cell beside the asked one is at least 45 and at most 60, and its truth is 50: so the asked one rises by 5 at
+// most, and falls by 10.
+#[test]
+fn bounds_cut_the_interval(rt: HostRuntime) -> Result<(), Fail> {
+    let alloc = rt.alloc();
+    let Some(case) = two_by_two(alloc, 45, 60, &[4, 5, 7, 8])? else {
+        assert!(&rt; false);
+        return Ok(());
+    };
+    let below = Wanted {
+        best: Some((10, 1)),
+        world: (1, &[(4, -10), (5, 10), (7, 10), (8, -10)]),
+        multipliers: None,
+    };
+    let above = Wanted {
+        best: Some((5, 1)),
+        world: (1, &[(4, 5), (5, -5), (7, -5), (8, 5)]),
+        multipliers: None,
+    };
+    assert!(&rt; are_ends(alloc, &case, 4, &below, &above));
+    Ok(())
+}
+
+// A part and its total are hidden, and neither has an upper bound: they rise together as far as one likes.
+#[test]
+fn cell_without_upper_bound_is_open(rt: HostRuntime) -> Result<(), Fail> {
+    let alloc = rt.alloc();
+    let relations = [(0, [1, 2].as_slice())];
+    let Some(case) = case_of(alloc, &relations, &[50, 20, 30], (2, 0, 30), &[0, 1])? else {
+        assert!(&rt; false);
+        return Ok(());
+    };
+    let below = Wanted {
+        best: Some((20, 1)),
+        world: (1, &[(0, -20), (1, -20)]),
+        multipliers: None,
+    };
+    let above = Wanted {
+        best: None,
+        world: (1, &[(0, 1 << 110), (1, 1 << 110)]),
+        multipliers: None,
+    };
+    assert!(&rt; are_ends(alloc, &case, 1, &below, &above));
+    Ok(())
+}
+
+// Cells 3, 4 and 5 in a ring: 3 and 4, and 4 and 5, have shown sums, so 4 moves against 3, and 5 moves with it; cell 2,
+// the sum of 3 and 5, moves by twice as much, and it may rise by 1 and fall by 2. Above, twice 3 and so many times the
+// relations leave nothing of 3, 4 and 5: the multiplier of cell 2's relation is 1, that of cell 1's its opposite, that
+// of cell 0's 1 again.
+#[test]
+fn ring_of_three_stops_at_a_half(rt: HostRuntime) -> Result<(), Fail> {
+    let alloc = rt.alloc();
+    let relations = [
+        (0, [3, 4].as_slice()),
+        (1, [4, 5].as_slice()),
+        (2, [3, 5].as_slice()),
+    ];
+    let truths = [20, 20, 20, 10, 10, 10];
+    let Some(case) = case_of(alloc, &relations, &truths, (2, 18, 21), &[2, 3, 4, 5])? else {
+        assert!(&rt; false);
+        return Ok(());
+    };
+    let below = Wanted {
+        best: Some((1, 1)),
+        world: (1, &[(2, -2), (3, -1), (4, 1), (5, -1)]),
+        multipliers: Some((2, &[(0, -1), (1, 1), (2, -1)])),
+    };
+    let above = Wanted {
+        best: Some((1, 2)),
+        world: (2, &[(2, 2), (3, 1), (4, -1), (5, 1)]),
+        multipliers: Some((2, &[(0, 1), (1, -1), (2, 1)])),
+    };
+    assert!(&rt; are_ends(alloc, &case, 3, &below, &above));
+    Ok(())
+}
+
+// Cells 4 to 7 have shown sums by 5 with each of the others, so 5 moves against 4, and 6 and 7 move with it; cell 2,
+// the sum of these three, moves by three times as much, and it may rise by 1 and fall by 2. Above, three times 4 and so
+// many times the relations leave nothing of 4 to 7: the multiplier of cell 2's relation is 1, those of cells 1 and 3
+// its opposites, and that of cell 0 is 2.
+#[test]
+fn ring_of_four_stops_at_thirds(rt: HostRuntime) -> Result<(), Fail> {
+    let alloc = rt.alloc();
+    let relations = [
+        (0, [4, 5].as_slice()),
+        (1, [5, 6].as_slice()),
+        (2, [4, 6, 7].as_slice()),
+        (3, [5, 7].as_slice()),
+    ];
+    let truths = [20, 20, 30, 20, 10, 10, 10, 10];
+    let Some(case) = case_of(alloc, &relations, &truths, (2, 28, 31), &[2, 4, 5, 6, 7])? else {
+        assert!(&rt; false);
+        return Ok(());
+    };
+    let below = Wanted {
+        best: Some((2, 3)),
+        world: (3, &[(2, -6), (4, -2), (5, 2), (6, -2), (7, -2)]),
+        multipliers: Some((3, &[(0, -2), (1, 1), (2, -1), (3, 1)])),
+    };
+    let above = Wanted {
+        best: Some((1, 3)),
+        world: (3, &[(2, 3), (4, 1), (5, -1), (6, 1), (7, 1)]),
+        multipliers: Some((3, &[(0, 2), (1, -1), (2, 1), (3, -1)])),
+    };
+    assert!(&rt; are_ends(alloc, &case, 4, &below, &above));
+    Ok(())
+}
+
+// A total with so many parts, of which all but the total are hidden, and the answer on the first part.
+fn parts_asked(alloc: Global, parts: u32) -> Result<Option<Result<Answer, AskFault>>, Fail> {
+    let mut numbers = Vec::new(alloc);
+    let mut truths = Vec::new(alloc);
+    truths.push(i128::from(parts))?;
+    for part in 1..=parts {
+        numbers.push(part)?;
+        truths.push(1)?;
+    }
+    let hidden = numbers.as_slice();
+    let relations = [(0, hidden)];
+    let Some(case) = case_of(alloc, &relations, truths.as_slice(), (0, 0, 5000), hidden)? else {
+        return Ok(None);
+    };
+    Ok(answer_of(alloc, &case, 1, Side::Above, 6, 1))
+}
+
+fn parts_are_too_many(alloc: Global, parts: u32) -> Result<bool, Fail> {
+    let answer = parts_asked(alloc, parts)?;
+    Ok(matches!(answer, Some(Err(AskFault::Size { hidden, .. })) if hidden == parts))
+}
+
+fn parts_take_work(alloc: Global, parts: u32) -> Result<bool, Fail> {
+    let answer = parts_asked(alloc, parts)?;
+    Ok(matches!(answer, Some(Err(AskFault::Work(_)))))
+}
+
+#[test]
+fn component_is_too_large(rt: HostRuntime) -> Result<(), Fail> {
+    let alloc = rt.alloc();
+    assert!(&rt; parts_are_too_many(alloc, 1501)?);
+    assert!(&rt; parts_take_work(alloc, 1500)?);
+    Ok(())
+}

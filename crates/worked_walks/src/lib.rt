@@ -1,0 +1,11 @@
+//! Worlds, questions, intervals and roundings of small systems, called on worked rows, as tests alone.
+#![tactic(auto)]
+
+#[cfg(test)]
+mod cell_intervals_tests;
+#[cfg(test)]
+mod interval_audit_tests;
+#[cfg(test)]
+mod rounding_tests;
+#[cfg(test)]
+mod worlds_tests;
