@@ -13,16 +13,18 @@ use Rattle.cost_rule.specs.Costs.{price_of}
 use Rattle.cost_rule.specs.declared.kind.CostKind.{CostKind}
 use Rattle.linked_tables.specs.BookViews.{BookView}
 use Rattle.linked_tables.specs.declared.mark.Mark.{Mark}
-use Rattle.hypercube.proofs.AllOf.{all-flat, all-more}
 use Rattle.modular_plan.specs.Plans.{trail_of}
-use Rattle.modular_plan.specs.StepLaws.{CanBeHidden, IsWholeStep}
-use Rattle.repair.specs.HidingOrder.{Case, MayHide, case, corners_of, hide_subjects, planned_set, prices_of}
+use Rattle.modular_plan.specs.StepLaws.{IsWholeStep}
+use Rattle.sdc_base.specs.HiddenSets.{MayHide}
+use Rattle.sdc_base.specs.Trails.{corners_of}
+use Rattle.repair.specs.HidingOrder.{Case, case, hide_subjects, planned_set, prices_of}
 use Rattle.repair.specs.Stops.{StopsFor}
 use Rattle.repair.specs.Verdicts.{IsVerdict}
 use Rattle.repair.specs.declared.stopped.Stopped.{Stopped}
 use Rattle.repair.specs.declared.verdict.Verdict.{Verdict}
 use Rattle.repair.specs.declared.verdict.Verdict.TheVariants as verdict
-use Rattle.cell_protection.specs.Protections.{AreNarrow, HasText, IsProtectionOf, passes_of, planned_from, protection_by}
+use Rattle.cell_protection.specs.Protections.{AreNarrow, HasText, IsProtectionOf, planned_from, protection_by}
+use Rattle.modular_plan.specs.Methods.{passes_of}
 use Rattle.cell_protection.proofs.Spellable.{spellable}
 
 -- prices are told by the facts of marks alone
@@ -35,25 +37,6 @@ same-prices cost (cell ∷ cells) (mark ∷ old) (other ∷ new) same =
     let here : other.facts ≡ mark.facts = cc in
     let rest : map (λ one. one.facts) new ≡ map (λ one. one.facts) old = cc in
     ap₂ (λ (price : ℕ) (prices : List ℕ). price ∷ prices) (ap (price_of cost cell.price) here) (same-prices cost cells old new rest)
-
-may : (kind : Kind) → is_fixed kind ≡ false → may_hide kind ≡ true
-may Primary h = refl
-may Free h = refl
-may Fixed h = cc
-
-by-place : {X : Type 0} (P : X → Type 0) (xs : List X) → AllByRecursion P xs → All P xs
-by-place P [] all k d within = absurd (omega (arith, within))
-by-place P (x ∷ xs) all zero d within = all.0
-by-place P (x ∷ xs) all (suc k) d within = by-place P xs all.1 k d (omega (arith, within))
-
--- the corners of whole steps may be hidden
-pub corners-may : (book : BookView) (cells : List Cell) (steps : List PlanStep) → AllByRecursion (IsWholeStep book cells) steps → All (MayHide cells) (corners_of steps)
-corners-may book cells steps all =
-    by-place (MayHide cells) (corners_of steps)
-    (all-flat (MayHide cells) (λ step. step.corners) steps
-    (all-more (IsWholeStep book cells) (λ step. AllByRecursion (MayHide cells) step.corners) steps
-    (λ step whole. all-more (CanBeHidden cells) (MayHide cells) step.corners (λ number can. record { cell = can.cell; found = can.found; may = may can.cell.kind can.not_fixed }) whole.hideable)
-    all))
 
 -- a verdict with the certificate of its set is what protecting comes to
 pub outcome-by : (c : Case) (prices : List ℕ) (method : Method) (steps : List PlanStep) (limit : ℕ) (one : Verdict) → IsVerdict c prices (planned_from c steps) one → IsProtectionOf c prices method steps limit (protection_by method c steps one)

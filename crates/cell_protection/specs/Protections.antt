@@ -1,12 +1,12 @@
 -- What becomes of cells that are to be protected (own).
 use Rattle.std.specs.Prelude.{◌≡◌, ◌≤◌, ℕ, Bool, List, length, All}
 use Rattle.sdc_base.specs.declared.method.Method.{Method}
-use Rattle.sdc_base.specs.declared.method.Method.TheVariants as method
 use Rattle.sdc_base.specs.declared.trail.PlanStep.{PlanStep}
 use Rattle.worlds.specs.Protection.{Protection as HiddenSet}
 use Rattle.certificate.specs.Spelling.{IsSpellable}
 use Rattle.certificate.specs.declared.certificate.Certificate.{Certificate}
-use Rattle.repair.specs.HidingOrder.{Case, corners_of, planned_set}
+use Rattle.sdc_base.specs.Trails.{corners_of}
+use Rattle.repair.specs.HidingOrder.{Case, planned_set}
 use Rattle.repair.specs.Stops.{StopsFor}
 use Rattle.repair.specs.Verdicts.{IsCannot, IsVerdict}
 use Rattle.repair.specs.declared.verdict.Verdict.{Verdict}
@@ -14,12 +14,6 @@ use Rattle.repair.specs.declared.verdict.Verdict.TheVariants as verdict
 use Rattle.cell_protection.specs.Certifying.{certificate_made}
 use Rattle.cell_protection.specs.declared.protection.Protection.{Protection}
 use Rattle.cell_protection.specs.declared.protection.Protection.TheVariants as protection
-
--- how many passes a plan makes: as many as GH says, one under MOD
-abbrev pub passes_of : Method → ℕ
-passes_of (method.Gh passes) = passes
-passes_of method.Modular = 1
-passes_of (method.Rnd base) = 0
 
 -- at most eight tables, each of one to eight variables
 pub record AreNarrow (tables : List (List ℕ)) : Type 0 where

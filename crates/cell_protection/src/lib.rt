@@ -3,8 +3,6 @@
 #![tactic(auto)]
 
 mod certifying;
-mod planning;
 mod protection;
 
-pub use planning::trail_for;
 pub use protection::{Protection, protect_cells};

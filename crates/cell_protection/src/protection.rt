@@ -3,14 +3,14 @@ ghost use Rattle.apriori.specs.CellLevels.{HasLevelsInRange};
 ghost use Rattle.cost_rule.specs.Costs.{AreCosted, IsTold};
 ghost use Rattle.modular_plan.specs.Plans.{trail_of, IsSameButHidden};
 ghost use Rattle.repair.specs.HidingOrder.{case, prices_of};
-ghost use Rattle.cell_protection.specs.Protections.{AreNarrow, HasText, IsProtectionOf, passes_of, protection_by};
+ghost use Rattle.cell_protection.specs.Protections.{AreNarrow, HasText, IsProtectionOf, protection_by};
+ghost use Rattle.modular_plan.specs.Methods.{passes_of};
 
 use crate::certifying::certificate_for;
-use crate::planning::passes_in;
 use certificate::Certificate;
 use cost_rule::{CostKind, CostRule, TellsCosts};
 use linked_tables::Book;
-use modular_plan::plan;
+use modular_plan::{passes_in, plan};
 use repair::{Stopped, Verdict, protect};
 use sdc_base::{Cell, CellFacts, Memory, Method, Side, System, Trail};
 use std::alloc::Global;

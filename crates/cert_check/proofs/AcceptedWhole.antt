@@ -14,7 +14,8 @@ use Rattle.worlds.proofs.TrueTests.{and_true}
 use Rattle.worlds.proofs.WorldLaws.{not_refused, none_refused}
 use Rattle.worlds.proofs.ProtectLaws.{start}
 use Rattle.certificate.specs.declared.certificate.Certificate.{Certificate}
-use Rattle.repair.specs.HidingOrder.{corners_of, planned_set}
+use Rattle.sdc_base.specs.Trails.{corners_of}
+use Rattle.repair.specs.HidingOrder.{planned_set}
 use Rattle.repair.specs.Needs.{others_hidden}
 use Rattle.sdc_base.specs.HiddenSets.{is_hidden}
 use Rattle.cert_check.specs.declared.faults.CheckFault.{CheckFault}

@@ -1,6 +1,6 @@
 -- What a case must be for a certificate to be judged by it (own).
 use Rattle.std.specs.Prelude.{◌≡◌, ◌<◌, ◌≤◌, ◌≤ℤ◌, true, pos, List, ℕ, length, map, All}
-use Rattle.repair.specs.HidingOrder.{corners_of}
+use Rattle.sdc_base.specs.Trails.{corners_of}
 use Rattle.release_writer.specs.Sheets.{HaveNames}
 use Rattle.cert_check.specs.declared.case.Case.{Case}
 use Rattle.cert_check.specs.Methods.{rounds_cells}

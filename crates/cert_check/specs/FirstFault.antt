@@ -2,7 +2,8 @@
 use Rattle.std.specs.Prelude.{ℕ, Bool, List, if◌then◌else◌, Option, None, Some, Result}
 use Rattle.sdc_base.specs.Steps.{◌>>=◌}
 use Rattle.certificate.specs.declared.certificate.Certificate.{Certificate}
-use Rattle.repair.specs.HidingOrder.{corners_of, planned_set, hide_subjects}
+use Rattle.sdc_base.specs.Trails.{corners_of}
+use Rattle.repair.specs.HidingOrder.{planned_set, hide_subjects}
 use Rattle.cert_check.specs.declared.case.Case.{Case}
 use Rattle.cert_check.specs.declared.faults.CheckFault.{CheckFault}
 use Rattle.cert_check.specs.declared.faults.CheckFault.TheVariants as fault

@@ -5,7 +5,8 @@ use Rattle.sdc_base.specs.HiddenSets.{is_hidden}
 use Rattle.certificate.specs.declared.certificate.Certificate.{Certificate}
 use Rattle.release_writer.specs.ReadingLaws.{AreTexts}
 use Rattle.release_writer.specs.ShownCells.{open_truth}
-use Rattle.repair.specs.HidingOrder.{case as protected_case, corners_of, planned_set}
+use Rattle.sdc_base.specs.Trails.{corners_of}
+use Rattle.repair.specs.HidingOrder.{case as protected_case, planned_set}
 use Rattle.repair.specs.Verdicts.{IsVerdict}
 use Rattle.repair.specs.declared.verdict.Verdict.TheVariants as verdict
 use Rattle.worlds.specs.ProtectFaults.{asked_of}

@@ -1,5 +1,5 @@
 ghost use Rattle.std.specs.Prelude.{◌≡◌, ◌<◌, true, false, length, All, Ok};
-ghost use Rattle.repair.specs.HidingOrder.{corners_of};
+ghost use Rattle.sdc_base.specs.Trails.{corners_of};
 ghost use Rattle.sdc_base.specs.Answers.{Gives};
 ghost use Rattle.sdc_base.specs.Grounds.{IsGround};
 ghost use Rattle.cert_check.specs.Cases.{IsCase};

@@ -9,18 +9,21 @@ use Rattle.std.proofs.lemmas.Map.Keys.{IsDistinct-head, IsDistinct-tail}
 use Rattle.std.proofs.lemmas.Option.{option_and_then_some}
 use Rattle.sdc_base.specs.Lines.{HasNoFeed}
 use Rattle.sdc_base.specs.Trees.{Tree, codes, find, parent_at, climb, code_in, IsCodeTree, HasDistinctCodes}
-use Rattle.hierarchy.specs.Growing.{tree_with_node}
-use Rattle.hierarchy.specs.Faults.{tree_unless, code_fault}
+use Rattle.code_trees.specs.Growing.{tree_with_node}
+use Rattle.code_trees.specs.Faults.{tree_unless, code_fault}
 use Rattle.hierarchy.specs.Lead.{LeadLine, line_fault, first_line_fault, lead_lines, lead_tree, lead_of}
-use Rattle.hierarchy.specs.Path.{IsPath, next_path, read_on}
-use Rattle.hierarchy.specs.LeadText.{depth_of, lead_text, IsWritable, LeadTextIsRead}
-use Rattle.hierarchy.specs.declared.tree_fault.TreeFault.{TreeFault}
-use Rattle.hierarchy.proofs.CodeFaults.{fault-new}
-use Rattle.hierarchy.proofs.Depths.{one-depth, depth-is}
-use Rattle.hierarchy.proofs.Growth.{climb-grown}
+use Rattle.code_trees.specs.Path.{IsPath, next_path}
+use Rattle.hierarchy.specs.LeadPath.{read_on}
+use Rattle.code_trees.specs.Depths.{depth_of}
+use Rattle.hierarchy.specs.LeadText.{lead_text, IsWritable, LeadTextIsRead}
+use Rattle.code_trees.specs.declared.tree_fault.TreeFault.{TreeFault}
+use Rattle.code_trees.proofs.CodeFaults.{fault-new}
+use Rattle.code_trees.proofs.Depths.{one-depth, depth-is}
+use Rattle.code_trees.proofs.Growth.{climb-grown}
 use Rattle.hierarchy.proofs.LeadLines.{read_nodes, nodes-read, text-lines}
 use Rattle.hierarchy.proofs.LeadSteps.{read-step}
-use Rattle.hierarchy.proofs.Paths.{climb-add, path-next, path-total, same-start}
+use Rattle.code_trees.proofs.Paths.{climb-add, path-next, path-total}
+use Rattle.hierarchy.proofs.LeadPaths.{same-start}
 
 at-seam : (front : Tree) (node : List ℕ × Option ℕ) (rest : Tree) → parent_at (front ++ node ∷ rest) (length front) ≡ node.1
 at-seam [] node rest = refl

@@ -11,7 +11,8 @@ use Rattle.plain_text.proofs.Joined.{read_again}
 use Rattle.sdc_base.specs.Lines.{lines, text_of_lines, is_line_feed, IsLine, HasNoFeed}
 use Rattle.sdc_base.specs.Trees.{Tree, codes}
 use Rattle.hierarchy.specs.Lead.{LeadLine, begins_with, one_more, leads_within, leads_of, lead_line, lead_lines}
-use Rattle.hierarchy.specs.LeadText.{depth_of, leads_text, node_line, node_lines, IsWritable}
+use Rattle.code_trees.specs.Depths.{depth_of}
+use Rattle.hierarchy.specs.LeadText.{leads_text, node_line, node_lines, IsWritable}
 use Rattle.hierarchy.proofs.LeadSteps.{line-split, line-by-code}
 
 -- the lines of nodes, read

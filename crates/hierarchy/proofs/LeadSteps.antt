@@ -2,13 +2,15 @@
 use Rattle.std.proofs.Common.{◌≡◌, ◌≢◌, ℕ, ◌==◌, false, suc, zero, ◌+◌, ◌-◌, ◌<◌, true, List, [], ◌∷◌, ◌++◌, length, drop, slice_index, Option, None, Result, Ok, Err, OnOk, refl, ap, sym, ◌∙◌, arith}
 use Rattle.sdc_base.specs.Blanks.{trim}
 use Rattle.sdc_base.specs.Trees.{Tree, codes}
-use Rattle.hierarchy.specs.Growing.{tree_with_node}
-use Rattle.hierarchy.specs.Faults.{or_else, tree_unless, AnswersFault}
+use Rattle.code_trees.specs.Growing.{tree_with_node}
+use Rattle.code_trees.specs.Faults.{or_else, tree_unless, AnswersFault}
 use Rattle.hierarchy.specs.Lead.{LeadLine, line_fault, first_line_fault, lead_line, leads_of, unless_blank, leads_within, begins_with, one_more}
-use Rattle.hierarchy.specs.Path.{next_path, tree_by_path, read_on}
-use Rattle.hierarchy.specs.declared.tree_fault.TreeFault.{TreeFault}
-use Rattle.hierarchy.proofs.Growth.{codes-grown}
-use Rattle.hierarchy.proofs.Paths.{within-path, length-next}
+use Rattle.code_trees.specs.Path.{next_path}
+use Rattle.hierarchy.specs.LeadPath.{tree_by_path, read_on}
+use Rattle.code_trees.specs.declared.tree_fault.TreeFault.{TreeFault}
+use Rattle.code_trees.proofs.Growth.{codes-grown}
+use Rattle.code_trees.proofs.Paths.{length-next}
+use Rattle.hierarchy.proofs.LeadPaths.{within-path}
 
 -- one lead more
 pub leads-next : (most n : ℕ) (lead bytes : List ℕ) → n + 1 ≡ most → begins_with lead bytes ≡ true → leads_within most lead bytes ≡ one_more (leads_within n lead (drop (length lead) bytes))

@@ -7,13 +7,13 @@ use Rattle.std.proofs.lemmas.Cmp.{nat_list_eq_equiv}
 use Rattle.std.proofs.lemmas.Map.Keys.{IsDistinct-push}
 use Rattle.std.proofs.lemmas.Slice.Eq.{bytes_eq-Decides}
 use Rattle.sdc_base.specs.Lines.{lines}
-use Rattle.hierarchy.specs.Among.{IsIn}
+use Rattle.code_trees.specs.Among.{IsIn}
 use Rattle.hierarchy.specs.CodeList.{code_of_line, is_passed_over, codes_listed}
-use Rattle.hierarchy.specs.MissingCodes.{has_code}
+use Rattle.code_trees.specs.MissingCodes.{has_code}
 use Rattle.hierarchy.specs.Laws.{AreTheListed, ListGivesItsCodes}
-use Rattle.hierarchy.specs.declared.tree_fault.TreeFault.TheVariants as fault
-use Rattle.hierarchy.proofs.Among.{any-known, last-in, same-bytes}
-use Rattle.hierarchy.proofs.MissingLaw.{in-front, in-behind}
+use Rattle.code_trees.specs.declared.tree_fault.TreeFault.TheVariants as fault
+use Rattle.code_trees.proofs.Among.{any-known, last-in, same-bytes}
+use Rattle.code_trees.proofs.MissingLaw.{in-front, in-behind}
 
 no-bytes : (code : List ℕ) → (length code == 0) ≡ true → code ≡ []
 no-bytes [] h = refl

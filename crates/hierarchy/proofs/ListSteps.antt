@@ -4,11 +4,11 @@ use Rattle.std.specs.List.{list_any}
 use Rattle.std.specs.Str.{bytes_eq}
 use Rattle.std.proofs.lemmas.Bool.Decides.{nat_tests}
 use Rattle.sdc_base.specs.Trees.{Tree, codes, find}
-use Rattle.hierarchy.specs.MissingCodes.{has_code}
+use Rattle.code_trees.specs.MissingCodes.{has_code}
 use Rattle.hierarchy.specs.CodeList.{is_passed_over, codes_listed, kept_on}
-use Rattle.hierarchy.specs.declared.tree_fault.TreeFault.TheVariants as fault
-use Rattle.hierarchy.proofs.Growth.{any-from_find}
-use Rattle.hierarchy.proofs.CodeFaults.{found-any}
+use Rattle.code_trees.specs.declared.tree_fault.TreeFault.TheVariants as fault
+use Rattle.code_trees.proofs.Growth.{any-from_find}
+use Rattle.code_trees.proofs.CodeFaults.{found-any}
 
 -- whether a code is known, by its place
 pub known-by-find : (tree : Tree) (total : List ℕ) (kept : List (List ℕ)) (code : List ℕ) → codes tree ≡ total ∷ kept → bytes_eq code total || has_code kept code ≡ is_some (find tree code)

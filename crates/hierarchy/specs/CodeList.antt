@@ -5,9 +5,9 @@ use Rattle.std.specs.List.{before_first}
 use Rattle.std.specs.Str.{bytes_eq}
 use Rattle.sdc_base.specs.Lines.{lines as lines_of}
 use Rattle.sdc_base.specs.Blanks.{trim}
-use Rattle.hierarchy.specs.MissingCodes.{has_code}
-use Rattle.hierarchy.specs.declared.tree_fault.TreeFault.{TreeFault}
-use Rattle.hierarchy.specs.declared.tree_fault.TreeFault.TheVariants as fault
+use Rattle.code_trees.specs.MissingCodes.{has_code}
+use Rattle.code_trees.specs.declared.tree_fault.TreeFault.{TreeFault}
+use Rattle.code_trees.specs.declared.tree_fault.TreeFault.TheVariants as fault
 use Rattle.sdc_base.specs.Trees.{Tree, codes}
 
 -- a byte is a comma

@@ -5,9 +5,9 @@ use Rattle.std.specs.Str.{bytes_eq}
 use Rattle.sdc_base.specs.Lines.{lines as lines_of}
 use Rattle.sdc_base.specs.Blanks.{trim}
 use Rattle.sdc_base.specs.Trees.{Tree}
-use Rattle.hierarchy.specs.Faults.{code_fault, or_else, tree_unless}
-use Rattle.hierarchy.specs.declared.tree_fault.TreeFault.{TreeFault}
-use Rattle.hierarchy.specs.declared.tree_fault.TreeFault.TheVariants as fault
+use Rattle.code_trees.specs.Faults.{code_fault, or_else, tree_unless}
+use Rattle.code_trees.specs.declared.tree_fault.TreeFault.{TreeFault}
+use Rattle.code_trees.specs.declared.tree_fault.TreeFault.TheVariants as fault
 
 -- the lead stands at the front
 abbrev pub begins_with : List ℕ → List ℕ → Bool

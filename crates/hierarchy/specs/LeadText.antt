@@ -3,12 +3,9 @@ use Rattle.std.specs.Prelude.{◌≡◌, ◌≢◌, ℕ, zero, suc, ◌+◌, ◌
 use Rattle.std.specs.List.{AllByRecursion}
 use Rattle.sdc_base.specs.Blanks.{trim}
 use Rattle.sdc_base.specs.Lines.{IsLine, HasNoFeed, text_of_lines}
-use Rattle.sdc_base.specs.Trees.{Tree, codes, code_in, places_upward, IsCodeTree}
+use Rattle.sdc_base.specs.Trees.{Tree, codes, code_in, IsCodeTree}
+use Rattle.code_trees.specs.Depths.{depth_of}
 use Rattle.hierarchy.specs.Lead.{begins_with, lead_of}
-
--- how many levels a place is below the total: as many places as are met above it
-abbrev pub depth_of : Tree → ℕ → ℕ
-depth_of tree place = length (places_upward tree place) - 1
 
 -- so many leads, one after another
 abbrev pub leads_text : List ℕ → ℕ → List ℕ

@@ -1,16 +1,5 @@
-pub mod Children
-pub mod Growing
-pub mod Among
-pub mod Entries
-pub mod Links
-pub mod Faults
-pub mod FlatForm
 pub mod Lead
 pub mod LeadText
-pub mod Path
-pub mod MissingCodes
+pub mod LeadPath
 pub mod CodeList
-pub mod Levels
-pub mod LevelNodes
-pub mod Chains
 pub mod Laws

@@ -2,11 +2,10 @@ ghost use Rattle.std.specs.Prelude.{◌≡◌, ◌+◌, ◌-◌, ◌<◌, ◌≤
 ghost use Rattle.std.specs.List.{before_first, position_or_len};
 ghost use Rattle.sdc_base.specs.Trees.{codes};
 ghost use Rattle.sdc_base.specs.Answers.{Fails, Gives};
-ghost use Rattle.hierarchy.specs.Faults.{fault_of};
+ghost use Rattle.code_trees.specs.Faults.{fault_of};
 ghost use Rattle.hierarchy.specs.CodeList.{is_comma, is_quoted, text_without_quotes, code_of_line, codes_listed, kept_on, codes_of, IsListFault, OfTotal, ListsOn};
 
-use crate::entries::Nodes;
-use crate::tree_fault::TreeFault;
+use code_trees::{Nodes, TreeFault};
 use plain_text::{lines, trim};
 use sdc_base::Text;
 use std::alloc::{AllocError, Global};

@@ -2,15 +2,13 @@ ghost use Rattle.std.specs.Prelude.{◌≡◌, ◌+◌, ◌-◌, ◌^◌, List, 
 ghost use Rattle.sdc_base.specs.Blanks as spec;
 ghost use Rattle.sdc_base.specs.Trees.{codes, IsCodeTree};
 ghost use Rattle.sdc_base.specs.Answers.{Fails, Gives};
-ghost use Rattle.hierarchy.specs.Growing.{tree_with_node};
-ghost use Rattle.hierarchy.specs.Faults.{fault_of, AnswersFault};
+ghost use Rattle.code_trees.specs.Growing.{tree_with_node};
+ghost use Rattle.code_trees.specs.Faults.{fault_of, AnswersFault};
 ghost use Rattle.hierarchy.specs.Lead.{leads_of, line_fault, lead_line, lead_of, LeadLine, IsLeadFault};
-ghost use Rattle.hierarchy.specs.Path.{IsPath, next_path, read_on};
+ghost use Rattle.code_trees.specs.Path.{IsPath, next_path};
+ghost use Rattle.hierarchy.specs.LeadPath.{read_on};
 
-use crate::code_tree::CodeTree;
-use crate::entries::Nodes;
-use crate::growing::{add, total_alone};
-use crate::tree_fault::TreeFault;
+use code_trees::{CodeTree, Nodes, TreeFault, add, total_alone};
 use plain_text::{lines, trim};
 use sdc_base::Text;
 use std::alloc::{AllocError, Global};

@@ -13,7 +13,8 @@ use Rattle.linked_tables.specs.BookCells.{cells as cells_in}
 use Rattle.linked_tables.specs.declared.mark.Mark.{Mark}
 use Rattle.modular_plan.specs.Plans.{IsSameButHidden}
 use Rattle.release_writer.specs.Sheets.{HaveNames}
-use Rattle.repair.specs.HidingOrder.{MayHide, corners_of}
+use Rattle.sdc_base.specs.HiddenSets.{MayHide}
+use Rattle.sdc_base.specs.Trails.{corners_of}
 use Rattle.job_lang.specs.declared.job.TableLine.{TableLine}
 use Rattle.job_inputs.specs.SettledJobs.{IsReadyJob}
 use Rattle.job_inputs.specs.Tables.{names_of}

@@ -1,11 +1,4 @@
 pub mod ReleaseReading
 pub mod Judgements
 pub mod CaseParts
-pub mod Speaking
-pub mod SameValues
-pub mod OneText
-pub mod OneTrail
-pub mod OneJudgement
 pub mod Units
-pub mod RoundedTexts
-pub mod RoundedAccepted

@@ -2,7 +2,7 @@
 use Rattle.std.specs.Prelude.{◌≡◌, ℕ, ◌^◌, map, ℤ, pos, ◌*ℤ◌}
 use Rattle.sdc_base.specs.declared.method.Method.{Method}
 use Rattle.sdc_base.specs.declared.method.Method.TheVariants as method
-use Rattle.cell_protection.specs.Protections.{passes_of}
+use Rattle.modular_plan.specs.Methods.{passes_of}
 use Rattle.cert_check.specs.declared.case.Case.{Case}
 use Rattle.modular_plan.specs.Plans.{trail_of, IsSameButHidden}
 use Rattle.relations.specs.Holding.{IsSystemOf}

@@ -2,5 +2,3 @@ pub mod ReleaseFiles
 pub mod Cases
 pub mod Reading
 pub mod Answers
-pub mod Laws
-pub mod RoundingLaws

@@ -4,9 +4,9 @@ ghost use Rattle.job_check.specs.ReleaseFiles.{ReleasedFiles as AnyReleased};
 
 use crate::bases::base_in_units;
 use crate::reading::ReadRelease;
-use cell_protection::trail_for;
 use cert_check::{Case, CheckFault, accept};
 use job_inputs::{SettledJob, table_names};
+use modular_plan::trail_for;
 use relations::relations_of;
 use std::alloc::Global;
 

@@ -3,7 +3,7 @@ use Rattle.std.proofs.Common.{◌≡◌, ℕ, Bool, true, false, List, Option, N
 use Rattle.sdc_base.specs.Answers.{Fails, Gives}
 use Rattle.sdc_base.specs.Steps.{refuse}
 use Rattle.sdc_base.specs.WhereTold.{WhereTold}
-use Rattle.hierarchy.specs.declared.tree_fault.TreeFault.TheVariants as tree
+use Rattle.code_trees.specs.declared.tree_fault.TreeFault.TheVariants as tree
 use Rattle.office_io.proofs.Shelves.{only-read-on}
 use Rattle.office_io.specs.Files.{Files}
 use Rattle.office_io.specs.Shelves.{ShelfState, HasOnlyRead}

@@ -3,7 +3,7 @@ use Rattle.std.proofs.Common.{◌≡◌, ◌≢◌, inl, inr, ℕ, true, false, 
 use Rattle.std.specs.List.{AllByRecursion, IsDistinct}
 use Rattle.std.specs.Str.{bytes_eq}
 use Rattle.std.proofs.lemmas.Slice.Eq.{bytes_eq-Decides}
-use Rattle.hierarchy.specs.Among.{IsIn}
+use Rattle.code_trees.specs.Among.{IsIn}
 use Rattle.hierarchy.specs.CodeList.{codes_of}
 use Rattle.hierarchy.specs.Laws.{ListGivesItsCodes}
 use Rattle.sdc_base.specs.Answers.{Fails}

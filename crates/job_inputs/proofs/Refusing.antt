@@ -2,9 +2,9 @@
 use Rattle.std.proofs.Common.{◌≡◌, ℕ, Option, None, Some, Result, Ok, Err, refl, subst}
 use Rattle.sdc_base.specs.Answers.{Fails}
 use Rattle.sdc_base.specs.Steps.{◌>>=◌, map_fault}
-use Rattle.hierarchy.specs.Faults.{fault_of as tree_fault_of}
-use Rattle.hierarchy.specs.declared.tree_fault.TreeFault.{TreeFault}
-use Rattle.hierarchy.specs.declared.tree_fault.TreeFault.TheVariants as tree
+use Rattle.code_trees.specs.Faults.{fault_of as tree_fault_of}
+use Rattle.code_trees.specs.declared.tree_fault.TreeFault.{TreeFault}
+use Rattle.code_trees.specs.declared.tree_fault.TreeFault.TheVariants as tree
 use Rattle.job_lang.specs.Faults.{fault_of as job_fault_of}
 use Rattle.job_lang.specs.declared.faults.JobError.{JobError}
 use Rattle.job_lang.specs.declared.faults.JobError.TheVariants as job_error

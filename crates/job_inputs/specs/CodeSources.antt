@@ -8,7 +8,7 @@ use Rattle.rda_meta.specs.declared.meta.Shape.TheVariants as shape
 use Rattle.rda_meta.specs.declared.meta.Variable.{Variable}
 use Rattle.hierarchy.specs.CodeList.{codes_of}
 use Rattle.hierarchy.specs.Lead.{lead_of}
-use Rattle.hierarchy.specs.MissingCodes.{with_codes}
+use Rattle.code_trees.specs.MissingCodes.{with_codes}
 use Rattle.microdata.specs.declared.layout.Field.{Field}
 use Rattle.microdata.specs.declared.layout.Source.{Source}
 use Rattle.microdata.specs.declared.layout.Source.TheVariants as source

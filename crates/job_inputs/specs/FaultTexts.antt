@@ -4,8 +4,8 @@ use Rattle.apriori.specs.declared.faults.PriorWhy.TheVariants as prior
 use Rattle.apriori.specs.declared.faults.PriorWhy.{PriorWhy}
 use Rattle.certificate.specs.declared.faults.CertWhy.TheVariants as certificate
 use Rattle.certificate.specs.declared.faults.CertWhy.{CertWhy}
-use Rattle.hierarchy.specs.declared.tree_fault.TreeFault.TheVariants as tree
-use Rattle.hierarchy.specs.declared.tree_fault.TreeFault.{TreeFault}
+use Rattle.code_trees.specs.declared.tree_fault.TreeFault.TheVariants as tree
+use Rattle.code_trees.specs.declared.tree_fault.TreeFault.{TreeFault}
 use Rattle.job_inputs.specs.FileTexts.{file_text}
 use Rattle.job_inputs.specs.declared.faults.Fault.TheVariants as fault
 use Rattle.job_inputs.specs.declared.faults.Fault.{Fault}

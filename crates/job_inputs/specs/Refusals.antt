@@ -1,7 +1,7 @@
 -- The faults that errors of the readers name (own); want of memory names none.
 use Rattle.std.specs.Prelude.{Option, None, Some}
-use Rattle.hierarchy.specs.declared.tree_fault.TreeFault.{TreeFault}
-use Rattle.hierarchy.specs.declared.tree_fault.TreeFault.TheVariants as tree
+use Rattle.code_trees.specs.declared.tree_fault.TreeFault.{TreeFault}
+use Rattle.code_trees.specs.declared.tree_fault.TreeFault.TheVariants as tree
 use Rattle.job_lang.specs.declared.faults.JobError.{JobError}
 use Rattle.job_lang.specs.declared.faults.JobError.TheVariants as job_error
 use Rattle.linked_tables.specs.declared.book_fault.BookFault.{BookFault}

@@ -2,7 +2,7 @@ use crate::file_ref::FileRef;
 use crate::kinds::{JobKind, TreeKind, certificate_kind, meta_kind, prior_kind, row_kind};
 use apriori::PriorWhy;
 use certificate::CertWhy;
-use hierarchy::TreeFault;
+use code_trees::TreeFault;
 use job_lang::JobWhy;
 use microdata::RowWhy;
 use rda_meta::MetaWhy;

@@ -14,7 +14,7 @@ ghost use Rattle.job_inputs.specs.SoundJobs.{IsSound, AreRows};
 use crate::described::DescribedJob;
 use crate::faults::Fault;
 use crate::refusal::Refusal;
-use hierarchy::CodeTree;
+use code_trees::CodeTree;
 use linked_tables::{Book, BookFault};
 use primary_rules::keep;
 use sdc_base::{Items, Memory, Place, Row};

@@ -3,7 +3,7 @@ ghost use Rattle.job_inputs.specs.FaultTexts.{certificate_text, command_text, me
 
 use apriori::PriorWhy;
 use certificate::CertWhy;
-use hierarchy::TreeFault;
+use code_trees::TreeFault;
 use job_lang::{Command, JobWhy};
 use microdata::RowWhy;
 use rda_meta::MetaWhy;

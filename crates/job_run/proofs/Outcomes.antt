@@ -11,7 +11,7 @@ use Rattle.job_inputs.specs.declared.file_ref.FileRef.{FileRef}
 use Rattle.job_inputs.specs.declared.purpose.Purpose.TheVariants as purpose
 use Rattle.job_inputs.specs.declared.stop.InputStop.{InputStop}
 use Rattle.job_inputs.specs.declared.stop.InputStop.TheVariants as input
-use Rattle.hierarchy.specs.declared.tree_fault.TreeFault.TheVariants as tree
+use Rattle.code_trees.specs.declared.tree_fault.TreeFault.TheVariants as tree
 use Rattle.job_run.specs.Endings.{IsReleaseOf}
 use Rattle.job_run.specs.Puts.{SomeWhole, OneInPart}
 use Rattle.job_run.specs.Reports.{report_of, AgreesWith, LeavesTray, LeavesAll, HasCause, HasComeTo}

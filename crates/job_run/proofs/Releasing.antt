@@ -14,7 +14,8 @@ use Rattle.apriori.specs.Settling.{SettledCell, view_of_cell}
 use Rattle.sdc_base.specs.declared.system.System.{System}
 use Rattle.certificate.specs.declared.certificate.Certificate.{Certificate}
 use Rattle.cell_protection.specs.Certifying.{hidden_numbers}
-use Rattle.cell_protection.specs.Protections.{IsProtectedWith, IsProtectionOf, passes_of}
+use Rattle.cell_protection.specs.Protections.{IsProtectedWith, IsProtectionOf}
+use Rattle.modular_plan.specs.Methods.{passes_of}
 use Rattle.cell_protection.specs.declared.protection.Protection.{Protection}
 use Rattle.cell_protection.specs.declared.protection.Protection.TheVariants as protection
 use Rattle.interval_audit.specs.declared.answer.AskFault.{AskFault}

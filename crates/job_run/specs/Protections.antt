@@ -5,7 +5,8 @@ use Rattle.sdc_base.specs.declared.system.System.{System}
 use Rattle.certificate.specs.Certificates.{certificate_of}
 use Rattle.certificate.specs.Texts.{text_of}
 use Rattle.certificate.specs.declared.certificate.Certificate.{Certificate}
-use Rattle.cell_protection.specs.Protections.{IsProtectionOf, passes_of}
+use Rattle.cell_protection.specs.Protections.{IsProtectionOf}
+use Rattle.modular_plan.specs.Methods.{passes_of}
 use Rattle.cell_protection.specs.declared.protection.Protection.{Protection}
 use Rattle.cell_protection.specs.declared.protection.Protection.TheVariants as protection
 use Rattle.interval_audit.specs.declared.answer.AskFault.{AskFault}

@@ -2,7 +2,7 @@
 use Rattle.std.specs.Prelude.{◌≡◌, ◌≢◌, ◌⊎◌, ℕ, ◌+◌, List, Result, Ok, Err, IsOk, IsOkAnd}
 use Rattle.sdc_base.specs.Counts.{HasRisen}
 use Rattle.cell_protection.specs.declared.protection.Protection.TheVariants as protection
-use Rattle.hierarchy.specs.declared.tree_fault.TreeFault.TheVariants as tree
+use Rattle.code_trees.specs.declared.tree_fault.TreeFault.TheVariants as tree
 use Rattle.office_io.specs.Files.{Files, held_name}
 use Rattle.office_io.specs.Shelves.{ShelfState}
 use Rattle.office_io.specs.Trays.{TrayState}

@@ -8,7 +8,7 @@ use Rattle.sdc_base.specs.Trees.{Tree}
 use Rattle.sdc_base.specs.Records.{Name}
 use Rattle.sdc_base.specs.Answers.{Fails}
 use Rattle.sdc_base.specs.Cells.{cells_of, named_by, with_name}
-use Rattle.hierarchy.proofs.FlatSteps.{drop-at, take-at}
+use Rattle.code_trees.proofs.FlatSteps.{drop-at, take-at}
 use Rattle.linked_tables.specs.declared.book_fault.BookFault.{BookFault}
 use Rattle.linked_tables.specs.Tables.{most_cells, variables_fault, cells_fault, first_fault, or_later, unless_fault, book_of}
 use Rattle.linked_tables.specs.BookCells.{IsTable}

@@ -11,7 +11,7 @@ use crate::mark::Mark;
 use crate::names::{Name, Names};
 use crate::numbering::{Numbering, blank_marks, number_cells};
 use crate::places::{is_place, know_trees, size_at};
-use hierarchy::CodeTree;
+use code_trees::CodeTree;
 use sdc_base::{Place, name_at};
 use std::alloc::Global;
 use std::marker::Model;

@@ -9,7 +9,7 @@ use crate::book_fault::BookFault;
 use crate::mark::Mark;
 use crate::names::{Name, Names};
 use crate::places::{size_at, spans_twice, spans_unknown};
-use hierarchy::CodeTree;
+use code_trees::CodeTree;
 use sdc_base::{Place, name_at, with_code};
 use std::alloc::{AllocError, Global};
 

@@ -5,7 +5,7 @@ ghost use Rattle.sdc_base.specs.Cells.{trees_of};
 ghost use Rattle.sdc_base.specs.CellOrder.{is_place_in};
 ghost use Rattle.linked_tables.specs.Tables.{has_unknown, has_twice};
 
-use hierarchy::CodeTree;
+use code_trees::CodeTree;
 
 /// How many codes the tree of a variable has, and none where there is no such variable.
 pub(crate) fn size_at(trees: &[CodeTree], variable: u32) -> usize

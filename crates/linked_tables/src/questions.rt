@@ -1,6 +1,6 @@
 ghost use Rattle.std.specs.Prelude.{◌≡◌, ◌≤◌, length, option_map};
 ghost use Rattle.sdc_base.specs.Trees.{parent_at};
-ghost use Rattle.hierarchy.specs.Children.{code_at, first_child, next_sibling};
+ghost use Rattle.code_trees.specs.Children.{code_at, first_child, next_sibling};
 ghost use Rattle.linked_tables.specs.BookCells.{tree_of};
 
 use crate::book::Book;

@@ -7,8 +7,8 @@ use Rattle.sdc_base.specs.Lines.{lines}
 use Rattle.sdc_base.proofs.StepLemmas.{bind_ok}
 use Rattle.sdc_base.specs.Trees.{Tree, children, is_child}
 use Rattle.sdc_base.specs.declared.rows.Row.{Row}
-use Rattle.hierarchy.specs.Children.{child_from, first_child, is_place}
-use Rattle.hierarchy.proofs.FlatSteps.{drop-at}
+use Rattle.code_trees.specs.Children.{child_from, first_child, is_place}
+use Rattle.code_trees.proofs.FlatSteps.{drop-at}
 use Rattle.microdata.specs.Closing.{closed_of, place_of, leaf_of, leaves_of, row_of, rows_of}
 use Rattle.microdata.specs.Fields.{scale_of}
 use Rattle.microdata.specs.Layouts.{measures_of}

@@ -9,9 +9,9 @@ use Rattle.std.specs.declared.cmp.Ordering.TheVariants.{Less, Equal, Greater}
 use Rattle.std.proofs.lemmas.Bool.Decides.{nat_tests}
 use Rattle.std.proofs.lemmas.Map.Keys.{IsDistinct-head, IsDistinct-tail, IsDistinct-cons}
 use Rattle.std.proofs.lemmas.Slice.Eq.{bytes_eq-Decides}
-use Rattle.hierarchy.specs.Among.{IsIn, AreAmong}
-use Rattle.hierarchy.specs.Faults.{code_fault, first_fault, or_else}
-use Rattle.hierarchy.proofs.Gathered.{in-any, all-back, all-stays, all-new}
+use Rattle.code_trees.specs.Among.{IsIn, AreAmong}
+use Rattle.code_trees.specs.Faults.{code_fault, first_fault, or_else}
+use Rattle.code_trees.proofs.Gathered.{in-any, all-back, all-stays, all-new}
 use Rattle.microdata.specs.Keeping.{AreFlatCodes}
 use Rattle.microdata.specs.SeenCodes.{with_flat_code}
 use Rattle.microdata.specs.declared.faults.RowWhy.TheVariants.{NotLeaf, TooManyCodes}

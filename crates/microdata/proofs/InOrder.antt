@@ -6,10 +6,10 @@ use Rattle.std.specs.List.{AllByRecursion}
 use Rattle.std.specs.Ordering.{nat_cmp, match_ordering, ordering_reverse}
 use Rattle.std.specs.declared.cmp.Ordering.TheVariants.{Less, Equal, Greater}
 use Rattle.std.proofs.lemmas.Cmp.{nat_list_cmp_total}
-use Rattle.hierarchy.specs.Among.{IsIn, AreAmong}
-use Rattle.hierarchy.specs.Levels.{prefixes, with_prefixes, codes_with_prefixes}
-use Rattle.hierarchy.proofs.Gathered.{all-stays, all-new, all-back}
-use Rattle.hierarchy.proofs.Prefixes.{not_before_itself}
+use Rattle.code_trees.specs.Among.{IsIn, AreAmong}
+use Rattle.code_trees.specs.Levels.{prefixes, with_prefixes, codes_with_prefixes}
+use Rattle.code_trees.proofs.Gathered.{all-stays, all-new, all-back}
+use Rattle.code_trees.proofs.Prefixes.{not_before_itself}
 
 abbrev Before : List ℕ → List ℕ → Type 0
 Before one other = slice_cmp nat_cmp one other ≡ Less

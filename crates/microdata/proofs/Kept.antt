@@ -11,7 +11,7 @@ use Rattle.sdc_base.specs.Steps.{◌>>=◌, or_fault, refuse}
 use Rattle.sdc_base.proofs.StepLemmas.{bind_ok}
 use Rattle.sdc_base.specs.Trees.{Tree, find}
 use Rattle.sdc_base.specs.declared.number_fault.NumberFault.{NumberFault}
-use Rattle.hierarchy.specs.Levels.{boundaries, prefixes, with_prefixes}
+use Rattle.code_trees.specs.Levels.{boundaries, prefixes, with_prefixes}
 use Rattle.microdata.specs.Faults.{at_record}
 use Rattle.microdata.specs.Fields.{field, number_below, number_of, value_in, value_of, weight_of, scale_of, is_negative, has_no_response}
 use Rattle.microdata.specs.OneRecord.{variable_says, variables_say, response_says, record_says, line_says, lines_say, with_row, with_skipped}

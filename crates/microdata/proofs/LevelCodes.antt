@@ -6,10 +6,10 @@ use Rattle.std.proofs.lemmas.Bool.Decides.{nat_tests}
 use Rattle.std.proofs.lemmas.List.Elements.{All-append, All-cons, All-nil}
 use Rattle.sdc_base.specs.Blanks.{is_blank}
 use Rattle.sdc_base.specs.Steps.{◌>>=◌, refuse}
-use Rattle.hierarchy.specs.Faults.{or_else}
-use Rattle.hierarchy.specs.Levels.{boundaries, prefixes, with_prefixes, codes_with_prefixes, level_fault, first_level_fault}
-use Rattle.hierarchy.specs.declared.tree_fault.TreeFault.{TreeFault}
-use Rattle.hierarchy.proofs.Among.{among-more}
+use Rattle.code_trees.specs.Faults.{or_else}
+use Rattle.code_trees.specs.Levels.{boundaries, prefixes, with_prefixes, codes_with_prefixes, level_fault, first_level_fault}
+use Rattle.code_trees.specs.declared.tree_fault.TreeFault.{TreeFault}
+use Rattle.code_trees.proofs.Among.{among-more}
 use Rattle.microdata.specs.Keeping.{AreLevelCodes}
 use Rattle.microdata.specs.SeenCodes.{with_level_code}
 use Rattle.microdata.specs.declared.faults.RowWhy.{RowWhy}

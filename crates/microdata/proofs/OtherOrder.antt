@@ -9,8 +9,8 @@ use Rattle.std.proofs.lemmas.Slice.Eq.{bytes_eq-Decides}
 use Rattle.sdc_base.specs.Lines.{lines}
 use Rattle.sdc_base.specs.Trees.{Tree, find, flat_tree}
 use Rattle.sdc_base.specs.declared.rows.Row.{Row}
-use Rattle.hierarchy.specs.Among.{IsIn, AreAmong}
-use Rattle.hierarchy.specs.Levels.{boundaries, tree_of_codes}
+use Rattle.code_trees.specs.Among.{IsIn, AreAmong}
+use Rattle.code_trees.specs.Levels.{boundaries, tree_of_codes}
 use Rattle.microdata.specs.Closing.{tree_of}
 use Rattle.microdata.specs.Fields.{field, value_of, weight_of}
 use Rattle.microdata.specs.Keeping.{AreSeen, AreLevelCodes, AreFlatCodes}

@@ -9,11 +9,11 @@ use Rattle.sdc_base.specs.Lines.{lines}
 use Rattle.sdc_base.proofs.StepLemmas.{bind_ok}
 use Rattle.sdc_base.specs.Trees.{Tree, codes, find}
 use Rattle.sdc_base.specs.declared.rows.Row.{Row}
-use Rattle.hierarchy.specs.Among.{IsIn}
-use Rattle.hierarchy.specs.Children.{first_child}
-use Rattle.hierarchy.specs.Levels.{boundaries, code_above, tree_of_codes}
-use Rattle.hierarchy.proofs.Among.{codes-more}
-use Rattle.hierarchy.proofs.FlatSteps.{codes-flat}
+use Rattle.code_trees.specs.Among.{IsIn}
+use Rattle.code_trees.specs.Children.{first_child}
+use Rattle.code_trees.specs.Levels.{boundaries, code_above, tree_of_codes}
+use Rattle.code_trees.proofs.Among.{codes-more}
+use Rattle.code_trees.proofs.FlatSteps.{codes-flat}
 use Rattle.microdata.specs.Closing.{tree_of, places_in, closed_of, place_of, leaf_of, leaves_of, row_of, rows_of}
 use Rattle.microdata.specs.Fields.{field}
 use Rattle.microdata.specs.Keeping.{AreSeen}

@@ -9,9 +9,9 @@ use Rattle.sdc_base.specs.Places.{first_place}
 use Rattle.sdc_base.specs.Steps.{◌>>=◌, or_fault, refuse}
 use Rattle.sdc_base.proofs.StepLemmas.{bind_ok}
 use Rattle.sdc_base.specs.Trees.{Tree, codes, find}
-use Rattle.hierarchy.specs.Among.{IsIn, AreAmong}
-use Rattle.hierarchy.specs.Levels.{boundaries, prefixes, with_prefixes}
-use Rattle.hierarchy.proofs.MapEntries.{position-first_place}
+use Rattle.code_trees.specs.Among.{IsIn, AreAmong}
+use Rattle.code_trees.specs.Levels.{boundaries, prefixes, with_prefixes}
+use Rattle.code_trees.proofs.MapEntries.{position-first_place}
 use Rattle.microdata.specs.Fields.{field, has_no_response, value_of, weight_of}
 use Rattle.microdata.specs.Keeping.{AreSeen}
 use Rattle.microdata.specs.Layouts.{measures_of}

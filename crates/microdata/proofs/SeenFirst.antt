@@ -4,7 +4,7 @@ use Rattle.std.specs.List.{IsDistinct, list_any}
 use Rattle.std.specs.Str.{bytes_eq}
 use Rattle.std.proofs.lemmas.List.{take-append-drop}
 use Rattle.std.proofs.lemmas.List.Elements.{All-nil, All-map}
-use Rattle.hierarchy.specs.Among.{IsIn}
+use Rattle.code_trees.specs.Among.{IsIn}
 use Rattle.microdata.specs.Keeping.{AreSeen, IsVariable}
 use Rattle.microdata.specs.Layouts.{IsSource, IsField}
 use Rattle.microdata.specs.SeenCodes.{seen_first}

@@ -5,8 +5,8 @@ use Rattle.std.specs.Str.{bytes_eq}
 use Rattle.std.proofs.lemmas.List.Sorted.{IsPermutation-refl, IsPermutation-trans, IsPermutation-cons, IsPermutation-middle, sum_by-IsPermutation, list_any-IsPermutation}
 use Rattle.std.proofs.lemmas.List.Sums.{sum_by-cons}
 use Rattle.std.proofs.lemmas.Slice.Eq.{bytes_eq-Decides}
-use Rattle.hierarchy.specs.Among.{IsIn}
-use Rattle.hierarchy.proofs.Gathered.{in-any, any-in}
+use Rattle.code_trees.specs.Among.{IsIn}
+use Rattle.code_trees.proofs.Gathered.{in-any, any-in}
 
 abbrev one_where : (List ℕ → Bool) → List ℕ → ℕ
 one_where test line = cond (test line) 1 0

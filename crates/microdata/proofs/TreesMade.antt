@@ -2,9 +2,9 @@
 use Rattle.std.proofs.Common.{◌≡◌, Result, Ok, refl}
 use Rattle.sdc_base.specs.Answers.{Fails}
 use Rattle.sdc_base.specs.Trees.{Tree}
-use Rattle.hierarchy.specs.Faults.{fault_of}
-use Rattle.hierarchy.specs.declared.tree_fault.TreeFault.{TreeFault}
-use Rattle.hierarchy.specs.declared.tree_fault.TreeFault.TheVariants as fault
+use Rattle.code_trees.specs.Faults.{fault_of}
+use Rattle.code_trees.specs.declared.tree_fault.TreeFault.{TreeFault}
+use Rattle.code_trees.specs.declared.tree_fault.TreeFault.TheVariants as fault
 
 pub memory-alone : (one : TreeFault) (read : Result Tree TreeFault) (tree : Tree) → read ≡ Ok tree → Fails (fault_of one) read → one ≡ fault.Memory
 memory-alone (fault.NoCode n) read tree fine h = absurd cc

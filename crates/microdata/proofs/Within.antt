@@ -6,8 +6,8 @@ use Rattle.sdc_base.specs.Lines.{lines}
 use Rattle.sdc_base.proofs.StepLemmas.{bind_ok}
 use Rattle.sdc_base.specs.Trees.{Tree, find}
 use Rattle.sdc_base.specs.declared.rows.Row.{Row}
-use Rattle.hierarchy.specs.Children.{first_child}
-use Rattle.hierarchy.specs.Levels.{boundaries, code_above, tree_of_codes}
+use Rattle.code_trees.specs.Children.{first_child}
+use Rattle.code_trees.specs.Levels.{boundaries, code_above, tree_of_codes}
 use Rattle.microdata.specs.Closing.{tree_of, places_in, closed_of, place_of, leaf_of, leaves_of, row_of, rows_of}
 use Rattle.microdata.specs.Fields.{scale_of}
 use Rattle.microdata.specs.Layouts.{measures_of}

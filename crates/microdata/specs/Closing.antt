@@ -5,8 +5,8 @@ use Rattle.std.specs.Option.{unwrap_or}
 use Rattle.sdc_base.specs.Steps.{◌>>=◌}
 use Rattle.sdc_base.specs.Trees.{Tree, find, flat_tree}
 use Rattle.sdc_base.specs.declared.rows.Row.{Row}
-use Rattle.hierarchy.specs.Children.{first_child}
-use Rattle.hierarchy.specs.Levels.{boundaries, tree_of_codes}
+use Rattle.code_trees.specs.Children.{first_child}
+use Rattle.code_trees.specs.Levels.{boundaries, tree_of_codes}
 use Rattle.microdata.specs.Faults.{at_record}
 use Rattle.microdata.specs.KeptRows.{KeptRow}
 use Rattle.microdata.specs.declared.closing.ClosedVariable.{ClosedVariable}

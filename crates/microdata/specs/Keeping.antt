@@ -3,8 +3,8 @@ use Rattle.std.specs.Prelude.{◌≡◌, ℕ, ◌+◌, ◌≤◌, false, List, [
 use Rattle.std.specs.List.{IsDistinct}
 use Rattle.std.specs.Str.{bytes_eq}
 use Rattle.sdc_base.specs.Lines.{HasNoFeed}
-use Rattle.hierarchy.specs.Among.{AreAmong}
-use Rattle.hierarchy.specs.Levels.{boundaries, codes_with_prefixes, first_level_fault}
+use Rattle.code_trees.specs.Among.{AreAmong}
+use Rattle.code_trees.specs.Levels.{boundaries, codes_with_prefixes, first_level_fault}
 use Rattle.microdata.specs.Feeding.{is_too_long}
 use Rattle.microdata.specs.Layouts.{IsField, AreMeasures}
 use Rattle.microdata.specs.declared.faults.RowError.{RowError}

@@ -9,8 +9,8 @@ use Rattle.std.specs.Str.{bytes_eq}
 use Rattle.sdc_base.specs.Blanks.{is_blank}
 use Rattle.sdc_base.specs.Steps.{◌>>=◌, or_fault, refuse}
 use Rattle.sdc_base.specs.Trees.{Tree, find}
-use Rattle.hierarchy.specs.Children.{first_child}
-use Rattle.hierarchy.specs.Levels.{boundaries, prefixes, with_prefixes}
+use Rattle.code_trees.specs.Children.{first_child}
+use Rattle.code_trees.specs.Levels.{boundaries, prefixes, with_prefixes}
 use Rattle.microdata.specs.declared.faults.RowWhy.{RowWhy}
 use Rattle.microdata.specs.declared.faults.RowWhy.TheVariants.{UnknownCode, NotLeaf, TooManyCodes}
 use Rattle.microdata.specs.declared.layout.Source.{Source}

@@ -3,7 +3,7 @@ ghost use Rattle.std.specs.List.{AllByRecursion, IsDistinct};
 ghost use Rattle.std.specs.Str.{bytes_eq};
 ghost use Rattle.sdc_base.specs.Trees.{IsCodeTree};
 ghost use Rattle.sdc_base.specs.Trees as trees_specs;
-ghost use Rattle.hierarchy.specs.Levels.{boundaries, tree_of_codes, codes_with_prefixes, first_level_fault};
+ghost use Rattle.code_trees.specs.Levels.{boundaries, tree_of_codes, codes_with_prefixes, first_level_fault};
 ghost use Rattle.sdc_base.specs.Answers.{Gives};
 ghost use Rattle.microdata.specs.Closing.{closed_of, tree_of, places_in};
 ghost use Rattle.microdata.specs.Closing as closing;
@@ -21,7 +21,7 @@ use crate::record::{SoFar, Variable, Variables};
 use crate::records::Records;
 use crate::taking::Seen;
 use arrayvec::ArrayVec;
-use hierarchy::{CodeTree, TreeFault, flat, from_levels};
+use code_trees::{CodeTree, TreeFault, flat, from_levels};
 use sdc_base::{Few, Items, Memory, Place, Row, Text};
 use std::alloc::Global;
 

@@ -1,4 +1,4 @@
-use hierarchy::CodeTree;
+use code_trees::CodeTree;
 use sdc_base::{Items, Text};
 
 /// Where the fields of a record stand, and what their bytes mean. Positions count from 1, in bytes.

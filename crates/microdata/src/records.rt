@@ -1,4 +1,4 @@
-use hierarchy::CodeTree;
+use code_trees::CodeTree;
 use sdc_base::{Items, Row};
 
 /// The records of microdata, with a code tree for each spanning variable.

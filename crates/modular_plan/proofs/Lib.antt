@@ -10,3 +10,4 @@ pub mod PlanSteps
 pub mod Passes
 pub mod Shallow
 pub mod WholeSteps
+pub mod OpenCorners

@@ -9,6 +9,9 @@ use Rattle.std.proofs.Math.Seq.{get_or-append_seam}
 use Rattle.sdc_base.specs.Trees.{Tree, children, is_child, parent_at}
 use Rattle.sdc_base.specs.Records.{Name}
 use Rattle.sdc_base.specs.Cells.{trees_of}
+use Rattle.sdc_base.specs.HiddenSets.{MayHide, may_hide}
+use Rattle.sdc_base.specs.declared.cell.Kind.{Kind}
+use Rattle.sdc_base.specs.declared.cell.Kind.TheVariants.{Primary, Free, Fixed}
 use Rattle.sdc_base.specs.Kinds.{is_fixed}
 use Rattle.sdc_base.specs.Cubes.{bears, choices, corners_of, cubes_at, serve}
 use Rattle.sdc_base.specs.CubeOrder.{least_of}
@@ -35,7 +38,7 @@ use Rattle.hypercube.proofs.AllOf.{all-append, all-flat, all-map, all-more}
 use Rattle.hypercube.proofs.LeastLaw.{least_is_first}
 use Rattle.hypercube.proofs.WholeCubes.{cubes_are_whole}
 use Rattle.modular_plan.specs.Plans.{codes_at, hidden_among, hidden_in, in_passes, is_cell_of, trail_of, with_cell, with_subtable}
-use Rattle.modular_plan.specs.StepLaws.{CanBeHidden, IsWholeStep, StepsAreWhole}
+use Rattle.modular_plan.specs.StepLaws.{IsWholeStep, StepsAreWhole}
 
 both : (a b : Bool) → (a && b) ≡ true → (a ≡ true) × (b ≡ true)
 both true b h = (refl, h)
@@ -144,22 +147,23 @@ names-inside trees name (variable ∷ table) (parent ∷ parents) are h =
 
 -- ---- a cube that serves can be hidden
 
-bears-open : (levels : Levels) (plus : Bool) (cell : Cell) → bears levels plus cell ≡ true → is_fixed cell.kind ≡ false
-bears-open levels plus cell h = by (is_fixed cell.kind) _ h
+bears-open : (levels : Levels) (plus : Bool) (cell : Cell) → bears levels plus cell ≡ true → may_hide cell.kind ≡ true
+bears-open levels plus cell h = by cell.kind _ h
   where
-    by : (fixed rest : Bool) → (not fixed && rest) ≡ true → fixed ≡ false
-    by true rest h = cc
-    by false rest h = refl
+    by : (kind : Kind) (rest : Bool) → (not (is_fixed kind) && rest) ≡ true → may_hide kind ≡ true
+    by Primary rest h = refl
+    by Free rest h = refl
+    by Fixed rest h = cc
 
-serve-open : (members : List Cell) (levels : Levels) (corners : List Corner) → serve members levels corners ≡ true → AllByRecursion (CanBeHidden members) (map (λ corner. corner.cell) corners)
+serve-open : (members : List Cell) (levels : Levels) (corners : List Corner) → serve members levels corners ≡ true → AllByRecursion (MayHide members) (map (λ corner. corner.cell) corners)
 serve-open members levels [] h = tt
 serve-open members levels (corner ∷ corners) h =
     let parts = both (option_map_or (bears levels corner.plus) (slice_get members corner.cell) false) (list_all (λ corner. option_map_or (bears levels corner.plus) (slice_get members corner.cell) false) corners) h in
     (one (slice_get members corner.cell) refl parts.0, serve-open members levels corners parts.1)
   where
-    one : (o : Option Cell) → slice_get members corner.cell ≡ o → option_map_or (bears levels corner.plus) o false ≡ true → CanBeHidden members corner.cell
+    one : (o : Option Cell) → slice_get members corner.cell ≡ o → option_map_or (bears levels corner.plus) o false ≡ true → MayHide members corner.cell
     one None is h = cc
-    one (Some cell) is h = record { cell = cell; found = is; not_fixed = bears-open levels corner.plus cell h }
+    one (Some cell) is h = record { cell = cell; found = is; may = bears-open levels corner.plus cell h }
 
 contained : {X : Type 0} (P : X → Type 0) (xs : List X) (x : X) → AllByRecursion P xs → Contains xs x → P x
 contained {X = X} P xs x all has = by xs has.0 has.1 has.2 all

@@ -3,3 +3,4 @@ pub mod SubtablePlaces
 pub mod Beginnings
 pub mod DepthLaws
 pub mod StepLaws
+pub mod Methods

@@ -7,6 +7,8 @@ mod marking;
 mod ordering;
 mod planning;
 mod subtables;
+mod trails;
 
 pub use laws::{no_depth_is_greater, steps_are_whole};
 pub use planning::plan;
+pub use trails::{passes_in, trail_for};

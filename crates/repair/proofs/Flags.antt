@@ -11,7 +11,8 @@ use Rattle.sdc_base.specs.declared.cell.Kind.{Kind}
 use Rattle.sdc_base.specs.declared.cell.Kind.TheVariants.{Primary, Free, Fixed}
 use Rattle.sdc_base.specs.HiddenSets.{is_hidden, may_hide, full_set, IsPermitted}
 use Rattle.worlds.specs.declared.refuted.Refuted.{Refuted}
-use Rattle.repair.specs.HidingOrder.{IsOfKind, MayHide, hide, hide_subjects, planned_set}
+use Rattle.sdc_base.specs.HiddenSets.{MayHide}
+use Rattle.repair.specs.HidingOrder.{IsOfKind, hide, hide_subjects, planned_set}
 use Rattle.repair.specs.KeptWorlds.{shown_count}
 
 -- all that is hidden in the one set is hidden in the other

@@ -42,12 +42,6 @@ pub record IsOfKind (cells : List Cell) (number : ℕ) (kind : Kind) : Type 0 wh
   pub found : slice_get cells number ≡ Some cell
   pub is_kind : cell.kind ≡ kind
 
--- there is a cell with this number, and it isn't fixed
-pub record MayHide (cells : List Cell) (number : ℕ) : Type 0 where
-  pub cell : Cell
-  pub found : slice_get cells number ≡ Some cell
-  pub may : may_hide cell.kind ≡ true
-
 -- ---- hidden sets
 
 -- the set with this cell hidden
@@ -57,10 +51,6 @@ hide flags cell = slice_set flags cell true
 -- the set with this cell shown
 abbrev pub show : List Bool → ℕ → List Bool
 show flags cell = slice_set flags cell false
-
--- the corners of all planned steps
-abbrev pub corners_of : List PlanStep → List ℕ
-corners_of steps = flat_map (λ step. step.corners) steps
 
 -- the set with which repairing begins: the primary cells and the corners
 abbrev pub planned_set : List Cell → List ℕ → List Bool

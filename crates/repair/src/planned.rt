@@ -1,6 +1,7 @@
 ghost use Rattle.std.specs.Prelude.{◌≡◌, ◌<◌, length, map, fold, All, IfOk};
 ghost use Rattle.sdc_base.specs.Kinds.{is_primary};
-ghost use Rattle.repair.specs.HidingOrder.{hide, corners_of, planned_set};
+ghost use Rattle.sdc_base.specs.Trails.{corners_of};
+ghost use Rattle.repair.specs.HidingOrder.{hide, planned_set};
 
 use sdc_base::{Cell, Hidden, Items, Memory, PlanStep};
 use std::alloc::Global;

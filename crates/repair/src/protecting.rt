@@ -1,7 +1,9 @@
 ghost use Rattle.std.specs.Prelude.{◌≡◌, ◌↔◌, ◌≤◌, IsTrue, List, Bool, length, All, IfOk, IfErr};
 ghost use Rattle.sdc_base.specs.HiddenSets.{IsPermitted, full_set};
 ghost use Rattle.cost_rule.specs.Costs.{AreCosted};
-ghost use Rattle.repair.specs.HidingOrder.{case, prices_of, corners_of, planned_set, MayHide, ProtectsAll};
+ghost use Rattle.sdc_base.specs.HiddenSets.{MayHide};
+ghost use Rattle.sdc_base.specs.Trails.{corners_of};
+ghost use Rattle.repair.specs.HidingOrder.{case, prices_of, planned_set, ProtectsAll};
 ghost use Rattle.repair.specs.KeptWorlds.{HasModestLevels, AreServed};
 ghost use Rattle.repair.specs.Tasks.{case_of};
 ghost use Rattle.worlds.specs.ProtectFaults.{asked_of};

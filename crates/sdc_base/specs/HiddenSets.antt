@@ -22,6 +22,12 @@ may_hide Primary = true
 may_hide Free = true
 may_hide Fixed = false
 
+-- there is a cell with this number, and it may be hidden
+pub record MayHide (cells : List Cell) (number : ℕ) : Type 0 where
+  pub cell : Cell
+  pub found : slice_get cells number ≡ Some cell
+  pub may : may_hide cell.kind ≡ true
+
 -- the full set: all cells that aren't fixed
 abbrev pub full_set : List Cell → List Bool
 full_set cells = map (λ cell. may_hide cell.kind) cells

@@ -1,6 +1,6 @@
 -- The trail of a plan: steps, each of which hides the corners of a least cube (handbook, modular method; levels of
 -- secondary cells and the trail own).
-use Rattle.std.specs.Prelude.{ℕ, ◌==◌, ◌||◌, Bool, not, if◌then◌else◌, List, [], ◌∷◌, ◌++◌, map, slice_get, Option, None, Some, pos}
+use Rattle.std.specs.Prelude.{ℕ, ◌==◌, ◌||◌, Bool, not, if◌then◌else◌, List, [], ◌∷◌, ◌++◌, map, flat_map, slice_get, Option, None, Some, pos}
 use Rattle.std.specs.Int.{int_min}
 use Rattle.std.specs.List.{list_any}
 use Rattle.std.specs.Option.{option_map_or}
@@ -24,6 +24,10 @@ levels_at cells cell = option_map_or step_levels (slice_get cells cell) (record 
 -- the cell is a corner of a step
 abbrev pub is_corner : PlanStep → ℕ → Bool
 is_corner step cell = list_any (λ corner. corner == cell) step.corners
+
+-- the corners of all steps
+abbrev pub corners_of : List PlanStep → List ℕ
+corners_of steps = flat_map (λ step. step.corners) steps
 
 -- the cells that are hidden after these steps: the primary ones, and the corners of the steps
 abbrev pub hidden_after : List Cell → List PlanStep → ℕ → Bool

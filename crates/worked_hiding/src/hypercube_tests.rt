@@ -2,8 +2,8 @@ ghost use Rattle.std.specs.Prelude.{◌≡◌, ◌≤ℤ◌, pos, true, All};
 ghost use Rattle.cost_rule.specs.Costs.{AreCosted, IsTold};
 ghost use Rattle.cost_rule.specs.declared.kind.CostKind.TheVariants as Kinds;
 
+use code_trees::{CodeTree, flat};
 use cost_rule::{CostKind, CostRule, TellsCosts};
-use hierarchy::{CodeTree, flat};
 use hypercube::cheapest;
 use linked_tables::{Book, BookFault, Mark};
 use sdc_base::{Cell, CellFacts, Corner, Few, Kind, Levels, Place, Subtable, Text};

@@ -3,7 +3,8 @@ ghost use Rattle.std.specs.Option.{ForSome};
 ghost use Rattle.sdc_base.specs.declared.cell.Kind.TheVariants.{Primary};
 ghost use Rattle.sdc_base.specs.Systems.{NamesCells};
 ghost use Rattle.cost_rule.specs.Costs.{IsTold, AreCosted};
-ghost use Rattle.repair.specs.HidingOrder.{MayHide, corners_of};
+ghost use Rattle.sdc_base.specs.HiddenSets.{MayHide};
+ghost use Rattle.sdc_base.specs.Trails.{corners_of};
 ghost use Rattle.repair.specs.KeptWorlds.{HasModestLevels};
 
 use cost_rule::{CostKind, CostRule, TellsCosts};

@@ -1,5 +1,5 @@
 ghost use Rattle.std.specs.Prelude.{◌≡◌, ◌<◌, ◌+◌, ◌≤ℤ◌, ℕ, [], true, length, map, slice_index_or, All, pos};
-ghost use Rattle.repair.specs.HidingOrder.{corners_of};
+ghost use Rattle.sdc_base.specs.Trails.{corners_of};
 ghost use Rattle.cert_check.specs.Cases.{IsCase};
 
 use cert_check::{Case, CheckFault, accept};

@@ -5,12 +5,6 @@
 #[cfg(test)]
 mod demo_tests;
 mod jobs;
-#[cfg(test)]
-mod protected_tests;
-#[cfg(test)]
-mod reading_tests;
-#[cfg(test)]
-mod rounded_tests;
 mod runs;
 #[cfg(test)]
 mod tests;

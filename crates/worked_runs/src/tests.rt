@@ -4,7 +4,7 @@ use crate::jobs::{
 };
 use crate::runs::{Pieces, WHOLE_FILES, job_with, run_alone, run_words, status_and_text};
 use apriori::PriorWhy;
-use hierarchy::TreeFault;
+use code_trees::TreeFault;
 use interval_audit::Question;
 use job_lang::{Command, JobWhy};
 use job_run::{DemoSummary, Fault, FileRef, Report, Stuck, Summary, run};

@@ -1,8 +1,6 @@
-//! Linked tables with their records, relations and stated bounds, called on worked rows, as tests alone.
+//! Linked tables with their records and relations, called on worked rows, as tests alone.
 #![tactic(auto)]
 
-#[cfg(test)]
-mod apriori_tests;
 #[cfg(test)]
 mod linked_tables_tests;
 #[cfg(test)]

@@ -1,4 +1,4 @@
-use hierarchy::{CodeTree, flat};
+use code_trees::{CodeTree, flat};
 use linked_tables::{Book, BookFault};
 use sdc_base::{Few, Place, Text};
 use std::alloc::Global;

@@ -4,9 +4,11 @@ use Rattle.linked_tables.specs.declared.mark.Mark.{Mark}
 use Rattle.modular_plan.specs.Plans.{trail_of}
 use Rattle.modular_plan.proofs.SameBooks.{same-costed}
 use Rattle.repair.specs.HidingOrder.{case, prices_of}
-use Rattle.cell_protection.specs.Protections.{HasText, IsProtectionOf, passes_of, protection_by}
+use Rattle.cell_protection.specs.Protections.{HasText, IsProtectionOf, protection_by}
+use Rattle.modular_plan.specs.Methods.{passes_of}
 use Rattle.cell_protection.specs.declared.protection.Protection.{Protection}
-use Rattle.cell_protection.proofs.Protecting.{corners-may, if-ok, outcome-moves, stop-moves, text-by}
+use Rattle.modular_plan.proofs.OpenCorners.{corners-may}
+use Rattle.cell_protection.proofs.Protecting.{if-ok, outcome-moves, stop-moves, text-by}
 use Rattle.cell_protection.proofs.protection.protect_by.Goals as goal
 
 pub protect-outcome-requires-clause-costed : goal.protect-outcome-requires-clause-costed

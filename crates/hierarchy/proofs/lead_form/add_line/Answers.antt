@@ -1,9 +1,9 @@
 use Rattle.std.proofs.Common.{◌≡◌, ℕ, ◌<◌, List, ◌++◌, ◌∷◌, [], Some, length, slice_index, slice_get, ap, sym, refl, ◌∙◌, subst, arith}
 use Rattle.std.proofs.lemmas.Option.{slice_get_read, get_or_from_slice_get}
 use Rattle.sdc_base.specs.Trees.{Tree}
-use Rattle.hierarchy.specs.Growing.{tree_with_node}
-use Rattle.hierarchy.specs.Path.{IsPath, next_path}
-use Rattle.hierarchy.proofs.Paths.{path-next}
+use Rattle.code_trees.specs.Growing.{tree_with_node}
+use Rattle.code_trees.specs.Path.{IsPath, next_path}
+use Rattle.code_trees.proofs.Paths.{path-next}
 use Rattle.hierarchy.proofs.lead_form.add_line.Goals as goal
 
 pub returns-clause-path : goal.returns-clause-path

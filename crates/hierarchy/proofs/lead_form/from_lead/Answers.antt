@@ -3,8 +3,10 @@ use Rattle.sdc_base.specs.Lines.{lines}
 use Rattle.plain_text.specs.Reading.{LinesView}
 use Rattle.sdc_base.specs.Trees.{Tree}
 use Rattle.hierarchy.specs.Lead.{lead_lines}
-use Rattle.hierarchy.specs.Path.{IsPath, read_on}
-use Rattle.hierarchy.proofs.Paths.{path-total, same-start}
+use Rattle.code_trees.specs.Path.{IsPath}
+use Rattle.hierarchy.specs.LeadPath.{read_on}
+use Rattle.code_trees.proofs.Paths.{path-total}
+use Rattle.hierarchy.proofs.LeadPaths.{same-start}
 use Rattle.hierarchy.proofs.lead_form.from_lead.Goals as goal
 
 pub lines-init : goal.lines-init

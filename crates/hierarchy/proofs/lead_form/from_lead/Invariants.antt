@@ -2,7 +2,8 @@ use Rattle.std.proofs.Common.{◌≡◌, ◌+◌, length}
 use Rattle.sdc_base.specs.Lines.{lines}
 use Rattle.sdc_base.specs.Trees.{IsCodeTree}
 use Rattle.hierarchy.specs.Lead.{lead_of, lead_lines}
-use Rattle.hierarchy.specs.Path.{IsPath, read_on}
+use Rattle.code_trees.specs.Path.{IsPath}
+use Rattle.hierarchy.specs.LeadPath.{read_on}
 use Rattle.hierarchy.proofs.lead_form.from_lead.Given as goal
 
 abbrev pub invariant-lines : goal.invariant-lines

@@ -1,7 +1,7 @@
 use Rattle.std.proofs.Common.{◌≡◌, ◌-◌, ◌++◌, [], length, slice_index_or}
 use Rattle.std.specs.Option.{ForSome, option_map_or}
 use Rattle.sdc_base.specs.Cubes.{edges_from, edges_to}
-use Rattle.hierarchy.proofs.Children.{children_from, IsChild}
+use Rattle.code_trees.proofs.Children.{children_from, IsChild}
 use Rattle.hypercube.proofs.edges.edges_from.Given as goal
 
 abbrev pub invariant-children : goal.invariant-children

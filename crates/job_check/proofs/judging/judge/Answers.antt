@@ -1,6 +1,6 @@
 use Rattle.std.proofs.Common.{◌≤ℤ◌, List, pos, refl, ap, sym, ◌∙◌, subst}
 use Rattle.sdc_base.specs.declared.cell.Cell.{Cell}
-use Rattle.cell_protection.specs.Protections.{passes_of}
+use Rattle.modular_plan.specs.Methods.{passes_of}
 use Rattle.modular_plan.specs.Plans.{trail_of}
 use Rattle.job_check.proofs.CaseParts.{can-be-judged}
 use Rattle.job_check.proofs.Judgements.{judged-so}

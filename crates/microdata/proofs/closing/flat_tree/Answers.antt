@@ -1,6 +1,6 @@
 use Rattle.std.proofs.Common.{◌≡◌, ◌+◌, ◌++◌, [], ap, refl, ◌∙◌, Ok, List, ℕ, arith, length, length-append, ◌≤◌}
 use Rattle.sdc_base.specs.Trees.{flat_tree}
-use Rattle.hierarchy.specs.FlatForm.{flat_of}
+use Rattle.code_trees.specs.FlatForm.{flat_of}
 use Rattle.microdata.proofs.FlatCodes.{no-first-fault}
 use Rattle.microdata.proofs.TreesMade.{memory-alone}
 use Rattle.microdata.proofs.closing.flat_tree.Goals as goal

@@ -1,5 +1,5 @@
 use Rattle.std.proofs.Common.{◌≡◌, ◌*◌, ◌≤◌, drop}
-use Rattle.hierarchy.specs.Levels.{boundaries, with_prefixes}
+use Rattle.code_trees.specs.Levels.{boundaries, with_prefixes}
 use Rattle.microdata.proofs.taking.add_prefixes.Given as goal
 
 abbrev pub invariant-widths : goal.invariant-widths

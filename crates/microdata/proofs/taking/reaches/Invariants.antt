@@ -1,7 +1,7 @@
 use Rattle.std.proofs.Common.{◌≡◌, ◌*◌, ◌≤◌, drop}
 use Rattle.std.specs.List.{list_any}
 use Rattle.std.specs.Str.{bytes_eq}
-use Rattle.hierarchy.specs.Levels.{boundaries, prefixes}
+use Rattle.code_trees.specs.Levels.{boundaries, prefixes}
 use Rattle.microdata.proofs.taking.reaches.Given as goal
 
 abbrev pub invariant-widths : goal.invariant-widths

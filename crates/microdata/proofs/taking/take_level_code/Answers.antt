@@ -1,5 +1,5 @@
 use Rattle.std.proofs.Common.{arith}
-use Rattle.hierarchy.proofs.Among.{few-among}
+use Rattle.code_trees.proofs.Among.{few-among}
 use Rattle.microdata.proofs.LevelCodes.{level-sound}
 use Rattle.microdata.proofs.taking.take_level_code.Goals as goal
 

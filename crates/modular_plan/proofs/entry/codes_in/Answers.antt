@@ -1,6 +1,6 @@
 use Rattle.std.proofs.Common.{◌<◌, ◌++◌, ◌∷◌, [], ℕ, List, Option, slice_index_or, arith, ap, sym, subst, ◌∙◌, append_assoc}
-use Rattle.hierarchy.specs.Children.{next_sibling}
-use Rattle.hierarchy.proofs.Children.{children_from, children-are, children-next, first-is_child, left_from, next-is_child, next-smaller}
+use Rattle.code_trees.specs.Children.{next_sibling}
+use Rattle.code_trees.proofs.Children.{children_from, children-are, children-next, first-is_child, left_from, next-is_child, next-smaller}
 use Rattle.modular_plan.proofs.entry.codes_in.Goals as goal
 
 pub children-init : goal.children-init

@@ -1,7 +1,7 @@
 use Rattle.std.proofs.Common.{◌≡◌, ◌-◌, ◌++◌, [], length, slice_index_or}
 use Rattle.std.specs.Option.{ForSome, option_map_or}
 use Rattle.sdc_base.specs.Cubes.{codes_in}
-use Rattle.hierarchy.proofs.Children.{children_from, IsChild}
+use Rattle.code_trees.proofs.Children.{children_from, IsChild}
 use Rattle.modular_plan.proofs.entry.codes_in.Given as goal
 
 abbrev pub invariant-children : goal.invariant-children

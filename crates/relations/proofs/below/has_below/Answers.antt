@@ -1,6 +1,6 @@
 use Rattle.std.proofs.Common.{ap, is_some, [], ◌∙◌, slice_index, slice_index_or}
-use Rattle.hierarchy.specs.Children.{first_child}
-use Rattle.hierarchy.proofs.Children.{has-children}
+use Rattle.code_trees.specs.Children.{first_child}
+use Rattle.code_trees.proofs.Children.{has-children}
 use Rattle.relations.proofs.below.has_below.Goals as goal
 
 pub returns : goal.returns

@@ -2,8 +2,8 @@ use Rattle.std.proofs.Common.{◌≡◌, ◌<◌, ◌≤◌, ◌+◌, ◌-◌, �
 use Rattle.std.specs.Option.{option_map_or}
 use Rattle.sdc_base.specs.Relations.{number_among, parts_among}
 use Rattle.linked_tables.specs.BookCells.{cells}
-use Rattle.hierarchy.specs.Children.{first_child, next_sibling}
-use Rattle.hierarchy.proofs.Children.{children_from, children-are, children-next, first-is_child, left_from, next-is_child, next-room, next-smaller}
+use Rattle.code_trees.specs.Children.{first_child, next_sibling}
+use Rattle.code_trees.proofs.Children.{children_from, children-are, children-next, first-is_child, left_from, next-is_child, next-room, next-smaller}
 use Rattle.sdc_base.proofs.GrowingLists.{option-front, option-most}
 use Rattle.relations.proofs.below.parts_of.Goals as goal
 

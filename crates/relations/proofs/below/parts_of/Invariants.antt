@@ -2,7 +2,7 @@ use Rattle.std.proofs.Common.{◌≡◌, ℕ, ◌<◌, ◌≤◌, ◌-◌, ◌++
 use Rattle.std.specs.Option.{ForSome, option_map_or}
 use Rattle.sdc_base.specs.Relations.{codes_below, parts_among}
 use Rattle.linked_tables.specs.BookCells.{cells}
-use Rattle.hierarchy.proofs.Children.{children_from, IsChild}
+use Rattle.code_trees.proofs.Children.{children_from, IsChild}
 use Rattle.relations.proofs.below.parts_of.Given as goal
 
 abbrev pub invariant-children : goal.invariant-children

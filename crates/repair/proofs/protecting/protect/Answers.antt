@@ -1,6 +1,7 @@
 use Rattle.std.proofs.Common.{◌∙◌, List, Bool, ℕ, length, ap, sym, subst}
 use Rattle.sdc_base.specs.HiddenSets.{IsPermitted}
-use Rattle.repair.specs.HidingOrder.{case, corners_of, planned_set}
+use Rattle.sdc_base.specs.Trails.{corners_of}
+use Rattle.repair.specs.HidingOrder.{case, planned_set}
 use Rattle.repair.proofs.Concluding.{where_ok, cannot_where}
 use Rattle.repair.proofs.Corners.{length-prices}
 use Rattle.repair.proofs.Flags.{planned_length, planned_permitted}

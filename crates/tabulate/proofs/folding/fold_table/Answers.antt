@@ -1,6 +1,6 @@
 use Rattle.std.proofs.Common.{◌≡◌, ℕ, ◌<◌, ◌≤◌, ◌∙◌, List, length, take, slice_get, Some, ap, sym, subst, arith}
 use Rattle.std.proofs.lemmas.List.{take_all}
-use Rattle.hierarchy.proofs.FlatSteps.{take-at}
+use Rattle.code_trees.proofs.FlatSteps.{take-at}
 use Rattle.linked_tables.specs.BookViews.{BookView}
 use Rattle.tabulate.specs.RecordsByPlace.{variables_of}
 use Rattle.tabulate.specs.UpperCells.{PassedRecords, after_variables}

@@ -1,7 +1,7 @@
 use Rattle.std.proofs.Common.{◌≡◌, ℕ, ◌∙◌, ◌∷◌, [], List, length, take, slice_get, Some, refl, ap, sym, subst}
 use Rattle.std.proofs.lemmas.Option.{slice_get_read}
 use Rattle.sdc_base.specs.declared.rows.Row.{Row}
-use Rattle.hierarchy.proofs.FlatSteps.{take-at}
+use Rattle.code_trees.proofs.FlatSteps.{take-at}
 use Rattle.tabulate.specs.RecordsByPlace.{GaveRecord, GaveRecords, codes_for, variables_of}
 use Rattle.tabulate.proofs.RowSteps.{gave-row}
 use Rattle.tabulate.proofs.placing.give_rows.Goals as goal

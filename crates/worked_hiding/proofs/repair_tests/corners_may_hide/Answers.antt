@@ -1,7 +1,8 @@
 use Rattle.std.proofs.Common.{◌≤◌, List, length, sym, subst, All, arith}
 use Rattle.std.proofs.lemmas.List.{take_all}
 use Rattle.sdc_base.specs.declared.trail.PlanStep.{PlanStep}
-use Rattle.repair.specs.HidingOrder.{MayHide, corners_of}
+use Rattle.sdc_base.specs.HiddenSets.{MayHide}
+use Rattle.sdc_base.specs.Trails.{corners_of}
 use Rattle.repair.proofs.Corners.{All-more}
 use Rattle.worked_hiding.proofs.repair_tests.corners_may_hide.Goals as goal
 

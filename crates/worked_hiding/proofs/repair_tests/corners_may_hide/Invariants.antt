@@ -1,5 +1,6 @@
 use Rattle.std.proofs.Common.{take, All}
-use Rattle.repair.specs.HidingOrder.{MayHide, corners_of}
+use Rattle.sdc_base.specs.HiddenSets.{MayHide}
+use Rattle.sdc_base.specs.Trails.{corners_of}
 use Rattle.worked_hiding.proofs.repair_tests.corners_may_hide.Given as goal
 
 abbrev pub invariant-steps : goal.invariant-steps

@@ -1,5 +1,5 @@
 use Rattle.std.proofs.Common.{◌<◌, All, drop}
-use Rattle.repair.specs.HidingOrder.{corners_of}
+use Rattle.sdc_base.specs.Trails.{corners_of}
 use Rattle.worked_releases.proofs.cert_check_tests.are_corners.Given as goal
 
 abbrev pub invariant-loop-step : goal.invariant-loop-step

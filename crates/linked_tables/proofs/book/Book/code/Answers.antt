@@ -1,7 +1,7 @@
 use Rattle.std.proofs.Common.{ap, sym, []}
 use Rattle.sdc_base.specs.Trees.{Tree}
 use Rattle.sdc_base.proofs.GrowingLists.{read-none}
-use Rattle.hierarchy.specs.Children.{code_at}
+use Rattle.code_trees.specs.Children.{code_at}
 use Rattle.linked_tables.proofs.book.Book.code.Goals as goal
 
 pub returns-in-None : goal.returns-in-None

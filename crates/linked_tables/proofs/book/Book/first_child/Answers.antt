@@ -1,7 +1,7 @@
 use Rattle.std.proofs.Common.{ap, sym, []}
 use Rattle.sdc_base.specs.Trees.{Tree}
 use Rattle.sdc_base.proofs.GrowingLists.{read-none}
-use Rattle.hierarchy.specs.Children.{first_child}
+use Rattle.code_trees.specs.Children.{first_child}
 use Rattle.linked_tables.proofs.book.Book.first_child.Goals as goal
 
 pub returns-in-None : goal.returns-in-None

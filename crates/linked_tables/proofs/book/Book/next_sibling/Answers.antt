@@ -1,7 +1,7 @@
 use Rattle.std.proofs.Common.{ap, sym, []}
 use Rattle.sdc_base.specs.Trees.{Tree}
 use Rattle.sdc_base.proofs.GrowingLists.{read-none}
-use Rattle.hierarchy.specs.Children.{next_sibling}
+use Rattle.code_trees.specs.Children.{next_sibling}
 use Rattle.linked_tables.proofs.book.Book.next_sibling.Goals as goal
 
 pub returns-in-None : goal.returns-in-None

@@ -1,6 +1,6 @@
 use Rattle.std.proofs.Common.{◌∙◌, ap, bytes_eq}
 use Rattle.sdc_base.specs.Places.{first_place}
-use Rattle.hierarchy.proofs.MapEntries.{position-first_place}
+use Rattle.code_trees.proofs.MapEntries.{position-first_place}
 use Rattle.linked_tables.proofs.names.Names.number_of.Goals as goal
 
 pub returns-clause-number : goal.returns-clause-number

@@ -1,5 +1,0 @@
-use Rattle.cell_protection.proofs.Protecting.{corners-may}
-use Rattle.cell_protection.proofs.planning.trail_by.Goals as goal
-
-pub returns-clause-corners : goal.returns-clause-corners
-returns-clause-corners g c = corners-may c.args.book.now c.args.cells.now c.in_ok-trail.trail.steps c.in_ok-trail.ensures.whole_steps

@@ -1,0 +1,16 @@
+pub mod MapEntries
+pub mod Climbs
+pub mod Growth
+pub mod CodeFaults
+pub mod FlatSteps
+pub mod Paths
+pub mod Depths
+pub mod LackedCodes
+pub mod Prefixes
+pub mod LevelSteps
+pub mod Gathered
+pub mod Among
+pub mod FlatLaw
+pub mod MissingLaw
+pub mod LevelLaw
+pub mod Children

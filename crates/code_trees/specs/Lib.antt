@@ -1,0 +1,14 @@
+pub mod Children
+pub mod Growing
+pub mod Among
+pub mod Entries
+pub mod Links
+pub mod Depths
+pub mod Faults
+pub mod FlatForm
+pub mod Path
+pub mod MissingCodes
+pub mod Levels
+pub mod LevelNodes
+pub mod Chains
+pub mod Laws

@@ -1,5 +1,0 @@
-use Rattle.hierarchy.proofs.FlatLaw.{flat_is_in_order}
-use Rattle.hierarchy.proofs.laws.flat_is_in_order.Goals as goal
-
-pub returns : goal.returns
-returns c = flat_is_in_order

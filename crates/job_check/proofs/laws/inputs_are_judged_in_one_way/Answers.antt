@@ -1,5 +1,0 @@
-use Rattle.job_check.proofs.OneJudgement.{judged-in-one-way}
-use Rattle.job_check.proofs.laws.inputs_are_judged_in_one_way.Goals as goal
-
-pub returns : goal.returns
-returns c = judged-in-one-way

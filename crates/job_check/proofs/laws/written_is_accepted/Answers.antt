@@ -1,9 +1,0 @@
-use Rattle.job_check.proofs.OneJudgement.{written-is-accepted}
-use Rattle.job_check.proofs.Speaking.{protection-is-accepted}
-use Rattle.job_check.proofs.laws.written_is_accepted.Goals as goal
-
-pub returns-clause-protection : goal.returns-clause-protection
-returns-clause-protection c = protection-is-accepted
-
-pub returns-clause-written : goal.returns-clause-written
-returns-clause-written c = written-is-accepted

@@ -1,0 +1,9 @@
+//! Whole runs that protect or round tables, check a release and give intervals, as tests alone.
+#![tactic(auto)]
+
+#[cfg(test)]
+mod protected_tests;
+#[cfg(test)]
+mod reading_tests;
+#[cfg(test)]
+mod rounded_tests;

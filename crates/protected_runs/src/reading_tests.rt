@@ -1,0 +1,154 @@
+use std::rt::HostRuntime;
+use std::test::Fail;
+use worked_runs::{
+    MARGINS, THIRTEEN_RECORDS, THREE_VARIABLES, TWO_WAY, TWO_WAY_CERTIFICATE, TWO_WAY_TABLE,
+    run_over,
+};
+
+// The certificate of the same job where it rounds, and records for it.
+const ROUNDED: &str = "argus certificate 1\nmethod RND 5\ncells 9\nrelations 6\nend\n";
+
+const FOUR: &str = "a1b1c1  3\na1b2c1  4\na2b1c1  6\na2b2c1  2\n";
+
+// By the certificate and the table that stand on the shelf: whether they are accepted, or their first fault.
+#[test]
+fn checks(rt: HostRuntime) -> Result<(), Fail> {
+    let alloc = rt.alloc();
+    let moved = TWO_WAY_CERTIFICATE.replace(alloc, "above 1 6 -6", "above 1 7 -6")?;
+    let other = TWO_WAY_CERTIFICATE.replace(alloc, "certificate 1", "certificate 2")?;
+    let shown = TWO_WAY_TABLE.replace(alloc, "a1,b1,x", "a1,b1,20")?;
+    let rows = [
+        (TWO_WAY_CERTIFICATE, TWO_WAY_TABLE, "0 accepted\n"),
+        (
+            &moved,
+            TWO_WAY_TABLE,
+            "3 not accepted: World 0 Relation 2\n",
+        ),
+        (TWO_WAY_CERTIFICATE, &shown, "3 not accepted: Release 1 6\n"),
+        (
+            &other,
+            TWO_WAY_TABLE,
+            "2 refused: certificate line 1: Version\n",
+        ),
+    ];
+    for (certificate, table, want) in rows {
+        let files = [
+            ("r.job", TWO_WAY),
+            ("m.rda", THREE_VARIABLES),
+            ("m.asc", THIRTEEN_RECORDS),
+            ("p.hst", MARGINS),
+            ("t.cert", certificate),
+            ("t.csv", table),
+        ];
+        let got = run_over(alloc, &["check", "r.job"], &files)?;
+        assert_eq!(rt; got.as_str(), want);
+    }
+    Ok(())
+}
+
+// A rounding of the table is accepted; with each cell at its nearest multiple the lines don't add up.
+#[test]
+fn checks_of_roundings(rt: HostRuntime) -> Result<(), Fail> {
+    let alloc = rt.alloc();
+    let rounds = TWO_WAY.replace(alloc, "MOD()", "RND(5)")?;
+    let job = rounds.replace(alloc, "FREQ(3,30)", "FREQ(1,30)")?;
+    let rows = [
+        (
+            "A,B,V\nTotal,Total,15\nTotal,b1,10\nTotal,b2,5\na1,Total,5\na1,b1,5\na1,b2,0\na2,Total,10\na2,b1,5\na2,b2,5\n",
+            "0 accepted\n",
+        ),
+        (
+            "A,B,V\nTotal,Total,15\nTotal,b1,10\nTotal,b2,5\na1,Total,5\na1,b1,5\na1,b2,5\na2,Total,10\na2,b1,5\na2,b2,0\n",
+            "3 not accepted: Relation 4\n",
+        ),
+    ];
+    for (table, want) in rows {
+        let files = [
+            ("r.job", job.as_str()),
+            ("m.rda", THREE_VARIABLES),
+            ("m.asc", FOUR),
+            ("p.hst", MARGINS),
+            ("t.cert", ROUNDED),
+            ("t.csv", table),
+        ];
+        let got = run_over(alloc, &["check", "r.job"], &files)?;
+        assert_eq!(rt; got.as_str(), want);
+    }
+    Ok(())
+}
+
+// The interval of each cell that the table hides; a table that no choice of hidden cells gives; a cell that is always
+// to be shown; and a job that rounds.
+#[test]
+fn intervals(rt: HostRuntime) -> Result<(), Fail> {
+    let alloc = rt.alloc();
+    let rounds = TWO_WAY.replace(alloc, "MOD()", "RND(5)")?;
+    let wrong = TWO_WAY_TABLE.replace(alloc, "a1,b1,x", "a1,b1,21")?;
+    let margin = TWO_WAY_TABLE.replace(alloc, "Total,b1,50", "Total,b1,x")?;
+    let rows = [
+        (
+            TWO_WAY,
+            TWO_WAY_TABLE,
+            "0 intervals: 4 cells\ncell,low,high\n4,0,50\n5,20,70\n7,0,50\n8,20,70\n",
+        ),
+        (TWO_WAY, &wrong, "3 not accepted: Release 1 6\n"),
+        (TWO_WAY, &margin, "3 not accepted: FixedHidden 1\n"),
+        (&rounds, TWO_WAY_TABLE, "2 refused: job line 0: BadValue\n"),
+    ];
+    for (job, table, want) in rows {
+        let files = [
+            ("r.job", job),
+            ("m.rda", THREE_VARIABLES),
+            ("m.asc", THIRTEEN_RECORDS),
+            ("p.hst", MARGINS),
+            ("t.cert", ""),
+            ("t.csv", table),
+        ];
+        let got = run_over(alloc, &["intervals", "r.job", "out.csv"], &files)?;
+        assert_eq!(rt; got.as_str(), want);
+    }
+    Ok(())
+}
+
+// Tables whose last line is missing, stands twice, ends otherwise or has quotes: the line in which they first differ.
+#[test]
+fn altered_tables(rt: HostRuntime) -> Result<(), Fail> {
+    let rows = [
+        ("", "3 not accepted: Release 1 10\n"),
+        ("a2,b2,x\na2,b2,x\n", "3 not accepted: Release 1 11\n"),
+        ("a2,b2,x\r\n", "3 not accepted: Release 1 10\n"),
+        ("\"a2\",b2,x\n", "3 not accepted: Release 1 10\n"),
+    ];
+    for (line, want) in rows {
+        let table = TWO_WAY_TABLE.replace(rt.alloc(), "a2,b2,x\n", line)?;
+        let files = [
+            ("r.job", TWO_WAY),
+            ("m.rda", THREE_VARIABLES),
+            ("m.asc", THIRTEEN_RECORDS),
+            ("p.hst", MARGINS),
+            ("t.cert", ""),
+            ("t.csv", &table),
+        ];
+        let got = run_over(rt.alloc(), &["intervals", "r.job", "out.csv"], &files)?;
+        assert_eq!(rt; got.as_str(), want);
+    }
+    Ok(())
+}
+
+// The intervals aren't put over the job, one of its files or its table.
+#[test]
+fn names_of_intervals(rt: HostRuntime) -> Result<(), Fail> {
+    let files = [
+        ("r.job", TWO_WAY),
+        ("m.rda", THREE_VARIABLES),
+        ("m.asc", THIRTEEN_RECORDS),
+        ("p.hst", MARGINS),
+        ("t.cert", ""),
+        ("t.csv", TWO_WAY_TABLE),
+    ];
+    for out in ["r.job", "p.hst", "t.csv"] {
+        let got = run_over(rt.alloc(), &["intervals", "r.job", out], &files)?;
+        assert_eq!(rt; got.as_str(), "2 refused: out: OutName\n");
+    }
+    Ok(())
+}

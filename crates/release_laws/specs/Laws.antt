@@ -1,0 +1,55 @@
+-- What holds of the judgement of releases: what protection writes is accepted, and settled inputs are judged in one way
+-- (own).
+use Rattle.std.specs.Prelude.{◌≡◌, ℕ, false, List, Ok}
+use Rattle.sdc_base.specs.declared.system.System.{System}
+use Rattle.cell_protection.specs.Protections.{IsProtectedWith}
+use Rattle.modular_plan.specs.Methods.{passes_of}
+use Rattle.certificate.specs.declared.certificate.Certificate.{Certificate}
+use Rattle.cert_check.specs.Cases.{IsCase}
+use Rattle.cert_check.specs.FirstFault.{first_fault}
+use Rattle.cert_check.specs.Methods.{rounds_cells}
+use Rattle.cert_check.specs.declared.case.Case.{Case}
+use Rattle.modular_plan.specs.Plans.{trail_of}
+use Rattle.relations.specs.Holding.{IsSystemOf}
+use Rattle.release_writer.specs.ReadingLaws.{AreTexts}
+use Rattle.release_writer.specs.ShownCells.{open_truth}
+use Rattle.repair.specs.HidingOrder.{case as protected_case}
+use Rattle.worlds.specs.Protection.{Protection as HiddenSet}
+use Rattle.job_inputs.specs.SettledJobs.{SettledInputs, IsSettledOf}
+use Rattle.job_inputs.specs.declared.settled.SettledJob.{SettledJob}
+use Rattle.job_check.specs.Cases.{IsCaseOf}
+
+-- the tables of a case hide exactly the cells of this set, and every other cell shows its truth
+abbrev pub HideExactly : Case → HiddenSet → List (List ℕ) → Type 0
+HideExactly case protected tables =
+    AreTexts case.book.now case.decimals (open_truth case.book.now.marks protected.hidden.flags) case.book.now.tables
+    case.names.now tables
+
+-- the certificate of a protection of a case has no fault with the tables that hide its set
+abbrev pub ProtectionIsAccepted : Type 0
+ProtectionIsAccepted =
+    (case : Case) (tables : List (List ℕ)) (prices : List ℕ) (protected : HiddenSet) (certificate : Certificate)
+    → IsCase case tables → rounds_cells case.method ≡ false
+    → IsProtectedWith (protected_case case.system.now case.cells.now) prices case.method case.trail.now.steps protected
+    certificate
+    → HideExactly case protected tables
+    → first_fault case tables certificate ≡ Ok tt
+
+-- cases of the same settled inputs have the same first fault
+abbrev pub InputsAreJudgedInOneWay : Type 0
+InputsAreJudgedInOneWay =
+    (settled : SettledInputs) (one other : Case) (tables : List (List ℕ)) (certificate : Certificate)
+    → IsCaseOf settled one → IsCaseOf settled other → IsCase one tables → IsCase other tables
+    → first_fault one tables certificate ≡ first_fault other tables certificate
+
+-- Where settled inputs have a protection, with the trail that their job makes, its certificate has no fault for the
+-- case of the inputs, with the tables that hide its set: so a check accepts what a run has put, with the same inputs.
+abbrev pub WrittenIsAccepted : Type 0
+WrittenIsAccepted =
+    (settled : SettledInputs) (job : SettledJob) (system : System) (prices : List ℕ) (protected : HiddenSet)
+    (certificate : Certificate) (case : Case) (tables : List (List ℕ))
+    → IsSettledOf settled job → IsSystemOf job.book system
+    → IsProtectedWith (protected_case system job.cells) prices job.described.job.method
+    (trail_of job.book job.cells job.described.job.cost (passes_of job.described.job.method)) protected certificate
+    → IsCaseOf settled case → IsCase case tables → rounds_cells case.method ≡ false → HideExactly case protected tables
+    → first_fault case tables certificate ≡ Ok tt

@@ -1,0 +1,26 @@
+//! Laws of the judgement of releases, each the contract of a function with an empty body.
+
+ghost use Rattle.release_laws.specs.RoundingLaws.{RoundedAreReadBack, RoundingIsAccepted, WrittenRoundingIsAccepted};
+ghost use Rattle.release_laws.specs.Laws.{InputsAreJudgedInOneWay, ProtectionIsAccepted, WrittenIsAccepted};
+
+/// The certificate of a protection has no fault with the tables that hide its set; nor has that of a job's protection
+/// for the case of the job's inputs.
+pub fn written_is_accepted()
+    ensures protection { ProtectionIsAccepted }
+    ensures written { WrittenIsAccepted }
+{}
+
+/// The inputs of a job are judged in one way: whether a release is accepted, and for which fault it isn't, rests on
+/// them, the certificate and the tables alone.
+pub fn inputs_are_judged_in_one_way()
+    ensures { InputsAreJudgedInOneWay }
+{}
+
+/// Texts that were written for numbers are read as these numbers; so the certificate of a rounding, which lists
+/// nothing, has no fault with the tables that show it, and nor has that of a job's rounding for the case of the job's
+/// inputs.
+pub fn rounded_is_accepted()
+    ensures read_back { RoundedAreReadBack }
+    ensures rounding { RoundingIsAccepted }
+    ensures written { WrittenRoundingIsAccepted }
+{}
