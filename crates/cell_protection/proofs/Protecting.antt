@@ -1,11 +1,7 @@
 -- What planning and protecting come to, from what the plan and the protection say.
-use Rattle.std.proofs.Common.{Result, Ok, Err, IfOk, ◌≡◌, ℕ, zero, suc, true, false, List, [], ◌∷◌, map, All, refl, ap, ap₂, ◌∙◌, subst, arith}
+use Rattle.std.proofs.Common.{Result, Ok, Err, IfOk, ◌≡◌, ℕ, List, [], ◌∷◌, map, refl, ap, ap₂, ◌∙◌, subst}
 use Rattle.std.specs.List.{AllByRecursion}
-use Rattle.sdc_base.specs.Kinds.{is_fixed}
-use Rattle.sdc_base.specs.HiddenSets.{may_hide}
 use Rattle.sdc_base.specs.declared.cell.Cell.{Cell}
-use Rattle.sdc_base.specs.declared.cell.Kind.{Kind}
-use Rattle.sdc_base.specs.declared.cell.Kind.TheVariants.{Primary, Free, Fixed}
 use Rattle.sdc_base.specs.declared.system.System.{System}
 use Rattle.sdc_base.specs.declared.trail.PlanStep.{PlanStep}
 use Rattle.sdc_base.specs.declared.method.Method.{Method}
@@ -15,7 +11,6 @@ use Rattle.linked_tables.specs.BookViews.{BookView}
 use Rattle.linked_tables.specs.declared.mark.Mark.{Mark}
 use Rattle.modular_plan.specs.Plans.{trail_of}
 use Rattle.modular_plan.specs.StepLaws.{IsWholeStep}
-use Rattle.sdc_base.specs.HiddenSets.{MayHide}
 use Rattle.sdc_base.specs.Trails.{corners_of}
 use Rattle.repair.specs.HidingOrder.{Case, case, hide_subjects, planned_set, prices_of}
 use Rattle.repair.specs.Stops.{StopsFor}

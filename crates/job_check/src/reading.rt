@@ -1,9 +1,6 @@
-ghost use Rattle.std.specs.Prelude.{IfOk};
-ghost use Rattle.sdc_base.specs.WhereTold.{WhereTold};
-ghost use Rattle.office_io.specs.Shelves.{HasOnlyRead};
-ghost use Rattle.job_inputs.specs.Reading.{HasCause, HasComeTo};
 ghost use Rattle.job_check.specs.Reading.{AreReleased, ComesTo, IsReadyRelease};
 ghost use Rattle.job_check.specs.ReleaseFiles.{released_of};
+ghost use Rattle.job_inputs.specs.Reading.{HasLookedAt};
 
 use certificate::Certificate;
 use job_inputs::{
@@ -27,12 +24,8 @@ pub(crate) fn read_release<S: Shelf>(
     shelf: &mut S,
     name: &Text,
 ) -> Result<ReadRelease, InputStop>
-    ensures told { WhereTold (S.state shelf.old).files (λ fs. AreReleased result (released_of fs name.now)) }
-    ensures ready { IfOk result IsReadyRelease }
-    ensures came_to { WhereTold (S.state shelf.old).files
-        (λ fs. HasComeTo (ComesTo fs name.now) result fs (S.state shelf.new)) }
-    ensures only_read { HasOnlyRead (S.state shelf.old) (S.state shelf.new) }
-    ensures cause { HasCause result (S.state shelf.old) (S.state shelf.new) }
+    ensures { HasLookedAt (λ fs answer. AreReleased answer (released_of fs name.now)) (λ fs. ComesTo fs name.now)
+        IsReadyRelease result (S.state shelf.old) (S.state shelf.new) }
 {
     let job = read_settled(alloc, shelf, name, Purpose::Release)?;
     let certificate = read_certificate_file(alloc, shelf, &job.described.job)?;

@@ -1,11 +1,11 @@
 -- The tables of a bound job make a book, or have too many cells.
-use Rattle.std.proofs.Common.{◌≡◌, ℕ, ◌<◌, ◌==◌, ◌||◌, nat_le, nat_lt, Bool, true, false, cond, List, [], ◌∷◌, ◌++◌, length, Option, None, Some, Result, Ok, Err, refl, ap, sym, subst, ◌∙◌, arith, if◌then◌else◌}
+use Rattle.std.proofs.Common.{◌≡◌, ℕ, ◌<◌, ◌==◌, nat_le, nat_lt, true, false, List, [], ◌∷◌, ◌++◌, length, Option, None, Some, Err, refl, ap, sym, subst, ◌∙◌, arith, if◌then◌else◌}
 use Rattle.std.specs.List.{AllByRecursion, IsDistinct, list_any}
 use Rattle.std.proofs.lemmas.Bool.Decides.{nat_tests}
 use Rattle.sdc_base.specs.Cells.{cells_of}
 use Rattle.sdc_base.specs.Records.{Name}
 use Rattle.sdc_base.specs.Trees.{Tree}
-use Rattle.linked_tables.specs.Tables.{most_cells, has_unknown, has_twice, or_later, variables_fault, cells_fault, table_fault, first_fault, unless_fault, fault_of, book_of}
+use Rattle.linked_tables.specs.Tables.{most_cells, has_unknown, has_twice, or_later, variables_fault, cells_fault, first_fault, unless_fault, fault_of, book_of}
 use Rattle.linked_tables.specs.declared.book_fault.BookFault.{BookFault}
 use Rattle.linked_tables.specs.declared.book_fault.BookFault.TheVariants as book
 use Rattle.sdc_base.specs.Answers.{Fails}

@@ -1,5 +1,5 @@
 -- The codes of a list and the tree of a hierarchy, as their files give them.
-use Rattle.std.proofs.Common.{◌≡◌, ◌≢◌, inl, inr, ℕ, true, false, List, [], ◌∷◌, Option, Some, Ok, refl, sym, arith}
+use Rattle.std.proofs.Common.{◌≡◌, ◌≢◌, inl, inr, ℕ, true, false, List, [], ◌∷◌, Option, Some, Ok, refl, sym, arith, None}
 use Rattle.std.specs.List.{AllByRecursion, IsDistinct}
 use Rattle.std.specs.Str.{bytes_eq}
 use Rattle.std.proofs.lemmas.Slice.Eq.{bytes_eq-Decides}
@@ -13,7 +13,6 @@ use Rattle.office_io.specs.Files.{Files}
 use Rattle.rda_meta.specs.declared.meta.Shape.{Shape}
 use Rattle.rda_meta.specs.declared.meta.Shape.TheVariants as shape
 use Rattle.rda_meta.specs.declared.meta.Variable.{Variable}
-use Rattle.microdata.specs.declared.layout.Source.{Source}
 use Rattle.microdata.specs.declared.layout.Source.TheVariants as source
 use Rattle.job_inputs.proofs.Refusing.{fails-on}
 use Rattle.job_inputs.specs.CodeSources.{codes_in, tree_in, listed_tree, source_of}
@@ -52,6 +51,10 @@ are-listed law total bytes kept read =
     record { distinct = with-total total kept (none-is total kept (λ code is. (are.each code is).2)) are.once; at_most_5000 = are.at_most_5000 }
 
 -- ---- a code list
+
+pub unlisted-is : (files : Files) (place : ℕ) (total : List ℕ) (codes : Option (List ℕ)) → codes ≡ None → codes_in files place total codes ≡ Ok []
+unfolding codes_in
+unlisted-is files place total codes none = rw none refl
 
 pub list-file-stops : (files : Files) (place : ℕ) (total name : List ℕ) (o : Option Fault) → Fails o (bytes_of_file files name (file.CodeList place)) → Fails o (codes_in files place total (Some name))
 unfolding codes_in

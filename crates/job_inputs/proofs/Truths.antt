@@ -1,5 +1,5 @@
 -- Settled cells have the truths of their marks.
-use Rattle.std.proofs.Common.{◌≡◌, ℕ, suc, List, [], ◌∷◌, length, map, Option, None, Some, Ok, refl, ap, sym, ◌∙◌, arith, ℤ}
+use Rattle.std.proofs.Common.{◌≡◌, List, [], ◌∷◌, length, map, Option, None, Some, Ok, refl, ap, ◌∙◌, arith, ℤ}
 use Rattle.std.specs.List.{zip}
 use Rattle.sdc_base.specs.Steps.{◌>>=◌}
 use Rattle.sdc_base.specs.RuleLevels.{Figures}

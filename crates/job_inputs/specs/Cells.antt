@@ -1,5 +1,5 @@
 -- The cells of a job's tables over its records (own).
-use Rattle.std.specs.Prelude.{ℕ, List, ℤ}
+use Rattle.std.specs.Prelude.{List, ℤ}
 use Rattle.sdc_base.specs.Cells.{cells_of}
 use Rattle.sdc_base.specs.Records.{Name}
 use Rattle.sdc_base.specs.RuleLevels.{Figures}

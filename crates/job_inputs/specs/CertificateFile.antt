@@ -4,6 +4,7 @@ use Rattle.sdc_base.specs.Steps.{◌>>=◌, map_fault}
 use Rattle.office_io.specs.Files.{Files}
 use Rattle.job_lang.specs.declared.job.Job.{Job}
 use Rattle.certificate.specs.Certificates.{certificate_of}
+use Rattle.certificate.specs.Spelling.{IsSpellable, IsWithinTypes}
 use Rattle.certificate.specs.declared.certificate.Certificate.{Certificate}
 use Rattle.certificate.specs.declared.faults.CertError.{CertError}
 use Rattle.certificate.specs.declared.faults.CertError.TheVariants as error
@@ -29,3 +30,8 @@ certificate_in files job = do
 abbrev pub certificate_refusal : CertError → Refusal
 certificate_refusal (error.At line why) = refusal.Refused (fault.Certificate line why)
 certificate_refusal error.Memory = refusal.Memory
+
+-- the certificate has a text, and its numbers are within their types
+pub record IsSoundCertificate (certificate : Certificate) : Type 0 where
+  pub spellable : IsSpellable certificate
+  pub within : IsWithinTypes certificate

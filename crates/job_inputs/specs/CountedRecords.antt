@@ -6,8 +6,8 @@ use Rattle.job_inputs.specs.TabulatedBooks.{IsBookOf, IsReadyFor}
 use Rattle.job_inputs.specs.declared.counted.CountedJob.{CountedJob}
 use Rattle.job_inputs.specs.declared.inputs.Inputs.{Inputs}
 use Rattle.sdc_base.specs.Answers.{Gives}
-use Rattle.sdc_base.specs.WhereTold.{WhereTold}
-use Rattle.office_io.specs.Shelves.{ShelfState}
+use Rattle.office_io.specs.Files.{Files}
+use Rattle.apriori.specs.Priors.{ArePriors}
 use Rattle.apriori.specs.declared.prior.Prior.{Prior}
 use Rattle.job_inputs.specs.PriorStatements.{prior_line, with_file}
 use Rattle.job_inputs.specs.Reading.{stopped_for}
@@ -27,9 +27,16 @@ pub record IsReady (counted : CountedJob) : Type 0 where
   pub one_each : length counted.book.marks ≡ length (cells counted.book)
   pub fewer_than_2_32 : length counted.book.marks < 2 ^ 32
 
+-- what a table's a priori file states can be added to these priors: the job is ready, it has the table, and there is a
+-- prior for each mark of its book
+pub record CanState (counted : CountedJob) (t : ℕ) (priors : List Prior) : Type 0 where
+  pub ready : IsReady counted
+  pub table : t < length counted.described.job.tables
+  pub priors_are : ArePriors counted.book.marks priors
+
 -- The answer, with these priors after it, is what is stated with a table's a priori file beside those before it, or the
--- first fault of the file: of inputs whose records are counted so, and files of this shelf as far as they are told.
-abbrev pub StatesFile : ShelfState → CountedJob → ℕ → Result (Unit {0}) InputStop → List Prior → List Prior → Type 0
-StatesFile shelf counted t result before after =
-    (inputs : Inputs) → IsCountedOf inputs counted → WhereTold shelf.files (λ fs.
-    Gives stopped_for (λ fine. after) result (with_file fs inputs t (prior_line t counted.described.job.priors) before))
+-- first fault of the file: for these files, and of inputs whose records are counted so.
+abbrev pub StatesFile : CountedJob → ℕ → List Prior → List Prior → Files → Result (Unit {0}) InputStop → Type 0
+StatesFile counted t before after files answer =
+    (inputs : Inputs) → IsCountedOf inputs counted
+    → Gives stopped_for (λ fine. after) answer (with_file files inputs t (prior_line t counted.described.job.priors) before)

@@ -21,7 +21,7 @@ use Rattle.job_inputs.specs.declared.file_ref.FileRef.TheVariants as file
 use Rattle.job_inputs.specs.declared.faults.Fault.{Fault}
 use Rattle.job_inputs.specs.declared.faults.Fault.TheVariants as fault
 use Rattle.job_inputs.specs.ReadFiles.{bytes_of_file, job_fault, limit, meta_fault, row_fault}
-use Rattle.job_inputs.specs.CodeSources.{fields_of, spanning_variables, spanning_fields}
+use Rattle.job_inputs.specs.CodeSources.{spanning_fields}
 
 -- ---- job and metadata
 

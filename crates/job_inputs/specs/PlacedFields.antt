@@ -1,5 +1,7 @@
 -- What a field is that metadata place in a record (own).
-use Rattle.std.specs.Prelude.{ℕ, ◌+◌, ◌≤◌}
+use Rattle.std.specs.Prelude.{◌≡◌, ℕ, ◌+◌, ◌≤◌, List, length}
+use Rattle.std.specs.List.{AllByRecursion}
+use Rattle.job_inputs.specs.declared.described.DescribedJob.{DescribedJob}
 use Rattle.microdata.specs.Layouts.{IsSource}
 use Rattle.microdata.specs.declared.layout.Field.{Field}
 use Rattle.microdata.specs.declared.layout.NumberField.{NumberField}
@@ -19,3 +21,8 @@ pub record IsPlacedField (field : Field) : Type 0 where
 pub record IsPlacedNumber (most : ℕ) (number : NumberField) : Type 0 where
   pub placed : IsPlaced number.first number.width
   pub decimals : number.decimals ≤ most
+
+-- the fields of a job's spanning variables: one for each, in its place
+pub record AreFieldsOf (described : DescribedJob) (fields : List Field) : Type 0 where
+  pub placed : AllByRecursion IsPlacedField fields
+  pub as_many : length fields ≡ length described.bound.spanning

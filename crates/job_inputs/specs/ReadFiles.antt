@@ -3,7 +3,6 @@ use Rattle.std.specs.Prelude.{ℕ, ◌^◌, List, length, nat_lt, if◌then◌el
 use Rattle.office_io.specs.Files.{Files}
 use Rattle.rda_meta.specs.declared.faults.MetaWhy.{MetaWhy}
 use Rattle.job_lang.specs.declared.faults.JobWhy.{JobWhy}
-use Rattle.job_lang.specs.declared.job.Job.{Job}
 use Rattle.microdata.specs.declared.faults.RowWhy.{RowWhy}
 use Rattle.job_inputs.specs.declared.file_ref.FileRef.{FileRef}
 use Rattle.job_inputs.specs.declared.file_ref.FileRef.TheVariants as file

@@ -1,6 +1,6 @@
 -- What it is to read inputs from a shelf: what is told, to which file it comes, what the shelf does, and the cause of
 -- each refusal (own).
-use Rattle.std.specs.Prelude.{◌≡◌, ◌≢◌, ℕ, ◌+◌, List, Option, None, Some, Result, Err, IsErrOf, []}
+use Rattle.std.specs.Prelude.{◌≡◌, ◌≢◌, ℕ, ◌+◌, List, Option, None, Some, Result, Err, IsErrOf, IfOk, []}
 use Rattle.sdc_base.specs.Answers.{Gives}
 use Rattle.sdc_base.specs.Counts.{HasRisen}
 use Rattle.sdc_base.specs.WhereTold.{WhereTold}
@@ -44,13 +44,26 @@ HasComeTo comes result files new =
     (f : FileRef) → IsErrOf result (stop.ReadFault f)
     → (held : List ℕ) × comes f held × (new.last ≡ held_name files held)
 
--- the answer to a look at files of a shelf: what they hold or their first fault, as far as they are told
-pub record IsReadFrom {X Y : Type 0} (view : X → Y) (meant : Files → Result Y Fault)
-    (comes : Files → FileRef → List ℕ → Type 0) (result : Result X InputStop) (old new : ShelfState) : Type 0 where
-  pub told : WhereTold old.files (λ fs. Gives stopped_for view result (meant fs))
+-- The answer to a look at files of a shelf: as far as they are told, it is what they give, and reading came to a file
+-- at which the shelf fails. The shelf was only read, each refusal has its cause, and what was read is sound.
+pub record HasLookedAt {X : Type 0} (gives : Files → Result X InputStop → Type 0)
+    (comes : Files → FileRef → List ℕ → Type 0) (is_sound : X → Type 0) (result : Result X InputStop)
+    (old new : ShelfState) : Type 0 where
+  pub told : WhereTold old.files (λ fs. gives fs result)
   pub came_to : WhereTold old.files (λ fs. HasComeTo (comes fs) result fs new)
   pub only_read : HasOnlyRead old new
   pub cause : HasCause result old new
+  pub sound : IfOk result is_sound
+
+-- such a look at what files hold: it gives what they mean, or their first fault
+abbrev pub IsReadFrom : {X Y : Type 0} → (X → Y) → (Files → Result Y Fault) → (Files → FileRef → List ℕ → Type 0)
+    → (X → Type 0) → Result X InputStop → ShelfState → ShelfState → Type 0
+IsReadFrom view meant comes is_sound result old new =
+    HasLookedAt (λ fs answer. Gives stopped_for view answer (meant fs)) comes is_sound result old new
+
+-- nothing more is said of it
+abbrev pub Anything : {X : Type 0} → X → Type 0
+Anything x = Unit {0}
 
 -- a statement holds of the layout of a reader that has read nothing yet, and of the bytes that the shelf has left
 abbrev pub BeforeReading : ShelfState → ReaderView → (Layout → List ℕ → Type 0) → Type 0

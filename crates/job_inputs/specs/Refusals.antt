@@ -1,5 +1,6 @@
 -- The faults that errors of the readers name (own); want of memory names none.
-use Rattle.std.specs.Prelude.{Option, None, Some}
+use Rattle.std.specs.Prelude.{Option, None, Some, Result, IfOk, IfErr}
+use Rattle.sdc_base.specs.Answers.{Gives}
 use Rattle.code_trees.specs.declared.tree_fault.TreeFault.{TreeFault}
 use Rattle.code_trees.specs.declared.tree_fault.TreeFault.TheVariants as tree
 use Rattle.job_lang.specs.declared.faults.JobError.{JobError}
@@ -71,3 +72,11 @@ IsOfContents other = Unit {0}
 abbrev pub IsForContents : Refusal → Type 0
 IsForContents (refusal.Refused fault) = IsOfContents fault
 IsForContents refusal.Memory = Unit {0}
+
+-- What contents are read as: it is what they mean, or they are refused for their first fault, which is one that
+-- contents may have; what was read is sound.
+pub record IsReadAs {X Y : Type 0} (view : X → Y) (meant : Result Y Fault) (is_sound : X → Type 0)
+    (result : Result X Refusal) : Type 0 where
+  pub told : Gives refused_for view result meant
+  pub sound : IfOk result is_sound
+  pub contents : IfErr result IsForContents

@@ -7,6 +7,8 @@ use Rattle.sdc_base.specs.Steps.{◌>>=◌, map_fault, refuse}
 use Rattle.apriori.specs.Settling.{SettledCell, view_of_cell, settle_of}
 use Rattle.apriori.specs.CellLevels.{HasLevelsInRange}
 use Rattle.apriori.specs.declared.prior.Prior.{Prior}
+use Rattle.sdc_base.specs.declared.cell.Cell.{Cell}
+use Rattle.linked_tables.specs.declared.mark.Mark.{Mark}
 use Rattle.linked_tables.specs.BookCells.{cells as cells_in}
 use Rattle.linked_tables.specs.Tables.{book_of}
 use Rattle.job_lang.specs.declared.job.Job.{Job}
@@ -74,3 +76,9 @@ pub record IsReadyJob (job : SettledJob) : Type 0 where
   pub levels : All HasLevelsInRange job.cells
   pub truths : map (λ mark. mark.facts.truth) job.book.marks ≡ map (λ cell. cell.truth) job.cells
   pub fewer_than_2_32 : length job.cells < 2 ^ 32
+
+-- there is a settled cell for each mark, with its truth, and its levels are in range
+pub record AreReadyCells (marks : List Mark) (cells : List Cell) : Type 0 where
+  pub one_each : length cells ≡ length marks
+  pub levels : All HasLevelsInRange cells
+  pub truths : map (λ mark. mark.facts.truth) marks ≡ map (λ cell. cell.truth) cells

@@ -7,8 +7,12 @@ use Rattle.rda_meta.specs.Limits.{IsMeta}
 use Rattle.job_lang.specs.BoundLimits.{IsBound}
 use Rattle.job_lang.specs.JobLimits.{IsJob}
 use Rattle.job_lang.specs.Binding.{places_of}
+use Rattle.job_lang.specs.declared.bound.Bound.{Bound}
+use Rattle.job_lang.specs.declared.job.Job.{Job}
+use Rattle.rda_meta.specs.declared.meta.Variable.{Variable}
 use Rattle.microdata.specs.Leaves.{AreLeaves}
-use Rattle.microdata.specs.Ranges.{IsRow}
+use Rattle.microdata.specs.Ranges.{AreWithinLimits, IsRow}
+use Rattle.microdata.specs.declared.layout.Layout.{Layout}
 use Rattle.microdata.specs.declared.records.Records.{Records}
 use Rattle.job_inputs.specs.declared.described.DescribedJob.{DescribedJob}
 use Rattle.job_inputs.specs.declared.inputs.Inputs.{Inputs}
@@ -20,6 +24,11 @@ pub record IsSound (described : DescribedJob) : Type 0 where
   pub bound : IsBound described.job described.meta.variables described.bound
   pub places : described.bound ≡ places_of described.job described.meta.variables
 
+-- the places of a job's variables are within their limits, and where the metadata have them
+pub record IsBoundTo (job : Job) (variables : List Variable) (bound : Bound) : Type 0 where
+  pub within : IsBound job variables bound
+  pub places : bound ≡ places_of job variables
+
 -- at most a million records, each of these trees and within its limits
 pub record AreRows (trees : List Tree) (scale : ℕ) (rows : List Row) : Type 0 where
   pub at_most_1000000 : length rows ≤ 1000000
@@ -28,6 +37,12 @@ pub record AreRows (trees : List Tree) (scale : ℕ) (rows : List Row) : Type 0 
 -- no record has a code with others below it in its tree
 abbrev pub AreAtLeaves : Records → Type 0
 AreAtLeaves records = AllByRecursion (λ row. AreLeaves records.trees row.codes) records.rows
+
+-- records by a layout: within its limits, of code trees, and their codes have none below them
+pub record AreRecordsOf (layout : Layout) (records : Records) : Type 0 where
+  pub within : AreWithinLimits layout records
+  pub trees : AllByRecursion IsCodeTree records.trees
+  pub leaves : AreAtLeaves records
 
 -- The records have a code tree for each spanning variable, there are at most a million, each is within its limits, and
 -- their codes have none below them.

@@ -1,13 +1,11 @@
-ghost use Rattle.std.specs.Prelude.{◌≡◌, IfOk, IfErr};
-ghost use Rattle.sdc_base.specs.Answers.{Gives};
+ghost use Rattle.std.specs.Prelude.{◌≡◌};
 ghost use Rattle.sdc_base.specs.Steps.{map_fault};
 ghost use Rattle.certificate.specs.Certificates.{certificate_of};
-ghost use Rattle.certificate.specs.Spelling.{IsSpellable, IsWithinTypes};
-ghost use Rattle.job_inputs.specs.CertificateFile.{certificate_fault, certificate_in};
+ghost use Rattle.job_inputs.specs.CertificateFile.{certificate_fault, certificate_in, IsSoundCertificate};
 ghost use Rattle.job_inputs.specs.CertificateFile as spec;
 ghost use Rattle.job_inputs.specs.Looks.{IsFile};
 ghost use Rattle.job_inputs.specs.Reading.{IsReadFrom};
-ghost use Rattle.job_inputs.specs.Refusals.{refused_for, IsForContents};
+ghost use Rattle.job_inputs.specs.Refusals.{IsReadAs};
 
 use crate::faults::Fault;
 use crate::file_ref::FileRef;
@@ -23,7 +21,8 @@ use std::alloc::Global;
 ///
 /// The file is the one that the job names. It is looked at for Absent, then for TooLong, which is more than `2^60`
 /// bytes, and then for what it says; the first fault is the answer, of what it says with the number of the line, from
-/// 1. Whether it is a certificate of this job is not looked at.
+/// 1. Where the shelf fails, the answer is `ReadFault`; want of memory is `Memory`. Whether it is a certificate of this
+/// job is not looked at.
 ///
 /// The file is read whole and kept in memory until the certificate is made, and the cost is that of its bytes. The
 /// format is argus's own.
@@ -33,10 +32,9 @@ pub fn read_certificate_file<S: Shelf>(
     shelf: &mut S,
     job: &Job,
 ) -> Result<Certificate, InputStop>
-    ensures reads { IsReadFrom (λ certificate. certificate) (λ fs. certificate_in fs job.now)
-        (λ fs. IsFile FileRef.Certificate job.now.certificate) result (S.state shelf.old) (S.state shelf.new) }
-    ensures spellable { IfOk result IsSpellable }
-    ensures within { IfOk result IsWithinTypes }
+    ensures { IsReadFrom (λ certificate. certificate) (λ fs. certificate_in fs job.now)
+        (λ fs. IsFile FileRef.Certificate job.now.certificate) IsSoundCertificate result (S.state shelf.old)
+        (S.state shelf.new) }
 {
     let bytes = load(alloc, shelf, &job.certificate, FileRef::Certificate)?;
     let certificate = certificate_by(alloc, bytes.as_slice())?;
@@ -46,11 +44,8 @@ pub fn read_certificate_file<S: Shelf>(
 // The certificate of which bytes are the text.
 #[tactic(auto, using(crate::proofs::CertificateFiles::certificate_refuses, crate::proofs::CertificateFiles::certificate_is_for_contents))]
 fn certificate_by(alloc: Global, bytes: &[u8]) -> Result<Certificate, Refusal>
-    ensures told { Gives refused_for (λ certificate. certificate) result
-        (map_fault certificate_fault (certificate_of bytes.now)) }
-    ensures spellable { IfOk result IsSpellable }
-    ensures within { IfOk result IsWithinTypes }
-    ensures contents { IfErr result IsForContents }
+    ensures { IsReadAs (λ certificate. certificate) (map_fault certificate_fault (certificate_of bytes.now))
+        IsSoundCertificate result }
 {
     match read_certificate(alloc, bytes) {
         Ok(certificate) => Ok(certificate),

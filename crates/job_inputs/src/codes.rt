@@ -1,14 +1,13 @@
-ghost use Rattle.std.specs.Prelude.{◌<◌, ◌≤◌, ◌^◌, ◌≡◌, IfOk, IfErr, Some, length};
-ghost use Rattle.sdc_base.specs.Answers.{Gives};
+ghost use Rattle.std.specs.Prelude.{◌<◌, ◌≤◌, ◌^◌, ◌≡◌, Some, length};
 ghost use Rattle.sdc_base.specs.Steps.{map_fault};
 ghost use Rattle.hierarchy.specs.CodeList.{codes_of};
 ghost use Rattle.hierarchy.specs.Lead.{lead_of};
 ghost use Rattle.job_inputs.specs.CodeSources.{codes_in, listed_tree, tree_in, listed_codes};
 ghost use Rattle.job_inputs.specs.ListedCodes.{AreListed};
 ghost use Rattle.job_inputs.specs.Looks.{IsCodeListOf, IsFile};
-ghost use Rattle.job_inputs.specs.Reading.{IsReadFrom};
-ghost use Rattle.job_inputs.specs.Refusals.{refused_for, IsForContents};
+ghost use Rattle.job_inputs.specs.Reading.{IsReadFrom, Anything};
 ghost use Rattle.job_inputs.specs.Refusals as spec;
+ghost use Rattle.job_inputs.specs.Refusals.{IsReadAs};
 
 use crate::faults::Fault;
 use crate::file_ref::FileRef;
@@ -29,9 +28,9 @@ pub(crate) fn read_list<S: Shelf>(
     place: u32,
     variable: &Variable,
 ) -> Result<Vec<Text>, InputStop>
-    ensures reads { IsReadFrom (λ codes. codes.items) (λ fs. listed_codes fs place variable.now)
-        (λ fs. IsCodeListOf place variable.now) result (S.state shelf.old) (S.state shelf.new) }
-    ensures listed { IfOk result (λ codes. AreListed variable.now.total codes.items) }
+    ensures { IsReadFrom (λ codes. codes.items) (λ fs. listed_codes fs place variable.now)
+        (λ fs. IsCodeListOf place variable.now) (λ codes. AreListed variable.now.total codes.items) result
+        (S.state shelf.old) (S.state shelf.new) }
 {
     match &variable.codes {
         None => Ok(Vec::new(alloc)),
@@ -48,9 +47,9 @@ fn load_list<S: Shelf>(
     total: &Text,
     name: &Text,
 ) -> Result<Vec<Text>, InputStop>
-    ensures reads { IsReadFrom (λ codes. codes.items) (λ fs. codes_in fs place total.now (Some name.now))
-        (λ fs. IsFile (FileRef.CodeList place) name.now) result (S.state shelf.old) (S.state shelf.new) }
-    ensures listed { IfOk result (λ codes. AreListed total.now codes.items) }
+    ensures { IsReadFrom (λ codes. codes.items) (λ fs. codes_in fs place total.now (Some name.now))
+        (λ fs. IsFile (FileRef.CodeList place) name.now) (λ codes. AreListed total.now codes.items) result
+        (S.state shelf.old) (S.state shelf.new) }
 {
     let file = FileRef::CodeList(place);
     let bytes = load(alloc, shelf, name, file)?;
@@ -62,10 +61,8 @@ fn load_list<S: Shelf>(
 #[tactic(auto, using(crate::proofs::Refusing::tree_refuses, crate::proofs::Refusing::tree_is_for_contents))]
 fn codes_by(alloc: Global, file: FileRef, bytes: &[u8], total: &Text) -> Result<Vec<Text>, Refusal>
     requires { length bytes.now < 2 ^ 32 }
-    ensures told { Gives refused_for (λ codes. codes.items) result
-        (map_fault (Fault.Tree file) (codes_of total.now bytes.now)) }
-    ensures listed { IfOk result (λ codes. AreListed total.now codes.items) }
-    ensures contents { IfErr result IsForContents }
+    ensures { IsReadAs (λ codes. codes.items) (map_fault (Fault.Tree file) (codes_of total.now bytes.now))
+        (λ codes. AreListed total.now codes.items) result }
 {
     list_gives_its_codes();
     match read_codes(alloc, bytes, total) {
@@ -87,7 +84,7 @@ pub(crate) fn read_tree<S: Shelf>(
     requires lead { 0 < length lead.now }
     requires missing { length variable.now.missing ≤ 2 }
     ensures { IsReadFrom (λ tree. tree) (λ fs. listed_tree fs place variable.now name.now lead.now)
-        (λ fs. IsFile (FileRef.Hierarchy place) name.now) result (S.state shelf.old) (S.state shelf.new) }
+        (λ fs. IsFile (FileRef.Hierarchy place) name.now) Anything result (S.state shelf.old) (S.state shelf.new) }
 {
     let file = FileRef::Hierarchy(place);
     let bytes = load(alloc, shelf, name, file)?;
@@ -107,8 +104,7 @@ fn tree_by(
     requires fewer_than_2_32 { length bytes.now < 2 ^ 32 }
     requires lead { 0 < length lead.now }
     requires missing { length variable.now.missing ≤ 2 }
-    ensures told { Gives refused_for (λ tree. tree) result (tree_in file variable.now lead.now bytes.now) }
-    ensures contents { IfErr result IsForContents }
+    ensures { IsReadAs (λ tree. tree) (tree_in file variable.now lead.now bytes.now) Anything result }
 {
     let tree = lead_tree(alloc, file, bytes, lead, &variable.total)?;
     match with_missing(alloc, tree, variable.missing.as_slice()) {
@@ -128,9 +124,8 @@ fn lead_tree(
 ) -> Result<CodeTree, Refusal>
     requires fewer_than_2_32 { length bytes.now < 2 ^ 32 }
     requires lead { 0 < length lead.now }
-    ensures told { Gives refused_for (λ tree. tree) result
-        (map_fault (Fault.Tree file) (lead_of lead.now total.now bytes.now)) }
-    ensures contents { IfErr result IsForContents }
+    ensures { IsReadAs (λ tree. tree) (map_fault (Fault.Tree file) (lead_of lead.now total.now bytes.now)) Anything
+        result }
 {
     match from_lead(alloc, bytes, lead, total) {
         Ok(tree) => Ok(tree),

@@ -1,11 +1,9 @@
-ghost use Rattle.std.specs.Prelude.{◌≡◌, IfOk, length};
-ghost use Rattle.sdc_base.specs.Answers.{Gives};
 ghost use Rattle.sdc_base.specs.Steps.{map_fault};
 ghost use Rattle.linked_tables.specs.Tables.{book_of};
 ghost use Rattle.job_inputs.specs.CountedRecords.{IsCountedOf, IsReady};
-ghost use Rattle.job_inputs.specs.Refusals.{refused_for};
 ghost use Rattle.job_inputs.specs.Cells.{cells_fault};
 ghost use Rattle.job_inputs.specs.SoundJobs.{AreSound};
+ghost use Rattle.job_inputs.specs.Refusals.{IsReadAs};
 
 use crate::described::DescribedJob;
 use crate::filled::{book_with_records, linked_book};
@@ -29,10 +27,9 @@ pub(crate) struct CountedJob {
 /// It is refused with the first table up to which there are too many cells.
 pub(crate) fn count_records(alloc: Global, inputs: Inputs) -> Result<CountedJob, Refusal>
     requires { AreSound inputs }
-    ensures told { Gives refused_for (λ counted. (counted.book.trees, counted.book.tables)) result
-        (map_fault cells_fault (book_of inputs.records.trees inputs.described.bound.tables)) }
-    ensures counted { IfOk result (IsCountedOf inputs) }
-    ensures ready { IfOk result IsReady }
+    ensures { IsReadAs (λ counted. (counted.book.trees, counted.book.tables))
+        (map_fault cells_fault (book_of inputs.records.trees inputs.described.bound.tables))
+        (λ counted. IsCountedOf inputs counted × IsReady counted) result }
 {
     let Inputs { described, records } = inputs;
     let Records {

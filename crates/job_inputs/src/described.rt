@@ -1,17 +1,15 @@
-ghost use Rattle.std.specs.Prelude.{◌≡◌, ◌<◌, ◌^◌, IfOk, IfErr, length};
-ghost use Rattle.sdc_base.specs.Answers.{Gives};
+ghost use Rattle.std.specs.Prelude.{◌<◌, ◌^◌, length};
 ghost use Rattle.sdc_base.specs.Steps.{map_fault};
 ghost use Rattle.rda_meta.specs.Limits.{IsMeta};
 ghost use Rattle.rda_meta.specs.Metadata.{meta_of};
-ghost use Rattle.job_lang.specs.BoundLimits.{IsBound};
-ghost use Rattle.job_lang.specs.Binding.{bound_of, places_of};
+ghost use Rattle.job_lang.specs.Binding.{bound_of};
 ghost use Rattle.job_lang.specs.JobLimits.{IsJob};
 ghost use Rattle.job_inputs.specs.Inputs.{described_of, job_for};
 ghost use Rattle.job_inputs.specs.ReadFiles.{job_fault, meta_fault};
 ghost use Rattle.job_inputs.specs.Looks.{ComesFirstTo};
 ghost use Rattle.job_inputs.specs.Reading.{IsReadFrom};
-ghost use Rattle.job_inputs.specs.Refusals.{refused_for, IsForContents};
-ghost use Rattle.job_inputs.specs.SoundJobs.{IsSound};
+ghost use Rattle.job_inputs.specs.SoundJobs.{IsSound, IsBoundTo};
+ghost use Rattle.job_inputs.specs.Refusals.{IsReadAs};
 
 use crate::faults::Fault;
 use crate::file_ref::FileRef;
@@ -45,9 +43,8 @@ pub(crate) fn read_described<S: Shelf>(
     name: &Text,
     purpose: Purpose,
 ) -> Result<DescribedJob, InputStop>
-    ensures reads { IsReadFrom (λ read. read) (λ fs. described_of purpose fs name.now)
-        (λ fs. ComesFirstTo purpose fs name.now) result (S.state shelf.old) (S.state shelf.new) }
-    ensures sound { IfOk result IsSound }
+    ensures { IsReadFrom (λ read. read) (λ fs. described_of purpose fs name.now)
+        (λ fs. ComesFirstTo purpose fs name.now) IsSound result (S.state shelf.old) (S.state shelf.new) }
 {
     let bytes = load(alloc, shelf, name, FileRef::Job)?;
     let job = job_in(alloc, bytes.as_slice(), purpose)?;
@@ -60,9 +57,7 @@ pub(crate) fn read_described<S: Shelf>(
 // The job that the bytes state, for a purpose.
 fn job_in(alloc: Global, bytes: &[u8], purpose: Purpose) -> Result<Job, Refusal>
     requires { length bytes.now < 2 ^ 32 }
-    ensures told { Gives refused_for (λ job. job) result (job_for purpose bytes.now) }
-    ensures within { IfOk result IsJob }
-    ensures contents { IfErr result IsForContents }
+    ensures { IsReadAs (λ job. job) (job_for purpose bytes.now) IsJob result }
 {
     let job = read_job(alloc, bytes)?;
     if is_unfit(purpose, job.method) {
@@ -78,8 +73,7 @@ fn job_in(alloc: Global, bytes: &[u8], purpose: Purpose) -> Result<Job, Refusal>
 #[tactic(auto, using(crate::proofs::Refusing::meta_refuses))]
 fn meta_in(alloc: Global, bytes: &[u8]) -> Result<Meta, Refusal>
     requires { length bytes.now < 2 ^ 32 }
-    ensures told { Gives refused_for (λ meta. meta) result (map_fault meta_fault (meta_of bytes.now)) }
-    ensures within { IfOk result IsMeta }
+    ensures { IsReadAs (λ meta. meta) (map_fault meta_fault (meta_of bytes.now)) IsMeta result }
 {
     Ok(read_meta(alloc, bytes)?)
 }
@@ -89,9 +83,8 @@ fn meta_in(alloc: Global, bytes: &[u8]) -> Result<Meta, Refusal>
 fn bound_in(alloc: Global, job: &Job, meta: &Meta) -> Result<Bound, Refusal>
     requires job { IsJob job.now }
     requires meta { IsMeta meta.now }
-    ensures told { Gives refused_for (λ bound. bound) result (map_fault job_fault (bound_of job.now meta.now)) }
-    ensures within { IfOk result (λ bound. IsBound job.now meta.now.variables bound) }
-    ensures places { IfOk result (λ bound. bound ≡ places_of job.now meta.now.variables) }
+    ensures { IsReadAs (λ bound. bound) (map_fault job_fault (bound_of job.now meta.now))
+        (IsBoundTo job.now meta.now.variables) result }
 {
     Ok(bind(alloc, job, meta)?)
 }

@@ -1,11 +1,10 @@
 ghost use Rattle.std.specs.Prelude.{◌≡◌, ◌<◌, IfOk, Some, length, slice_get};
-ghost use Rattle.std.specs.List.{AllByRecursion};
 ghost use Rattle.rda_meta.specs.Limits.{IsVariable};
 ghost use Rattle.microdata.specs.Layouts.{IsSource};
 ghost use Rattle.job_inputs.specs.CodeSources.{source_of, field_of, spanning_variables, spanning_fields, source_in};
 ghost use Rattle.job_inputs.specs.ListedCodes.{AreListed};
 ghost use Rattle.job_inputs.specs.Looks.{IsHierarchyOf, FieldComesTo, FieldsComeTo};
-ghost use Rattle.job_inputs.specs.PlacedFields.{IsPlacedField};
+ghost use Rattle.job_inputs.specs.PlacedFields.{IsPlacedField, AreFieldsOf};
 ghost use Rattle.job_inputs.specs.Reading.{IsReadFrom};
 ghost use Rattle.job_inputs.specs.SoundJobs.{IsSound};
 
@@ -28,10 +27,9 @@ pub(crate) fn read_fields<S: Shelf>(
     described: &DescribedJob,
 ) -> Result<Items<Field>, InputStop>
     requires { IsSound described.now }
-    ensures reads { IsReadFrom (λ fields. fields) (λ fs. spanning_fields fs described.now)
-        (λ fs. FieldsComeTo fs (spanning_variables described.now)) result (S.state shelf.old) (S.state shelf.new) }
-    ensures placed { IfOk result (λ fields. AllByRecursion IsPlacedField fields) }
-    ensures as_many { IfOk result (λ fields. length fields ≡ length described.now.bound.spanning) }
+    ensures { IsReadFrom (λ fields. fields) (λ fs. spanning_fields fs described.now)
+        (λ fs. FieldsComeTo fs (spanning_variables described.now)) (AreFieldsOf described.now) result
+        (S.state shelf.old) (S.state shelf.new) }
 {
     let variables = described.meta.variables.as_slice();
     let mut fields = Items::empty(alloc);
@@ -60,9 +58,8 @@ fn read_field<S: Shelf>(
     variable: &Variable,
 ) -> Result<Field, InputStop>
     requires { IsVariable variable.now }
-    ensures reads { IsReadFrom (λ field. field) (λ fs. field_of fs place variable.now)
-        (λ fs. FieldComesTo fs place variable.now) result (S.state shelf.old) (S.state shelf.new) }
-    ensures placed { IfOk result IsPlacedField }
+    ensures { IsReadFrom (λ field. field) (λ fs. field_of fs place variable.now)
+        (λ fs. FieldComesTo fs place variable.now) IsPlacedField result (S.state shelf.old) (S.state shelf.new) }
 {
     let codes = read_list(alloc, shelf, place, variable)?;
     let source = read_source(alloc, shelf, place, variable, codes)?;
@@ -84,9 +81,8 @@ fn read_source<S: Shelf>(
 ) -> Result<Source, InputStop>
     requires variable { IsVariable variable.now }
     requires listed { AreListed variable.now.total codes.items }
-    ensures reads { IsReadFrom (λ source. source) (λ fs. source_in fs place variable.now codes.items)
-        (λ fs. IsHierarchyOf place variable.now.shape) result (S.state shelf.old) (S.state shelf.new) }
-    ensures source { IfOk result IsSource }
+    ensures { IsReadFrom (λ source. source) (λ fs. source_in fs place variable.now codes.items)
+        (λ fs. IsHierarchyOf place variable.now.shape) IsSource result (S.state shelf.old) (S.state shelf.new) }
 {
     match &variable.shape {
         Shape::Flat => Ok(Source::Flat {

@@ -1,15 +1,13 @@
-ghost use Rattle.std.specs.Prelude.{◌≡◌, ◌≤◌, ◌<◌, ◌^◌, All, IfOk, length};
-ghost use Rattle.sdc_base.specs.Answers.{Gives};
-ghost use Rattle.sdc_base.specs.RuleLevels.{keep_of};
+ghost use Rattle.std.specs.Prelude.{◌≡◌, ◌<◌, All, IfOk, length};
 ghost use Rattle.sdc_base.specs.Steps.{map_fault};
 ghost use Rattle.linked_tables.specs.BlankMarks.{IsBlank};
 ghost use Rattle.linked_tables.specs.BookCells as book_cells;
 ghost use Rattle.linked_tables.specs.Tables.{book_of};
-ghost use Rattle.tabulate.specs.TabulatedMarks.{AreTabulated};
-ghost use Rattle.job_inputs.specs.Refusals.{refused_for, IsForCells};
+ghost use Rattle.job_inputs.specs.Refusals.{IsForCells, IsReadAs};
 ghost use Rattle.job_inputs.specs.Refusals as refusals;
 ghost use Rattle.job_inputs.specs.Cells.{cells_fault};
 ghost use Rattle.job_inputs.specs.SoundJobs.{IsSound, AreRows};
+ghost use Rattle.job_inputs.specs.TabulatedBooks.{IsBlankBook, HasRecords};
 
 use crate::described::DescribedJob;
 use crate::faults::Fault;
@@ -32,11 +30,9 @@ pub(crate) fn linked_book(
 ) -> Result<Book, Refusal>
     requires sound { IsSound described.now }
     requires as_many { length trees ≡ length described.now.bound.spanning }
-    ensures told { Gives refused_for (λ book. (book.trees, book.tables)) result
-        (map_fault cells_fault (book_of trees described.now.bound.tables)) }
-    ensures trees { IfOk result (λ book. book.trees ≡ trees) }
-    ensures tables { IfOk result (λ book. book.tables ≡ described.now.bound.tables) }
-    ensures blank { IfOk result (λ book. All IsBlank book.marks) }
+    ensures { IsReadAs (λ book. (book.trees, book.tables))
+        (map_fault cells_fault (book_of trees described.now.bound.tables))
+        (IsBlankBook trees described.now.bound.tables) result }
 {
     let tables = copy_tables(alloc, described.bound.tables.as_slice())?;
     match Book::new(alloc, trees.into_vec(), tables) {
@@ -74,11 +70,7 @@ pub(crate) fn book_with_records(book: Book, described: &DescribedJob, rows: &[Ro
     requires sound { IsSound described.now }
     requires blank { All IsBlank book.marks }
     requires rows { AreRows book.trees described.now.bound.scale rows.now }
-    ensures trees { result.trees ≡ book.trees }
-    ensures tables { result.tables ≡ book.tables }
-    ensures told { AreTabulated result rows.now (keep_of described.now.job.rules.list) described.now.bound.scale }
-    ensures one_each { length result.marks ≡ length (book_cells.cells result) }
-    ensures fewer_than_2_32 { length result.marks < 2 ^ 32 }
+    ensures { HasRecords described.now rows.now book result }
 {
     let mut book = book;
     let kept = keep(&described.job.rules);

@@ -1,4 +1,3 @@
-ghost use Rattle.std.specs.Prelude.{IfOk};
 ghost use Rattle.job_inputs.specs.Inputs.{inputs_of};
 ghost use Rattle.job_inputs.specs.Looks.{ComesTo};
 ghost use Rattle.job_inputs.specs.Reading.{IsReadFrom};
@@ -34,9 +33,8 @@ pub(crate) fn read_inputs<S: Shelf>(
     name: &Text,
     purpose: Purpose,
 ) -> Result<Inputs, InputStop>
-    ensures reads { IsReadFrom (λ read. read) (λ fs. inputs_of purpose fs name.now) (λ fs. ComesTo purpose fs name.now)
-        result (S.state shelf.old) (S.state shelf.new) }
-    ensures sound { IfOk result AreSound }
+    ensures { IsReadFrom (λ read. read) (λ fs. inputs_of purpose fs name.now) (λ fs. ComesTo purpose fs name.now)
+        AreSound result (S.state shelf.old) (S.state shelf.new) }
 {
     let described = read_described(alloc, shelf, name, purpose)?;
     let fields = read_fields(alloc, shelf, &described)?;

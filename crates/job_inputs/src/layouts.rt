@@ -1,9 +1,9 @@
-ghost use Rattle.std.specs.Prelude.{◌≡◌, ◌<◌, ◌≤◌, ◌+◌, Some, IfOk, IfSome, length, fold, option_map};
+ghost use Rattle.std.specs.Prelude.{◌≡◌, ◌<◌, ◌+◌, Some, IfOk, IfSome, length, fold};
 ghost use Rattle.std.specs.List.{AllByRecursion};
 ghost use Rattle.microdata.specs.Layouts.{IsLayout};
-ghost use Rattle.job_inputs.specs.Layouts.{number_field, number_at, weight_in, up_to_field, up_to_number, needed_for, layout_of};
+ghost use Rattle.job_inputs.specs.Layouts.{number_at, weight_in, up_to_field, needed_for, layout_of};
 ghost use Rattle.job_inputs.specs.Layouts as spec;
-ghost use Rattle.job_inputs.specs.PlacedFields.{IsPlaced, IsPlacedField, IsPlacedNumber};
+ghost use Rattle.job_inputs.specs.PlacedFields.{IsPlaced, IsPlacedField, AreFieldsOf};
 ghost use Rattle.job_inputs.specs.SoundJobs.{IsSound};
 
 use crate::described::DescribedJob;
@@ -21,8 +21,7 @@ pub(crate) fn layout_for(
     fields: Items<Field>,
 ) -> Result<Layout, Memory>
     requires sound { IsSound described.now }
-    requires placed { AllByRecursion IsPlacedField fields }
-    requires as_many { length fields ≡ length described.now.bound.spanning }
+    requires fields { AreFieldsOf described.now fields }
     ensures exact { IfOk result (λ layout. layout ≡ layout_of described.now.meta.variables described.now.bound fields) }
     ensures layout { IfOk result IsLayout }
 {

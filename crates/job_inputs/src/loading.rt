@@ -1,4 +1,4 @@
-ghost use Rattle.std.specs.Prelude.{◌≡◌, ◌≤◌, IfOk, length};
+ghost use Rattle.std.specs.Prelude.{◌≡◌, ◌≤◌, length};
 ghost use Rattle.job_inputs.specs.ReadFiles.{limit_of, bytes_of_file};
 ghost use Rattle.job_inputs.specs.Looks.{IsFile};
 ghost use Rattle.job_inputs.specs.Reading.{IsReadFrom};
@@ -34,9 +34,9 @@ pub(crate) fn load<S: Shelf>(
     name: &Text,
     file: FileRef,
 ) -> Result<Vec<u8>, InputStop>
-    ensures reads { IsReadFrom (λ bytes. bytes.items) (λ fs. bytes_of_file fs name.now file)
-        (λ fs. IsFile file name.now) result (S.state shelf.old) (S.state shelf.new) }
-    ensures short { IfOk result (λ bytes. length bytes.items ≤ limit_of file) }
+    ensures { IsReadFrom (λ bytes. bytes.items) (λ fs. bytes_of_file fs name.now file)
+        (λ fs. IsFile file name.now) (λ bytes. length bytes.items ≤ limit_of file) result (S.state shelf.old)
+        (S.state shelf.new) }
 {
     match read_all(alloc, shelf, name, limit_for(file)) {
         Ok(bytes) => Ok(bytes),

@@ -8,15 +8,14 @@ ghost use Rattle.office_io.specs.Shelves.{HasBegun, HasChosen, HasOnlyRead};
 ghost use Rattle.microdata.specs.Feeding.{HasRead, fed_of};
 ghost use Rattle.microdata.specs.Layouts.{IsLayout};
 ghost use Rattle.microdata.specs.Microdata.{records_of};
-ghost use Rattle.microdata.specs.Ranges.{AreWithinLimits};
 ghost use Rattle.microdata.specs.declared.layout.Layout.{Layout as AnyLayout};
 ghost use Rattle.job_inputs.specs.Inputs.{look_at_records, records_of_bytes};
 ghost use Rattle.job_inputs.specs.ReadFiles.{limit, row_fault};
 ghost use Rattle.job_inputs.specs.Looks.{IsFile};
 ghost use Rattle.job_inputs.specs.Reading.{IsReadFrom, HasCause, stopped_for, BeforeReading};
 ghost use Rattle.job_inputs.specs.Refusals.{refused_for, IsForContents};
-ghost use Rattle.job_inputs.specs.SoundJobs.{AreAtLeaves};
 ghost use Rattle.job_inputs.specs.declared.file_ref.FileRef.{FileRef as AnyFile};
+ghost use Rattle.job_inputs.specs.SoundJobs.{AreRecordsOf};
 
 use crate::faults::Fault;
 use crate::file_ref::FileRef;
@@ -39,11 +38,9 @@ pub(crate) fn read_records<S: Shelf>(
     layout: Layout,
 ) -> Result<Records, InputStop>
     requires { IsLayout layout }
-    ensures reads { IsReadFrom (λ records. records) (λ fs. look_at_records fs name.now layout)
-        (λ fs. IsFile FileRef.Microdata name.now) result (S.state shelf.old) (S.state shelf.new) }
-    ensures within { IfOk result (λ records. AreWithinLimits layout records) }
-    ensures leaves { IfOk result AreAtLeaves }
-    ensures trees { IfOk result (λ records. AllByRecursion IsCodeTree records.trees) }
+    ensures { IsReadFrom (λ records. records) (λ fs. look_at_records fs name.now layout)
+        (λ fs. IsFile FileRef.Microdata name.now) (AreRecordsOf layout) result (S.state shelf.old)
+        (S.state shelf.new) }
 {
     let mut reader = Reader::new(alloc, layout)?;
     begin(shelf, name)?;
@@ -124,10 +121,8 @@ fn feed_piece(reader: &mut Reader, piece: &[u8]) -> Result<(), Refusal>
 fn finish(reader: Reader) -> Result<Records, Refusal>
     ensures exact { (layout : AnyLayout) (bytes : List ℕ) → HasRead reader layout bytes
         → Gives refused_for (λ records. records) result (map_fault row_fault (records_of layout bytes)) }
-    ensures within { IfOk result (λ records. (layout : AnyLayout) (bytes : List ℕ) → HasRead reader layout bytes
-        → AreWithinLimits layout records) }
-    ensures leaves { IfOk result (λ records. (layout : AnyLayout) (bytes : List ℕ) → HasRead reader layout bytes
-        → AreAtLeaves records) }
+    ensures sound { IfOk result (λ records. (layout : AnyLayout) (bytes : List ℕ) → HasRead reader layout bytes
+        → AreRecordsOf layout records) }
     ensures trees { IfOk result (λ records. AllByRecursion IsCodeTree records.trees) }
     ensures contents { IfErr result IsForContents }
 {

@@ -1,18 +1,15 @@
-ghost use Rattle.std.specs.Prelude.{◌≡◌, IfOk, IfErr, length, map, All};
+ghost use Rattle.std.specs.Prelude.{IfOk, IfErr, map, All};
 ghost use Rattle.sdc_base.specs.Answers.{Gives};
-ghost use Rattle.sdc_base.specs.WhereTold.{WhereTold};
-ghost use Rattle.office_io.specs.Shelves.{HasOnlyRead};
 ghost use Rattle.apriori.specs.Priors.{ArePriors};
 ghost use Rattle.apriori.specs.Settling.{view_of_cell};
-ghost use Rattle.apriori.specs.CellLevels.{HasLevelsInRange};
 ghost use Rattle.job_inputs.specs.CountedRecords.{IsCountedOf, IsReady};
 ghost use Rattle.job_inputs.specs.Looks.{ComesTo};
-ghost use Rattle.job_inputs.specs.Reading.{HasCause, HasComeTo};
 ghost use Rattle.job_inputs.specs.Refusals.{refused_for, IsForContents};
-ghost use Rattle.job_inputs.specs.SettledJobs.{settled_of, IsReadyJob, IsSettledOf, AreSettled, SettledInputs};
+ghost use Rattle.job_inputs.specs.SettledJobs.{settled_of, IsReadyJob, IsSettledOf, AreSettled, SettledInputs, AreReadyCells};
 ghost use Rattle.job_inputs.specs.SettledJobs as spec;
 ghost use Rattle.job_inputs.specs.SoundJobs.{AreSound};
 ghost use Rattle.job_inputs.specs.declared.inputs.Inputs.{Inputs as AnyInputs};
+ghost use Rattle.job_inputs.specs.Reading.{HasLookedAt};
 
 use crate::counted::{CountedJob, count_records};
 use crate::described::DescribedJob;
@@ -45,7 +42,7 @@ pub struct SettledJob {
 /// this order, then the number of cells, the a priori files by table, the cells with what is stated of them, and then
 /// whether the certificate or an output would take the job's own name; the first fault is the answer. Where intervals
 /// are asked for, a job that rounds is refused as soon as it is read. The microdata are read in pieces, every other
-/// file whole.
+/// file whole. Where the shelf fails at a file, the answer is `ReadFault` with the file; want of memory is `Memory`.
 ///
 /// The cost is that of reading each file once, with the records kept in memory; one look-up for each record and table,
 /// and one for each cell and variable. The order is argus's own.
@@ -55,13 +52,10 @@ pub fn read_settled<S: Shelf>(
     name: &Text,
     purpose: Purpose,
 ) -> Result<SettledJob, InputStop>
-    ensures told { WhereTold (S.state shelf.old).files (λ fs. AreSettled result (settled_of purpose fs name.now)) }
+    ensures looked { HasLookedAt (λ fs answer. AreSettled answer (settled_of purpose fs name.now))
+        (λ fs. ComesTo purpose fs name.now) IsReadyJob result (S.state shelf.old) (S.state shelf.new) }
+    // Of a shelf that tells nothing too.
     ensures settled { IfOk result (λ job. (settled : SettledInputs) × IsSettledOf settled job × AreSound settled.inputs) }
-    ensures ready { IfOk result IsReadyJob }
-    ensures came_to { WhereTold (S.state shelf.old).files
-        (λ fs. HasComeTo (ComesTo purpose fs name.now) result fs (S.state shelf.new)) }
-    ensures only_read { HasOnlyRead (S.state shelf.old) (S.state shelf.new) }
-    ensures cause { HasCause result (S.state shelf.old) (S.state shelf.new) }
 {
     let inputs = read_inputs(alloc, shelf, name, purpose)?;
     let counted = count_records(alloc, inputs)?;
@@ -88,10 +82,7 @@ fn settled_cells(
     requires priors { ArePriors counted.now.book.marks priors.now }
     ensures gives { (inputs : AnyInputs) → IsCountedOf inputs counted.now
         → Gives refused_for (λ cells. map view_of_cell cells) result (spec.settled_cells inputs priors.now) }
-    ensures one_each { IfOk result (λ cells. length cells ≡ length counted.now.book.marks) }
-    ensures levels { IfOk result (λ cells. All HasLevelsInRange cells) }
-    ensures truths { IfOk result (λ cells. map (λ mark. mark.facts.truth) counted.now.book.marks
-        ≡ map (λ cell. cell.truth) cells) }
+    ensures ready { IfOk result (AreReadyCells counted.now.book.marks) }
     ensures contents { IfErr result IsForContents }
 {
     let cells = settle(alloc, &counted.book, &counted.described.job.rules, priors)?;

@@ -1,12 +1,10 @@
-ghost use Rattle.std.specs.Prelude.{◌≡◌, ◌<◌, ◌≤◌, IfOk, IfErr, OnOk, length, option_map};
+ghost use Rattle.std.specs.Prelude.{◌≡◌, ◌<◌, ◌≤◌, IfErr, OnOk, length, option_map};
 ghost use Rattle.sdc_base.specs.Answers.{Gives};
-ghost use Rattle.sdc_base.specs.WhereTold.{WhereTold};
-ghost use Rattle.office_io.specs.Shelves.{HasOnlyRead};
 ghost use Rattle.apriori.specs.Priors.{ArePriors};
-ghost use Rattle.job_inputs.specs.CountedRecords.{IsCountedOf, IsReady, StatesFile};
+ghost use Rattle.job_inputs.specs.CountedRecords.{IsCountedOf, IsReady, StatesFile, CanState};
 ghost use Rattle.job_inputs.specs.ReadFiles.{limit};
 ghost use Rattle.job_inputs.specs.Looks.{IsPriorFileOf, ComesToStatements};
-ghost use Rattle.job_inputs.specs.Reading.{HasCause, HasComeTo, stopped_for};
+ghost use Rattle.job_inputs.specs.Reading.{stopped_for, HasLookedAt};
 ghost use Rattle.job_inputs.specs.Refusals.{refused_for, IsForContents};
 ghost use Rattle.job_inputs.specs.PriorStatements.{with_file, priors_of};
 ghost use Rattle.job_inputs.specs.PriorStatements as spec;
@@ -32,15 +30,11 @@ pub(crate) fn read_priors<S: Shelf>(
     counted: &CountedJob,
 ) -> Result<Items<Prior>, InputStop>
     requires { IsReady counted.now }
-    ensures told { (inputs : AnyInputs) → IsCountedOf inputs counted.now
-        → WhereTold (S.state shelf.old).files
-        (λ fs. Gives stopped_for (λ priors. priors) result (priors_of fs inputs)) }
-    ensures came_to { (inputs : AnyInputs) → IsCountedOf inputs counted.now
-        → WhereTold (S.state shelf.old).files
-        (λ fs. HasComeTo (ComesToStatements fs inputs) result fs (S.state shelf.new)) }
-    ensures only_read { HasOnlyRead (S.state shelf.old) (S.state shelf.new) }
-    ensures cause { HasCause result (S.state shelf.old) (S.state shelf.new) }
-    ensures fit { IfOk result (λ priors. ArePriors counted.now.book.marks priors) }
+    ensures { HasLookedAt
+        (λ fs answer. (inputs : AnyInputs) → IsCountedOf inputs counted.now
+        → Gives stopped_for (λ priors. priors) answer (priors_of fs inputs))
+        (λ fs f held. (inputs : AnyInputs) → IsCountedOf inputs counted.now → ComesToStatements fs inputs f held)
+        (ArePriors counted.now.book.marks) result (S.state shelf.old) (S.state shelf.new) }
 {
     let mut priors = blank_priors(alloc, counted.book.cells())?;
     let tables = counted.described.job.tables.as_slice();
@@ -59,15 +53,10 @@ fn add_file<S: Shelf>(
     t: u32,
     priors: &mut Vec<Prior>,
 ) -> Result<(), InputStop>
-    requires ready { IsReady counted.now }
-    requires table { t < length counted.now.described.job.tables }
-    requires priors { ArePriors counted.now.book.marks priors.old.items }
-    ensures told { StatesFile (S.state shelf.old) counted.now t result priors.old.items priors.new.items }
-    ensures came_to { WhereTold (S.state shelf.old).files
-        (λ fs. HasComeTo (IsPriorFileOf t counted.now.described.job.priors) result fs (S.state shelf.new)) }
-    ensures only_read { HasOnlyRead (S.state shelf.old) (S.state shelf.new) }
-    ensures cause { HasCause result (S.state shelf.old) (S.state shelf.new) }
-    ensures fit { OnOk result (ArePriors counted.now.book.marks priors.new.items) }
+    requires { CanState counted.now t priors.old.items }
+    ensures { HasLookedAt (StatesFile counted.now t priors.old.items priors.new.items)
+        (λ fs. IsPriorFileOf t counted.now.described.job.priors)
+        (λ fine. ArePriors counted.now.book.marks priors.new.items) result (S.state shelf.old) (S.state shelf.new) }
 {
     let Some(line) = prior_line(counted.described.job.priors.as_slice(), t) else {
         return Ok(());
@@ -99,9 +88,7 @@ fn state(
     priors: &mut Vec<Prior>,
     bytes: &[u8],
 ) -> Result<(), Refusal>
-    requires ready { IsReady counted.now }
-    requires table { t < length counted.now.described.job.tables }
-    requires priors { ArePriors counted.now.book.marks priors.old.items }
+    requires can { CanState counted.now t priors.old.items }
     requires within_limit { length bytes.now ≤ limit }
     ensures told { (inputs : AnyInputs) → IsCountedOf inputs counted.now
         → Gives refused_for (λ fine. priors.new.items) result

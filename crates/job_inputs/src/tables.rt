@@ -42,17 +42,17 @@ pub fn header_for(alloc: Global, line: &TableLine) -> Result<Items<Text>, Memory
 /// The bytes of the tables that stand under the names of a job, one text for each of its outputs and in their order.
 ///
 /// The job is within its limits. The files are looked at in the order of the tables, each for Absent, then TooLong, and
-/// the first fault is the answer; what the bytes say isn't looked at. Each file is read whole, once. The order is
-/// argus's own.
+/// the first fault is the answer; what the bytes say isn't looked at. Where the shelf fails at a file, the answer is
+/// `ReadFault` with the file; want of memory is `Memory`. Each file is read whole, once. The order is argus's own.
 pub fn read_tables<S: Shelf>(
     alloc: Global,
     shelf: &mut S,
     job: &Job,
 ) -> Result<Items<Text>, InputStop>
     requires { IsJob job.now }
-    ensures reads { IsReadFrom (λ tables. tables) (λ fs. tables_of fs job.now) (λ fs. ComesToTables fs job.now) result
+    ensures { IsReadFrom (λ tables. tables) (λ fs. tables_of fs job.now) (λ fs. ComesToTables fs job.now)
+        (λ tables. length tables ≡ length job.now.outputs) result
         (S.state shelf.old) (S.state shelf.new) }
-    ensures each { IfOk result (λ tables. length tables ≡ length job.now.outputs) }
 {
     let mut tables = Items::empty(alloc);
     'outputs: for (t, output) in job.outputs.as_slice().iter().enumerate() {

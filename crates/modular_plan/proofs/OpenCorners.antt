@@ -1,5 +1,5 @@
 -- The corners of whole steps may be hidden.
-use Rattle.std.proofs.Common.{ℕ, zero, suc, List, [], ◌∷◌, All, arith}
+use Rattle.std.proofs.Common.{zero, suc, List, [], ◌∷◌, All, arith}
 use Rattle.std.specs.List.{AllByRecursion}
 use Rattle.sdc_base.specs.HiddenSets.{MayHide}
 use Rattle.sdc_base.specs.Trails.{corners_of}

@@ -1,12 +1,11 @@
 -- Each step of a trail is the whole cube of a cell in a subtable.
-use Rattle.std.proofs.Common.{◌≡◌, ◌⊎◌, ℕ, zero, suc, ◌+◌, ◌^◌, ◌<◌, ◌≤◌, ◌==◌, ◌&&◌, ◌||◌, nat_lt, Bool, true, false, not, cond, List, [], ◌∷◌, ◌++◌, length, map, filter, fold, get_or, slice_get, slice_index, slice_index_or, Option, None, Some, if◌then◌else◌, refl, ap, sym, ◌∙◌, subst, arith, append_assoc, length-append}
-use Rattle.std.specs.List.{AllByRecursion, Contains, flat_map, list_all, list_any, range_with_len}
-use Rattle.std.specs.List.Sorted.{IsStrictlyIncreasing}
+use Rattle.std.proofs.Common.{◌≡◌, ℕ, zero, suc, ◌+◌, ◌<◌, ◌≤◌, ◌==◌, ◌&&◌, ◌||◌, Bool, true, false, not, cond, List, [], ◌∷◌, ◌++◌, length, map, filter, fold, get_or, slice_get, slice_index, slice_index_or, Option, None, Some, if◌then◌else◌, refl, ap, sym, ◌∙◌, subst, arith, append_assoc, length-append}
+use Rattle.std.specs.List.{AllByRecursion, Contains, list_all, list_any, range_with_len}
 use Rattle.std.specs.Option.{MatchOption, option_and_then, option_map_or}
-use Rattle.std.proofs.lemmas.Bool.Decides.{Decides-eqb, nat_tests}
+use Rattle.std.proofs.lemmas.Bool.Decides.{Decides-eqb}
 use Rattle.std.proofs.lemmas.List.{length-map}
 use Rattle.std.proofs.Math.Seq.{get_or-append_seam}
-use Rattle.sdc_base.specs.Trees.{Tree, children, is_child, parent_at}
+use Rattle.sdc_base.specs.Trees.{Tree, children, is_child}
 use Rattle.sdc_base.specs.Records.{Name}
 use Rattle.sdc_base.specs.Cells.{trees_of}
 use Rattle.sdc_base.specs.HiddenSets.{MayHide, may_hide}
@@ -15,7 +14,7 @@ use Rattle.sdc_base.specs.declared.cell.Kind.TheVariants.{Primary, Free, Fixed}
 use Rattle.sdc_base.specs.Kinds.{is_fixed}
 use Rattle.sdc_base.specs.Cubes.{bears, choices, corners_of, cubes_at, serve}
 use Rattle.sdc_base.specs.CubeOrder.{least_of}
-use Rattle.sdc_base.specs.Subtables.{by_depths, depth_of, inner_among, inner_codes, is_code_in, is_place_below, most_depth, of_depth, ordered_subtables, subtable_at, subtables_from, subtables_in}
+use Rattle.sdc_base.specs.Subtables.{depth_of, inner_among, inner_codes, is_code_in, is_place_below, most_depth, of_depth, ordered_subtables, subtable_at, subtables_from, subtables_in}
 use Rattle.sdc_base.specs.Trails.{hidden_after, levels_at, step_of, with_step}
 use Rattle.sdc_base.specs.declared.cell.Cell.{Cell}
 use Rattle.sdc_base.specs.declared.cube.Corner.{Corner}

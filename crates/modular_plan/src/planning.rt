@@ -27,6 +27,8 @@ use std::alloc::Global;
 /// one cell for each mark, and the facts of each mark are in the range of the rule. At first exactly the primary
 /// cells are marked as hidden, and then the corners of each step; the facts, the trees and the tables stay. Its one
 /// refusal is want of memory, after which the primary cells and the corners of some first steps are marked.
+///
+/// The method is the handbook's, the order of the steps argus's own.
 pub fn plan<F: TellsCosts>(
     alloc: Global,
     book: &mut Book,

@@ -1,5 +1,5 @@
 -- What a protection comes to.
-use Rattle.std.proofs.Common.{◌≡◌, ℕ, Bool, true, List, [], length, All, false, IsTrue, ◌↔◌, Result, Ok, Err, IfOk, refl, sym, subst, arith}
+use Rattle.std.proofs.Common.{◌≡◌, ℕ, Bool, true, List, [], length, IsTrue, ◌↔◌, Result, Ok, Err, IfOk, refl, sym, subst, arith}
 use Rattle.std.proofs.lemmas.List.Elements.{All-nil}
 use Rattle.sdc_base.specs.declared.cell.Kind.TheVariants.{Free}
 use Rattle.sdc_base.specs.declared.hidden.Hidden.{Hidden}

@@ -10,29 +10,30 @@ use Rattle.job_inputs.specs.Reading.{stopped_for}
 use Rattle.job_inputs.specs.Refusals.{refused_for}
 use Rattle.job_inputs.proofs.certificate_file.read_certificate_file.Goals as goal
 
-pub returns-in_err-bytes-clause-reads : goal.returns-in_err-bytes-clause-reads
-returns-in_err-bytes-clause-reads g c =
+pub returns-in_err-bytes : goal.returns-in_err-bytes
+returns-in_err-bytes g c =
     let p = err_from_is_err_and c.from_residual.result c.from_residual.ensures.1 in
     let e = c.in_err-bytes.field-0.0 in
     rw (p.1, p.2)
-    (look-stops _ _ _ _ _ _ e _ _ _ (only-read-nothing _) c.in_err-bytes.ensures.reads
+    (look-stops _ _ _ _ _ _ e _ _ _ (only-read-nothing _) c.in_err-bytes.ensures
     (λ fs told fails. file-stops fs c.args.job.now (stopped_for e) fails)
     (λ fs told f held comes. comes))
 
-pub returns-in_err-certificate-clause-reads : goal.returns-in_err-certificate-clause-reads
-returns-in_err-certificate-clause-reads g c =
+pub returns-in_err-certificate : goal.returns-in_err-certificate
+returns-in_err-certificate g c =
     let p = err_from_is_err_and c.from_residual-in_err-certificate.result c.from_residual-in_err-certificate.ensures.1 in
     let r = c.in_err-certificate.field-0.0 in
-    let first = c.in_ok-bytes.ensures.reads in
+    let first = c.in_ok-bytes.ensures in
     let refused = subst (λ (bytes : List ℕ). Fails (refused_for r) (map_fault certificate_fault (certificate_of bytes))) c.as_slice.ensures.value c.in_err-certificate.ensures.told in
     rw (p.1, p.2)
     (contents-stop _ _ _ r _ _ first.only_read c.in_err-certificate.ensures.contents
     (λ fs told. contents-stop-it fs c.args.job.now c.in_ok-bytes.bytes.items (refused_for r) (first.told fs told) refused))
 
-pub returns-clause-reads : goal.returns-clause-reads
-returns-clause-reads g c =
-    let first = c.in_ok-bytes.ensures.reads in
+pub returns : goal.returns
+returns g c =
+    let first = c.in_ok-bytes.ensures in
     let certificate = c.in_ok-certificate.certificate in
     let given = subst (λ (bytes : List ℕ). map_fault certificate_fault (certificate_of bytes) ≡ Ok certificate) c.as_slice.ensures.value c.in_ok-certificate.ensures.told in
     look-ends _ _ _ _ _ _ first.only_read (only-read-nothing _)
     (λ fs told. certificate-is fs c.args.job.now c.in_ok-bytes.bytes.items certificate (first.told fs told) given)
+    c.in_ok-certificate.ensures.sound

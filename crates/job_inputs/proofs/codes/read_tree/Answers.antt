@@ -1,4 +1,4 @@
-use Rattle.std.proofs.Common.{◌∙◌, List, ℕ, Ok, ◌≡◌, subst}
+use Rattle.std.proofs.Common.{List, ℕ, Ok, ◌≡◌, subst}
 use Rattle.std.proofs.lemmas.Result.{err_from_is_err_and}
 use Rattle.sdc_base.specs.Answers.{Fails}
 use Rattle.job_inputs.proofs.Causes.{look-stops, contents-stop, look-ends, only-read-nothing}
@@ -14,7 +14,7 @@ returns-in_err-bytes g c =
     let p = err_from_is_err_and c.from_residual.result c.from_residual.ensures.1 in
     let e = c.in_err-bytes.field-0.0 in
     rw (p.1, p.2)
-    (look-stops _ _ _ _ _ _ e _ _ _ (only-read-nothing _) c.in_err-bytes.ensures.reads
+    (look-stops _ _ _ _ _ _ e _ _ _ (only-read-nothing _) c.in_err-bytes.ensures
     (λ fs told fails. tree-file-stops fs c.args.place c.args.variable.now c.args.name.now c.args.lead.now (stopped_for e) fails)
     (λ fs told f held comes. comes))
 
@@ -22,7 +22,7 @@ pub returns-in_err-tree : goal.returns-in_err-tree
 returns-in_err-tree g c =
     let p = err_from_is_err_and c.from_residual-in_err-tree.result c.from_residual-in_err-tree.ensures.1 in
     let r = c.in_err-tree.field-0.0 in
-    let first = c.in_ok-bytes.ensures.reads in
+    let first = c.in_ok-bytes.ensures in
     let refused = subst (λ (bytes : List ℕ). Fails (refused_for r) (tree_in (file.Hierarchy c.args.place) c.args.variable.now c.args.lead.now bytes)) c.as_slice.ensures.value c.in_err-tree.ensures.told in
     rw (p.1, p.2)
     (contents-stop _ _ _ r _ _ first.only_read c.in_err-tree.ensures.contents
@@ -30,7 +30,8 @@ returns-in_err-tree g c =
 
 pub returns : goal.returns
 returns g c =
-    let first = c.in_ok-bytes.ensures.reads in
+    let first = c.in_ok-bytes.ensures in
     let given = subst (λ (bytes : List ℕ). tree_in (file.Hierarchy c.args.place) c.args.variable.now c.args.lead.now bytes ≡ Ok c.in_ok-tree.tree) c.as_slice.ensures.value c.in_ok-tree.ensures.told in
     look-ends _ _ _ _ _ _ first.only_read (only-read-nothing _)
     (λ fs told. tree-is fs c.args.place c.args.variable.now c.args.name.now c.args.lead.now c.in_ok-bytes.bytes.items c.in_ok-tree.tree (first.told fs told) given)
+    tt

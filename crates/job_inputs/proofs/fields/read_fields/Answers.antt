@@ -35,15 +35,15 @@ read_field-requires g c =
     c.requires.meta.each (slice_index_or c.as_slice-place-items.result.now c.places.place-index 0) c.variable_at-variable.result.now
     (subst (λ (vs : List Variable). slice_get vs (slice_index_or c.as_slice-place-items.result.now c.places.place-index 0) ≡ Some c.variable_at-variable.result.now) c.as_slice-variables.ensures c.variable_at-variable.ensures)
 
-pub returns-in_err-field-clause-reads : goal.returns-in_err-field-clause-reads
-returns-in_err-field-clause-reads g c =
+pub returns-in_err-field : goal.returns-in_err-field
+returns-in_err-field g c =
     let p = err_from_is_err_and c.from_residual.result c.from_residual.ensures.1 in
     let e = c.in_err-field.field-0.0 in
     let variables = c.as_slice-variables.result.now in
     let places = c.as_slice-place-items.result.now in
     let v = c.variable_at-variable.result.now in
     rw (p.1, p.2)
-    (look-stops _ _ _ _ _ _ e _ _ _ c.places.invariant.only_read c.in_err-field.ensures.reads
+    (look-stops _ _ _ _ _ _ e _ _ _ c.places.invariant.only_read c.in_err-field.ensures
     (λ fs told fails.
     subst (λ (vs : List Variable). Fails (stopped_for e) (fields_of fs (variables_at vs c.args.described.now.bound.spanning))) c.as_slice-variables.ensures
     (subst (λ (ps : List ℕ). Fails (stopped_for e) (fields_of fs (variables_at variables ps))) c.as_slice-place-items.ensures
@@ -57,8 +57,8 @@ pub places-preserved : goal.places-preserved
 places-preserved g c = record {
   told = λ fs told.
       fields-more fs c.as_slice-variables.result.now c.as_slice-place-items.result.now c.places.place-index c.variable_at-variable.result.now c.places.fields c.in_ok-field.field
-      c.places-test.true c.variable_at-variable.ensures (c.places.invariant.told fs told) (c.in_ok-field.ensures.reads.told fs (c.places.invariant.only_read.files ∙ told)) ∙ ap Ok (sym c.in_ok-push.ensures.ok);
-  placed = subst (λ (fields : List Field). AllByRecursion IsPlacedField fields) (sym c.in_ok-push.ensures.ok) (all-more IsPlacedField c.places.fields c.in_ok-field.field c.places.invariant.placed c.in_ok-field.ensures.placed);
+      c.places-test.true c.variable_at-variable.ensures (c.places.invariant.told fs told) (c.in_ok-field.ensures.told fs (c.places.invariant.only_read.files ∙ told)) ∙ ap Ok (sym c.in_ok-push.ensures.ok);
+  placed = subst (λ (fields : List Field). AllByRecursion IsPlacedField fields) (sym c.in_ok-push.ensures.ok) (all-more IsPlacedField c.places.fields c.in_ok-field.field c.places.invariant.placed c.in_ok-field.ensures.sound);
   count = ap length c.in_ok-push.ensures.ok ∙ one-longer c.places.fields c.in_ok-field.field c.places.place-index c.places.invariant.count;
-  only_read = only-read-on _ _ _ c.places.invariant.only_read c.in_ok-field.ensures.reads.only_read;
+  only_read = only-read-on _ _ _ c.places.invariant.only_read c.in_ok-field.ensures.only_read;
 }

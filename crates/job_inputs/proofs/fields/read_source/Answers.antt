@@ -1,4 +1,3 @@
-use Rattle.std.proofs.Common.{◌∙◌, ◌≡◌, sym}
 use Rattle.std.proofs.lemmas.Result.{err_from_is_err_and}
 use Rattle.job_inputs.proofs.Causes.{look-stops, only-read-nothing}
 use Rattle.job_inputs.proofs.Coming.{listed-comes}
@@ -6,8 +5,8 @@ use Rattle.job_inputs.proofs.Listing.{listed-stops}
 use Rattle.job_inputs.specs.Reading.{stopped_for}
 use Rattle.job_inputs.proofs.fields.read_source.Goals as goal
 
-pub returns-in_err-tree-in-Listed-clause-reads : goal.returns-in_err-tree-in-Listed-clause-reads
-returns-in_err-tree-in-Listed-clause-reads g c =
+pub returns-in_err-tree-in-Listed : goal.returns-in_err-tree-in-Listed
+returns-in_err-tree-in-Listed g c =
     let p = err_from_is_err_and c.from_residual-in_err-tree-in-Listed.result c.from_residual-in_err-tree-in-Listed.ensures.1 in
     let e = c.in_err-tree-in-Listed.field-0.0 in
     let v = c.args.variable.now in

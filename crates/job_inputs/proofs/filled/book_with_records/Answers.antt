@@ -1,4 +1,4 @@
-use Rattle.std.proofs.Common.{ℕ, subst}
+use Rattle.std.proofs.Common.{ℕ, arith, subst}
 use Rattle.tabulate.specs.TabulatedMarks.{AreTabulated}
 use Rattle.job_inputs.proofs.Filling.{scale-range, rows-are}
 use Rattle.job_inputs.proofs.filled.book_with_records.Goals as goal
@@ -12,5 +12,11 @@ tabulate-requires-clause-rows c = record {
   at_most_1000000 = c.requires.rows.at_most_1000000;
 }
 
-pub returns-clause-told : goal.returns-clause-told
-returns-clause-told c = subst (λ (kept : ℕ). AreTabulated c.tabulate.new.book c.args.rows.now kept c.args.described.now.bound.scale) c.keep-kept.ensures.value c.tabulate.ensures.marks
+pub returns : goal.returns
+returns c = let book = c.cells-cells.ensures.book in record {
+  trees = c.tabulate.ensures.trees;
+  tables = c.tabulate.ensures.tables;
+  told = subst (λ (kept : ℕ). AreTabulated c.tabulate.new.book c.args.rows.now kept c.args.described.now.bound.scale) c.keep-kept.ensures.value c.tabulate.ensures.marks;
+  one_each = book.one_each;
+  fewer_than_2_32 = omega (arith, book.one_each, book.at_most);
+}

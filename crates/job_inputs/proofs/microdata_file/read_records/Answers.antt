@@ -7,8 +7,8 @@ use Rattle.job_inputs.specs.Refusals.{refused_for}
 use Rattle.job_inputs.specs.Reading.{stopped_for}
 use Rattle.job_inputs.proofs.microdata_file.read_records.Goals as goal
 
-pub returns-in_err-begin-clause-reads : goal.returns-in_err-begin-clause-reads
-returns-in_err-begin-clause-reads g c =
+pub returns-in_err-begin : goal.returns-in_err-begin
+returns-in_err-begin g c =
     let p = err_from_is_err_and c.from_residual-in_err-begin.result c.from_residual-in_err-begin.ensures.1 in
     rw (p.1, p.2)
     (record {
@@ -16,10 +16,11 @@ returns-in_err-begin-clause-reads g c =
       came_to = λ fs told f is. (c.args.name.now, record { is_file = c.in_err-begin.ensures.which f (err-as c.in_err-begin.field-0.0 _ is); is_name = refl }, c.in_err-begin.ensures.begun.last fs told);
       only_read = c.in_err-begin.ensures.only_read;
       cause = cause-as c.in_err-begin.field-0.0 _ _ c.in_err-begin.ensures.cause;
+      sound = tt;
     })
 
-pub returns-in_err-feed_all-clause-reads : goal.returns-in_err-feed_all-clause-reads
-returns-in_err-feed_all-clause-reads g c =
+pub returns-in_err-feed_all : goal.returns-in_err-feed_all
+returns-in_err-feed_all g c =
     let p = err_from_is_err_and c.from_residual-in_err-feed_all.result c.from_residual-in_err-feed_all.ensures.1 in
     let e = c.in_err-feed_all.field-0.0 in
     let first = c.in_ok-begin.ensures.only_read in
@@ -31,10 +32,11 @@ returns-in_err-feed_all-clause-reads g c =
       came_to = λ fs told f is. (c.args.name.now, record { is_file = c.in_err-feed_all.ensures.which f (err-as e _ is); is_name = refl }, c.in_err-feed_all.ensures.last ∙ c.in_ok-begin.ensures.begun.last fs told);
       only_read = only-read-on _ _ _ first c.in_err-feed_all.ensures.only_read;
       cause = cause-on e _ _ _ first c.in_err-feed_all.ensures.cause;
+      sound = tt;
     })
 
-pub returns-in_err-records-clause-reads : goal.returns-in_err-records-clause-reads
-returns-in_err-records-clause-reads g c =
+pub returns-in_err-records : goal.returns-in_err-records
+returns-in_err-records g c =
     let p = err_from_is_err_and c.from_residual-in_err-records.result c.from_residual-in_err-records.ensures.1 in
     let r = c.in_err-records.field-0.0 in
     rw (p.1, p.2)
@@ -45,21 +47,12 @@ returns-in_err-records-clause-reads g c =
     let whole = c.in_ok-feed_all.ensures.reads_all c.args.layout bytes (c.in_ok-begin.ensures.chosen.found fs told ∙ is) c.in_ok-reader.ensures.fed in
     (whole.1, c.in_err-records.ensures.exact c.args.layout bytes whole.0))))
 
-pub returns-clause-reads : goal.returns-clause-reads
-returns-clause-reads g c =
+pub returns : goal.returns
+returns g c =
     look-ends _ _ _ _ _ _ c.in_ok-begin.ensures.only_read c.in_ok-feed_all.ensures.only_read
     (λ fs told.
     file-read c.in_ok-records.records c.args.layout (fs c.args.name.now) (c.in_ok-begin.ensures.chosen.held fs told)
     (λ bytes is.
     let whole = c.in_ok-feed_all.ensures.reads_all c.args.layout bytes (c.in_ok-begin.ensures.chosen.found fs told ∙ is) c.in_ok-reader.ensures.fed in
     (whole.1, c.in_ok-records.ensures.exact c.args.layout bytes whole.0)))
-
-pub returns-clause-within : goal.returns-clause-within
-returns-clause-within g c =
-    let read = c.in_ok-feed_all.ensures.reads_front c.args.layout c.in_ok-reader.ensures.fed in
-    c.in_ok-records.ensures.within c.args.layout read.0 read.1
-
-pub returns-clause-leaves : goal.returns-clause-leaves
-returns-clause-leaves g c =
-    let read = c.in_ok-feed_all.ensures.reads_front c.args.layout c.in_ok-reader.ensures.fed in
-    c.in_ok-records.ensures.leaves c.args.layout read.0 read.1
+    (let read = c.in_ok-feed_all.ensures.reads_front c.args.layout c.in_ok-reader.ensures.fed in c.in_ok-records.ensures.sound c.args.layout read.0 read.1)

@@ -1,9 +1,8 @@
-use Rattle.std.proofs.Common.{◌≡◌, Ok, map, refl, subst, ap, length, ◌∙◌}
+use Rattle.std.proofs.Common.{◌≡◌, Ok, map, refl, subst}
 use Rattle.std.proofs.lemmas.Result.{err_from_is_err_and}
 use Rattle.sdc_base.specs.Answers.{Fails}
 use Rattle.apriori.specs.Faults.{fault_of}
 use Rattle.apriori.specs.Settling.{view_of_cell, settle_of}
-use Rattle.job_inputs.proofs.Filling.{in-range}
 use Rattle.job_inputs.proofs.Refusing.{prior_refuses}
 use Rattle.job_inputs.proofs.Truths.{truths-are}
 use Rattle.job_inputs.proofs.Facts.{facts-in, are-ready}
@@ -28,6 +27,9 @@ returns-in_err-cells-clause-gives c = λ inputs is.
     let same = subst (λ (d : DescribedJob). Fails (fault_of e) (settle_of d.job.rules (figures inputs) c.args.priors.now)) is.described over in
     rw (p.1, p.2) (prior_refuses e (settle_of inputs.described.job.rules (figures inputs) c.args.priors.now) same)
 
-pub returns-clause-truths : goal.returns-clause-truths
-returns-clause-truths c =
-    rw (c.new.ensures) (truths-are c.args.counted.now.described.job.rules c.args.counted.now.book.marks c.args.priors.now c.in_ok-cells.cells.items c.requires.priors.one_each c.in_ok-cells.ensures.exact)
+pub returns-clause-ready : goal.returns-clause-ready
+returns-clause-ready c = rw (c.new.ensures) (record {
+  one_each = c.in_ok-cells.ensures.one_each;
+  levels = c.in_ok-cells.ensures.levels;
+  truths = truths-are c.args.counted.now.described.job.rules c.args.counted.now.book.marks c.args.priors.now c.in_ok-cells.cells.items c.requires.priors.one_each c.in_ok-cells.ensures.exact;
+})

@@ -1,4 +1,4 @@
-use Rattle.std.proofs.Common.{◌≡◌, ◌<◌, Err, List, length, ap, subst, sym, ◌∙◌}
+use Rattle.std.proofs.Common.{◌<◌, List, length, ap, subst, sym, ◌∙◌}
 use Rattle.std.proofs.lemmas.Result.{err_from_is_err_and}
 use Rattle.job_lang.specs.declared.job.TableLine.{TableLine}
 use Rattle.office_io.proofs.Shelves.{only-read-on}
@@ -15,38 +15,31 @@ tables-init g c = record {
   only_read = only-read-nothing _;
 }
 
-pub returns-in_err-add_file-clause-told : goal.returns-in_err-add_file-clause-told
-returns-in_err-add_file-clause-told g c =
-    λ inputs is fs told.
+pub returns-in_err-add_file : goal.returns-in_err-add_file
+returns-in_err-add_file g c =
     let p = err_from_is_err_and c.from_residual-in_err-add_file.result c.from_residual-in_err-add_file.ensures.1 in
+    let e = c.in_err-add_file.field-0.0 in
+    let before = c.tables.invariant in
+    let look = c.in_err-add_file.ensures in
     let here = subst (λ (xs : List TableLine). c.tables.t < length xs) c.as_slice-tables.ensures c.tables-test.true in
-    let within = subst (λ (d : DescribedJob). c.tables.t < length d.job.tables) is.described here in
-    rw (p.1, p.2)
-    (files-stop fs inputs c.args.counted.now.described c.tables.t (length inputs.described.job.tables) c.tables.priors.items _ is.described (c.tables.invariant.told inputs is fs told)
-    (c.in_err-add_file.ensures.told inputs is fs (c.tables.invariant.only_read.files ∙ told)) within)
-
-pub returns-in_err-add_file-clause-came_to : goal.returns-in_err-add_file-clause-came_to
-returns-in_err-add_file-clause-came_to g c =
-    λ inputs is fs told.
-    let p = err_from_is_err_and c.from_residual-in_err-add_file.result c.from_residual-in_err-add_file.ensures.1 in
-    rw (p.1, p.2)
-    (come-on c.in_err-add_file.field-0.0 _ _ fs (g.S.Shelf.state c.add_file.new.shelf)
-    (λ f held comes. (c.tables.t, comes.2, comes-statement fs inputs c.args.counted.now.described c.tables.t c.tables.priors.items comes.0 held is.described (c.tables.invariant.told inputs is fs told) comes.1 comes.3))
-    (c.in_err-add_file.ensures.came_to fs (c.tables.invariant.only_read.files ∙ told)))
-
-pub returns-in_err-add_file-clause-only_read : goal.returns-in_err-add_file-clause-only_read
-returns-in_err-add_file-clause-only_read g c = only-read-on _ _ _ c.tables.invariant.only_read c.in_err-add_file.ensures.only_read
-
-pub returns-in_err-add_file-clause-cause : goal.returns-in_err-add_file-clause-cause
-returns-in_err-add_file-clause-cause g c =
-    let p = err_from_is_err_and c.from_residual-in_err-add_file.result c.from_residual-in_err-add_file.ensures.1 in
-    rw (p.1, p.2) (cause-on c.in_err-add_file.field-0.0 _ _ _ c.tables.invariant.only_read c.in_err-add_file.ensures.cause)
+    rw (p.1, p.2) (record {
+      told = λ fs told inputs is.
+          files-stop fs inputs c.args.counted.now.described c.tables.t (length inputs.described.job.tables) c.tables.priors.items _ is.described (before.told inputs is fs told)
+          (look.told fs (before.only_read.files ∙ told) inputs is) (subst (λ (d : DescribedJob). c.tables.t < length d.job.tables) is.described here);
+      came_to = λ fs told.
+          come-on e _ _ fs (g.S.Shelf.state c.add_file.new.shelf)
+          (λ f held comes inputs is. (c.tables.t, comes.2, comes-statement fs inputs c.args.counted.now.described c.tables.t c.tables.priors.items comes.0 held is.described (before.told inputs is fs told) comes.1 comes.3))
+          (look.came_to fs (before.only_read.files ∙ told));
+      only_read = only-read-on _ _ _ before.only_read look.only_read;
+      cause = cause-on e _ _ _ before.only_read look.cause;
+      sound = tt;
+    })
 
 pub tables-preserved : goal.tables-preserved
 tables-preserved g c = record {
   told = λ inputs is fs told.
       files-more fs inputs c.args.counted.now.described c.tables.t c.tables.priors.items c.add_file.new.priors.items is.described (c.tables.invariant.told inputs is fs told)
-      (c.in_ok-add_file.ensures.told inputs is fs (c.tables.invariant.only_read.files ∙ told));
-  fit = c.in_ok-add_file.ensures.fit;
+      (c.in_ok-add_file.ensures.told fs (c.tables.invariant.only_read.files ∙ told) inputs is);
+  fit = c.in_ok-add_file.ensures.sound;
   only_read = only-read-on _ _ _ c.tables.invariant.only_read c.in_ok-add_file.ensures.only_read;
 }

@@ -16,8 +16,8 @@ outputs-init g c = record {
   only_read = only-read-nothing _;
 }
 
-pub returns-in_err-bytes-clause-reads : goal.returns-in_err-bytes-clause-reads
-returns-in_err-bytes-clause-reads g c =
+pub returns-in_err-bytes : goal.returns-in_err-bytes
+returns-in_err-bytes g c =
     let p = err_from_is_err_and c.from_residual.result c.from_residual.ensures.1 in
     let e = c.in_err-bytes.field-0.0 in
     let job = c.args.job.now in
@@ -26,14 +26,14 @@ returns-in_err-bytes-clause-reads g c =
     let is = subst (λ (xs : List OutputLine). output ≡ slice_index_or xs c.outputs.t output) c.as_slice-output-items.ensures c.output-item.is in
     let at = slice_get_read job.outputs (length job.outputs) c.outputs.t output refl here is in
     rw (p.1, p.2)
-    (look-stops _ _ _ _ _ _ e _ _ _ c.outputs.invariant.only_read c.in_err-bytes.ensures.reads
+    (look-stops _ _ _ _ _ _ e _ _ _ c.outputs.invariant.only_read c.in_err-bytes.ensures
     (λ fs told fails. tables-stop fs job c.outputs.t output c.outputs.tables _ at (c.outputs.invariant.told fs told) fails)
     (λ fs told f held comes. (c.outputs.t, comes.is_file, tables-come fs job c.outputs.t output c.outputs.tables held at (c.outputs.invariant.told fs told) comes.is_name)))
 
-pub returns-in_err-push-clause-reads : goal.returns-in_err-push-clause-reads
-returns-in_err-push-clause-reads g c =
+pub returns-in_err-push : goal.returns-in_err-push
+returns-in_err-push g c =
     let p = err_from_is_err_and c.from_residual-in_err-push.result c.from_residual-in_err-push.ensures.1 in
-    rw (p.1, p.2) (memory-stops _ _ _ _ _ (only-read-on _ _ _ c.outputs.invariant.only_read c.in_ok-bytes.ensures.reads.only_read))
+    rw (p.1, p.2) (memory-stops _ _ _ _ _ (only-read-on _ _ _ c.outputs.invariant.only_read c.in_ok-bytes.ensures.only_read))
 
 pub outputs-preserved : goal.outputs-preserved
 outputs-preserved g c =
@@ -45,8 +45,8 @@ outputs-preserved g c =
     let pushed = c.in_ok-push.ensures.ok ∙ ap (λ (text : List ℕ). c.outputs.tables ++ text ∷ []) c.new.ensures in
     record {
       told = λ fs told.
-          tables-more fs job.outputs c.outputs.t output c.outputs.tables c.in_ok-bytes.bytes.items at (c.outputs.invariant.told fs told) (c.in_ok-bytes.ensures.reads.told fs (c.outputs.invariant.only_read.files ∙ told))
+          tables-more fs job.outputs c.outputs.t output c.outputs.tables c.in_ok-bytes.bytes.items at (c.outputs.invariant.told fs told) (c.in_ok-bytes.ensures.told fs (c.outputs.invariant.only_read.files ∙ told))
           ∙ ap Ok (sym pushed);
       each = ap length pushed ∙ one-longer c.outputs.tables c.in_ok-bytes.bytes.items c.outputs.t c.outputs.invariant.each;
-      only_read = only-read-on _ _ _ c.outputs.invariant.only_read c.in_ok-bytes.ensures.reads.only_read;
+      only_read = only-read-on _ _ _ c.outputs.invariant.only_read c.in_ok-bytes.ensures.only_read;
     }

@@ -17,14 +17,14 @@ pub returns-in_err-job-clause-told : goal.returns-in_err-job-clause-told
 returns-in_err-job-clause-told g c =
     λ fs told.
     let p = err_from_is_err_and c.from_residual.result c.from_residual.ensures.1 in
-    rw (p.1, p.2) (settled_fails fs c.args.name.now c.args.out.now _ (c.in_err-job.ensures.told fs told))
+    rw (p.1, p.2) (settled_fails fs c.args.name.now c.args.out.now _ (c.in_err-job.ensures.looked.told fs told))
 
 pub returns-in_err-job-clause-came_to : goal.returns-in_err-job-clause-came_to
 returns-in_err-job-clause-came_to g c =
     λ fs told.
     let p = err_from_is_err_and c.from_residual.result c.from_residual.ensures.1 in
     rw (p.1, p.2)
-    (come-on c.in_err-job.field-0.0 _ _ fs (g.S.Shelf.state c.read_settled.new.shelf) (λ f held comes. input_comes fs c.args.name.now c.args.out.now f held comes) (c.in_err-job.ensures.came_to fs told))
+    (come-on c.in_err-job.field-0.0 _ _ fs (g.S.Shelf.state c.read_settled.new.shelf) (λ f held comes. input_comes fs c.args.name.now c.args.out.now f held comes) (c.in_err-job.ensures.looked.came_to fs told))
 
 -- ---- the name of the file to be put
 
@@ -32,7 +32,7 @@ pub returns-in_err-check_out-clause-told : goal.returns-in_err-check_out-clause-
 returns-in_err-check_out-clause-told g c =
     λ fs told.
     let p = err_from_is_err_and c.from_residual-in_err-check_out.result c.from_residual-in_err-check_out.ensures.1 in
-    let one = ok_and (λ settled. IsSettledOf settled c.in_ok-job.job) (settled_of purpose.Intervals fs c.args.name.now) (c.in_ok-job.ensures.told fs told) in
+    let one = ok_and (λ settled. IsSettledOf settled c.in_ok-job.job) (settled_of purpose.Intervals fs c.args.name.now) (c.in_ok-job.ensures.looked.told fs told) in
     rw (p.1, p.2)
     (out_fails fs c.args.name.now c.args.out.now one.0 c.in_err-check_out.field-0.0 one.1
     (out_same c.args.name.now c.args.out.now c.in_ok-job.job.described one.0.inputs.described _ c.in_err-check_out.ensures one.2.described))
@@ -49,31 +49,31 @@ returns-in_err-tables-clause-told g c =
     λ fs told.
     let p = err_from_is_err_and c.from_residual-in_err-tables.result c.from_residual-in_err-tables.ensures.1 in
     let e = c.in_err-tables.field-0.0 in
-    let one = ok_and (λ settled. IsSettledOf settled c.in_ok-job.job) (settled_of purpose.Intervals fs c.args.name.now) (c.in_ok-job.ensures.told fs told) in
+    let one = ok_and (λ settled. IsSettledOf settled c.in_ok-job.job) (settled_of purpose.Intervals fs c.args.name.now) (c.in_ok-job.ensures.looked.told fs told) in
     rw (p.1, p.2)
     (tables_fail fs c.args.name.now c.args.out.now one.0 (stopped_for e) one.1
     (out_same c.args.name.now c.args.out.now c.in_ok-job.job.described one.0.inputs.described _ c.in_ok-check_out.ensures one.2.described)
-    (subst (λ (d : DescribedJob). Fails (stopped_for e) (tables_of fs d.job)) one.2.described (c.in_err-tables.ensures.reads.told fs (c.in_ok-job.ensures.only_read.files ∙ told))))
+    (subst (λ (d : DescribedJob). Fails (stopped_for e) (tables_of fs d.job)) one.2.described (c.in_err-tables.ensures.told fs (c.in_ok-job.ensures.looked.only_read.files ∙ told))))
 
 pub returns-in_err-tables-clause-came_to : goal.returns-in_err-tables-clause-came_to
 returns-in_err-tables-clause-came_to g c =
     λ fs told.
     let p = err_from_is_err_and c.from_residual-in_err-tables.result c.from_residual-in_err-tables.ensures.1 in
-    let one = ok_and (λ settled. IsSettledOf settled c.in_ok-job.job) (settled_of purpose.Intervals fs c.args.name.now) (c.in_ok-job.ensures.told fs told) in
+    let one = ok_and (λ settled. IsSettledOf settled c.in_ok-job.job) (settled_of purpose.Intervals fs c.args.name.now) (c.in_ok-job.ensures.looked.told fs told) in
     rw (p.1, p.2)
     (come-on c.in_err-tables.field-0.0 _ _ fs (g.S.Shelf.state c.read_tables.new.shelf)
     (λ f held comes.
     table_comes fs c.args.name.now c.args.out.now one.0 c.in_ok-job.job.described f held one.1
     (out_same c.args.name.now c.args.out.now c.in_ok-job.job.described one.0.inputs.described _ c.in_ok-check_out.ensures one.2.described) one.2.described comes)
-    (c.in_err-tables.ensures.reads.came_to fs (c.in_ok-job.ensures.only_read.files ∙ told)))
+    (c.in_err-tables.ensures.came_to fs (c.in_ok-job.ensures.looked.only_read.files ∙ told)))
 
 -- ---- a job with its tables
 
 pub returns-clause-told : goal.returns-clause-told
 returns-clause-told g c =
     λ fs told.
-    let one = ok_and (λ settled. IsSettledOf settled c.in_ok-job.job) (settled_of purpose.Intervals fs c.args.name.now) (c.in_ok-job.ensures.told fs told) in
-    let are = subst (λ (d : DescribedJob). tables_of fs d.job ≡ Ok c.in_ok-tables.tables) one.2.described (c.in_ok-tables.ensures.reads.told fs (c.in_ok-job.ensures.only_read.files ∙ told)) in
+    let one = ok_and (λ settled. IsSettledOf settled c.in_ok-job.job) (settled_of purpose.Intervals fs c.args.name.now) (c.in_ok-job.ensures.looked.told fs told) in
+    let are = subst (λ (d : DescribedJob). tables_of fs d.job ≡ Ok c.in_ok-tables.tables) one.2.described (c.in_ok-tables.ensures.told fs (c.in_ok-job.ensures.looked.only_read.files ∙ told)) in
     rw (shelved_is fs c.args.name.now c.args.out.now one.0 c.in_ok-tables.tables one.1
     (out_same c.args.name.now c.args.out.now c.in_ok-job.job.described one.0.inputs.described _ c.in_ok-check_out.ensures one.2.described) are)
     (record { settled = one.2; tables = refl })

@@ -16,7 +16,7 @@ pub returns-in_err-settled-clause-told : goal.returns-in_err-settled-clause-told
 returns-in_err-settled-clause-told g c =
     λ fs told.
     let p = err_from_is_err_and c.from_residual.result c.from_residual.ensures.1 in
-    rw (p.1, p.2) (inputs-meet c.in_err-settled.field-0.0 fs c.args.name.now (c.in_err-settled.ensures.told fs told))
+    rw (p.1, p.2) (inputs-meet c.in_err-settled.field-0.0 fs c.args.name.now (c.in_err-settled.ensures.looked.told fs told))
 
 pub returns-in_err-settled-clause-left : goal.returns-in_err-settled-clause-left
 returns-in_err-settled-clause-left g c =
@@ -32,20 +32,20 @@ returns-in_err-settled-clause-untouched g c =
 pub returns-in_err-settled-clause-cause : goal.returns-in_err-settled-clause-cause
 returns-in_err-settled-clause-cause g c =
     let p = err_from_is_err_and c.from_residual.result c.from_residual.ensures.1 in
-    rw (p.1, p.2) (inputs-cause c.in_err-settled.field-0.0 _ _ _ c.in_err-settled.ensures.cause)
+    rw (p.1, p.2) (inputs-cause c.in_err-settled.field-0.0 _ _ _ c.in_err-settled.ensures.looked.cause)
 
 pub returns-in_err-settled-clause-came_to : goal.returns-in_err-settled-clause-came_to
 returns-in_err-settled-clause-came_to g c =
     λ fs told.
     let p = err_from_is_err_and c.from_residual.result c.from_residual.ensures.1 in
-    rw (p.1, p.2) (inputs-come c.in_err-settled.field-0.0 _ fs (g.S.Shelf.state c.read_settled.new.shelf) (c.in_err-settled.ensures.came_to fs told))
+    rw (p.1, p.2) (inputs-come c.in_err-settled.field-0.0 _ fs (g.S.Shelf.state c.read_settled.new.shelf) (c.in_err-settled.ensures.looked.came_to fs told))
 
 -- ---- the release
 
 pub release_for-requires : goal.release_for-requires
 release_for-requires g c =
     let some = c.in_ok-settled.ensures.settled in
-    record { ready = c.in_ok-settled.ensures.ready; inputs = record { settled = some.0; is_of = some.1; sound = some.2 } }
+    record { ready = c.in_ok-settled.ensures.looked.sound; inputs = record { settled = some.0; is_of = some.1; sound = some.2 } }
 
 -- ---- what stopped the release
 
@@ -53,7 +53,7 @@ pub returns-in_err-release-clause-told : goal.returns-in_err-release-clause-told
 returns-in_err-release-clause-told g c =
     λ fs told.
     let p = err_from_is_err_and c.from_residual-in_err-release.result c.from_residual-in_err-release.ensures.1 in
-    let read = ok-and (λ s. IsSettledOf s c.in_ok-settled.settled) (settled_of purpose.Release fs c.args.name.now) (c.in_ok-settled.ensures.told fs told) in
+    let read = ok-and (λ s. IsSettledOf s c.in_ok-settled.settled) (settled_of purpose.Release fs c.args.name.now) (c.in_ok-settled.ensures.looked.told fs told) in
     rw (p.1, p.2) (stop-meets c.in_err-release.field-0.0 fs c.args.name.now read.0
     read.1 (c.in_err-release.ensures.comes read.0 read.2))
 
@@ -93,14 +93,14 @@ pub returns-in_err-put_files-clause-told : goal.returns-in_err-put_files-clause-
 returns-in_err-put_files-clause-told g c =
     λ fs told.
     let p = err_from_is_err_and c.from_residual-in_err-put_files.result c.from_residual-in_err-put_files.ensures.1 in
-    let read = ok-and (λ s. IsSettledOf s c.in_ok-settled.settled) (settled_of purpose.Release fs c.args.name.now) (c.in_ok-settled.ensures.told fs told) in
+    let read = ok-and (λ s. IsSettledOf s c.in_ok-settled.settled) (settled_of purpose.Release fs c.args.name.now) (c.in_ok-settled.ensures.looked.told fs told) in
     rw (p.1, p.2) (puts-meet c.in_err-put_files.field-0.0 _ read.0 read.1)
 
 pub returns-in_err-put_files-clause-left : goal.returns-in_err-put_files-clause-left
 returns-in_err-put_files-clause-left g c =
     λ fs told.
     let p = err_from_is_err_and c.from_residual-in_err-put_files.result c.from_residual-in_err-put_files.ensures.1 in
-    let read = ok-and (λ s. IsSettledOf s c.in_ok-settled.settled) (settled_of purpose.Release fs c.args.name.now) (c.in_ok-settled.ensures.told fs told) in
+    let read = ok-and (λ s. IsSettledOf s c.in_ok-settled.settled) (settled_of purpose.Release fs c.args.name.now) (c.in_ok-settled.ensures.looked.told fs told) in
     rw (p.1, p.2)
     (puts-leave c.in_err-put_files.field-0.0 _ read.0 c.in_ok-release.release _ _ read.1
     (c.in_ok-release.ensures.comes read.0 read.2)
@@ -128,7 +128,7 @@ returns-in_err-put_files-clause-came_to g c =
 pub returns-clause-told : goal.returns-clause-told
 returns-clause-told g c =
     λ fs told.
-    let read = ok-and (λ s. IsSettledOf s c.in_ok-settled.settled) (settled_of purpose.Release fs c.args.name.now) (c.in_ok-settled.ensures.told fs told) in
+    let read = ok-and (λ s. IsSettledOf s c.in_ok-settled.settled) (settled_of purpose.Release fs c.args.name.now) (c.in_ok-settled.ensures.looked.told fs told) in
     rw read.1 refl
 
 pub returns-clause-left : goal.returns-clause-left
@@ -137,7 +137,7 @@ returns-clause-left g c = λ fs told. tt
 pub returns-clause-two_to_nine_puts : goal.returns-clause-two_to_nine_puts
 returns-clause-two_to_nine_puts g c =
     let puts = c.in_ok-release.release.puts in
-    let job = c.in_ok-settled.ensures.ready.sound.job in
+    let job = c.in_ok-settled.ensures.looked.sound.sound.job in
     let many : length puts ≡ 1 + length c.in_ok-settled.settled.described.job.tables = c.in_ok-release.ensures.one_more_than_tables in
     let whole = subst (λ (puts : List FilePut). AllWhole puts (g.T.Tray.state c.args.tray.now) (g.T.Tray.state c.put_files.new.tray)) c.as_slice.ensures c.in_ok-put_files.ensures.has_put_all in (
       length puts,
@@ -149,7 +149,7 @@ returns-clause-two_to_nine_puts g c =
 pub returns-clause-released : goal.returns-clause-released
 returns-clause-released g c =
     λ fs told.
-    let read = ok-and (λ s. IsSettledOf s c.in_ok-settled.settled) (settled_of purpose.Release fs c.args.name.now) (c.in_ok-settled.ensures.told fs told) in
+    let read = ok-and (λ s. IsSettledOf s c.in_ok-settled.settled) (settled_of purpose.Release fs c.args.name.now) (c.in_ok-settled.ensures.looked.told fs told) in
     let whole = subst (λ (puts : List FilePut). AllWhole puts (g.T.Tray.state c.args.tray.now) (g.T.Tray.state c.put_files.new.tray)) c.as_slice.ensures c.in_ok-put_files.ensures.has_put_all in
     release-is fs c.args.name.now read.0 c.in_ok-release.release _ _ read.1
     (c.in_ok-release.ensures.comes read.0 read.2) whole
