@@ -1,4 +1,4 @@
-ghost use Rattle.std.specs.Prelude.{◌≡◌, ◌≤◌, true, length, All};
+ghost use Rattle.std.specs.Prelude.{◌≡◌, ◌≤◌, true, length};
 ghost use Rattle.apriori.specs.CellLevels.{HasLevelsInRange};
 ghost use Rattle.cost_rule.specs.Costs.{AreCosted};
 ghost use Rattle.cell_protection.specs.Protections.{AreNarrow, HasText};
@@ -15,6 +15,7 @@ use std::alloc::Global;
 use std::rt::HostRuntime;
 use std::test::Fail;
 use worked::{pairs, places, text};
+use worked_cells::{bounded_cell, cell_of, set_truth};
 
 // A cell of a job: its truth, its kind, and the level to both sides of a primary one.
 type Row = (u32, Kind, u8);
@@ -42,66 +43,12 @@ const INDUSTRIES: [Row; 6] = [
     (42, Kind::Primary, 3),
 ];
 
-// A cell of a kind, with these levels where it is primary.
-fn cell_of(row: Row) -> Cell {
-    let (truth, kind, level) = row;
-    let truth = i128::from(truth);
-    match kind {
-        Kind::Primary => Cell {
-            truth,
-            low: 0,
-            high: None,
-            up: i128::from(level.max(1)),
-            down: truth.min(i128::from(level)),
-            kind: Kind::Primary,
-            price: None,
-        },
-        Kind::Free => Cell {
-            truth,
-            low: 0,
-            high: None,
-            up: 0,
-            down: 0,
-            kind: Kind::Free,
-            price: None,
-        },
-        Kind::Fixed => Cell {
-            truth,
-            low: 0,
-            high: None,
-            up: 0,
-            down: 0,
-            kind: Kind::Fixed,
-            price: None,
-        },
-    }
-}
-
-// An inner cell of 50 that is known to be from 48 to 52.
-fn bounded() -> Cell {
-    Cell {
-        truth: 50,
-        low: 48,
-        high: Some(52),
-        up: 0,
-        down: 0,
-        kind: Kind::Free,
-        price: None,
-    }
-}
-
 fn cells_of(alloc: Global, rows: &[Row]) -> Result<Vec<Cell>, Fail> {
     let mut cells = Vec::new(alloc);
     for row in rows {
-        cells.push(cell_of(*row))?;
+        cells.push(cell_of(row.0, row.1, row.2))?;
     }
     Ok(cells)
-}
-
-fn set_truth(book: &mut Book, cell: u32, truth: u32) {
-    if let Some(mark) = book.mark_mut(cell) {
-        mark.facts.truth = i128::from(truth);
-    }
 }
 
 fn set_truths(book: &mut Book, rows: &[Row]) {
@@ -223,10 +170,10 @@ fn two_by_two(
             Kind::Fixed => margin,
             other => other,
         };
-        cells.push(cell_of((truth, kind, level)))?;
+        cells.push(cell_of(truth, kind, level))?;
     }
     if narrow && cells.len() > 5 {
-        cells[5] = bounded();
+        cells[5] = bounded_cell();
     }
     answer(alloc, &mut book, &cells, method, limit)
 }

@@ -6,10 +6,12 @@ use code_trees::{CodeTree, flat};
 use cost_rule::{CostKind, CostRule, TellsCosts};
 use hypercube::cheapest;
 use linked_tables::{Book, BookFault, Mark};
-use sdc_base::{Cell, CellFacts, Corner, Few, Kind, Levels, Place, Subtable, Text};
+use sdc_base::{Cell, CellFacts, Corner, Kind, Levels, Subtable};
 use std::alloc::Global;
 use std::rt::HostRuntime;
 use std::test::Fail;
+use worked::{place, text};
+use worked_cells::{bounded_cell, cell_of, set_truth};
 
 // The truths of a table A by B and a table A by C, each variable with two codes.
 const LINKED: [u32; 15] = [140, 50, 90, 70, 20, 50, 70, 30, 40, 55, 85, 30, 40, 25, 45];
@@ -20,10 +22,6 @@ const CUBIC: [u32; 27] = [
     3, 11,
 ];
 
-fn text(alloc: Global, bytes: &[u8]) -> Result<Text, Fail> {
-    Ok(Text::new(Vec::from_slice(alloc, bytes)?))
-}
-
 // The total and so many other codes.
 fn tree_of(alloc: Global, codes: u8) -> Result<CodeTree, Fail> {
     let mut below = Vec::new(alloc);
@@ -31,17 +29,6 @@ fn tree_of(alloc: Global, codes: u8) -> Result<CodeTree, Fail> {
         below.push(text(alloc, &[code])?)?;
     }
     Ok(flat(alloc, below.as_slice(), &text(alloc, b"Total")?)?)
-}
-
-fn place_of(codes: &[u32]) -> Place {
-    let mut place = Few::empty();
-    for code in codes {
-        let at = place.len();
-        if at < 8 {
-            place.insert(at, *code);
-        }
-    }
-    place
 }
 
 // A book of these tables over three variables with so many codes below their totals, of which these cells are hidden.
@@ -58,7 +45,7 @@ fn book_of(
     }
     let mut spanned = Vec::new(alloc);
     for table in tables {
-        spanned.push(place_of(table))?;
+        spanned.push(place(table))?;
     }
     if trees.len() > 8 || spanned.len() > 100 {
         return Err(Fail::from(BookFault::Memory));
@@ -77,12 +64,6 @@ fn book_of(
     Ok(book)
 }
 
-fn set_truth(book: &mut Book, cell: u32, truth: u32) {
-    if let Some(mark) = book.mark_mut(cell) {
-        mark.facts.truth = i128::from(truth);
-    }
-}
-
 // A cell that may be hidden for this price, with nothing known but that it is from 0.
 fn free_cell(truth: i128, price: Option<u64>) -> Cell
     requires { pos 0 ≤ℤ truth }
@@ -98,34 +79,6 @@ fn free_cell(truth: i128, price: Option<u64>) -> Cell
     }
 }
 
-// The same of a cell that is always shown.
-fn fixed_cell(truth: i128) -> Cell
-    requires { pos 0 ≤ℤ truth }
-{
-    Cell {
-        truth,
-        low: 0,
-        high: None,
-        up: 0,
-        down: 0,
-        kind: Kind::Fixed,
-        price: None,
-    }
-}
-
-// The cell of the codes a1 and b2, where it is known to be from 48 to 52.
-fn bounded() -> Cell {
-    Cell {
-        truth: 50,
-        low: 48,
-        high: Some(52),
-        up: 0,
-        down: 0,
-        kind: Kind::Free,
-        price: None,
-    }
-}
-
 // Cells with these truths, of which these are always shown, each with this price.
 fn cells_of(
     alloc: Global,
@@ -136,7 +89,7 @@ fn cells_of(
     let mut cells = Vec::new(alloc);
     for (number, truth) in truths.iter().enumerate() {
         if fixed.iter().any(|cell| *cell as usize == number) {
-            cells.push(fixed_cell(i128::from(*truth)))?;
+            cells.push(cell_of(*truth, Kind::Fixed, 0))?;
         } else {
             cells.push(free_cell(i128::from(*truth), price))?;
         }
@@ -179,7 +132,7 @@ fn least_by<F: TellsCosts + Drop>(
     };
     let subtable = Subtable {
         table: t,
-        parents: place_of(totals),
+        parents: place(totals),
     };
     match cheapest(alloc, book, cells, &rule, &subtable, cell, levels)? {
         Some(cube) => Ok(Some(cube.corners.into_vec())),
@@ -262,7 +215,7 @@ fn is_cubic(
 fn bounded_cells(alloc: Global) -> Result<Vec<Cell>, Fail> {
     let mut cells = cells_of(alloc, &LINKED, &[], None)?;
     if cells.len() > 5 {
-        cells[5] = bounded();
+        cells[5] = bounded_cell();
     }
     Ok(cells)
 }

@@ -3,13 +3,15 @@ ghost use Rattle.cost_rule.specs.Costs.{AreCosted, IsTold};
 ghost use Rattle.cost_rule.specs.declared.kind.CostKind.TheVariants as Kinds;
 
 use cost_rule::{CostKind, CostRule, TellsCosts};
-use hierarchy::{CodeTree, flat, from_lead};
+use hierarchy::{CodeTree, from_lead};
 use linked_tables::{Book, BookFault, Mark};
 use modular_plan::plan;
-use sdc_base::{Cell, CellFacts, Few, Kind, Place, PlanStep, Text, Trail};
+use sdc_base::{Cell, CellFacts, Kind, PlanStep, Trail};
 use std::alloc::Global;
 use std::rt::HostRuntime;
 use std::test::Fail;
+use worked::{place, text, two_codes};
+use worked_cells::{bounded_cell, cell_of, set_truth};
 
 // The truths of a table A by B and a table A by C, each variable with two codes.
 const LINKED: [u32; 15] = [140, 50, 90, 70, 20, 50, 70, 30, 40, 55, 85, 30, 40, 25, 45];
@@ -19,18 +21,6 @@ const INDUSTRIES: [u32; 6] = [117, 75, 60, 15, 42, 42];
 
 // A step: the table, the parents, the cell, and the corners.
 type Step<'a> = (u32, &'a [u32], u32, &'a [u32]);
-
-fn text(alloc: Global, bytes: &[u8]) -> Result<Text, Fail> {
-    Ok(Text::new(Vec::from_slice(alloc, bytes)?))
-}
-
-// The total and two other codes.
-fn two_codes(alloc: Global) -> Result<CodeTree, Fail> {
-    let mut codes = Vec::new(alloc);
-    codes.push(text(alloc, b"1")?)?;
-    codes.push(text(alloc, b"2")?)?;
-    Ok(flat(alloc, codes.as_slice(), &text(alloc, b"Total")?)?)
-}
 
 // The total, 1 with 11 and 12 below it, and 2 with 21 below it.
 fn industries(alloc: Global) -> Result<CodeTree, Fail> {
@@ -43,17 +33,6 @@ fn industries(alloc: Global) -> Result<CodeTree, Fail> {
     Ok(from_lead(alloc, bytes, &lead, &total)?)
 }
 
-fn place_of(codes: &[u32]) -> Place {
-    let mut place = Few::empty();
-    for code in codes {
-        let at = place.len();
-        if at < 8 {
-            place.insert(at, *code);
-        }
-    }
-    place
-}
-
 // The book of tables over these trees, whose cells have these truths.
 fn book_of(
     alloc: Global,
@@ -63,7 +42,7 @@ fn book_of(
 ) -> Result<Book, Fail> {
     let mut spanned = Vec::new(alloc);
     for table in tables {
-        spanned.push(place_of(table))?;
+        spanned.push(place(table))?;
     }
     if trees.len() > 8 || spanned.len() > 100 {
         return Err(Fail::from(BookFault::Memory));
@@ -77,12 +56,6 @@ fn book_of(
     Ok(book)
 }
 
-fn set_truth(book: &mut Book, cell: u32, truth: u32) {
-    if let Some(mark) = book.mark_mut(cell) {
-        mark.facts.truth = i128::from(truth);
-    }
-}
-
 // A book of these tables over three variables with two codes each.
 fn linked(alloc: Global, tables: &[&[u32]]) -> Result<Book, Fail> {
     let mut trees = Vec::new(alloc);
@@ -90,53 +63,6 @@ fn linked(alloc: Global, tables: &[&[u32]]) -> Result<Book, Fail> {
         trees.push(two_codes(alloc)?)?;
     }
     book_of(alloc, trees, tables, &LINKED)
-}
-
-// A cell of a kind, with these levels where it is primary.
-fn cell_of(truth: u32, kind: Kind, level: u8) -> Cell {
-    let truth = i128::from(truth);
-    match kind {
-        Kind::Primary => Cell {
-            truth,
-            low: 0,
-            high: None,
-            up: i128::from(level.max(1)),
-            down: truth.min(i128::from(level)),
-            kind: Kind::Primary,
-            price: None,
-        },
-        Kind::Free => Cell {
-            truth,
-            low: 0,
-            high: None,
-            up: 0,
-            down: 0,
-            kind: Kind::Free,
-            price: None,
-        },
-        Kind::Fixed => Cell {
-            truth,
-            low: 0,
-            high: None,
-            up: 0,
-            down: 0,
-            kind: Kind::Fixed,
-            price: None,
-        },
-    }
-}
-
-// The cell of the codes a1 and b2, where it is known to be from 48 to 52.
-fn bounded() -> Cell {
-    Cell {
-        truth: 50,
-        low: 48,
-        high: Some(52),
-        up: 0,
-        down: 0,
-        kind: Kind::Free,
-        price: None,
-    }
 }
 
 // The first cells of the linked tables: cell 4 is primary with levels of 6.
@@ -261,7 +187,7 @@ fn is_trail_in(
 fn bounded_cells(alloc: Global, count: usize) -> Result<Vec<Cell>, Fail> {
     let mut cells = linked_cells(alloc, count, Kind::Free)?;
     if cells.len() > 5 {
-        cells[5] = bounded();
+        cells[5] = bounded_cell();
     }
     Ok(cells)
 }

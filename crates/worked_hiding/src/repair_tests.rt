@@ -1,7 +1,5 @@
-ghost use Rattle.std.specs.Prelude.{◌≡◌, ◌≢◌, ◌≤ℤ◌, pos, length, All, true};
-ghost use Rattle.std.specs.Option.{ForSome};
+ghost use Rattle.std.specs.Prelude.{◌≡◌, ◌≢◌, All, true};
 ghost use Rattle.sdc_base.specs.declared.cell.Kind.TheVariants.{Primary};
-ghost use Rattle.sdc_base.specs.Systems.{NamesCells};
 ghost use Rattle.cost_rule.specs.Costs.{IsTold, AreCosted};
 ghost use Rattle.sdc_base.specs.HiddenSets.{MayHide};
 ghost use Rattle.sdc_base.specs.Trails.{corners_of};
@@ -11,14 +9,15 @@ use cost_rule::{CostKind, CostRule, TellsCosts};
 use interval_audit::AskFault;
 use linked_tables::Mark;
 use repair::{Stopped, Verdict, protect};
-use sdc_base::{Cell, CellFacts, Items, Kind, Place, PlanStep, Relation, System, Tops, Trail};
+use sdc_base::{Cell, CellFacts, Items, Kind, Place, PlanStep, Relation, Tops, Trail};
 use std::alloc::Global;
 use std::rt::HostRuntime;
 use std::test::Fail;
+use worked_cells::{cell_of, shown_cell, system_of};
 use worlds::{Multipliers, Refuted, World};
 
 // A cell of a job: its truth, its kind, the level to both sides of a primary one, and bounds where they are stated.
-type Row = (u32, Kind, u32, Option<(u32, u32)>);
+type Row = (u32, Kind, u8, Option<(u32, u32)>);
 
 // What is to be protected: cells, relations, and the corners of one step of the trail, none where there is no step.
 #[derive(Clone, Copy)]
@@ -54,68 +53,12 @@ fn inner_and_margins(margin: Kind, bounds: Option<(u32, u32)>) -> [Row; 9] {
     ]
 }
 
-// Whether a relation names cells below a number.
-fn is_named(relation: &Relation, cells: u32) -> bool
-    ensures { result ≡ true → NamesCells cells relation.now }
-{
-    if relation.total >= cells || relation.parts.as_slice().len() > 1000 {
-        return false;
-    }
-    relation.parts.as_slice().iter().all(|part| *part < cells)
-}
-
-fn system_of(alloc: Global, job: Job<'_>) -> Result<Option<System>, Fail> {
-    if job.rows.len() > 1000 {
-        return Ok(None);
-    }
-    let cells = job.rows.len() as u32;
-    let mut relations = Vec::new(alloc);
-    for (total, parts) in job.relations {
-        let parts = Items::new(parts.to_vec(alloc)?);
-        if parts.as_slice().len() > 1000 {
-            return Ok(None);
-        }
-        relations.push(Relation {
-            total: *total,
-            parts,
-        })?;
-    }
-    if relations.len() > 1000 || !relations.iter().all(|relation| is_named(relation, cells)) {
-        return Ok(None);
-    }
-    Ok(Some(System {
-        cells,
-        relations: Items::new(relations),
-    }))
-}
-
-fn cell_of(row: Row) -> Cell {
+fn cell_in(row: Row) -> Cell {
     let (truth, kind, level, bounds) = row;
     match kind {
-        Kind::Primary => {
-            let up = i128::from(level.max(1));
-            let down = if truth < level { truth } else { level };
-            primary_cell(i128::from(truth), up, i128::from(down))
-        }
+        Kind::Primary => cell_of(truth, Kind::Primary, level),
         Kind::Free => bounded_cell(truth, bounds, Kind::Free),
         Kind::Fixed => bounded_cell(truth, bounds, Kind::Fixed),
-    }
-}
-
-// A primary cell with these levels.
-fn primary_cell(truth: i128, up: i128, down: i128) -> Cell
-    requires up { pos 1 ≤ℤ up }
-    requires down { pos 0 ≤ℤ down }
-    requires within { down ≤ℤ truth }
-{
-    Cell {
-        truth,
-        low: 0,
-        high: None,
-        up,
-        down,
-        kind: Kind::Primary,
-        price: None,
     }
 }
 
@@ -137,27 +80,10 @@ fn bounded_cell(truth: u32, bounds: Option<(u32, u32)>, kind: Kind) -> Cell
     )
 }
 
-fn shown_cell(truth: i128, low: i128, high: Option<i128>, kind: Kind) -> Cell
-    requires low { pos 0 ≤ℤ low }
-    requires within { low ≤ℤ truth }
-    requires high { ForSome high (λ bound. truth ≤ℤ bound) }
-    requires kind { kind ≢ Primary }
-{
-    Cell {
-        truth,
-        low,
-        high,
-        up: 0,
-        down: 0,
-        kind,
-        price: None,
-    }
-}
-
 fn cells_of(alloc: Global, job: Job<'_>) -> Result<Vec<Cell>, Fail> {
     let mut cells = Vec::new(alloc);
     for row in job.rows {
-        cells.push(cell_of(*row))?;
+        cells.push(cell_in(*row))?;
     }
     Ok(cells)
 }
@@ -245,7 +171,7 @@ fn protect_by<F: TellsCosts + Drop>(
     requires { IsTold F.may_ask F.may_say f CostKind.Value }
 {
     let rule = CostRule::new(CostKind::Value, f);
-    let Some(system) = system_of(alloc, job)? else {
+    let Some(system) = system_of(alloc, job.rows.len(), job.relations)? else {
         return Ok(None);
     };
     let cells = cells_of(alloc, job)?;

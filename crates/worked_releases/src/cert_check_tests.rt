@@ -1,4 +1,4 @@
-ghost use Rattle.std.specs.Prelude.{◌≡◌, ◌<◌, ◌+◌, ◌≤ℤ◌, ℕ, [], true, length, map, slice_index_or, All, pos};
+ghost use Rattle.std.specs.Prelude.{◌≡◌, ◌<◌, ◌+◌, ℕ, [], true, length, map, slice_index_or, All};
 ghost use Rattle.sdc_base.specs.Trails.{corners_of};
 ghost use Rattle.cert_check.specs.Cases.{IsCase};
 
@@ -12,6 +12,7 @@ use std::process::Abort;
 use std::rt::HostRuntime;
 use std::test::Fail;
 use worked::{pairs, place, places, texts};
+use worked_cells::{cell_of, set_truth};
 use worlds::{RefutationFault, WorldFault};
 
 // A cell of a job: its truth and its kind.
@@ -59,54 +60,17 @@ const REPAIRED: &str =
 
 const ROUNDING: &str = "argus certificate 1\nmethod RND 5\ncells 9\nrelations 6\nend\n";
 
-// A cell of a kind, with levels of 6 where it is primary.
-fn cell_of(row: Row) -> Cell {
-    let (truth, kind) = row;
-    let truth = i128::from(truth);
-    match kind {
-        Kind::Primary => Cell {
-            truth,
-            low: 0,
-            high: None,
-            up: 6,
-            down: truth.min(6),
-            kind: Kind::Primary,
-            price: None,
-        },
-        Kind::Free => Cell {
-            truth,
-            low: 0,
-            high: None,
-            up: 0,
-            down: 0,
-            kind: Kind::Free,
-            price: None,
-        },
-        Kind::Fixed => Cell {
-            truth,
-            low: 0,
-            high: None,
-            up: 0,
-            down: 0,
-            kind: Kind::Fixed,
-            price: None,
-        },
-    }
-}
-
 fn cells_of(alloc: Global, rows: &[Row]) -> Result<Vec<Cell>, Fail> {
     let mut cells = Vec::new(alloc);
     for row in rows {
-        cells.push(cell_of(*row))?;
+        cells.push(cell_of(row.0, row.1, 6))?;
     }
     Ok(cells)
 }
 
 fn set_truths(book: &mut Book, rows: &[Row]) {
     for (cell, (truth, _)) in rows.iter().enumerate() {
-        if let Some(mark) = book.mark_mut(cell.min(100) as u32) {
-            mark.facts.truth = i128::from(*truth);
-        }
+        set_truth(book, cell.min(100) as u32, *truth);
     }
 }
 

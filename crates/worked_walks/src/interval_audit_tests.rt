@@ -1,12 +1,11 @@
-ghost use Rattle.std.specs.Prelude.{◌≡◌, ◌≤◌, ◌<◌, ◌≤ℤ◌, ◌^◌, length, All, true, pos};
-ghost use Rattle.std.specs.Option.{ForSome};
-ghost use Rattle.sdc_base.specs.Systems.{NamesCells};
+ghost use Rattle.std.specs.Prelude.{◌<◌, true};
 
 use interval_audit::{Answer, AskFault, Question, TwoEnds, ask, interval};
-use sdc_base::{Cell, Hidden, Items, Kind, Relation, Side, System};
+use sdc_base::{Cell, Hidden, Side, System};
 use std::alloc::Global;
 use std::rt::HostRuntime;
 use std::test::Fail;
+use worked_cells::{cell_within, hidden_of, system_of};
 use worlds::{Multipliers, World};
 
 // A table of two variables with two codes each: the total, the codes of the first variable's total, and so on.
@@ -30,78 +29,6 @@ struct Case {
     hidden: Hidden,
 }
 
-// Whether a relation names cells below a number.
-fn is_named(relation: &Relation, cells: u32) -> bool
-    ensures { result ≡ true → NamesCells cells relation.now }
-{
-    if relation.total >= cells {
-        return false;
-    }
-    relation.parts.as_slice().iter().all(|part| *part < cells)
-}
-
-// A system of so many cells; none where a relation names another.
-fn system_of(cells: u32, relations: Vec<Relation>) -> Option<System> {
-    if relations.len() > 10 {
-        return None;
-    }
-    if !relations.iter().all(|relation| is_named(relation, cells)) {
-        return None;
-    }
-    let relations = Items::new(relations);
-    Some(System { cells, relations })
-}
-
-// The relation that a cell is the sum of others.
-fn relation_of(alloc: Global, total: u32, parts: &[u32]) -> Result<Option<Relation>, Fail> {
-    let parts = Items::new(Vec::from_slice(alloc, parts)?);
-    if parts.as_slice().len() > 2000 {
-        return Ok(None);
-    }
-    Ok(Some(Relation { total, parts }))
-}
-
-// A free cell; none where its truth is outside its bounds.
-fn cell_of(truth: i128, low: i128, high: Option<i128>) -> Option<Cell> {
-    if low < 0 || truth < low {
-        return None;
-    }
-    match high {
-        Some(high) if high < truth => None,
-        Some(high) => Some(free_cell(truth, low, Some(high))),
-        None => Some(free_cell(truth, low, None)),
-    }
-}
-
-fn free_cell(truth: i128, low: i128, high: Option<i128>) -> Cell
-    requires low { pos 0 ≤ℤ low }
-    requires within { low ≤ℤ truth }
-    requires high { ForSome high (λ bound. truth ≤ℤ bound) }
-{
-    Cell {
-        truth,
-        low,
-        high,
-        up: 0,
-        down: 0,
-        kind: Kind::Free,
-        price: None,
-    }
-}
-
-// Which of so many cells are hidden.
-fn hidden_of(alloc: Global, count: usize, cells: &[u32]) -> Result<Hidden, Fail> {
-    let mut flags = vec![in alloc; false; count]?;
-    for cell in cells {
-        if (*cell as usize) < flags.len() {
-            flags[*cell as usize] = true;
-        }
-    }
-    Ok(Hidden {
-        flags: Items::new(flags),
-    })
-}
-
 // A case of relations and of truths, with the bounds of one cell.
 fn case_of(
     alloc: Global,
@@ -110,30 +37,20 @@ fn case_of(
     bounded: (u32, i128, i128),
     hidden: &[u32],
 ) -> Result<Option<Case>, Fail> {
-    let mut all = Vec::new(alloc);
-    for (total, parts) in relations {
-        let Some(relation) = relation_of(alloc, *total, parts)? else {
-            return Ok(None);
-        };
-        all.push(relation)?;
-    }
     let mut cells = Vec::new(alloc);
     for (number, truth) in truths.iter().enumerate() {
         let made = if number == bounded.0 as usize {
-            cell_of(*truth, bounded.1, Some(bounded.2))
+            cell_within(*truth, bounded.1, Some(bounded.2))
         } else {
-            cell_of(*truth, 0, None)
+            cell_within(*truth, 0, None)
         };
         let Some(cell) = made else {
             return Ok(None);
         };
         cells.push(cell)?;
     }
-    if cells.len() > 5000 {
-        return Ok(None);
-    }
     let count = cells.len();
-    let Some(system) = system_of(count as u32, all) else {
+    let Some(system) = system_of(alloc, count, relations)? else {
         return Ok(None);
     };
     let hidden = hidden_of(alloc, count, hidden)?;

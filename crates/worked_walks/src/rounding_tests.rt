@@ -4,10 +4,11 @@ ghost use Rattle.sdc_base.specs.Roundings.{number_at};
 ghost use Rattle.rounding.specs.Tasks.{IsProper, IsTruth};
 
 use rounding::{RoundFault, round};
-use sdc_base::{Items, Relation, System};
+use sdc_base::{Relation, System};
 use std::alloc::Global;
 use std::rt::HostRuntime;
 use std::test::Fail;
+use worked_cells::system_of;
 
 // Relations, each a total and its parts, and a truth for each cell.
 #[derive(Clone, Copy)]
@@ -95,39 +96,8 @@ const ODD_CYCLE: Table<'static> = Table {
     ],
 };
 
-// Whether a relation names cells below a number.
-fn is_named(relation: &Relation, cells: u32) -> bool
-    ensures { result ≡ true → NamesCells cells relation.now }
-{
-    if relation.total >= cells {
-        return false;
-    }
-    relation.parts.as_slice().iter().all(|part| *part < cells)
-}
-
-fn system_of(alloc: Global, table: Table<'_>) -> Result<Option<System>, Fail> {
-    if table.truths.len() > 1000 {
-        return Ok(None);
-    }
-    let cells = table.truths.len() as u32;
-    let mut relations = Vec::new(alloc);
-    for (total, parts) in table.relations {
-        let parts = Items::new(parts.to_vec(alloc)?);
-        if parts.as_slice().len() > 1000 {
-            return Ok(None);
-        }
-        relations.push(Relation {
-            total: *total,
-            parts,
-        })?;
-    }
-    if relations.len() > 1000 || !relations.iter().all(|relation| is_named(relation, cells)) {
-        return Ok(None);
-    }
-    Ok(Some(System {
-        cells,
-        relations: Items::new(relations),
-    }))
+fn system_in(alloc: Global, table: Table<'_>) -> Result<Option<System>, Fail> {
+    Ok(system_of(alloc, table.truths.len(), table.relations)?)
 }
 
 // Whether a relation holds on numbers, by a sum within 128 bits.
@@ -239,7 +209,7 @@ fn tables_with_roundings(rt: HostRuntime) -> Result<(), Fail> {
         (TWO_BY_TWO, 1, 2),
         (GREATEST, 10_000_000_000_000_000_000_000, 8),
     ] {
-        let Some(system) = system_of(alloc, table)? else {
+        let Some(system) = system_in(alloc, table)? else {
             assert!(rt; false, "no system");
             return Ok(());
         };
@@ -260,7 +230,7 @@ fn tables_with_roundings(rt: HostRuntime) -> Result<(), Fail> {
 #[test]
 fn ones_go_round_once(rt: HostRuntime) -> Result<(), Fail> {
     let alloc = rt.alloc();
-    let Some(system) = system_of(alloc, ONES)? else {
+    let Some(system) = system_in(alloc, ONES)? else {
         assert!(rt; false, "no system");
         return Ok(());
     };
@@ -276,7 +246,7 @@ fn ones_go_round_once(rt: HostRuntime) -> Result<(), Fail> {
 // Each cell at its nearest multiple of 5: the first row has 5, and 5 and 5 in it.
 #[test]
 fn nearest_multiples_are_none(rt: HostRuntime) -> Result<(), Fail> {
-    let Some(system) = system_of(rt.alloc(), TWO_BY_TWO)? else {
+    let Some(system) = system_in(rt.alloc(), TWO_BY_TWO)? else {
         assert!(rt; false, "no system");
         return Ok(());
     };
@@ -290,7 +260,7 @@ fn nearest_multiples_are_none(rt: HostRuntime) -> Result<(), Fail> {
 #[test]
 fn odd_cycle_has_none(rt: HostRuntime) -> Result<(), Fail> {
     let alloc = rt.alloc();
-    let Some(system) = system_of(alloc, ODD_CYCLE)? else {
+    let Some(system) = system_in(alloc, ODD_CYCLE)? else {
         assert!(rt; false, "no system");
         return Ok(());
     };

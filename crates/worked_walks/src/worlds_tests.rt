@@ -1,25 +1,24 @@
-ghost use Rattle.std.specs.Prelude.{◌≡◌, ◌≢◌, ◌<◌, ◌≤◌, ◌≤ℤ◌, ◌^◌, length, All, true, pos};
-ghost use Rattle.std.specs.Option.{ForSome};
+ghost use Rattle.std.specs.Prelude.{◌<◌, true};
 ghost use Rattle.sdc_base.specs.declared.cell.Kind.TheVariants.{Primary};
-ghost use Rattle.sdc_base.specs.Systems.{NamesCells};
 
-use sdc_base::{Cell, Hidden, Items, Kind, Relation, Side, System};
+use sdc_base::{Cell, Items, Kind, Relation, Side};
 use std::alloc::Global;
 use std::rt::HostRuntime;
 use std::test::Fail;
+use worked_cells::{cell_of, hidden_of, shown_cell, system_of};
 use worlds::{
     Move, Multipliers, ProtectFault, Protected, RefutationFault, World, WorldFault, bound_sum,
     check_refutation, check_world, reaches,
 };
 
 // The relations of a table of two variables with two codes each.
-const RELATIONS: [(u32, [u32; 2]); 6] = [
-    (0, [3, 6]),
-    (0, [1, 2]),
-    (1, [4, 7]),
-    (2, [5, 8]),
-    (3, [4, 5]),
-    (6, [7, 8]),
+const RELATIONS: [(u32, &[u32]); 6] = [
+    (0, &[3, 6]),
+    (0, &[1, 2]),
+    (1, &[4, 7]),
+    (2, &[5, 8]),
+    (3, &[4, 5]),
+    (6, &[7, 8]),
 ];
 
 // Its truths, the margins fixed and the cell of the first codes primary.
@@ -35,78 +34,11 @@ const TRUTHS: [(u32, Kind); 9] = [
     (40, Kind::Free),
 ];
 
-// Whether a relation names cells below a number.
-fn is_named(relation: &Relation, cells: u32) -> bool
-    ensures { result ≡ true → NamesCells cells relation.now }
-{
-    if relation.total >= cells {
-        return false;
-    }
-    relation.parts.as_slice().iter().all(|part| *part < cells)
-}
-
-fn system_of(alloc: Global) -> Result<Option<System>, Fail> {
-    let mut relations = Vec::new(alloc);
-    for (total, parts) in RELATIONS {
-        let parts = Items::new(Vec::from_slice(alloc, &parts)?);
-        if parts.as_slice().len() > 2 {
-            return Ok(None);
-        }
-        relations.push(Relation { total, parts })?;
-    }
-    if relations.len() > 6 {
-        return Ok(None);
-    }
-    if !relations.iter().all(|relation| is_named(relation, 9)) {
-        return Ok(None);
-    }
-    let relations = Items::new(relations);
-    Ok(Some(System {
-        cells: 9,
-        relations,
-    }))
-}
-
-// A cell of a kind, with levels of 6 where it is primary.
-fn cell_of(truth: u32, kind: Kind) -> Cell {
-    let truth = i128::from(truth);
-    match kind {
-        Kind::Primary => Cell {
-            truth,
-            low: 0,
-            high: None,
-            up: 6,
-            down: truth.min(6),
-            kind: Kind::Primary,
-            price: None,
-        },
-        Kind::Free => shown_cell(truth, 0, None, Kind::Free),
-        Kind::Fixed => shown_cell(truth, 0, None, Kind::Fixed),
-    }
-}
-
-fn shown_cell(truth: i128, low: i128, high: Option<i128>, kind: Kind) -> Cell
-    requires low { pos 0 ≤ℤ low }
-    requires within { low ≤ℤ truth }
-    requires high { ForSome high (λ bound. truth ≤ℤ bound) }
-    requires kind { kind ≢ Primary }
-{
-    Cell {
-        truth,
-        low,
-        high,
-        up: 0,
-        down: 0,
-        kind,
-        price: None,
-    }
-}
-
 // The cells; where bounds are stated, the cell of the first and the second code has them.
 fn cells_of(alloc: Global, bounds: Option<(i128, i128)>) -> Result<Vec<Cell>, Fail> {
     let mut cells = Vec::new(alloc);
     for (truth, kind) in TRUTHS {
-        cells.push(cell_of(truth, kind))?;
+        cells.push(cell_of(truth, kind, 6))?;
     }
     if let Some((low, high)) = bounds {
         if 0 <= low && low <= 50 && 50 <= high && cells.len() > 5 {
@@ -114,18 +46,6 @@ fn cells_of(alloc: Global, bounds: Option<(i128, i128)>) -> Result<Vec<Cell>, Fa
         }
     }
     Ok(cells)
-}
-
-fn hidden_of(alloc: Global, cells: &[u32]) -> Result<Hidden, Fail> {
-    let mut flags = vec![in alloc; false; 9]?;
-    for cell in cells {
-        if (*cell as usize) < flags.len() {
-            flags[*cell as usize] = true;
-        }
-    }
-    Ok(Hidden {
-        flags: Items::new(flags),
-    })
 }
 
 fn world_of(alloc: Global, den: i128, moves: &[(u32, i128)]) -> Result<World, Fail> {
@@ -148,11 +68,11 @@ fn world_fault(
     den: i128,
     moves: &[(u32, i128)],
 ) -> Result<Option<Result<(), WorldFault>>, Fail> {
-    let Some(system) = system_of(alloc)? else {
+    let Some(system) = system_of(alloc, 9, &RELATIONS)? else {
         return Ok(None);
     };
     let cells = cells_of(alloc, None)?;
-    let hidden = hidden_of(alloc, &[4, 5, 7, 8])?;
+    let hidden = hidden_of(alloc, 9, &[4, 5, 7, 8])?;
     let world = world_of(alloc, den, moves)?;
     let mut scratch = vec![in alloc; 0i128; 9]?;
     let size = system.cells as usize;
@@ -205,11 +125,11 @@ fn refutation_fault(
     den: i128,
     by_relation: &[(u32, i128)],
 ) -> Result<Option<(Result<i128, RefutationFault>, Result<(), RefutationFault>)>, Fail> {
-    let Some(system) = system_of(alloc)? else {
+    let Some(system) = system_of(alloc, 9, &RELATIONS)? else {
         return Ok(None);
     };
     let cells = cells_of(alloc, bounds)?;
-    let hidden = hidden_of(alloc, &[4, 5])?;
+    let hidden = hidden_of(alloc, 9, &[4, 5])?;
     let multipliers = Multipliers {
         den,
         by_relation: Items::new(Vec::from_slice(alloc, by_relation)?),
@@ -297,11 +217,11 @@ fn protected_by(
     hidden: &[u32],
     worlds: &[[(u32, i128); 4]],
 ) -> Result<Option<Result<usize, ProtectFault>>, Fail> {
-    let Some(system) = system_of(alloc)? else {
+    let Some(system) = system_of(alloc, 9, &RELATIONS)? else {
         return Ok(None);
     };
     let cells = cells_of(alloc, None)?;
-    let hidden = hidden_of(alloc, hidden)?;
+    let hidden = hidden_of(alloc, 9, hidden)?;
     let mut all = Vec::new(alloc);
     for moves in worlds {
         all.push(world_of(alloc, 1, moves)?)?;
@@ -371,7 +291,7 @@ fn protected_two_by_two(rt: HostRuntime) -> Result<(), Fail> {
 fn levels_reached(rt: HostRuntime) -> Result<(), Fail> {
     use Side::{Above, Below};
     let alloc = rt.alloc();
-    let cell = cell_of(20, Kind::Primary);
+    let cell = cell_of(20, Kind::Primary, 6);
     for (side, den, by, wanted) in [
         (Above, 1, 6, true),
         (Above, 1, 5, false),

@@ -1,7 +1,7 @@
 use Rattle.std.proofs.Common.{◌≡◌, ◌≤ℤ◌, pos, refl, sym, subst, to_z, of_z, arith}
 use Rattle.std.specs.Int.{w128}
 use Rattle.std.proofs.lemmas.Int.{ints, to_z-of_z}
-use Rattle.worked_hiding.proofs.repair_tests.primary_cell.Goals as goal
+use Rattle.worked_cells.proofs.cells.primary_cell.Goals as goal
 
 pub invariant_of-result : goal.invariant_of-result
 invariant_of-result c =

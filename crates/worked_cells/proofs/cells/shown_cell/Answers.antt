@@ -1,7 +1,7 @@
 use Rattle.std.proofs.Common.{◌≡◌, ◌≤ℤ◌, pos, refl, sym, subst, to_z, of_z, arith}
 use Rattle.std.specs.Int.{w128}
 use Rattle.std.proofs.lemmas.Int.{ints, to_z-of_z}
-use Rattle.worked_walks.proofs.cell_intervals_tests.free_cell.Goals as goal
+use Rattle.worked_cells.proofs.cells.shown_cell.Goals as goal
 
 pub invariant_of-result : goal.invariant_of-result
 invariant_of-result c =
@@ -13,7 +13,7 @@ invariant_of-result c =
       high_beyond = λ x is. subst (λ z. z ≤ℤ x) (sym truth) (c.requires.high x is);
       down_from_zero = omega (arith, ints);
       down_within = subst (λ z. pos 0 ≤ℤ z) (sym truth) (omega (arith, ints, c.requires.low, c.requires.within));
-      primary = λ is. absurd cc;
+      primary = λ is. absurd (c.requires.kind is);
       other_up = λ _. refl;
       other_down = λ _. refl;
     }
