@@ -35,7 +35,7 @@ pub struct Prior {
 
 /// So many priors that state nothing, one for each cell of a book.
 ///
-/// `Memory` is the only refusal. The cost is that of the list.
+/// `Memory` is the only refusal. The cost is that of the list. That nothing is stated by default is argus's own.
 pub fn blank_priors(alloc: Global, cells: u32) -> Result<Vec<Prior>, Memory>
     ensures blank { IfOk result (λ priors. priors.items ≡ replicate cells spec.empty_prior) }
     ensures fit { IfOk result (λ priors. (marks : List Mark) → length marks ≡ cells → ArePriors marks priors.items) }

@@ -4,7 +4,7 @@ ghost use Rattle.cell_protection.specs.Certifying.{hidden_numbers, world_line, w
 
 use certificate::{Certificate, WorldLine};
 use repair::questions_of;
-use sdc_base::{Cell, Items, Memory, Method, Side, System, Trail};
+use sdc_base::{Cell, Items, Memory, Method, Side, System, Trail, is_hidden};
 use std::alloc::Global;
 use worlds::{Protected, Refuted, World};
 
@@ -56,20 +56,10 @@ fn add_hidden(numbers: &mut Items<u32>, flags: &[bool], cell: u32) -> Result<(),
     ensures { OnOk result (numbers.new ≡
         (if sets.is_hidden flags.now cell then numbers.old ++ cell ∷ [] else numbers.old)) }
 {
-    if is_hidden(flags, cell) {
+    if is_hidden(flags, cell as usize) {
         numbers.push(cell)?;
     }
     Ok(())
-}
-
-// Whether a cell is hidden; where it has no flag it isn't.
-fn is_hidden(flags: &[bool], cell: u32) -> bool
-    ensures { result ≡ sets.is_hidden flags.now cell }
-{
-    match flags.get(cell as usize) {
-        Some(flag) => *flag,
-        None => false,
-    }
 }
 
 // The lines of complete tables, each with the question for which it stands.

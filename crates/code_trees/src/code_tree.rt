@@ -150,7 +150,10 @@ fn links_of(nodes: &Nodes, firsts: &mut Vec<Option<u32>>, nexts: &mut Vec<Option
 }
 
 impl CodeTree {
-    /// The tree of nodes. It keeps the depth, the first child and the next sibling of each, in two passes.
+    /// The tree of nodes, which have the total in front, stand in preorder, and are within the limits of a tree.
+    ///
+    /// It keeps the depth, the first child and the next sibling of each, in two passes. Its one refusal is want of
+    /// memory, and what was given is let go then. Trees are the manual's, the limits argus's own.
     pub fn of_nodes(alloc: Global, nodes: Nodes) -> Result<CodeTree, AllocError>
         requires { IsCodeTree nodes }
         ensures { IfOk result (λ tree. tree ≡ nodes) }

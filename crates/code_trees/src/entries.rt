@@ -5,8 +5,8 @@ use indexmap::IndexMap;
 use std::alloc::{AllocError, Global};
 use std::marker::Model;
 
-/// Nodes with their codes and parents, in the order in which they were added. A code is found by one look-up,
-/// and none stands twice.
+/// Nodes with their codes and parents, in the order in which they were added: a tree while it grows. A code is found
+/// by one look-up, and none stands twice. Trees are the manual's.
 #[derive(Drop)]
 pub struct Nodes {
     map: IndexMap<Vec<u8>, Option<u32>>,

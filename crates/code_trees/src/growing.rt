@@ -10,7 +10,9 @@ use std::alloc::{AllocError, Global};
 // The most codes besides the total.
 const MOST: usize = 5000;
 
-/// The total alone, without a parent.
+/// The total alone, without a parent: the codes that a tree begins with.
+///
+/// `Memory` is the only refusal. The code is copied. Trees are the manual's.
 pub fn total_alone(alloc: Global, total: &[u8]) -> Result<Nodes, TreeFault>
     ensures nodes { IfOk result (λ nodes. nodes ≡ (total.now, None) ∷ []) }
     ensures tree { IfOk result IsCodeTree }
@@ -22,7 +24,11 @@ pub fn total_alone(alloc: Global, total: &[u8]) -> Result<Nodes, TreeFault>
 }
 
 /// Adds a code right below a place that is the last or above it, or says why it doesn't fit: it is the total,
-/// stands already, or is one too many. It takes two look-ups.
+/// stands already, or is one too many, of which the fault gives this number.
+///
+/// The parent is at most eight steps from the total, so that the code is at most nine from it. After a refusal the
+/// nodes are to be let go. The code is copied, and it takes two look-ups. Trees are the manual's, the limits and the
+/// order of refusals argus's own.
 pub fn add(
     alloc: Global,
     nodes: &mut Nodes,

@@ -61,9 +61,9 @@ abbrev pub IsReadFrom : {X Y : Type 0} → (X → Y) → (Files → Result Y Fau
 IsReadFrom view meant comes is_sound result old new =
     HasLookedAt (λ fs answer. Gives stopped_for view answer (meant fs)) comes is_sound result old new
 
--- nothing more is said of it
-abbrev pub Anything : {X : Type 0} → X → Type 0
-Anything x = Unit {0}
+-- a value is sound by what its type says of every value, and nothing more is wanted of it
+abbrev pub IsSoundByItsType : {X : Type 0} → X → Type 0
+IsSoundByItsType x = Unit {0}
 
 -- a statement holds of the layout of a reader that has read nothing yet, and of the bytes that the shelf has left
 abbrev pub BeforeReading : ShelfState → ReaderView → (Layout → List ℕ → Type 0) → Type 0

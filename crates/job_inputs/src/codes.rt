@@ -5,7 +5,7 @@ ghost use Rattle.hierarchy.specs.Lead.{lead_of};
 ghost use Rattle.job_inputs.specs.CodeSources.{codes_in, listed_tree, tree_in, listed_codes};
 ghost use Rattle.job_inputs.specs.ListedCodes.{AreListed};
 ghost use Rattle.job_inputs.specs.Looks.{IsCodeListOf, IsFile};
-ghost use Rattle.job_inputs.specs.Reading.{IsReadFrom, Anything};
+ghost use Rattle.job_inputs.specs.Reading.{IsReadFrom, IsSoundByItsType};
 ghost use Rattle.job_inputs.specs.Refusals as spec;
 ghost use Rattle.job_inputs.specs.Refusals.{IsReadAs};
 
@@ -84,7 +84,8 @@ pub(crate) fn read_tree<S: Shelf>(
     requires lead { 0 < length lead.now }
     requires missing { length variable.now.missing ≤ 2 }
     ensures { IsReadFrom (λ tree. tree) (λ fs. listed_tree fs place variable.now name.now lead.now)
-        (λ fs. IsFile (FileRef.Hierarchy place) name.now) Anything result (S.state shelf.old) (S.state shelf.new) }
+        (λ fs. IsFile (FileRef.Hierarchy place) name.now) IsSoundByItsType result (S.state shelf.old)
+        (S.state shelf.new) }
 {
     let file = FileRef::Hierarchy(place);
     let bytes = load(alloc, shelf, name, file)?;
@@ -104,7 +105,7 @@ fn tree_by(
     requires fewer_than_2_32 { length bytes.now < 2 ^ 32 }
     requires lead { 0 < length lead.now }
     requires missing { length variable.now.missing ≤ 2 }
-    ensures { IsReadAs (λ tree. tree) (tree_in file variable.now lead.now bytes.now) Anything result }
+    ensures { IsReadAs (λ tree. tree) (tree_in file variable.now lead.now bytes.now) IsSoundByItsType result }
 {
     let tree = lead_tree(alloc, file, bytes, lead, &variable.total)?;
     match with_missing(alloc, tree, variable.missing.as_slice()) {
@@ -124,8 +125,8 @@ fn lead_tree(
 ) -> Result<CodeTree, Refusal>
     requires fewer_than_2_32 { length bytes.now < 2 ^ 32 }
     requires lead { 0 < length lead.now }
-    ensures { IsReadAs (λ tree. tree) (map_fault (Fault.Tree file) (lead_of lead.now total.now bytes.now)) Anything
-        result }
+    ensures { IsReadAs (λ tree. tree) (map_fault (Fault.Tree file) (lead_of lead.now total.now bytes.now))
+        IsSoundByItsType result }
 {
     match from_lead(alloc, bytes, lead, total) {
         Ok(tree) => Ok(tree),

@@ -1,5 +1,4 @@
-ghost use Rattle.std.specs.Prelude.{◌≡◌, ◌+◌, ◌≤◌, ◌++◌, ◌∷◌, ℕ, [], None, Some, false, IfErr, IfNone, IfSome, OnOk};
-ghost use Rattle.std.specs.Str.Lines.{strip_carriage_return};
+ghost use Rattle.std.specs.Prelude.{◌≡◌, ◌+◌, ◌≤◌, ◌++◌, ◌∷◌, [], None, Some, false, IfErr, IfNone, IfSome, OnOk};
 ghost use Rattle.sdc_base.specs.Lines.{HasNoFeed};
 ghost use Rattle.microdata.specs.Feeding.{SaysAsFrom, IsKeptOf, StopsLong};
 ghost use Rattle.microdata.specs.Feeding as spec;
@@ -7,12 +6,9 @@ ghost use Rattle.microdata.specs.Keeping.{IsSound};
 
 use crate::faults::{RowError, RowWhy};
 use crate::layout::Measures;
-use crate::record::{SoFar, take_line};
-use plain_text::cut_at;
+use crate::record::{MOST_BYTES, SoFar, take_line};
+use plain_text::{cut_at, without_return};
 use std::alloc::Global;
-
-// The most bytes of a record.
-const MOST_BYTES: usize = 1000;
 
 /// Takes in bytes behind those of the line that has begun. After an error what was lent is to be let go.
 pub(crate) fn take_bytes(
@@ -126,15 +122,4 @@ fn is_too_long(begun: &[u8], bytes: &[u8]) -> bool
         return false;
     }
     begun.len() + without_return(bytes).len() > MOST_BYTES
-}
-
-// A line that ended with LF, without a CR at its end.
-fn without_return(line: &[u8]) -> &[u8]
-    ensures { result.now ≡ strip_carriage_return line.now }
-{
-    let n = line.len();
-    if n > 0 && line[n - 1] == b'\r' {
-        return &line[..n - 1];
-    }
-    line
 }

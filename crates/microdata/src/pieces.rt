@@ -14,7 +14,7 @@ use std::alloc::Global;
 /// The records of the bytes that these pieces make up, or their first fault: how the bytes are cut changes nothing.
 ///
 /// A fault that a piece brings is kept by the reader, and given at the end. The layout is as in `Reader::new`, and so
-/// are the refusals and the cost.
+/// are the refusals, the cost and the source of the rules.
 pub fn read_pieces(alloc: Global, layout: Layout, pieces: &[Text]) -> Result<Records, RowError>
     requires { IsLayout layout }
     ensures { Gives fault_of (λ records. records) result (records_of layout (flat_map (λ piece. piece) pieces.now)) }

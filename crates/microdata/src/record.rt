@@ -16,8 +16,8 @@ use sdc_base::{Few, Place, Row};
 use std::alloc::Global;
 use std::marker::Model;
 
-// The most bytes of a record.
-const MOST_BYTES: usize = 1000;
+/// The most bytes of a record.
+pub(crate) const MOST_BYTES: usize = 1000;
 
 // The most records.
 const MOST_RECORDS: u64 = 1_000_000;

@@ -18,7 +18,7 @@ use std::alloc::Global;
 ///
 /// Every read but the last takes a byte, so it returns for every shelf, after at most `limit + 1`
 /// reads. It asks for up to 4,096 bytes at a time. The bytes are copied once out of the buffer,
-/// and again where the vector grows.
+/// and again where the vector grows. The rule is argus's own.
 pub fn read_all<S: Shelf>(
     alloc: Global,
     shelf: &mut S,

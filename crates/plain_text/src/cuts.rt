@@ -5,7 +5,7 @@ ghost use Rattle.sdc_base.specs.Blanks.{is_blank};
 use crate::blanks::is_blank_byte;
 
 /// The bytes before the first that is this mark, and those behind it; all and none where there is no such byte. It
-/// takes no memory and looks at each byte once.
+/// takes no memory and looks at each byte once. The rule is argus's own.
 pub fn cut_at(mark: u8, bytes: &[u8]) -> (&[u8], &[u8])
     ensures front { result.0.now ≡ before_first (λ b. b == mark) bytes.now }
     ensures rest { result.1.now ≡ after_first (λ b. b == mark) bytes.now }
@@ -15,7 +15,7 @@ pub fn cut_at(mark: u8, bytes: &[u8]) -> (&[u8], &[u8])
 }
 
 /// The bytes before the first blank, and those behind it; all and none where there is no blank. It takes no memory and
-/// looks at each byte once.
+/// looks at each byte once. The rule is argus's own.
 pub fn cut_at_blank(bytes: &[u8]) -> (&[u8], &[u8])
     ensures front { result.0.now ≡ before_first is_blank bytes.now }
     ensures rest { result.1.now ≡ after_first is_blank bytes.now }

@@ -18,7 +18,7 @@ pub use laws::{
     joined_lines, joined_lines_with_returns, last_line_without_end, leading_zeros, printed_units,
     spelled_lines,
 };
-pub use line_reader::{Line, LineReader, lines};
+pub use line_reader::{Line, LineReader, lines, without_return};
 pub use sdc_base::NumberFault;
 pub use units::read_units;
 pub use units_text::print_units;

@@ -108,8 +108,8 @@ fn ends_line(b: u8) -> bool
     b == b'\n'
 }
 
-// A line that ended with LF, without a CR at its end.
-fn without_return(line: &[u8]) -> &[u8]
+/// A line that ended with LF, without a CR at its end. Nothing is refused. The rule is argus's own.
+pub fn without_return(line: &[u8]) -> &[u8]
     ensures text { result.now ≡ strip_carriage_return line.now }
     ensures bytes { length result.now ≤ length line.now }
 {

@@ -21,7 +21,8 @@ use std::alloc::Global;
 ///
 /// They hold on the truths of the marks where these are of records whose codes have no children. It takes one look-up
 /// for each part of each relation, and for each pair of a cell and a variable a look at each code of the name for
-/// each table; its one refusal is want of memory.
+/// each table; its one refusal is want of memory. That totals are sums of their parts, in all tables that have them, is
+/// the handbook's (linked and hierarchical tables); the order is argus's own.
 pub fn relations_of(alloc: Global, book: &Book) -> Result<System, Memory>
     ensures cells { IfOk result (λ system. system.cells ≡ length (book_cells.cells book.now)) }
     ensures exact { IfOk result (λ system. map sum_in system.relations ≡ relations_among book.now.trees book.now.tables) }

@@ -1,4 +1,4 @@
-ghost use Rattle.std.specs.Prelude.{◌≡◌, ◌≤◌, ◌<◌, [], true, false, length, slice_get, slice_index_or, All, IfOk, pos, ◌≤ℤ◌};
+ghost use Rattle.std.specs.Prelude.{◌≡◌, ◌≤◌, ◌<◌, [], true, length, slice_get, slice_index_or, All, IfOk, pos, ◌≤ℤ◌};
 ghost use Rattle.std.specs.Option.{ForSome};
 ghost use Rattle.sdc_base.specs.TableText.{shown_text};
 ghost use Rattle.linked_tables.specs.BookCells.{name_in_table, is_in};
@@ -8,7 +8,7 @@ ghost use Rattle.release_writer.specs.ShownCells.{CanBeShown, open_truth, shown_
 use crate::shown::Shown;
 use linked_tables::{Book, Mark};
 use plain_text::print_units;
-use sdc_base::{Memory, Text};
+use sdc_base::{Memory, Text, is_hidden};
 use std::alloc::Global;
 
 /// The text of what the cell at a place of a table shows.
@@ -84,19 +84,9 @@ fn truth_of(marks: &[Mark], flags: &[bool], cell: usize) -> Option<i128>
     ensures from_zero { ForSome result (λ number. pos 0 ≤ℤ number) }
     ensures value { result ≡ open_truth marks.now flags.now cell }
 {
-    if is_flagged(flags, cell) {
+    if is_hidden(flags, cell) {
         return None;
     }
     let mark = marks.get(cell)?;
     Some(mark.facts.truth)
-}
-
-// The flag at a place, and none behind the last.
-fn is_flagged(flags: &[bool], cell: usize) -> bool
-    ensures { result ≡ slice_index_or flags.now cell false }
-{
-    match flags.get(cell) {
-        Some(flag) => *flag,
-        None => false,
-    }
 }

@@ -23,7 +23,8 @@ use std::alloc::Global;
 /// that a name or a code may hold line ends; CRLF is no line's end.
 ///
 /// It takes a list of names and a list of bytes for each table; the names are those of the table's variables and of the
-/// response, and truths are from 0. Want of memory is `Memory`. It writes at most two lines for each place.
+/// response, and truths are from 0. Want of memory is `Memory`. It writes at most two lines for each place. The lines
+/// are the manual's, that a table has one spelling is argus's own.
 pub fn hidden_of(
     alloc: Global,
     book: &Book,
@@ -45,7 +46,7 @@ pub fn hidden_of(
 
 /// The numbers whose texts these bytes are, each from 0 and below `10^37`, or the first bad line.
 ///
-/// The line of a place has a number with so many decimals; all else is as for [`hidden_of`].
+/// The line of a place has a number with so many decimals; all else is as for [`hidden_of`], its source too.
 pub fn rounded_of(
     alloc: Global,
     book: &Book,

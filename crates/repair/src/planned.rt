@@ -7,7 +7,8 @@ use sdc_base::{Cell, Hidden, Items, Memory, PlanStep};
 use std::alloc::Global;
 
 /// The hidden set of a plan, with which repairing begins: the primary cells and the corners of the steps, which are
-/// numbers of these cells. Its one refusal is want of memory.
+/// numbers of these cells. Its one refusal is want of memory, and it takes one look at each. That a plan hides the
+/// primary cells and the corners is the handbook's hypercube method.
 pub fn planned_hidden(alloc: Global, cells: &[Cell], steps: &[PlanStep]) -> Result<Hidden, Memory>
     requires corners { All (λ corner. corner < length cells.now) (corners_of steps.now) }
     ensures { IfOk result (λ hidden. hidden.flags ≡ planned_set cells.now (corners_of steps.now)) }
@@ -40,7 +41,8 @@ fn hide_corners(flags: &mut [bool], steps: &[PlanStep])
     }
 }
 
-/// Hides these cells, each of which has a flag.
+/// Hides these cells, each of which has a flag. Nothing is refused, and a cell that is hidden stays so. The rule is
+/// argus's own.
 pub fn hide_all(flags: &mut [bool], cells: &[u32])
     requires { All (λ cell. cell < length flags.old) cells.now }
     ensures { flags.new ≡ fold hide flags.old cells.now }

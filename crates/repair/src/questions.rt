@@ -5,6 +5,9 @@ use sdc_base::{Cell, Memory, Side};
 use std::alloc::Global;
 
 /// What is asked in a protection, in its order: each primary cell, above and then below.
+///
+/// There are fewer than `2^32` cells, numbered from 0. Its one refusal is want of memory. Levels are the
+/// handbook's (protection levels), the order is argus's own.
 pub fn questions_of(alloc: Global, cells: &[Cell]) -> Result<Vec<(u32, Side)>, Memory>
     requires { length cells.now < 2 ^ 32 }
     ensures { IfOk result (λ questions. questions.items ≡ asked_of 0 cells.now) }

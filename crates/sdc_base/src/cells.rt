@@ -8,7 +8,8 @@ use arrayvec::ArrayVec;
 /// table spans, and the total's for the others.
 ///
 /// There are at most 8 variables, numbered from 0; the place has a code for each variable of the table,
-/// in the table's order. It takes no memory, and looks through the table once for each variable.
+/// in the table's order. It takes no memory, and looks through the table once for each variable. Cells of linked
+/// tables are the manual's.
 #[tactic(auto, using(crate::proofs::PlaceLists::name_length, crate::proofs::PlaceLists::name_more))]
 pub fn name_at(variables: usize, table: &[u32], place: &[u32]) -> Place
     requires { variables ≤ 8 }
@@ -23,7 +24,8 @@ pub fn name_at(variables: usize, table: &[u32], place: &[u32]) -> Place
 
 /// A place with a code more, for the next variable of a table.
 ///
-/// The place has fewer than 8 codes. It takes no memory, and copies each code once.
+/// The place has fewer than 8 codes. It takes no memory, and copies each code once. That a table has at most eight
+/// variables is argus's own.
 pub fn with_code(place: &[u32], code: u32) -> Place
     requires { length place.now < 8 }
     ensures { result ≡ place.now ++ code ∷ [] }

@@ -5,7 +5,7 @@ ghost use Rattle.sdc_base.specs.HiddenSets as spec;
 ghost use Rattle.sdc_base.specs.Components.{AreComponents, AreLinked, component, names};
 ghost use Rattle.sdc_base.specs.Forests.{AreNumbered, IsForest, Joins, LeadsTo, Meet};
 
-use crate::hidden::Hidden;
+use crate::hidden::{Hidden, is_hidden};
 use crate::items::Items;
 use crate::memory::Memory;
 use crate::relation::Relation;
@@ -27,6 +27,8 @@ pub struct Grouping {
 ///
 /// Each cell points to itself or to a lower cell of its component. It takes a walk along these for each hidden cell of
 /// each relation, which halves later walks from there, and one look at each cell; its one refusal is want of memory.
+///
+/// Components and their numbering are argus's own.
 pub fn components(alloc: Global, system: &System, hidden: &Hidden) -> Result<Grouping, Memory>
     requires each { length hidden.now.flags ≡ system.now.cells }
     ensures { IfOk result (λ grouping. AreComponents system.now.relations hidden.now.flags grouping.of grouping.sizes) }
@@ -85,25 +87,15 @@ fn first_hidden(relation: &Relation, flags: &[bool]) -> Option<u32>
     ensures hidden { IfSome result (λ cell. spec.is_hidden flags.now cell ≡ true) }
     ensures named { IfSome result (λ cell. names relation.now cell ≡ true) }
 {
-    if is_hidden(flags, relation.total) {
+    if is_hidden(flags, relation.total as usize) {
         return Some(relation.total);
     }
     'parts: for part in relation.parts.as_slice() {
-        if is_hidden(flags, *part) {
+        if is_hidden(flags, *part as usize) {
             return Some(*part);
         }
     }
     None
-}
-
-// Whether a cell is hidden.
-fn is_hidden(flags: &[bool], cell: u32) -> bool
-    ensures { result ≡ spec.is_hidden flags.now cell }
-{
-    match flags.get(cell as usize) {
-        Some(flag) => *flag,
-        None => false,
-    }
 }
 
 // Joins a cell with a hidden cell that the same relation names, where it is hidden too.
@@ -125,7 +117,7 @@ fn join_hidden(
     ensures kept { (one other : ℕ) → Meet lower.old.items one other → Meet lower.new.items one other }
     ensures joined { spec.is_hidden flags.now cell ≡ true → Meet lower.new.items first cell }
 {
-    if is_hidden(flags, cell) {
+    if is_hidden(flags, cell as usize) {
         join(system, flags, first, cell, lower);
     }
 }
@@ -213,7 +205,7 @@ fn number_of(
     requires numbered { AreNumbered flags.now lower.now of.now sizes.old.items }
     ensures { IfOk result (λ number. AreNumbered flags.now lower.now (of.now ++ number ∷ []) sizes.new.items) }
 {
-    if is_hidden(flags, cell) {
+    if is_hidden(flags, cell as usize) {
         let number = number_hidden(cell, flags, lower, of, sizes)?;
         return Ok(Some(number));
     }

@@ -37,7 +37,7 @@ pub use cube::{Corner, Cube, Edge, Subtable};
 pub use duality::weak_duality;
 pub use facts::{CellFacts, Levels};
 pub use few::{Few, Place};
-pub use hidden::Hidden;
+pub use hidden::{Hidden, is_hidden};
 pub use items::Items;
 pub use laws::{
     examples, falls_where_under_in_each, flat_is_code_tree, names_are_first,

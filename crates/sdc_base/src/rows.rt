@@ -12,7 +12,8 @@ pub struct Row {
     pub weight: u32,
 }
 
-/// Weight times value of a record.
+/// Weight times value of a record, in weight steps times units. It is less than `2^95` in size, so nothing is refused.
+/// Weighted sums are the handbook's, weight steps argus's own.
 pub fn weighted_value(row: &Row) -> i128
     ensures value { result ≡ weighted_value row.now }
     ensures low { neg_ℤ (pos (2 ^ 95)) ≤ℤ result }

@@ -69,7 +69,8 @@ pub(crate) fn first_fault(
 
 /// Whether a cell lies in a world at least its level to a side, the level of its upper or its lower side.
 ///
-/// The number is that of the cell. It goes once through the moves, and takes no memory.
+/// The number is that of the cell. It goes once through the moves, and takes no memory. Levels are the handbook's
+/// (protection levels).
 pub fn reaches(cell: &Cell, side: Side, number: u32, world: &World) -> bool
     ensures { IsTrue result ↔ Reaches side cell.now world.now.den (number_given (terms_of world.now.moves) number) }
 {
