@@ -19,7 +19,7 @@ use Rattle.cell_intervals.specs.declared.ratio.Ratio.{Ratio}
 use Rattle.cell_intervals.specs.Intervals.{IsGreatestValue, IsIntervalOf, IsLeastValue, IsUpperEnd}
 use Rattle.cell_intervals.specs.IntervalTexts.{fraction_text, line_text, ratio_text, upper_text}
 use Rattle.cell_intervals.specs.Laws.{FileIsOne}
-use Rattle.cell_intervals.proofs.Divisors.{rest_divides}
+use Rattle.tableau.proofs.Remainders.{rest_divides}
 use Rattle.interval_audit.proofs.Best.{cancel_le, cancel_same}
 
 -- ---- fractions in lowest terms

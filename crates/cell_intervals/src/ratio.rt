@@ -3,6 +3,8 @@ ghost use Prim.Native.Nat.{◌∣◌};
 ghost use Rattle.std.specs.Int.{IsGcd};
 ghost use Rattle.cell_intervals.specs.Lowering.{IsLoweredTo};
 
+use tableau::gcd;
+
 /// A number of units from 0, as a fraction in lowest terms.
 #[derive(Clone, Copy)]
 pub struct Ratio {
@@ -26,21 +28,6 @@ pub(crate) fn lowest_terms_of(num: u128, den: u128) -> Ratio
         num: num / by,
         den: den / by,
     }
-}
-
-// The greatest common divisor of two numbers.
-fn gcd(one: u128, other: u128) -> u128
-    ensures greatest { IsGcd one other result }
-    ensures multiples { (d times : ℕ) → d ∣ times * one → d ∣ times * other → d ∣ times * result }
-{
-    let mut a = one;
-    let mut b = other;
-    'steps: while b != 0 {
-        let rest = a % b;
-        a = b;
-        b = rest;
-    }
-    a
 }
 
 /// A whole number less a fraction that is at most it.

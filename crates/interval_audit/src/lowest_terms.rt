@@ -1,10 +1,10 @@
 ghost use Rattle.std.specs.Prelude.{◌≡◌, ◌<◌, ◌≤◌, ◌^◌, ℕ, All, IfOk, pos, neg_ℤ, ◌≤ℤ◌, ◌<ℤ◌, ◌*ℤ◌, unsigned_abs};
 ghost use Prim.Native.Nat.{◌∣◌};
-ghost use Rattle.std.specs.Int.{IsGcd};
 ghost use Rattle.interval_audit.specs.LowestTerms.{AreLowestTermsOf, IsCommonDivisor, times_each};
 
 use sdc_base::Memory;
 use std::alloc::Global;
+use tableau::gcd;
 
 // Numbers over a denominator in lowest terms.
 #[derive(Drop)]
@@ -46,20 +46,6 @@ fn divisor_of(den: i128, terms: &[(u32, i128)]) -> u128
         divisor = gcd(divisor, size);
     }
     divisor
-}
-
-// The greatest common divisor of two numbers.
-fn gcd(one: u128, other: u128) -> u128
-    ensures { IsGcd one other result }
-{
-    let mut a = one;
-    let mut b = other;
-    'steps: while b != 0 {
-        let rest = a % b;
-        a = b;
-        b = rest;
-    }
-    a
 }
 
 // Numbers divided by one that divides each of them.

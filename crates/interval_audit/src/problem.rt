@@ -31,7 +31,7 @@ use tableau::{LinRow, Problem};
 /// There is a cell for each cell of the system, `of` has the number of each cell's component, none for a shown one, and
 /// the component has at most 1,500 cells. It goes once through the cells and through the parts of all relations, and
 /// for each relation in which one of the component's cells stands twice through these. Its one refusal is want of
-/// memory.
+/// memory. The question is the handbook's (feasibility intervals by linear programs), the order of rows argus's own.
 pub fn problem_of(
     alloc: Global,
     system: &System,

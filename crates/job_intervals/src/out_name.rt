@@ -3,12 +3,11 @@ ghost use Rattle.std.specs.List.{list_any};
 ghost use Rattle.std.specs.Option.{option_map_or};
 ghost use Rattle.std.specs.Str.{bytes_eq};
 ghost use Rattle.sdc_base.specs.Steps.{refuse};
-ghost use Rattle.job_lang.specs.BindingFaults as binding;
 ghost use Rattle.job_intervals.specs.OutNames as spec;
 
 use job_inputs::{DescribedJob, Fault};
-use job_lang::{Job, OutputLine, PriorLine};
-use rda_meta::{Shape, Variable};
+use job_lang::{Job, OutputLine, PriorLine, is_code_list, is_hierarchy_file};
+use rda_meta::Variable;
 use sdc_base::Text;
 
 /// Refuses a file to be put that would overwrite the job's file, a file that the job names, or one that the metadata
@@ -82,24 +81,4 @@ fn is_coded_by(file: &Text, variable: &Variable) -> bool
     ensures { result ≡ spec.is_coded_by file.now variable.now }
 {
     is_code_list(file, &variable.codes) || is_hierarchy_file(file, &variable.shape)
-}
-
-// Whether the list of codes has this name.
-fn is_code_list(file: &Text, codes: &Option<Text>) -> bool
-    ensures { result ≡ binding.is_code_list file.now codes.now }
-{
-    match codes {
-        Some(name) => name.equals(file),
-        None => false,
-    }
-}
-
-// Whether the hierarchy file has this name.
-fn is_hierarchy_file(file: &Text, shape: &Shape) -> bool
-    ensures { result ≡ binding.is_hierarchy_file file.now shape.now }
-{
-    match shape {
-        Shape::Listed { file: name, .. } => name.equals(file),
-        _ => false,
-    }
 }

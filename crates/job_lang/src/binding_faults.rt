@@ -106,8 +106,8 @@ pub(crate) fn is_spanning(tables: &[TableLine], name: &Text) -> bool
         .any(|t| is_spanned_by(name, t.variables.as_slice()))
 }
 
-// Whether the list of codes has this name.
-fn is_code_list(file: &Text, codes: &Option<Text>) -> bool
+/// Whether the list of codes has this name; where there is no list, it hasn't. The rule is argus's own.
+pub fn is_code_list(file: &Text, codes: &Option<Text>) -> bool
     ensures { result ≡ spec.is_code_list file.now codes.now }
 {
     match codes {
@@ -116,8 +116,8 @@ fn is_code_list(file: &Text, codes: &Option<Text>) -> bool
     }
 }
 
-// Whether the hierarchy file has this name.
-fn is_hierarchy_file(file: &Text, shape: &Shape) -> bool
+/// Whether the hierarchy file has this name; where there is no such file, it hasn't. The rule is argus's own.
+pub fn is_hierarchy_file(file: &Text, shape: &Shape) -> bool
     ensures { result ≡ spec.is_hierarchy_file file.now shape.now }
 {
     match shape {

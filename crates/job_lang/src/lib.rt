@@ -23,6 +23,7 @@ mod table_texts;
 mod texts;
 
 pub use binding::bind;
+pub use binding_faults::{is_code_list, is_hierarchy_file};
 pub use bound::Bound;
 pub use cost_rule::CostKind;
 pub use faults::{Command, JobError, JobWhy};

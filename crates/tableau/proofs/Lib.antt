@@ -20,6 +20,7 @@ pub mod LeavingRows
 pub mod CrossedRows
 pub mod CrossedEntries
 pub mod Divisors
+pub mod Remainders
 pub mod ReducedRows
 pub mod NewRows
 pub mod FirstNumbers

@@ -1,27 +1,13 @@
 ghost use Rattle.std.specs.Prelude.{◌≡◌, ℕ, ◌<◌, ◌≤◌, length, None, slice_index_or, pos, ◌≤ℤ◌, unsigned_abs, Err, IfOk, IfSome};
 ghost use Prim.Native.Nat.{◌∣◌};
-ghost use Rattle.std.specs.Int.{IsGcd};
 ghost use Rattle.tableau.specs.NewRows.{new_list, whole_lists, IsWideProduct, IsWideKept};
 ghost use Rattle.tableau.specs.CommonDivisors.{DividesEach, DividesAll, IsGreatestDivisor, IsGreatestOfAll};
 
+use crate::common_divisor::gcd;
 use crate::faults::{ExchangeFault, RowFault, at_row};
 use crate::scaling::times_row;
 use sdc_base::Items;
 use std::alloc::Global;
-
-// The greatest common divisor.
-fn gcd(a: u128, b: u128) -> u128
-    ensures { IsGcd a b result }
-{
-    let mut x = a;
-    let mut y = b;
-    while y != 0 {
-        let rest = x % y;
-        x = y;
-        y = rest;
-    }
-    x
-}
 
 // The greatest number that divides one and all numbers of some entries.
 fn row_divisor(whole: u128, entries: &[(u32, i128)]) -> u128

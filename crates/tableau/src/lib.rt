@@ -1,6 +1,7 @@
 //! Integer pivoting: a linear problem, and its tables in whole numbers over one denominator.
 #![tactic(auto)]
 
+mod common_divisor;
 mod crossing;
 mod dividing;
 mod divisor;
@@ -9,8 +10,6 @@ mod entries;
 mod exchange;
 mod faults;
 mod first_table;
-#[cfg(test)]
-mod form_check;
 mod laws;
 mod leaving;
 mod lists;
@@ -24,9 +23,8 @@ mod sparse_table;
 mod step;
 mod stepping;
 mod tableau;
-#[cfg(test)]
-mod tests;
 
+pub use common_divisor::gcd;
 pub use laws::{exchanges_keep, lists_rise, tables_solve, walks_are_one_and_short, worked_rows};
 pub use problem::{LinRow, Problem};
 pub use step::Step;

@@ -50,7 +50,7 @@ impl Tableau {
     /// The problem is well formed: entries name columns in ascending order with numbers above -2^127, bounds and target
     /// are 0 or more, and columns and rows, the target's row among them, are fewer than 2^32 - 1. It takes memory for
     /// the entries that aren't 0 and for each row and column, and goes once through them. The one refusal is want of
-    /// memory.
+    /// memory. The walk is that of the simplex method over one denominator (integer pivoting).
     pub fn start(alloc: Global, problem: Problem) -> Result<Tableau, Memory>
         requires { IsWellFormed problem }
         ensures { IfOk result (λ tableau. tableau ≡ tableau_walk problem 0 (first_table problem)) }

@@ -23,7 +23,7 @@ terms-preserved c =
     let term : Term = get_or c.args.terms.now c.terms.term-index (0, pos 0) in
     let fits : FitsSigned w128 term.1 = search rules in
     let size : c.unsigned_abs-size.result ≡ unsigned_abs term.1 = c.unsigned_abs-size.ensures.value ∙ ap unsigned_abs (to_z-of_z w128 term.1 fits) in
-    let gcd : IsGcd c.terms.divisor c.unsigned_abs-size.result c.gcd-divisor.result = c.gcd-divisor.ensures in
+    let gcd : IsGcd c.terms.divisor c.unsigned_abs-size.result c.gcd-divisor.result = c.gcd-divisor.ensures.greatest in
     record {
       positive = gcd_positive c.terms.divisor c.unsigned_abs-size.result c.gcd-divisor.result c.terms.invariant.positive gcd;
       divides = divides_more c.terms.divisor c.unsigned_abs-size.result c.gcd-divisor.result den c.args.terms.now c.terms.term-index (0, pos 0) c.terms-test.true gcd size c.terms.invariant.divides;

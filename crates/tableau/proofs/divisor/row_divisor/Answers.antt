@@ -25,7 +25,7 @@ loop-entry-preserved c =
     let fits : FitsSigned w128 x = search rules in
     let abs_is : c.unsigned_abs.result ≡ unsigned_abs x = c.unsigned_abs.ensures.value ∙ ap unsigned_abs (to_z-of_z w128 x fits) in
     let g : ℕ = c.gcd-common.result in
-    let gcd = c.gcd-common.ensures in
+    let gcd = c.gcd-common.ensures.greatest in
     let long : length (take (i + 1) xs) ≡ i + 1 = omega (arith, length-take (i + 1) xs) in
     let D : ℕ → Term → Type 0 = λ n entry. n ∣ unsigned_abs entry.1 in
     record {

@@ -3,7 +3,7 @@
 ghost use Rattle.std.specs.Prelude.{◌≡◌, ◌<◌, IsTrue, pos, ◌<ℤ◌, neg_ℤ, ◌≤ℤ◌, ◌^◌, All};
 ghost use Rattle.tableau.specs.ProblemForm.{AreEntries, IsWellFormed};
 
-use crate::problem::{LinRow, Problem};
+use tableau::{LinRow, Problem};
 
 // Whether entries name columns in ascending order, with numbers above -2^127.
 fn are_entries(columns: u32, entries: &[(u32, i128)]) -> bool

@@ -1,6 +1,6 @@
 use Rattle.std.proofs.Common.{◌<◌, drop, take, All, pos, neg_ℤ, ◌<ℤ◌, ◌^◌}
 use Rattle.tableau.specs.ProblemForm.{AscendFrom}
-use Rattle.tableau.proofs.form_check.are_entries.Given as goal
+use Rattle.worked_problems.proofs.form_check.are_entries.Given as goal
 
 abbrev pub invariant-loop-entry : goal.invariant-loop-entry
 invariant-loop-entry l = record {

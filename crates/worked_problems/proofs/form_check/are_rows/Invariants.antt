@@ -1,6 +1,6 @@
 use Rattle.std.proofs.Common.{take, All, pos, ◌≤ℤ◌}
 use Rattle.tableau.specs.ProblemForm.{AreEntries}
-use Rattle.tableau.proofs.form_check.are_rows.Given as goal
+use Rattle.worked_problems.proofs.form_check.are_rows.Given as goal
 
 abbrev pub invariant-loop-row : goal.invariant-loop-row
 invariant-loop-row l = record {

@@ -5,7 +5,7 @@ use Rattle.std.proofs.lemmas.List.{drop_more, take_all, drop_all}
 use Rattle.std.proofs.lemmas.List.Elements.{All-more}
 use Rattle.sdc_base.specs.Forms.{Term}
 use Rattle.tableau.specs.ProblemForm.{AscendFrom}
-use Rattle.tableau.proofs.form_check.are_entries.Goals as goal
+use Rattle.worked_problems.proofs.form_check.are_entries.Goals as goal
 
 pub loop-entry-preserved : goal.loop-entry-preserved
 loop-entry-preserved c =

@@ -1,7 +1,7 @@
 use Rattle.std.proofs.Common.{arith}
 use Rattle.std.proofs.lemmas.Nat.Gcd.{IsGcd-from_zero, IsGcd-from_mod}
-use Rattle.cell_intervals.proofs.Divisors.{rest_divides}
-use Rattle.cell_intervals.proofs.ratio.gcd.Goals as goal
+use Rattle.tableau.proofs.Remainders.{rest_divides}
+use Rattle.tableau.proofs.common_divisor.gcd.Goals as goal
 
 pub steps-preserved : goal.steps-preserved
 steps-preserved c = record {

@@ -4,7 +4,7 @@ use Rattle.std.proofs.lemmas.List.Elements.{All-more}
 use Rattle.tableau.specs.declared.problem.LinRow.{LinRow}
 use Rattle.tableau.specs.ProblemForm.{AreEntries}
 use Rattle.tableau.specs.Problems.{no_row}
-use Rattle.tableau.proofs.form_check.are_rows.Goals as goal
+use Rattle.worked_problems.proofs.form_check.are_rows.Goals as goal
 
 pub loop-row-preserved : goal.loop-row-preserved
 loop-row-preserved c =

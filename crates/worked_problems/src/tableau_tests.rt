@@ -1,10 +1,10 @@
 ghost use Rattle.std.specs.Prelude.{◌<◌};
 
 use crate::form_check::is_well_formed;
-use crate::{LinRow, Problem, Step, Tableau};
 use sdc_base::{Items, Memory};
 use std::alloc::Global;
 use std::rt::HostRuntime;
+use tableau::{LinRow, Problem, Step, Tableau};
 
 fn row(alloc: Global, entries: &[(u32, i128)], bound: i128) -> Result<LinRow, Memory> {
     Ok(LinRow {
