@@ -5,7 +5,7 @@ ghost use Rattle.cost_rule.specs.declared.kind.CostKind.TheVariants as Kinds;
 use code_trees::{CodeTree, flat};
 use cost_rule::{CostKind, CostRule, TellsCosts};
 use hypercube::cheapest;
-use linked_tables::{Book, BookFault, Mark};
+use linked_tables::{Book, Mark};
 use sdc_base::{Cell, CellFacts, Corner, Kind, Levels, Subtable};
 use std::alloc::Global;
 use std::rt::HostRuntime;
@@ -48,7 +48,7 @@ fn book_of(
         spanned.push(place(table))?;
     }
     if trees.len() > 8 || spanned.len() > 100 {
-        return Err(Fail::from(BookFault::Memory));
+        return Err(Fail::new("too many trees or tables for a book"));
     }
     let mut book = Book::new(alloc, trees, spanned)?;
     for (cell, truth) in truths.iter().enumerate() {
@@ -124,7 +124,7 @@ fn least_by<F: TellsCosts + Drop>(
     let rule = CostRule::new(CostKind::Value, f);
     let ready = are_costed(book.marks()) && cell < book.cells();
     if !ready || levels.up < 0 || levels.down < 0 {
-        return Err(Fail::from(BookFault::Memory));
+        return Err(Fail::new("a cell that no cube may be asked for"));
     }
     let totals: &[u32] = match book.spans(t) {
         Some(table) => &[0, 0, 0][..table.len().min(3)],

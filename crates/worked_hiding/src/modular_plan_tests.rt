@@ -4,7 +4,7 @@ ghost use Rattle.cost_rule.specs.declared.kind.CostKind.TheVariants as Kinds;
 
 use cost_rule::{CostKind, CostRule, TellsCosts};
 use hierarchy::{CodeTree, from_lead};
-use linked_tables::{Book, BookFault, Mark};
+use linked_tables::{Book, Mark};
 use modular_plan::plan;
 use sdc_base::{Cell, CellFacts, Kind, PlanStep, Trail};
 use std::alloc::Global;
@@ -45,7 +45,7 @@ fn book_of(
         spanned.push(place(table))?;
     }
     if trees.len() > 8 || spanned.len() > 100 {
-        return Err(Fail::from(BookFault::Memory));
+        return Err(Fail::new("too many trees or tables for a book"));
     }
     let mut book = Book::new(alloc, trees, spanned)?;
     for (cell, truth) in truths.iter().enumerate() {
@@ -118,11 +118,8 @@ fn planned_by<F: TellsCosts + Drop>(
     requires told { IsTold F.may_ask F.may_say f Kinds.Value }
 {
     let rule = CostRule::new(CostKind::Value, f);
-    if !are_costed(book.marks()) {
-        return Err(Fail::from(BookFault::Memory));
-    }
-    if cells.len() != book.marks().len() {
-        return Err(Fail::from(BookFault::Memory));
+    if !are_costed(book.marks()) || cells.len() != book.marks().len() {
+        return Err(Fail::new("cells that no plan may be asked for"));
     }
     Ok(plan(alloc, book, cells, &rule, passes)?)
 }

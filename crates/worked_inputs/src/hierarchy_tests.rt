@@ -63,14 +63,19 @@ fn agrees(answer: Result<Vec<u8>, TreeFault>, expected: Result<&str, TreeFault>)
     }
 }
 
+// The same of a tree that was made, where there is one.
+fn tree_shown(alloc: Global, made: Result<CodeTree, TreeFault>) -> Result<Vec<u8>, TreeFault> {
+    let tree = made?;
+    shown(alloc, &tree)
+}
+
 // `from_lead`, where it may be called.
-fn lead_shown(alloc: Global, lead: &str, bytes: &str) -> Result<Vec<u8>, TreeFault> {
+fn lead_shown(alloc: Global, lead: &str, bytes: &str) -> Result<Result<Vec<u8>, TreeFault>, Fail> {
     let (lead, total) = (text(alloc, lead)?, text(alloc, "Total")?);
     if lead.as_slice().is_empty() || bytes.len() > 1000 {
-        return Err(TreeFault::Memory);
+        return Err(Fail::new("no lead, or too many bytes"));
     }
-    let tree = from_lead(alloc, bytes.as_bytes(), &lead, &total)?;
-    shown(alloc, &tree)
+    Ok(tree_shown(alloc, from_lead(alloc, bytes.as_bytes(), &lead, &total)))
 }
 
 #[test]
@@ -114,7 +119,7 @@ fn hierarchy_files(rt: HostRuntime) -> Result<(), Fail> {
         ("@", "Nr\n@1\nOs\n@1", Err(TreeFault::Twice(4))),
     ] {
         assert_eq!(rt;
-            agrees(lead_shown(alloc, lead, bytes), expected),
+            agrees(lead_shown(alloc, lead, bytes)?, expected),
             true,
             "{bytes}"
         );
@@ -123,14 +128,18 @@ fn hierarchy_files(rt: HostRuntime) -> Result<(), Fail> {
 }
 
 // `from_levels` with two widths, where it may be called.
-fn level_shown(alloc: Global, first: u8, second: u8, codes: &[&str]) -> Result<Vec<u8>, TreeFault> {
+fn level_shown(
+    alloc: Global,
+    first: u8,
+    second: u8,
+    codes: &[&str],
+) -> Result<Result<Vec<u8>, TreeFault>, Fail> {
     let total = text(alloc, "T")?;
     if first == 0 || second == 0 {
-        return Err(TreeFault::Memory);
+        return Err(Fail::new("a width of 0"));
     }
     let codes = texts(alloc, codes, first as usize + second as usize)?;
-    let tree = from_levels(alloc, &codes, &[first, second], &total)?;
-    shown(alloc, &tree)
+    Ok(tree_shown(alloc, from_levels(alloc, &codes, &[first, second], &total)))
 }
 
 #[test]
@@ -166,7 +175,7 @@ fn level_codes(rt: HostRuntime) -> Result<(), Fail> {
         (1, 1, ["ab", "b", "ab"], Err(TreeFault::Twice(3))),
     ] {
         assert_eq!(rt;
-            agrees(level_shown(alloc, first, second, &codes), expected),
+            agrees(level_shown(alloc, first, second, &codes)?, expected),
             true,
             "{first} {second}"
         );
@@ -175,19 +184,30 @@ fn level_codes(rt: HostRuntime) -> Result<(), Fail> {
 }
 
 // `flat`, and then `with_missing`.
-fn completed(alloc: Global, codes: &[&str], missing: &[&str]) -> Result<Vec<u8>, TreeFault> {
-    let total = text(alloc, "T")?;
-    let codes = texts(alloc, codes, 9)?;
-    let tree = flat(alloc, &codes, &total)?;
-    if missing.len() > 9 {
-        return Err(TreeFault::Memory);
-    }
+fn completed(
+    alloc: Global,
+    codes: &[&str],
+    missing: &[&str],
+) -> Result<Result<Vec<u8>, TreeFault>, Fail> {
     let missing = texts(alloc, missing, 9)?;
     if missing.len() > 9 {
-        return Err(TreeFault::Memory);
+        return Err(Fail::new("too many missing codes"));
     }
-    let whole = with_missing(alloc, tree, &missing)?;
-    shown(alloc, &whole)
+    let codes = texts(alloc, codes, 9)?;
+    let flat = flat(alloc, &codes, &text(alloc, "T")?);
+    Ok(tree_shown(alloc, completed_by(alloc, flat, &missing)))
+}
+
+// A tree that was made with these missing codes, where there is one.
+fn completed_by(
+    alloc: Global,
+    made: Result<CodeTree, TreeFault>,
+    missing: &[Text],
+) -> Result<CodeTree, TreeFault>
+    requires { length missing.now ≤ 9 }
+{
+    let tree = made?;
+    with_missing(alloc, tree, missing)
 }
 
 #[test]
@@ -206,18 +226,23 @@ fn flat_and_missing_codes(rt: HostRuntime) -> Result<(), Fail> {
         (["b", "T"], ["b", "T"], Err(TreeFault::IsTotal(2))),
         (["b", "b"], ["T", "T"], Err(TreeFault::Twice(2))),
     ] {
-        assert_eq!(rt; agrees(completed(alloc, &codes, &missing), expected), true);
+        assert_eq!(rt; agrees(completed(alloc, &codes, &missing)?, expected), true);
     }
     Ok(())
 }
 
 // The codes of a code list, with a bar behind each.
-fn listed(alloc: Global, bytes: &[u8]) -> Result<Vec<u8>, TreeFault> {
+fn listed(alloc: Global, bytes: &[u8]) -> Result<Result<Vec<u8>, TreeFault>, Fail> {
     let total = text(alloc, "Total")?;
     if bytes.len() > 100_000 {
-        return Err(TreeFault::Memory);
+        return Err(Fail::new("too many bytes"));
     }
-    let codes = read_codes(alloc, bytes, &total)?;
+    Ok(joined(alloc, read_codes(alloc, bytes, &total)))
+}
+
+// The codes that were read, with a bar behind each, where there was no fault.
+fn joined(alloc: Global, read: Result<Vec<Text>, TreeFault>) -> Result<Vec<u8>, TreeFault> {
+    let codes = read?;
     let mut joined = Vec::new(alloc);
     'codes: for code in &codes {
         joined.extend_from_slice(code.as_slice())?;
@@ -255,19 +280,19 @@ fn code_lists(rt: HostRuntime) -> Result<(), Fail> {
         ("b,x\n,none\n\nTotal,all\n\"\",x\nb\nc,x", Ok("b|c|")),
     ] {
         assert_eq!(rt;
-            agrees(listed(alloc, bytes.as_bytes()), expected),
+            agrees(listed(alloc, bytes.as_bytes())?, expected),
             true,
             "{bytes}"
         );
     }
     // 0001 to 2000, and as many codes as there may be
     for past in [2001, 5001] {
-        let read = listed(alloc, numbered(alloc, 1, past, b'\n')?.as_slice())?;
+        let read = listed(alloc, numbered(alloc, 1, past, b'\n')?.as_slice())??;
         let codes = numbered(alloc, 1, past, b'|')?;
         assert_eq!(rt; read.as_slice() == codes.as_slice(), true);
     }
     let more = agrees(
-        listed(alloc, numbered(alloc, 0, 5001, b'\n')?.as_slice()),
+        listed(alloc, numbered(alloc, 0, 5001, b'\n')?.as_slice())?,
         Err(TreeFault::TooMany(5001)),
     );
     assert_eq!(rt; more, true);

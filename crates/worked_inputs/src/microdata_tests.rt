@@ -1,7 +1,7 @@
 ghost use Rattle.std.specs.Prelude.{◌≡◌, ◌+◌, ◌<◌, ◌≤◌, All, IfOk, length};
 ghost use Rattle.microdata.specs.Layouts.{IsField, IsLayout, IsNumber, IsSource, IsWeight};
 
-use hierarchy::from_lead;
+use hierarchy::{TreeFault, from_lead};
 use microdata::{
     Field, Layout, NumberField, Reader, Records, RowError, RowWhy, Source, read_pieces,
 };
@@ -69,7 +69,9 @@ fn listed_source(alloc: Global) -> Result<Source, Memory>
     let total = text(alloc, b"T")?;
     match from_lead(alloc, b"P1\n@A1\n@A2\nP2\n", &lead, &total) {
         Ok(tree) => Ok(Source::Listed(tree)),
-        Err(_) => Err(Memory),
+        Err(TreeFault::Memory) => Err(Memory),
+        // any other fault leaves other codes than the records have
+        Err(_) => flat_source(alloc),
     }
 }
 

@@ -43,7 +43,7 @@ fn empty_book(alloc: Global) -> Result<Result<Book, BookFault>, Fail> {
     tables.push(place_of(&[0, 1]))?;
     tables.push(place_of(&[0, 2]))?;
     if trees.len() > 8 || tables.len() > 100 {
-        return Ok(Err(BookFault::Memory));
+        return Err(Fail::new("too many trees or tables for a book"));
     }
     Ok(Book::new(alloc, trees, tables))
 }

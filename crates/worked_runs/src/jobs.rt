@@ -82,3 +82,15 @@ pub const FOUR_CERTIFICATE: &str = "argus certificate 1\nmethod RND 5\ncells 9\n
 /// The table that is put then.
 pub const FOUR_TABLE: &str =
     "A,B,V\nTotal,Total,15\nTotal,1,10\nTotal,2,5\n1,Total,10\n1,1,5\n1,2,5\n2,Total,5\n2,1,5\n2,2,0\n";
+
+/// A job of two linked tables.
+pub const LINKED: &str =
+    "<OPENMICRODATA> \"m.asc\"\n<OPENMETADATA> \"m.rda\"\n<SPECIFYTABLE> \"A\"\"B\"|\"V\"\n<SPECIFYTABLE> \"A\"\"C\"|\"V\"\n<SAFETYRULE> FREQ(1,30)\n<SUPPRESS> MOD()\n<WRITETABLE> (1,\"t.csv\")\n<WRITETABLE> (2,\"u.csv\")\n<CERTIFICATE> \"t.cert\"\n";
+
+/// The two tables of the thirteen records.
+pub const BY_B_AND_BY_C: &str =
+    "A,B,V\nTotal,Total,140\nTotal,b1,50\nTotal,b2,90\na1,Total,70\na1,b1,20\na1,b2,50\na2,Total,70\na2,b1,30\na2,b2,40\nA,C,V\nTotal,Total,140\nTotal,c1,55\nTotal,c2,85\na1,Total,70\na1,c1,30\na1,c2,40\na2,Total,70\na2,c1,25\na2,c2,45\n";
+
+/// Metadata of a variable of three bytes, whose codes are in a hierarchy file, and of the response.
+pub const LISTED: &str =
+    "A 1 3\n<RECODEABLE>\n<CODELIST> \"a.cdl\"\n<HIERARCHICAL>\n<HIERCODELIST> \"a.hrc\"\nV 4 3\n<NUMERIC>\n";

@@ -90,6 +90,21 @@ pub fn run_alone(
     run_words(alloc, &["run", "r.job"], files, pieces, &mut tray)
 }
 
+/// What the job `r.job` says and leaves on an empty tray, whether its files come whole or byte by byte; both answers
+/// where these differ.
+pub fn run_either_way(alloc: Global, files: &[(&str, &str)]) -> Result<String, Memory> {
+    let single = Pieces {
+        bytes: 1,
+        failing: 0,
+    };
+    let whole = run_alone(alloc, files, WHOLE_FILES, 0)?;
+    let by_byte = run_alone(alloc, files, single, 0)?;
+    if whole.as_str() == by_byte.as_str() {
+        return Ok(whole);
+    }
+    Ok(format!(in alloc; "{whole} whole, byte by byte {by_byte}")?)
+}
+
 /// What these words say of files on a shelf, and then what is put on an empty tray.
 pub fn run_over(alloc: Global, words: &[&str], files: &[(&str, &str)]) -> Result<String, Memory> {
     let mut tray = MemoryTray::new(alloc, Vec::new(alloc));
@@ -104,4 +119,9 @@ pub fn rounding_job(alloc: Global, variables: &str, method: &str) -> Result<Stri
 /// The job of one table with one text in place of another.
 pub fn job_with(alloc: Global, from: &str, to: &str) -> Result<String, Memory> {
     Ok(ONE_TABLE.replace(alloc, from, to)?)
+}
+
+/// The text without so many of its last bytes.
+pub fn without_end(text: &str, bytes: usize) -> &str {
+    text.get(..text.len().saturating_sub(bytes)).unwrap_or(text)
 }

@@ -40,7 +40,7 @@ fn book_of(
         spanned.push(place_of(table))?;
     }
     if trees.len() > 8 || spanned.len() > 100 {
-        return Ok(Err(BookFault::Memory));
+        return Err(Fail::new("too many trees or tables for a book"));
     }
     Ok(Book::new(alloc, trees, spanned))
 }
@@ -97,11 +97,15 @@ fn cells_and_refusals(rt: HostRuntime) -> Result<(), Fail> {
     Ok(())
 }
 
+// The book of the tables A by B, A by C, and C by A, each variable with a total and two codes.
+fn linked(alloc: Global) -> Result<Result<Book, BookFault>, Fail> {
+    book_of(alloc, &[3, 3, 3], &[&[0, 1], &[0, 2], &[2, 0]])
+}
+
+// By a table and a place of it, the number of the cell.
 #[test]
-fn linked_cells(rt: HostRuntime) -> Result<(), Fail> {
-    let alloc = rt.alloc();
-    let tables: &[&[u32]] = &[&[0, 1], &[0, 2], &[2, 0]];
-    let Ok(mut book) = book_of(alloc, &[3, 3, 3], tables)? else {
+fn cells_of_linked_tables(rt: HostRuntime) -> Result<(), Fail> {
+    let Ok(book) = linked(rt.alloc())? else {
         return Ok(assert_eq!(rt; true, false));
     };
     for (t, place, cell) in [
@@ -123,44 +127,88 @@ fn linked_cells(rt: HostRuntime) -> Result<(), Fail> {
     ] {
         assert_eq!(rt; book.id(t, place.as_slice()), cell);
     }
-    assert_eq!(rt; book.id(0, &[0]), None);
-    assert_eq!(rt; book.id(0, &[0, 0, 0]), None);
+    assert_eq!(rt; [book.id(0, &[0]), book.id(0, &[0, 0, 0])], [None, None]);
+    Ok(())
+}
+
+// The names of cells, and their numbers by these.
+#[test]
+fn names_of_cells(rt: HostRuntime) -> Result<(), Fail> {
+    let Ok(book) = linked(rt.alloc())? else {
+        return Ok(assert_eq!(rt; true, false));
+    };
     assert_eq!(rt; name_of(&book, 4), [1, 1, 0].as_slice());
     assert_eq!(rt; name_of(&book, 12), [1, 0, 2].as_slice());
     assert_eq!(rt; name_of(&book, 15).len(), 0);
     assert_eq!(rt; book.number(&place_of(&[1, 0, 2])), Some(12));
     assert_eq!(rt; book.number(&place_of(&[1, 1, 1])), None);
+    Ok(())
+}
+
+// How many cells, tables and variables there are, and that there is nothing behind the last of each.
+#[test]
+fn ends_of_a_book(rt: HostRuntime) -> Result<(), Fail> {
+    let Ok(mut book) = linked(rt.alloc())? else {
+        return Ok(assert_eq!(rt; true, false));
+    };
     assert_eq!(rt; (book.cells(), book.tables(), book.variables()), (15, 3, 3));
-    assert_eq!(rt; book.tree(2).is_some(), true);
-    assert_eq!(rt; book.tree(3).is_none(), true);
-    assert_eq!(rt; book.spans(3).is_none(), true);
-    assert_eq!(rt; book.table(3).is_none(), true);
-    assert_eq!(rt; book.lend(3).is_none(), true);
-    // a mark written through one table is that of the others
-    if let Some(mut table) = book.table(2) {
-        assert_eq!(rt; table.cell_mut(&[3, 0]).is_none(), true);
-        if let Some(mark) = table.cell_mut(&[0, 2]) {
-            mark.hidden = true;
-        }
-    }
+    assert_eq!(rt;
+        (book.tree(2).is_some(), book.tree(3).is_some()),
+        (true, false)
+    );
+    assert_eq!(rt; book.spans(3).is_some(), false);
+    assert_eq!(rt; book.table(3).is_some(), false);
+    assert_eq!(rt; book.lend(3).is_some(), false);
+    Ok(())
+}
+
+// Marks the cell at a place of the third table as hidden, and says whether there is one.
+fn mark_through_the_third(book: &mut Book, place: &[u32]) -> bool {
+    let Some(mut table) = book.table(2) else {
+        return false;
+    };
+    let Some(mark) = table.cell_mut(place) else {
+        return false;
+    };
+    mark.hidden = true;
+    true
+}
+
+// A mark that is written through one table is that of the others.
+#[test]
+fn tables_share_their_marks(rt: HostRuntime) -> Result<(), Fail> {
+    let Ok(mut book) = linked(rt.alloc())? else {
+        return Ok(assert_eq!(rt; true, false));
+    };
+    assert_eq!(rt; mark_through_the_third(&mut book, &[3, 0]), false);
+    assert_eq!(rt; mark_through_the_third(&mut book, &[0, 2]), true);
     for (cell, mark) in book.marks().iter().enumerate() {
-        assert_eq!(rt; mark.hidden, cell == 6);
-        assert_eq!(rt; mark.facts.freq, 0);
+        assert_eq!(rt; (mark.hidden, mark.facts.freq), (cell == 6, 0));
     }
-    // the cells that the second table is the first to name
-    if let Some(mut lent) = book.lend(1) {
-        assert_eq!(rt; lent.earlier().len(), 9);
-        let own = lent.own();
-        assert_eq!(rt; own.len(), 6);
-        if own.len() == 6 {
-            own[3].hidden = true;
-        }
+    Ok(())
+}
+
+// How many cells earlier tables name, and of how many a table is the first; of six such, marks the fourth as hidden.
+fn lent_counts(book: &mut Book, t: u32) -> Option<(usize, usize)> {
+    let mut lent = book.lend(t)?;
+    let earlier = lent.earlier().len();
+    let own = lent.own();
+    if own.len() == 6 {
+        own[3].hidden = true;
     }
+    Some((earlier, own.len()))
+}
+
+// The cells that a table is the first to name are lent by themselves.
+#[test]
+fn cells_are_lent(rt: HostRuntime) -> Result<(), Fail> {
+    let Ok(mut book) = linked(rt.alloc())? else {
+        return Ok(assert_eq!(rt; true, false));
+    };
+    assert_eq!(rt; lent_counts(&mut book, 1), Some((9, 6)));
+    assert_eq!(rt; lent_counts(&mut book, 2), Some((15, 0)));
     for (cell, mark) in book.marks().iter().enumerate() {
-        assert_eq!(rt; mark.hidden, cell == 6 || cell == 12);
-    }
-    if let Some(mut lent) = book.lend(2) {
-        assert_eq!(rt; (lent.earlier().len(), lent.own().len()), (15, 0));
+        assert_eq!(rt; mark.hidden, cell == 12);
     }
     Ok(())
 }

@@ -146,30 +146,45 @@ fn weighed(
     }
 }
 
+// The facts of the first four cells of a book of one table over one variable, given records at a scale.
+fn weighed_facts(
+    alloc: Global,
+    records: &[Record<'_>],
+    turned: bool,
+    scale: u32,
+) -> Result<[Option<Facts>; 4], Fail> {
+    let Some(book) = weighed(alloc, records, turned, scale)? else {
+        return Ok([None; 4]);
+    };
+    Ok([
+        facts_of(&book, 0),
+        facts_of(&book, 1),
+        facts_of(&book, 2),
+        facts_of(&book, 3),
+    ])
+}
+
 #[test]
 fn sums_and_largest_by_weight_steps(rt: HostRuntime) -> Result<(), Fail> {
-    let alloc = rt.alloc();
     // 10 stands three times and 4 once: the sum is 3 * 10 + 4, the largest are 10, 10, 10 and 4
     let steps: &[Record<'_>] = &[(&[1], 10, 3), (&[2], 4, 1)];
-    for turned in [false, true] {
-        let made = weighed(alloc, steps, turned, 1)?;
-        let Some(book) = made else {
-            return Ok(assert_eq!(rt; true, false));
-        };
-        assert_eq!(rt; facts_of(&book, 0), Some((34, 2, [10, 20, 30, 34])));
-        assert_eq!(rt; facts_of(&book, 1), Some((30, 1, [10, 20, 30, 30])));
-        assert_eq!(rt; facts_of(&book, 2), Some((4, 1, [4, 4, 4, 4])));
-        assert_eq!(rt; facts_of(&book, 3), None);
-    }
+    let by_steps = [
+        Some((34, 2, [10, 20, 30, 34])),
+        Some((30, 1, [10, 20, 30, 30])),
+        Some((4, 1, [4, 4, 4, 4])),
+        None,
+    ];
+    assert_eq!(rt; weighed_facts(rt.alloc(), steps, false, 1)?, by_steps);
+    assert_eq!(rt; weighed_facts(rt.alloc(), steps, true, 1)?, by_steps);
     // 10 stands two and a half times, counted in tenths
     let part: &[Record<'_>] = &[(&[1], 10, 25)];
-    let made = weighed(alloc, part, false, 10)?;
-    let Some(book) = made else {
-        return Ok(assert_eq!(rt; true, false));
-    };
-    assert_eq!(rt; facts_of(&book, 0), Some((250, 1, [100, 200, 250, 250])));
-    assert_eq!(rt; facts_of(&book, 1), Some((250, 1, [100, 200, 250, 250])));
-    assert_eq!(rt; facts_of(&book, 2), Some((0, 0, [0, 0, 0, 0])));
+    let in_tenths = [
+        Some((250, 1, [100, 200, 250, 250])),
+        Some((250, 1, [100, 200, 250, 250])),
+        Some((0, 0, [0, 0, 0, 0])),
+        None,
+    ];
+    assert_eq!(rt; weighed_facts(rt.alloc(), part, false, 10)?, in_tenths);
     Ok(())
 }
 
@@ -188,67 +203,78 @@ fn linked(alloc: Global, records: &[Record<'_>], turned: bool) -> Result<Option<
     }
 }
 
+// Of each cell of the tables of thirteen records: its sum, its number, its largest, and its two largest together.
+const WANTED: [(i128, u32, i128, i128); 15] = [
+    // all, b1, b2
+    (140, 13, 20, 35),
+    (50, 6, 10, 20),
+    (90, 7, 20, 35),
+    // a1, with b1 and with b2
+    (70, 6, 20, 30),
+    (20, 2, 10, 20),
+    (50, 4, 20, 30),
+    // a2, with b1 and with b2
+    (70, 7, 15, 30),
+    (30, 4, 10, 20),
+    (40, 3, 15, 30),
+    // c1, c2, a1 with each, a2 with each
+    (55, 6, 15, 25),
+    (85, 7, 20, 35),
+    (30, 3, 10, 20),
+    (40, 3, 20, 30),
+    (25, 3, 15, 20),
+    (45, 4, 15, 25),
+];
+
 #[test]
 fn linked_tables_share_their_cells(rt: HostRuntime) -> Result<(), Fail> {
-    let alloc = rt.alloc();
     let records = thirteen();
-    // of each cell: its sum, its number, its largest, and its two largest together
-    let wanted = [
-        // all, b1, b2
-        (140, 13, 20, 35),
-        (50, 6, 10, 20),
-        (90, 7, 20, 35),
-        // a1, with b1 and with b2
-        (70, 6, 20, 30),
-        (20, 2, 10, 20),
-        (50, 4, 20, 30),
-        // a2, with b1 and with b2
-        (70, 7, 15, 30),
-        (30, 4, 10, 20),
-        (40, 3, 15, 30),
-        // c1, c2, a1 with each, a2 with each
-        (55, 6, 15, 25),
-        (85, 7, 20, 35),
-        (30, 3, 10, 20),
-        (40, 3, 20, 30),
-        (25, 3, 15, 20),
-        (45, 4, 15, 25),
-    ];
     for turned in [false, true] {
-        let made = linked(alloc, records.as_slice(), turned)?;
+        let made = linked(rt.alloc(), records.as_slice(), turned)?;
         let Some(book) = made else {
             return Ok(assert_eq!(rt; true, false));
         };
         assert_eq!(rt; book.cells(), 15);
-        for (cell, (sum, number, first, both)) in wanted.iter().enumerate() {
-            assert_eq!(rt;
-                facts_of(&book, cell as u32),
-                Some((*sum, *number, [*first, *both, -1, -1]))
-            );
-        }
-        for (cell, mark) in book.marks().iter().enumerate() {
-            assert_eq!(rt; mark.hidden, cell == 4);
-        }
-        // the second table by its places, and the third, which is the second one turned
-        for (place, turned_place, sum) in [
-            ([0, 0], [0, 0], 140),
-            ([0, 1], [1, 0], 55),
-            ([0, 2], [2, 0], 85),
-            ([1, 0], [0, 1], 70),
-            ([1, 1], [1, 1], 30),
-            ([1, 2], [2, 1], 40),
-            ([2, 0], [0, 2], 70),
-            ([2, 1], [1, 2], 25),
-            ([2, 2], [2, 2], 45),
-        ] {
-            let facts = facts_at(&book, 1, place.as_slice());
-            assert_eq!(rt; facts.map(|facts| facts.0), Some(sum));
-            assert_eq!(rt; facts_at(&book, 2, turned_place.as_slice()), facts);
+        for (cell, (sum, number, first, both)) in WANTED.iter().enumerate() {
+            let wanted = Some((*sum, *number, [*first, *both, -1, -1]));
+            assert_eq!(rt; facts_of(&book, cell as u32), wanted);
         }
     }
-    // without records all is 0
-    let made = linked(alloc, &[], false)?;
-    let Some(book) = made else {
+    Ok(())
+}
+
+// The second table by its places, and the third, which is the second one turned. What was hidden stays so.
+#[test]
+fn turned_tables_have_the_same_facts(rt: HostRuntime) -> Result<(), Fail> {
+    let records = thirteen();
+    let Some(book) = linked(rt.alloc(), records.as_slice(), false)? else {
+        return Ok(assert_eq!(rt; true, false));
+    };
+    for (place, turned_place, sum) in [
+        ([0, 0], [0, 0], 140),
+        ([0, 1], [1, 0], 55),
+        ([0, 2], [2, 0], 85),
+        ([1, 0], [0, 1], 70),
+        ([1, 1], [1, 1], 30),
+        ([1, 2], [2, 1], 40),
+        ([2, 0], [0, 2], 70),
+        ([2, 1], [1, 2], 25),
+        ([2, 2], [2, 2], 45),
+    ] {
+        let facts = facts_at(&book, 1, place.as_slice());
+        assert_eq!(rt; facts.map(|facts| facts.0), Some(sum));
+        assert_eq!(rt; facts_at(&book, 2, turned_place.as_slice()), facts);
+    }
+    for (cell, mark) in book.marks().iter().enumerate() {
+        assert_eq!(rt; mark.hidden, cell == 4);
+    }
+    Ok(())
+}
+
+// Without records all is 0.
+#[test]
+fn no_records_have_sums_of_0(rt: HostRuntime) -> Result<(), Fail> {
+    let Some(book) = linked(rt.alloc(), &[], false)? else {
         return Ok(assert_eq!(rt; true, false));
     };
     for cell in 0..15u32 {
@@ -257,14 +283,9 @@ fn linked_tables_share_their_cells(rt: HostRuntime) -> Result<(), Fail> {
     Ok(())
 }
 
-#[test]
-fn records_count_under_each_code_above(rt: HostRuntime) -> Result<(), Fail> {
-    let alloc = rt.alloc();
-    let mut trees = Vec::new(alloc);
-    trees.push(regions(alloc)?)?;
-    trees.push(two_codes(alloc)?)?;
-    let mut book = Book::new(alloc, trees, places(alloc, &[&[0, 1]])?)?;
-    // each value is another power of 2, so that a sum tells of which records it is
+// A book of one table of regions by two codes, given records of which each value is another power of 2, so that a sum
+// tells of which records it is.
+fn regional(alloc: Global) -> Result<Option<Book>, Fail> {
     let records: &[Record<'_>] = &[
         (&[2, 1], 1, 1),
         (&[3, 1], 2, 1),
@@ -272,8 +293,23 @@ fn records_count_under_each_code_above(rt: HostRuntime) -> Result<(), Fail> {
         (&[5, 2], 8, 1),
         (&[1, 1], 16, 1),
     ];
+    let mut trees = Vec::new(alloc);
+    trees.push(regions(alloc)?)?;
+    trees.push(two_codes(alloc)?)?;
+    let mut book = Book::new(alloc, trees, places(alloc, &[&[0, 1]])?)?;
     let rows = rows_of(alloc, records, false)?;
-    assert_eq!(rt; tabulated(&mut book, rows.as_slice(), 2, 1), true);
+    if tabulated(&mut book, rows.as_slice(), 2, 1) {
+        Ok(Some(book))
+    } else {
+        Ok(None)
+    }
+}
+
+#[test]
+fn records_count_under_each_code_above(rt: HostRuntime) -> Result<(), Fail> {
+    let Some(book) = regional(rt.alloc())? else {
+        return Ok(assert_eq!(rt; true, false));
+    };
     for (region, sums, numbers) in [
         (0, [31, 19, 12], [5, 3, 2]),
         (1, [23, 19, 4], [4, 3, 1]),

@@ -1,8 +1,7 @@
-use crate::jobs::USAGE;
-use crate::runs::{WHOLE_FILES, run_words};
 use office_io::MemoryTray;
 use std::rt::HostRuntime;
 use std::test::Fail;
+use worked_runs::{USAGE, WHOLE_FILES, run_words};
 
 // One record stands in 12 of 64 cells, and all of them are primary: three regions by four codes.
 const ONE: &str = "0 demo: status 0, 1 records, 0 skipped, 64 cells, 12 primary, 12 hidden\n";
