@@ -1,3 +1,5 @@
+use sdc_base::Memory;
+use std::alloc::Global;
 use std::rt::HostRuntime;
 use std::test::Fail;
 use worked_runs::{
@@ -9,6 +11,38 @@ use worked_runs::{
 const ROUNDED: &str = "argus certificate 1\nmethod RND 5\ncells 9\nrelations 6\nend\n";
 
 const FOUR: &str = "a1b1c1  3\na1b2c1  4\na2b1c1  6\na2b2c1  2\n";
+
+// What a check of a job says, over these records, where this certificate and this table stand.
+fn check_of<'x>(
+    alloc: Global,
+    job: &'x str,
+    microdata: &'x str,
+    certificate: &'x str,
+    table: &'x str,
+) -> Result<String, Memory> {
+    let files = [
+        ("r.job", job),
+        ("m.rda", THREE_VARIABLES),
+        ("m.asc", microdata),
+        ("p.hst", MARGINS),
+        ("t.cert", certificate),
+        ("t.csv", table),
+    ];
+    run_over(alloc, &["check", "r.job"], &files)
+}
+
+// What is said, and put, of the intervals of a job whose table this is.
+fn intervals_of<'x>(alloc: Global, job: &'x str, table: &'x str) -> Result<String, Memory> {
+    let files = [
+        ("r.job", job),
+        ("m.rda", THREE_VARIABLES),
+        ("m.asc", THIRTEEN_RECORDS),
+        ("p.hst", MARGINS),
+        ("t.cert", ""),
+        ("t.csv", table),
+    ];
+    run_over(alloc, &["intervals", "r.job", "out.csv"], &files)
+}
 
 // By the certificate and the table that stand on the shelf: whether they are accepted, or their first fault.
 #[test]
@@ -32,15 +66,7 @@ fn checks(rt: HostRuntime) -> Result<(), Fail> {
         ),
     ];
     for (certificate, table, want) in rows {
-        let files = [
-            ("r.job", TWO_WAY),
-            ("m.rda", THREE_VARIABLES),
-            ("m.asc", THIRTEEN_RECORDS),
-            ("p.hst", MARGINS),
-            ("t.cert", certificate),
-            ("t.csv", table),
-        ];
-        let got = run_over(alloc, &["check", "r.job"], &files)?;
+        let got = check_of(alloc, TWO_WAY, THIRTEEN_RECORDS, certificate, table)?;
         assert_eq!(rt; got.as_str(), want);
     }
     Ok(())
@@ -63,15 +89,7 @@ fn checks_of_roundings(rt: HostRuntime) -> Result<(), Fail> {
         ),
     ];
     for (table, want) in rows {
-        let files = [
-            ("r.job", job.as_str()),
-            ("m.rda", THREE_VARIABLES),
-            ("m.asc", FOUR),
-            ("p.hst", MARGINS),
-            ("t.cert", ROUNDED),
-            ("t.csv", table),
-        ];
-        let got = run_over(alloc, &["check", "r.job"], &files)?;
+        let got = check_of(alloc, job.as_str(), FOUR, ROUNDED, table)?;
         assert_eq!(rt; got.as_str(), want);
     }
     Ok(())
@@ -96,15 +114,7 @@ fn intervals(rt: HostRuntime) -> Result<(), Fail> {
         (&rounds, TWO_WAY_TABLE, "2 refused: job line 0: BadValue\n"),
     ];
     for (job, table, want) in rows {
-        let files = [
-            ("r.job", job),
-            ("m.rda", THREE_VARIABLES),
-            ("m.asc", THIRTEEN_RECORDS),
-            ("p.hst", MARGINS),
-            ("t.cert", ""),
-            ("t.csv", table),
-        ];
-        let got = run_over(alloc, &["intervals", "r.job", "out.csv"], &files)?;
+        let got = intervals_of(alloc, job, table)?;
         assert_eq!(rt; got.as_str(), want);
     }
     Ok(())
@@ -121,15 +131,7 @@ fn altered_tables(rt: HostRuntime) -> Result<(), Fail> {
     ];
     for (line, want) in rows {
         let table = TWO_WAY_TABLE.replace(rt.alloc(), "a2,b2,x\n", line)?;
-        let files = [
-            ("r.job", TWO_WAY),
-            ("m.rda", THREE_VARIABLES),
-            ("m.asc", THIRTEEN_RECORDS),
-            ("p.hst", MARGINS),
-            ("t.cert", ""),
-            ("t.csv", &table),
-        ];
-        let got = run_over(rt.alloc(), &["intervals", "r.job", "out.csv"], &files)?;
+        let got = intervals_of(rt.alloc(), TWO_WAY, table.as_str())?;
         assert_eq!(rt; got.as_str(), want);
     }
     Ok(())

@@ -3,8 +3,10 @@
 
 mod cells;
 mod systems;
+mod tables;
 mod truths;
 
 pub use cells::{bounded_cell, cell_of, cell_within, shown_cell};
 pub use systems::{hidden_of, system_of};
+pub use tables::{LINKED, SHOWN_MARGINS, TWO_BY_TWO};
 pub use truths::set_truth;

@@ -3,6 +3,7 @@ ghost use Rattle.apriori.specs.CellLevels.{HasLevelsInRange};
 ghost use Rattle.cost_rule.specs.Costs.{AreCosted};
 ghost use Rattle.cell_protection.specs.Protections.{AreNarrow, HasText};
 
+use crate::costs::is_costed;
 use cell_protection::{Protection, protect_cells};
 use certificate::write_certificate;
 use cost_rule::CostKind;
@@ -70,12 +71,6 @@ fn is_narrow(book: &Book) -> bool
         Some(table) => table.len() >= 1 && table.len() <= 8,
         None => false,
     }
-}
-
-fn is_costed(mark: &Mark) -> bool
-    ensures { result ≡ true → AreCosted mark.now.facts }
-{
-    mark.facts.truth >= 0 && mark.facts.freq <= 1000000
 }
 
 fn is_modest(cell: &Cell) -> bool

@@ -1,20 +1,18 @@
 ghost use Rattle.std.specs.Prelude.{◌≡◌, ◌≤ℤ◌, pos, true, All};
-ghost use Rattle.cost_rule.specs.Costs.{AreCosted, IsTold};
+ghost use Rattle.cost_rule.specs.Costs.{IsTold};
 ghost use Rattle.cost_rule.specs.declared.kind.CostKind.TheVariants as Kinds;
 
+use crate::costs::are_costed;
 use code_trees::{CodeTree, flat};
 use cost_rule::{CostKind, CostRule, TellsCosts};
 use hypercube::cheapest;
-use linked_tables::{Book, Mark};
+use linked_tables::Book;
 use sdc_base::{Cell, CellFacts, Corner, Kind, Levels, Subtable};
 use std::alloc::Global;
 use std::rt::HostRuntime;
 use std::test::Fail;
 use worked::{place, text};
-use worked_cells::{bounded_cell, cell_of, set_truth};
-
-// The truths of a table A by B and a table A by C, each variable with two codes.
-const LINKED: [u32; 15] = [140, 50, 90, 70, 20, 50, 70, 30, 40, 55, 85, 30, 40, 25, 45];
+use worked_cells::{LINKED, bounded_cell, cell_of, set_truth};
 
 // The truths of a table A by B by C, each variable with two codes: the place a, b, c has the number 9 a + 3 b + c.
 const CUBIC: [u32; 27] = [
@@ -95,18 +93,6 @@ fn cells_of(
         }
     }
     Ok(cells)
-}
-
-fn is_costed(mark: &Mark) -> bool
-    ensures { result ≡ true → AreCosted mark.now.facts }
-{
-    0 <= mark.facts.truth && mark.facts.freq <= 1000000
-}
-
-fn are_costed(marks: &[Mark]) -> bool
-    ensures { result ≡ true → All (λ mark. AreCosted mark.facts) marks.now }
-{
-    marks.iter().all(|mark| is_costed(mark))
 }
 
 // The corners of the least cube of a cell in the subtable of the totals of table t, where it may be asked for.

@@ -4,6 +4,8 @@
 #[cfg(test)]
 mod cell_protection_tests;
 #[cfg(test)]
+mod costs;
+#[cfg(test)]
 mod hypercube_tests;
 #[cfg(test)]
 mod modular_plan_tests;

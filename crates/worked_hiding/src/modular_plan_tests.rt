@@ -1,20 +1,18 @@
 ghost use Rattle.std.specs.Prelude.{◌≡◌, true, All};
-ghost use Rattle.cost_rule.specs.Costs.{AreCosted, IsTold};
+ghost use Rattle.cost_rule.specs.Costs.{IsTold};
 ghost use Rattle.cost_rule.specs.declared.kind.CostKind.TheVariants as Kinds;
 
+use crate::costs::are_costed;
 use cost_rule::{CostKind, CostRule, TellsCosts};
 use hierarchy::{CodeTree, from_lead};
-use linked_tables::{Book, Mark};
+use linked_tables::Book;
 use modular_plan::plan;
 use sdc_base::{Cell, CellFacts, Kind, PlanStep, Trail};
 use std::alloc::Global;
 use std::rt::HostRuntime;
 use std::test::Fail;
 use worked::{place, text, two_codes};
-use worked_cells::{bounded_cell, cell_of, set_truth};
-
-// The truths of a table A by B and a table A by C, each variable with two codes.
-const LINKED: [u32; 15] = [140, 50, 90, 70, 20, 50, 70, 30, 40, 55, 85, 30, 40, 25, 45];
+use worked_cells::{LINKED, bounded_cell, cell_of, set_truth};
 
 // The truths of the total, 1 with 11 and 12 below it, and 2 with 21 below it.
 const INDUSTRIES: [u32; 6] = [117, 75, 60, 15, 42, 42];
@@ -93,18 +91,6 @@ fn industry_cells(alloc: Global) -> Result<Vec<Cell>, Fail> {
         cells.push(cell_of(*truth, kind, 3))?;
     }
     Ok(cells)
-}
-
-fn is_costed(mark: &Mark) -> bool
-    ensures { result ≡ true → AreCosted mark.now.facts }
-{
-    0 <= mark.facts.truth && mark.facts.freq <= 1000000
-}
-
-fn are_costed(marks: &[Mark]) -> bool
-    ensures { result ≡ true → All (λ mark. AreCosted mark.facts) marks.now }
-{
-    marks.iter().all(|mark| is_costed(mark))
 }
 
 // Plans, where it may be asked for.

@@ -1,10 +1,11 @@
 ghost use Rattle.std.specs.Prelude.{◌≡◌, ◌≢◌, All, true};
 ghost use Rattle.sdc_base.specs.declared.cell.Kind.TheVariants.{Primary};
-ghost use Rattle.cost_rule.specs.Costs.{IsTold, AreCosted};
+ghost use Rattle.cost_rule.specs.Costs.{IsTold};
 ghost use Rattle.sdc_base.specs.HiddenSets.{MayHide};
 ghost use Rattle.sdc_base.specs.Trails.{corners_of};
 ghost use Rattle.repair.specs.KeptWorlds.{HasModestLevels};
 
+use crate::costs::is_costed;
 use cost_rule::{CostKind, CostRule, TellsCosts};
 use interval_audit::AskFault;
 use linked_tables::Mark;
@@ -13,7 +14,7 @@ use sdc_base::{Cell, CellFacts, Items, Kind, Place, PlanStep, Relation, Tops, Tr
 use std::alloc::Global;
 use std::rt::HostRuntime;
 use std::test::Fail;
-use worked_cells::{cell_of, shown_cell, system_of};
+use worked_cells::{TWO_BY_TWO, cell_of, shown_cell, system_of};
 use worlds::{Multipliers, Refuted, World};
 
 // A cell of a job: its truth, its kind, the level to both sides of a primary one, and bounds where they are stated.
@@ -28,17 +29,7 @@ struct Job<'a> {
     limit: u64,
 }
 
-// The relations of a table of two variables with two codes each.
-const TWO_BY_TWO: [(u32, &[u32]); 6] = [
-    (0, &[3, 6]),
-    (0, &[1, 2]),
-    (1, &[4, 7]),
-    (2, &[5, 8]),
-    (3, &[4, 5]),
-    (6, &[7, 8]),
-];
-
-// The cells of that table with these kinds of margins, the first inner cell primary.
+// The cells of a table of two by two with these kinds of margins, the first inner cell primary.
 fn inner_and_margins(margin: Kind, bounds: Option<(u32, u32)>) -> [Row; 9] {
     [
         (140, margin, 0, None),
@@ -123,13 +114,6 @@ fn is_modest(cell: &Cell) -> bool
     ensures { result ≡ true → HasModestLevels cell.now }
 {
     cell.up <= 1 << 110 && cell.down <= 1 << 110
-}
-
-// Whether a cost rule may be asked about a mark.
-fn is_costed(mark: &Mark) -> bool
-    ensures { result ≡ true → AreCosted mark.now.facts }
-{
-    mark.facts.truth >= 0 && mark.facts.freq <= 1000000
 }
 
 // Whether there is a cell with this number that isn't fixed.

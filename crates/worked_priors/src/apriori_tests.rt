@@ -4,48 +4,22 @@ ghost use Rattle.apriori.specs.Priors.{ArePriors};
 ghost use Rattle.apriori.specs.Settling.{IsReadyFor};
 
 use apriori::{Prior, PriorError, PriorWhy, apply, blank_priors, settle};
-use code_trees::{CodeTree, flat};
-use linked_tables::{Book, BookFault, Mark};
+use linked_tables::{Book, Mark};
 use primary_rules::keep;
-use sdc_base::{Cell, CellFacts, Few, Kind, Place, Rule, Rules, Text, Tops};
+use sdc_base::{Cell, CellFacts, Few, Kind, Rule, Rules, Tops};
 use std::alloc::Global;
 use std::process::Abort;
 use std::rt::HostRuntime;
 use std::test::Fail;
-
-// The total and two codes of a variable.
-fn tree_of(alloc: Global, first: &[u8], second: &[u8]) -> Result<CodeTree, Fail> {
-    let mut codes = Vec::new(alloc);
-    codes.push(Text::new(Vec::from_slice(alloc, first)?))?;
-    codes.push(Text::new(Vec::from_slice(alloc, second)?))?;
-    let total = Text::new(Vec::from_slice(alloc, b"Total")?);
-    Ok(flat(alloc, &codes, &total)?)
-}
-
-fn place_of(codes: &[u32]) -> Place {
-    let mut place = Few::empty();
-    for code in codes {
-        let at = place.len();
-        if at < 8 {
-            place.insert(at, *code);
-        }
-    }
-    place
-}
+use worked::{places, tree};
 
 // The tables of the first and second variable and of the first and third, without records.
-fn empty_book(alloc: Global) -> Result<Result<Book, BookFault>, Fail> {
+fn empty_book(alloc: Global) -> Result<Book, Fail> {
     let mut trees = Vec::new(alloc);
-    trees.push(tree_of(alloc, b"a1", b"a2")?)?;
-    trees.push(tree_of(alloc, b"b1", b"b2")?)?;
-    trees.push(tree_of(alloc, b"c1", b"c2")?)?;
-    let mut tables = Vec::new(alloc);
-    tables.push(place_of(&[0, 1]))?;
-    tables.push(place_of(&[0, 2]))?;
-    if trees.len() > 8 || tables.len() > 100 {
-        return Err(Fail::new("too many trees or tables for a book"));
-    }
-    Ok(Book::new(alloc, trees, tables))
+    trees.push(tree(alloc, &[b"a1", b"a2"])?)?;
+    trees.push(tree(alloc, &[b"b1", b"b2"])?)?;
+    trees.push(tree(alloc, &[b"c1", b"c2"])?)?;
+    Ok(Book::new(alloc, trees, places(alloc, &[&[0, 1], &[0, 2]])?)?)
 }
 
 // The thirteen records as truths and numbers of records; where it is wanted, the cell of a2 and b2 has none.
@@ -86,12 +60,10 @@ fn fill(book: &mut Book, emptied: bool) {
 }
 
 // A book of the thirteen records.
-fn book_of(alloc: Global, emptied: bool) -> Result<Option<Book>, Fail> {
-    let Ok(mut book) = empty_book(alloc)? else {
-        return Ok(None);
-    };
+fn book_of(alloc: Global, emptied: bool) -> Result<Book, Fail> {
+    let mut book = empty_book(alloc)?;
     fill(&mut book, emptied);
-    Ok(Some(book))
+    Ok(book)
 }
 
 // `FREQ(3,30)` and `MAN(20)`.
@@ -187,9 +159,7 @@ fn answer(
 fn prices_and_bounds(rt: HostRuntime) -> Result<(), Fail> {
     use PriorWhy::{BadNumber, OutsideTruth, Twice};
     let alloc = rt.alloc();
-    let Some(book) = book_of(alloc, true)? else {
-        return Ok(assert_eq!(&rt; true, false));
-    };
+    let book = book_of(alloc, true)?;
     are_answered(
         &rt,
         alloc,
@@ -230,9 +200,7 @@ fn are_answered(
 fn codes_and_shapes(rt: HostRuntime) -> Result<(), Fail> {
     use PriorWhy::{BadShape, UnknownCode};
     let alloc = rt.alloc();
-    let Some(book) = book_of(alloc, true)? else {
-        return Ok(assert_eq!(&rt; true, false));
-    };
+    let book = book_of(alloc, true)?;
     are_answered(
         &rt,
         alloc,
@@ -256,9 +224,7 @@ fn codes_and_shapes(rt: HostRuntime) -> Result<(), Fail> {
 fn levels_and_statuses(rt: HostRuntime) -> Result<(), Fail> {
     use PriorWhy::{BadNumber, EmptyUnsafe, Twice};
     let alloc = rt.alloc();
-    let Some(book) = book_of(alloc, true)? else {
-        return Ok(assert_eq!(rt; true, false));
-    };
+    let book = book_of(alloc, true)?;
     for (text, wanted) in [
         ("a1,b2,pl,1,0\n", Err((1, BadNumber))),
         ("a1,b2,Pl,0,1\n", Ok(())),
@@ -287,9 +253,7 @@ fn levels_and_statuses(rt: HostRuntime) -> Result<(), Fail> {
 fn separators_and_decimals(rt: HostRuntime) -> Result<(), Fail> {
     use PriorWhy::{BadNumber, BadShape, OutsideTruth};
     let alloc = rt.alloc();
-    let Some(book) = book_of(alloc, false)? else {
-        return Ok(assert_eq!(rt; true, false));
-    };
+    let book = book_of(alloc, false)?;
     for (separator, decimals, text, wanted) in [
         (b';', 0, "a1;b2;c;5", Ok(())),
         (b'\t', 0, "a1\tb2\tc\t5", Ok(())),
@@ -351,9 +315,7 @@ fn are_answered_behind(
 #[test]
 fn statements_over_all_files(rt: HostRuntime) -> Result<(), Fail> {
     let alloc = rt.alloc();
-    let Some(book) = book_of(alloc, false)? else {
-        return Ok(assert_eq!(&rt; true, false));
-    };
+    let book = book_of(alloc, false)?;
     let twice = Err((1, 2, PriorWhy::Twice));
     are_answered_behind(
         &rt,
@@ -379,9 +341,7 @@ fn cell_after(
     files: (&str, &str),
     cell: usize,
 ) -> Result<Option<Result<Shape, (u32, u32, PriorWhy)>>, Fail> {
-    let Some(book) = book_of(alloc, emptied)? else {
-        return Ok(None);
-    };
+    let book = book_of(alloc, emptied)?;
     cell_in(alloc, &book, files, cell)
 }
 

@@ -12,26 +12,13 @@ use std::process::Abort;
 use std::rt::HostRuntime;
 use std::test::Fail;
 use worked::{pairs, place, places, texts};
-use worked_cells::{cell_of, set_truth};
+use worked_cells::{SHOWN_MARGINS, cell_of, set_truth};
 use worlds::{RefutationFault, WorldFault};
 
 // A cell of a job: its truth and its kind.
 type Row = (u32, Kind);
 
-// A table of two variables with two codes each, whose margins are always shown, with a primary inner cell.
-const SHOWN_MARGINS: [Row; 9] = [
-    (140, Kind::Fixed),
-    (50, Kind::Fixed),
-    (90, Kind::Fixed),
-    (70, Kind::Fixed),
-    (20, Kind::Primary),
-    (50, Kind::Free),
-    (70, Kind::Fixed),
-    (30, Kind::Free),
-    (40, Kind::Free),
-];
-
-// The same of small counts.
+// The truths of a table of two by two, all small counts.
 const SMALL_COUNTS: [Row; 9] = [
     (15, Kind::Free),
     (9, Kind::Free),
@@ -44,7 +31,7 @@ const SMALL_COUNTS: [Row; 9] = [
     (2, Kind::Free),
 ];
 
-// The tables of the former with cells 4, 5, 7 and 8 hidden, and of the latter rounded to the base 5.
+// The tables of [`SHOWN_MARGINS`] with cells 4, 5, 7 and 8 hidden, and of the small counts rounded to the base 5.
 const SUPPRESSED: &str =
     "A,B,V\nTotal,Total,140\nTotal,1,50\nTotal,2,90\n1,Total,70\n1,1,x\n1,2,x\n2,Total,70\n2,1,x\n2,2,x\n";
 

@@ -1,9 +1,10 @@
 use code_trees::{CodeTree, flat};
 use linked_tables::{Book, BookFault};
-use sdc_base::{Few, Place, Text};
+use sdc_base::Text;
 use std::alloc::Global;
 use std::rt::HostRuntime;
 use std::test::Fail;
+use worked::place;
 
 // The total and so many other codes.
 fn tree_of(alloc: Global, size: u32) -> Result<CodeTree, Fail> {
@@ -12,17 +13,6 @@ fn tree_of(alloc: Global, size: u32) -> Result<CodeTree, Fail> {
         codes.push(Text::new(code.to_string(alloc)?.into_bytes()))?;
     }
     Ok(flat(alloc, &codes, &Text::new(Vec::from_slice(alloc, b"Total")?))?)
-}
-
-fn place_of(codes: &[u32]) -> Place {
-    let mut place = Few::empty();
-    for code in codes {
-        let at = place.len();
-        if at < 8 {
-            place.insert(at, *code);
-        }
-    }
-    place
 }
 
 // The book of tables over variables with trees of these sizes.
@@ -37,7 +27,7 @@ fn book_of(
     }
     let mut spanned = Vec::new(alloc);
     for table in tables {
-        spanned.push(place_of(table))?;
+        spanned.push(place(table))?;
     }
     if trees.len() > 8 || spanned.len() > 100 {
         return Err(Fail::new("too many trees or tables for a book"));
@@ -140,8 +130,8 @@ fn names_of_cells(rt: HostRuntime) -> Result<(), Fail> {
     assert_eq!(rt; name_of(&book, 4), [1, 1, 0].as_slice());
     assert_eq!(rt; name_of(&book, 12), [1, 0, 2].as_slice());
     assert_eq!(rt; name_of(&book, 15).len(), 0);
-    assert_eq!(rt; book.number(&place_of(&[1, 0, 2])), Some(12));
-    assert_eq!(rt; book.number(&place_of(&[1, 1, 1])), None);
+    assert_eq!(rt; book.number(&place(&[1, 0, 2])), Some(12));
+    assert_eq!(rt; book.number(&place(&[1, 1, 1])), None);
     Ok(())
 }
 

@@ -7,6 +7,7 @@ use std::alloc::Global;
 use std::rt::HostRuntime;
 use std::test::Fail;
 use worked::{pairs, places, regions, tree};
+use worked_cells::TWO_BY_TWO;
 
 // A relation: the total, and the parts.
 type Sum<'a> = (u32, &'a [u32]);
@@ -88,15 +89,6 @@ fn are_grouped(
     Ok(of.as_slice() == numbers && sizes.as_slice() == wanted)
 }
 
-const TWO_WAY: [Sum<'static>; 6] = [
-    (0, &[3, 6]),
-    (0, &[1, 2]),
-    (1, &[4, 7]),
-    (2, &[5, 8]),
-    (3, &[4, 5]),
-    (6, &[7, 8]),
-];
-
 // Of the hidden cells of a two-way table the number of each cell's component, and the sizes: the four inner ones; cell
 // 2 alone, and 3 that is linked to 7 through 4; none.
 const TWO_WAY_GROUPS: [(&[u32], [Option<u32>; 9], &[u32]); 3] = [
@@ -138,7 +130,7 @@ fn two_way_table(rt: HostRuntime) -> Result<(), Fail> {
     let alloc = rt.alloc();
     let system = system_over(alloc, 2, &[&[0, 1]])?;
     assert_eq!(rt; system.cells, 9);
-    assert_eq!(rt; are(system.relations.as_slice(), &TWO_WAY), true);
+    assert_eq!(rt; are(system.relations.as_slice(), &TWO_BY_TWO), true);
     for (hidden, numbers, sizes) in &TWO_WAY_GROUPS {
         assert_eq!(rt; are_grouped(alloc, &system, hidden, numbers, sizes)?, true);
     }

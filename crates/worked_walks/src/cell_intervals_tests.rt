@@ -1,64 +1,12 @@
 ghost use Rattle.std.specs.Prelude.{◌≡◌, ◌≤◌, ◌≤ℤ◌, ◌^◌, All, true, pos};
 
+use crate::cases::{Case, case_of, ring_of_three, two_by_two};
 use cell_intervals::{CellInterval, interval_text, intervals_of};
 use interval_audit::AskFault;
-use sdc_base::{Cell, Hidden, Items, System};
+use sdc_base::{Cell, Items};
 use std::alloc::Global;
 use std::rt::HostRuntime;
 use std::test::Fail;
-use worked_cells::{cell_within, hidden_of, system_of};
-
-// What is asked of: a system, its cells and which are hidden.
-#[derive(Drop)]
-struct Case {
-    system: System,
-    cells: Vec<Cell>,
-    hidden: Hidden,
-}
-
-// The cells of truths, with no bounds but 0 and those of one cell.
-fn cells_of(
-    alloc: Global,
-    truths: &[i128],
-    bounded: (u32, i128, Option<i128>),
-) -> Result<Option<Vec<Cell>>, Fail> {
-    let mut cells = Vec::new(alloc);
-    for (number, truth) in truths.iter().enumerate() {
-        let made = if number == bounded.0 as usize {
-            cell_within(*truth, bounded.1, bounded.2)
-        } else {
-            cell_within(*truth, 0, None)
-        };
-        let Some(cell) = made else {
-            return Ok(None);
-        };
-        cells.push(cell)?;
-    }
-    Ok(Some(cells))
-}
-
-// A case of relations and of truths, with the bounds of one cell.
-fn case_of(
-    alloc: Global,
-    relations: &[(u32, &[u32])],
-    truths: &[i128],
-    bounded: (u32, i128, Option<i128>),
-    hidden: &[u32],
-) -> Result<Option<Case>, Fail> {
-    let Some(cells) = cells_of(alloc, truths, bounded)? else {
-        return Ok(None);
-    };
-    let count = cells.len();
-    let Some(system) = system_of(alloc, count, relations)? else {
-        return Ok(None);
-    };
-    let hidden = hidden_of(alloc, count, hidden)?;
-    Ok(Some(Case {
-        system,
-        cells,
-        hidden,
-    }))
-}
 
 // Whether no truth is above the greatest.
 fn are_in_range(cells: &[Cell]) -> bool
@@ -99,27 +47,12 @@ fn has_text(alloc: Global, case: Option<Case>, wanted: &[u8]) -> Result<bool, Fa
     Ok(text.as_slice() == wanted)
 }
 
-// A table of two variables with two codes each: the total, the codes of the first variable's total, and so on. Four
-// inner cells are hidden.
-fn two_by_two(alloc: Global) -> Result<Option<Case>, Fail> {
-    let relations = [
-        (0, [3, 6].as_slice()),
-        (0, [1, 2].as_slice()),
-        (1, [4, 7].as_slice()),
-        (2, [5, 8].as_slice()),
-        (3, [4, 5].as_slice()),
-        (6, [7, 8].as_slice()),
-    ];
-    let truths = [140, 50, 90, 70, 20, 50, 70, 30, 40];
-    case_of(alloc, &relations, &truths, (5, 0, None), &[4, 5, 7, 8])
-}
-
 // All four cells move together: by 20 at most until cell 4 is 0, and by 30 at most until cell 7 is.
 #[test]
 fn four_cells_of_a_table(rt: HostRuntime) -> Result<(), Fail> {
     let alloc = rt.alloc();
     let text = b"cell,low,high\n4,0,50\n5,20,70\n7,0,50\n8,20,70\n".as_slice();
-    assert!(&rt; has_text(alloc, two_by_two(alloc)?, text)?);
+    assert!(&rt; has_text(alloc, two_by_two(alloc, (5, 0, None), &[4, 5, 7, 8])?, text)?);
     Ok(())
 }
 
@@ -139,14 +72,7 @@ fn cell_without_upper_bound_is_open(rt: HostRuntime) -> Result<(), Fail> {
 #[test]
 fn ring_of_three_ends_at_halves(rt: HostRuntime) -> Result<(), Fail> {
     let alloc = rt.alloc();
-    let relations = [
-        (0, [3, 4].as_slice()),
-        (1, [4, 5].as_slice()),
-        (2, [3, 5].as_slice()),
-    ];
-    let truths = [20, 20, 20, 10, 10, 10];
-    let bounds = (2, 18, Some(21));
-    let case = case_of(alloc, &relations, &truths, bounds, &[2, 3, 4, 5])?;
+    let case = ring_of_three(alloc)?;
     let text = b"cell,low,high\n2,18,21\n3,9,21/2\n4,19/2,11\n5,9,21/2\n".as_slice();
     assert!(&rt; has_text(alloc, case, text)?);
     Ok(())
@@ -181,7 +107,7 @@ fn cell_too_large(alloc: Global, parts: u32) -> Result<Option<u32>, Fail> {
 
 // The cell of the first question of the two-way table that takes more than one improvement.
 fn cell_cut_off(alloc: Global) -> Result<Option<u32>, Fail> {
-    let Some(table) = two_by_two(alloc)? else {
+    let Some(table) = two_by_two(alloc, (5, 0, None), &[4, 5, 7, 8])? else {
         return Ok(None);
     };
     match intervals_in(alloc, &table, 1) {

@@ -1,74 +1,12 @@
 ghost use Rattle.std.specs.Prelude.{◌<◌, true};
 
+use crate::cases::{Case, case_of, ring_of_three, two_by_two};
 use interval_audit::{Answer, AskFault, Question, TwoEnds, ask, interval};
-use sdc_base::{Cell, Hidden, Side, System};
+use sdc_base::Side;
 use std::alloc::Global;
 use std::rt::HostRuntime;
 use std::test::Fail;
-use worked_cells::{cell_within, hidden_of, system_of};
 use worlds::{Multipliers, World};
-
-// A table of two variables with two codes each: the total, the codes of the first variable's total, and so on.
-const TWO_BY_TWO: [(u32, [u32; 2]); 6] = [
-    (0, [3, 6]),
-    (0, [1, 2]),
-    (1, [4, 7]),
-    (2, [5, 8]),
-    (3, [4, 5]),
-    (6, [7, 8]),
-];
-
-// Its truths.
-const TRUTHS: [i128; 9] = [140, 50, 90, 70, 20, 50, 70, 30, 40];
-
-// What is asked of: a system, its cells and which are hidden.
-#[derive(Drop)]
-struct Case {
-    system: System,
-    cells: Vec<Cell>,
-    hidden: Hidden,
-}
-
-// A case of relations and of truths, with the bounds of one cell.
-fn case_of(
-    alloc: Global,
-    relations: &[(u32, &[u32])],
-    truths: &[i128],
-    bounded: (u32, i128, i128),
-    hidden: &[u32],
-) -> Result<Option<Case>, Fail> {
-    let mut cells = Vec::new(alloc);
-    for (number, truth) in truths.iter().enumerate() {
-        let made = if number == bounded.0 as usize {
-            cell_within(*truth, bounded.1, Some(bounded.2))
-        } else {
-            cell_within(*truth, 0, None)
-        };
-        let Some(cell) = made else {
-            return Ok(None);
-        };
-        cells.push(cell)?;
-    }
-    let count = cells.len();
-    let Some(system) = system_of(alloc, count, relations)? else {
-        return Ok(None);
-    };
-    let hidden = hidden_of(alloc, count, hidden)?;
-    Ok(Some(Case {
-        system,
-        cells,
-        hidden,
-    }))
-}
-
-// The table of two by two with some cells hidden, and bounds of the cell of the first and the second code.
-fn two_by_two(alloc: Global, low: i128, high: i128, hidden: &[u32]) -> Result<Option<Case>, Fail> {
-    let mut relations = Vec::new(alloc);
-    for (total, parts) in &TWO_BY_TWO {
-        relations.push((*total, parts.as_slice()))?;
-    }
-    case_of(alloc, relations.as_slice(), &TRUTHS, (5, low, high), hidden)
-}
 
 // The answer of a question; none where the case can't be asked so.
 fn answer_of(
@@ -175,7 +113,7 @@ fn are_ends(alloc: Global, case: &Case, cell: u32, below: &Wanted<'_>, above: &W
 #[test]
 fn cell_alone_stops_at_once(rt: HostRuntime) -> Result<(), Fail> {
     let alloc = rt.alloc();
-    let Some(case) = two_by_two(alloc, 0, 90, &[4])? else {
+    let Some(case) = two_by_two(alloc, (5, 0, Some(90)), &[4])? else {
         assert!(&rt; false);
         return Ok(());
     };
@@ -211,7 +149,7 @@ fn is_answered(alloc: Global, case: &Case, side: Side, wanted: &Wanted<'_>) -> b
 #[test]
 fn four_cells_reach_the_target(rt: HostRuntime) -> Result<(), Fail> {
     let alloc = rt.alloc();
-    let Some(case) = two_by_two(alloc, 0, 90, &[4, 5, 7, 8])? else {
+    let Some(case) = two_by_two(alloc, (5, 0, Some(90)), &[4, 5, 7, 8])? else {
         assert!(&rt; false);
         return Ok(());
     };
@@ -230,7 +168,7 @@ fn four_cells_reach_the_target(rt: HostRuntime) -> Result<(), Fail> {
 #[test]
 fn bounds_cut_the_interval(rt: HostRuntime) -> Result<(), Fail> {
     let alloc = rt.alloc();
-    let Some(case) = two_by_two(alloc, 45, 60, &[4, 5, 7, 8])? else {
+    let Some(case) = two_by_two(alloc, (5, 45, Some(60)), &[4, 5, 7, 8])? else {
         assert!(&rt; false);
         return Ok(());
     };
@@ -253,7 +191,7 @@ fn bounds_cut_the_interval(rt: HostRuntime) -> Result<(), Fail> {
 fn cell_without_upper_bound_is_open(rt: HostRuntime) -> Result<(), Fail> {
     let alloc = rt.alloc();
     let relations = [(0, [1, 2].as_slice())];
-    let Some(case) = case_of(alloc, &relations, &[50, 20, 30], (2, 0, 30), &[0, 1])? else {
+    let Some(case) = case_of(alloc, &relations, &[50, 20, 30], (2, 0, Some(30)), &[0, 1])? else {
         assert!(&rt; false);
         return Ok(());
     };
@@ -278,13 +216,7 @@ fn cell_without_upper_bound_is_open(rt: HostRuntime) -> Result<(), Fail> {
 #[test]
 fn ring_of_three_stops_at_a_half(rt: HostRuntime) -> Result<(), Fail> {
     let alloc = rt.alloc();
-    let relations = [
-        (0, [3, 4].as_slice()),
-        (1, [4, 5].as_slice()),
-        (2, [3, 5].as_slice()),
-    ];
-    let truths = [20, 20, 20, 10, 10, 10];
-    let Some(case) = case_of(alloc, &relations, &truths, (2, 18, 21), &[2, 3, 4, 5])? else {
+    let Some(case) = ring_of_three(alloc)? else {
         assert!(&rt; false);
         return Ok(());
     };
@@ -316,7 +248,14 @@ fn ring_of_four_stops_at_thirds(rt: HostRuntime) -> Result<(), Fail> {
         (3, [5, 7].as_slice()),
     ];
     let truths = [20, 20, 30, 20, 10, 10, 10, 10];
-    let Some(case) = case_of(alloc, &relations, &truths, (2, 28, 31), &[2, 4, 5, 6, 7])? else {
+    let Some(case) = case_of(
+        alloc,
+        &relations,
+        &truths,
+        (2, 28, Some(31)),
+        &[2, 4, 5, 6, 7],
+    )?
+    else {
         assert!(&rt; false);
         return Ok(());
     };
@@ -345,7 +284,14 @@ fn parts_asked(alloc: Global, parts: u32) -> Result<Option<Result<Answer, AskFau
     }
     let hidden = numbers.as_slice();
     let relations = [(0, hidden)];
-    let Some(case) = case_of(alloc, &relations, truths.as_slice(), (0, 0, 5000), hidden)? else {
+    let Some(case) = case_of(
+        alloc,
+        &relations,
+        truths.as_slice(),
+        (0, 0, Some(5000)),
+        hidden,
+    )?
+    else {
         return Ok(None);
     };
     Ok(answer_of(alloc, &case, 1, Side::Above, 6, 1))

@@ -2,6 +2,8 @@
 #![tactic(auto)]
 
 #[cfg(test)]
+mod cases;
+#[cfg(test)]
 mod cell_intervals_tests;
 #[cfg(test)]
 mod interval_audit_tests;

@@ -8,7 +8,7 @@ use sdc_base::{Relation, System};
 use std::alloc::Global;
 use std::rt::HostRuntime;
 use std::test::Fail;
-use worked_cells::system_of;
+use worked_cells::{TWO_BY_TWO, system_of};
 
 // Relations, each a total and its parts, and a truth for each cell.
 #[derive(Clone, Copy)]
@@ -18,28 +18,14 @@ struct Table<'a> {
 }
 
 // The table 3 4 / 6 2 with its margins.
-const TWO_BY_TWO: Table<'static> = Table {
-    relations: &[
-        (0, &[3, 6]),
-        (0, &[1, 2]),
-        (1, &[4, 7]),
-        (2, &[5, 8]),
-        (3, &[4, 5]),
-        (6, &[7, 8]),
-    ],
+const COUNTS: Table<'static> = Table {
+    relations: &TWO_BY_TWO,
     truths: &[15, 9, 6, 7, 3, 4, 8, 6, 2],
 };
 
 // The table 1 1 / 1 1 with its margins.
 const ONES: Table<'static> = Table {
-    relations: &[
-        (0, &[3, 6]),
-        (0, &[1, 2]),
-        (1, &[4, 7]),
-        (2, &[5, 8]),
-        (3, &[4, 5]),
-        (6, &[7, 8]),
-    ],
+    relations: &TWO_BY_TWO,
     truths: &[4, 2, 2, 2, 1, 1, 2, 1, 1],
 };
 
@@ -205,8 +191,8 @@ fn values_of(
 fn tables_with_roundings(rt: HostRuntime) -> Result<(), Fail> {
     let alloc = rt.alloc();
     for (table, base, nodes) in [
-        (TWO_BY_TWO, 5, 512),
-        (TWO_BY_TWO, 1, 2),
+        (COUNTS, 5, 512),
+        (COUNTS, 1, 2),
         (GREATEST, 10_000_000_000_000_000_000_000, 8),
     ] {
         let Some(system) = system_in(alloc, table)? else {
@@ -246,14 +232,14 @@ fn ones_go_round_once(rt: HostRuntime) -> Result<(), Fail> {
 // Each cell at its nearest multiple of 5: the first row has 5, and 5 and 5 in it.
 #[test]
 fn nearest_multiples_are_none(rt: HostRuntime) -> Result<(), Fail> {
-    let Some(system) = system_in(rt.alloc(), TWO_BY_TWO)? else {
+    let Some(system) = system_in(rt.alloc(), COUNTS)? else {
         assert!(rt; false, "no system");
         return Ok(());
     };
     let nearest: [i128; 9] = [15, 10, 5, 5, 5, 5, 10, 5, 0];
     let other: [i128; 9] = [15, 10, 5, 5, 5, 0, 10, 5, 5];
-    assert!(rt; !is_rounding(&system, TWO_BY_TWO.truths, nearest.as_slice(), 5));
-    assert!(rt; is_rounding(&system, TWO_BY_TWO.truths, other.as_slice(), 5));
+    assert!(rt; !is_rounding(&system, COUNTS.truths, nearest.as_slice(), 5));
+    assert!(rt; is_rounding(&system, COUNTS.truths, other.as_slice(), 5));
     Ok(())
 }
 

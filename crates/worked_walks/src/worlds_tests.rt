@@ -5,39 +5,16 @@ use sdc_base::{Cell, Items, Kind, Relation, Side};
 use std::alloc::Global;
 use std::rt::HostRuntime;
 use std::test::Fail;
-use worked_cells::{cell_of, hidden_of, shown_cell, system_of};
+use worked_cells::{SHOWN_MARGINS, TWO_BY_TWO, cell_of, hidden_of, shown_cell, system_of};
 use worlds::{
     Move, Multipliers, ProtectFault, Protected, RefutationFault, World, WorldFault, bound_sum,
     check_refutation, check_world, reaches,
 };
 
-// The relations of a table of two variables with two codes each.
-const RELATIONS: [(u32, &[u32]); 6] = [
-    (0, &[3, 6]),
-    (0, &[1, 2]),
-    (1, &[4, 7]),
-    (2, &[5, 8]),
-    (3, &[4, 5]),
-    (6, &[7, 8]),
-];
-
-// Its truths, the margins fixed and the cell of the first codes primary.
-const TRUTHS: [(u32, Kind); 9] = [
-    (140, Kind::Fixed),
-    (50, Kind::Fixed),
-    (90, Kind::Fixed),
-    (70, Kind::Fixed),
-    (20, Kind::Primary),
-    (50, Kind::Free),
-    (70, Kind::Fixed),
-    (30, Kind::Free),
-    (40, Kind::Free),
-];
-
-// The cells; where bounds are stated, the cell of the first and the second code has them.
+// The cells of a table with shown margins; where bounds are stated, the cell of the first and the second code has them.
 fn cells_of(alloc: Global, bounds: Option<(i128, i128)>) -> Result<Vec<Cell>, Fail> {
     let mut cells = Vec::new(alloc);
-    for (truth, kind) in TRUTHS {
+    for (truth, kind) in SHOWN_MARGINS {
         cells.push(cell_of(truth, kind, 6))?;
     }
     if let Some((low, high)) = bounds {
@@ -68,7 +45,7 @@ fn world_fault(
     den: i128,
     moves: &[(u32, i128)],
 ) -> Result<Option<Result<(), WorldFault>>, Fail> {
-    let Some(system) = system_of(alloc, 9, &RELATIONS)? else {
+    let Some(system) = system_of(alloc, 9, &TWO_BY_TWO)? else {
         return Ok(None);
     };
     let cells = cells_of(alloc, None)?;
@@ -125,7 +102,7 @@ fn refutation_fault(
     den: i128,
     by_relation: &[(u32, i128)],
 ) -> Result<Option<(Result<i128, RefutationFault>, Result<(), RefutationFault>)>, Fail> {
-    let Some(system) = system_of(alloc, 9, &RELATIONS)? else {
+    let Some(system) = system_of(alloc, 9, &TWO_BY_TWO)? else {
         return Ok(None);
     };
     let cells = cells_of(alloc, bounds)?;
@@ -217,7 +194,7 @@ fn protected_by(
     hidden: &[u32],
     worlds: &[[(u32, i128); 4]],
 ) -> Result<Option<Result<usize, ProtectFault>>, Fail> {
-    let Some(system) = system_of(alloc, 9, &RELATIONS)? else {
+    let Some(system) = system_of(alloc, 9, &TWO_BY_TWO)? else {
         return Ok(None);
     };
     let cells = cells_of(alloc, None)?;
