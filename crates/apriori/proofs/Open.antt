@@ -1,9 +1,10 @@
 -- Levels of primary cells.
-use Rattle.std.proofs.Common.{ℕ, zero, suc, ◌<◌, arith, true, false, cond, List, [], ◌∷◌, All, Option, None, Some, ℤ, pos, ◌≤ℤ◌, refl}
+use Rattle.std.proofs.Common.{zero, suc, arith, true, false, cond, [], ◌∷◌, All, Option, None, Some, ℤ, pos, ◌≤ℤ◌, refl}
 use Rattle.std.specs.Prelude.{int_lt}
 use Rattle.std.specs.Option.{ForSome}
 use Rattle.sdc_base.specs.declared.facts.Levels.{Levels}
-use Rattle.primary_rules.specs.Ranges.{AreLevels, IsTruth, most_level}
+use Rattle.primary_rules.specs.Ranges.{AreLevels, most_level}
+use Rattle.sdc_base.specs.Truths.{IsTruth}
 use Rattle.std.proofs.lemmas.Int.{ints}
 use Rattle.apriori.specs.CellLevels.{AreOpen, wider_levels}
 

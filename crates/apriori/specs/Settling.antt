@@ -12,7 +12,7 @@ use Rattle.sdc_base.specs.declared.cell.Kind.{Kind}
 use Rattle.sdc_base.specs.declared.cell.Kind.TheVariants.{Primary, Free, Fixed}
 use Rattle.sdc_base.specs.declared.cell.Cell.{Cell}
 use Rattle.sdc_base.specs.declared.rule.Rules.{Rules}
-use Rattle.primary_rules.specs.Ranges.{IsTruth}
+use Rattle.sdc_base.specs.Truths.{IsTruth}
 use Rattle.linked_tables.specs.declared.mark.Mark.{Mark}
 use Rattle.apriori.specs.declared.prior.Prior.{Prior}
 use Rattle.apriori.specs.declared.faults.PriorWhy.{PriorWhy}

@@ -2,7 +2,8 @@ ghost use Rattle.std.specs.Prelude.{◌≡◌, ◌≢◌, ◌≤◌, pos, ◌≤
 ghost use Rattle.std.specs.Option.{ForSome};
 ghost use Rattle.sdc_base.specs.RuleLevels.{figures_of_facts, keep_of};
 ghost use Rattle.sdc_base.specs.declared.cell.Kind.TheVariants.{Primary};
-ghost use Rattle.primary_rules.specs.Ranges.{AreInRange, IsTruth};
+ghost use Rattle.primary_rules.specs.Ranges.{AreInRange};
+ghost use Rattle.sdc_base.specs.Truths.{IsTruth};
 ghost use Rattle.apriori.specs.Priors.{CanBeLevels, AreBounds, IsPriorOf};
 ghost use Rattle.apriori.specs.Settling.{view_of_cell};
 ghost use Rattle.apriori.specs.CellLevels.{AreOpen, HasLevelsInRange};

@@ -1,5 +1,5 @@
 -- A rounding has no fault.
-use Rattle.std.proofs.Common.{◌≡◌, ◌↔◌, ℕ, zero, suc, ◌+◌, ◌<◌, ◌&&◌, Bool, true, false, List, [], ◌∷◌, length, map, All, None, Some, Ok, ℤ, pos, negsuc, neg_ℤ, unsigned_abs, ◌+ℤ◌, ◌-ℤ◌, ◌*ℤ◌, ◌<ℤ◌, ◌≤ℤ◌, int_lt, int_div, arith, refl, ap, sym, ◌∙◌, subst, if◌then◌else◌}
+use Rattle.std.proofs.Common.{◌≡◌, ℕ, zero, suc, ◌+◌, ◌<◌, ◌&&◌, true, List, [], ◌∷◌, length, map, None, Some, ℤ, pos, negsuc, neg_ℤ, unsigned_abs, ◌+ℤ◌, ◌-ℤ◌, ◌*ℤ◌, ◌<ℤ◌, ◌≤ℤ◌, int_lt, int_div, arith, refl, ap, sym, ◌∙◌, subst, if◌then◌else◌}
 use Rattle.std.specs.Ordering.{int_eq}
 use Rattle.std.specs.Int.RustNames.{int_rem}
 use Rattle.std.proofs.Math.IntN.{*ℤ_comm}
@@ -9,15 +9,14 @@ use Rattle.std.proofs.lemmas.List.Elements.{All-head, All-tail}
 use Rattle.sdc_base.specs.Steps.{◌>>=◌}
 use Rattle.sdc_base.specs.declared.cell.Cell.{Cell}
 use Rattle.sdc_base.specs.declared.relation.Relation.{Relation}
-use Rattle.sdc_base.specs.declared.system.System.{System}
-use Rattle.sdc_base.specs.Systems.{Numbers, form, HoldOn}
-use Rattle.sdc_base.specs.Roundings.{number_at, IsAdjacent, IsRounding}
+use Rattle.sdc_base.specs.Systems.{Numbers, form, HoldOn, number_at}
+use Rattle.sdc_base.specs.Roundings.{IsAdjacent}
 use Rattle.sdc_base.proofs.WholeNumbers.{distrib, minus_times, below_from_times}
 use Rattle.worlds.specs.WorldFaults.{refuse_at}
 use Rattle.worlds.proofs.TrueTests.{both_true}
 use Rattle.worlds.proofs.WorldLaws.{then_ok, passes_none}
 use Rattle.cert_check.specs.declared.faults.CheckFault.TheVariants as fault
-use Rattle.cert_check.specs.RoundedRelease.{is_adjacent, first_unrounded, first_broken, values_fault}
+use Rattle.cert_check.specs.RoundedRelease.{is_adjacent, first_unrounded, first_broken}
 use Rattle.cert_check.specs.RoundingLaws.{RoundingIsJudged}
 use Rattle.cert_check.proofs.Roundings.{is_rounding}
 

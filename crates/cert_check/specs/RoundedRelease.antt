@@ -7,8 +7,7 @@ use Rattle.sdc_base.specs.Steps.{◌>>=◌, map_fault}
 use Rattle.sdc_base.specs.declared.cell.Cell.{Cell}
 use Rattle.sdc_base.specs.declared.relation.Relation.{Relation}
 use Rattle.sdc_base.specs.declared.system.System.{System}
-use Rattle.sdc_base.specs.Systems.{Numbers, form}
-use Rattle.sdc_base.specs.Roundings.{number_at}
+use Rattle.sdc_base.specs.Systems.{Numbers, form, number_at}
 use Rattle.release_writer.specs.ReleaseReading.{LinePlace, rounded_read}
 use Rattle.release_writer.specs.declared.release_fault.ReleaseFault.{ReleaseFault}
 use Rattle.release_writer.specs.declared.release_fault.ReleaseFault.TheVariants as release

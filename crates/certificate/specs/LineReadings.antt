@@ -12,7 +12,8 @@ use Rattle.worlds.specs.declared.refuted.Refuted.{Refuted}
 use Rattle.certificate.specs.declared.certificate.WorldLine.{WorldLine}
 use Rattle.certificate.specs.declared.faults.CertWhy.{CertWhy}
 use Rattle.certificate.specs.declared.faults.CertWhy.TheVariants.{Shape, Order}
-use Rattle.certificate.specs.Pieces.{pieces, space, comma}
+use Rattle.certificate.specs.Pieces.{pieces, space}
+use Rattle.sdc_base.specs.TableText.{comma}
 use Rattle.certificate.specs.Numerals.{natural_of, denominator_of, ascends}
 use Rattle.certificate.specs.TokenLists.{behind_word, first_of, only_of, numbers_of, is_pair, terms_of, moves_of}
 

@@ -2,15 +2,12 @@
 use Rattle.std.specs.Prelude.{ℕ, Bool, false, ◌==◌, List, [], ◌∷◌, if◌then◌else◌}
 use Rattle.std.specs.List.{slice_split}
 
--- the line feed, the space, the comma and the colon
+-- the line feed, the space and the colon
 abbrev pub line_feed : ℕ
 line_feed = 10
 
 abbrev pub space : ℕ
 space = 32
-
-abbrev pub comma : ℕ
-comma = 44
 
 abbrev pub colon : ℕ
 colon = 58

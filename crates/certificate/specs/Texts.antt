@@ -10,7 +10,8 @@ use Rattle.worlds.specs.declared.refuted.Refuted.{Refuted}
 use Rattle.worlds.specs.declared.world.Move.{Move}
 use Rattle.certificate.specs.declared.certificate.Certificate.{Certificate}
 use Rattle.certificate.specs.declared.certificate.WorldLine.{WorldLine}
-use Rattle.certificate.specs.Pieces.{line_feed, space, comma, colon}
+use Rattle.certificate.specs.Pieces.{line_feed, space, colon}
+use Rattle.sdc_base.specs.TableText.{comma}
 use Rattle.sdc_base.specs.Sides.{side_word}
 use Rattle.certificate.specs.Certificates.{first_line}
 

@@ -1,8 +1,7 @@
 -- The codes of a flat tree stand in the given order.
 use Rattle.std.proofs.Common.{◌≡◌, ℕ, suc, zero, ◌+◌, List, [], ◌∷◌, map, slice_get, Option, None, Some, Ok, refl, ap, subst, add-one}
-use Rattle.sdc_base.specs.Trees.{Tree}
+use Rattle.sdc_base.specs.Trees.{Tree, flat_tree}
 use Rattle.code_trees.specs.Faults.{first_fault, tree_unless}
-use Rattle.code_trees.specs.FlatForm.{flat_tree}
 use Rattle.code_trees.specs.Laws.{FlatIsInOrder}
 use Rattle.code_trees.specs.declared.tree_fault.TreeFault.{TreeFault}
 

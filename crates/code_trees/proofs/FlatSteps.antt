@@ -2,11 +2,11 @@
 use Rattle.std.proofs.Common.{◌≡◌, ℕ, suc, ◌+◌, ◌<◌, List, [], ◌∷◌, ◌++◌, length, map, take, drop, slice_get, drop-cons, add-one, Option, None, Some, refl, ap, sym, ◌∙◌, subst}
 use Rattle.std.proofs.lemmas.List.{take_more, map-append}
 use Rattle.std.proofs.lemmas.Option.{slice_get_within, get_or_from_slice_get}
-use Rattle.sdc_base.specs.Trees.{Tree, codes}
+use Rattle.sdc_base.specs.Trees.{Tree, codes, flat_tree}
 use Rattle.code_trees.specs.Growing.{tree_with_node}
 use Rattle.code_trees.specs.Faults.{code_fault, first_fault, fault_of, or_else, tree_unless, Names}
 use Rattle.sdc_base.specs.Answers.{Fails}
-use Rattle.code_trees.specs.FlatForm.{flat_tree, flat_of}
+use Rattle.code_trees.specs.FlatForm.{flat_of}
 use Rattle.code_trees.specs.declared.tree_fault.TreeFault.{TreeFault}
 use Rattle.code_trees.specs.declared.tree_fault.TreeFault.TheVariants as fault
 

@@ -1,12 +1,8 @@
 -- The flat form: each code is a child of the total, in the given order (tau-ARGUS user manual).
-use Rattle.std.specs.Prelude.{ℕ, List, [], ◌∷◌, map, None, Some, Result}
-use Rattle.sdc_base.specs.Trees.{Tree}
+use Rattle.std.specs.Prelude.{ℕ, List, [], ◌∷◌, Result}
+use Rattle.sdc_base.specs.Trees.{Tree, flat_tree}
 use Rattle.code_trees.specs.Faults.{first_fault, tree_unless}
 use Rattle.code_trees.specs.declared.tree_fault.TreeFault.{TreeFault}
-
--- the total with these codes below it
-abbrev pub flat_tree : List ℕ → List (List ℕ) → Tree
-flat_tree total codes = (total, None) ∷ map (λ code. (code, Some 0)) codes
 
 -- the tree of the codes, or the first fault
 abbrev pub flat_of : List ℕ → List (List ℕ) → Result Tree TreeFault

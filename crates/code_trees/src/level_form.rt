@@ -198,7 +198,7 @@ fn insert(alloc: Global, kept: &mut BTreeSet<Text>, code: &[u8]) -> Result<(), T
     ensures told { IfErr result (λ fault. fault ≡ TreeFault.Memory) }
     ensures kept { OnOk result (kept.new.keys ≡ insert_key (slice_cmp nat_cmp) kept.old.keys code.now) }
 {
-    let text = Text::new(Vec::from_slice(alloc, code)?);
+    let text = Text::from_slice(alloc, code)?;
     kept.insert(text)?;
     Ok(())
 }

@@ -89,5 +89,5 @@ fn file(alloc: Global, name: &str, text: &str) -> Result<(Text, Vec<u8>), Memory
 fn text_named(alloc: Global, name: &str) -> Result<Text, Memory>
     ensures { IfOk result (λ text. text ≡ name.now) }
 {
-    Ok(Text::new(Vec::from_slice(alloc, name.as_bytes())?))
+    Ok(Text::from_slice(alloc, name.as_bytes())?)
 }

@@ -67,7 +67,7 @@ fn keep(
     if kept.len() >= MOST {
         return Err(TreeFault::TooMany(number));
     }
-    let text = Text::new(Vec::from_slice(alloc, code)?);
+    let text = Text::from_slice(alloc, code)?;
     known.push(alloc, code, None)?;
     kept.push(text)?;
     Ok(())

@@ -1,5 +1,5 @@
 -- What a search for the least cube goes by, and what is left of it once its first edges are chosen (own).
-use Rattle.std.specs.Prelude.{◌≡◌, ℕ, ◌≤◌, ◌==◌, ◌&&◌, nat_lt, Bool, true, false, not, if◌then◌else◌, List, [], ◌∷◌, ◌++◌, length, map, fold, drop, slice_index, All, Option, pos, ◌≤ℤ◌}
+use Rattle.std.specs.Prelude.{ℕ, ◌≤◌, ◌==◌, ◌&&◌, nat_lt, Bool, true, false, not, if◌then◌else◌, List, [], ◌∷◌, ◌++◌, length, map, fold, drop, slice_index, All, Option, pos, ◌≤ℤ◌}
 use Rattle.std.specs.List.{filter_map, list_all}
 use Rattle.std.specs.Option.{option_map_or}
 use Rattle.sdc_base.specs.Records.{Name}
@@ -70,6 +70,11 @@ pub record Setting : Type 0 where
   pub table : ℕ
   pub levels : Levels
   pub codes : List ℕ
+
+-- what these make
+abbrev pub setting_of : BookView → List Cell → CostKind → ℕ → Levels → List ℕ → Setting
+setting_of book cells cost table levels codes =
+    record { book = book; cells = cells; cost = cost; table = table; levels = levels; codes = codes }
 
 -- all costs are known, the levels are from 0, and the table has at most 8 variables
 pub record IsSearchable (setting : Setting) : Type 0 where

@@ -119,27 +119,13 @@ pub(crate) struct Search<'a, F: TellsCosts> {
 }
 
 impl<'a, F: TellsCosts> Model for Search<'a, F> {
-    ghost use Rattle.hypercube.specs.Branches.{Setting, IsSearchable};
+    ghost use Rattle.hypercube.specs.Branches.{Setting, IsSearchable, setting_of};
 
     ghost Value = { Setting };
 
-    ghost view = { λ s. record {
-      book = s.book.now;
-      cells = s.cells.now;
-      cost = s.rule.now;
-      table = s.table;
-      levels = s.levels;
-      codes = s.codes.now;
-    } };
+    ghost view = { λ s. setting_of s.book.now s.cells.now s.rule.now s.table s.levels s.codes.now };
 
-    ghost invariant = { λ s. IsSearchable (record {
-      book = s.book.now;
-      cells = s.cells.now;
-      cost = s.rule.now;
-      table = s.table;
-      levels = s.levels;
-      codes = s.codes.now;
-    }) };
+    ghost invariant = { λ s. IsSearchable (setting_of s.book.now s.cells.now s.rule.now s.table s.levels s.codes.now) };
 }
 
 impl<'a, F: TellsCosts> Search<'a, F> {

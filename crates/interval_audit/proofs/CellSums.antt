@@ -6,11 +6,10 @@ use Rattle.std.proofs.lemmas.List.{get_or-set_same, get_or-set_other, drop_more,
 use Rattle.std.proofs.lemmas.List.Elements.{All-cons, All-map}
 use Rattle.sdc_base.specs.declared.relation.Relation.{Relation}
 use Rattle.sdc_base.specs.Forms.{Term, form_times, coefficient}
-use Rattle.sdc_base.specs.Systems.{NamesCells}
+use Rattle.sdc_base.specs.Systems.{NamesCells, number_at}
 use Rattle.sdc_base.proofs.TotalLemmas.{sum_of-cons}
 use Rattle.interval_audit.specs.CellNumbers.{AreCoefficients, AreWithin}
 use Rattle.interval_audit.specs.FormSigns.{IsFormSign}
-use Rattle.interval_audit.specs.Points.{number_at}
 use Rattle.interval_audit.proofs.Counting.{counted_next, one_if}
 
 number_set : (numbers : List ℤ) (place : ℕ) (number : ℤ) (cell : ℕ) → place < length numbers → number_at (slice_set numbers place number) cell ≡ (if place == cell then number else number_at numbers cell)

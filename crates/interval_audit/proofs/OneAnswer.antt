@@ -28,7 +28,7 @@ use Rattle.interval_audit.specs.declared.answer.Answer.TheVariants.{Reaches, Sto
 use Rattle.interval_audit.specs.Answers.{IsTrueAnswer, IsReadOff, IsWalkAnswerIn, asked_move_in, AnswerIsOne}
 use Rattle.interval_audit.specs.Groups.{Group}
 use Rattle.interval_audit.specs.LowestTerms.{AreLowestTermsOf, times_each}
-use Rattle.interval_audit.specs.Points.{number_at}
+use Rattle.sdc_base.specs.Systems.{number_at}
 use Rattle.interval_audit.specs.Readings.{IsWorldOf, AreMultipliersOf}
 use Rattle.interval_audit.proofs.SameGroups.{groups_alike}
 

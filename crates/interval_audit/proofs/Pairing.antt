@@ -12,11 +12,10 @@ use Rattle.sdc_base.specs.declared.cell.Cell.{Cell}
 use Rattle.sdc_base.specs.declared.relation.Relation.{Relation}
 use Rattle.sdc_base.specs.Totals.{sum_below}
 use Rattle.sdc_base.specs.Forms.{Term, coefficient}
-use Rattle.sdc_base.specs.Systems.{Numbers}
+use Rattle.sdc_base.specs.Systems.{Numbers, number_at}
 use Rattle.sdc_base.proofs.TotalLemmas.{sum_of-cons, sum_below-same}
 use Rattle.sdc_base.proofs.WeakDual.{value_of}
 use Rattle.sdc_base.proofs.WholeNumbers.{minus_times}
-use Rattle.interval_audit.specs.Points.{number_at}
 use Rattle.interval_audit.specs.Groups.{Group, members}
 use Rattle.interval_audit.specs.Columns.{rank}
 use Rattle.interval_audit.specs.Labels.{Label, CapAbove, CapBelow, caps_for, forms_for, met_relations, labels, terms_of_label, relation_terms, multiplier}

@@ -15,7 +15,8 @@ use Rattle.sdc_base.specs.Refutations.{bound_sum, AreBounded}
 use Rattle.sdc_base.specs.Worlds.{amount_toward}
 use Rattle.sdc_base.proofs.WholeNumbers.{assoc, swap_times, times_more, below_from_times}
 use Rattle.tableau.specs.declared.problem.Problem.{Problem}
-use Rattle.interval_audit.specs.Points.{IsPoint, AreDualWeights, comes_to, number_at, weighed_bounds}
+use Rattle.interval_audit.specs.Points.{IsPoint, AreDualWeights, comes_to, weighed_bounds}
+use Rattle.sdc_base.specs.Systems.{number_at}
 use Rattle.interval_audit.specs.WalkStates.{WalkState, IsAtPoint, IsAtTarget, IsAtOptimum, IsAtEnd, objective_of}
 use Rattle.worlds.specs.declared.world.World.{World}
 use Rattle.worlds.specs.declared.multipliers.Multipliers.{Multipliers}

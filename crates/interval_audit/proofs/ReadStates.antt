@@ -10,7 +10,7 @@ use Rattle.std.proofs.lemmas.List.FromFn.{get_or-map-range_with_len, length-map-
 use Rattle.std.proofs.lemmas.List.Elements.{All-head, All-tail, All-map}
 use Rattle.sdc_base.specs.Totals.{sum_of, sum_below}
 use Rattle.sdc_base.specs.Forms.{Term, coefficient}
-use Rattle.sdc_base.specs.Systems.{Numbers}
+use Rattle.sdc_base.specs.Systems.{Numbers, number_at}
 use Rattle.sdc_base.proofs.Connecting.{alone-more}
 use Rattle.sdc_base.proofs.TotalLemmas.{sum_of-cons, sum_below-same}
 use Rattle.tableau.specs.declared.problem.LinRow.{LinRow}
@@ -21,9 +21,8 @@ use Rattle.tableau.specs.Readings.{value_for, values_of, slacks_of}
 use Rattle.tableau.specs.Solutions.{AreFeasible}
 use Rattle.tableau.specs.Steps.{IsReached, IsBlocked}
 use Rattle.tableau.specs.Tableaus.{TableauWalk}
-use Rattle.tableau.specs.Tables.{number_at as objective_number}
 use Rattle.tableau.specs.TableLaws.{value}
-use Rattle.interval_audit.specs.Points.{comes_to, number_at}
+use Rattle.interval_audit.specs.Points.{comes_to}
 use Rattle.interval_audit.specs.Answers.{HasEnded}
 use Rattle.interval_audit.specs.WalkStates.{state_of, objective_of, IsAtPoint, IsAtEnd}
 use Rattle.interval_audit.specs.WalkStates.{IsAtTarget, IsAtOptimum}
@@ -148,7 +147,7 @@ ended_where walk bounded not_neither =
     stuck : int_eq (value walk.table) (walk.table.den *ℤ walk.problem.target) ≡ false → IsBlocked walk.problem walk.table
     stuck is = record {
       below = by_lt_z (value walk.table) (walk.table.den *ℤ walk.problem.target) (λ r. r) (λ back. absurd (apart is (omega (arith, ints, bounded, back))));
-      none_below = λ k inside. by_lt_z (objective_number walk.table.objective k) (pos 0)
+      none_below = λ k inside. by_lt_z (number_at walk.table.objective k) (pos 0)
           (λ below. absurd (not_neither (apart is, (λ blocked. absurd (omega (arith, ints, below, blocked.none_below k inside))))))
           (λ from. from);
     }

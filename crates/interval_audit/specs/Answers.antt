@@ -7,7 +7,7 @@ use Rattle.sdc_base.specs.declared.system.System.{System}
 use Rattle.sdc_base.specs.Forms.{coefficient}
 use Rattle.sdc_base.specs.Refutations.{bound_sum, IsRefutation}
 use Rattle.sdc_base.specs.Worlds.{amount_toward}
-use Rattle.interval_audit.specs.Points.{number_at}
+use Rattle.sdc_base.specs.Systems.{number_at}
 use Rattle.tableau.specs.Readings.{values_of, slacks_of}
 use Rattle.tableau.specs.Steps.{IsReached, IsBlocked}
 use Rattle.tableau.specs.Tableaus.{TableauWalk, IsTableauWalk}

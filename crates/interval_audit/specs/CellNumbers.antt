@@ -1,7 +1,7 @@
 -- A number for each cell, as a scratch has them while the rows of a problem are made (own).
 use Rattle.std.specs.Prelude.{◌≡◌, ℕ, List, ℤ, pos, neg_ℤ, ◌≤ℤ◌}
 use Rattle.sdc_base.specs.Forms.{Term, coefficient}
-use Rattle.interval_audit.specs.Points.{number_at}
+use Rattle.sdc_base.specs.Systems.{number_at}
 
 -- the number of every cell is 0
 abbrev pub AreZeros : List ℤ → Type 0

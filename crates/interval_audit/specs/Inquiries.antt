@@ -12,7 +12,7 @@ use Rattle.interval_audit.specs.declared.answer.Answer.{Answer}
 use Rattle.interval_audit.specs.declared.answer.AskFault.{AskFault}
 use Rattle.interval_audit.specs.declared.inquiry.Inquiry.{Inquiry}
 use Rattle.interval_audit.specs.Groups.{Group, group_of}
-use Rattle.interval_audit.specs.Points.{number_at}
+use Rattle.sdc_base.specs.Systems.{number_at}
 use Rattle.interval_audit.specs.Problems.{problem_of}
 use Rattle.interval_audit.specs.Readings.{IsWorldOf, AreMultipliersOf}
 use Rattle.interval_audit.specs.Answers.{IsTrueAnswer, IsReadOff, IsWalkAnswerIn}

@@ -1,5 +1,5 @@
 -- Points of linear problems, and their dual multipliers (linear programming).
-use Rattle.std.specs.Prelude.{◌≡◌, ℕ, ◌<◌, List, length, All, slice_index_or, ℤ, pos, ◌*ℤ◌, ◌≤ℤ◌}
+use Rattle.std.specs.Prelude.{◌≡◌, ℕ, ◌<◌, List, length, All, ℤ, pos, ◌*ℤ◌, ◌≤ℤ◌}
 use Rattle.std.specs.List.{zip}
 use Rattle.sdc_base.specs.Totals.{sum_of}
 use Rattle.sdc_base.specs.Forms.{Term, coefficient}
@@ -22,10 +22,6 @@ pub record IsPoint (problem : Problem) (den : ℤ) (amounts : Numbers) : Type 0 
 pub record IsFeasible (problem : Problem) (den : ℤ) (amounts : Numbers) : Type 0 where
   pub point : IsPoint problem den amounts
   pub target : comes_to amounts problem.objective ≤ℤ (den *ℤ problem.target)
-
--- the number at a place of a list, 0 beyond its end
-abbrev pub number_at : List ℤ → Numbers
-number_at numbers place = slice_index_or numbers place (pos 0)
 
 -- what rows have at a column, each as many times as its weight says
 abbrev pub weighed_at : List (ℤ × LinRow) → ℕ → ℤ

@@ -5,14 +5,13 @@ use Rattle.std.specs.Ordering.{int_eq}
 use Rattle.sdc_base.specs.declared.cell.Cell.{Cell}
 use Rattle.sdc_base.specs.declared.system.System.{System}
 use Rattle.sdc_base.specs.Forms.{Term}
-use Rattle.sdc_base.specs.Systems.{Numbers}
+use Rattle.sdc_base.specs.Systems.{Numbers, number_at}
 use Rattle.worlds.specs.declared.world.World.{World}
 use Rattle.worlds.specs.declared.multipliers.Multipliers.{Multipliers}
 use Rattle.worlds.specs.NumberLists.{terms_of}
 use Rattle.interval_audit.specs.Groups.{Group, members}
 use Rattle.interval_audit.specs.Columns.{moves_of}
 use Rattle.interval_audit.specs.Labels.{labels, met_relations, multiplier}
-use Rattle.interval_audit.specs.Points.{number_at}
 use Rattle.interval_audit.specs.LowestTerms.{AreLowestTermsOf}
 
 -- the numbers of those in a list, each with its own, without those of 0

@@ -4,7 +4,8 @@ use Rattle.std.specs.List.{zip}
 use Rattle.tableau.specs.declared.problem.Problem.{Problem}
 use Rattle.tableau.specs.Readings.{values_of, slacks_of}
 use Rattle.tableau.specs.Tableaus.{TableauWalk}
-use Rattle.interval_audit.specs.Points.{IsPoint, AreDualWeights, comes_to, number_at, weighed_bounds}
+use Rattle.interval_audit.specs.Points.{IsPoint, AreDualWeights, comes_to, weighed_bounds}
+use Rattle.sdc_base.specs.Systems.{number_at}
 
 -- what is read where a walk on a problem stands: the denominator, the columns' values and the objective's numbers at
 -- the slacks

@@ -1,7 +1,7 @@
 -- What the marks of a book of a job's inputs tell.
 use Rattle.std.proofs.Common.{◌≡◌, ℕ, suc, ◌≤◌, Bool, true, false, cond, List, [], ◌∷◌, filter, length, Some, refl, ap, sym, subst, ◌∙◌, arith, ℤ}
 use Rattle.std.proofs.lemmas.List.Elements.{All-nil, All-cons, All-head, All-tail}
-use Rattle.primary_rules.specs.Ranges.{IsTruth}
+use Rattle.sdc_base.specs.Truths.{IsTruth}
 use Rattle.job_inputs.specs.declared.described.DescribedJob.{DescribedJob}
 use Rattle.std.specs.Prelude.{All, map, slice_get}
 use Rattle.sdc_base.specs.Records.{Name, row_falls}
@@ -104,12 +104,12 @@ is-ready described book rows told few many tables =
     let keep = keep_of described.job.rules.list in
     record {
       tables = tables;
-      truths = all-at (λ (mark : Mark). IsTruth mark.facts.truth) book.marks (λ k mark at. let one = told-of book rows keep described.bound.scale k mark told many at in record { from_zero = one.1.within.0; at_most = one.1.within.1 });
+      truths = all-at (λ (mark : Mark). IsTruth mark.facts.truth) book.marks (λ k mark at. let one = told-of book rows keep described.bound.scale k mark told many at in one.1.within);
       costed = all-at (λ (mark : Mark). AreCosted mark.facts) book.marks
           (λ k mark at.
           let one = told-of book rows keep described.bound.scale k mark told many at in
           let less = no-more (row_falls book.trees one.0) rows in
-          record { truth = one.1.within.0; freq = omega (arith, one.1.freq_is, less, few) });
+          record { truth = one.1.within.from_zero; freq = omega (arith, one.1.freq_is, less, few) });
       keeps = all-at (λ (mark : Mark). keep ≤ mark.facts.tops.keep) book.marks (λ k mark at. let one = told-of book rows keep described.bound.scale k mark told many at in omega (arith, one.1.keeps));
     }
 

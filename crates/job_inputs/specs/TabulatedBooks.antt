@@ -7,7 +7,7 @@ use Rattle.sdc_base.specs.RuleLevels.{keep_of}
 use Rattle.cost_rule.specs.Costs.{AreCosted}
 use Rattle.linked_tables.specs.BookViews.{BookView}
 use Rattle.linked_tables.specs.BookCells.{cells}
-use Rattle.primary_rules.specs.Ranges.{IsTruth}
+use Rattle.sdc_base.specs.Truths.{IsTruth}
 use Rattle.tabulate.specs.TabulatedMarks.{AreTabulated}
 use Rattle.job_inputs.specs.declared.described.DescribedJob.{DescribedJob}
 use Rattle.job_inputs.specs.declared.inputs.Inputs.{Inputs}

@@ -8,7 +8,7 @@ use Rattle.std.proofs.lemmas.List.FromFn.{length-range_with_len}
 use Rattle.sdc_base.specs.HiddenSets.{is_hidden}
 use Rattle.sdc_base.specs.declared.cell.Cell.{Cell}
 use Rattle.sdc_base.specs.declared.system.System.{System}
-use Rattle.primary_rules.specs.Ranges.{IsTruth}
+use Rattle.sdc_base.specs.Truths.{IsTruth}
 use Rattle.linked_tables.specs.declared.mark.Mark.{Mark}
 use Rattle.release_writer.specs.Sheets.{HaveNames, HasTruthsFromZero}
 use Rattle.cell_intervals.specs.Intervals.{AreIntervals}

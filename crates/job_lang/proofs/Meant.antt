@@ -1,8 +1,7 @@
 -- A job is what its lines state.
 use Rattle.std.proofs.Common.{◌≡◌, inl, inr, ℕ, zero, suc, ◌+◌, ◌<◌, ◌≤◌, Bool, true, false, cond, List, [], ◌∷◌, ◌++◌, length, Option, None, Some, Result, Ok, Err, refl, ap, sym, ◌∙◌, subst, arith, append_assoc}
 use Rattle.std.proofs.lemmas.List.{append-nil}
-use Rattle.std.proofs.lemmas.Bool.Decides.{Decides-eqb}
-use Rattle.std.specs.Prelude.{◌==◌, ◌||◌, not, find, filter, slice_get, option_map}
+use Rattle.std.specs.Prelude.{◌||◌, not, find, filter, slice_get, option_map}
 use Rattle.std.specs.List.{list_any}
 use Rattle.cost_rule.specs.declared.kind.CostKind.TheVariants.{Value}
 use Rattle.sdc_base.specs.Blanks.{trim}
@@ -24,7 +23,9 @@ use Rattle.job_lang.specs.declared.statement.Instruction.TheVariants as said
 use Rattle.job_lang.specs.declared.statement.Statement.{Statement}
 use Rattle.job_lang.specs.declared.statement.Draft.{Draft}
 use Rattle.job_lang.specs.Faults.{at_line}
-use Rattle.job_lang.specs.Keywords.{keyword_of, word_in, place_of}
+use denote.Enum.Bare.{same_true}
+use Rattle.job_lang.specs.contracts.statement.Keyword.{the_type}
+use Rattle.job_lang.specs.Keywords.{keyword_of, same_keyword, word_in}
 use Rattle.job_lang.specs.Arguments.{argument_of}
 use Rattle.job_lang.specs.Statements.{command_of, is_by, is_again, is_past_room, is_other_response, with_table, with_statement, with_said, is_passed_over, command_line, text_says, lines_say, empty_draft}
 use Rattle.job_lang.specs.ClosingLooks.{said_by, output_said, file_said, file_line, rules_from, rules_line, method_from, method_of, cost_of, work_of, work_from, usual_steps, usual_nodes}
@@ -107,7 +108,7 @@ lines_add before draft next (text ∷ texts) h =
 
 -- a command that stands once at most
 abbrev is_single : Keyword → Bool
-is_single word = not ((place_of word == 2) || (place_of word == 5) || (place_of word == 10))
+is_single word = not (same_keyword word keyword.SpecifyTable || same_keyword word keyword.Apriori || same_keyword word keyword.WriteTable)
 
 again_by : (one : Instruction) (before : List Statement) → is_single (command_of one) ≡ true → is_again one before ≡ false → list_any (λ s. is_by (command_of one) s.said) before ≡ false
 again_by (said.Table variables response) before single h = absurd cc
@@ -133,19 +134,15 @@ by_both word (s ∷ xs) ys = elim (is_by word s.said) as (λ t. cond t (s ∷ by
 abbrev AreSingle : List Statement → Type 0
 AreSingle all = (word : Keyword) → is_single word ≡ true → length (by_command word all) ≤ 1
 
-same_any : (a b : Keyword) (all : List Statement) → place_of a ≡ place_of b → list_any (λ s. is_by a s.said) all ≡ list_any (λ s. is_by b s.said) all
-same_any a b [] h = refl
-same_any a b (s ∷ rest) h = rw (h, same_any a b rest h) refl
-
 one_more : (line : ℕ) (all : List Statement) (one : Instruction) → AreSingle all → is_again one all ≡ false → AreSingle (all ++ record { line = line; said = one } ∷ [])
 one_more line all one single again word is =
     let s : Statement = record { line = line; said = one } in
     let before = single word is in
     elim (is_by word one) as (λ t. is_by word one ≡ t → length (by_command word (all ++ s ∷ [])) ≤ 1) [
       | true ↦ λ by.
-          let places : place_of (command_of one) ≡ place_of word = (Decides-eqb (place_of (command_of one)) (place_of word)).0 by in
-          let own : is_single (command_of one) ≡ true = ap (λ (n : ℕ). not ((n == 2) || (n == 5) || (n == 10))) places ∙ is in
-          let empty = none_by word all (sym (same_any (command_of one) word all places) ∙ again_by one all own again) in
+          let same : command_of one ≡ word = same_true the_type tt (command_of one) word by in
+          let own : is_single (command_of one) ≡ true = ap is_single same ∙ is in
+          let empty = none_by word all (ap (λ (w : Keyword). list_any (λ s. is_by w s.said) all) (sym same) ∙ again_by one all own again) in
           rw (by_both word all (s ∷ []), empty, by) (omega arith)
       | false ↦ λ by. rw (by_both word all (s ∷ []), by, append-nil (by_command word all)) before
     ] refl

@@ -8,9 +8,8 @@ use Rattle.std.proofs.lemmas.Fmt.{decimal_is_IsNumeral_wide}
 use Rattle.std.proofs.lemmas.List.{take_at, drop_at, drop_all, take_all, length-append, reverse-append}
 use Rattle.std.proofs.lemmas.List.Folds.{list_any-append}
 use Rattle.sdc_base.specs.Blanks.{is_blank, is_dark, trim, trim_front, trim_back}
-use Rattle.sdc_base.specs.Tokens.{is_quote, number_in}
+use Rattle.sdc_base.specs.Tokens.{is_quote, number_in, in_quotes}
 use Rattle.job_lang.specs.LineTokens.{is_break, behind_mark, quoted_at, run_of, behind_run, number_at}
-use Rattle.job_lang.specs.Spelling.{quoted_name}
 
 pub or_left : (a b : Bool) → (a || b) ≡ false → a ≡ false
 or_left true b h = h
@@ -89,14 +88,14 @@ quoted_from text inside name rest clean is plain =
     let after : after_first is_quote inside ≡ rest = ap (after_first is_quote) is ∙ after_stop is_quote name 34 rest plain refl in
     rw (clean, there, before, after) refl
 
-pub quoted_clean : (name rest : List ℕ) → IsEnded (34 ∷ rest) → trim (quoted_name name ++ rest) ≡ 34 ∷ (name ++ 34 ∷ rest)
+pub quoted_clean : (name rest : List ℕ) → IsEnded (34 ∷ rest) → trim (in_quotes name ++ rest) ≡ 34 ∷ (name ++ 34 ∷ rest)
 quoted_clean name rest ends =
-    let text : quoted_name name ++ rest ≡ 34 ∷ (name ++ 34 ∷ rest) = ap (λ (x : List ℕ). 34 ∷ x) (append_assoc name (34 ∷ []) rest) in
+    let text : in_quotes name ++ rest ≡ 34 ∷ (name ++ 34 ∷ rest) = ap (λ (x : List ℕ). 34 ∷ x) (append_assoc name (34 ∷ []) rest) in
     ap trim text ∙ trim_dark 34 (name ++ 34 ∷ rest) refl (ended_behind (34 ∷ name) (34 ∷ rest) ends)
 
-pub quoted_read : (name rest : List ℕ) → list_any is_quote name ≡ false → IsEnded (34 ∷ rest) → quoted_at (quoted_name name ++ rest) ≡ Ok (name, rest)
+pub quoted_read : (name rest : List ℕ) → list_any is_quote name ≡ false → IsEnded (34 ∷ rest) → quoted_at (in_quotes name ++ rest) ≡ Ok (name, rest)
 quoted_read name rest plain ends =
-    quoted_from (quoted_name name ++ rest) (name ++ 34 ∷ rest) name rest (quoted_clean name rest ends) refl plain
+    quoted_from (in_quotes name ++ rest) (name ++ 34 ∷ rest) name rest (quoted_clean name rest ends) refl plain
 
 pub mark_read : (mark : ℕ) (rest : List ℕ) → is_blank mark ≡ false → IsEnded (mark ∷ rest) → (mark == mark) ≡ true → behind_mark mark (mark ∷ rest) ≡ Ok rest
 unfolding behind_mark

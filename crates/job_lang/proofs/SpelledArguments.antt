@@ -13,7 +13,7 @@ use Rattle.std.proofs.lemmas.Map.Made.{distinct_count-from_IsDistinct}
 use Rattle.cost_rule.specs.declared.kind.CostKind.{CostKind}
 use Rattle.cost_rule.specs.declared.kind.CostKind.TheVariants as kind
 use Rattle.sdc_base.specs.Blanks.{trim}
-use Rattle.sdc_base.specs.Tokens.{is_quote, is_name_byte, is_file_name}
+use Rattle.sdc_base.specs.Tokens.{is_quote, is_name_byte, is_file_name, in_quotes}
 use Rattle.sdc_base.specs.declared.method.Method.{Method}
 use Rattle.sdc_base.specs.declared.method.Method.TheVariants.{Gh, Modular, Rnd}
 use Rattle.job_lang.specs.declared.statement.Instruction.TheVariants as said
@@ -22,7 +22,7 @@ use Rattle.job_lang.specs.TableTexts.{names_up_to, is_twice, quoted_part, behind
 use Rattle.job_lang.specs.Arguments.{file_at, only_file, may_separate, prior_argument, output_argument, cost_of, cost_argument, most_work, work_argument}
 use Rattle.job_lang.specs.MethodTexts.{passes_method, modular_method, rounding_method, method_argument}
 use Rattle.job_lang.specs.JobLimits.{IsMethod, IsWork}
-use Rattle.job_lang.specs.Spelling.{quoted_name, quoted_each, number_in_parentheses, table_number, cost_text, method_text}
+use Rattle.job_lang.specs.Spelling.{quoted_each, number_in_parentheses, table_number, cost_text, method_text}
 use Rattle.job_lang.proofs.Spelled.{not_zero, IsEnded, ended_behind, ended_with, trim_dark, trim_space, quoted_clean, quoted_read, mark_read, run_read, last_number_read}
 use Rattle.job_lang.proofs.SpelledRules.{closed_read, enclosed_read, run_space, behind_space}
 
@@ -67,7 +67,7 @@ last_and false y z h = absurd cc
 pub file_plain : (name : List ℕ) → is_file_name name ≡ true → list_any is_quote name ≡ false
 file_plain name h = no_quotes name (last_and (nat_lt 0 (length name)) (nat_lt (length name) 256) (list_all is_name_byte name) h)
 
-file_read : (name rest : List ℕ) → is_file_name name ≡ true → IsEnded (34 ∷ rest) → file_at (quoted_name name ++ rest) ≡ Ok (name, rest)
+file_read : (name rest : List ℕ) → is_file_name name ≡ true → IsEnded (34 ∷ rest) → file_at (in_quotes name ++ rest) ≡ Ok (name, rest)
 unfolding file_at
 file_read name rest h ends = rw (quoted_read name rest (file_plain name h) ends, h) refl
 
@@ -75,10 +75,10 @@ file_space : (text : List ℕ) → file_at (32 ∷ text) ≡ file_at text
 unfolding file_at
 file_space text = rw (quoted_space text) refl
 
-pub only_file_read : (name : List ℕ) → is_file_name name ≡ true → only_file (32 ∷ quoted_name name) ≡ Ok name
+pub only_file_read : (name : List ℕ) → is_file_name name ≡ true → only_file (32 ∷ in_quotes name) ≡ Ok name
 unfolding only_file
 only_file_read name h =
-    let file : file_at (32 ∷ quoted_name name) ≡ Ok (name, []) = file_space (quoted_name name) ∙ ap file_at (sym (append-nil (quoted_name name))) ∙ file_read name [] h (ended_with 34 refl refl) in
+    let file : file_at (32 ∷ in_quotes name) ≡ Ok (name, []) = file_space (in_quotes name) ∙ ap file_at (sym (append-nil (in_quotes name))) ∙ file_read name [] h (ended_with 34 refl refl) in
     rw (file, nothing_more) refl
 
 -- ---- numbers of tables
@@ -106,33 +106,33 @@ plain_separator : (b : ℕ) → may_separate b ≡ true → (is_quote b || false
 plain_separator b h = grind arith
 
 pub prior_read : (file : List ℕ) (place separator : ℕ) → is_file_name file ≡ true → place < 8 → may_separate separator ≡ true
-    → prior_argument (32 ∷ quoted_name file ++ (44 ∷ table_number place ++ 44 ∷ quoted_name (separator ∷ []))) ≡ Ok (said.Prior file (table_number place) separator)
+    → prior_argument (32 ∷ in_quotes file ++ (44 ∷ table_number place ++ 44 ∷ in_quotes (separator ∷ []))) ≡ Ok (said.Prior file (table_number place) separator)
 unfolding prior_argument
 prior_read file place separator named few separates =
-    let last : IsEnded (44 ∷ quoted_name (separator ∷ [])) = ended_behind (44 ∷ 34 ∷ separator ∷ []) (34 ∷ []) (ended_with 34 refl refl) in
-    let behind : IsEnded (44 ∷ table_number place ++ 44 ∷ quoted_name (separator ∷ [])) = ended_behind (44 ∷ table_number place) (44 ∷ quoted_name (separator ∷ [])) last in
-    let word : quoted_at (quoted_name (separator ∷ [])) ≡ Ok (separator ∷ [], []) = quoted_read (separator ∷ []) [] (plain_separator separator separates) (ended_with 34 refl refl) in
+    let last : IsEnded (44 ∷ in_quotes (separator ∷ [])) = ended_behind (44 ∷ 34 ∷ separator ∷ []) (34 ∷ []) (ended_with 34 refl refl) in
+    let behind : IsEnded (44 ∷ table_number place ++ 44 ∷ in_quotes (separator ∷ [])) = ended_behind (44 ∷ table_number place) (44 ∷ in_quotes (separator ∷ [])) last in
+    let word : quoted_at (in_quotes (separator ∷ [])) ≡ Ok (separator ∷ [], []) = quoted_read (separator ∷ []) [] (plain_separator separator separates) (ended_with 34 refl refl) in
     rw (
-      file_space (quoted_name file ++ (44 ∷ table_number place ++ 44 ∷ quoted_name (separator ∷ []))),
-      file_read file (44 ∷ table_number place ++ 44 ∷ quoted_name (separator ∷ [])) named (ended_behind (34 ∷ []) (44 ∷ table_number place ++ 44 ∷ quoted_name (separator ∷ [])) behind),
-      mark_read 44 (table_number place ++ 44 ∷ quoted_name (separator ∷ [])) refl behind refl,
-      table_number_read place 44 (quoted_name (separator ∷ [])) few refl last,
-      mark_read 44 (quoted_name (separator ∷ [])) refl last refl,
+      file_space (in_quotes file ++ (44 ∷ table_number place ++ 44 ∷ in_quotes (separator ∷ []))),
+      file_read file (44 ∷ table_number place ++ 44 ∷ in_quotes (separator ∷ [])) named (ended_behind (34 ∷ []) (44 ∷ table_number place ++ 44 ∷ in_quotes (separator ∷ [])) behind),
+      mark_read 44 (table_number place ++ 44 ∷ in_quotes (separator ∷ [])) refl behind refl,
+      table_number_read place 44 (in_quotes (separator ∷ [])) few refl last,
+      mark_read 44 (in_quotes (separator ∷ [])) refl last refl,
       word,
       separates,
       nothing_more,
     ) refl
 
 pub output_read : (place : ℕ) (file : List ℕ) → place < 8 → is_file_name file ≡ true
-    → output_argument (32 ∷ 40 ∷ table_number place ++ (44 ∷ quoted_name file ++ 41 ∷ [])) ≡ Ok (said.Output (table_number place) file)
+    → output_argument (32 ∷ 40 ∷ table_number place ++ (44 ∷ in_quotes file ++ 41 ∷ [])) ≡ Ok (said.Output (table_number place) file)
 unfolding output_argument
 output_read place file few named =
-    let last : IsEnded (44 ∷ quoted_name file ++ 41 ∷ []) = ended_behind (44 ∷ quoted_name file) (41 ∷ []) (ended_with 41 refl refl) in
+    let last : IsEnded (44 ∷ in_quotes file ++ 41 ∷ []) = ended_behind (44 ∷ in_quotes file) (41 ∷ []) (ended_with 41 refl refl) in
     rw (
-      mark_space 40 (40 ∷ table_number place ++ (44 ∷ quoted_name file ++ 41 ∷ [])),
-      mark_read 40 (table_number place ++ (44 ∷ quoted_name file ++ 41 ∷ [])) refl (ended_behind (40 ∷ table_number place) (44 ∷ quoted_name file ++ 41 ∷ []) last) refl,
-      table_number_read place 44 (quoted_name file ++ 41 ∷ []) few refl last,
-      mark_read 44 (quoted_name file ++ 41 ∷ []) refl last refl,
+      mark_space 40 (40 ∷ table_number place ++ (44 ∷ in_quotes file ++ 41 ∷ [])),
+      mark_read 40 (table_number place ++ (44 ∷ in_quotes file ++ 41 ∷ [])) refl (ended_behind (40 ∷ table_number place) (44 ∷ in_quotes file ++ 41 ∷ []) last) refl,
+      table_number_read place 44 (in_quotes file ++ 41 ∷ []) few refl last,
+      mark_read 44 (in_quotes file ++ 41 ∷ []) refl last refl,
       file_read file (41 ∷ []) named (ended_behind (34 ∷ []) (41 ∷ []) (ended_with 41 refl refl)),
       closed_read,
     ) refl
@@ -159,9 +159,9 @@ names_read zero (name ∷ names) text few plain ends = absurd (omega (arith, few
 names_read (suc most) (name ∷ names) text few plain ends =
     let rest : List ℕ = quoted_each names ++ 124 ∷ text in
     let behind : IsEnded (34 ∷ rest) = ended_behind (34 ∷ quoted_each names) (124 ∷ text) ends in
-    ap (names_up_to (suc most)) (append_assoc (quoted_name name) (quoted_each names) (124 ∷ text))
-    ∙ names_step most (quoted_name name ++ rest) name rest (124 ∷ text) names
-    (next_is 34 (quoted_name name ++ rest) (34 ∷ (name ++ 34 ∷ rest)) (quoted_clean name rest behind))
+    ap (names_up_to (suc most)) (append_assoc (in_quotes name) (quoted_each names) (124 ∷ text))
+    ∙ names_step most (in_quotes name ++ rest) name rest (124 ∷ text) names
+    (next_is 34 (in_quotes name ++ rest) (34 ∷ (name ++ 34 ∷ rest)) (quoted_clean name rest behind))
     (quoted_read name rest plain.0 behind)
     (names_read most names text (omega (arith, few)) plain.1 ends)
 
@@ -171,10 +171,10 @@ names_behind : (name : List ℕ) (names : List (List ℕ)) (text : List ℕ) →
 names_behind name names text few plain ends =
     let rest : List ℕ = quoted_each names ++ 124 ∷ text in
     let behind : IsEnded (34 ∷ rest) = ended_behind (34 ∷ quoted_each names) (124 ∷ text) ends in
-    ap (λ (t : List ℕ). names_up_to 4 (32 ∷ t)) (append_assoc (quoted_name name) (quoted_each names) (124 ∷ text))
-    ∙ names_step 3 (32 ∷ (quoted_name name ++ rest)) name rest (124 ∷ text) names
-    (next_is 34 (32 ∷ (quoted_name name ++ rest)) (34 ∷ (name ++ 34 ∷ rest)) (trim_space (quoted_name name ++ rest) ∙ quoted_clean name rest behind))
-    (quoted_space (quoted_name name ++ rest) ∙ quoted_read name rest plain.0 behind)
+    ap (λ (t : List ℕ). names_up_to 4 (32 ∷ t)) (append_assoc (in_quotes name) (quoted_each names) (124 ∷ text))
+    ∙ names_step 3 (32 ∷ (in_quotes name ++ rest)) name rest (124 ∷ text) names
+    (next_is 34 (32 ∷ (in_quotes name ++ rest)) (34 ∷ (name ++ 34 ∷ rest)) (trim_space (in_quotes name ++ rest) ∙ quoted_clean name rest behind))
+    (quoted_space (in_quotes name ++ rest) ∙ quoted_read name rest plain.0 behind)
     (names_read 3 names text (omega (arith, few)) plain.1 ends)
 
 none_free : (response : List ℕ) → are_free_parts (behind_again response [] (quoted_part [])) ≡ true
@@ -186,14 +186,14 @@ not_twice n m h = grind arith
 
 pub table_read : (variables : List (List ℕ)) (response : List ℕ) → 0 < length variables → length variables ≤ 4 → IsDistinct bytes_eq variables
     → AllByRecursion (λ name. list_any is_quote name ≡ false) variables → list_any is_quote response ≡ false
-    → table_argument (32 ∷ quoted_each variables ++ 124 ∷ quoted_name response) ≡ Ok (said.Table variables response)
+    → table_argument (32 ∷ quoted_each variables ++ 124 ∷ in_quotes response) ≡ Ok (said.Table variables response)
 unfolding table_argument
 table_read [] response some few once plain named = absurd (omega (arith, some))
 table_read (name ∷ names) response some few once plain named =
-    let ends : IsEnded (124 ∷ quoted_name response) = ended_behind (124 ∷ 34 ∷ response) (34 ∷ []) (ended_with 34 refl refl) in
-    let word : quoted_at (quoted_name response) ≡ Ok (response, []) = ap quoted_at (sym (append-nil (quoted_name response))) ∙ quoted_read response [] named (ended_with 34 refl refl) in
+    let ends : IsEnded (124 ∷ in_quotes response) = ended_behind (124 ∷ 34 ∷ response) (34 ∷ []) (ended_with 34 refl refl) in
+    let word : quoted_at (in_quotes response) ≡ Ok (response, []) = ap quoted_at (sym (append-nil (in_quotes response))) ∙ quoted_read response [] named (ended_with 34 refl refl) in
     let apart : is_twice (name ∷ names) ≡ false = not_twice (distinct_count bytes_eq (name ∷ names)) (length (name ∷ names)) (distinct_count-from_IsDistinct nat_list_eq_equiv (name ∷ names) once) in
-    rw (names_behind name names (quoted_name response) few plain ends, not_zero (length (name ∷ names)) some, apart, mark_read 124 (quoted_name response) refl ends refl, word, none_free response) refl
+    rw (names_behind name names (in_quotes response) few plain ends, not_zero (length (name ∷ names)) some, apart, mark_read 124 (in_quotes response) refl ends refl, word, none_free response) refl
 
 -- ---- cost, work and methods
 

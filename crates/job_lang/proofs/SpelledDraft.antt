@@ -19,7 +19,7 @@ use Rattle.job_lang.specs.declared.statement.Instruction.{Instruction}
 use Rattle.job_lang.specs.declared.statement.Instruction.TheVariants as said
 use Rattle.job_lang.specs.declared.statement.Statement.{Statement}
 use Rattle.job_lang.specs.Faults.{at_line}
-use Rattle.job_lang.specs.Keywords.{place_of}
+use Rattle.job_lang.specs.Keywords.{same_keyword}
 use Rattle.job_lang.specs.Statements.{is_by, is_prior_of, is_output_of, is_again, is_past_room, is_other_response, with_table, with_statement, with_said, text_says, lines_say, empty_draft}
 use Rattle.job_lang.specs.Spelling.{table_number, said_line}
 use Rattle.job_lang.specs.JobText.{table_said, prior_said, outputs_said, job_says, tables_from}
@@ -161,11 +161,11 @@ outputs_say before place tables all (output ∷ outputs) rest few none =
 abbrev pub IsUnsaid : Keyword → List Statement → Type 0
 IsUnsaid word all = list_any (λ s. is_by word s.said) all ≡ false
 
-priors_unsaid : (word : Keyword) (line : ℕ) (priors : List PriorLine) → (5 == place_of word) ≡ false → IsUnsaid word (priors_stated line priors)
+priors_unsaid : (word : Keyword) (line : ℕ) (priors : List PriorLine) → same_keyword keyword.Apriori word ≡ false → IsUnsaid word (priors_stated line priors)
 priors_unsaid word line [] other = refl
 priors_unsaid word line (prior ∷ priors) other = rw (other, priors_unsaid word (line + 1) priors other) refl
 
-outputs_unsaid : (word : Keyword) (line place : ℕ) (outputs : List OutputLine) → (10 == place_of word) ≡ false → IsUnsaid word (outputs_stated line place outputs)
+outputs_unsaid : (word : Keyword) (line place : ℕ) (outputs : List OutputLine) → same_keyword keyword.WriteTable word ≡ false → IsUnsaid word (outputs_stated line place outputs)
 outputs_unsaid word line place [] other = refl
 outputs_unsaid word line place (output ∷ outputs) other = rw (other, outputs_unsaid word (line + 1) (place + 1) outputs other) refl
 
@@ -259,7 +259,7 @@ middle_say before line job tables all rest is cost steps nodes method =
     (single_taken (line + 1 + 1 + 1) tables (all ++ a ∷ b ∷ d ∷ []) (said.Suppress job.method) (method_as (line + 1 + 1 + 1) (drafted tables (all ++ a ∷ b ∷ d ∷ [])) job) (unsaid_both keyword.Suppress all (a ∷ b ∷ d ∷ []) method refl))
     ∙ ap (λ (ss : List Statement). says (line + 1 + 1 + 1) (drafted tables ss) rest) (append_assoc all (a ∷ b ∷ d ∷ []) (e ∷ []))
 
-front_unsaid : (word : Keyword) (job : Job) (line : ℕ) → (0 == place_of word) ≡ false → (1 == place_of word) ≡ false → (3 == place_of word) ≡ false → (4 == place_of word) ≡ false → (5 == place_of word) ≡ false
+front_unsaid : (word : Keyword) (job : Job) (line : ℕ) → same_keyword keyword.OpenMicrodata word ≡ false → same_keyword keyword.OpenMetadata word ≡ false → same_keyword keyword.SafetyRule word ≡ false → same_keyword keyword.ReadMicrodata word ≡ false → same_keyword keyword.Apriori word ≡ false
     → IsUnsaid word (front_of job ++ priors_stated line job.priors)
 front_unsaid word job line h0 h1 h3 h4 h5 = rw (h0, h1, h3, h4, priors_unsaid word line job.priors h5) refl
 

@@ -25,7 +25,7 @@ use Rattle.job_lang.specs.declared.statement.Keyword.{Keyword}
 use Rattle.job_lang.specs.declared.statement.Keyword.TheVariants as keyword
 use Rattle.job_lang.specs.declared.statement.Instruction.TheVariants as said
 use Rattle.job_lang.specs.declared.statement.Statement.{Statement}
-use Rattle.job_lang.specs.Keywords.{place_of}
+use Rattle.job_lang.specs.Keywords.{same_keyword}
 use Rattle.job_lang.specs.Statements.{is_by}
 use Rattle.job_lang.specs.ClosingLooks.{said_by, is_output_at, output_said, file_line, rules_line, method_of, cost_of, work_of, usual_steps, usual_nodes, table_place, priors_in}
 use Rattle.job_lang.specs.MissingCommands.{outputs_from}
@@ -50,11 +50,11 @@ find_past test (x ∷ xs) ys h = elim (test x) as (λ t. (t || list_any test xs)
 any_past : (test : Statement → Bool) (xs ys : List Statement) → list_any test xs ≡ false → list_any test (xs ++ ys) ≡ list_any test ys
 any_past test xs ys h = rw (list_any-append test xs ys, h) refl
 
-priors_by : (word : Keyword) (line : ℕ) (priors : List PriorLine) → (5 == place_of word) ≡ false → list_any (λ s. is_by word s.said) (priors_stated line priors) ≡ false
+priors_by : (word : Keyword) (line : ℕ) (priors : List PriorLine) → same_keyword keyword.Apriori word ≡ false → list_any (λ s. is_by word s.said) (priors_stated line priors) ≡ false
 priors_by word line [] other = refl
 priors_by word line (prior ∷ priors) other = rw (other, priors_by word (line + 1) priors other) refl
 
-outputs_by : (word : Keyword) (line place : ℕ) (outputs : List OutputLine) → (10 == place_of word) ≡ false → list_any (λ s. is_by word s.said) (outputs_stated line place outputs) ≡ false
+outputs_by : (word : Keyword) (line place : ℕ) (outputs : List OutputLine) → same_keyword keyword.WriteTable word ≡ false → list_any (λ s. is_by word s.said) (outputs_stated line place outputs) ≡ false
 outputs_by word line place [] other = refl
 outputs_by word line place (output ∷ outputs) other = rw (other, outputs_by word (line + 1) (place + 1) outputs other) refl
 

@@ -13,7 +13,7 @@ use Rattle.plain_text.proofs.FirstLine.{strip-cons}
 use Rattle.sdc_base.specs.Blanks.{trim}
 use Rattle.sdc_base.specs.Lines.{is_line_feed, IsLine, HasNoFeed}
 use Rattle.sdc_base.specs.Steps.{◌>>=◌}
-use Rattle.sdc_base.specs.Tokens.{is_quote, is_name_byte, is_file_name}
+use Rattle.sdc_base.specs.Tokens.{is_quote, is_name_byte, is_file_name, in_quotes}
 use Rattle.sdc_base.specs.declared.method.Method.{Method}
 use Rattle.sdc_base.specs.declared.method.Method.TheVariants.{Gh, Modular, Rnd}
 use Rattle.sdc_base.specs.declared.rule.Rule.TheVariants.{Freq, Nk, Percent}
@@ -31,7 +31,7 @@ use Rattle.job_lang.specs.Arguments.{argument_of}
 use Rattle.job_lang.specs.JobLimits.{IsMethod}
 use Rattle.job_lang.specs.Statements.{command_of, with_said, command_line, text_says}
 use Rattle.job_lang.specs.Meaning.{line_says}
-use Rattle.job_lang.specs.Spelling.{word_of, quoted_name, quoted_each, texts_between_bars, table_number, clause_text, clauses_of, rules_text, cost_text, method_text, argument_text, said_line}
+use Rattle.job_lang.specs.Spelling.{word_of, quoted_each, texts_between_bars, table_number, clause_text, clauses_of, rules_text, cost_text, method_text, argument_text, said_line}
 use Rattle.job_lang.specs.WritableJobs.{IsQuotable, IsSpellable, LinesAreRead}
 use Rattle.job_lang.proofs.ClausesHold.{IsClause}
 use Rattle.job_lang.proofs.Spelled.{IsEnded, ended_behind, ended_with, trim_dark, digit_of_value, decimal_ended}
@@ -101,7 +101,7 @@ word_says Certificate text = refl
 
 -- ---- ends of lines
 
-named_end : (name : List ℕ) → IsEnded (62 ∷ 32 ∷ quoted_name name)
+named_end : (name : List ℕ) → IsEnded (62 ∷ 32 ∷ in_quotes name)
 named_end name = ended_behind (62 ∷ 32 ∷ 34 ∷ name) (34 ∷ []) (ended_with 34 refl refl)
 
 clause_ended : (clause : RuleClause) → IsEnded (clause_text clause)
@@ -137,17 +137,17 @@ method_ended (Rnd (negsuc n)) h = absurd (omega (arith, ints, h.0))
 argument_ended : (one : Instruction) → IsSpellable one → IsEnded (62 ∷ argument_text one)
 argument_ended (said.Microdata name) h = named_end name
 argument_ended (said.Metadata name) h = named_end name
-argument_ended (said.Table variables response) h = ended_behind (62 ∷ 32 ∷ quoted_each variables) (124 ∷ quoted_name response) (ended_behind (124 ∷ 34 ∷ response) (34 ∷ []) (ended_with 34 refl refl))
+argument_ended (said.Table variables response) h = ended_behind (62 ∷ 32 ∷ quoted_each variables) (124 ∷ in_quotes response) (ended_behind (124 ∷ 34 ∷ response) (34 ∷ []) (ended_with 34 refl refl))
 argument_ended (said.Safety rules) h = ended_behind (62 ∷ 32 ∷ []) (rules_text rules) (rules_ended rules h.0.has_rule)
 argument_ended said.Read h = ended_with 62 refl refl
 argument_ended (said.Prior file number separator) h =
-    ended_behind (62 ∷ 32 ∷ quoted_name file) (44 ∷ number ++ 44 ∷ quoted_name (separator ∷ []))
-    (ended_behind (44 ∷ number) (44 ∷ quoted_name (separator ∷ [])) (ended_behind (44 ∷ 34 ∷ separator ∷ []) (34 ∷ []) (ended_with 34 refl refl)))
+    ended_behind (62 ∷ 32 ∷ in_quotes file) (44 ∷ number ++ 44 ∷ in_quotes (separator ∷ []))
+    (ended_behind (44 ∷ number) (44 ∷ in_quotes (separator ∷ [])) (ended_behind (44 ∷ 34 ∷ separator ∷ []) (34 ∷ []) (ended_with 34 refl refl)))
 argument_ended (said.Cost cost) h = cost_ended cost
 argument_ended (said.Steps steps) h = ended_behind (62 ∷ 32 ∷ []) (decimal steps) (decimal_ended steps (omega (arith, h.1)))
 argument_ended (said.Nodes nodes) h = ended_behind (62 ∷ 32 ∷ []) (decimal nodes) (decimal_ended nodes (omega (arith, h.1)))
 argument_ended (said.Suppress method) h = ended_behind (62 ∷ 32 ∷ []) (method_text method) (method_ended method h)
-argument_ended (said.Output number file) h = ended_behind (62 ∷ 32 ∷ 40 ∷ number) (44 ∷ quoted_name file ++ 41 ∷ []) (ended_behind (44 ∷ quoted_name file) (41 ∷ []) (ended_with 41 refl refl))
+argument_ended (said.Output number file) h = ended_behind (62 ∷ 32 ∷ 40 ∷ number) (44 ∷ in_quotes file ++ 41 ∷ []) (ended_behind (44 ∷ in_quotes file) (41 ∷ []) (ended_with 41 refl refl))
 argument_ended (said.Certificate name) h = named_end name
 
 line_ended : (one : Instruction) → IsSpellable one → IsEnded (said_line one)
@@ -194,10 +194,10 @@ decimal_free n h = digits_free (decimal n) (decimal_is_IsNumeral_wide n h).0.1
 number_free : (place : ℕ) → place < 8 → HasNoFeed (table_number place)
 number_free place h = decimal_free (place + 1) (omega (arith, h))
 
-quoted_free : (name rest : List ℕ) → HasNoFeed name → list_any is_line_feed (quoted_name name ++ rest) ≡ list_any is_line_feed rest
-quoted_free name rest h = past (quoted_name name) rest (past name (34 ∷ []) h)
+quoted_free : (name rest : List ℕ) → HasNoFeed name → list_any is_line_feed (in_quotes name ++ rest) ≡ list_any is_line_feed rest
+quoted_free name rest h = past (in_quotes name) rest (past name (34 ∷ []) h)
 
-alone_free : (name : List ℕ) → HasNoFeed name → HasNoFeed (quoted_name name)
+alone_free : (name : List ℕ) → HasNoFeed name → HasNoFeed (in_quotes name)
 alone_free name h = past name (34 ∷ []) h
 
 each_free : (names : List (List ℕ)) (rest : List ℕ) → AllByRecursion IsQuotable names → HasNoFeed rest → HasNoFeed (quoted_each names ++ rest)
@@ -231,25 +231,25 @@ method_free Modular h = refl
 method_free (Rnd (pos n)) h = let high : n ≤ 1000000000 = omega (arith, ints, h.1) in past (decimal n) (41 ∷ []) (decimal_free n (omega (arith, high)))
 method_free (Rnd (negsuc n)) h = absurd (omega (arith, ints, h.0))
 
-separator_free : (separator : ℕ) → is_line_feed separator ≡ false → HasNoFeed (44 ∷ quoted_name (separator ∷ []))
+separator_free : (separator : ℕ) → is_line_feed separator ≡ false → HasNoFeed (44 ∷ in_quotes (separator ∷ []))
 separator_free separator h = rw h refl
 
 argument_free : (one : Instruction) → IsSpellable one → HasNoFeed (argument_text one)
 argument_free (said.Microdata name) h = alone_free name (file_free name h)
 argument_free (said.Metadata name) h = alone_free name (file_free name h)
-argument_free (said.Table variables response) h = each_free variables (124 ∷ quoted_name response) h.3 (alone_free response h.4.1)
+argument_free (said.Table variables response) h = each_free variables (124 ∷ in_quotes response) h.3 (alone_free response h.4.1)
 argument_free (said.Safety rules) h = clauses_free (clauses_of rules) (all_clauses rules.list rules.man rules.weighted h.0.ranges h.0.man)
 argument_free said.Read h = refl
 argument_free (said.Prior file number separator) h =
     let digits : HasNoFeed number = subst HasNoFeed (sym h.2) (number_free h.0 h.1) in
-    quoted_free file (44 ∷ number ++ 44 ∷ quoted_name (separator ∷ [])) (file_free file h.3) ∙ past number (44 ∷ quoted_name (separator ∷ [])) digits ∙ separator_free separator h.5
+    quoted_free file (44 ∷ number ++ 44 ∷ in_quotes (separator ∷ [])) (file_free file h.3) ∙ past number (44 ∷ in_quotes (separator ∷ [])) digits ∙ separator_free separator h.5
 argument_free (said.Cost cost) h = cost_free cost
 argument_free (said.Steps steps) h = decimal_free steps (omega (arith, h.1))
 argument_free (said.Nodes nodes) h = decimal_free nodes (omega (arith, h.1))
 argument_free (said.Suppress method) h = method_free method h
 argument_free (said.Output number file) h =
     let digits : HasNoFeed number = subst HasNoFeed (sym h.2) (number_free h.0 h.1) in
-    past number (44 ∷ quoted_name file ++ 41 ∷ []) digits ∙ quoted_free file (41 ∷ []) (file_free file h.3)
+    past number (44 ∷ in_quotes file ++ 41 ∷ []) digits ∙ quoted_free file (41 ∷ []) (file_free file h.3)
 argument_free (said.Certificate name) h = alone_free name (file_free name h)
 
 word_free : (word : Keyword) (text : List ℕ) → list_any is_line_feed (60 ∷ word_of word ++ 62 ∷ text) ≡ list_any is_line_feed text

@@ -9,7 +9,7 @@ use Rattle.std.proofs.lemmas.List.Sums.{sum_by-cons}
 use Rattle.sdc_base.specs.Blanks.{trim, trim_front}
 use Rattle.sdc_base.specs.Lines.{is_line_feed, HasNoFeed}
 use Rattle.sdc_base.specs.Steps.{◌>>=◌, or_fault, refuse}
-use Rattle.sdc_base.specs.Tokens.{is_quote, is_number, is_file_name}
+use Rattle.sdc_base.specs.Tokens.{is_quote, is_number, is_file_name, is_close}
 use Rattle.job_lang.specs.declared.faults.JobWhy.TheVariants.{BadLine, BadValue}
 use Rattle.job_lang.specs.declared.rule_clauses.RuleClause.{RuleClause}
 use Rattle.job_lang.specs.declared.rule_clauses.RuleClause.TheVariants.{Named, Man, Weights}
@@ -17,7 +17,7 @@ use Rattle.job_lang.specs.declared.statement.Keyword.{Keyword}
 use Rattle.job_lang.specs.declared.statement.Keyword.TheVariants.{OpenMicrodata, OpenMetadata, SpecifyTable, SafetyRule, ReadMicrodata, Apriori, Cost, Steps, Nodes, Suppress, WriteTable, Certificate}
 use Rattle.job_lang.specs.declared.statement.Instruction.{Instruction}
 use Rattle.job_lang.specs.declared.statement.Instruction.TheVariants as said
-use Rattle.job_lang.specs.Keywords.{is_close, word_in}
+use Rattle.job_lang.specs.Keywords.{word_in}
 use Rattle.job_lang.specs.LineTokens.{is_next, behind_mark, quoted_at, run_of, behind_run, digits_at, without_zeros, end_of_tokens, closing_token}
 use Rattle.job_lang.specs.Pieces.{pieces}
 use Rattle.job_lang.specs.RuleTexts.{named_in, is_frequency, is_man, is_weights, are_rules, rules_in}

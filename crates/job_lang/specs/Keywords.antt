@@ -3,8 +3,11 @@ use Rattle.std.specs.Prelude.{ℕ, Bool, not, ◌==◌, codes, if◌then◌else�
 use Rattle.std.specs.List.{list_any, before_first, after_first}
 use Rattle.std.specs.Str.{str_eq_ignore_ascii_case}
 use Rattle.sdc_base.specs.Steps.{◌>>=◌, refuse}
+use Rattle.sdc_base.specs.Tokens.{is_close}
 use Rattle.job_lang.specs.declared.faults.JobWhy.{JobWhy}
 use Rattle.job_lang.specs.declared.faults.JobWhy.TheVariants.{BadLine}
+use denote.Enum.Bare.{sameb}
+use Rattle.job_lang.specs.contracts.statement.Keyword.{the_type}
 use Rattle.job_lang.specs.declared.statement.Keyword.{Keyword}
 use Rattle.job_lang.specs.declared.statement.Keyword.TheVariants.{OpenMicrodata, OpenMetadata, SpecifyTable, SafetyRule, ReadMicrodata, Apriori, Cost, Steps, Nodes, Suppress, WriteTable, Certificate}
 
@@ -25,28 +28,9 @@ keyword_of word =
     else if str_eq_ignore_ascii_case word (codes "CERTIFICATE") then Some Certificate
     else None
 
--- a command's place in the table
-abbrev pub place_of : Keyword → ℕ
-place_of OpenMicrodata = 0
-place_of OpenMetadata = 1
-place_of SpecifyTable = 2
-place_of SafetyRule = 3
-place_of ReadMicrodata = 4
-place_of Apriori = 5
-place_of Cost = 6
-place_of Steps = 7
-place_of Nodes = 8
-place_of Suppress = 9
-place_of WriteTable = 10
-place_of Certificate = 11
-
 -- both are one command
 abbrev pub same_keyword : Keyword → Keyword → Bool
-same_keyword a b = place_of a == place_of b
-
--- a byte is >
-abbrev pub is_close : ℕ → Bool
-is_close b = b == 62
+same_keyword = sameb the_type
 
 -- The word between < and the first >, and what stands behind it. A line without such a word is bad; blanks inside
 -- belong to the word.

@@ -14,6 +14,7 @@ use Rattle.job_lang.specs.declared.statement.Keyword.TheVariants.{OpenMicrodata,
 use Rattle.job_lang.specs.declared.statement.Instruction.{Instruction}
 use Rattle.job_lang.specs.declared.statement.Instruction.TheVariants as said
 use Rattle.job_lang.specs.Statements.{command_of}
+use Rattle.sdc_base.specs.Tokens.{in_quotes}
 
 -- ---- tokens
 
@@ -32,14 +33,10 @@ word_of Suppress = codes "SUPPRESS"
 word_of WriteTable = codes "WRITETABLE"
 word_of Certificate = codes "CERTIFICATE"
 
--- a name between double quotes
-abbrev pub quoted_name : List ℕ → List ℕ
-quoted_name name = 34 ∷ name ++ 34 ∷ []
-
 -- names between double quotes, one right behind the other
 abbrev pub quoted_each : List (List ℕ) → List ℕ
 quoted_each [] = []
-quoted_each (name ∷ names) = quoted_name name ++ quoted_each names
+quoted_each (name ∷ names) = in_quotes name ++ quoted_each names
 
 -- texts with a bar between each two
 abbrev pub texts_between_bars : List (List ℕ) → List ℕ
@@ -92,19 +89,19 @@ method_text (Rnd base) = codes "RND" ++ number_in_parentheses (signed_decimal ba
 
 -- the argument by which it is said, behind a space where there is one
 abbrev pub argument_text : Instruction → List ℕ
-argument_text (said.Microdata name) = 32 ∷ quoted_name name
-argument_text (said.Metadata name) = 32 ∷ quoted_name name
-argument_text (said.Table variables response) = 32 ∷ quoted_each variables ++ 124 ∷ quoted_name response
+argument_text (said.Microdata name) = 32 ∷ in_quotes name
+argument_text (said.Metadata name) = 32 ∷ in_quotes name
+argument_text (said.Table variables response) = 32 ∷ quoted_each variables ++ 124 ∷ in_quotes response
 argument_text (said.Safety rules) = 32 ∷ rules_text rules
 argument_text said.Read = []
-argument_text (said.Prior file number separator) = 32 ∷ quoted_name file
-    ++ (44 ∷ number ++ 44 ∷ quoted_name (separator ∷ []))
+argument_text (said.Prior file number separator) = 32 ∷ in_quotes file
+    ++ (44 ∷ number ++ 44 ∷ in_quotes (separator ∷ []))
 argument_text (said.Cost cost) = 32 ∷ cost_text cost
 argument_text (said.Steps steps) = 32 ∷ decimal steps
 argument_text (said.Nodes nodes) = 32 ∷ decimal nodes
 argument_text (said.Suppress method) = 32 ∷ method_text method
-argument_text (said.Output number file) = 32 ∷ 40 ∷ number ++ (44 ∷ quoted_name file ++ 41 ∷ [])
-argument_text (said.Certificate name) = 32 ∷ quoted_name name
+argument_text (said.Output number file) = 32 ∷ 40 ∷ number ++ (44 ∷ in_quotes file ++ 41 ∷ [])
+argument_text (said.Certificate name) = 32 ∷ in_quotes name
 
 -- the line by which it is said
 abbrev pub said_line : Instruction → List ℕ

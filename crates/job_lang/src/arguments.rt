@@ -12,7 +12,6 @@ use crate::rule_texts::one_number;
 use crate::rules::rules_in;
 use crate::statement::{Instruction, Keyword};
 use crate::table_texts::table_argument;
-use crate::texts::text_of;
 use cost_rule::CostKind;
 use plain_text::{is_blank_byte, is_file_name};
 use sdc_base::{Method, Text};
@@ -75,7 +74,7 @@ fn only_file(alloc: Global, text: &[u8]) -> Result<Text, LineError>
     let mut cursor = at_front(text);
     let file = file_at(&mut cursor)?;
     cursor.end()?;
-    Ok(text_of(alloc, file)?)
+    Ok(Text::from_slice(alloc, file)?)
 }
 
 // No digit, point, quote, blank or CR.
@@ -111,8 +110,8 @@ fn prior_argument(alloc: Global, text: &[u8]) -> Result<Instruction, LineError>
         return Err(LineError::Fault(JobWhy::BadValue));
     };
     cursor.end()?;
-    let file = text_of(alloc, file)?;
-    let number = text_of(alloc, number)?;
+    let file = Text::from_slice(alloc, file)?;
+    let number = Text::from_slice(alloc, number)?;
     Ok(Instruction::Prior {
         file,
         number,
@@ -131,8 +130,8 @@ fn output_argument(alloc: Global, text: &[u8]) -> Result<Instruction, LineError>
     cursor.mark(b',')?;
     let file = file_at(&mut cursor)?;
     cursor.close()?;
-    let number = text_of(alloc, number)?;
-    let file = text_of(alloc, file)?;
+    let number = Text::from_slice(alloc, number)?;
+    let file = Text::from_slice(alloc, file)?;
     Ok(Instruction::Output { number, file })
 }
 

@@ -59,33 +59,6 @@ pub(crate) fn keyword_of(word: &[u8]) -> Option<Keyword>
     None
 }
 
-// A command's place in the table.
-fn place_of(keyword: Keyword) -> u8
-    ensures { result ≡ spec.place_of keyword }
-{
-    match keyword {
-        Keyword::OpenMicrodata => 0,
-        Keyword::OpenMetadata => 1,
-        Keyword::SpecifyTable => 2,
-        Keyword::SafetyRule => 3,
-        Keyword::ReadMicrodata => 4,
-        Keyword::Apriori => 5,
-        Keyword::Cost => 6,
-        Keyword::Steps => 7,
-        Keyword::Nodes => 8,
-        Keyword::Suppress => 9,
-        Keyword::WriteTable => 10,
-        Keyword::Certificate => 11,
-    }
-}
-
-/// Whether both are one command.
-pub(crate) fn same_keyword(a: Keyword, b: Keyword) -> bool
-    ensures { result ≡ spec.same_keyword a b }
-{
-    place_of(a) == place_of(b)
-}
-
 /// The word between `<` and the first `>` of a line, and what stands behind it.
 #[tactic(auto, unfolding(crate::specs::Keywords::word_in))]
 pub(crate) fn word_in(line: &[u8]) -> Result<(&[u8], &[u8]), JobWhy>

@@ -10,7 +10,7 @@ ghost use Rattle.job_lang.specs.Statements as statements;
 use crate::arguments::argument_of;
 use crate::faults::{JobError, JobWhy, LineError, error_at};
 use crate::job::TableLine;
-use crate::keywords::{keyword_of, same_keyword, word_in};
+use crate::keywords::{keyword_of, word_in};
 use crate::statement::{Draft, Instruction, Keyword, Statement};
 use crate::texts::{add_texts, distinct_count};
 use plain_text::{lines, trim};
@@ -200,7 +200,7 @@ fn command_of(said: &Instruction) -> Keyword
 pub(crate) fn is_by(keyword: Keyword, said: &Instruction) -> bool
     ensures { result ≡ statements.is_by keyword said.now }
 {
-    same_keyword(command_of(said), keyword)
+    command_of(said) == keyword
 }
 
 // Whether it is an a priori file of the table with these digits.

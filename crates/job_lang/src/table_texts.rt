@@ -10,7 +10,7 @@ use crate::cursor::{Cursor, at_front};
 use crate::faults::{JobWhy, LineError};
 use crate::pieces::pieces_in;
 use crate::statement::Instruction;
-use crate::texts::{is_twice, text_of};
+use crate::texts::is_twice;
 use plain_text::trim;
 use sdc_base::{Items, Text};
 use std::alloc::Global;
@@ -37,7 +37,7 @@ pub(crate) fn table_argument(alloc: Global, text: &[u8]) -> Result<Instruction, 
     if !are_free_parts(rest) {
         return Err(LineError::Fault(JobWhy::BadValue));
     }
-    let response = text_of(alloc, word)?;
+    let response = Text::from_slice(alloc, word)?;
     Ok(Instruction::Table {
         variables,
         response,
@@ -54,7 +54,7 @@ fn variables_at(alloc: Global, cursor: &mut Cursor) -> Result<Items<Text>, LineE
             return Ok(names);
         }
         let name = cursor.quoted_word()?;
-        names.push(text_of(alloc, name)?)?;
+        names.push(Text::from_slice(alloc, name)?)?;
     }
     Ok(names)
 }

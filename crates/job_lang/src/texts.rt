@@ -1,4 +1,4 @@
-ghost use Rattle.std.specs.Prelude.{◌≡◌, ◌++◌, IfOk, OnOk};
+ghost use Rattle.std.specs.Prelude.{◌≡◌, ◌++◌, OnOk};
 ghost use Rattle.std.specs.List.{list_any};
 ghost use Rattle.std.specs.Set.{distinct_count as distinct_number};
 ghost use Rattle.std.specs.Str.{bytes_eq};
@@ -6,13 +6,6 @@ ghost use Rattle.job_lang.specs.TableTexts as spec;
 
 use sdc_base::{Items, Memory, Text};
 use std::alloc::Global;
-
-/// A text of these bytes.
-pub(crate) fn text_of(alloc: Global, bytes: &[u8]) -> Result<Text, Memory>
-    ensures { IfOk result (λ text. text ≡ bytes.now) }
-{
-    Ok(Text::new(bytes.to_vec(alloc)?))
-}
 
 /// Puts copies of texts at the end of a list.
 pub(crate) fn add_texts(alloc: Global, all: &mut Items<Text>, texts: &[Text]) -> Result<(), Memory>

@@ -4,9 +4,8 @@ use Rattle.std.specs.List.{AllByRecursion}
 use Rattle.std.proofs.lemmas.List.Elements.{All-nil, All-cons}
 use Rattle.sdc_base.specs.AddingUp.{IsCoded}
 use Rattle.sdc_base.specs.Records.{Name}
-use Rattle.sdc_base.specs.Roundings.{number_at}
 use Rattle.sdc_base.specs.Sums.{truth}
-use Rattle.sdc_base.specs.Systems.{Numbers, HoldOn}
+use Rattle.sdc_base.specs.Systems.{Numbers, HoldOn, number_at}
 use Rattle.sdc_base.specs.Trees.{Tree, children}
 use Rattle.sdc_base.specs.declared.cell.Cell.{Cell}
 use Rattle.sdc_base.specs.declared.relation.Relation.{Relation}

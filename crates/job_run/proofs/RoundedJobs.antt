@@ -7,9 +7,9 @@ use Rattle.std.proofs.Math.IntN.{*ℤ_comm}
 use Rattle.sdc_base.proofs.WholeNumbers.{times_up}
 use Rattle.sdc_base.specs.AddingUp.{IsCoded}
 use Rattle.sdc_base.specs.Numbers.{too_wide}
-use Rattle.sdc_base.specs.Roundings.{IsAdjacent, IsRounding, number_at}
+use Rattle.sdc_base.specs.Roundings.{IsAdjacent, IsRounding}
 use Rattle.sdc_base.specs.Signs.{AreSigns}
-use Rattle.sdc_base.specs.Systems.{HoldOn}
+use Rattle.sdc_base.specs.Systems.{HoldOn, number_at}
 use Rattle.sdc_base.specs.Trees.{Tree}
 use Rattle.sdc_base.specs.declared.cell.Cell.{Cell}
 use Rattle.sdc_base.specs.declared.method.Method.{Method}
@@ -23,14 +23,14 @@ use Rattle.certificate.specs.declared.certificate.Certificate.{Certificate}
 use Rattle.linked_tables.specs.BookViews.{BookView}
 use Rattle.linked_tables.specs.BookCells.{IsBook}
 use Rattle.linked_tables.specs.declared.mark.Mark.{Mark}
-use Rattle.primary_rules.specs.Ranges.{IsTruth}
+use Rattle.sdc_base.specs.Truths.{IsTruth}
 use Rattle.release_writer.specs.ShownCells.{CanBeShown}
 use Rattle.release_writer.specs.declared.shown.Shown.TheVariants as shown
 use Rattle.relations.specs.Holding.{AreTruths, HaveNoChildren, IsSystemOf, sum_in, truth_at}
 use Rattle.relations.specs.TableSigns.{IsFlat, HaveSigns}
 use Rattle.relations.proofs.SignedTables.{one_variable_has_signs, two_flat_variables_have_signs}
 use Rattle.rounding.specs.Searches.{Stops}
-use Rattle.rounding.specs.Tasks.{IsProper, IsTruth as IsRoundable}
+use Rattle.rounding.specs.Tasks.{IsProper}
 use Rattle.rounding.specs.declared.fault.RoundFault.{RoundFault}
 use Rattle.rounding.specs.declared.fault.RoundFault.TheVariants as round
 use Rattle.job_inputs.specs.Cells.{cells}
@@ -68,7 +68,7 @@ values-within system truths base values proper rounding k d inside =
     here cell inside =
         let truth = proper.within cell (pos 0) (omega (arith, inside, proper.each)) in
         let adjacent = rounding.adjacent cell inside in
-        (value-from_zero base (number_at truths cell) (number_at values cell) proper.from_one truth.from adjacent, omega (arith, ints, adjacent.not_above, truth.to, proper.to_most))
+        (value-from_zero base (number_at truths cell) (number_at values cell) proper.from_one truth.from_zero adjacent, omega (arith, ints, adjacent.not_above, truth.at_most, proper.to_most))
 
 -- they can be shown
 pub values-can : (book : BookView) (system : System) (truths : List ℤ) (base : ℤ) (values : List ℤ) (lent : Bor (List ℤ)) → length book.marks ≡ system.cells → IsProper system truths base → IsRounding system truths base values → lent.now ≡ values → CanBeShown book (shown.Rounded lent)
@@ -77,11 +77,11 @@ values-can book system truths base values lent many proper rounding same =
 
 -- ---- what is asked of the search
 
-within-limits : (marks : List Mark) → All (λ (mark : Mark). IsTruth mark.facts.truth) marks → All IsRoundable (map (λ (mark : Mark). mark.facts.truth) marks)
-within-limits [] all = All-nil IsRoundable
+within-limits : (marks : List Mark) → All (λ (mark : Mark). IsTruth mark.facts.truth) marks → All IsTruth (map (λ (mark : Mark). mark.facts.truth) marks)
+within-limits [] all = All-nil IsTruth
 within-limits (mark ∷ marks) all =
     let here = All-head (λ (one : Mark). IsTruth one.facts.truth) mark marks all in
-    All-cons IsRoundable mark.facts.truth (map (λ (one : Mark). one.facts.truth) marks) (record { from = here.from_zero; to = here.at_most })
+    All-cons IsTruth mark.facts.truth (map (λ (one : Mark). one.facts.truth) marks) here
     (within-limits marks (All-tail (λ (one : Mark). IsTruth one.facts.truth) mark marks all))
 
 -- the truths of a job that rounds can be rounded to its base
@@ -94,7 +94,7 @@ task-proper job system base truths can rounds is holds listed =
       from_one = within.0;
       to_most = within.1;
       each = ap length listed ∙ length-map job.cells (λ (cell : Cell). cell.truth) ∙ can.ready.settled ∙ can.ready.one_each ∙ sym is.cells;
-      within = subst (All IsRoundable) same (within-limits job.book.marks can.ready.book.truths);
+      within = subst (All IsTruth) same (within-limits job.book.marks can.ready.book.truths);
       hold = holds-on job.book.marks truths system.relations same holds;
     }
 

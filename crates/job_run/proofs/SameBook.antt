@@ -9,7 +9,7 @@ use Rattle.sdc_base.specs.declared.facts.CellFacts.{CellFacts}
 use Rattle.sdc_base.specs.declared.rows.Row.{Row}
 use Rattle.cell_protection.specs.Protections.{AreNarrow}
 use Rattle.cost_rule.specs.Costs.{AreCosted}
-use Rattle.primary_rules.specs.Ranges.{IsTruth}
+use Rattle.sdc_base.specs.Truths.{IsTruth}
 use Rattle.linked_tables.specs.BookViews.{BookView}
 use Rattle.linked_tables.specs.BookCells.{cells as cells_in}
 use Rattle.linked_tables.specs.declared.mark.Mark.{Mark}

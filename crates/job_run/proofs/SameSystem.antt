@@ -2,8 +2,8 @@
 use Rattle.std.proofs.Common.{◌≡◌, ℕ, List, [], ◌∷◌, length, map, arith, ap, sym, subst, ◌∙◌, ℤ, pos, ◌-ℤ◌}
 use Rattle.std.proofs.lemmas.List.Elements.{All-cons, All-head, All-tail}
 use Rattle.sdc_base.specs.Relations.{Sum, relations_among}
-use Rattle.sdc_base.specs.Roundings.{IsRounding, number_at}
-use Rattle.sdc_base.specs.Systems.{Numbers, HoldOn, form}
+use Rattle.sdc_base.specs.Roundings.{IsRounding}
+use Rattle.sdc_base.specs.Systems.{Numbers, HoldOn, form, number_at}
 use Rattle.sdc_base.specs.Totals.{sum_of}
 use Rattle.sdc_base.specs.Trees.{Tree}
 use Rattle.sdc_base.specs.declared.relation.Relation.{Relation}

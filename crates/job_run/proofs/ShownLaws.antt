@@ -11,8 +11,8 @@ use Rattle.sdc_base.proofs.TotalLemmas.{sum_of-cons}
 use Rattle.sdc_base.specs.Cells.{cells_of, is_named}
 use Rattle.sdc_base.specs.Records.{Name}
 use Rattle.sdc_base.specs.Relations.{Sum, codes_below, is_spanned, number_among, parts_among, relation_for, relations_among, relations_for}
-use Rattle.sdc_base.specs.Roundings.{IsAdjacent, IsRounding, number_at}
-use Rattle.sdc_base.specs.Systems.{Numbers}
+use Rattle.sdc_base.specs.Roundings.{IsAdjacent, IsRounding}
+use Rattle.sdc_base.specs.Systems.{Numbers, number_at}
 use Rattle.sdc_base.specs.Totals.{sum_of}
 use Rattle.sdc_base.specs.Trees.{Tree}
 use Rattle.sdc_base.specs.declared.relation.Relation.{Relation}

@@ -29,7 +29,7 @@ fn summary_of(alloc: Global, seed: u64, records: u32) -> Result<DemoSummary, Mem
     ensures { IfOk result (λ demo. IsDemoOf seed records demo) }
 {
     let files = demo_files(alloc, seed, records)?;
-    let name = Text::new(Vec::from_slice(alloc, b"demo.job".as_slice())?);
+    let name = Text::from_slice(alloc, b"demo.job")?;
     let mut shelf = SteadyShelf::new(alloc, files);
     let mut tray = SteadyTray::new(alloc);
     summarize(run_job(alloc, &name, &mut shelf, &mut tray))

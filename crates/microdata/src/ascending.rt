@@ -43,7 +43,7 @@ impl Ascending {
     pub(crate) fn insert(&mut self, alloc: Global, code: &[u8]) -> Result<(), Memory>
         ensures { OnOk result (self.new ≡ insert_key (slice_cmp nat_cmp) self.old code.now) }
     {
-        let text = Text::new(Vec::from_slice(alloc, code)?);
+        let text = Text::from_slice(alloc, code)?;
         self.set.insert(text)?;
         Ok(())
     }

@@ -64,7 +64,7 @@ impl Codes {
     {
         let mut texts = Items::empty(alloc);
         'codes: for code in self.set.as_slice() {
-            texts.push(Text::new(code.as_slice().to_vec(alloc)?))?;
+            texts.push(Text::from_slice(alloc, code.as_slice())?)?;
         }
         Ok(texts)
     }

@@ -1,4 +1,4 @@
--- The ranges of the numbers in primary rules, and of the truths that they look at (own).
+-- The ranges of the numbers in primary rules, and of the levels that they make (own).
 use Rattle.std.specs.Prelude.{ℕ, ◌≤◌, ◌^◌, All, ℤ, pos, ◌≤ℤ◌}
 use Rattle.sdc_base.specs.declared.facts.Levels.{Levels}
 use Rattle.sdc_base.specs.declared.rule.Rule.{Rule}
@@ -21,10 +21,6 @@ whole_share = 100
 abbrev pub most_percent : ℕ
 most_percent = 1000
 
--- the greatest truth: 10 ^ 15 units in 10 ^ 8 weight steps for each of 10 ^ 6 records
-abbrev pub most_truth : ℕ
-most_truth = 10 ^ 29
-
 -- the greatest level
 abbrev pub most_level : ℕ
 most_level = 10 ^ 31
@@ -40,11 +36,6 @@ IsInRange (rule.Percent p) = (1 ≤ p) × (p ≤ most_percent)
 pub record AreInRange (rules : Rules) : Type 0 where
   pub list : All IsInRange rules.list
   pub man : rules.man ≤ most_percent
-
--- a truth is from 0 to the greatest
-pub record IsTruth (truth : ℤ) : Type 0 where
-  pub from_zero : pos 0 ≤ℤ truth
-  pub at_most : truth ≤ℤ pos most_truth
 
 -- an upper level is from a unit to the greatest
 pub record IsUpper (level : ℤ) : Type 0 where

@@ -4,7 +4,8 @@ ghost use Rattle.sdc_base.specs.Trees.{Tree};
 ghost use Rattle.sdc_base.specs.Records.{Name};
 ghost use Rattle.sdc_base.specs.declared.rows.Row.{Row};
 ghost use Rattle.sdc_base.specs.RuleLevels.{figures_of_facts, figures_in, upper_of, level_of, manual_of, keep_of, looks_at, levels_up_to};
-ghost use Rattle.primary_rules.specs.Ranges.{IsInRange, AreInRange, IsTruth, IsUpper, AreLevels};
+ghost use Rattle.primary_rules.specs.Ranges.{IsInRange, AreInRange, IsUpper, AreLevels};
+ghost use Rattle.sdc_base.specs.Truths.{IsTruth};
 ghost use Rattle.primary_rules.specs.OneRule.{greater_of};
 ghost use Rattle.primary_rules.specs.EnoughForRules.{AreFactsOf};
 

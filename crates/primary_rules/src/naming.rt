@@ -2,7 +2,8 @@ ghost use Rattle.std.specs.Prelude.{◌≡◌, ◌^◌, pos, neg_ℤ, ◌≤ℤ�
 ghost use Rattle.std.specs.Option.{ForSome};
 ghost use Rattle.sdc_base.specs.RuleLevels.{figures_of_facts, rest_beside_two};
 ghost use Rattle.sdc_base.specs.declared.rule.Rule.TheVariants as rule;
-ghost use Rattle.primary_rules.specs.Ranges.{IsInRange, IsTruth, IsUpper};
+ghost use Rattle.primary_rules.specs.Ranges.{IsInRange, IsUpper};
+ghost use Rattle.sdc_base.specs.Truths.{IsTruth};
 ghost use Rattle.primary_rules.specs.OneRule.{up_by};
 
 use crate::quotient::{excess, hundredths, up_from};

@@ -10,7 +10,8 @@ use Rattle.sdc_base.specs.Lines.{lines}
 use Rattle.sdc_base.specs.Steps.{or_fault, refuse}
 use Rattle.rda_meta.specs.Faults.{at_line}
 use Rattle.rda_meta.specs.VariableLines.{name_at, number_at, is_past, missing_of, is_named, variable_at}
-use Rattle.rda_meta.specs.KeywordLines.{is_close, keyword_in, last_of, is_again, setting_in, with_setting}
+use Rattle.rda_meta.specs.KeywordLines.{keyword_in, last_of, is_again, setting_in, with_setting}
+use Rattle.sdc_base.specs.Tokens.{is_close}
 use Rattle.rda_meta.specs.Metadata.{after_setting, after_variable, keyword_line, variable_line, text_says, lines_say, no_clash, variable_of, no_lines, meta_of}
 use Rattle.sdc_base.proofs.StepLemmas.{bind_ok, then_all}
 use Rattle.rda_meta.specs.declared.faults.MetaWhy.{MetaWhy}

@@ -16,7 +16,8 @@ use Rattle.rda_meta.specs.Faults.{at_line}
 use Rattle.rda_meta.specs.Words.{words}
 use Rattle.rda_meta.specs.Keywords.{is_passed}
 use Rattle.rda_meta.specs.Arguments.{argument_of}
-use Rattle.rda_meta.specs.KeywordLines.{is_close, keyword_in, last_of, is_again, setting_in, with_setting}
+use Rattle.rda_meta.specs.KeywordLines.{keyword_in, last_of, is_again, setting_in, with_setting}
+use Rattle.sdc_base.specs.Tokens.{is_close}
 use Rattle.rda_meta.specs.VariableLines.{variable_at}
 use Rattle.rda_meta.specs.Metadata.{after_setting, after_variable, keyword_line, variable_line, text_says, lines_say, no_clash, variable_of, no_lines, meta_of}
 use Rattle.rda_meta.specs.Meaning.{is_passed_keyword, is_passed_line}

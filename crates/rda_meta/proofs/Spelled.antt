@@ -5,8 +5,8 @@ use Rattle.std.proofs.lemmas.List.{append-nil, take_at, drop_at, drop_all, take_
 use Rattle.std.proofs.lemmas.List.Folds.{list_any-append}
 use Rattle.sdc_base.specs.Blanks.{is_blank, is_dark, trim, trim_front, trim_back}
 use Rattle.rda_meta.specs.Words.{first_word, behind_word, words}
-use Rattle.sdc_base.specs.Tokens.{is_quote}
-use Rattle.rda_meta.specs.Spelling.{quoted_word, needs_quotes, spelling_of_word, words_behind_spaces}
+use Rattle.sdc_base.specs.Tokens.{is_quote, in_quotes}
+use Rattle.rda_meta.specs.Spelling.{needs_quotes, spelling_of_word, words_behind_spaces}
 use Rattle.rda_meta.specs.CanonicalMetadata.{IsPlain, ArePlain}
 use Rattle.rda_meta.proofs.WordList.{words_none, words_some}
 
@@ -52,7 +52,7 @@ ends-bare b (c ∷ word) none = ends-append (b ∷ []) (c ∷ word) (ends-bare c
 ends-spelled : (word : List ℕ) → EndsDark (spelling_of_word word)
 ends-spelled [] = (34 ∷ [], 34, refl, refl)
 ends-spelled (b ∷ word) =
-    elim (needs_quotes (b ∷ word)) as (λ t. needs_quotes (b ∷ word) ≡ t → EndsDark (cond t (quoted_word (b ∷ word)) (b ∷ word))) [
+    elim (needs_quotes (b ∷ word)) as (λ t. needs_quotes (b ∷ word) ≡ t → EndsDark (cond t (in_quotes (b ∷ word)) (b ∷ word))) [
       | true ↦ λ _. (34 ∷ b ∷ word, 34, refl, refl)
       | false ↦ λ bare. ends-bare b word (or-right (is_quote b || (b == 60)) (list_any is_blank (b ∷ word)) bare)
     ] refl
@@ -87,10 +87,10 @@ same-words a b same =
     ] in
     of (length (trim a)) refl
 
-quoted-word : (word : List ℕ) (words' : List (List ℕ)) → IsPlain word → EndsDark (quoted_word word ++ words_behind_spaces words') → words (quoted_word word ++ words_behind_spaces words') ≡ word ∷ words (words_behind_spaces words')
+quoted-word : (word : List ℕ) (words' : List (List ℕ)) → IsPlain word → EndsDark (in_quotes word ++ words_behind_spaces words') → words (in_quotes word ++ words_behind_spaces words') ≡ word ∷ words (words_behind_spaces words')
 quoted-word word words' plain ends =
     let tail : List ℕ = words_behind_spaces words' in
-    let line : quoted_word word ++ tail ≡ 34 ∷ (word ++ 34 ∷ tail) = ap (λ (x : List ℕ). 34 ∷ x) (append_assoc word (34 ∷ []) tail) in
+    let line : in_quotes word ++ tail ≡ 34 ∷ (word ++ 34 ∷ tail) = ap (λ (x : List ℕ). 34 ∷ x) (append_assoc word (34 ∷ []) tail) in
     let closed : list_any is_quote (word ++ 34 ∷ tail) ≡ true = rw (list_any-append is_quote word (34 ∷ tail), plain) refl in
     let front : word ≡ first_word (34 ∷ (word ++ 34 ∷ tail)) = rw closed (sym (before-stop is_quote word 34 tail plain refl)) in
     let back : tail ≡ behind_word (34 ∷ (word ++ 34 ∷ tail)) = rw closed (sym (after-stop is_quote word 34 tail plain refl)) in
@@ -117,7 +117,7 @@ bare-word b word (next ∷ words') bare dark ends =
 pub words_spelled : (word : List ℕ) (words' : List (List ℕ)) → IsPlain word → words (spelling_of_word word ++ words_behind_spaces words') ≡ word ∷ words (words_behind_spaces words')
 words_spelled [] words' plain = quoted-word [] words' plain (ends-spaced [] words')
 words_spelled (b ∷ word) words' plain =
-    elim (needs_quotes (b ∷ word)) as (λ t. needs_quotes (b ∷ word) ≡ t → EndsDark (cond t (quoted_word (b ∷ word)) (b ∷ word) ++ words_behind_spaces words') → words (cond t (quoted_word (b ∷ word)) (b ∷ word) ++ words_behind_spaces words') ≡ (b ∷ word) ∷ words (words_behind_spaces words')) [
+    elim (needs_quotes (b ∷ word)) as (λ t. needs_quotes (b ∷ word) ≡ t → EndsDark (cond t (in_quotes (b ∷ word)) (b ∷ word) ++ words_behind_spaces words') → words (cond t (in_quotes (b ∷ word)) (b ∷ word) ++ words_behind_spaces words') ≡ (b ∷ word) ∷ words (words_behind_spaces words')) [
       | true ↦ λ need ends. quoted-word (b ∷ word) words' plain ends
       | false ↦ λ bare ends. bare-word b word words' (or-left (is_quote b) (b == 60) (or-left (is_quote b || (b == 60)) (list_any is_blank (b ∷ word)) bare)) (or-right (is_quote b || (b == 60)) (list_any is_blank (b ∷ word)) bare) ends
     ] refl (ends-spaced (b ∷ word) words')

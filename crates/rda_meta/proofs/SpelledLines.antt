@@ -10,9 +10,9 @@ use Rattle.rda_meta.specs.declared.setting.Keyword.TheVariants.{Recodeable, Reco
 use Rattle.rda_meta.specs.declared.setting.Setting.{Setting}
 use Rattle.rda_meta.specs.declared.entry.Entry.{Entry}
 use Rattle.rda_meta.specs.Words.{words}
-use Rattle.sdc_base.specs.Tokens.{is_quote}
+use Rattle.sdc_base.specs.Tokens.{is_quote, is_close}
 use Rattle.sdc_base.specs.Tokens.{number_in}
-use Rattle.rda_meta.specs.KeywordLines.{is_close, keyword_in, last_of, is_again, setting_in}
+use Rattle.rda_meta.specs.KeywordLines.{keyword_in, last_of, is_again, setting_in}
 use Rattle.rda_meta.specs.Keywords.{keyword_of}
 use Rattle.rda_meta.specs.Arguments.{argument_of}
 use Rattle.rda_meta.specs.Spelling.{words_behind_spaces, name_of, argument_words, setting_text}

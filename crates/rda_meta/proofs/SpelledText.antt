@@ -24,8 +24,8 @@ use Rattle.rda_meta.specs.Keywords.{is_passed, same_keyword}
 use Rattle.rda_meta.specs.LineSettings.{has_keyword}
 use Rattle.rda_meta.specs.Arguments.{argument_of}
 use Rattle.rda_meta.specs.Words.{words}
-use Rattle.sdc_base.specs.Tokens.{is_quote}
-use Rattle.rda_meta.specs.Spelling.{passed_lines, canonical_lines, name_of, argument_words, quoted_word, needs_quotes, spelling_of_word, words_behind_spaces, setting_text, setting_line, variable_text, all_lines}
+use Rattle.sdc_base.specs.Tokens.{is_quote, in_quotes}
+use Rattle.rda_meta.specs.Spelling.{passed_lines, canonical_lines, name_of, argument_words, needs_quotes, spelling_of_word, words_behind_spaces, setting_text, setting_line, variable_text, all_lines}
 use Rattle.rda_meta.specs.CanonicalMetadata.{IsSayable, AreSayable, IsPlaceable, AreCanonical}
 use Rattle.rda_meta.specs.Laws.{is_dark_line, dark_lines, but_for_line, canonical_text}
 use Rattle.rda_meta.proofs.LineSteps.{with_last}
@@ -64,7 +64,7 @@ begins-variable : (line : ℕ) (s : SoFar) (word tail : List ℕ) → text_says 
 unfolding text_says
 begins-variable line s [] tail = refl
 begins-variable line s (b ∷ word) tail =
-    elim (needs_quotes (b ∷ word)) as (λ t. needs_quotes (b ∷ word) ≡ t → text_says line s (cond t (quoted_word (b ∷ word)) (b ∷ word) ++ tail) ≡ variable_line line s (cond t (quoted_word (b ∷ word)) (b ∷ word) ++ tail)) [
+    elim (needs_quotes (b ∷ word)) as (λ t. needs_quotes (b ∷ word) ≡ t → text_says line s (cond t (in_quotes (b ∷ word)) (b ∷ word) ++ tail) ≡ variable_line line s (cond t (in_quotes (b ∷ word)) (b ∷ word) ++ tail)) [
       | true ↦ λ _. refl
       | false ↦ λ bare. rw (or-right (is_quote b) (b == 60) (or-left (is_quote b || (b == 60)) (list_any is_blank (b ∷ word)) bare)) refl
     ] refl
@@ -211,7 +211,7 @@ clean-setting s =
 clean-spelled : (word : List ℕ) (ws : List (List ℕ)) → EndsDark (spelling_of_word word ++ words_behind_spaces ws) → IsClean (spelling_of_word word ++ words_behind_spaces ws)
 clean-spelled [] ws ends = (trim_dark 34 (34 ∷ [] ++ words_behind_spaces ws) refl ends, refl)
 clean-spelled (b ∷ word) ws ends =
-    elim (needs_quotes (b ∷ word)) as (λ t. needs_quotes (b ∷ word) ≡ t → EndsDark (cond t (quoted_word (b ∷ word)) (b ∷ word) ++ words_behind_spaces ws) → IsClean (cond t (quoted_word (b ∷ word)) (b ∷ word) ++ words_behind_spaces ws)) [
+    elim (needs_quotes (b ∷ word)) as (λ t. needs_quotes (b ∷ word) ≡ t → EndsDark (cond t (in_quotes (b ∷ word)) (b ∷ word) ++ words_behind_spaces ws) → IsClean (cond t (in_quotes (b ∷ word)) (b ∷ word) ++ words_behind_spaces ws)) [
       | true ↦ λ _ ends. (trim_dark 34 ((b ∷ word ++ 34 ∷ []) ++ words_behind_spaces ws) refl ends, refl)
       | false ↦ λ bare ends. (trim_dark b (word ++ words_behind_spaces ws) (or-left (is_blank b) (list_any is_blank word) (or-right (is_quote b || (b == 60)) (list_any is_blank (b ∷ word)) bare)) ends, refl)
     ] refl ends

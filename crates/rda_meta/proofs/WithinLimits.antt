@@ -1,6 +1,6 @@
 -- Metadata that were read are within their limits.
-use Rattle.std.proofs.Common.{◌≡◌, ◌⊎◌, ℕ, zero, suc, ◌+◌, ◌-◌, ◌<◌, ◌≤◌, ◌==◌, Bool, true, false, cond, if◌then◌else◌, not, ◌&&◌, ◌||◌, nat_lt, nat_le, List, [], ◌∷◌, ◌++◌, length, map, filter, Option, None, Some, Result, Ok, Err, refl, ap, sym, subst, ◌∙◌, arith}
-use Rattle.std.specs.Prelude.{slice_get, slice_index_or, codes, sum, unwrap_or, All}
+use Rattle.std.proofs.Common.{◌≡◌, ℕ, zero, suc, ◌+◌, ◌-◌, ◌<◌, ◌≤◌, ◌==◌, Bool, true, false, cond, not, ◌&&◌, ◌||◌, nat_lt, nat_le, List, [], ◌∷◌, ◌++◌, length, map, filter, Option, None, Some, Result, Ok, Err, refl, ap, sym, subst, ◌∙◌, arith}
+use Rattle.std.specs.Prelude.{slice_get, slice_index_or, codes, sum, unwrap_or}
 use Rattle.std.specs.List.{AllByRecursion, IsDistinct, list_any, after_first}
 use Rattle.std.specs.Option.{ForSome}
 use Rattle.std.specs.Str.{bytes_eq}
@@ -8,35 +8,35 @@ use Rattle.std.specs.Str.Parse.{digits_value}
 use Rattle.std.proofs.lemmas.Bool.Decides.{nat_tests, Decides-eqb}
 use Rattle.std.proofs.lemmas.Cmp.{nat_list_eq_equiv}
 use Rattle.std.proofs.lemmas.Map.Keys.{IsDistinct-push}
-use Rattle.std.proofs.lemmas.List.Folds.{list_any-append}
 use Rattle.std.proofs.lemmas.List.{length-map, map-append}
 use Rattle.sdc_base.specs.Blanks.{trim}
 use Rattle.sdc_base.specs.Lines.{lines}
 use Rattle.sdc_base.specs.Steps.{◌>>=◌, or_fault, refuse}
-use Rattle.sdc_base.specs.Tokens.{is_number, number_in, is_file_name}
+use Rattle.sdc_base.specs.Tokens.{is_number, number_in, is_file_name, is_close}
 use Rattle.sdc_base.proofs.StepLemmas.{bind_ok}
 use Rattle.rda_meta.specs.Faults.{at_line, fault_of}
 use Rattle.sdc_base.specs.Answers.{Gives}
 use Rattle.std.specs.Result.{IfOk}
 use Rattle.rda_meta.specs.declared.faults.MetaError.{MetaError}
 use Rattle.rda_meta.specs.Words.{words}
-use Rattle.rda_meta.specs.Keywords.{place_of, same_keyword, is_passed}
+use denote.Enum.Bare.{same_true}
+use Rattle.rda_meta.specs.contracts.setting.Keyword.{the_type}
+use Rattle.rda_meta.specs.Keywords.{same_keyword, is_passed}
 use Rattle.rda_meta.specs.Arguments.{is_lead, is_zero, without_end_zeros, are_levels, only_word, decimals_argument, file_argument, lead_argument, numbers_of, levels_argument, argument_of}
-use Rattle.rda_meta.specs.LineSettings.{has_keyword, argument_said, number_in as number_behind, word_in, levels_in, is_numeric, decimals_of, codes_of, lead_of, shape_from, shape_of, has_tree, is_clashing}
-use Rattle.rda_meta.specs.KeywordLines.{is_close, keyword_in, last_of, is_again, setting_in, with_setting}
-use Rattle.rda_meta.specs.VariableLines.{is_name, name_at, number_at, is_past, missing_of, is_named, variable_at}
+use Rattle.rda_meta.specs.LineSettings.{has_keyword, argument_said, number_in as number_behind, word_in, levels_in, is_numeric, decimals_of, lead_of, shape_from, has_tree, is_clashing}
+use Rattle.rda_meta.specs.KeywordLines.{keyword_in, last_of, is_again, setting_in, with_setting}
+use Rattle.rda_meta.specs.VariableLines.{name_at, number_at, is_past, missing_of, is_named, variable_at}
 use Rattle.rda_meta.specs.Metadata.{after_setting, after_variable, keyword_line, variable_line, text_says, lines_say, no_clash, variable_of, no_lines, meta_of}
 use Rattle.rda_meta.specs.Limits.{IsShaped, IsVariable, IsMeta, weights}
 use Rattle.rda_meta.specs.declared.faults.MetaWhy.{MetaWhy}
 use Rattle.rda_meta.specs.declared.faults.MetaWhy.TheVariants.{BadName, BadPlace, BadValue, Twice, TooMany, Clash}
 use Rattle.rda_meta.specs.declared.setting.Keyword.{Keyword}
-use Rattle.rda_meta.specs.declared.setting.Keyword.TheVariants.{Recodeable, Recodable, Numeric, Decimals, Weight, CodeList, Hierarchical, HierLevels, HierCodeList, HierLeadString, TotCode, Request, Holding, Distance}
+use Rattle.rda_meta.specs.declared.setting.Keyword.TheVariants.{Numeric, Decimals, Weight, CodeList, Hierarchical, HierLevels, HierCodeList, HierLeadString}
 use Rattle.rda_meta.specs.declared.setting.Argument.{Argument}
-use Rattle.rda_meta.specs.declared.setting.Argument.TheVariants.{Nothing, Number, Word, Levels}
+use Rattle.rda_meta.specs.declared.setting.Argument.TheVariants.{Number, Word, Levels}
 use Rattle.rda_meta.specs.declared.setting.Setting.{Setting}
 use Rattle.rda_meta.specs.declared.entry.Entry.{Entry}
 use Rattle.rda_meta.specs.declared.entry.SoFar.{SoFar}
-use Rattle.rda_meta.specs.declared.meta.Shape.{Shape}
 use Rattle.rda_meta.specs.declared.meta.Shape.TheVariants as shape
 use Rattle.rda_meta.specs.declared.meta.Variable.{Variable}
 use Rattle.rda_meta.specs.declared.meta.Meta.{Meta}
@@ -86,41 +86,8 @@ number-within low high digits n h =
 
 -- ---- keywords
 
-abbrev keyword-at : ℕ → Keyword
-keyword-at n =
-    if n == 0 then Recodeable
-    else if n == 1 then Recodable
-    else if n == 2 then Numeric
-    else if n == 3 then Decimals
-    else if n == 4 then Weight
-    else if n == 5 then CodeList
-    else if n == 6 then Hierarchical
-    else if n == 7 then HierLevels
-    else if n == 8 then HierCodeList
-    else if n == 9 then HierLeadString
-    else if n == 10 then TotCode
-    else if n == 11 then Request
-    else if n == 12 then Holding
-    else Distance
-
-at-place : (k : Keyword) → keyword-at (place_of k) ≡ k
-at-place Recodeable = refl
-at-place Recodable = refl
-at-place Numeric = refl
-at-place Decimals = refl
-at-place Weight = refl
-at-place CodeList = refl
-at-place Hierarchical = refl
-at-place HierLevels = refl
-at-place HierCodeList = refl
-at-place HierLeadString = refl
-at-place TotCode = refl
-at-place Request = refl
-at-place Holding = refl
-at-place Distance = refl
-
 same-is : (a b : Keyword) → same_keyword a b ≡ true → a ≡ b
-same-is a b h = sym (at-place a) ∙ ap keyword-at ((Decides-eqb (place_of a) (place_of b)).0 h) ∙ at-place b
+same-is a b h = same_true the_type tt a b h
 
 -- ---- what is said of a variable, of arguments that their keywords take
 

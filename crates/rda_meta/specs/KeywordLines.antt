@@ -1,7 +1,8 @@
 -- What a keyword line says, given the variables so far (tau-ARGUS user manual; the order of its faults own).
-use Rattle.std.specs.Prelude.{ℕ, ◌-◌, Bool, not, ◌==◌, if◌then◌else◌, List, [], ◌∷◌, ◌++◌, length, Option, slice_get, Result, Ok}
+use Rattle.std.specs.Prelude.{ℕ, ◌-◌, Bool, not, if◌then◌else◌, List, [], ◌∷◌, ◌++◌, length, Option, slice_get, Result, Ok}
 use Rattle.std.specs.List.{list_any, before_first, after_first}
 use Rattle.sdc_base.specs.Steps.{◌>>=◌, or_fault, refuse}
+use Rattle.sdc_base.specs.Tokens.{is_close}
 use Rattle.rda_meta.specs.declared.faults.MetaWhy.{MetaWhy}
 use Rattle.rda_meta.specs.declared.faults.MetaWhy.TheVariants.{BadName, UnknownKeyword, Twice}
 use Rattle.rda_meta.specs.declared.setting.Keyword.{Keyword}
@@ -12,10 +13,6 @@ use Rattle.rda_meta.specs.Words.{words}
 use Rattle.rda_meta.specs.Keywords.{keyword_of, same_keyword}
 use Rattle.rda_meta.specs.Arguments.{argument_of}
 use Rattle.rda_meta.specs.LineSettings.{has_keyword}
-
--- a byte is >
-abbrev pub is_close : ℕ → Bool
-is_close b = b == 62
 
 -- what stands between < and the first >, as a keyword; the text is that behind the <
 unfoldable pub keyword_in : List ℕ → Result Keyword MetaWhy

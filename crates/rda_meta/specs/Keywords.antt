@@ -1,6 +1,8 @@
 -- The keywords of metadata (tau-ARGUS user manual).
-use Rattle.std.specs.Prelude.{ℕ, Bool, true, false, ◌==◌, codes, if◌then◌else◌, List, Option, None, Some}
+use Rattle.std.specs.Prelude.{ℕ, Bool, true, false, codes, if◌then◌else◌, List, Option, None, Some}
 use Rattle.std.specs.Str.{str_eq_ignore_ascii_case}
+use denote.Enum.Bare.{sameb}
+use Rattle.rda_meta.specs.contracts.setting.Keyword.{the_type}
 use Rattle.rda_meta.specs.declared.setting.Keyword.{Keyword}
 use Rattle.rda_meta.specs.declared.setting.Keyword.TheVariants.{Recodeable, Recodable, Numeric, Decimals, Weight, CodeList, Hierarchical, HierLevels, HierCodeList, HierLeadString, TotCode, Request, Holding, Distance}
 
@@ -30,23 +32,6 @@ is_passed Holding = true
 is_passed Distance = true
 is_passed keyword = false
 
--- a keyword's place in the table
-abbrev pub place_of : Keyword → ℕ
-place_of Recodeable = 0
-place_of Recodable = 1
-place_of Numeric = 2
-place_of Decimals = 3
-place_of Weight = 4
-place_of CodeList = 5
-place_of Hierarchical = 6
-place_of HierLevels = 7
-place_of HierCodeList = 8
-place_of HierLeadString = 9
-place_of TotCode = 10
-place_of Request = 11
-place_of Holding = 12
-place_of Distance = 13
-
 -- both are one keyword
 abbrev pub same_keyword : Keyword → Keyword → Bool
-same_keyword a b = place_of a == place_of b
+same_keyword = sameb the_type

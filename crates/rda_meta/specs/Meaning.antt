@@ -5,7 +5,8 @@ use Rattle.sdc_base.specs.Blanks.{trim}
 use Rattle.sdc_base.specs.Lines.{lines}
 use Rattle.sdc_base.specs.Steps.{◌>>=◌}
 use Rattle.rda_meta.specs.VariableLines.{variable_at}
-use Rattle.rda_meta.specs.KeywordLines.{is_close, keyword_in}
+use Rattle.rda_meta.specs.KeywordLines.{keyword_in}
+use Rattle.sdc_base.specs.Tokens.{is_close}
 use Rattle.rda_meta.specs.Metadata.{variable_of, meta_of}
 use Rattle.rda_meta.specs.declared.faults.MetaWhy.{MetaWhy}
 use Rattle.std.specs.List.{AllByRecursion, after_first}

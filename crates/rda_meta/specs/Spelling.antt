@@ -8,11 +8,7 @@ use Rattle.rda_meta.specs.declared.setting.Argument.{Argument}
 use Rattle.rda_meta.specs.declared.setting.Argument.TheVariants.{Nothing, Number, Word, Levels}
 use Rattle.rda_meta.specs.declared.setting.Setting.{Setting}
 use Rattle.rda_meta.specs.declared.entry.Entry.{Entry}
-use Rattle.sdc_base.specs.Tokens.{is_quote}
-
--- between double quotes
-abbrev pub quoted_word : List ℕ → List ℕ
-quoted_word word = 34 ∷ word ++ 34 ∷ []
+use Rattle.sdc_base.specs.Tokens.{in_quotes, is_quote}
 
 -- an empty word, one with a blank in it, and one that begins with a quote or <
 abbrev pub needs_quotes : List ℕ → Bool
@@ -21,7 +17,7 @@ needs_quotes (b ∷ word) = is_quote b || (b == 60) || list_any is_blank (b ∷ 
 
 -- a word, in quotes where it needs them
 abbrev pub spelling_of_word : List ℕ → List ℕ
-spelling_of_word word = if needs_quotes word then quoted_word word else word
+spelling_of_word word = if needs_quotes word then in_quotes word else word
 
 -- each word behind a space
 abbrev pub words_behind_spaces : List (List ℕ) → List ℕ

@@ -83,7 +83,7 @@ fn file_argument(alloc: Global, words: &mut Words) -> Result<Argument, LineError
     if !is_file_name(word) {
         return Err(LineError::Fault(MetaWhy::BadValue));
     }
-    Ok(Argument::Word(Text::new(word.to_vec(alloc)?)))
+    Ok(Argument::Word(Text::from_slice(alloc, word)?))
 }
 
 // One word, a lead string.
@@ -95,7 +95,7 @@ fn lead_argument(alloc: Global, words: &mut Words) -> Result<Argument, LineError
     if !is_lead(word) {
         return Err(LineError::Fault(MetaWhy::BadValue));
     }
-    Ok(Argument::Word(Text::new(word.to_vec(alloc)?)))
+    Ok(Argument::Word(Text::from_slice(alloc, word)?))
 }
 
 // One word, a code; blanks at its ends are taken off.
@@ -104,7 +104,7 @@ fn code_argument(alloc: Global, words: &mut Words) -> Result<Argument, LineError
     ensures { Gives why_of (λ argument. argument) result (spec.code_argument words.old) }
 {
     let word = only_word(words)?;
-    Ok(Argument::Word(Text::new(trim(word).to_vec(alloc)?)))
+    Ok(Argument::Word(Text::from_slice(alloc, trim(word))?))
 }
 
 // The widths of levels; zeros at the end add none.

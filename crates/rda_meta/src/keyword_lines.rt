@@ -2,14 +2,15 @@ ghost use Rattle.std.specs.Prelude.{◌≡◌, OnOk};
 ghost use Rattle.std.specs.List.{after_first, list_any};
 ghost use Rattle.sdc_base.specs.Answers.{Gives};
 ghost use Rattle.rda_meta.specs.Faults.{why_of};
-ghost use Rattle.rda_meta.specs.KeywordLines.{is_close, with_setting};
+ghost use Rattle.rda_meta.specs.KeywordLines.{with_setting};
+ghost use Rattle.sdc_base.specs.Tokens.{is_close};
 ghost use Rattle.rda_meta.specs.KeywordLines as keyword_lines;
 ghost use Rattle.rda_meta.specs.LineSettings as line_settings;
 
 use crate::arguments::argument_of;
 use crate::entry::Entry;
 use crate::faults::{LineError, MetaWhy};
-use crate::keywords::{keyword_of, same_keyword};
+use crate::keywords::keyword_of;
 use crate::said::has_keyword;
 use crate::setting::{Keyword, Setting};
 use crate::words::words_in;
@@ -55,7 +56,7 @@ pub(crate) fn setting_in(
 fn is_again(keyword: Keyword, entry: &Entry, entries: &[Entry]) -> bool
     ensures { result ≡ keyword_lines.is_again keyword entry.now entries.now }
 {
-    if same_keyword(keyword, Keyword::Weight) {
+    if keyword == Keyword::Weight {
         return some_weight(entries);
     }
     has_keyword(entry.said.as_slice(), keyword)

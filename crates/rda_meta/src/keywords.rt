@@ -70,32 +70,3 @@ pub(crate) fn is_passed(keyword: Keyword) -> bool
         _ => false,
     }
 }
-
-// The place of the keyword in the table.
-fn place_of(keyword: Keyword) -> u8
-    ensures { result ≡ spec.place_of keyword }
-{
-    match keyword {
-        Keyword::Recodeable => 0,
-        Keyword::Recodable => 1,
-        Keyword::Numeric => 2,
-        Keyword::Decimals => 3,
-        Keyword::Weight => 4,
-        Keyword::CodeList => 5,
-        Keyword::Hierarchical => 6,
-        Keyword::HierLevels => 7,
-        Keyword::HierCodeList => 8,
-        Keyword::HierLeadString => 9,
-        Keyword::TotCode => 10,
-        Keyword::Request => 11,
-        Keyword::Holding => 12,
-        Keyword::Distance => 13,
-    }
-}
-
-/// Whether both are one keyword.
-pub(crate) fn same_keyword(a: Keyword, b: Keyword) -> bool
-    ensures { result ≡ spec.same_keyword a b }
-{
-    place_of(a) == place_of(b)
-}

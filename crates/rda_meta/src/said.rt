@@ -2,7 +2,6 @@ ghost use Rattle.std.specs.Prelude.{◌≡◌, IfOk, unwrap_or, option_map};
 ghost use Rattle.std.specs.Option.{option_copied};
 ghost use Rattle.rda_meta.specs.LineSettings as spec;
 
-use crate::keywords::same_keyword;
 use crate::meta::Shape;
 use crate::setting::{Argument, Keyword, Setting};
 use sdc_base::{Items, Memory, Text};
@@ -12,7 +11,7 @@ use std::alloc::Global;
 pub(crate) fn has_keyword(said: &[Setting], keyword: Keyword) -> bool
     ensures { result ≡ spec.has_keyword keyword said.now }
 {
-    said.iter().any(|s| same_keyword(s.keyword, keyword))
+    said.iter().any(|s| s.keyword == keyword)
 }
 
 // What stands behind the keyword, where a line has it.
@@ -20,7 +19,7 @@ fn argument_said(said: &[Setting], keyword: Keyword) -> Option<&Argument>
     ensures { option_copied result ≡ spec.argument_said keyword said.now }
 {
     'said: for s in said {
-        if same_keyword(s.keyword, keyword) {
+        if s.keyword == keyword {
             return Some(&s.argument);
         }
     }
@@ -90,7 +89,7 @@ fn copy_or(alloc: Global, word: Option<&Text>, default: &[u8]) -> Result<Text, M
     ensures { IfOk result (λ text. text ≡ unwrap_or (option_copied word.entry) default.now) }
 {
     let Some(word) = word else {
-        return Ok(Text::new(default.to_vec(alloc)?));
+        return Ok(Text::from_slice(alloc, default)?);
     };
     word.copy(alloc)
 }

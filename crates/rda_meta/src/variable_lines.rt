@@ -50,7 +50,7 @@ fn new_entry(
     ensures { IfOk result (λ entry. entry
         ≡ record { line = line; name = name.now; first = first; width = width; missing = missing; said = [] }) }
 {
-    let name = Text::new(name.to_vec(alloc)?);
+    let name = Text::from_slice(alloc, name)?;
     Ok(Entry {
         line,
         name,
@@ -112,7 +112,7 @@ fn missing_of(alloc: Global, words: &mut Words) -> Result<Items<Text>, LineError
         if codes.as_slice().len() > 1 {
             return Err(LineError::Fault(MetaWhy::BadValue));
         }
-        codes.push(Text::new(trim(word).to_vec(alloc)?))?;
+        codes.push(Text::from_slice(alloc, trim(word))?)?;
     }
     Ok(codes)
 }

@@ -8,7 +8,8 @@ use Rattle.sdc_base.proofs.WholeNumbers.{times_up}
 use Rattle.sdc_base.specs.Numbers.{too_wide}
 use Rattle.sdc_base.specs.Records.{Name}
 use Rattle.sdc_base.specs.Relations.{relations_among}
-use Rattle.sdc_base.specs.Roundings.{IsAdjacent, IsRounding, number_at}
+use Rattle.sdc_base.specs.Roundings.{IsAdjacent, IsRounding}
+use Rattle.sdc_base.specs.Systems.{number_at}
 use Rattle.sdc_base.specs.Steps.{◌>>=◌, map_fault}
 use Rattle.sdc_base.specs.Trees.{Tree}
 use Rattle.sdc_base.specs.declared.cell.Cell.{Cell}
@@ -112,7 +113,7 @@ released-by (value ∷ values) each =
 
 -- each truth is from 0 and at most 10^29
 truths-within : (inputs : Inputs) (book : BookView) → IsBookOf inputs book → (k : ℕ) → k < length book.marks → (pos 0 ≤ℤ number_at (map (λ mark. mark.facts.truth) book.marks) k) × (number_at (map (λ mark. mark.facts.truth) book.marks) k ≤ℤ pos (10 ^ 29))
-truths-within inputs book is k within = at book.marks (cells_in book) k within is.one_each (λ cell name mark named there. (is.told cell name mark named there).within)
+truths-within inputs book is k within = at book.marks (cells_in book) k within is.one_each (λ cell name mark named there. let within = (is.told cell name mark named there).within in (within.from_zero, within.at_most))
   where
     at : (marks : List Mark) (names : List Name) (k : ℕ) → k < length marks → length marks ≡ length names
         → ((cell : ℕ) (name : Name) (mark : Mark) → slice_get names cell ≡ Some name → slice_get marks cell ≡ Some mark → (pos 0 ≤ℤ mark.facts.truth) × (mark.facts.truth ≤ℤ pos (10 ^ 29)))

@@ -39,7 +39,7 @@ pub(crate) fn value_text(alloc: Global, decimals: u8, value: Option<i128>) -> Re
 {
     match value {
         Some(number) => print_units(alloc, number, decimals),
-        None => Ok(Text::new(Vec::from_slice(alloc, b"x")?)),
+        None => Ok(Text::from_slice(alloc, b"x")?),
     }
 }
 

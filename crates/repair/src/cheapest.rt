@@ -1,6 +1,6 @@
 ghost use Rattle.std.specs.Prelude.{◌≡◌, ℕ, ◌<◌, ◌^◌, false, length, IfNone, IfSome};
 ghost use Rattle.std.specs.Option.{ForSome};
-ghost use Rattle.worlds.specs.BoundedNumbers.{number_at};
+ghost use Rattle.sdc_base.specs.Systems.{number_at};
 ghost use Rattle.worlds.specs.RefutationFaults.{IsGivenRefutation};
 ghost use Rattle.repair.specs.HidingOrder.{breaks, breaks_at, coefficients_for, IsCheapest};
 ghost use Rattle.repair.specs.Choices.{cheaper_of};

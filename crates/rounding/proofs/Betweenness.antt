@@ -1,7 +1,7 @@
 -- The choices left lie between the least and the greatest numbers.
 use Rattle.std.proofs.Common.{ℕ, zero, suc, Bool, true, false, List, [], ◌∷◌, ◌++◌, ℤ, pos, ◌≤ℤ◌, arith, if◌then◌else◌}
 use Rattle.std.proofs.lemmas.Int.{ints}
-use Rattle.sdc_base.specs.Roundings.{number_at}
+use Rattle.sdc_base.specs.Systems.{number_at}
 use Rattle.rounding.specs.Neighbours.{is_multiple, neighbour}
 use Rattle.rounding.specs.Choices.{Choices, first_or, choices_behind, by_choices}
 

@@ -9,13 +9,15 @@ use Rattle.std.proofs.lemmas.Bool.{cases_lt}
 use Rattle.std.proofs.lemmas.Bool.Decides.{Decides-eqb, nat_tests}
 use Rattle.std.proofs.lemmas.List.Elements.{All-contains, All-contains_itself, All-weaker, All-get_or, All-append, All-from_get_or, Contains-append_right}
 use Rattle.sdc_base.specs.declared.system.System.{System}
-use Rattle.sdc_base.specs.Roundings.{IsMultiple, IsRounding, number_at}
+use Rattle.sdc_base.specs.Roundings.{IsMultiple, IsRounding}
+use Rattle.sdc_base.specs.Systems.{number_at}
 use Rattle.rounding.specs.declared.arcs.Arc.{Arc}
 use Rattle.rounding.specs.declared.steps.Step.{Step}
 use Rattle.rounding.specs.Neighbours.{is_multiple}
 use Rattle.rounding.specs.Arcs.{brings_to, arc_at, cells_at, Touches, AreArcsOf, IsNetwork, IsBalanced}
 use Rattle.rounding.specs.Rings.{AreBeside, KeepMultiples}
-use Rattle.rounding.specs.Tasks.{IsTruth, IsProper}
+use Rattle.rounding.specs.Tasks.{IsProper}
+use Rattle.sdc_base.specs.Truths.{IsTruth}
 use Rattle.rounding.specs.Circuits.{IsAlong, IsMove, AreMoves, GoesRound}
 use Rattle.rounding.proofs.Adjacency.{no_rest, left_within}
 use Rattle.rounding.proofs.Arcing.{at_own, at_other}
@@ -135,7 +137,7 @@ start_beside system truths base proper = record {
   each = refl;
   beside = λ cell below.
       let truth : IsTruth (number_at truths cell) = All-get_or IsTruth truths cell (pos 0) below proper.within in
-      let within = left_within base (number_at truths cell) proper.from_one truth.from in
+      let within = left_within base (number_at truths cell) proper.from_one truth.from_zero in
       record { low = omega (arith, ints, within.0); high = omega (arith, ints, within.1); stays = λ _. refl };
 }
 
@@ -147,7 +149,7 @@ all_rounded system signs truths base arcs points numbers values proper are many 
       each = beside.each ∙ proper.each;
       adjacent = λ cell below.
           let inside : cell < length truths = omega (arith, below, proper.each) in
-          beside_is_adjacent base (number_at truths cell) (number_at numbers cell) proper.from_one (truth_from truths base numbers cell beside inside).from (beside.beside cell inside) (whole cell (omega (arith, inside, beside.each)));
+          beside_is_adjacent base (number_at truths cell) (number_at numbers cell) proper.from_one (truth_from truths base numbers cell beside inside).from_zero (beside.beside cell inside) (whole cell (omega (arith, inside, beside.each)));
       hold = balanced_holds system.relations signs system.cells arcs points (number_at numbers) are system.named many balanced;
     })
 

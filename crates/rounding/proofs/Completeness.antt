@@ -1,10 +1,11 @@
 -- The values of choices are adjacent to the truths, and adjacent values are those of choices.
 use Rattle.std.proofs.Common.{◌≡◌, ℕ, zero, suc, ◌+◌, ◌<◌, Bool, true, false, List, [], ◌∷◌, length, All, ℤ, pos, ◌≤ℤ◌, arith, refl, ap, sym, if◌then◌else◌}
 use Rattle.std.proofs.lemmas.List.Elements.{All-head, All-tail}
-use Rattle.sdc_base.specs.Roundings.{number_at, IsAdjacent}
+use Rattle.sdc_base.specs.Roundings.{IsAdjacent}
+use Rattle.sdc_base.specs.Systems.{number_at}
 use Rattle.rounding.specs.Neighbours.{is_multiple, neighbour}
 use Rattle.rounding.specs.Choices.{Choices, unrounded_cells, first_or, choices_behind, by_choices}
-use Rattle.rounding.specs.Tasks.{IsTruth}
+use Rattle.sdc_base.specs.Truths.{IsTruth}
 use Rattle.rounding.proofs.Adjacency.{neighbour_is_adjacent, multiple_is_adjacent, adjacent_is_neighbour, multiple_stays}
 
 pub by_choices_adjacent : (side : Bool) (base : ℤ) (truths : List ℤ) (choices : Choices) → pos 1 ≤ℤ base → All IsTruth truths → (k : ℕ) → k < length truths → IsAdjacent base (number_at truths k) (number_at (by_choices side base truths choices) k)
@@ -12,7 +13,7 @@ by_choices_adjacent side base [] choices positive all k below = absurd (omega ar
 by_choices_adjacent side base (truth ∷ truths) choices positive all zero below =
     elim (is_multiple base truth) as (λ b. is_multiple base truth ≡ b → IsAdjacent base truth (number_at (if b then truth ∷ by_choices side base truths choices else neighbour base truth (first_or side choices) ∷ by_choices side base truths (choices_behind choices)) 0)) [
       | true ↦ λ is. multiple_is_adjacent base truth positive is
-      | false ↦ λ is. neighbour_is_adjacent base truth (first_or side choices) positive (All-head IsTruth truth truths all).from is
+      | false ↦ λ is. neighbour_is_adjacent base truth (first_or side choices) positive (All-head IsTruth truth truths all).from_zero is
     ] refl
 by_choices_adjacent side base (truth ∷ truths) choices positive all (suc k) below =
     elim (is_multiple base truth) as (λ b. IsAdjacent base (number_at truths k) (number_at (if b then truth ∷ by_choices side base truths choices else neighbour base truth (first_or side choices) ∷ by_choices side base truths (choices_behind choices)) (suc k))) [
@@ -38,7 +39,7 @@ adjacent_are_made base n [] (value ∷ values) positive all same adjacent = absu
 adjacent_are_made base n (truth ∷ truths) [] positive all same adjacent = absurd (omega arith)
 adjacent_are_made base n (truth ∷ truths) (value ∷ values) positive all same adjacent =
     let later = adjacent_are_made base (n + 1) truths values positive (All-tail IsTruth truth truths all) (omega arith) (λ k below. adjacent (suc k) (omega arith)) in
-    let from : pos 0 ≤ℤ truth = (All-head IsTruth truth truths all).from in
+    let from : pos 0 ≤ℤ truth = (All-head IsTruth truth truths all).from_zero in
     let here : IsAdjacent base truth value = adjacent 0 (omega arith) in
     let found = adjacent_is_neighbour base truth value positive from here in
     made_more base n truth truths value values later.0 found.0 later.1 (λ is. multiple_stays base truth value positive from is here) found.1

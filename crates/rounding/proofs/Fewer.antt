@@ -1,6 +1,6 @@
 -- Where multiples stay and a cell more becomes one, fewer are left.
 use Rattle.std.proofs.Common.{◌≡◌, ℕ, zero, suc, ◌+◌, ◌<◌, ◌≤◌, Bool, true, false, List, [], ◌∷◌, length, ℤ, arith, refl, if◌then◌else◌}
-use Rattle.sdc_base.specs.Roundings.{number_at}
+use Rattle.sdc_base.specs.Systems.{number_at}
 use Rattle.rounding.specs.Neighbours.{is_multiple}
 use Rattle.rounding.specs.Choices.{unrounded_cells}
 

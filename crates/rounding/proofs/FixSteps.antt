@@ -8,11 +8,13 @@ use Rattle.std.proofs.lemmas.List.{get_or_past}
 use Rattle.std.proofs.lemmas.List.Sums.{fold-append}
 use Rattle.std.proofs.lemmas.List.Elements.{All-nil, All-cons}
 use Rattle.std.proofs.lemmas.Option.{slice_get_within}
-use Rattle.sdc_base.specs.Roundings.{number_at, IsAdjacent}
+use Rattle.sdc_base.specs.Roundings.{IsAdjacent}
+use Rattle.sdc_base.specs.Systems.{number_at}
 use Rattle.rounding.specs.Neighbours.{is_multiple, neighbour}
 use Rattle.rounding.specs.Choices.{by_choices}
 use Rattle.rounding.specs.Sums.{IsNear}
-use Rattle.rounding.specs.Tasks.{IsTruth, IsProper}
+use Rattle.rounding.specs.Tasks.{IsProper}
+use Rattle.sdc_base.specs.Truths.{IsTruth}
 use Rattle.rounding.specs.Fixes.{Fix, with_fix, by_fixes, FixedCells, number_left, IsFree, allows}
 use Rattle.rounding.specs.FixedSteps.{IsTaken}
 use Rattle.rounding.proofs.Adjacency.{neighbour_is_adjacent, left_within, some_rest}
@@ -156,7 +158,7 @@ adjacent_on base truths xs fix c positive all long below off adjacent =
       | true ↦ λ test.
           let here : fix.0 ≡ c = (Decides-eqb fix.0 c).0 test in
           let is : number_at (set xs fix.0 z) fix.0 ≡ z = get_or-set_same xs fix.0 z (pos 0) (omega arith) in
-          let from : pos 0 ≤ℤ number_at truths fix.0 = (all fix.0 (pos 0) (omega arith)).from in
+          let from : pos 0 ≤ℤ number_at truths fix.0 = (all fix.0 (pos 0) (omega arith)).from_zero in
           subst (λ (j : ℕ). IsAdjacent base (number_at truths j) (number_at (set xs fix.0 z) j)) here (subst (λ (y : ℤ). IsAdjacent base (number_at truths fix.0) y) (sym is) (neighbour_is_adjacent base (number_at truths fix.0) fix.1 positive from off))
       | false ↦ λ test.
           let apart : c ≢ fix.0 = grind (arith, nat_tests, test) in
@@ -232,11 +234,11 @@ between base truth positive from off =
 pub allowed_side : (b : FixedCells) (c : ℕ) (up : Bool) → IsProper b.system b.truths b.base → c < length b.truths → is_multiple b.base (number_at b.truths c) ≡ false → allows b c up ≡ true → number_left up b c ≡ neighbour b.base (number_at b.truths c) up
 allowed_side b c true proper below off is =
     let less : number_at b.truths c <ℤ number_left true b c = grind (arith, ints, is) in
-    let truth = between b.base (number_at b.truths c) proper.from_one (proper.within c (pos 0) below).from off in
+    let truth = between b.base (number_at b.truths c) proper.from_one (proper.within c (pos 0) below).from_zero off in
     elim (left_spot true b c below off) as (λ _. number_left true b c ≡ neighbour b.base (number_at b.truths c) true) [ inl down ↦ absurd (omega (arith, ints, less, down, truth.0)) | inr up ↦ up ]
 allowed_side b c false proper below off is =
     let less : number_left false b c <ℤ number_at b.truths c = grind (arith, ints, is) in
-    let truth = between b.base (number_at b.truths c) proper.from_one (proper.within c (pos 0) below).from off in
+    let truth = between b.base (number_at b.truths c) proper.from_one (proper.within c (pos 0) below).from_zero off in
     elim (left_spot false b c below off) as (λ _. number_left false b c ≡ neighbour b.base (number_at b.truths c) false) [ inl down ↦ down | inr up ↦ absurd (omega (arith, ints, less, up, truth.1)) ]
 
 pub taken_already : (b : FixedCells) (c : ℕ) (up : Bool) → IsProper b.system b.truths b.base → c < length b.truths → is_multiple b.base (number_at b.truths c) ≡ false → allows b c up ≡ true → number_left false b c ≡ number_left true b c → IsTaken c up b b
@@ -280,7 +282,7 @@ truths_between base truths positive all c =
     by_order c (length truths)
     (λ below. elim (is_multiple base (number_at truths c)) as (λ b. is_multiple base (number_at truths c) ≡ b → (number_at (by_choices false base truths []) c ≤ℤ number_at truths c) × (number_at truths c ≤ℤ number_at (by_choices true base truths []) c)) [
       | true ↦ λ on. (omega (arith, ints, to_side_on false base truths c below on), omega (arith, ints, to_side_on true base truths c below on))
-      | false ↦ λ off. let truth = between base (number_at truths c) positive (all c (pos 0) below).from off in (omega (arith, ints, to_side_off false base truths c below off, truth.0), omega (arith, ints, to_side_off true base truths c below off, truth.1))
+      | false ↦ λ off. let truth = between base (number_at truths c) positive (all c (pos 0) below).from_zero off in (omega (arith, ints, to_side_off false base truths c below off, truth.0), omega (arith, ints, to_side_off true base truths c below off, truth.1))
     ] refl)
     (λ past.
     let none : number_at truths c ≡ pos 0 = get_or_past truths c (pos 0) past in

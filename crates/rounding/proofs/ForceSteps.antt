@@ -12,8 +12,8 @@ use Rattle.std.proofs.lemmas.List.{drop-append-le}
 use Rattle.std.proofs.lemmas.List.Sums.{fold-append}
 use Rattle.std.proofs.lemmas.Option.{slice_get_within, get_or_from_slice_get}
 use Rattle.sdc_base.specs.declared.relation.Relation.{Relation}
-use Rattle.sdc_base.specs.Systems.{Numbers, NamesCells, form}
-use Rattle.sdc_base.specs.Roundings.{number_at, IsRounding}
+use Rattle.sdc_base.specs.Systems.{Numbers, NamesCells, form, number_at}
+use Rattle.sdc_base.specs.Roundings.{IsRounding}
 use Rattle.sdc_base.proofs.TotalLemmas.{sum_below-same}
 use Rattle.sdc_base.proofs.WholeNumbers.{times_up, minus_times}
 use Rattle.rounding.specs.Neighbours.{neighbour}
@@ -167,7 +167,7 @@ forced_fix b after cell side up proper free bars other made =
         ],
       );
       keeps = λ values rounding within.
-          let found = adjacent_is_neighbour b.base truth (number_at values cell) proper.from_one (proper.within cell (pos 0) free.inside).from (rounding.adjacent cell below) in
+          let found = adjacent_is_neighbour b.base truth (number_at values cell) proper.from_one (proper.within cell (pos 0) free.inside).from_zero (rounding.adjacent cell below) in
           within_fixed b cell (not side) values free.inside (one_or_other b.base truth (number_at values cell) side found.0 found.1 (λ at_side. bars values rounding within at_side)) within;
     })
 

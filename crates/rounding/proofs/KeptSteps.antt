@@ -10,8 +10,7 @@ use Rattle.std.proofs.lemmas.Map.Keys.{IsDistinct-cons}
 use Rattle.std.proofs.lemmas.Map.Steps.{length-le_from_distinct_below}
 use Rattle.std.proofs.lemmas.Option.{slice_get_within, same_Some}
 use Rattle.sdc_base.specs.declared.relation.Relation.{Relation}
-use Rattle.sdc_base.specs.Systems.{NamesCells}
-use Rattle.sdc_base.specs.Roundings.{number_at}
+use Rattle.sdc_base.specs.Systems.{NamesCells, number_at}
 use Rattle.rounding.specs.Neighbours.{neighbour}
 use Rattle.rounding.specs.Choices.{by_choices}
 use Rattle.rounding.specs.Extremes.{extreme_of_form}
@@ -297,7 +296,7 @@ pub left_within : (b : FixedCells) (lows highs mins maxs : List ℤ) → IsKept 
 left_within b lows highs mins maxs kept side c below =
     let near = left_near side b kept.proper (λ place fix there. (kept.free place fix there).unrounded) c in
     let truth = kept.proper.within c (pos 0) below in
-    (omega (arith, ints, near.low, near.high, truth.from, truth.to), omega (arith, ints, near.low, near.high, truth.from, truth.to))
+    (omega (arith, ints, near.low, near.high, truth.from_zero, truth.at_most), omega (arith, ints, near.low, near.high, truth.from_zero, truth.at_most))
 
 pub allows_up : (b : FixedCells) (cell : ℕ) (up : Bool) (x : ℤ) → up ≡ true → x ≡ number_left true b cell → int_lt (number_at b.truths cell) x ≡ allows b cell up
 allows_up b cell true x side is = ap (λ z. int_lt (number_at b.truths cell) z) is

@@ -8,8 +8,7 @@ use Rattle.std.proofs.lemmas.List.Elements.{All-head, All-tail}
 use Rattle.std.proofs.lemmas.List.Sums.{fold-append, list_all-from_AllPass}
 use Rattle.std.proofs.lemmas.Option.{slice_get-get_or}
 use Rattle.sdc_base.specs.declared.relation.Relation.{Relation}
-use Rattle.sdc_base.specs.Systems.{NamesCells}
-use Rattle.sdc_base.specs.Roundings.{number_at}
+use Rattle.sdc_base.specs.Systems.{NamesCells, number_at}
 use Rattle.rounding.specs.Neighbours.{is_multiple, neighbour}
 use Rattle.rounding.specs.Choices.{Choices, unrounded_cells, by_choices}
 use Rattle.sdc_base.specs.Forms.{count_of}
@@ -124,7 +123,7 @@ pub barred_extends : (b : FixedCells) (choices : Choices) (cell : ℕ) (side : B
 barred_extends b choices cell side proper left short is barred rest rounds =
     let inside : cell < length b.truths = omega (arith, is, next_inside b.base b.truths (length choices) short) in
     let off : is_multiple b.base (number_at b.truths cell) ≡ false = ap (λ (c : ℕ). is_multiple b.base (number_at b.truths c)) is ∙ next_off b.base b.truths (length choices) short in
-    let truth = between b.base (number_at b.truths cell) proper.from_one (proper.within cell (pos 0) inside).from off in
+    let truth = between b.base (number_at b.truths cell) proper.from_one (proper.within cell (pos 0) inside).from_zero off in
     let here = made_here side b.base b.truths choices rest cell proper.from_one short is in
     let same : (choices ++ side ∷ []) ++ rest ≡ choices ++ (side ∷ rest) = append_assoc choices (side ∷ []) rest in
     let within = subst (λ (list : Choices). IsWithin b (by_choices false b.base b.truths list)) (sym same) (left.sound (side ∷ rest) (subst (λ (list : Choices). IsRoundingList b.system b.truths b.base list) same rounds)) cell in
@@ -137,7 +136,7 @@ barred_extends b choices cell side proper left short is barred rest rounds =
 -- where down isn't allowed, up is
 pub up_allowed : (b : FixedCells) (cell : ℕ) → IsProper b.system b.truths b.base → cell < length b.truths → is_multiple b.base (number_at b.truths cell) ≡ false → allows b cell false ≡ false → allows b cell true ≡ true
 up_allowed b cell proper inside off barred =
-    let truth = between b.base (number_at b.truths cell) proper.from_one (proper.within cell (pos 0) inside).from off in
+    let truth = between b.base (number_at b.truths cell) proper.from_one (proper.within cell (pos 0) inside).from_zero off in
     let from : number_at b.truths cell ≤ℤ number_left false b cell = grind (arith, ints, barred) in
     let high : number_at b.truths cell <ℤ number_left true b cell = elim (left_spot false b cell inside off) as (λ _. number_at b.truths cell <ℤ number_left true b cell) [
       | inl down ↦ absurd (omega (arith, ints, from, down, truth.0))

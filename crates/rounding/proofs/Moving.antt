@@ -10,14 +10,14 @@ use Rattle.std.proofs.lemmas.Bool.Decides.{Decides-eqb, nat_tests}
 use Rattle.std.proofs.lemmas.List.{take_all, take_more}
 use Rattle.std.proofs.lemmas.List.Elements.{All-head, All-tail, All-cons, All-nil, All-get_or, All-more, All-weaker}
 use Rattle.sdc_base.specs.Forms.{Term, coefficient}
-use Rattle.sdc_base.specs.Roundings.{number_at}
+use Rattle.sdc_base.specs.Systems.{number_at}
 use Rattle.sdc_base.proofs.TotalLemmas.{sum_of-cons}
 use Rattle.sdc_base.proofs.WholeNumbers.{distrib}
 use Rattle.rounding.specs.declared.arcs.Arc.{Arc}
 use Rattle.rounding.specs.declared.steps.Step.{Step}
 use Rattle.rounding.specs.Neighbours.{is_multiple}
 use Rattle.rounding.specs.Choices.{unrounded_cells}
-use Rattle.rounding.specs.Tasks.{IsTruth}
+use Rattle.sdc_base.specs.Truths.{IsTruth}
 use Rattle.rounding.specs.Arcs.{IsBalanced}
 use Rattle.rounding.specs.Rings.{IsBeside, AreBeside, KeepMultiples, IsTurn, room, numbers_after_turns}
 use Rattle.rounding.specs.Circuits.{IsMove, AreMoves, IsWalk, step_at, room_of, turns_of}
@@ -115,7 +115,7 @@ pub truth_from : (truths : List ℤ) (base : ℤ) (numbers : List ℤ) (c : ℕ)
 truth_from truths base numbers c are below = All-get_or IsTruth truths c (pos 0) below are.within
 
 pub number_from : (truths : List ℤ) (base : ℤ) (numbers : List ℤ) (c : ℕ) → AreBeside truths base numbers → c < length truths → pos 0 ≤ℤ number_at numbers c
-number_from truths base numbers c are below = from_none base (number_at truths c) (number_at numbers c) are.from_one (truth_from truths base numbers c are below).from (are.beside c below)
+number_from truths base numbers c are below = from_none base (number_at truths c) (number_at numbers c) are.from_one (truth_from truths base numbers c are below).from_zero (are.beside c below)
 
 past_end : (xs : List ℤ) (c : ℕ) → length xs ≤ c → number_at xs c ≡ pos 0
 past_end [] zero past = refl
@@ -129,11 +129,11 @@ in_range truths base numbers are c =
     elim (cases_lt c (length truths)) as (λ _. (pos 0 ≤ℤ number_at numbers c) × (number_at numbers c ≤ℤ pos (2 ^ 100))) [
       | inl below ↦
           let truth = truth_from truths base numbers c are below in
-          let within = left_within base (number_at truths c) are.from_one truth.from in
+          let within = left_within base (number_at truths c) are.from_one truth.from_zero in
           let beside = are.beside c below in
           let high = beside.high in
           let most = are.to_most in
-          let to = truth.to in
+          let to = truth.at_most in
           (number_from truths base numbers c are below, omega (arith, ints, high, within.0, most, to))
       | inr past ↦ let none = past_end numbers c (omega (arith, are.each, past)) in (omega (arith, ints, none), omega (arith, ints, none))
     ]
@@ -174,7 +174,7 @@ goes truths base by before after steps place are moves inside least is each gone
         to_most = are.to_most;
         within = are.within;
         each = each ∙ are.each;
-        beside = λ c below. subst (IsBeside base (number_at truths c)) (sym (gone_is c)) (moved_beside base (number_at truths c) (number_at before c) (coefficient (turns_of steps) c) by are.from_one (truth_from truths base before c are below).from (are.beside c below) (turned_from base before steps c moves) from (room_left base before steps c by moves near));
+        beside = λ c below. subst (IsBeside base (number_at truths c)) (sym (gone_is c)) (moved_beside base (number_at truths c) (number_at before c) (coefficient (turns_of steps) c) by are.from_one (truth_from truths base before c are below).from_zero (are.beside c below) (turned_from base before steps c moves) from (room_left base before steps c by moves near));
       };
       multiples = keeps;
       fewer = fewer_from base 0 before after one.cell each keeps own.inside own.partly becomes;

@@ -6,8 +6,8 @@ use Rattle.std.proofs.lemmas.List.Sums.{AllPass-from_list_all, list_all-from_All
 use Rattle.std.proofs.lemmas.List.Elements.{All-nil, All-head, All-tail, All-cons, All-weaker}
 use Rattle.sdc_base.specs.declared.relation.Relation.{Relation}
 use Rattle.sdc_base.specs.declared.system.System.{System}
-use Rattle.sdc_base.specs.Systems.{Numbers, form, NamesCells, HoldOn}
-use Rattle.sdc_base.specs.Roundings.{number_at, IsRounding}
+use Rattle.sdc_base.specs.Systems.{Numbers, form, NamesCells, HoldOn, number_at}
+use Rattle.sdc_base.specs.Roundings.{IsRounding}
 use Rattle.rounding.specs.Choices.{Choices, by_choices}
 use Rattle.rounding.specs.Extremes.{extreme_of_form, spans_none, is_open}
 use Rattle.rounding.specs.Searches.{lists_of, unrounded_count, IsRoundingList}

@@ -1,6 +1,7 @@
 -- The steps of the search on a partial list.
 use Rattle.std.proofs.Common.{◌≡◌, ℕ, ◌+◌, ◌<◌, Bool, true, false, not, List, [], ◌∷◌, ◌++◌, length, get_or, ℤ, arith, ap, sym, subst, ◌∙◌, append-nil}
-use Rattle.sdc_base.specs.Roundings.{number_at, IsRounding}
+use Rattle.sdc_base.specs.Roundings.{IsRounding}
+use Rattle.sdc_base.specs.Systems.{number_at}
 use Rattle.rounding.specs.Neighbours.{is_multiple}
 use Rattle.rounding.specs.Choices.{Choices}
 use Rattle.rounding.specs.Extremes.{is_open}

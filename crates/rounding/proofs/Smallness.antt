@@ -7,12 +7,11 @@ use Rattle.std.proofs.lemmas.List.{get_or_past}
 use Rattle.std.proofs.lemmas.Option.{slice_get_within, get_or_from_slice_get}
 use Rattle.std.proofs.lemmas.List.Elements.{All-get_or}
 use Rattle.sdc_base.specs.declared.relation.Relation.{Relation}
-use Rattle.sdc_base.specs.Systems.{Numbers, form, HoldOn}
-use Rattle.sdc_base.specs.Roundings.{number_at}
+use Rattle.sdc_base.specs.Systems.{Numbers, form, HoldOn, number_at}
 use Rattle.rounding.specs.Choices.{Choices, by_choices}
 use Rattle.sdc_base.specs.Forms.{count_of}
 use Rattle.rounding.specs.Extremes.{extreme_numbers, extreme_of_form}
-use Rattle.rounding.specs.Tasks.{IsTruth}
+use Rattle.sdc_base.specs.Truths.{IsTruth}
 use Rattle.rounding.specs.Sums.{IsNear, AreExtremes, AreSmall}
 use Rattle.rounding.proofs.Nearness.{form_near}
 use Rattle.rounding.proofs.Choosing.{length-by_choices}

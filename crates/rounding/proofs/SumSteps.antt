@@ -10,9 +10,8 @@ use Rattle.std.proofs.lemmas.List.Sums.{fold_more}
 use Rattle.std.proofs.lemmas.List.{take_all, get_or_append_left}
 use Rattle.sdc_base.specs.Totals.{sum_of}
 use Rattle.sdc_base.specs.declared.relation.Relation.{Relation}
-use Rattle.sdc_base.specs.Systems.{Numbers, NamesCells}
+use Rattle.sdc_base.specs.Systems.{Numbers, NamesCells, number_at}
 use Rattle.sdc_base.proofs.WholeNumbers.{times_up, times_down}
-use Rattle.sdc_base.specs.Roundings.{number_at}
 use Rattle.sdc_base.specs.Forms.{count_of}
 use Rattle.rounding.specs.Extremes.{extreme_of_form, change}
 use Rattle.rounding.specs.Sums.{AreExtremes}

@@ -2,7 +2,7 @@
 use Rattle.std.specs.Prelude.{◌≡◌, ◌≢◌, ◌⊎◌, ℕ, ◌<◌, false, List, [], ◌∷◌, All, map, drop, length, slice_index_or, ℤ, pos, negsuc}
 use Rattle.std.specs.List.{AllPairs}
 use Rattle.sdc_base.specs.Forms.{Term}
-use Rattle.sdc_base.specs.Roundings.{number_at}
+use Rattle.sdc_base.specs.Systems.{number_at}
 use Rattle.rounding.specs.Neighbours.{is_multiple}
 use Rattle.rounding.specs.Rings.{room}
 use Rattle.rounding.specs.Arcs.{arc_at}

@@ -4,8 +4,7 @@ use Rattle.std.specs.List.{list_all}
 use Rattle.sdc_base.specs.declared.relation.Relation.{Relation}
 use Rattle.sdc_base.specs.declared.system.System.{System}
 use Rattle.sdc_base.specs.Forms.{count_of}
-use Rattle.sdc_base.specs.Systems.{Numbers, NamesCells, form}
-use Rattle.sdc_base.specs.Roundings.{number_at}
+use Rattle.sdc_base.specs.Systems.{Numbers, NamesCells, form, number_at}
 use Rattle.rounding.specs.Choices.{Choices, by_choices}
 
 -- the first numbers for the cells that the form counts above 0 times, the other numbers for the rest

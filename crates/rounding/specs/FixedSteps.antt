@@ -1,7 +1,8 @@
 -- What one more fixed cell forces, and what is kept where fixes are taken back (own).
 use Rattle.std.specs.Prelude.{◌≡◌, ℕ, ◌++◌, Bool, true, false, List, All, take, slice_get, Some, ℤ, pos, negsuc, ◌≤ℤ◌}
 use Rattle.sdc_base.specs.declared.relation.Relation.{Relation}
-use Rattle.sdc_base.specs.Roundings.{number_at, IsRounding}
+use Rattle.sdc_base.specs.Roundings.{IsRounding}
+use Rattle.sdc_base.specs.Systems.{number_at}
 use Rattle.rounding.specs.Neighbours.{neighbour}
 use Rattle.sdc_base.specs.Forms.{count_of}
 use Rattle.rounding.specs.Sums.{AreExtremes}

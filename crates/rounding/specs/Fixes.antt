@@ -2,8 +2,8 @@
 use Rattle.std.specs.Prelude.{◌≡◌, ℕ, ◌<◌, ◌^◌, [], Bool, true, false, List, All, length, drop, fold, slice_get, slice_index, slice_set, Some, ℤ, pos, neg_ℤ, ◌-ℤ◌, ◌≤ℤ◌, int_lt, if◌then◌else◌}
 use Rattle.sdc_base.specs.declared.relation.Relation.{Relation}
 use Rattle.sdc_base.specs.declared.system.System.{System}
-use Rattle.sdc_base.specs.Systems.{NamesCells}
-use Rattle.sdc_base.specs.Roundings.{number_at, IsRounding}
+use Rattle.sdc_base.specs.Systems.{NamesCells, number_at}
+use Rattle.sdc_base.specs.Roundings.{IsRounding}
 use Rattle.rounding.specs.Neighbours.{is_multiple, neighbour}
 use Rattle.rounding.specs.Choices.{by_choices}
 use Rattle.sdc_base.specs.Forms.{count_of}

@@ -1,6 +1,6 @@
 -- Partial lists of choices as a search holds them (own).
 use Rattle.std.specs.Prelude.{◌≡◌, ℕ, ◌<◌, ◌≤◌, ◌+◌, ◌++◌, Bool, true, false, List, length, map, take, slice_get, Some, ◌≤ℤ◌}
-use Rattle.sdc_base.specs.Roundings.{number_at}
+use Rattle.sdc_base.specs.Systems.{number_at}
 use Rattle.rounding.specs.Choices.{Choices, unrounded_cells, by_choices}
 use Rattle.rounding.specs.Namings.{IsNaming}
 use Rattle.rounding.specs.Fixes.{FixedCells, number_left, IsWithin, NoneWithin, AllCanHold}

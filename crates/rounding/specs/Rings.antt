@@ -2,10 +2,9 @@
 -- (own).
 use Rattle.std.specs.Prelude.{◌≡◌, ◌⊎◌, ℕ, ◌<◌, ◌^◌, true, false, List, All, length, ℤ, pos, negsuc, ◌+ℤ◌, ◌-ℤ◌, ◌*ℤ◌, ◌≤ℤ◌, int_lt, if◌then◌else◌}
 use Rattle.std.specs.Int.RustNames.{int_rem}
-use Rattle.sdc_base.specs.Systems.{Numbers}
-use Rattle.sdc_base.specs.Roundings.{number_at}
+use Rattle.sdc_base.specs.Systems.{Numbers, number_at}
 use Rattle.rounding.specs.Neighbours.{is_multiple, multiple_down}
-use Rattle.rounding.specs.Tasks.{IsTruth}
+use Rattle.sdc_base.specs.Truths.{IsTruth}
 use Rattle.rounding.specs.Arcs.{IsBalanced, IsNetwork}
 use Rattle.rounding.specs.declared.arcs.Arc.{Arc}
 

@@ -1,7 +1,7 @@
 -- A sum for each relation, kept while numbers of cells change (own).
 use Rattle.std.specs.Prelude.{◌≡◌, ℕ, ◌^◌, List, length, slice_get, Some, ℤ, pos, neg_ℤ, ◌+ℤ◌, ◌-ℤ◌, ◌≤ℤ◌}
 use Rattle.sdc_base.specs.declared.relation.Relation.{Relation}
-use Rattle.sdc_base.specs.Roundings.{number_at}
+use Rattle.sdc_base.specs.Systems.{number_at}
 use Rattle.rounding.specs.Extremes.{extreme_of_form}
 
 -- one number isn't further from another than this

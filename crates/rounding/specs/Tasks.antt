@@ -1,13 +1,8 @@
 -- What a rounding is asked of, and what a rounding is seen as (own).
 use Rattle.std.specs.Prelude.{◌≡◌, ◌^◌, List, All, length, ℤ, pos, ◌≤ℤ◌}
 use Rattle.sdc_base.specs.declared.system.System.{System}
-use Rattle.sdc_base.specs.Systems.{HoldOn}
-use Rattle.sdc_base.specs.Roundings.{number_at}
-
--- a truth is from 0 to 10^29
-pub record IsTruth (truth : ℤ) : Type 0 where
-  pub from : pos 0 ≤ℤ truth
-  pub to : truth ≤ℤ pos (10 ^ 29)
+use Rattle.sdc_base.specs.Systems.{HoldOn, number_at}
+use Rattle.sdc_base.specs.Truths.{IsTruth}
 
 -- a base from 1 to 10^22, and a truth for each cell, on which the relations hold
 pub record IsProper (system : System) (truths : List ℤ) (base : ℤ) : Type 0 where

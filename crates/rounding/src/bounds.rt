@@ -1,6 +1,6 @@
 ghost use Rattle.std.specs.Prelude.{◌≡◌, ◌<◌, ◌≤◌, ◌-◌, ◌^◌, ◌++◌, ◌∷◌, [], ◌≤ℤ◌, neg_ℤ, pos, false, true, length, take, slice_get, Some, IsTrue, IfOk, OnOk, OnErr};
 ghost use Rattle.sdc_base.specs.declared.relation.Relation.{Relation as AnyRelation};
-ghost use Rattle.sdc_base.specs.Roundings.{number_at};
+ghost use Rattle.sdc_base.specs.Systems.{number_at};
 ghost use Rattle.rounding.specs.Extremes.{extreme_of_form};
 ghost use Rattle.rounding.specs.Fixes.{Fix, by_fixes, fixed_cells, number_left, IsFree};
 ghost use Rattle.rounding.specs.FixedSteps.{IsTaken};

@@ -1,5 +1,6 @@
 ghost use Rattle.std.specs.Prelude.{◌≡◌, ◌<◌, ℕ, true, length, IfOk, OnOk};
-ghost use Rattle.sdc_base.specs.Roundings.{IsRounding, number_at};
+ghost use Rattle.sdc_base.specs.Roundings.{IsRounding};
+ghost use Rattle.sdc_base.specs.Systems.{number_at};
 ghost use Rattle.sdc_base.specs.Signs.{AreSigns};
 ghost use Rattle.rounding.specs.Neighbours as spec;
 ghost use Rattle.rounding.specs.Arcs.{IsBalanced, IsNetwork};

@@ -1,13 +1,12 @@
 ghost use Rattle.std.specs.Prelude.{◌≡◌, ◌<◌, ◌≤◌, ◌^◌, ◌≤ℤ◌, ◌-ℤ◌, ◌+ℤ◌, neg_ℤ, pos, ℕ, ℤ, List, [], All, IsTrue, ◌↔◌, if◌then◌else◌, int_lt, length, slice_get, slice_set, Some, IfOk};
 ghost use Rattle.sdc_base.specs.declared.relation.Relation.{Relation as AnyRelation};
-ghost use Rattle.sdc_base.specs.Systems.{NamesCells, HoldOn, form};
-ghost use Rattle.sdc_base.specs.Roundings.{number_at};
+ghost use Rattle.sdc_base.specs.Systems.{NamesCells, HoldOn, form, number_at};
 ghost use Rattle.rounding.specs.Neighbours.{neighbour};
 ghost use Rattle.rounding.specs.Neighbours as neighbours_specs;
 ghost use Rattle.rounding.specs.Choices.{unrounded_cells, by_choices};
 ghost use Rattle.sdc_base.specs.Forms as forms_specs;
 ghost use Rattle.rounding.specs.Extremes.{change, extreme_numbers, extreme_of_form};
-ghost use Rattle.rounding.specs.Tasks.{IsTruth};
+ghost use Rattle.sdc_base.specs.Truths.{IsTruth};
 ghost use Rattle.rounding.specs.Sums.{IsNear, AreExtremes, AreSmall};
 ghost use Rattle.rounding.specs.Namings.{IsNamingOf};
 ghost use Rattle.rounding.specs.Fixes.{IsSettable};

@@ -1,6 +1,6 @@
 ghost use Rattle.std.specs.Prelude.{◌≡◌, ◌⊎◌, ◌<◌, ◌≤◌, ◌^◌, ◌≤ℤ◌, ◌*ℤ◌, ℕ, List, All, pos, negsuc, length};
 ghost use Rattle.sdc_base.specs.Forms.{coefficient};
-ghost use Rattle.sdc_base.specs.Roundings.{number_at};
+ghost use Rattle.sdc_base.specs.Systems.{number_at};
 ghost use Rattle.rounding.specs.declared.arcs.Arc.{Arc as AnyArc};
 ghost use Rattle.rounding.specs.Neighbours as spec;
 ghost use Rattle.rounding.specs.Choices.{unrounded_cells};

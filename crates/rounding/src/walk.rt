@@ -1,7 +1,7 @@
 ghost use Rattle.std.specs.Prelude.{◌≡◌, ◌≢◌, ◌⊎◌, ◌<◌, ◌≤◌, All, true, false, length, drop, take, IfOk, IfSome, IfNone};
 ghost use Rattle.std.specs.List.{Contains};
 ghost use Rattle.std.specs.List.Sorted.{IsNonDecreasing};
-ghost use Rattle.sdc_base.specs.Roundings.{number_at};
+ghost use Rattle.sdc_base.specs.Systems.{number_at};
 ghost use Rattle.rounding.specs.Neighbours as spec;
 ghost use Rattle.rounding.specs.Arcs.{arc_at};
 ghost use Rattle.rounding.specs.Rings.{AreBeside, AreWholeBelow, IsBalancedBeside};

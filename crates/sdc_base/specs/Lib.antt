@@ -12,6 +12,7 @@ pub mod Trees
 pub mod Records
 pub mod Cells
 pub mod CellOrder
+pub mod Truths
 pub mod Sums
 pub mod Largest
 pub mod LargestKept

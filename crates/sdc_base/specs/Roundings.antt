@@ -1,12 +1,8 @@
 -- Roundings: each cell at a multiple of a base next to its truth, all relations holding (zero-restricted controlled
 -- rounding; own).
-use Rattle.std.specs.Prelude.{◌≡◌, ℕ, ◌<◌, List, length, slice_index_or, ℤ, pos, ◌+ℤ◌, ◌-ℤ◌, ◌*ℤ◌, ◌<ℤ◌}
+use Rattle.std.specs.Prelude.{◌≡◌, ℕ, ◌<◌, List, length, ℤ, ◌+ℤ◌, ◌-ℤ◌, ◌*ℤ◌, ◌<ℤ◌}
 use Rattle.sdc_base.specs.declared.system.System.{System}
-use Rattle.sdc_base.specs.Systems.{Numbers, HoldOn}
-
--- the number of a cell in a list with one for each
-abbrev pub number_at : List ℤ → Numbers
-number_at numbers cell = slice_index_or numbers cell (pos 0)
+use Rattle.sdc_base.specs.Systems.{number_at, HoldOn}
 
 -- a value is a whole number of times the base
 abbrev pub IsMultiple : ℤ → ℤ → Type 0

@@ -1,11 +1,15 @@
 -- Relations among cells, and the numbers of cells on which they hold (handbook, feasibility interval).
-use Rattle.std.specs.Prelude.{◌≡◌, ℕ, ◌<◌, List, All, ℤ, pos, ◌-ℤ◌}
+use Rattle.std.specs.Prelude.{◌≡◌, ℕ, ◌<◌, List, slice_index_or, All, ℤ, pos, ◌-ℤ◌}
 use Rattle.sdc_base.specs.Totals.{sum_of}
 use Rattle.sdc_base.specs.declared.relation.Relation.{Relation}
 
 -- a whole number for each cell
 abbrev pub Numbers : Type 0
 Numbers = ℕ → ℤ
+
+-- the numbers of a list with one for each; 0 beyond its end
+abbrev pub number_at : List ℤ → Numbers
+number_at numbers place = slice_index_or numbers place (pos 0)
 
 -- the relation names cells below this number
 pub record NamesCells (cells : ℕ) (r : Relation) : Type 0 where

@@ -1,5 +1,5 @@
--- Tokens that the files of an office share: quotes, whole numbers and file names (own).
-use Rattle.std.specs.Prelude.{ℕ, ◌==◌, ◌&&◌, nat_le, nat_lt, Bool, not, List, length, if◌then◌else◌, Option, None, Some}
+-- Tokens that the files of an office share: quotes, ends of keywords, whole numbers and file names (own).
+use Rattle.std.specs.Prelude.{ℕ, ◌==◌, ◌&&◌, nat_le, nat_lt, Bool, not, List, [], ◌∷◌, ◌++◌, length, if◌then◌else◌, Option, None, Some}
 use Rattle.std.specs.List.{list_all}
 use Rattle.std.specs.Str.{all_ascii_digits}
 use Rattle.std.specs.Str.Parse.{digits_value}
@@ -7,6 +7,14 @@ use Rattle.std.specs.Str.Parse.{digits_value}
 -- a byte is the double quote
 abbrev pub is_quote : ℕ → Bool
 is_quote b = b == 34
+
+-- a text between double quotes
+abbrev pub in_quotes : List ℕ → List ℕ
+in_quotes text = 34 ∷ text ++ 34 ∷ []
+
+-- a byte is >, which ends a keyword
+abbrev pub is_close : ℕ → Bool
+is_close b = b == 62
 
 -- a whole number: one digit or more
 abbrev pub is_number : List ℕ → Bool

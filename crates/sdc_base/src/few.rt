@@ -86,15 +86,22 @@ impl<T: Default + Drop, const N: usize> Few<T, N> {
 }
 
 impl<T: Copy + Default + Drop, const N: usize> Few<T, N> {
+    /// A list of these items, of which there are at most `N`. They are copied.
+    pub fn of(items: &[T]) -> Few<T, N>
+        requires { length items.now ≤ N }
+        ensures { result ≡ items.now }
+    {
+        let mut few = ArrayVec::new();
+        for item in items {
+            few.push(*item);
+        }
+        Few { items: few }
+    }
+
     /// A list of the same items.
     pub fn copy(&self) -> Few<T, N>
         ensures { result ≡ self.now }
     {
-        let mut items = ArrayVec::new();
-        let all = self.items.as_slice();
-        for item in all {
-            items.push(*item);
-        }
-        Few { items }
+        Few::of(self.items.as_slice())
     }
 }

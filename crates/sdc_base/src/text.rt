@@ -2,7 +2,7 @@ ghost use Rattle.std.specs.Prelude.{◌≡◌, ◌↔◌, IfOk, IsTrue, List, �
 ghost use Rattle.std.specs.Str.{bytes_eq};
 
 use crate::memory::Memory;
-use std::alloc::Global;
+use std::alloc::{AllocError, Global};
 use std::cmp::Ordering;
 use std::marker::Model;
 
@@ -24,6 +24,15 @@ impl Text {
         ensures { result ≡ bytes.items }
     {
         Text { bytes }
+    }
+
+    /// A text of these bytes, which are copied. Its one refusal is want of memory.
+    pub fn from_slice(alloc: Global, bytes: &[u8]) -> Result<Text, AllocError>
+        ensures { IfOk result (λ text. text ≡ bytes.now) }
+    {
+        Ok(Text {
+            bytes: Vec::from_slice(alloc, bytes)?,
+        })
     }
 
     /// The bytes, lent.

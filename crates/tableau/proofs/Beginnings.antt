@@ -8,7 +8,8 @@ use Rattle.std.proofs.lemmas.List.Elements.{All-from_get_or}
 use Rattle.std.proofs.lemmas.List.FromFn.{length-range_with_len, get_or-range_with_len}
 use Rattle.sdc_base.specs.Forms.{coefficient}
 use Rattle.sdc_base.proofs.TotalLemmas.{sum_of-cons}
-use Rattle.tableau.specs.Tables.{HasShape, number_at}
+use Rattle.tableau.specs.Tables.{HasShape}
+use Rattle.sdc_base.specs.Systems.{number_at}
 use Rattle.tableau.specs.declared.problem.Problem.{Problem}
 use Rattle.tableau.specs.declared.problem.LinRow.{LinRow}
 use Rattle.tableau.specs.Problems.{row_at, no_row, numbers_then_value, first_table, number_in, rows_of, numbers_of}

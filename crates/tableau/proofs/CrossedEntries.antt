@@ -10,7 +10,8 @@ use Rattle.sdc_base.specs.Forms.{Term, coefficient}
 use Rattle.tableau.specs.declared.sparse_table.SparseTable.{SparseTable}
 use Rattle.tableau.specs.Entries.{AreEntriesOf, AreEntriesBelow, row_of_entries, crossed_products, crossed_at}
 use Rattle.tableau.specs.SparseTables.{table_of}
-use Rattle.tableau.specs.Tables.{Table, number_at, exchanged_table, exchanged_row, exchanged_pivot}
+use Rattle.tableau.specs.Tables.{Table, exchanged_table, exchanged_row, exchanged_pivot}
+use Rattle.sdc_base.specs.Systems.{number_at}
 use Rattle.tableau.specs.Widths.{is_wide, all_rows, products_outside, IsWideAt}
 use Rattle.tableau.proofs.CrossedRows.{outside_at, outside_own, row_after_pivot, row_after_other, wide_pivot, wide_other}
 use Rattle.tableau.proofs.Independent.{by_less}

@@ -3,7 +3,8 @@ use Rattle.std.proofs.Common.{◌≡◌, ◌≢◌, ◌==◌, true, false, ℕ, 
 use Rattle.std.specs.List.{list_any}
 use Rattle.std.proofs.lemmas.List.{get_or-map, length-map, get_or-set_same, get_or-set_other, get_or_append_left, get_or_at}
 use Rattle.std.proofs.lemmas.Bool.Decides.{nat_tests}
-use Rattle.tableau.specs.Tables.{Table, number_at, crossed_numbers, exchanged_table, exchanged_row, exchanged_pivot}
+use Rattle.tableau.specs.Tables.{Table, crossed_numbers, exchanged_table, exchanged_row, exchanged_pivot}
+use Rattle.sdc_base.specs.Systems.{number_at}
 use Rattle.tableau.specs.Widths.{is_wide, all_rows, products_in_pivot, products_outside, IsWideAt}
 use Rattle.tableau.proofs.Dots.{length-crossed_numbers, get_or-crossed_numbers}
 use Rattle.tableau.proofs.Independent.{by_less}

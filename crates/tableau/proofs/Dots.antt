@@ -4,7 +4,8 @@ use Rattle.std.proofs.Math.IntN.{*ℤ_comm}
 use Rattle.std.proofs.lemmas.Int.{ints}
 use Rattle.std.proofs.lemmas.List.{get_or-map, length-map}
 use Rattle.sdc_base.proofs.WholeNumbers.{distrib, distrib_right, assoc, minus_times}
-use Rattle.tableau.specs.Tables.{dot, crossed_numbers, number_at, row_form, exchanged_row, exchanged_pivot}
+use Rattle.tableau.specs.Tables.{dot, crossed_numbers, row_form, exchanged_row, exchanged_pivot}
+use Rattle.sdc_base.specs.Systems.{number_at}
 
 pub back : (a b : ℤ) → (a -ℤ b) +ℤ b ≡ a
 back a b = omega (arith, ints)

@@ -5,7 +5,8 @@ use Rattle.std.proofs.lemmas.Int.{ints}
 use Rattle.std.proofs.lemmas.List.{get_or-map, length-map, map-set, set-append_left, get_or_append_left, get_or-set_same, get_or-set_other}
 use Rattle.std.proofs.lemmas.Bool.Decides.{Decides-eqb, nat_tests}
 use Rattle.sdc_base.proofs.WholeNumbers.{distrib, times_up, minus_times, below_from_times}
-use Rattle.tableau.specs.Tables.{RowHolds, row_form, form_at, objective_form, under_row, dot, number_at, exchanged_table, exchanged_row, exchanged_pivot, times_row}
+use Rattle.tableau.specs.Tables.{RowHolds, row_form, form_at, objective_form, under_row, dot, exchanged_table, exchanged_row, exchanged_pivot, times_row}
+use Rattle.sdc_base.specs.Systems.{number_at}
 use Rattle.tableau.specs.TableLaws.{IsRowOperation, ExchangeOperates, ExchangeKeepsBack, ExchangeKeeps, value, BlockedIsBest, DivisionKeeps}
 use Rattle.tableau.proofs.Dots.{row_change, pivot_change, dot-times, moved}
 

@@ -9,7 +9,8 @@ use Rattle.tableau.specs.declared.problem.Problem.{Problem}
 use Rattle.tableau.specs.declared.problem.LinRow.{LinRow}
 use Rattle.tableau.specs.ProblemForm.{AscendFrom}
 use Rattle.tableau.specs.Problems.{rows_of, target_row, numbers_then_value, first_table}
-use Rattle.tableau.specs.Tables.{Table, HasShape, number_at}
+use Rattle.tableau.specs.Tables.{Table, HasShape}
+use Rattle.sdc_base.specs.Systems.{number_at}
 use Rattle.tableau.specs.Widths.{all_rows}
 use Rattle.tableau.specs.Entries.{IsSparse, AreSparse, AreEntriesOf, AreListsOf, AreEntriesFrom, AreEntriesBelow, row_of_entries, put_entry}
 use Rattle.tableau.proofs.Beginnings.{start_shaped}

@@ -2,7 +2,8 @@
 use Rattle.std.proofs.Common.{◌≡◌, ◌≢◌, ◌⊎◌, inl, inr, ℕ, zero, suc, ◌+◌, ◌<◌, [], slice_index_or, ℤ, pos, ◌+ℤ◌, ◌*ℤ◌, ◌≤ℤ◌, arith, ap, sym, subst, ◌∙◌, below_more}
 use Rattle.std.proofs.lemmas.Int.{ints}
 use Rattle.tableau.specs.declared.problem.Problem.{Problem}
-use Rattle.tableau.specs.Tables.{Table, number_at}
+use Rattle.tableau.specs.Tables.{Table}
+use Rattle.sdc_base.specs.Systems.{number_at}
 use Rattle.tableau.specs.RowLists.{IsLexPositive, AreZeros, list_of, list_size, lead}
 use Rattle.tableau.specs.Choices.{LeavesAmong}
 use Rattle.tableau.proofs.Exchanges.{times_none, by_place}

@@ -7,7 +7,8 @@ use Rattle.std.proofs.lemmas.List.Elements.{All-from_get_or}
 use Rattle.sdc_base.proofs.TotalLemmas.{sum_of-cons}
 use Rattle.sdc_base.specs.Forms.{coefficient}
 use Rattle.tableau.specs.declared.problem.Problem.{Problem}
-use Rattle.tableau.specs.Tables.{Table, number_at}
+use Rattle.tableau.specs.Tables.{Table}
+use Rattle.sdc_base.specs.Systems.{number_at}
 use Rattle.tableau.specs.Problems.{number_in, number_for}
 use Rattle.tableau.specs.Readings.{member_values, value_for}
 use Rattle.std.proofs.lemmas.List.{get_or-map, length-map}

@@ -5,7 +5,8 @@ use Rattle.std.proofs.lemmas.Int.{ints, by_lt_z}
 use Rattle.sdc_base.proofs.WholeNumbers.{times_more}
 use Rattle.tableau.specs.declared.problem.Problem.{Problem}
 use Rattle.tableau.specs.Problems.{NamesColumns, rows_of, row_at}
-use Rattle.tableau.specs.Tables.{Table, IsQuotient, times_row, number_at, exchanged_table}
+use Rattle.tableau.specs.Tables.{Table, IsQuotient, times_row, exchanged_table}
+use Rattle.sdc_base.specs.Systems.{number_at}
 use Rattle.tableau.specs.RowLists.{IsLexPositive, AreZeros, Leaves, list_size, lead}
 use Rattle.tableau.specs.Steps.{Enters, IsStepOf, CanImprove}
 use Rattle.tableau.specs.Walks.{IsTableOf, IsWalk, StepIsOne, WalkIsOne, EndIsOne}

@@ -9,7 +9,7 @@ use Rattle.sdc_base.proofs.TotalLemmas.{sum_of-cons, sum_of-append}
 use Rattle.sdc_base.specs.Forms.{Term, coefficient}
 use Rattle.tableau.specs.ProblemForm.{AscendFrom}
 use Rattle.tableau.specs.Entries.{IsSparse, AreEntriesOf, AreEntriesFrom, AreEntriesBelow, row_of_entries, put_entry, crossed_at}
-use Rattle.tableau.specs.Tables.{number_at}
+use Rattle.sdc_base.specs.Systems.{number_at}
 use Rattle.tableau.proofs.Ascending.{none_below, not_first, first_entry, ascend_later}
 use Rattle.tableau.proofs.Independent.{by_less}
 

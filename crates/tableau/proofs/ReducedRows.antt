@@ -9,7 +9,8 @@ use Rattle.std.proofs.lemmas.Simd.{map-map}
 use Rattle.std.proofs.lemmas.List.Elements.{All-map, All-get_or, All-from_get_or}
 use Rattle.std.proofs.lemmas.List.FromFn.{fill_by_all}
 use Rattle.sdc_base.specs.Forms.{Term, coefficient}
-use Rattle.tableau.specs.Tables.{Table, HasShape, IsQuotient, times_row, number_at}
+use Rattle.tableau.specs.Tables.{Table, HasShape, IsQuotient, times_row}
+use Rattle.sdc_base.specs.Systems.{number_at}
 use Rattle.tableau.specs.Steps.{IsInLowestTerms}
 use Rattle.tableau.specs.Widths.{all_rows}
 use Rattle.tableau.specs.ProblemForm.{AscendFrom}

@@ -4,7 +4,8 @@ use Rattle.std.proofs.lemmas.Int.{ints, by_lt_z}
 use Rattle.std.proofs.lemmas.List.{get_or-map, length-map, get_or-set_same, get_or-set_other}
 use Rattle.sdc_base.proofs.TotalLemmas.{sum_of-cons}
 use Rattle.sdc_base.proofs.WholeNumbers.{times_up, times_more, minus_times, assoc, distrib}
-use Rattle.tableau.specs.Tables.{Table, HasShape, number_at, exchanged_table, exchanged_row, exchanged_pivot, crossed_numbers, form_at, objective_form}
+use Rattle.tableau.specs.Tables.{Table, HasShape, exchanged_table, exchanged_row, exchanged_pivot, crossed_numbers, form_at, objective_form}
+use Rattle.sdc_base.specs.Systems.{number_at}
 use Rattle.tableau.specs.declared.problem.Problem.{Problem}
 use Rattle.tableau.specs.Problems.{number_in}
 use Rattle.tableau.specs.RowLists.{IsLexPositive, list_of, objective_list, list_size, ExchangeRises}

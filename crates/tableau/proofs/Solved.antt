@@ -14,7 +14,8 @@ use Rattle.sdc_base.specs.Forms.{Term, coefficient}
 use Rattle.tableau.specs.declared.problem.Problem.{Problem}
 use Rattle.tableau.specs.declared.problem.LinRow.{LinRow}
 use Rattle.tableau.specs.Amounts.{value_of}
-use Rattle.tableau.specs.Tables.{Table, HasShape, Holds, dot, under_row, number_at}
+use Rattle.tableau.specs.Tables.{Table, HasShape, Holds, dot, under_row}
+use Rattle.sdc_base.specs.Systems.{number_at}
 use Rattle.tableau.specs.Problems.{NamesColumns, rows_of, row_at, no_row, target_row, numbers_then_value, first_table, number_for}
 use Rattle.tableau.specs.RowLists.{IsLexPositive, IsBasis, list_of, list_size}
 use Rattle.tableau.specs.Walks.{IsTableOf}

@@ -7,7 +7,8 @@ use Rattle.std.proofs.lemmas.Int.{ints, by_lt_z}
 use Rattle.std.proofs.lemmas.Nat.Gcd.{dvd_refl, dvd_trans, le_of_dvd, IsGcd-from_zero, IsGcd-from_mod}
 use Rattle.std.proofs.lemmas.List.Elements.{All-nil, All-cons, All-head, All-tail, All-map, All-weaker}
 use Rattle.tableau.specs.declared.problem.Problem.{Problem}
-use Rattle.tableau.specs.Tables.{Table, times_row, number_at, exchanged_table}
+use Rattle.tableau.specs.Tables.{Table, times_row, exchanged_table}
+use Rattle.sdc_base.specs.Systems.{number_at}
 use Rattle.tableau.specs.Problems.{NamesColumns}
 use Rattle.tableau.specs.RowLists.{IsLexPositive, AreZeros, Leaves, list_size, lead}
 use Rattle.tableau.specs.Steps.{Enters, IsInLowestTerms}

@@ -5,7 +5,8 @@ use Rattle.sdc_base.specs.Forms.{coefficient}
 use Rattle.tableau.specs.declared.sparse_table.SparseTable.{SparseTable}
 use Rattle.tableau.specs.Entries.{row_of_entries}
 use Rattle.tableau.specs.SparseTables.{table_of}
-use Rattle.tableau.specs.Tables.{HasShape, number_at}
+use Rattle.tableau.specs.Tables.{HasShape}
+use Rattle.sdc_base.specs.Systems.{number_at}
 use Rattle.tableau.specs.Widths.{all_rows}
 use Rattle.tableau.proofs.Places.{number_spread, length-numbers_then_value}
 use Rattle.tableau.proofs.Independent.{by_less}

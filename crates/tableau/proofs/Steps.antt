@@ -6,7 +6,8 @@ use Rattle.std.proofs.lemmas.List.Elements.{All-from_get_or}
 use Rattle.std.proofs.lemmas.List.{get_or-map, length-map, get_or-set_same, get_or-set_other}
 use Rattle.sdc_base.proofs.WholeNumbers.{distrib, times_more, below_from_times}
 use Rattle.tableau.specs.Amounts.{value_of}
-use Rattle.tableau.specs.Tables.{Table, HasShape, IsQuotient, RowHolds, row_form, under_row, times_row, dot, number_at, form_at, exchanged_table}
+use Rattle.tableau.specs.Tables.{Table, HasShape, IsQuotient, RowHolds, row_form, under_row, times_row, dot, form_at, exchanged_table}
+use Rattle.sdc_base.specs.Systems.{number_at}
 use Rattle.tableau.specs.Problems.{IsTrueOf, all_amounts, rows_of, numbers_of}
 use Rattle.tableau.specs.RowLists.{Leaves, RowsAreLexPositive, Rises, AreZeros, list_of, list_size}
 use Rattle.tableau.specs.Walks.{IsBasisOf, StepGivesTable, ExchangeKeepsBasis, DivisionKeepsBack}

@@ -1,7 +1,8 @@
 -- Choices among the first places or rows, as a search comes to them (own).
 use Rattle.std.specs.Prelude.{◌≡◌, ◌≢◌, ℕ, ◌<◌, ◌≤◌, Option, Some, None, slice_index, pos, ◌<ℤ◌, ◌≤ℤ◌, ◌+◌, ◌-◌, List, length}
 use Rattle.tableau.specs.declared.problem.Problem.{Problem}
-use Rattle.tableau.specs.Tables.{Table, entry, number_at}
+use Rattle.tableau.specs.Tables.{Table, entry}
+use Rattle.sdc_base.specs.Systems.{number_at}
 use Rattle.tableau.specs.RowLists.{LeavesBefore}
 
 -- of the first k places this is the one that comes in

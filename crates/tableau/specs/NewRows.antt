@@ -2,7 +2,8 @@
 use Rattle.std.specs.Prelude.{◌≡◌, ◌≢◌, ℕ, ◌+◌, ◌<◌, List, [], length, map, take, slice_index_or, Option, Some, None, ℤ, pos, ◌*ℤ◌, true}
 use Rattle.std.specs.List.{range_with_len}
 use Rattle.sdc_base.specs.Forms.{Term, coefficient}
-use Rattle.tableau.specs.Tables.{number_at, exchanged_table}
+use Rattle.tableau.specs.Tables.{exchanged_table}
+use Rattle.sdc_base.specs.Systems.{number_at}
 use Rattle.tableau.specs.Widths.{all_rows, is_wide}
 use Rattle.tableau.specs.Entries.{AreEntriesOf, AreListsOf, times_entry}
 use Rattle.tableau.specs.SparseTables.{table_of}

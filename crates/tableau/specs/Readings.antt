@@ -3,7 +3,8 @@ use Rattle.std.specs.Prelude.{ℕ, ◌+◌, List, length, map, zip, ℤ}
 use Rattle.std.specs.List.{range_with_len}
 use Rattle.sdc_base.specs.Forms.{coefficient}
 use Rattle.tableau.specs.declared.problem.Problem.{Problem}
-use Rattle.tableau.specs.Tables.{Table, number_at}
+use Rattle.tableau.specs.Tables.{Table}
+use Rattle.sdc_base.specs.Systems.{number_at}
 use Rattle.tableau.specs.Problems.{rows_of, number_for}
 
 -- the members' values, in the order of the rows

@@ -1,6 +1,7 @@
 -- The list of a row, its value and then its number at each slack, and the lexicographic order (own).
 use Rattle.std.specs.Prelude.{◌≡◌, ◌≢◌, ◌⊎◌, ℕ, zero, suc, ◌+◌, ◌<◌, [], length, slice_index, slice_index_or, ℤ, pos, ◌-ℤ◌, ◌*ℤ◌, ◌<ℤ◌, ◌≤ℤ◌}
-use Rattle.tableau.specs.Tables.{Table, HasShape, IsQuotient, Holds, entry, number_at, exchanged_table}
+use Rattle.tableau.specs.Tables.{Table, HasShape, IsQuotient, Holds, entry, exchanged_table}
+use Rattle.sdc_base.specs.Systems.{number_at}
 use Rattle.tableau.specs.TableLaws.{value}
 use Rattle.tableau.specs.declared.problem.Problem.{Problem}
 use Rattle.tableau.specs.Problems.{rows_of, number_in, number_for}

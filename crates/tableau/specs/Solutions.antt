@@ -3,7 +3,8 @@
 use Rattle.std.specs.Prelude.{◌≡◌, ℕ, ◌+◌, ◌<◌, length, pos, ◌+ℤ◌, ◌*ℤ◌, ◌≤ℤ◌, ◌<ℤ◌}
 use Rattle.tableau.specs.declared.problem.Problem.{Problem}
 use Rattle.tableau.specs.Amounts.{value_of}
-use Rattle.tableau.specs.Tables.{Table, HasShape, entry, number_at}
+use Rattle.tableau.specs.Tables.{Table, HasShape, entry}
+use Rattle.sdc_base.specs.Systems.{number_at}
 use Rattle.tableau.specs.TableLaws.{CannotImprove, value}
 use Rattle.tableau.specs.Problems.{NamesColumns, rows_of, row_at, number_for}
 use Rattle.tableau.specs.Walks.{IsTableOf}

@@ -1,7 +1,8 @@
 -- The step from a table: which column or slack comes in, which member leaves, and the exchange with its divisor (own).
 use Rattle.std.specs.Prelude.{◌≡◌, ℕ, ◌<◌, ◌≤◌, length, slice_index, ℤ, pos, ◌*ℤ◌, ◌<ℤ◌, ◌≤ℤ◌}
 use Rattle.tableau.specs.declared.problem.Problem.{Problem}
-use Rattle.tableau.specs.Tables.{Table, IsQuotient, number_at, exchanged_table}
+use Rattle.tableau.specs.Tables.{Table, IsQuotient, exchanged_table}
+use Rattle.sdc_base.specs.Systems.{number_at}
 use Rattle.tableau.specs.TableLaws.{CannotImprove, value}
 use Rattle.tableau.specs.RowLists.{Leaves}
 

@@ -1,6 +1,7 @@
 -- The value of a table, when it is the best, and what exchanges keep of it (simplex method; own).
 use Rattle.std.specs.Prelude.{◌≡◌, ◌≢◌, ℕ, ◌<◌, length, ℤ, pos, ◌-ℤ◌, ◌*ℤ◌, ◌≤ℤ◌}
-use Rattle.tableau.specs.Tables.{HasShape, Holds, IsQuotient, Table, entry, exchanged_table, form_at, number_at, objective_form}
+use Rattle.tableau.specs.Tables.{HasShape, Holds, IsQuotient, Table, entry, exchanged_table, form_at, objective_form}
+use Rattle.sdc_base.specs.Systems.{number_at}
 
 -- no number at a column or slack in the objective's row is below 0
 abbrev pub CannotImprove : Table → Type 0

@@ -1,5 +1,6 @@
 -- Tables of a linear problem in whole numbers over one denominator, and their exchanges (own).
 use Rattle.std.specs.Prelude.{◌≡◌, ℕ, ◌+◌, ◌<◌, List, [], ◌∷◌, ◌++◌, length, map, slice_index, slice_index_or, slice_set, ℤ, pos, neg_ℤ, ◌+ℤ◌, ◌-ℤ◌, ◌*ℤ◌, ◌≤ℤ◌}
+use Rattle.sdc_base.specs.Systems.{number_at}
 
 -- the sum of products, number by number
 abbrev pub dot : List ℤ → List ℤ → ℤ
@@ -15,9 +16,6 @@ pub record Table : Type 0 where
   pub others : List ℕ
   pub rows : List (List ℤ)
   pub objective : List ℤ
-
-abbrev pub number_at : List ℤ → ℕ → ℤ
-number_at row place = slice_index_or row place (pos 0)
 
 -- the number of a table's k-th row at a place
 abbrev pub entry : Table → ℕ → ℕ → ℤ

@@ -2,7 +2,8 @@
 use Rattle.std.specs.Prelude.{◌≡◌, ℕ, ◌^◌, ◌≤◌, ◌==◌, Bool, true, nat_le, List, [], ◌∷◌, ◌++◌, length, slice_index, slice_index_or, ℤ, ◌-ℤ◌, ◌*ℤ◌, ◌<ℤ◌, unsigned_abs, if◌then◌else◌}
 use Rattle.std.specs.List.{list_any}
 use Rattle.tableau.specs.declared.problem.Problem.{Problem}
-use Rattle.tableau.specs.Tables.{Table, number_at}
+use Rattle.tableau.specs.Tables.{Table}
+use Rattle.sdc_base.specs.Systems.{number_at}
 use Rattle.tableau.specs.TableLaws.{value}
 use Rattle.tableau.specs.Problems.{numbers_of}
 use Rattle.tableau.specs.RowLists.{Leaves}

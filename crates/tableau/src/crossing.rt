@@ -2,7 +2,8 @@ ghost use Rattle.std.specs.Prelude.{◌≡◌, ◌≢◌, ℕ, ◌+◌, ◌*◌,
 ghost use Rattle.std.specs.List.{list_any};
 ghost use Rattle.sdc_base.specs.Forms.{coefficient};
 ghost use Rattle.tableau.specs.Entries.{IsSparse, AreEntriesOf, AreEntriesBelow, AreEntriesFrom, crossed_value, crossed_products, crossed_at};
-ghost use Rattle.tableau.specs.Tables.{number_at, exchanged_table};
+ghost use Rattle.tableau.specs.Tables.{exchanged_table};
+ghost use Rattle.sdc_base.specs.Systems.{number_at};
 ghost use Rattle.tableau.specs.Widths.{is_wide, all_rows, IsWideAt};
 ghost use Rattle.tableau.specs.SparseTables.{table_of};
 ghost use Rattle.tableau.specs.NewRows.{IsNewRow};

@@ -1,5 +1,5 @@
 ghost use Rattle.std.specs.Prelude.{◌≡◌, ◌+◌, ◌<◌, length, IfSome, IfNone};
-ghost use Rattle.tableau.specs.Tables.{number_at};
+ghost use Rattle.sdc_base.specs.Systems.{number_at};
 ghost use Rattle.tableau.specs.TableLaws.{CannotImprove};
 ghost use Rattle.tableau.specs.Steps.{Enters};
 ghost use Rattle.tableau.specs.Choices.{IsEntering};

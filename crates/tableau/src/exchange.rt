@@ -1,5 +1,6 @@
 ghost use Rattle.std.specs.Prelude.{◌≡◌, ℕ, ℤ, ◌+◌, ◌*◌, ◌<◌, ◌≤◌, [], length, slice_index, slice_index_or, slice_set, pos, ◌≤ℤ◌, Err, IfOk, OnOk, OnErr};
-ghost use Rattle.tableau.specs.Tables.{number_at, exchanged_table};
+ghost use Rattle.tableau.specs.Tables.{exchanged_table};
+ghost use Rattle.sdc_base.specs.Systems.{number_at};
 ghost use Rattle.tableau.specs.Steps.{IsInLowestTerms};
 ghost use Rattle.tableau.specs.Widths.{IsWidePlace};
 ghost use Rattle.tableau.specs.NewRows.{AreNewRows, placed_lists};

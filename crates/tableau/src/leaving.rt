@@ -1,5 +1,5 @@
 ghost use Rattle.std.specs.Prelude.{◌≡◌, ◌+◌, ◌<◌, [], length, slice_index_or, ℕ, pos, ◌≤ℤ◌, IfSome, IfNone};
-ghost use Rattle.tableau.specs.Tables.{number_at};
+ghost use Rattle.sdc_base.specs.Systems.{number_at};
 ghost use Rattle.tableau.specs.RowLists.{Leaves};
 ghost use Rattle.tableau.specs.Walks.{IsTableOf};
 ghost use Rattle.tableau.specs.Choices.{IsLeaving, AreSlackPlaces};

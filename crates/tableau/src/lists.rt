@@ -1,5 +1,5 @@
 ghost use Rattle.std.specs.Prelude.{◌≡◌, ◌≢◌, ℕ, ◌+◌, ◌<◌, ◌≤◌, [], length, slice_index, slice_index_or, pos, ◌≤ℤ◌, IfSome, IfNone, IfOk};
-ghost use Rattle.tableau.specs.Tables.{number_at};
+ghost use Rattle.sdc_base.specs.Systems.{number_at};
 ghost use Rattle.tableau.specs.RowLists.{IsLexPositive, AreZeros, list_of, list_size, lead};
 ghost use Rattle.tableau.specs.Walks.{IsTableOf};
 ghost use Rattle.tableau.specs.ProblemForm.{IsWellFormed};

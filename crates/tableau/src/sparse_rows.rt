@@ -1,6 +1,6 @@
 ghost use Rattle.std.specs.Prelude.{◌≡◌, ◌+◌, ◌<◌, ◌≤◌, [], length, slice_index_or};
 ghost use Rattle.tableau.specs.Entries.{IsSparse};
-ghost use Rattle.tableau.specs.Tables.{number_at};
+ghost use Rattle.sdc_base.specs.Systems.{number_at};
 ghost use Rattle.tableau.specs.SparseTables.{table_of};
 
 use crate::entries::entry_at;

@@ -24,6 +24,7 @@ use Rattle.tabulate.specs.MarkRecords.{HaveOneScale, HaveScalesWithin, MarksHold
 use Rattle.tabulate.specs.RecordsByPlace.{GaveRecords, rows_for, variables_of}
 use Rattle.tabulate.specs.UpperCells.{PassedRecords, after_variables}
 use Rattle.tabulate.specs.EmptyLists.{HaveEmptyLists}
+use Rattle.sdc_base.specs.Truths.{IsTruth}
 use Rattle.tabulate.specs.TabulatedMarks.{AreTabulated, HasNone, IsRow, TellsOf}
 use Rattle.tabulate.proofs.Standing.{named-where}
 use Rattle.tabulate.proofs.MarkSteps.{holds-turned, sum-is}
@@ -208,7 +209,7 @@ all-given book now keep scale rows t past is good few frame kept given = λ cell
         let same = keeps cell mark at in
         record {
           truth_is = holds.truth ∙ ap pos fits ∙ sym sum_is;
-          within = subst (λ z. (pos 0 ≤ℤ z) × (z ≤ℤ pos (10 ^ 29))) (sym (holds.truth ∙ ap pos fits)) (omega (arith, ints), omega (arith, ints, room, few));
+          within = subst IsTruth (sym (holds.truth ∙ ap pos fits)) (record { from_zero = omega (arith, ints); at_most = omega (arith, ints, room, few) });
           freq_is = holds.freq ∙ counted;
           keeps = same.0;
           scaled = same.1;

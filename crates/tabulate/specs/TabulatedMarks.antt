@@ -3,6 +3,7 @@ use Rattle.std.specs.Prelude.{◌≡◌, ℕ, ◌≤◌, ◌<◌, ◌^◌, List,
 use Rattle.sdc_base.specs.Trees.{Tree}
 use Rattle.sdc_base.specs.Records.{Name}
 use Rattle.sdc_base.specs.Sums.{truth, freq}
+use Rattle.sdc_base.specs.Truths.{IsTruth}
 use Rattle.sdc_base.specs.Largest.{contributions}
 use Rattle.sdc_base.specs.LargestKept.{KeepsLargest}
 use Rattle.sdc_base.specs.declared.rows.Row.{Row}
@@ -36,7 +37,7 @@ pub record HasNone (mark : Mark) : Type 0 where
 pub record TellsOf (trees : List Tree) (rows : List Row) (keep scale : ℕ) (name : Name) (mark : Mark) : Type 0 where
   pub truth_is : mark.facts.truth ≡ truth trees name rows
   -- no number of records within the limits has a sum beyond this
-  pub within : (pos 0 ≤ℤ mark.facts.truth) × (mark.facts.truth ≤ℤ pos (10 ^ 29))
+  pub within : IsTruth mark.facts.truth
   pub freq_is : mark.facts.freq ≡ freq trees name rows
   pub keeps : mark.facts.tops.keep ≡ keep
   pub scaled : mark.facts.tops.scale ≡ scale

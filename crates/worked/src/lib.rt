@@ -5,6 +5,6 @@ mod lists;
 mod records;
 mod trees;
 
-pub use lists::{place, places, text, texts};
+pub use lists::{place, places, texts};
 pub use records::{Record, rows, thirteen};
 pub use trees::{pairs, regions, tree, two_codes};

@@ -1,12 +1,17 @@
 ghost use Rattle.std.specs.Prelude.{◌≡◌, length, IfOk};
 
-use crate::lists::{text, texts};
+use crate::lists::texts;
 use hierarchy::{CodeTree, TreeFault, flat, from_lead};
+use sdc_base::Text;
 use std::alloc::Global;
 
 /// The total and these codes right below it.
 pub fn tree(alloc: Global, codes: &[&[u8]]) -> Result<CodeTree, TreeFault> {
-    flat(alloc, &texts(alloc, codes)?, &text(alloc, b"Total")?)
+    flat(
+        alloc,
+        &texts(alloc, codes)?,
+        &Text::from_slice(alloc, b"Total")?,
+    )
 }
 
 /// The total and the codes `1` and `2`.
@@ -28,5 +33,10 @@ pub fn pairs(alloc: Global, count: usize) -> Result<Vec<CodeTree>, TreeFault>
 /// The total, and by their places 1 `N`, 2 and 3 below it, 4 `S`, and 5 below it.
 pub fn regions(alloc: Global) -> Result<CodeTree, TreeFault> {
     let bytes = b"N\n@N1\n@N2\nS\n@S1\n".as_slice();
-    from_lead(alloc, bytes, &text(alloc, b"@")?, &text(alloc, b"Total")?)
+    from_lead(
+        alloc,
+        bytes,
+        &Text::from_slice(alloc, b"@")?,
+        &Text::from_slice(alloc, b"Total")?,
+    )
 }

@@ -11,11 +11,11 @@ use hierarchy::{CodeTree, from_lead};
 use interval_audit::AskFault;
 use linked_tables::{Book, Mark};
 use relations::relations_of;
-use sdc_base::{Cell, Kind, Method, System};
+use sdc_base::{Cell, Kind, Method, System, Text};
 use std::alloc::Global;
 use std::rt::HostRuntime;
 use std::test::Fail;
-use worked::{pairs, places, text};
+use worked::{pairs, places};
 use worked_cells::{bounded_cell, cell_of, set_truth};
 
 // A cell of a job: its truth, its kind, and the level to both sides of a primary one.
@@ -215,7 +215,7 @@ world 4 above 1 6 6 -6 -6\nworld 4 below 1 -6 -6 6 6\nend\n"
 
 // The book of a table of one variable of two levels.
 fn book_of_industries(alloc: Global) -> Result<Option<Book>, Fail> {
-    let lead = text(alloc, b"@")?;
+    let lead = Text::from_slice(alloc, b"@")?;
     if lead.as_slice().is_empty() {
         return Ok(None);
     }
@@ -223,7 +223,7 @@ fn book_of_industries(alloc: Global) -> Result<Option<Book>, Fail> {
         alloc,
         b"1\n@11\n@12\n2\n@21\n",
         &lead,
-        &text(alloc, b"Total")?,
+        &Text::from_slice(alloc, b"Total")?,
     )?;
     Ok(Some(book_over(alloc, tree)?))
 }

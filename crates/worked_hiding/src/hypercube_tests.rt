@@ -7,11 +7,11 @@ use code_trees::{CodeTree, flat};
 use cost_rule::{CostKind, CostRule, TellsCosts};
 use hypercube::cheapest;
 use linked_tables::Book;
-use sdc_base::{Cell, CellFacts, Corner, Kind, Levels, Subtable};
+use sdc_base::{Cell, CellFacts, Corner, Kind, Levels, Subtable, Text};
 use std::alloc::Global;
 use std::rt::HostRuntime;
 use std::test::Fail;
-use worked::{place, text};
+use worked::place;
 use worked_cells::{LINKED, bounded_cell, cell_of, set_truth};
 
 // The truths of a table A by B by C, each variable with two codes: the place a, b, c has the number 9 a + 3 b + c.
@@ -24,9 +24,9 @@ const CUBIC: [u32; 27] = [
 fn tree_of(alloc: Global, codes: u8) -> Result<CodeTree, Fail> {
     let mut below = Vec::new(alloc);
     for code in 0..codes {
-        below.push(text(alloc, &[code])?)?;
+        below.push(Text::from_slice(alloc, &[code])?)?;
     }
-    Ok(flat(alloc, below.as_slice(), &text(alloc, b"Total")?)?)
+    Ok(flat(alloc, below.as_slice(), &Text::from_slice(alloc, b"Total")?)?)
 }
 
 // A book of these tables over three variables with so many codes below their totals, of which these cells are hidden.

@@ -7,11 +7,11 @@ use cost_rule::{CostKind, CostRule, TellsCosts};
 use hierarchy::{CodeTree, from_lead};
 use linked_tables::Book;
 use modular_plan::plan;
-use sdc_base::{Cell, CellFacts, Kind, PlanStep, Trail};
+use sdc_base::{Cell, CellFacts, Kind, PlanStep, Text, Trail};
 use std::alloc::Global;
 use std::rt::HostRuntime;
 use std::test::Fail;
-use worked::{place, text, two_codes};
+use worked::{place, two_codes};
 use worked_cells::{LINKED, bounded_cell, cell_of, set_truth};
 
 // The truths of the total, 1 with 11 and 12 below it, and 2 with 21 below it.
@@ -22,8 +22,8 @@ type Step<'a> = (u32, &'a [u32], u32, &'a [u32]);
 
 // The total, 1 with 11 and 12 below it, and 2 with 21 below it.
 fn industries(alloc: Global) -> Result<CodeTree, Fail> {
-    let lead = text(alloc, b"@")?;
-    let total = text(alloc, b"Total")?;
+    let lead = Text::from_slice(alloc, b"@")?;
+    let total = Text::from_slice(alloc, b"Total")?;
     if lead.as_slice().is_empty() {
         return Ok(two_codes(alloc)?);
     }

@@ -5,17 +5,13 @@ use sdc_base::Text;
 use std::alloc::{AllocError, Global};
 use std::test::Fail;
 
-fn text(alloc: Global, bytes: &str) -> Result<Text, AllocError> {
-    Ok(Text::new(Vec::from_slice(alloc, bytes.as_bytes())?))
-}
-
 // The texts that are no longer than the most.
 fn texts(alloc: Global, bytes: &[&str], most: usize) -> Result<Vec<Text>, AllocError>
     ensures { IfOk result (λ made. All (λ text. length text ≤ most) made.items) }
 {
     let mut made = Vec::new(alloc);
     'bytes: for one in bytes {
-        let text = text(alloc, one)?;
+        let text = Text::from_slice(alloc, one.as_bytes())?;
         if text.as_slice().len() <= most {
             made.push(text)?;
         }
@@ -71,7 +67,10 @@ fn tree_shown(alloc: Global, made: Result<CodeTree, TreeFault>) -> Result<Vec<u8
 
 // `from_lead`, where it may be called.
 fn lead_shown(alloc: Global, lead: &str, bytes: &str) -> Result<Result<Vec<u8>, TreeFault>, Fail> {
-    let (lead, total) = (text(alloc, lead)?, text(alloc, "Total")?);
+    let (lead, total) = (
+        Text::from_slice(alloc, lead.as_bytes())?,
+        Text::from_slice(alloc, b"Total")?,
+    );
     if lead.as_slice().is_empty() || bytes.len() > 1000 {
         return Err(Fail::new("no lead, or too many bytes"));
     }
@@ -134,7 +133,7 @@ fn level_shown(
     second: u8,
     codes: &[&str],
 ) -> Result<Result<Vec<u8>, TreeFault>, Fail> {
-    let total = text(alloc, "T")?;
+    let total = Text::from_slice(alloc, b"T")?;
     if first == 0 || second == 0 {
         return Err(Fail::new("a width of 0"));
     }
@@ -194,7 +193,7 @@ fn completed(
         return Err(Fail::new("too many missing codes"));
     }
     let codes = texts(alloc, codes, 9)?;
-    let flat = flat(alloc, &codes, &text(alloc, "T")?);
+    let flat = flat(alloc, &codes, &Text::from_slice(alloc, b"T")?);
     Ok(tree_shown(alloc, completed_by(alloc, flat, &missing)))
 }
 
@@ -233,7 +232,7 @@ fn flat_and_missing_codes(rt: HostRuntime) -> Result<(), Fail> {
 
 // The codes of a code list, with a bar behind each.
 fn listed(alloc: Global, bytes: &[u8]) -> Result<Result<Vec<u8>, TreeFault>, Fail> {
-    let total = text(alloc, "Total")?;
+    let total = Text::from_slice(alloc, b"Total")?;
     if bytes.len() > 100_000 {
         return Err(Fail::new("too many bytes"));
     }

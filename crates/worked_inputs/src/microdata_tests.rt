@@ -29,16 +29,10 @@ enum Shape {
     Weighted,
 }
 
-fn text(alloc: Global, bytes: &[u8]) -> Result<Text, Memory>
-    ensures { IfOk result (λ made. made ≡ bytes.now) }
-{
-    Ok(Text::new(Vec::from_slice(alloc, bytes)?))
-}
-
 fn texts(alloc: Global, bytes: &[&[u8]]) -> Result<Items<Text>, Memory> {
     let mut made = Items::empty(alloc);
     'bytes: for one in bytes {
-        made.push(text(alloc, one)?)?;
+        made.push(Text::from_slice(alloc, one)?)?;
     }
     Ok(made)
 }
@@ -47,8 +41,8 @@ fn flat_source(alloc: Global) -> Result<Source, Memory>
     ensures { IfOk result IsSource }
 {
     let mut codes = Items::empty(alloc);
-    codes.push(text(alloc, b"b")?)?;
-    let total = text(alloc, b"Total")?;
+    codes.push(Text::from_slice(alloc, b"b")?)?;
+    let total = Text::from_slice(alloc, b"Total")?;
     Ok(Source::Flat { codes, total })
 }
 
@@ -58,15 +52,15 @@ fn level_source(alloc: Global) -> Result<Source, Memory>
     let mut widths = Items::empty(alloc);
     widths.push(1)?;
     widths.push(1)?;
-    let total = text(alloc, b"T")?;
+    let total = Text::from_slice(alloc, b"T")?;
     Ok(Source::Levels { widths, total })
 }
 
 fn listed_source(alloc: Global) -> Result<Source, Memory>
     ensures { IfOk result IsSource }
 {
-    let lead = text(alloc, b"@")?;
-    let total = text(alloc, b"T")?;
+    let lead = Text::from_slice(alloc, b"@")?;
+    let total = Text::from_slice(alloc, b"T")?;
     match from_lead(alloc, b"P1\n@A1\n@A2\nP2\n", &lead, &total) {
         Ok(tree) => Ok(Source::Listed(tree)),
         Err(TreeFault::Memory) => Err(Memory),

@@ -5,10 +5,6 @@ use sdc_base::Text;
 use std::alloc::{AllocError, Global};
 use std::test::Fail;
 
-fn text(alloc: Global, bytes: &[u8]) -> Result<Text, AllocError> {
-    Ok(Text::new(bytes.to_vec(alloc)?))
-}
-
 // Each byte is the remainder of its place's square by 251, so a byte that is skipped or given
 // twice is seen.
 fn long_file(alloc: Global) -> Result<Vec<u8>, AllocError> {
@@ -27,9 +23,9 @@ fn shelf_of(
     piece: u32,
 ) -> Result<MemoryShelf, AllocError> {
     let mut files = Vec::new(alloc);
-    files.push((text(alloc, b"empty")?, Vec::new(alloc)))?;
-    files.push((text(alloc, b"short")?, b"abc".to_vec(alloc)?))?;
-    files.push((text(alloc, b"long")?, bytes.to_vec(alloc)?))?;
+    files.push((Text::from_slice(alloc, b"empty")?, Vec::new(alloc)))?;
+    files.push((Text::from_slice(alloc, b"short")?, b"abc".to_vec(alloc)?))?;
+    files.push((Text::from_slice(alloc, b"long")?, bytes.to_vec(alloc)?))?;
     Ok(MemoryShelf::new(files, failing.to_vec(alloc)?, piece.max(1)))
 }
 
@@ -40,7 +36,7 @@ fn shelf_of(
 fn each_call_fails_in_turn(rt: HostRuntime) -> Result<(), Fail> {
     let alloc = rt.alloc();
     let bytes = long_file(alloc)?;
-    let long = text(alloc, b"long")?;
+    let long = Text::from_slice(alloc, b"long")?;
     for (piece, calls) in [(4096u32, 5u64), (7, 1431), (1, 10_002)] {
         for failing in 1..calls + 2 {
             if piece == 1 && failing > 3 && failing < 10_000 && failing % 997 != 0 {
@@ -78,7 +74,7 @@ fn answer(
             Err(Failed) => b"failed".to_vec(alloc),
         };
     };
-    match shelf.begin(&text(alloc, name)?) {
+    match shelf.begin(&Text::from_slice(alloc, name)?) {
         Ok(()) => b"begun".to_vec(alloc),
         Err(BeginFault::Absent) => b"absent".to_vec(alloc),
         Err(BeginFault::Failed) => b"failed".to_vec(alloc),
@@ -130,7 +126,7 @@ fn limits(rt: HostRuntime) -> Result<(), Fail> {
     for piece in [1, 7, 4_096, 100_000] {
         let mut shelf = shelf_of(alloc, &bytes, &[], piece)?;
         for (name, limit, fault) in rows {
-            let got = read_all(alloc, &mut shelf, &text(alloc, name)?, limit);
+            let got = read_all(alloc, &mut shelf, &Text::from_slice(alloc, name)?, limit);
             assert_eq!(rt; got.err(), fault, "limit {limit} by {piece}");
         }
     }
@@ -142,8 +138,8 @@ fn limits(rt: HostRuntime) -> Result<(), Fail> {
 fn puts(rt: HostRuntime) -> Result<(), Fail> {
     let alloc = rt.alloc();
     let mut tray = MemoryTray::new(alloc, vec![in alloc; 5u64, 3]?);
-    let table = text(alloc, b"table")?;
-    let report = text(alloc, b"report")?;
+    let table = Text::from_slice(alloc, b"table")?;
+    let report = Text::from_slice(alloc, b"report")?;
     assert!(rt; tray.file(&table).is_none());
     // the name and the bytes that are put, the fault, and what the table then holds
     let rows = [
@@ -154,7 +150,7 @@ fn puts(rt: HostRuntime) -> Result<(), Fail> {
         ("report", "x", Some(PutFault::Failed), "replaced"),
     ];
     for (name, bytes, fault, held) in rows {
-        let put = tray.put(&text(alloc, name.as_bytes())?, bytes.as_bytes());
+        let put = tray.put(&Text::from_slice(alloc, name.as_bytes())?, bytes.as_bytes());
         assert_eq!(rt; put.err(), fault);
         assert_eq!(rt; tray.file(&table), Some(held.as_bytes()));
     }

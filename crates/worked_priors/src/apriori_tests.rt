@@ -70,10 +70,8 @@ fn book_of(alloc: Global, emptied: bool) -> Result<Book, Fail> {
 fn frequency_rule() -> Rules
     ensures { AreInRange result }
 {
-    let mut list = Few::empty();
-    list.insert(0, Rule::Freq { n: 3, r: 30 });
     Rules {
-        list,
+        list: Few::of(&[Rule::Freq { n: 3, r: 30 }]),
         man: 20,
         weighted: false,
     }

@@ -6,12 +6,12 @@ use cert_check::{Case, CheckFault, accept};
 use certificate::{Certificate, read_certificate};
 use linked_tables::{Book, Mark};
 use relations::relations_of;
-use sdc_base::{Cell, Items, Kind, Method, PlanStep, Side, System, Text, Trail};
+use sdc_base::{Cell, Few, Items, Kind, Method, PlanStep, Side, System, Text, Trail};
 use std::alloc::Global;
 use std::process::Abort;
 use std::rt::HostRuntime;
 use std::test::Fail;
-use worked::{pairs, place, places, texts};
+use worked::{pairs, places, texts};
 use worked_cells::{SHOWN_MARGINS, cell_of, set_truth};
 use worlds::{RefutationFault, WorldFault};
 
@@ -67,7 +67,7 @@ fn trail_of(alloc: Global, is_planned: bool) -> Result<Trail, Fail> {
     if is_planned {
         steps.push(PlanStep {
             table: 0,
-            parents: place(&[0, 0]),
+            parents: Few::of(&[0, 0]),
             cell: 4,
             corners: Items::new(Vec::from_slice(alloc, &[4, 5, 7, 8])?),
         })?;

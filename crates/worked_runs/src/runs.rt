@@ -25,17 +25,12 @@ const FILES: &str = "<OPENMICRODATA> \"m.asc\"\n<OPENMETADATA> \"m.rda\"\n<SPECI
 const BEHIND: &str =
     "|\"V\"\n<SAFETYRULE> FREQ(3,30)\n<WRITETABLE> (1,\"t.csv\")\n<CERTIFICATE> \"t.cert\"\n";
 
-/// A text of these bytes.
-pub fn text_of(alloc: Global, bytes: &str) -> Result<Text, Memory> {
-    Ok(Text::new(Vec::from_slice(alloc, bytes.as_bytes())?))
-}
-
 // A shelf of these files, that gives pieces of so many bytes and one of whose calls fails.
 fn shelf_of(alloc: Global, given: &[(&str, &str)], pieces: Pieces) -> Result<MemoryShelf, Memory> {
     let mut files = Vec::new(alloc);
     for (name, bytes) in given {
         let bytes = Vec::from_slice(alloc, bytes.as_bytes())?;
-        files.push((text_of(alloc, name)?, bytes))?;
+        files.push((Text::from_slice(alloc, name.as_bytes())?, bytes))?;
     }
     let failing = vec![in alloc; pieces.failing]?;
     Ok(MemoryShelf::new(files, failing, pieces.bytes.max(1)))
@@ -53,7 +48,7 @@ pub fn status_and_text(alloc: Global, report: &Report) -> Result<String, Memory>
 pub fn bytes_on(alloc: Global, tray: &MemoryTray) -> Result<String, Memory> {
     let mut held = String::new(alloc);
     for name in ["t.cert", "t.csv", "u.csv", "out.csv"] {
-        let name = text_of(alloc, name)?;
+        let name = Text::from_slice(alloc, name.as_bytes())?;
         let bytes = tray.file(&name).unwrap_or(b"");
         held.push_str(str::from_utf8(bytes).unwrap_or("no text"))?;
     }
@@ -70,7 +65,7 @@ pub fn run_words(
 ) -> Result<String, Memory> {
     let mut given: Vec<Text> = Vec::new(alloc);
     for word in words {
-        given.push(text_of(alloc, word)?)?;
+        given.push(Text::from_slice(alloc, word.as_bytes())?)?;
     }
     let mut shelf = shelf_of(alloc, files, pieces)?;
     let report = run(alloc, given.as_slice(), &mut shelf, tray);

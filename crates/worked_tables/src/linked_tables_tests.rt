@@ -1,6 +1,6 @@
 use code_trees::{CodeTree, flat};
 use linked_tables::{Book, BookFault};
-use sdc_base::Text;
+use sdc_base::{Few, Text};
 use std::alloc::Global;
 use std::rt::HostRuntime;
 use std::test::Fail;
@@ -12,7 +12,7 @@ fn tree_of(alloc: Global, size: u32) -> Result<CodeTree, Fail> {
     for code in 1..size {
         codes.push(Text::new(code.to_string(alloc)?.into_bytes()))?;
     }
-    Ok(flat(alloc, &codes, &Text::new(Vec::from_slice(alloc, b"Total")?))?)
+    Ok(flat(alloc, &codes, &Text::from_slice(alloc, b"Total")?)?)
 }
 
 // The book of tables over variables with trees of these sizes.
@@ -130,8 +130,8 @@ fn names_of_cells(rt: HostRuntime) -> Result<(), Fail> {
     assert_eq!(rt; name_of(&book, 4), [1, 1, 0].as_slice());
     assert_eq!(rt; name_of(&book, 12), [1, 0, 2].as_slice());
     assert_eq!(rt; name_of(&book, 15).len(), 0);
-    assert_eq!(rt; book.number(&place(&[1, 0, 2])), Some(12));
-    assert_eq!(rt; book.number(&place(&[1, 1, 1])), None);
+    assert_eq!(rt; book.number(&Few::of(&[1, 0, 2])), Some(12));
+    assert_eq!(rt; book.number(&Few::of(&[1, 1, 1])), None);
     Ok(())
 }
 

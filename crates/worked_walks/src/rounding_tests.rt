@@ -1,7 +1,7 @@
 ghost use Rattle.std.specs.Prelude.{◌≡◌, length, All, true, pos};
-ghost use Rattle.sdc_base.specs.Systems.{NamesCells, HoldOn, form};
-ghost use Rattle.sdc_base.specs.Roundings.{number_at};
-ghost use Rattle.rounding.specs.Tasks.{IsProper, IsTruth};
+ghost use Rattle.sdc_base.specs.Systems.{NamesCells, HoldOn, form, number_at};
+ghost use Rattle.rounding.specs.Tasks.{IsProper};
+ghost use Rattle.sdc_base.specs.Truths.{IsTruth};
 
 use rounding::{RoundFault, round};
 use sdc_base::{Relation, System};

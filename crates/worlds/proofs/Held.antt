@@ -9,7 +9,8 @@ use Rattle.sdc_base.proofs.StepLemmas.{bind_ok}
 use Rattle.sdc_base.proofs.TotalLemmas.{sum_of-cons, sum_of-append}
 use Rattle.sdc_base.specs.Forms.{Term, coefficient}
 use Rattle.worlds.specs.declared.faults.RefutationFault.TheVariants as fault
-use Rattle.worlds.specs.BoundedNumbers.{number_at, fits_128_bits, within_128_bits, numbers_with_terms}
+use Rattle.worlds.specs.BoundedNumbers.{fits_128_bits, within_128_bits, numbers_with_terms}
+use Rattle.sdc_base.specs.Systems.{number_at}
 use Rattle.worlds.proofs.Bounds.{decides_le}
 use Rattle.worlds.proofs.TrueTests.{and_true, both_true}
 use Rattle.worlds.proofs.WorldLaws.{then_ok}

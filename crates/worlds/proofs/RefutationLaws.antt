@@ -16,7 +16,7 @@ use Rattle.sdc_base.specs.declared.side.Side.{Side}
 use Rattle.sdc_base.specs.declared.system.System.{System}
 use Rattle.sdc_base.specs.Totals.{sum_below}
 use Rattle.sdc_base.specs.Forms.{Term, weighted_forms, coefficient}
-use Rattle.sdc_base.specs.Systems.{Numbers}
+use Rattle.sdc_base.specs.Systems.{Numbers, number_at}
 use Rattle.sdc_base.specs.Worlds.{Protects, level, level_at, amount_toward}
 use Rattle.sdc_base.specs.Refutations.{refuting_terms, share_at, bound_sum, AreBounded}
 use Rattle.worlds.specs.declared.faults.RefutationFault.{RefutationFault}
@@ -24,7 +24,7 @@ use Rattle.worlds.specs.declared.faults.RefutationFault.TheVariants as fault
 use Rattle.worlds.specs.declared.multipliers.Multipliers.{Multipliers}
 use Rattle.worlds.specs.NumberLists.{IsListed, first_misplaced}
 use Rattle.worlds.specs.WorldFaults.{refuse_at}
-use Rattle.worlds.specs.BoundedNumbers.{number_at, within_128_bits, numbers_with_terms}
+use Rattle.worlds.specs.BoundedNumbers.{within_128_bits, numbers_with_terms}
 use Rattle.worlds.specs.RefutationFaults.{summed_from, sum_of_bounds, refutation_fault, terms_added, IsHeldSum, IsGivenSum, IsGivenRefutation}
 use Rattle.worlds.proofs.TrueTests.{ok_some}
 use Rattle.worlds.proofs.Lists.{listed_where_none, none_where_listed}

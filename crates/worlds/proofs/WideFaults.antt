@@ -7,14 +7,14 @@ use Rattle.sdc_base.specs.declared.side.Side.{Side}
 use Rattle.sdc_base.specs.declared.system.System.{System}
 use Rattle.sdc_base.specs.Forms.{Term, coefficient}
 use Rattle.sdc_base.specs.HiddenSets.{is_hidden}
-use Rattle.sdc_base.specs.Systems.{Numbers}
+use Rattle.sdc_base.specs.Systems.{Numbers, number_at}
 use Rattle.sdc_base.specs.Refutations.{share, AreBounded}
 use Rattle.worlds.specs.declared.faults.RefutationFault.{RefutationFault}
 use Rattle.worlds.specs.declared.faults.RefutationFault.TheVariants as fault
 use Rattle.worlds.specs.declared.multipliers.Multipliers.{Multipliers}
 use Rattle.worlds.specs.NumberLists.{IsListed, first_misplaced}
 use Rattle.worlds.specs.WorldFaults.{refuse_at}
-use Rattle.worlds.specs.BoundedNumbers.{number_at, fits_128_bits, within_128_bits, numbers_with_terms}
+use Rattle.worlds.specs.BoundedNumbers.{fits_128_bits, within_128_bits, numbers_with_terms}
 use Rattle.worlds.specs.RefutationFaults.{share_or_fault, added_share, summed_from, sum_of_bounds, terms_added, IsWideFault}
 use Rattle.worlds.proofs.WorldLaws.{passes, passes_none}
 use Rattle.worlds.proofs.Lists.{none_where_listed}

@@ -15,13 +15,12 @@ use Rattle.sdc_base.specs.declared.system.System.{System}
 use Rattle.sdc_base.specs.Totals.{sum_of}
 use Rattle.sdc_base.specs.Forms.{Term}
 use Rattle.sdc_base.specs.HiddenSets.{is_hidden}
-use Rattle.sdc_base.specs.Systems.{Numbers, form, HoldOn}
+use Rattle.sdc_base.specs.Systems.{Numbers, form, HoldOn, number_at}
 use Rattle.sdc_base.specs.Worlds.{IsWorld, IsWithinBounds, value_over}
 use Rattle.worlds.specs.declared.faults.WorldFault.{WorldFault}
 use Rattle.worlds.specs.declared.faults.WorldFault.TheVariants as fault
 use Rattle.worlds.specs.declared.world.Move.{Move}
 use Rattle.worlds.specs.declared.world.World.{World}
-use Rattle.worlds.specs.BoundedNumbers.{number_at}
 use Rattle.worlds.specs.NumberLists.{IsListed, first_misplaced, terms_of, number_given}
 use Rattle.worlds.specs.WorldFaults.{refuse_at, is_within, move_fault, moves_fault, relations_fault, world_fault, IsGivenWorld}
 use Rattle.worlds.proofs.Bounds.{decides_le}

@@ -1,14 +1,10 @@
 -- Numbers of cells held in 128 bits, and multiples of cells added to them in their order (own).
-use Rattle.std.specs.Prelude.{ℕ, ◌^◌, ◌&&◌, Bool, List, [], ◌∷◌, slice_index_or, slice_set, Result, Ok, Err, if◌then◌else◌, ℤ, pos, neg_ℤ, ◌+ℤ◌, int_lt, int_le}
+use Rattle.std.specs.Prelude.{ℕ, ◌^◌, ◌&&◌, Bool, List, [], ◌∷◌, slice_set, Result, Ok, Err, if◌then◌else◌, ℤ, pos, neg_ℤ, ◌+ℤ◌, int_lt, int_le}
 use Rattle.sdc_base.specs.Steps.{◌>>=◌}
 use Rattle.sdc_base.specs.Forms.{Term}
-use Rattle.sdc_base.specs.Systems.{Numbers}
+use Rattle.sdc_base.specs.Systems.{Numbers, number_at}
 use Rattle.worlds.specs.declared.faults.RefutationFault.{RefutationFault}
 use Rattle.worlds.specs.declared.faults.RefutationFault.TheVariants as fault
-
--- the number of a cell in a list with one for each
-abbrev pub number_at : List ℤ → Numbers
-number_at numbers cell = slice_index_or numbers cell (pos 0)
 
 -- whether a whole number is one of 128 bits
 abbrev pub fits_128_bits : ℤ → Bool

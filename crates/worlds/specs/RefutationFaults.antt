@@ -8,7 +8,7 @@ use Rattle.sdc_base.specs.declared.system.System.{System}
 use Rattle.sdc_base.specs.Totals.{sum_below}
 use Rattle.sdc_base.specs.Forms.{Term, coefficient}
 use Rattle.sdc_base.specs.HiddenSets.{is_hidden}
-use Rattle.sdc_base.specs.Systems.{Numbers}
+use Rattle.sdc_base.specs.Systems.{Numbers, number_at}
 use Rattle.sdc_base.specs.Worlds.{level_at}
 use Rattle.sdc_base.specs.Refutations.{refuting_terms, share, share_at, AreBounded, IsRefutation}
 use Rattle.worlds.specs.declared.faults.RefutationFault.{RefutationFault}
@@ -16,7 +16,7 @@ use Rattle.worlds.specs.declared.faults.RefutationFault.TheVariants as fault
 use Rattle.worlds.specs.declared.multipliers.Multipliers.{Multipliers}
 use Rattle.worlds.specs.NumberLists.{IsListed, first_misplaced}
 use Rattle.worlds.specs.WorldFaults.{refuse_at}
-use Rattle.worlds.specs.BoundedNumbers.{number_at, within_128_bits, numbers_with_terms}
+use Rattle.worlds.specs.BoundedNumbers.{within_128_bits, numbers_with_terms}
 
 -- a cell's share of the bound sum; a hidden one with a coefficient above 0 must have an upper bound
 abbrev pub share_or_fault : Bool → ℕ → ℤ → Cell → Result ℤ RefutationFault

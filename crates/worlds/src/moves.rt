@@ -1,7 +1,7 @@
 ghost use Rattle.std.specs.Prelude.{◌≡◌, ◌<◌, ℕ, length, All, true, pos, ◌*ℤ◌, int_le};
 ghost use Rattle.std.specs.Option.{option_map_or};
 ghost use Rattle.sdc_base.specs.Worlds.{value_over};
-ghost use Rattle.worlds.specs.BoundedNumbers.{number_at};
+ghost use Rattle.sdc_base.specs.Systems.{number_at};
 ghost use Rattle.worlds.specs.NumberLists.{terms_of, number_given};
 ghost use Rattle.worlds.specs.WorldFaults.{move_fault, moves_fault};
 ghost use Rattle.worlds.specs.WorldFaults as spec;

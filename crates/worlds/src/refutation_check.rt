@@ -3,9 +3,9 @@ ghost use Rattle.sdc_base.specs.Forms.{coefficient};
 ghost use Rattle.sdc_base.specs.Grounds.{IsGround};
 ghost use Rattle.sdc_base.specs.Refutations.{refuting_terms};
 ghost use Rattle.sdc_base.specs.Refutations as spec;
-ghost use Rattle.sdc_base.specs.Systems.{NamesCells};
+ghost use Rattle.sdc_base.specs.Systems.{NamesCells, number_at};
 ghost use Rattle.sdc_base.specs.Worlds.{Protects, amount_toward};
-ghost use Rattle.worlds.specs.BoundedNumbers.{number_at, numbers_with_terms};
+ghost use Rattle.worlds.specs.BoundedNumbers.{numbers_with_terms};
 ghost use Rattle.worlds.specs.RefutationFaults.{terms_added, sum_of_bounds, refutation_fault, IsGivenSum, IsGivenRefutation, IsWideWhereBounded};
 
 use crate::adding::{add_at, add_forms};

@@ -1,7 +1,6 @@
 ghost use Rattle.std.specs.Prelude.{◌≡◌, ◌<◌, ◌^◌, length, All, pos};
 ghost use Rattle.std.specs.Ordering.{int_eq};
-ghost use Rattle.sdc_base.specs.Systems.{NamesCells, form};
-ghost use Rattle.worlds.specs.BoundedNumbers.{number_at};
+ghost use Rattle.sdc_base.specs.Systems.{NamesCells, form, number_at};
 ghost use Rattle.worlds.specs.WorldFaults.{relations_fault};
 
 use crate::faults::WorldFault;

@@ -1,7 +1,8 @@
 ghost use Rattle.std.specs.Prelude.{◌≡◌, ◌<◌, ◌^◌, length, pos, ◌+ℤ◌, ◌*ℤ◌};
 ghost use Rattle.sdc_base.specs.HiddenSets.{is_hidden};
 ghost use Rattle.sdc_base.specs.Worlds.{level};
-ghost use Rattle.worlds.specs.BoundedNumbers.{number_at, within_128_bits};
+ghost use Rattle.worlds.specs.BoundedNumbers.{within_128_bits};
+ghost use Rattle.sdc_base.specs.Systems.{number_at};
 ghost use Rattle.worlds.specs.RefutationFaults.{share_or_fault, summed_from};
 
 use crate::faults::RefutationFault;

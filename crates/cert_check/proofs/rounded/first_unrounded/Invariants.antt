@@ -1,5 +1,5 @@
 use Rattle.std.proofs.Common.{◌≡◌, drop}
-use Rattle.sdc_base.specs.Roundings.{number_at}
+use Rattle.sdc_base.specs.Systems.{number_at}
 use Rattle.cert_check.specs.RoundedRelease.{first_unrounded}
 use Rattle.cert_check.proofs.rounded.first_unrounded.Given as goal
 

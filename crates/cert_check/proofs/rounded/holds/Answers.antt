@@ -2,8 +2,7 @@ use Rattle.std.proofs.Common.{◌∙◌, ◌-ℤ◌, List, ℕ, pos, to_z, refl,
 use Rattle.std.specs.Int.{w128}
 use Rattle.std.specs.Ordering.{int_eq}
 use Rattle.std.proofs.lemmas.Int.{ints}
-use Rattle.sdc_base.specs.Roundings.{number_at}
-use Rattle.sdc_base.specs.Systems.{Numbers}
+use Rattle.sdc_base.specs.Systems.{Numbers, number_at}
 use Rattle.sdc_base.specs.Totals.{sum_of}
 use Rattle.cert_check.proofs.PartsTaken.{each_from_zero, more_than_left}
 use Rattle.cert_check.proofs.rounded.holds.Goals as goal

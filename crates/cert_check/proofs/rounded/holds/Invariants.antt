@@ -1,6 +1,6 @@
 use Rattle.std.proofs.Common.{◌≡◌, ◌≤ℤ◌, pos, take, ◌-ℤ◌}
 use Rattle.sdc_base.specs.Totals.{sum_of}
-use Rattle.sdc_base.specs.Roundings.{number_at}
+use Rattle.sdc_base.specs.Systems.{number_at}
 use Rattle.cert_check.proofs.rounded.holds.Given as goal
 
 abbrev pub invariant-loop-part : goal.invariant-loop-part

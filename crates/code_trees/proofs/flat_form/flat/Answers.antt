@@ -1,10 +1,9 @@
 use Rattle.std.proofs.Common.{◌≡◌, ℕ, ◌+◌, ◌-◌, List, ◌∷◌, take, length, slice_get, Option, Some, refl, ap, sym, ◌∙◌, subst, arith}
 use Rattle.std.proofs.lemmas.Option.{slice_get_read}
 use Rattle.std.proofs.lemmas.Result.{err_from_is_err_and}
-use Rattle.sdc_base.specs.Trees.{Tree, codes}
+use Rattle.sdc_base.specs.Trees.{Tree, codes, flat_tree}
 use Rattle.code_trees.specs.Growing.{tree_with_node}
 use Rattle.code_trees.specs.Faults.{code_fault, Names}
-use Rattle.code_trees.specs.FlatForm.{flat_tree}
 use Rattle.code_trees.proofs.FlatSteps.{flat-grown, codes-flat, flat-next, flat-stop, take-at}
 use Rattle.code_trees.proofs.flat_form.flat.Goals as goal
 

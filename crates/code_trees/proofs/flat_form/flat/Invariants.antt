@@ -1,7 +1,6 @@
 use Rattle.std.proofs.Common.{◌≡◌, ◌+◌, [], ◌∷◌, take, drop}
-use Rattle.sdc_base.specs.Trees.{IsCodeTree}
+use Rattle.sdc_base.specs.Trees.{IsCodeTree, flat_tree}
 use Rattle.code_trees.specs.Faults.{first_fault}
-use Rattle.code_trees.specs.FlatForm.{flat_tree}
 use Rattle.code_trees.proofs.flat_form.flat.Given as goal
 
 abbrev pub invariant-codes : goal.invariant-codes

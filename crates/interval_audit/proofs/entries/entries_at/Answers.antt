@@ -3,7 +3,7 @@ use Rattle.std.specs.Int.{w128}
 use Rattle.std.specs.Ordering.{int_eq}
 use Rattle.std.proofs.lemmas.Int.{ints, to_z-of_z}
 use Rattle.sdc_base.specs.Forms.{Term}
-use Rattle.interval_audit.specs.Points.{number_at}
+use Rattle.sdc_base.specs.Systems.{number_at}
 use Rattle.interval_audit.proofs.Counting.{entries_next}
 use Rattle.interval_audit.proofs.entries.entries_at.Goals as goal
 

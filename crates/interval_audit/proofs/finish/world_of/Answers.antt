@@ -1,9 +1,8 @@
 use Rattle.std.proofs.Common.{◌≡◌, ◌∙◌, List, subst, rules, ℤ, FitsSigned}
 use Rattle.std.specs.Int.{w128}
 use Rattle.std.proofs.lemmas.Int.{to_z-of_z}
-use Rattle.sdc_base.specs.Systems.{Numbers}
+use Rattle.sdc_base.specs.Systems.{Numbers, number_at}
 use Rattle.tableau.specs.Readings.{values_of}
-use Rattle.interval_audit.specs.Points.{number_at}
 use Rattle.worlds.specs.declared.world.World.{World}
 use Rattle.worlds.specs.NumberLists.{terms_of}
 use Rattle.interval_audit.specs.Groups.{Group, group_of, members}

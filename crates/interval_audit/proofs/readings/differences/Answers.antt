@@ -4,7 +4,7 @@ use Rattle.std.specs.Ordering.{int_eq}
 use Rattle.std.proofs.lemmas.Int.{ints, to_z-of_z}
 use Rattle.std.proofs.lemmas.List.{take_all}
 use Rattle.sdc_base.specs.Forms.{Term}
-use Rattle.interval_audit.specs.Points.{number_at}
+use Rattle.sdc_base.specs.Systems.{number_at}
 use Rattle.interval_audit.specs.Readings.{nonzero_terms}
 use Rattle.interval_audit.proofs.Listing.{listed_next, held_more}
 use Rattle.interval_audit.proofs.readings.differences.Goals as goal

@@ -1,7 +1,6 @@
 use Rattle.std.proofs.Common.{◌≡◌, ◌<◌, ◌+◌, ◌*◌, ◌^◌, ℕ, length, slice_index, take, All, pos, neg_ℤ, ◌-ℤ◌, ◌<ℤ◌}
 use Rattle.sdc_base.specs.Forms.{Term}
-use Rattle.sdc_base.specs.Systems.{Numbers}
-use Rattle.interval_audit.specs.Points.{number_at}
+use Rattle.sdc_base.specs.Systems.{Numbers, number_at}
 use Rattle.interval_audit.specs.Readings.{nonzero_terms}
 use Rattle.interval_audit.proofs.readings.differences.Given as goal
 

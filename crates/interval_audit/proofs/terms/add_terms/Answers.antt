@@ -3,7 +3,7 @@ use Rattle.std.specs.Int.{w128}
 use Rattle.std.proofs.lemmas.Int.{ints, to_z-of_z}
 use Rattle.sdc_base.specs.Forms.{Term}
 use Rattle.interval_audit.specs.FormSigns.{IsFormSign}
-use Rattle.interval_audit.specs.Points.{number_at}
+use Rattle.sdc_base.specs.Systems.{number_at}
 use Rattle.interval_audit.proofs.CellSums.{few_taken, added}
 use Rattle.interval_audit.proofs.terms.add_terms.Goals as goal
 

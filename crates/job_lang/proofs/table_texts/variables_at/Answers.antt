@@ -18,7 +18,7 @@ returns-in_err-name c =
 pub loop-k-preserved : goal.loop-k-preserved
 loop-k-preserved c =
     let next : is_next 34 c.loop-k.cursor ≡ true = cc in
-    rw (c.in_ok-push.ensures.ok, c.in_ok-text_of.ensures) (names_go_on (4 - c.loop-k.k) (4 - (c.loop-k.k + 1)) c.loop-k.names c.loop-k.cursor _ _ (omega arith) next c.in_ok-name.ensures ∙ c.loop-k.invariant)
+    rw (c.in_ok-push.ensures.ok, c.in_ok-from_slice.ensures) (names_go_on (4 - c.loop-k.k) (4 - (c.loop-k.k + 1)) c.loop-k.names c.loop-k.cursor _ _ (omega arith) next c.in_ok-name.ensures ∙ c.loop-k.invariant)
 
 pub returns : goal.returns
 returns c = sym c.loop-k.invariant ∙ names_full (4 - c.loop-k.k) c.loop-k.names c.loop-k.cursor (omega arith)

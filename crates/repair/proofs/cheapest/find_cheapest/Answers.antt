@@ -1,7 +1,7 @@
 use Rattle.std.proofs.Common.{◌≡◌, ◌∙◌, ◌+◌, sym, subst, FitsSigned, rules}
 use Rattle.std.specs.Int.{w128}
 use Rattle.std.proofs.lemmas.Int.{to_z-of_z}
-use Rattle.worlds.specs.BoundedNumbers.{number_at}
+use Rattle.sdc_base.specs.Systems.{number_at}
 use Rattle.repair.specs.HidingOrder.{breaks_at}
 use Rattle.repair.proofs.Choosing.{IsBestBelow, breaks_read, best_stays, best_more}
 use Rattle.repair.proofs.cheapest.find_cheapest.Goals as goal

@@ -1,4 +1,4 @@
-use Rattle.worlds.specs.BoundedNumbers.{number_at}
+use Rattle.sdc_base.specs.Systems.{number_at}
 use Rattle.repair.proofs.Choosing.{IsBestBelow}
 use Rattle.repair.proofs.cheapest.find_cheapest.Given as goal
 

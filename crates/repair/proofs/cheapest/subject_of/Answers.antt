@@ -1,6 +1,6 @@
 use Rattle.std.proofs.Common.{ℕ, ℤ, List, Bool, subst}
 use Rattle.std.proofs.lemmas.Option.{IfSome_then}
-use Rattle.worlds.specs.BoundedNumbers.{number_at}
+use Rattle.sdc_base.specs.Systems.{number_at}
 use Rattle.repair.specs.HidingOrder.{coefficients_for, IsCheapest}
 use Rattle.repair.proofs.Choosing.{cheapest_same}
 use Rattle.repair.proofs.cheapest.subject_of.Goals as goal

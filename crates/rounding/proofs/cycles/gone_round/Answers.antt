@@ -1,7 +1,7 @@
 use Rattle.std.proofs.Common.{◌≡◌, ◌∙◌, List, ℤ, length, arith, rules, ap, sym, subst, take_at, FitsSigned}
 use Rattle.std.specs.Int.{w128}
 use Rattle.std.proofs.lemmas.Int.{to_z-of_z}
-use Rattle.sdc_base.specs.Roundings.{number_at}
+use Rattle.sdc_base.specs.Systems.{number_at}
 use Rattle.rounding.specs.Arcs.{IsBalanced}
 use Rattle.rounding.specs.Rings.{AreBeside}
 use Rattle.rounding.proofs.Balances.{held_balanced}

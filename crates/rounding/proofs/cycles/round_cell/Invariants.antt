@@ -1,5 +1,5 @@
 use Rattle.std.proofs.Common.{length}
-use Rattle.sdc_base.specs.Roundings.{number_at}
+use Rattle.sdc_base.specs.Systems.{number_at}
 use Rattle.rounding.specs.Choices.{unrounded_cells}
 use Rattle.rounding.specs.Arcs.{IsBalanced}
 use Rattle.rounding.specs.Rings.{AreBeside, KeepMultiples}

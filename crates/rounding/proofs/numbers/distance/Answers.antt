@@ -1,7 +1,7 @@
 use Rattle.std.proofs.Common.{◌≡◌, ◌^◌, ◌∙◌, ap, arith, rules, ℤ, pos, int_lt, get_or, if◌then◌else◌, FitsSigned}
 use Rattle.std.specs.Int.{w128}
 use Rattle.std.proofs.lemmas.Int.{ints, to_z-of_z}
-use Rattle.sdc_base.specs.Roundings.{number_at}
+use Rattle.sdc_base.specs.Systems.{number_at}
 use Rattle.rounding.specs.Extremes.{extreme_numbers}
 use Rattle.rounding.specs.Sums.{IsNear}
 use Rattle.rounding.proofs.Smallness.{mixed_near}

@@ -1,6 +1,6 @@
 use Rattle.std.proofs.Common.{◌<◌, ◌^◌, ℕ, List, length, arith, ap}
 use Rattle.std.proofs.lemmas.Int.{ints}
-use Rattle.sdc_base.specs.Roundings.{number_at}
+use Rattle.sdc_base.specs.Systems.{number_at}
 use Rattle.rounding.specs.Extremes.{extreme_numbers}
 use Rattle.rounding.proofs.SumSteps.{sum_of_more, sum_of_all}
 use Rattle.rounding.proofs.numbers.extreme_of.Goals as goal

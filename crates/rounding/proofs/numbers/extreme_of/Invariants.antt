@@ -1,6 +1,6 @@
 use Rattle.std.proofs.Common.{◌≡◌, ◌+◌, ◌*◌, ◌^◌, take, pos, neg_ℤ, ◌-ℤ◌, ◌≤ℤ◌}
 use Rattle.sdc_base.specs.Totals.{sum_of}
-use Rattle.sdc_base.specs.Roundings.{number_at}
+use Rattle.sdc_base.specs.Systems.{number_at}
 use Rattle.rounding.specs.Extremes.{extreme_numbers}
 use Rattle.rounding.proofs.numbers.extreme_of.Given as goal
 

@@ -1,4 +1,4 @@
-use Rattle.sdc_base.specs.Roundings.{number_at}
+use Rattle.sdc_base.specs.Systems.{number_at}
 use Rattle.rounding.proofs.SumSteps.{AreFirstExtremes}
 use Rattle.rounding.proofs.numbers.extremes_of.Given as goal
 

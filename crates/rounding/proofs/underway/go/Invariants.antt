@@ -1,6 +1,6 @@
 use Rattle.std.proofs.Common.{◌≡◌, ℕ, take}
 use Rattle.sdc_base.specs.Forms.{coefficient}
-use Rattle.sdc_base.specs.Roundings.{number_at}
+use Rattle.sdc_base.specs.Systems.{number_at}
 use Rattle.rounding.specs.Rings.{numbers_after_turns}
 use Rattle.rounding.specs.Circuits.{turns_of}
 use Rattle.rounding.proofs.Moving.{AreNearRange}

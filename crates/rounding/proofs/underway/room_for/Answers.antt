@@ -1,7 +1,7 @@
 use Rattle.std.proofs.Common.{◌≡◌, ◌≤ℤ◌, ℤ, pos, ◌^◌, arith, rules, sym, subst, FitsSigned}
 use Rattle.std.specs.Int.{w128}
 use Rattle.std.proofs.lemmas.Int.{ints, to_z-of_z}
-use Rattle.sdc_base.specs.Roundings.{number_at}
+use Rattle.sdc_base.specs.Systems.{number_at}
 use Rattle.rounding.specs.Circuits.{room_of}
 use Rattle.rounding.proofs.Moving.{in_range, room_within, turn_fits}
 use Rattle.rounding.proofs.underway.room_for.Goals as goal

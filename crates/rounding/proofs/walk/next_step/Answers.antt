@@ -2,7 +2,7 @@ use Rattle.std.proofs.Common.{◌≡◌, ◌⊎◌, ◌<◌, ℕ, true, List, Al
 use Rattle.std.specs.List.{Contains}
 use Rattle.std.specs.List.Sorted.{IsNonDecreasing}
 use Rattle.std.proofs.lemmas.List.Elements.{All-drop, All-weaker}
-use Rattle.sdc_base.specs.Roundings.{number_at}
+use Rattle.sdc_base.specs.Systems.{number_at}
 use Rattle.rounding.specs.Neighbours.{is_multiple}
 use Rattle.rounding.proofs.Circling.{ends_inside, read_cells, cells_inside, found_touches, never_stuck, with_front, found_behind}
 use Rattle.rounding.proofs.walk.next_step.Goals as goal

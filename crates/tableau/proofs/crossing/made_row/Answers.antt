@@ -3,7 +3,7 @@ use Rattle.std.specs.Int.{w128}
 use Rattle.std.proofs.lemmas.Int.{ints, to_z-of_z}
 use Rattle.sdc_base.specs.Forms.{Term, coefficient}
 use Rattle.tableau.specs.declared.faults.RowFault.TheVariants as fault
-use Rattle.tableau.specs.Tables.{number_at}
+use Rattle.sdc_base.specs.Systems.{number_at}
 use Rattle.tableau.specs.SparseTables.{table_of}
 use Rattle.tableau.proofs.Places.{ascend_of}
 use Rattle.tableau.proofs.SparseTables.{row_number}

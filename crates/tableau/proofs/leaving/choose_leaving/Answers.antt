@@ -1,6 +1,6 @@
 use Rattle.std.proofs.Common.{pos, ◌≤ℤ◌, slice_index_or, [], arith, refl, subst}
 use Rattle.std.proofs.lemmas.Int.{ints}
-use Rattle.tableau.specs.Tables.{number_at}
+use Rattle.sdc_base.specs.Systems.{number_at}
 use Rattle.tableau.specs.Choices.{IsLeaving}
 use Rattle.tableau.specs.SparseTables.{table_of}
 use Rattle.tableau.proofs.LeavingRows.{leaves_new, leaves_tied}

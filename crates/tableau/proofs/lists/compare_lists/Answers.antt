@@ -1,7 +1,7 @@
 use Rattle.std.proofs.Common.{◌≡◌, ℤ, pos, slice_index_or, [], arith, rules, refl, below_more, FitsSigned}
 use Rattle.std.specs.Int.{w128}
 use Rattle.std.proofs.lemmas.Int.{to_z-of_z}
-use Rattle.tableau.specs.Tables.{number_at}
+use Rattle.sdc_base.specs.Systems.{number_at}
 use Rattle.tableau.specs.RowLists.{lead, list_of}
 use Rattle.tableau.specs.SparseTables.{table_of}
 use Rattle.tableau.proofs.Numbers.{lead_none_at, lead_above_at, lead_turned, leads}

@@ -1,5 +1,5 @@
 use Rattle.std.proofs.Common.{◌≡◌, ℕ, ◌<◌, slice_index_or, pos}
-use Rattle.tableau.specs.Tables.{number_at}
+use Rattle.sdc_base.specs.Systems.{number_at}
 use Rattle.tableau.specs.Entries.{AreEntriesFrom}
 use Rattle.tableau.specs.SparseTables.{table_of}
 use Rattle.tableau.proofs.ReadNumbers.{IsRead}

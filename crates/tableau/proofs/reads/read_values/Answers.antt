@@ -1,6 +1,7 @@
 use Rattle.std.proofs.Common.{◌≡◌, ◌+◌, ℕ, ℤ, [], length, slice_index_or, pos, sym, ◌∙◌, arith}
 use Rattle.std.proofs.lemmas.List.FromFn.{fill_by_all}
-use Rattle.tableau.specs.Tables.{Table, number_at}
+use Rattle.tableau.specs.Tables.{Table}
+use Rattle.sdc_base.specs.Systems.{number_at}
 use Rattle.tableau.specs.Readings.{value_for, member_values}
 use Rattle.tableau.specs.SparseTables.{table_of}
 use Rattle.tableau.proofs.Numbers.{value_found, no_number}

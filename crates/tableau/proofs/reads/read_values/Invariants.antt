@@ -1,5 +1,5 @@
 use Rattle.std.proofs.Common.{◌≡◌, ℕ, ◌<◌, [], length, slice_index_or, pos}
-use Rattle.tableau.specs.Tables.{number_at}
+use Rattle.sdc_base.specs.Systems.{number_at}
 use Rattle.tableau.specs.SparseTables.{table_of}
 use Rattle.tableau.proofs.ReadNumbers.{IsRead}
 use Rattle.tableau.proofs.reads.read_values.Given as goal

@@ -9,5 +9,5 @@ apart = ((refl, tt), (tt, tt))
 
 pub returns : goal.returns
 returns c =
-    let codes : c.push.new.self ≡ (98 ∷ []) ∷ [] = c.in_ok-push.ensures.ok ∙ rw (c.empty-codes.ensures, c.in_ok-text.ensures) refl in
+    let codes : c.push.new.self ≡ (98 ∷ []) ∷ [] = c.in_ok-push.ensures.ok ∙ rw (c.empty-codes.ensures, c.in_ok-from_slice.ensures) refl in
     rw (c.in_ok-total.ensures, codes) (apart, omega arith)

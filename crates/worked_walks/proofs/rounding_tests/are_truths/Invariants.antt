@@ -1,5 +1,5 @@
 use Rattle.std.proofs.Common.{◌<◌, ℕ, ℤ, get_or}
-use Rattle.rounding.specs.Tasks.{IsTruth}
+use Rattle.sdc_base.specs.Truths.{IsTruth}
 use Rattle.worked_walks.proofs.rounding_tests.are_truths.Given as goal
 
 abbrev pub invariant-truths : goal.invariant-truths

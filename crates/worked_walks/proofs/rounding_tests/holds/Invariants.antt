@@ -1,6 +1,6 @@
 use Rattle.std.proofs.Common.{◌≡◌, take}
 use Rattle.sdc_base.specs.Totals.{sum_of}
-use Rattle.sdc_base.specs.Roundings.{number_at}
+use Rattle.sdc_base.specs.Systems.{number_at}
 use Rattle.worked_walks.proofs.rounding_tests.holds.Given as goal
 
 abbrev pub invariant-parts : goal.invariant-parts

@@ -1,5 +1,5 @@
 use Rattle.std.proofs.Common.{◌≡◌, ℕ, length, take}
-use Rattle.worlds.specs.BoundedNumbers.{number_at}
+use Rattle.sdc_base.specs.Systems.{number_at}
 use Rattle.worlds.specs.NumberLists.{terms_of, number_given}
 use Rattle.worlds.proofs.moves.write_moves.Given as goal
 

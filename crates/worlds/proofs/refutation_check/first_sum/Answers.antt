@@ -2,7 +2,7 @@ use Rattle.std.proofs.Common.{◌≡◌, ◌∙◌, ℕ, sym, length, to_z, of_z
 use Rattle.std.specs.Int.{w128}
 use Rattle.std.proofs.lemmas.Int.{to_z-of_z}
 use Rattle.sdc_base.specs.Forms.{coefficient}
-use Rattle.worlds.specs.BoundedNumbers.{number_at}
+use Rattle.sdc_base.specs.Systems.{number_at}
 use Rattle.worlds.specs.RefutationFaults.{terms_added}
 use Rattle.worlds.proofs.TrueTests.{on_ok}
 use Rattle.worlds.proofs.RefutationLaws.{added_up}

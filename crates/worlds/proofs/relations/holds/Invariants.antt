@@ -1,6 +1,6 @@
 use Rattle.std.proofs.Common.{◌≡◌, ◌*◌, ◌^◌, take, pos, neg_ℤ, ◌≤ℤ◌}
 use Rattle.sdc_base.specs.Totals.{sum_of}
-use Rattle.worlds.specs.BoundedNumbers.{number_at}
+use Rattle.sdc_base.specs.Systems.{number_at}
 use Rattle.worlds.proofs.relations.holds.Given as goal
 
 abbrev pub invariant-loop-part : goal.invariant-loop-part

@@ -2,7 +2,7 @@ use Rattle.std.proofs.Common.{◌∙◌, sym, ◌-ℤ◌, ◌≤ℤ◌, FitsSign
 use Rattle.std.specs.Int.{w128}
 use Rattle.std.proofs.lemmas.Int.{ints, to_z-of_z}
 use Rattle.sdc_base.specs.HiddenSets.{is_hidden}
-use Rattle.worlds.specs.BoundedNumbers.{number_at}
+use Rattle.sdc_base.specs.Systems.{number_at}
 use Rattle.worlds.proofs.ShareSteps.{high_share, low_share}
 use Rattle.worlds.proofs.shares.share_of.Goals as goal
 

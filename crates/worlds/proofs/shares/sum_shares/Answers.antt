@@ -2,7 +2,7 @@ use Rattle.std.proofs.Common.{◌∙◌, sym, FitsSigned, to_z, rules}
 use Rattle.std.specs.Int.{w128}
 use Rattle.std.proofs.lemmas.Int.{to_z-of_z}
 use Rattle.std.proofs.lemmas.Result.{err_from_is_err_and}
-use Rattle.worlds.specs.BoundedNumbers.{number_at}
+use Rattle.sdc_base.specs.Systems.{number_at}
 use Rattle.worlds.proofs.ShareSteps.{sum_step, share_stop, sum_stop}
 use Rattle.worlds.proofs.shares.sum_shares.Goals as goal
 

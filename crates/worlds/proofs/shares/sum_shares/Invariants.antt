@@ -1,5 +1,5 @@
 use Rattle.std.proofs.Common.{◌≡◌, drop, pos}
-use Rattle.worlds.specs.BoundedNumbers.{number_at}
+use Rattle.sdc_base.specs.Systems.{number_at}
 use Rattle.worlds.specs.RefutationFaults.{summed_from}
 use Rattle.worlds.proofs.shares.sum_shares.Given as goal
 

@@ -1,7 +1,7 @@
 use Rattle.std.proofs.Common.{◌≡◌, ◌∙◌, ap, sym, length, FitsSigned, Ok, rules}
 use Rattle.std.specs.Int.{w128}
 use Rattle.std.proofs.lemmas.Int.{to_z-of_z}
-use Rattle.worlds.specs.BoundedNumbers.{number_at}
+use Rattle.sdc_base.specs.Systems.{number_at}
 use Rattle.worlds.specs.NumberLists.{terms_of}
 use Rattle.worlds.specs.WorldFaults.{moves_fault, relations_fault}
 use Rattle.worlds.proofs.WorldLaws.{moves_inside, fault_behind_moves}

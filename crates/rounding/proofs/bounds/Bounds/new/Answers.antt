@@ -1,7 +1,7 @@
 use Rattle.std.proofs.Common.{◌≡◌, ◌^◌, ◌∙◌, ℕ, Bool, false, true, [], List, ℤ, length, ap, sym, subst, FitsSigned}
 use Rattle.std.specs.Int.{w128}
 use Rattle.std.proofs.lemmas.Int.{to_z-of_z}
-use Rattle.sdc_base.specs.Roundings.{number_at}
+use Rattle.sdc_base.specs.Systems.{number_at}
 use Rattle.rounding.specs.Choices.{by_choices}
 use Rattle.rounding.specs.Tasks.{IsProper}
 use Rattle.rounding.specs.Sums.{IsNear}
