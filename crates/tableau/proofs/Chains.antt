@@ -21,7 +21,7 @@ not_above : (n from : ℕ) (g : ℕ → ℤ) → ((i : ℕ) → g i ≡ pos 0) �
 not_above zero from g none one = one
 not_above (suc n) from g none one = elim one as (λ _. ⊥) [ inl more ↦ absurd (omega (arith, ints, none from)) | inr later ↦ not_above n (suc from) g none later.1 ]
 
-distrib_minus : (k a b : ℤ) → k *ℤ (a -ℤ b) ≡ k *ℤ a -ℤ k *ℤ b
+pub distrib_minus : (k a b : ℤ) → k *ℤ (a -ℤ b) ≡ k *ℤ a -ℤ k *ℤ b
 distrib_minus k a b = omega (arith, ints, distrib k (a -ℤ b) b, ap (λ t. k *ℤ t) (back a b))
 
 -- a * (b * z - c * y) + c * (a * y - b * x) is b * (a * z - c * x)

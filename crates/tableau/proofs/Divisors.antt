@@ -1,13 +1,13 @@
 -- Divisors of whole numbers and of lists of them.
-use Rattle.std.proofs.Common.{◌≡◌, ◌||◌, Bool, true, false, ℕ, zero, suc, ◌+◌, ◌<◌, ◌^◌, ◌%◌, List, [], ◌∷◌, length, take, get_or, All, ℤ, pos, negsuc, ◌-ℤ◌, ◌*ℤ◌, ◌≤ℤ◌, ◌<ℤ◌, neg_ℤ, unsigned_abs, arith, refl, ap, sym, subst, ◌∙◌, to_z, FitsSigned}
+use Rattle.std.proofs.Common.{◌≡◌, ◌||◌, Bool, true, false, ℕ, zero, suc, ◌+◌, ◌*◌, ◌<◌, ◌^◌, ◌%◌, List, [], ◌∷◌, length, length-take, take, get_or, All, ℤ, pos, negsuc, ◌-ℤ◌, ◌*ℤ◌, ◌≤ℤ◌, ◌<ℤ◌, neg_ℤ, unsigned_abs, arith, refl, ap, sym, subst, ◌∙◌, to_z, FitsSigned}
 use Prim.Native.Nat.{◌∣◌}
-use Rattle.std.specs.Int.{w128}
+use Rattle.std.specs.Int.{w128, IsGcd}
 use Rattle.std.specs.Int.RustNames.{int_div, int_rem}
 use Rattle.std.specs.List.{list_any}
 use Rattle.std.proofs.Math.Nat.{eq-zero_of_zero-dvd}
 use Rattle.std.proofs.lemmas.Int.{ints, quot-rem, to_z_pos, unsigned_abs-mul}
 use Rattle.std.proofs.lemmas.Nat.{mul-lt}
-use Rattle.std.proofs.lemmas.Nat.Gcd.{dvd_trans, mod-eq-zero_of_dvd}
+use Rattle.std.proofs.lemmas.Nat.Gcd.{le_of_dvd, dvd_trans, mod-eq-zero_of_dvd}
 use Rattle.std.proofs.lemmas.List.{take-take, get_or-take}
 use Rattle.std.proofs.lemmas.List.Elements.{All-get_or, All-take, All-more, All-weaker}
 use Rattle.sdc_base.specs.Forms.{Term}
@@ -66,7 +66,7 @@ abs_small (negsuc n) up fits = absurd (omega (arith, ints))
 
 -- ---- products of small numbers
 
-fits_small : (z : ℤ) → unsigned_abs z < 2 ^ 127 → FitsSigned w128 z
+pub fits_small : (z : ℤ) → unsigned_abs z < 2 ^ 127 → FitsSigned w128 z
 fits_small (pos n) less = record { sfits = omega (arith, less) }
 fits_small (negsuc n) less = record { sfits = omega (arith, less) }
 
@@ -82,3 +82,34 @@ above_small (negsuc n) less = omega (arith, ints, less)
 
 pub product_above_least : (x y : ℤ) → unsigned_abs x < 2 ^ 60 → unsigned_abs y < 2 ^ 60 → neg_ℤ (pos (2 ^ 127)) <ℤ (x *ℤ y)
 product_above_least x y x_small y_small = above_small (x *ℤ y) (small_product x y x_small y_small)
+
+-- ---- all of some first things
+
+pub All-get_or-take : {X : Type 0} (P : X → Type 0) (i : ℕ) (xs : List X) (d : X) → i < length xs → All P (take (i + 1) xs) → P (get_or xs i d)
+All-get_or-take P i xs d within all = subst P (get_or-take (i + 1) xs i d (omega arith)) (All-get_or P (take (i + 1) xs) i d (omega (arith, length-take (i + 1) xs)) all)
+
+pub times_before : (e times i : ℕ) (xs : List Term) → All (λ (entry : Term). e ∣ times * unsigned_abs entry.1) (take (i + 1) xs) → All (λ (entry : Term). e ∣ times * unsigned_abs entry.1) (take i xs)
+times_before e times i xs all = subst (λ (t : List Term). All (λ (entry : Term). e ∣ times * unsigned_abs entry.1) t) (take-take i (i + 1) xs (omega arith)) (All-take (λ (entry : Term). e ∣ times * unsigned_abs entry.1) i (take (i + 1) xs) all)
+
+-- a common divisor of two numbers, one of which is above 0
+pub record IsCommon (g : ℕ) (f p : ℤ) : Type 0 where
+  pub small : g < 2 ^ 127
+  pub up : 0 < g
+  pub first : g ∣ unsigned_abs f
+  pub second : g ∣ unsigned_abs p
+
+pub common_of : (g a b : ℕ) (f p : ℤ) → IsGcd a b g → a ≡ unsigned_abs f → b ≡ unsigned_abs p → pos 1 ≤ℤ p → FitsSigned w128 p → IsCommon g f p
+common_of g a b f p gcd a_is b_is up fits =
+    let second : g ∣ unsigned_abs p = subst (λ n. g ∣ n) b_is gcd.1 in
+    record {
+      small = omega (arith, le_of_dvd (abs_up p up) second, abs_small p up fits);
+      up = dvd_up g (unsigned_abs p) second (abs_up p up);
+      first = subst (λ n. g ∣ n) a_is gcd.0;
+      second = second;
+    }
+
+pub cast_up : (g : ℕ) → g < 2 ^ 127 → 0 < g → pos 1 ≤ℤ to_z w128 g
+cast_up g small up = omega (arith, ints, to_z_pos w128 g small)
+
+pub cast_divides : (g : ℕ) (z y : ℤ) → g < 2 ^ 127 → y ≡ z → g ∣ unsigned_abs z → unsigned_abs (to_z w128 g) ∣ unsigned_abs y
+cast_divides g z y small is divides = subst (λ n. n ∣ unsigned_abs y) (sym (abs_common g small)) (subst (λ t. g ∣ unsigned_abs t) (sym is) divides)

@@ -1,11 +1,13 @@
 -- Which member leaves, row by row.
-use Rattle.std.proofs.Common.{◌≡◌, ◌≢◌, ◌⊎◌, inl, inr, ℕ, zero, suc, ◌+◌, ◌<◌, [], slice_index_or, ℤ, pos, ◌+ℤ◌, ◌*ℤ◌, ◌≤ℤ◌, arith, ap, sym, subst, ◌∙◌, below_more}
+use Rattle.std.proofs.Common.{◌≡◌, ◌≢◌, ◌⊎◌, inl, inr, ℕ, zero, suc, ◌+◌, ◌<◌, ◌≤◌, [], length, slice_index_or, Option, Some, None, IfNone, ℤ, pos, ◌+ℤ◌, ◌*ℤ◌, ◌≤ℤ◌, arith, ap, sym, subst, ◌∙◌, below_more}
 use Rattle.std.proofs.lemmas.Int.{ints}
 use Rattle.tableau.specs.declared.problem.Problem.{Problem}
 use Rattle.tableau.specs.Tables.{Table}
 use Rattle.sdc_base.specs.Systems.{number_at}
 use Rattle.tableau.specs.RowLists.{IsLexPositive, AreZeros, list_of, list_size, lead}
-use Rattle.tableau.specs.Choices.{LeavesAmong}
+use Rattle.tableau.specs.Choices.{LeavesAmong, IsLeaving, IsEntering}
+use Rattle.tableau.specs.TableLaws.{CannotImprove}
+use Rattle.tableau.proofs.Independent.{by_less}
 use Rattle.tableau.proofs.Exchanges.{times_none, by_place}
 use Rattle.tableau.proofs.Rising.{above_mixed, above_same, product_above}
 use Rattle.tableau.proofs.Chains.{above_unscaled, linked}
@@ -66,3 +68,19 @@ leaves_tied problem table column k row best none =
       above = best.above;
       least = below_more (λ j. j ≢ row → pos 1 ≤ℤ number_at (slice_index_or table.rows j []) column → IsLexPositive (list_size problem) 0 (lead problem table column row j) ⊎ (AreZeros (list_size problem) 0 (lead problem table column row j) × (row < j))) k best.least (λ _ _. inr (none, best.within));
     }
+
+-- a row without a number above 0 is passed
+pub leaves_passed : (problem : Problem) (table : Table) (column k : ℕ) (best : Option ℕ) → IsLeaving problem table column k best → number_at (slice_index_or table.rows k []) column ≤ℤ pos 0 → IsLeaving problem table column (k + 1) best
+leaves_passed problem table column k None so_far down = λ j below.
+    by_less j k (λ less. so_far j less) (λ more. let same : j ≡ k = omega arith in subst (λ i. number_at (slice_index_or table.rows i []) column ≤ℤ pos 0) (sym same) down)
+leaves_passed problem table column k (Some row) so_far down = record {
+  within = omega (arith, so_far.within);
+  above = so_far.above;
+  least = λ j below apart up.
+      by_less j k (λ less. so_far.least j less apart up)
+      (λ more. let same : j ≡ k = omega arith in absurd (omega (arith, ints, up, subst (λ i. number_at (slice_index_or table.rows i []) column ≤ℤ pos 0) (sym same) down)));
+}
+
+pub none_enters : (table : Table) (k : ℕ) (best : Option ℕ) → length table.others ≤ k → IsEntering table k best → IfNone best (CannotImprove table)
+none_enters table k None all so_far = λ j below. so_far j (omega arith)
+none_enters table k (Some column) all so_far = tt

@@ -12,6 +12,7 @@ pub mod Beginnings
 pub mod WalkTables
 pub mod Ascending
 pub mod Places
+pub mod OwnRows
 pub mod SparseTables
 pub mod Naturals
 pub mod Numbers
@@ -22,7 +23,11 @@ pub mod CrossedEntries
 pub mod Divisors
 pub mod Remainders
 pub mod ReducedRows
+pub mod LowestRows
 pub mod NewRows
+pub mod LeastDens
+pub mod Exchanged
+pub mod PivotRows
 pub mod FirstNumbers
 pub mod Solved
 pub mod WellFormedProblems

@@ -1,10 +1,11 @@
 -- The numbers of a list, one by one.
-use Rattle.std.proofs.Common.{◌≡◌, ◌≢◌, ◌==◌, true, false, ℕ, zero, suc, ◌+◌, ◌-◌, ◌<◌, ◌≤◌, List, [], ◌∷◌, length, zip, slice_index, slice_index_or, All, ℤ, pos, ◌-ℤ◌, ◌*ℤ◌, ◌<ℤ◌, arith, refl, ap, sym, subst, ◌∙◌, if◌then◌else◌}
+use Rattle.std.proofs.Common.{◌≡◌, ◌≢◌, ◌==◌, true, false, ℕ, zero, suc, ◌+◌, ◌-◌, ◌<◌, ◌≤◌, List, [], ◌∷◌, length, zip, slice_index, slice_index_or, All, ℤ, pos, ◌-ℤ◌, ◌*ℤ◌, ◌<ℤ◌, ◌≤ℤ◌, arith, refl, ap, sym, subst, ◌∙◌, if◌then◌else◌}
 use Rattle.std.proofs.Math.IntN.{*ℤ_comm}
 use Rattle.std.proofs.lemmas.Int.{ints}
 use Rattle.std.proofs.lemmas.Bool.Decides.{nat_tests}
 use Rattle.std.proofs.lemmas.List.Elements.{All-from_get_or}
 use Rattle.sdc_base.proofs.TotalLemmas.{sum_of-cons}
+use Rattle.sdc_base.proofs.WholeNumbers.{assoc, swap_times, times_more}
 use Rattle.sdc_base.specs.Forms.{coefficient}
 use Rattle.tableau.specs.declared.problem.Problem.{Problem}
 use Rattle.tableau.specs.Tables.{Table}
@@ -16,6 +17,7 @@ use Rattle.tableau.specs.RowLists.{IsLexPositive, list_of, list_size, lead}
 use Rattle.tableau.specs.Walks.{IsTableOf}
 use Rattle.tableau.proofs.Independent.{absent, own_number}
 use Rattle.tableau.proofs.Beginnings.{first_above}
+use Rattle.tableau.proofs.Rising.{product_above}
 
 -- the number at a name among distinct ones
 pub named_number : (names : List ℕ) (numbers : List ℤ) (j : ℕ) → j < length names → length names ≤ length numbers → ((i k : ℕ) → i < length names → k < length names → slice_index names i ≡ slice_index names k → i ≡ k) → coefficient (zip names numbers) (slice_index names j) ≡ number_at numbers j
@@ -86,11 +88,17 @@ leads problem table column one other place within none above =
 same_product : (x q x' q' : ℤ) → x ≡ x' → q ≡ q' → x *ℤ q ≡ x' *ℤ q'
 same_product x q x' q' ex eq = ap (λ t. t *ℤ q) ex ∙ ap (λ t. x' *ℤ t) eq
 
-pub lead_none_at : (p q x y p' q' x' y' : ℤ) → p ≡ p' → q ≡ q' → x ≡ x' → y ≡ y' → x *ℤ q ≡ y *ℤ p → q' *ℤ x' -ℤ p' *ℤ y' ≡ pos 0
-lead_none_at p q x y p' q' x' y' ep eq ex ey same = lead_none p' q' x' y' (sym (same_product x q x' q' ex eq) ∙ same ∙ same_product y p y' p' ey ep)
+both_over : (p x c d p' x' : ℤ) → p *ℤ c ≡ p' → x *ℤ d ≡ x' → (c *ℤ d) *ℤ (x *ℤ p) ≡ p' *ℤ x'
+both_over p x c d p' x' ep ex = simp (assoc, *ℤ_comm, swap_times) refl ∙ sym (same_product p' x' (p *ℤ c) (x *ℤ d) (sym ep) (sym ex))
 
-pub lead_above_at : (p q x y p' q' x' y' : ℤ) → p ≡ p' → q ≡ q' → x ≡ x' → y ≡ y' → (x *ℤ q) <ℤ (y *ℤ p) → pos 0 <ℤ (p' *ℤ y' -ℤ q' *ℤ x')
-lead_above_at p q x y p' q' x' y' ep eq ex ey less = lead_above p' q' x' y' (omega (arith, ints, same_product x q x' q' ex eq, same_product y p y' p' ey ep))
+-- numbers over dens of their own compare as those over one den
+pub lead_none_over : (p q x y c d p' q' x' y' : ℤ) → p *ℤ c ≡ p' → q *ℤ d ≡ q' → x *ℤ c ≡ x' → y *ℤ d ≡ y' → x *ℤ q ≡ y *ℤ p → q' *ℤ x' -ℤ p' *ℤ y' ≡ pos 0
+lead_none_over p q x y c d p' q' x' y' ep eq ex ey same =
+    omega (arith, ints, both_over q x d c q' x' eq ex, both_over p y c d p' y' ep ey, ap (λ t. (c *ℤ d) *ℤ t) same, ap (λ t. t *ℤ (x *ℤ q)) (*ℤ_comm c d))
+
+pub lead_above_over : (p q x y c d p' q' x' y' : ℤ) → pos 1 ≤ℤ c → pos 1 ≤ℤ d → p *ℤ c ≡ p' → q *ℤ d ≡ q' → x *ℤ c ≡ x' → y *ℤ d ≡ y' → (x *ℤ q) <ℤ (y *ℤ p) → pos 0 <ℤ (p' *ℤ y' -ℤ q' *ℤ x')
+lead_above_over p q x y c d p' q' x' y' c_up d_up ep eq ex ey less =
+    omega (arith, ints, times_more (c *ℤ d) (x *ℤ q) (y *ℤ p) (omega (arith, ints, product_above c d c_up (omega (arith, ints)))) less, both_over q x d c q' x' eq ex, both_over p y c d p' y' ep ey, ap (λ t. t *ℤ (x *ℤ q)) (*ℤ_comm c d))
 
 -- ---- what is read off a table
 

@@ -42,13 +42,13 @@ sparse_append from limit place number (entry ∷ entries) sparse under up some =
 coefficient_one : (place v : ℕ) (number : ℤ) → coefficient ((place, number) ∷ []) v ≡ (if place == v then number else pos 0)
 coefficient_one place v number = omega (arith, ints, sum_of-cons (λ (t : Term). if t.0 == v then t.1 else pos 0) (place, number) [])
 
-append_here : (place : ℕ) (number : ℤ) (entries : List Term) → coefficient entries place ≡ pos 0 → coefficient (entries ++ (place, number) ∷ []) place ≡ number
+pub append_here : (place : ℕ) (number : ℤ) (entries : List Term) → coefficient entries place ≡ pos 0 → coefficient (entries ++ (place, number) ∷ []) place ≡ number
 append_here place number entries none =
     let test : (place == place) ≡ true = grind (arith, nat_tests) in
     let head : (if place == place then number else pos 0) ≡ number = rw test refl in
     omega (arith, ints, head, none, coefficient_one place place number, sum_of-append (λ (t : Term). if t.0 == place then t.1 else pos 0) entries ((place, number) ∷ []))
 
-append_before : (place v : ℕ) (number : ℤ) (entries : List Term) → v < place → coefficient (entries ++ (place, number) ∷ []) v ≡ coefficient entries v
+pub append_before : (place v : ℕ) (number : ℤ) (entries : List Term) → v < place → coefficient (entries ++ (place, number) ∷ []) v ≡ coefficient entries v
 append_before place v number entries below =
     let test : (place == v) ≡ false = let apart : place ≢ v = omega arith in grind (arith, nat_tests) in
     let head : (if place == v then number else pos 0) ≡ pos 0 = rw test refl in

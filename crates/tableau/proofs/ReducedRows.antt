@@ -1,24 +1,23 @@
 -- Divided entries are those of the reduced table.
-use Rattle.std.proofs.Common.{◌≡◌, ◌≢◌, ℕ, zero, suc, ◌+◌, ◌<◌, ◌≤◌, List, [], ◌∷◌, ◌++◌, length, map, take, drop, slice_index_or, All, ℤ, pos, negsuc, ◌*ℤ◌, ◌≤ℤ◌, unsigned_abs, arith, refl, ap, sym, subst, ◌∙◌, length-append, length-take, ext_get_or}
+use Rattle.std.proofs.Common.{◌≡◌, ◌≢◌, ℕ, zero, suc, ◌+◌, ◌<◌, ◌≤◌, List, [], ◌∷◌, ◌++◌, length, map, take, drop, slice_index_or, All, ℤ, pos, negsuc, ◌*ℤ◌, ◌≤ℤ◌, unsigned_abs, arith, refl, ap, sym, subst, ◌∙◌, length-append, length-take}
 use Prim.Native.Nat.{◌∣◌}
 use Rattle.std.proofs.Math.Nat.{dvd-mul_left}
 use Rattle.std.proofs.lemmas.Int.{ints, unsigned_abs-mul}
 use Rattle.std.proofs.lemmas.Nat.Gcd.{le_of_dvd}
 use Rattle.std.proofs.lemmas.List.{take_at, take-map, length-map, get_or-map, map-append, get_or_append_left, get_or_at, get_or-take}
 use Rattle.std.proofs.lemmas.Simd.{map-map}
-use Rattle.std.proofs.lemmas.List.Elements.{All-map, All-get_or, All-from_get_or}
-use Rattle.std.proofs.lemmas.List.FromFn.{fill_by_all}
+use Rattle.std.proofs.lemmas.List.Elements.{All-map}
 use Rattle.sdc_base.specs.Forms.{Term, coefficient}
 use Rattle.tableau.specs.Tables.{Table, HasShape, IsQuotient, times_row}
-use Rattle.sdc_base.specs.Systems.{number_at}
 use Rattle.tableau.specs.Steps.{IsInLowestTerms}
 use Rattle.tableau.specs.Widths.{all_rows}
 use Rattle.tableau.specs.ProblemForm.{AscendFrom}
-use Rattle.tableau.specs.Entries.{IsSparse, AreEntriesOf, AreListsOf, row_of_entries, times_entry}
-use Rattle.tableau.specs.CommonDivisors.{AreInLowestTerms, DividesEach, DividesAll}
+use Rattle.tableau.specs.Entries.{IsSparse, AreEntriesOf, AreListsOf, times_entry}
+use Rattle.tableau.specs.CommonDivisors.{AreInLowestTerms}
+use Rattle.tableau.specs.OwnRows.{row_over}
 use Rattle.tableau.proofs.Divisors.{abs_up}
 use Rattle.tableau.proofs.Ascending.{first_entry, not_first}
-use Rattle.tableau.proofs.Places.{ascend_of, place_within, number_spread, length-numbers_then_value}
+use Rattle.tableau.proofs.Places.{ascend_of}
 use Rattle.tableau.proofs.Independent.{by_less}
 
 pub times_divides : (e m : ℤ) → unsigned_abs e ∣ unsigned_abs (m *ℤ e)
@@ -61,26 +60,10 @@ coefficient_times by from v (entry ∷ part) ascend =
     ap (λ t. t *ℤ by) (first_entry entry part v (omega arith, ascend.1) (omega arith))
     ∙ sym (first_entry (times_entry by entry) (map (times_entry by) part) v (omega arith, ascend_times by (suc entry.0) part ascend.1) (omega arith))))
 
-sparse_part : (by : ℤ) (from limit : ℕ) (part : List Term) → IsSparse from limit (map (times_entry by) part) → IsSparse from limit part
+pub sparse_part : (by : ℤ) (from limit : ℕ) (part : List Term) → IsSparse from limit (map (times_entry by) part) → IsSparse from limit part
 sparse_part by from limit [] sparse = tt
 sparse_part by from limit (entry ∷ part) sparse =
     (sparse.0, sparse.1, (λ none. sparse.2 (ap (λ t. t *ℤ by) none ∙ omega (arith, ints))), sparse_part by (suc entry.0) limit part sparse.3)
-
-pub once_entries : (entries : List Term) → map (times_entry (pos 1)) entries ≡ entries
-once_entries [] = refl
-once_entries (entry ∷ entries) = ap (λ n. (entry.0, n) ∷ map (times_entry (pos 1)) entries) (let one : entry.1 *ℤ pos 1 ≡ entry.1 = omega (arith, ints) in one) ∙ ap (λ (t : List Term). entry ∷ t) (once_entries entries)
-
--- divided by 1 they stay as they are
-pub once_rows : (by : ℤ) (lists : List (List Term)) → by ≡ pos 1 → map (map (times_entry by)) lists ≡ lists
-once_rows by [] is = refl
-once_rows by (entries ∷ lists) is =
-    ap (λ (t : List (List Term)). map (times_entry by) entries ∷ t) (once_rows by lists is) ∙ ap (λ (t : List Term). t ∷ lists) (ap (λ b. map (times_entry b) entries) is ∙ once_entries entries)
-
-divided_stands : (by : ℤ) (width : ℕ) (part : List Term) → IsSparse 0 width part → times_row by (row_of_entries width part) ≡ row_of_entries width (map (times_entry by) part)
-divided_stands by width part sparse =
-    fill_by_all (coefficient (map (times_entry by) part)) (times_row by (row_of_entries width part)) width (pos 0) (length-map (row_of_entries width part) (λ (n : ℤ). n *ℤ by) ∙ length-numbers_then_value width part)
-    (λ k below.
-    get_or-map (λ (n : ℤ). n *ℤ by) (row_of_entries width part) k (pos 0) (pos 0) (omega (arith, length-numbers_then_value width part)) ∙ ap (λ t. t *ℤ by) (number_spread width k part below) ∙ coefficient_times by 0 k part (ascend_of 0 width part sparse))
 
 -- ---- what divides a row divides its entries
 
@@ -96,59 +79,22 @@ entry_is from limit (suc k) d (entry ∷ entries) sparse within =
     let later : suc entry.0 ≤ (slice_index_or entries k d).0 = place_from (suc entry.0) limit k d entries sparse.3 (omega arith) in
     not_first entry entries (slice_index_or entries k d).0 (omega arith) ∙ entry_is (suc entry.0) limit k d entries sparse.3 (omega arith)
 
-divides_entries : (e width : ℕ) (row : List ℤ) (entries : List Term) → AreEntriesOf width row entries → All (λ number. e ∣ unsigned_abs number) row → DividesEach e entries
-divides_entries e width row entries is all = λ k d below.
-    let entry : Term = slice_index_or entries k d in
-    let within : entry.0 < width = place_within 0 width k d entries is.sparse below in
-    let long : length row ≡ width = ap length (sym is.stands) ∙ length-numbers_then_value width entries in
-    let number : number_at row entry.0 ≡ entry.1 = ap (λ (r : List ℤ). number_at r entry.0) (sym is.stands) ∙ number_spread width entry.0 entries within ∙ entry_is 0 width k d entries is.sparse below in
-    subst (λ n. e ∣ unsigned_abs n) number (All-get_or (λ number. e ∣ unsigned_abs number) row entry.0 (pos 0) (omega arith) all)
-
-divides_lists : (e width : ℕ) (rows : List (List ℤ)) (lists : List (List Term)) → AreListsOf width rows lists → All (λ row. All (λ number. e ∣ unsigned_abs number) row) rows → DividesAll e lists
-divides_lists e width rows lists are all =
-    All-from_get_or (λ (entries : List Term). DividesEach e entries) lists []
-    (λ k below. divides_entries e width (slice_index_or rows k []) (slice_index_or lists k []) (are.each k (omega (arith, are.long))) (All-get_or (λ row. All (λ number. e ∣ unsigned_abs number) row) rows k [] (omega (arith, are.long)) all))
-
--- divided entries of a table's rows, by the divisor, are reduced
-pub are_reduced : (width : ℕ) (whole : Table) (den by part : ℤ) (lists parts : List (List Term)) → AreListsOf width (all_rows whole) lists → den ≡ whole.den → pos 1 ≤ℤ by → part *ℤ by ≡ den → map (map (times_entry by)) parts ≡ lists →
-    ((e : ℕ) → e ∣ unsigned_abs den → DividesAll e lists → e ∣ unsigned_abs by) → AreInLowestTerms width whole part by parts
-are_reduced width whole den by part lists parts are den_is up part_is parts_are greatest =
-    let long : length parts ≡ length (all_rows whole) = sym (length-map parts (map (times_entry by))) ∙ ap length parts_are ∙ are.long in
-    let here : (k : ℕ) → k < length parts → map (times_entry by) (slice_index_or parts k []) ≡ slice_index_or lists k [] =
-    λ k below. sym (get_or-map (map (times_entry by)) parts k [] [] below) ∙ ap (λ (t : List (List Term)). slice_index_or t k []) parts_are in
-    let sparse_here : (k : ℕ) → k < length parts → IsSparse 0 width (slice_index_or parts k []) =
-    λ k below. sparse_part by 0 width (slice_index_or parts k []) (subst (λ (t : List Term). IsSparse 0 width t) (sym (here k below)) (are.each k (omega arith)).sparse) in
-    record {
-      above = up;
-      den_times = part_is ∙ den_is;
-      sparse = All-from_get_or (λ (entries : List Term). IsSparse 0 width entries) parts [] sparse_here;
-      rows_times =
-          ext_get_or [] (map (λ entries. times_row by (row_of_entries width entries)) parts) (all_rows whole) (length-map parts (λ (entries : List Term). times_row by (row_of_entries width entries)) ∙ long)
-          (λ k below.
-          let inside : k < length parts = omega (arith, length-map parts (λ (entries : List Term). times_row by (row_of_entries width entries))) in
-          get_or-map (λ (entries : List Term). times_row by (row_of_entries width entries)) parts k [] [] inside
-          ∙ divided_stands by width (slice_index_or parts k []) (sparse_here k inside)
-          ∙ ap (row_of_entries width) (here k inside)
-          ∙ (are.each k (omega arith)).stands);
-      greatest = λ e den_divides each. greatest e (subst (λ t. e ∣ unsigned_abs t) (sym den_is) den_divides) (divides_lists e width (all_rows whole) lists are each);
-    }
-
 -- a table of reduced den and rows is reduced
 pub reduced_table : (whole : Table) (den by : ℤ) (width : ℕ) (members others : List ℕ) (lists : List (List Term)) → HasShape whole → AreInLowestTerms width whole den by lists → whole.members ≡ members → whole.others ≡ others → length others + 1 ≡ width →
     IsInLowestTerms by whole (record {
       den = den;
       members = members;
       others = others;
-      rows = map (row_of_entries (length others + 1)) (take (length members) lists);
-      objective = row_of_entries (length others + 1) (slice_index_or lists (length members) []);
+      rows = map (row_over den (length others + 1)) (take (length members) lists);
+      objective = row_over den (length others + 1) (slice_index_or lists (length members) []);
     })
 reduced_table whole den by width members others lists shaped reduced members_are others_are width_is =
-    let spread_times : List Term → List ℤ = λ entries. times_row by (row_of_entries width entries) in
+    let spread_times : List Term → List ℤ = λ entries. times_row by (row_over den width entries) in
     let height : length whole.rows ≡ length members = shaped.rows ∙ ap length members_are in
     let long : length lists ≡ length whole.rows + 1 = sym (length-map lists spread_times) ∙ ap length reduced.rows_times ∙ length-append whole.rows (whole.objective ∷ []) in
-    let rows_are : map (times_row by) (map (row_of_entries width) (take (length members) lists)) ≡ whole.rows =
-    map-map (times_row by) (row_of_entries width) (take (length members) lists) ∙ sym (take-map spread_times (length members) lists) ∙ ap (take (length members)) reduced.rows_times ∙ take_at whole.rows (whole.objective ∷ []) (length members) height in
-    let objective_is : times_row by (row_of_entries width (slice_index_or lists (length members) [])) ≡ whole.objective =
+    let rows_are : map (times_row by) (map (row_over den width) (take (length members) lists)) ≡ whole.rows =
+    map-map (times_row by) (row_over den width) (take (length members) lists) ∙ sym (take-map spread_times (length members) lists) ∙ ap (take (length members)) reduced.rows_times ∙ take_at whole.rows (whole.objective ∷ []) (length members) height in
+    let objective_is : times_row by (row_over den width (slice_index_or lists (length members) [])) ≡ whole.objective =
     sym (get_or-map spread_times lists (length members) [] [] (omega arith)) ∙ ap (λ (t : List (List ℤ)). slice_index_or t (length members) []) reduced.rows_times ∙ get_or_at whole.rows whole.objective [] [] (length members) (omega arith) in
     record {
       divided = record {
@@ -156,8 +102,8 @@ reduced_table whole den by width members others lists shaped reduced members_are
         den = reduced.den_times;
         members = sym members_are;
         others = sym others_are;
-        rows = ap (λ n. map (times_row by) (map (row_of_entries n) (take (length members) lists))) width_is ∙ rows_are;
-        objective = ap (λ n. times_row by (row_of_entries n (slice_index_or lists (length members) []))) width_is ∙ objective_is;
+        rows = ap (λ n. map (times_row by) (map (row_over den n) (take (length members) lists))) width_is ∙ rows_are;
+        objective = ap (λ n. times_row by (row_over den n (slice_index_or lists (length members) []))) width_is ∙ objective_is;
       };
       greatest = λ e other divided.
           let den_divides : unsigned_abs e ∣ unsigned_abs whole.den = subst (λ t. unsigned_abs e ∣ unsigned_abs t) divided.den (times_divides e other.den) in
@@ -167,7 +113,7 @@ reduced_table whole den by width members others lists shaped reduced members_are
 
 pub length-reduced : (width : ℕ) (whole : Table) (den by : ℤ) (lists : List (List Term)) → HasShape whole → AreInLowestTerms width whole den by lists → length lists ≡ length whole.members + 1
 length-reduced width whole den by lists shaped reduced =
-    sym (length-map lists (λ (entries : List Term). times_row by (row_of_entries width entries))) ∙ ap length reduced.rows_times ∙ length-append whole.rows (whole.objective ∷ []) ∙ ap (λ n. n + 1) shaped.rows
+    sym (length-map lists (λ (entries : List Term). times_row by (row_over den width entries))) ∙ ap length reduced.rows_times ∙ length-append whole.rows (whole.objective ∷ []) ∙ ap (λ n. n + 1) shaped.rows
 
 -- one row more
 pub rows_more : (width : ℕ) (rows : List (List ℤ)) (k : ℕ) (lists now : List (List Term)) (made : List Term) → k < length rows → AreListsOf width (take k rows) lists → AreEntriesOf width (slice_index_or rows k []) made → now ≡ lists ++ made ∷ [] → AreListsOf width (take (k + 1) rows) now

@@ -12,7 +12,9 @@ pub mod Solutions
 pub mod Tableaus
 pub mod WorkedRows
 pub mod Entries
+pub mod OwnRows
 pub mod SparseTables
 pub mod Choices
 pub mod CommonDivisors
 pub mod NewRows
+pub mod FaultPlaces

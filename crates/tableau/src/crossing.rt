@@ -1,17 +1,20 @@
-ghost use Rattle.std.specs.Prelude.{◌≡◌, ◌≢◌, ℕ, ◌+◌, ◌*◌, ◌<◌, ◌≤◌, ◌^◌, [], ◌∷◌, ◌++◌, length, slice_index_or, pos, neg_ℤ, ◌*ℤ◌, ◌-ℤ◌, ◌<ℤ◌, ◌≤ℤ◌, true, IfOk, OnOk, IfSome, IfNone, Err};
+ghost use Rattle.std.specs.Prelude.{◌≡◌, ◌≢◌, ℕ, ◌+◌, ◌<◌, ◌≤◌, [], ◌∷◌, length, slice_index_or, pos, ◌*ℤ◌, ◌-ℤ◌, ◌<ℤ◌, ◌≤ℤ◌, true, IfOk, IfSome, IfNone, Err};
 ghost use Rattle.std.specs.List.{list_any};
 ghost use Rattle.sdc_base.specs.Forms.{coefficient};
-ghost use Rattle.tableau.specs.Entries.{IsSparse, AreEntriesOf, AreEntriesBelow, AreEntriesFrom, crossed_value, crossed_products, crossed_at};
-ghost use Rattle.tableau.specs.Tables.{exchanged_table};
-ghost use Rattle.sdc_base.specs.Systems.{number_at};
-ghost use Rattle.tableau.specs.Widths.{is_wide, all_rows, IsWideAt};
-ghost use Rattle.tableau.specs.SparseTables.{table_of};
-ghost use Rattle.tableau.specs.NewRows.{IsNewRow};
+ghost use Rattle.tableau.specs.ProblemForm.{AscendFrom};
+ghost use Rattle.tableau.specs.Entries.{IsSparse, AreEntriesBelow, crossed_value, crossed_products, crossed_at};
+ghost use Rattle.tableau.specs.OwnRows.{own_den};
+ghost use Rattle.tableau.specs.Widths.{is_wide, IsWidePlace};
+ghost use Rattle.tableau.specs.SparseTables.{table_of, width_of, IsSound};
+ghost use Rattle.tableau.specs.NewRows.{placed_list, IsPivot, IsNewRow};
 
+use crate::common_divisor::gcd;
+use crate::dividing::quotient;
 use crate::entries::{entry_at, least_place, number_here, past_place, place_at, put};
-use crate::faults::RowFault;
+use crate::faults::{ExchangeFault, RowFault, at_place};
+use crate::lowest_row::lowest_row;
 use crate::products::{narrow_difference, narrow_product};
-use crate::sparse_rows::row_of;
+use crate::sparse_rows::{bare_row, den_of, row_of};
 use crate::sparse_table::SparseTable;
 use sdc_base::Items;
 use std::alloc::Global;
@@ -69,8 +72,8 @@ fn crossed_row(
     column: u32,
     width: u32,
 ) -> Result<Items<(u32, i128)>, RowFault>
-    requires pivot { IsSparse 0 width pivot.now }
-    requires own { IsSparse 0 width own.now }
+    requires pivot { AscendFrom 0 pivot.now }
+    requires own { AscendFrom 0 own.now }
     requires column { coefficient pivot.now column ≡ pos 0 → f ≡ pos 0 }
     ensures ok { IfOk result (λ made. AreEntriesBelow width (crossed_at den p f column pivot.now own.now) made) }
     ensures wide { (j : ℕ) → result ≡ Err (RowFault.Wide j)
@@ -104,40 +107,108 @@ fn crossed_row(
     Ok(Items::new(made))
 }
 
-// A row of the exchanged table, the objective's being the last, before the division; none where the row has no number
-// in the column, so that it is taken p times as it stands.
-pub(crate) fn made_row(
+// The pivot's row after the exchange: its den and its number in the column change places.
+fn pivot_row(
     alloc: Global,
     table: &SparseTable,
+    bare: &[(u32, i128)],
+    den: i128,
+    p: i128,
+    row: usize,
+    column: usize,
+) -> Result<Items<(u32, i128)>, ExchangeFault>
+    requires sound { IsSound table.now }
+    requires row { row < length table.now.members.items }
+    requires column { column < length table.now.others.items }
+    requires pivot { IsPivot table.now row column bare.now den p }
+    ensures ok { IfOk result (λ made. IsNewRow table.now row column row made) }
+    ensures wide { (i j : ℕ) → result ≡ Err (ExchangeFault.Wide i j) → IsWidePlace (table_of table.now) row column i j }
+{
+    let width = table.others.len() as u32 + 1;
+    match crossed_row(
+        alloc,
+        den,
+        1,
+        -1,
+        bare,
+        &[(width, p)],
+        column as u32,
+        width + 1,
+    ) {
+        Ok(made) => Ok(made),
+        Err(fault) => Err(at_place(row, row, column, table.others.len(), fault)),
+    }
+}
+
+// Another row after the exchange, in lowest terms, where its number in the column isn't 0.
+fn other_row(
+    alloc: Global,
+    table: &SparseTable,
+    bare: &[(u32, i128)],
+    den: i128,
+    p: i128,
+    f: i128,
     row: usize,
     column: usize,
     k: usize,
-) -> Result<Option<Items<(u32, i128)>>, RowFault>
-    requires den { pos 1 ≤ℤ table.now.den }
+) -> Result<Items<(u32, i128)>, ExchangeFault>
+    requires sound { IsSound table.now }
     requires row { row < length table.now.members.items }
     requires column { column < length table.now.others.items }
-    requires above { pos 1 ≤ℤ number_at (slice_index_or (table_of table.now).rows row []) column }
+    requires pivot { IsPivot table.now row column bare.now den p }
     requires within { k ≤ length table.now.members.items }
-    ensures ok { IfOk result (λ new. IsNewRow table.now row column k new) }
-    ensures wide { (j : ℕ) → result ≡ Err (RowFault.Wide j)
-        → (j ≤ length table.now.others.items) × IsWideAt (table_of table.now) row column k j }
+    requires other { k ≢ row }
+    requires number { f ≡ coefficient (slice_index_or table.now.rows.items k []) column }
+    ensures ok { IfOk result (λ made. IsNewRow table.now row column k made) }
+    ensures wide { (i j : ℕ) → result ≡ Err (ExchangeFault.Wide i j) → IsWidePlace (table_of table.now) row column i j }
 {
-    let pivot = row_of(table, row);
     let width = table.others.len() as u32 + 1;
-    let place = column as u32;
-    let p = entry_at(pivot, place);
+    let own = row_of(table, k);
+    let common = gcd(f.unsigned_abs(), p.unsigned_abs()) as i128;
+    let times = quotient(p, common);
+    let less = quotient(f, common);
+    let whole = match crossed_row(alloc, den, times, less, bare, own, column as u32, width + 1) {
+        Ok(whole) => whole,
+        Err(fault) => return Err(at_place(k, row, column, table.others.len(), fault)),
+    };
+    match lowest_row(alloc, whole, width) {
+        Ok(made) => Ok(made),
+        Err(_) => Err(ExchangeFault::Memory),
+    }
+}
+
+// A row of the exchanged table, the objective's being the last; none where the row has no number in the column, so that
+// it stays as it is.
+pub(crate) fn made_row(
+    alloc: Global,
+    table: &SparseTable,
+    bare: &[(u32, i128)],
+    den: i128,
+    p: i128,
+    row: usize,
+    column: usize,
+    k: usize,
+) -> Result<Option<Items<(u32, i128)>>, ExchangeFault>
+    requires sound { IsSound table.now }
+    requires row { row < length table.now.members.items }
+    requires column { column < length table.now.others.items }
+    requires pivot { IsPivot table.now row column bare.now den p }
+    requires within { k ≤ length table.now.members.items }
+    ensures ok { IfOk result (λ new. IsNewRow table.now row column k
+        (placed_list (slice_index_or table.now.rows.items k []) new)) }
+    ensures wide { (i j : ℕ) → result ≡ Err (ExchangeFault.Wide i j) → IsWidePlace (table_of table.now) row column i j }
+{
     if k == row {
-        match crossed_row(alloc, table.den, p, -table.den, pivot, &[], place, width) {
+        match pivot_row(alloc, table, bare, den, p, row, column) {
             Ok(made) => return Ok(Some(made)),
             Err(fault) => return Err(fault),
         }
     }
-    let own = row_of(table, k);
-    let f = entry_at(own, place);
+    let f = entry_at(row_of(table, k), column as u32);
     if f == 0 {
         return Ok(None);
     }
-    match crossed_row(alloc, table.den, p, f, pivot, own, place, width) {
+    match other_row(alloc, table, bare, den, p, f, row, column, k) {
         Ok(made) => Ok(Some(made)),
         Err(fault) => Err(fault),
     }

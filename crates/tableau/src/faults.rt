@@ -1,4 +1,5 @@
-ghost use Rattle.std.specs.Prelude.{◌≡◌, ℕ};
+ghost use Rattle.std.specs.Prelude.{◌≡◌, ℕ, ◌<◌, ◌≤◌};
+ghost use Rattle.tableau.specs.FaultPlaces.{IsFaultAt};
 
 // Why a row was not made: for want of memory, or because a number that is needed at a place of it is wide.
 #[derive(Clone, Copy, Debug, PartialEq, Eq)]
@@ -15,12 +16,24 @@ pub(crate) enum ExchangeFault {
     Wide(usize, usize),
 }
 
-// A fault of a row as one of the exchange.
-pub(crate) fn at_row(k: usize, fault: RowFault) -> ExchangeFault
-    ensures { (i j : ℕ) → result ≡ ExchangeFault.Wide i j → (i ≡ k) × (fault ≡ RowFault.Wide j) }
+// A fault of a row as one of the exchange; the place behind the value's, where the row's own den stands, counts as the
+// pivot's.
+pub(crate) fn at_place(
+    k: usize,
+    row: usize,
+    column: usize,
+    last: usize,
+    fault: RowFault,
+) -> ExchangeFault
+    ensures { (i j : ℕ) → result ≡ ExchangeFault.Wide i j → IsFaultAt k row column last fault i j }
 {
     match fault {
         RowFault::Memory => ExchangeFault::Memory,
-        RowFault::Wide(j) => ExchangeFault::Wide(k, j),
+        RowFault::Wide(j) => {
+            if j > last {
+                return ExchangeFault::Wide(row, column);
+            }
+            ExchangeFault::Wide(k, j)
+        }
     }
 }

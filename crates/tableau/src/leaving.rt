@@ -3,11 +3,11 @@ ghost use Rattle.sdc_base.specs.Systems.{number_at};
 ghost use Rattle.tableau.specs.RowLists.{Leaves};
 ghost use Rattle.tableau.specs.Walks.{IsTableOf};
 ghost use Rattle.tableau.specs.Choices.{IsLeaving, AreSlackPlaces};
-ghost use Rattle.tableau.specs.SparseTables.{table_of};
+ghost use Rattle.tableau.specs.SparseTables.{table_of, IsSound};
 
 use crate::lists::compare_lists;
 use crate::problem::Problem;
-use crate::sparse_rows::entry;
+use crate::sparse_rows::own_number;
 use crate::sparse_table::SparseTable;
 use std::cmp::Ordering;
 
@@ -18,6 +18,7 @@ pub(crate) fn leaving_row(
     places: &[u32],
     column: usize,
 ) -> Option<usize>
+    requires sound { IsSound table.now }
     requires kept { IsTableOf problem.now (table_of table.now) }
     requires places { AreSlackPlaces problem.now (table_of table.now) places.now }
     requires column { column < length table.now.others.items }
@@ -41,6 +42,7 @@ fn choose_leaving(
     best: Option<usize>,
     k: usize,
 ) -> Option<usize>
+    requires sound { IsSound table.now }
     requires kept { IsTableOf problem.now (table_of table.now) }
     requires places { AreSlackPlaces problem.now (table_of table.now) places.now }
     requires column { column < length table.now.others.items }
@@ -48,7 +50,7 @@ fn choose_leaving(
     requires best { IsLeaving problem.now (table_of table.now) column k best }
     ensures { IsLeaving problem.now (table_of table.now) column (k + 1) result }
 {
-    if entry(table, k, column) <= 0 {
+    if own_number(table, k, column) <= 0 {
         return best;
     }
     let Some(row) = best else {

@@ -1,14 +1,14 @@
-ghost use Rattle.std.specs.Prelude.{◌≡◌, ◌≢◌, ℕ, ◌+◌, ◌<◌, ◌≤◌, [], length, slice_index, slice_index_or, pos, ◌≤ℤ◌, IfSome, IfNone, IfOk};
+ghost use Rattle.std.specs.Prelude.{◌≡◌, ◌≢◌, ℕ, ◌+◌, ◌<◌, ◌≤◌, [], length, slice_index, slice_index_or, pos, ◌*ℤ◌, ◌≤ℤ◌, IfSome, IfNone, IfOk};
 ghost use Rattle.sdc_base.specs.Systems.{number_at};
 ghost use Rattle.tableau.specs.RowLists.{IsLexPositive, AreZeros, list_of, list_size, lead};
 ghost use Rattle.tableau.specs.Walks.{IsTableOf};
 ghost use Rattle.tableau.specs.ProblemForm.{IsWellFormed};
 ghost use Rattle.tableau.specs.Choices.{AreSlackPlaces};
-ghost use Rattle.tableau.specs.SparseTables.{table_of};
+ghost use Rattle.tableau.specs.SparseTables.{table_of, factor_at, IsSound};
 
 use crate::problem::Problem;
 use crate::products::compare_products;
-use crate::sparse_rows::entry;
+use crate::sparse_rows::{own_number, row_den};
 use crate::sparse_table::SparseTable;
 use sdc_base::Memory;
 use std::alloc::Global;
@@ -34,7 +34,8 @@ pub(crate) fn slack_places(
     Ok(places)
 }
 
-// The number of a row's list at a place: 0 has the value, and 1 more than a slack's number the number there.
+// The number of a row's list at a place, over the row's own den: 0 has the value, and 1 more than a slack's number the
+// number there.
 fn list_number(
     problem: &Problem,
     table: &SparseTable,
@@ -42,22 +43,23 @@ fn list_number(
     k: usize,
     place: usize,
 ) -> i128
+    requires sound { IsSound table.now }
     requires kept { IsTableOf problem.now (table_of table.now) }
     requires places { AreSlackPlaces problem.now (table_of table.now) places.now }
     requires row { k < length table.now.members.items }
     requires place { place < list_size problem.now }
-    ensures { result ≡ list_of problem.now (table_of table.now) k place }
+    ensures { result *ℤ factor_at table.now k ≡ list_of problem.now (table_of table.now) k place }
 {
     if place == 0 {
-        return entry(table, k, table.others.len());
+        return own_number(table, k, table.others.len());
     }
     let slack = place - 1;
     if table.members[k] as usize == problem.columns as usize + slack {
-        return table.den;
+        return row_den(table, k);
     }
     let j = places[slack] as usize;
     if j < table.others.len() {
-        return entry(table, k, j);
+        return own_number(table, k, j);
     }
     0
 }
@@ -71,6 +73,7 @@ pub(crate) fn compare_lists(
     one: usize,
     other: usize,
 ) -> Ordering
+    requires sound { IsSound table.now }
     requires kept { IsTableOf problem.now (table_of table.now) }
     requires places { AreSlackPlaces problem.now (table_of table.now) places.now }
     requires column { column < length table.now.others.items }
@@ -85,8 +88,8 @@ pub(crate) fn compare_lists(
     ensures greater { result ≡ Ordering.Greater
         → IsLexPositive (list_size problem.now) 0 (lead problem.now (table_of table.now) column other one) }
 {
-    let own = entry(table, one, column);
-    let other_own = entry(table, other, column);
+    let own = own_number(table, one, column);
+    let other_own = own_number(table, other, column);
     for place in 0..table.members.len() + 1 {
         let number = list_number(problem, table, places, one, place);
         let other_number = list_number(problem, table, places, other, place);

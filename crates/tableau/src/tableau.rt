@@ -34,13 +34,13 @@ pub struct Tableau {
 
 impl Model for Tableau {
     ghost use Rattle.tableau.specs.Tableaus.{TableauWalk, tableau_walk, IsTableau};
-    ghost use Rattle.tableau.specs.SparseTables.{table_of};
+    ghost use Rattle.tableau.specs.SparseTables.{table_of, IsSound};
 
     ghost Value = { TableauWalk };
 
     ghost view = { λ t. tableau_walk t.problem t.improved (table_of t.table) };
 
-    ghost invariant = { λ t. IsTableau (tableau_walk t.problem t.improved (table_of t.table))
+    ghost invariant = { λ t. IsSound t.table × IsTableau (tableau_walk t.problem t.improved (table_of t.table))
         t.values.items t.slacks.items };
 }
 
@@ -131,9 +131,10 @@ impl Tableau {
     /// tableau is as it was.
     ///
     /// It goes through the objective's row for what comes in, once through all rows, looking one number of each up by
-    /// halves, and compares the lists of those that could leave as far as they are alike. It makes each row anew that
-    /// has a number at what comes in, and all rows where the den changes. Until the step is made it takes memory for
-    /// the new rows beside the old ones, twice where they are divided.
+    /// halves, and compares the lists of those that could leave as far as they are alike. Each row has a den of its own,
+    /// so it makes only the rows anew that have a number at what comes in, in lowest terms, and leaves all others as they
+    /// are; then it goes once through the rows' dens and the members' values, and through the objective's row. Until the
+    /// step is made it takes memory for the new rows beside the old ones.
     pub fn improve(&mut self) -> Result<Step, Memory>
         requires { self.old.improved < 2 ^ 64 - 1 }
         ensures problem { self.new.problem ≡ self.old.problem }

@@ -3,15 +3,15 @@ use Rattle.std.specs.Int.{w128}
 use Rattle.std.proofs.lemmas.Int.{to_z-of_z}
 use Rattle.sdc_base.specs.Forms.{Term, coefficient}
 use Rattle.tableau.specs.Entries.{AreEntriesBelow, crossed_value, crossed_at}
-use Rattle.tableau.proofs.Places.{ascend_of, from_start, from_place, from_later, from_none, made_none, made_on, made_more, crossed_none}
+use Rattle.tableau.proofs.Places.{from_start, from_place, from_later, from_none, made_none, made_on, made_more, crossed_none}
 use Rattle.tableau.proofs.crossing.crossed_row.Goals as goal
 
 pub merge-init : goal.merge-init
 merge-init c =
     record {
       within = omega arith;
-      own = from_start c.args.own.now (ascend_of 0 c.args.width c.args.own.now c.requires.own);
-      pivot = from_start c.args.pivot.now (ascend_of 0 c.args.width c.args.pivot.now c.requires.pivot);
+      own = from_start c.args.own.now c.requires.own;
+      pivot = from_start c.args.pivot.now c.requires.pivot;
       made = subst (λ (t : List Term). AreEntriesBelow 0 (crossed_at (to_z w128 (of_z w128 c.args.den)) (to_z w128 (of_z w128 c.args.p)) (to_z w128 (of_z w128 c.args.f)) c.args.column c.args.pivot.now c.args.own.now) t) (sym c.in-Ok.ensures.items)
           (made_none (crossed_at (to_z w128 (of_z w128 c.args.den)) (to_z w128 (of_z w128 c.args.p)) (to_z w128 (of_z w128 c.args.f)) c.args.column c.args.pivot.now c.args.own.now));
     }

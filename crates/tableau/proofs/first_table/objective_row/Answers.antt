@@ -4,7 +4,8 @@ use Rattle.std.proofs.lemmas.Int.{ints}
 use Rattle.sdc_base.specs.Forms.{Term, coefficient}
 use Rattle.tableau.specs.Problems.{numbers_then_value}
 use Rattle.tableau.specs.Entries.{AreEntriesOf}
-use Rattle.tableau.proofs.FirstNumbers.{IsCopied, copied_none, copied_more, copied_whole}
+use Rattle.tableau.proofs.FirstNumbers.{IsCopied, copied_none, copied_more, copied_whole, den_put}
+use Rattle.tableau.specs.OwnRows.{with_den}
 use Rattle.tableau.proofs.first_table.objective_row.Goals as goal
 
 pub loop-entry-init : goal.loop-entry-init
@@ -22,5 +23,11 @@ loop-entry-preserved c =
 pub returns : goal.returns
 returns c =
     let l = c.loop-entry in
-    subst (λ (t : List Term). AreEntriesOf (c.args.columns + 1) (numbers_then_value c.args.columns (λ column. neg_ℤ (coefficient c.args.entries.now column)) (pos 0)) t) (sym c.new.ensures)
-    (copied_whole c.args.columns l.entry-index neg_ℤ c.args.entries.now l.made.items refl c.loop-entry-test.false l.invariant)
+    let columns = c.args.columns in
+    let row : List ℤ = numbers_then_value columns (λ column. neg_ℤ (coefficient c.args.entries.now column)) (pos 0) in
+    let size : columns + 1 + 1 ≡ columns + 2 = omega arith in
+    subst (λ (t : List Term). AreEntriesOf (columns + 2) (with_den row) t) (sym c.new.ensures)
+    (subst (λ n. AreEntriesOf n (with_den row) c.put-2.new.entries.items) size
+    (den_put (columns + 1) row l.made.items c.put-2.new.entries.items (pos 1)
+    (copied_whole columns l.entry-index neg_ℤ c.args.entries.now l.made.items refl c.loop-entry-test.false l.invariant)
+    c.in-Ok-put.ensures refl))

@@ -1,10 +1,11 @@
-use Rattle.std.proofs.Common.{◌+◌, List, ℤ, pos, slice_index_or, refl, sym, subst, rules, FitsSigned, to_z, of_z}
+use Rattle.std.proofs.Common.{◌≡◌, ◌+◌, List, ℤ, pos, slice_index_or, refl, sym, subst, arith, rules, FitsSigned, to_z, of_z}
 use Rattle.std.specs.Int.{w128}
 use Rattle.std.proofs.lemmas.Int.{to_z-of_z}
 use Rattle.sdc_base.specs.Forms.{Term, coefficient}
 use Rattle.tableau.specs.Problems.{numbers_then_value}
 use Rattle.tableau.specs.Entries.{AreEntriesOf}
-use Rattle.tableau.proofs.FirstNumbers.{IsCopied, copied_none, copied_more, copied_row}
+use Rattle.tableau.proofs.FirstNumbers.{IsCopied, copied_none, copied_more, copied_row, den_put}
+use Rattle.tableau.specs.OwnRows.{with_den}
 use Rattle.tableau.proofs.first_table.slack_row.Goals as goal
 
 pub loop-entry-init : goal.loop-entry-init
@@ -20,5 +21,11 @@ loop-entry-preserved c =
 pub returns : goal.returns
 returns c =
     let l = c.loop-entry in
-    subst (λ (t : List Term). AreEntriesOf (c.args.columns + 1) (numbers_then_value c.args.columns (coefficient c.args.entries.now) c.args.bound) t) (sym c.new.ensures)
-    (copied_row c.args.columns l.entry-index (λ n. n) c.args.entries.now l.made.items c.put-2.new.entries.items c.args.bound (to_z w128 (of_z w128 c.args.bound)) refl c.loop-entry-test.false l.invariant c.in-Ok-put.ensures (to_z-of_z w128 c.args.bound c.ranges.bound))
+    let columns = c.args.columns in
+    let row : List ℤ = numbers_then_value columns (coefficient c.args.entries.now) c.args.bound in
+    let size : columns + 1 + 1 ≡ columns + 2 = omega arith in
+    subst (λ (t : List Term). AreEntriesOf (columns + 2) (with_den row) t) (sym c.new.ensures)
+    (subst (λ n. AreEntriesOf n (with_den row) c.put-3.new.entries.items) size
+    (den_put (columns + 1) row c.put-2.new.entries.items c.put-3.new.entries.items (pos 1)
+    (copied_row columns l.entry-index (λ n. n) c.args.entries.now l.made.items c.put-2.new.entries.items c.args.bound (to_z w128 (of_z w128 c.args.bound)) refl c.loop-entry-test.false l.invariant c.in-Ok-put.ensures (to_z-of_z w128 c.args.bound c.ranges.bound))
+    c.in-Ok-put-2.ensures refl))

@@ -1,15 +1,16 @@
-use Rattle.std.proofs.Common.{◌+◌, List, length, ap, ◌∙◌, arith, rules, FitsSigned}
+use Rattle.std.proofs.Common.{◌<◌, ℤ, List, pos, length, slice_index_or, ap, ◌∙◌, arith, rules, FitsSigned}
 use Rattle.std.specs.Int.{w128}
 use Rattle.std.proofs.lemmas.Int.{to_z-of_z}
-use Rattle.sdc_base.specs.Forms.{Term, coefficient}
-use Rattle.tableau.proofs.Places.{ascend_of}
-use Rattle.tableau.proofs.SparseTables.{objective_number}
+use Rattle.std.proofs.lemmas.List.{get_or_read}
+use Rattle.tableau.proofs.SparseTables.{length-objective_kept}
 use Rattle.tableau.proofs.sparse_rows.objective_number.Goals as goal
 
-pub entry_at-requires : goal.entry_at-requires
-entry_at-requires c = ascend_of 0 (length c.args.table.now.others.items + 1) c.row_of.result.now c.row_of.ensures.sparse
+pub index-requires : goal.index-requires
+index-requires c = omega (arith, length-objective_kept c.args.table.now c.requires.sound, c.requires.place)
 
 pub returns : goal.returns
 returns c =
-    let fits : FitsSigned w128 c.entry_at.result = search rules in
-    to_z-of_z w128 c.entry_at.result fits ∙ c.entry_at.ensures ∙ ap (λ (e : List Term). coefficient e c.args.j) c.row_of.ensures.row_at ∙ objective_number c.args.table.now c.len.result c.args.j (omega (arith, c.len.ensures)) c.requires
+    let s = c.args.table.now in
+    let fits : FitsSigned w128 c.index.result.now = search rules in
+    let within : c.args.j < length s.objective.items = omega (arith, length-objective_kept s c.requires.sound, c.requires.place) in
+    to_z-of_z w128 c.index.result.now fits ∙ get_or_read s.objective.items c.args.j c.index.result.now within c.index.ensures (pos 0) ∙ ap (λ (t : List ℤ). slice_index_or t c.args.j (pos 0)) c.requires.sound.objective

@@ -6,7 +6,7 @@ use Rattle.tableau.specs.Tables.{Table}
 use Rattle.tableau.specs.Steps.{IsStepOf, IsReached, IsBlocked}
 use Rattle.tableau.specs.Widths.{IsWideStep}
 use Rattle.tableau.specs.Tableaus.{TableauWalk, IsTableau, tableau_walk}
-use Rattle.tableau.specs.SparseTables.{table_of}
+use Rattle.tableau.specs.SparseTables.{table_of, IsSound}
 use Rattle.tableau.proofs.WellFormedProblems.{well_formed_keeps, length-values, length-slacks, walk_more}
 use Rattle.tableau.proofs.ReducedRows.{taken_back}
 use Rattle.tableau.proofs.tableau.Tableau.improve.Goals as goal
@@ -14,23 +14,23 @@ use Rattle.tableau.proofs.tableau.Tableau.improve.Goals as goal
 pub make_step-requires-clause-kept : goal.make_step-requires-clause-kept
 make_step-requires-clause-kept c =
     let i = c.self.inside in
-    well_formed_keeps i.problem i.improved (table_of i.table) c.self.invariant.is_walk.well_formed c.self.invariant.is_walk.steps
+    well_formed_keeps i.problem i.improved (table_of i.table) c.self.invariant.1.is_walk.well_formed c.self.invariant.1.is_walk.steps
 
 pub invariant_of-self-in_default : goal.invariant_of-self-in_default
 invariant_of-self-in_default c =
     let i = c.self.inside in
     let same : c.make_step.new.table ≡ i.table = c.in_ok-step.ensures.same (λ clash. let is : c.in_ok-step.step ≡ step.Improved = cc in c.in_default.not-Improved is) in
-    subst (λ (d : SparseTable). IsTableau (tableau_walk i.problem i.improved (table_of d)) i.values.items i.slacks.items) (sym same) c.self.invariant
+    subst (λ (d : SparseTable). IsSound d × IsTableau (tableau_walk i.problem i.improved (table_of d)) i.values.items i.slacks.items) (sym same) c.self.invariant
 
 pub read_values-requires-clause-long : goal.read_values-requires-clause-long
 read_values-requires-clause-long c =
     let i = c.self.inside in
-    ap length (c.as_mut_slice.ensures.value ∙ c.self.invariant.values_are) ∙ length-values i.problem (table_of i.table)
+    ap length (c.as_mut_slice.ensures.value ∙ c.self.invariant.1.values_are) ∙ length-values i.problem (table_of i.table)
 
 pub read_slacks-requires-clause-long : goal.read_slacks-requires-clause-long
 read_slacks-requires-clause-long c =
     let i = c.self.inside in
-    ap length (c.as_mut_slice-2.ensures.value ∙ c.self.invariant.slacks_are) ∙ length-slacks i.problem (table_of i.table)
+    ap length (c.as_mut_slice-2.ensures.value ∙ c.self.invariant.1.slacks_are) ∙ length-slacks i.problem (table_of i.table)
 
 pub invariant_of-self-2 : goal.invariant_of-self-2
 invariant_of-self-2 c =
@@ -38,13 +38,15 @@ invariant_of-self-2 c =
     let before : Table = table_of i.table in
     let after : Table = table_of c.make_step.new.table in
     let made : IsStepOf i.problem before after = c.in_ok-step.ensures.improved (ap Ok c.in-Improved.is) in
-    let values_long : length c.read_values.new.values ≡ i.values.len = ap length c.read_values.ensures ∙ length-values i.problem after ∙ sym (ap length c.self.invariant.values_are ∙ length-values i.problem before) ∙ omega arith in
-    let slacks_long : length c.read_slacks.new.slacks ≡ i.slacks.len = ap length c.read_slacks.ensures ∙ length-slacks i.problem after ∙ sym (ap length c.self.invariant.slacks_are ∙ length-slacks i.problem before) ∙ omega arith in
-    record {
-      is_walk = record { well_formed = c.self.invariant.is_walk.well_formed; steps = walk_more i.problem i.improved before after c.self.invariant.is_walk.steps made };
-      values_are = taken_back i.values.len c.read_values.new.values i.values.items values_long ∙ c.read_values.ensures;
-      slacks_are = taken_back i.slacks.len c.read_slacks.new.slacks i.slacks.items slacks_long ∙ c.read_slacks.ensures;
-    }
+    let values_long : length c.read_values.new.values ≡ i.values.len = ap length c.read_values.ensures ∙ length-values i.problem after ∙ sym (ap length c.self.invariant.1.values_are ∙ length-values i.problem before) ∙ omega arith in
+    let slacks_long : length c.read_slacks.new.slacks ≡ i.slacks.len = ap length c.read_slacks.ensures ∙ length-slacks i.problem after ∙ sym (ap length c.self.invariant.1.slacks_are ∙ length-slacks i.problem before) ∙ omega arith in (
+      c.in_ok-step.ensures.sound,
+      record {
+        is_walk = record { well_formed = c.self.invariant.1.is_walk.well_formed; steps = walk_more i.problem i.improved before after c.self.invariant.1.is_walk.steps made };
+        values_are = taken_back i.values.len c.read_values.new.values i.values.items values_long ∙ c.read_values.ensures;
+        slacks_are = taken_back i.slacks.len c.read_slacks.new.slacks i.slacks.items slacks_long ∙ c.read_slacks.ensures;
+      },
+    )
 
 pub returns-clause-improved : goal.returns-clause-improved
 returns-clause-improved c _ =

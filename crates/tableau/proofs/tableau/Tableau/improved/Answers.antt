@@ -8,5 +8,5 @@ use Rattle.tableau.proofs.tableau.Tableau.improved.Goals as goal
 pub returns-clause-short : goal.returns-clause-short
 returns-clause-short c =
     let i = c.self.inside in
-    let is_walk = c.self.invariant.is_walk in
+    let is_walk = c.self.invariant.1.is_walk in
     subst (λ (w : TableauWalk). i.improved < 2 ^ numbers_of w.problem) c.self.view_is (well_formed_short i.problem i.improved (table_of i.table) is_walk.well_formed is_walk.steps)

@@ -15,7 +15,7 @@ pub returns-clause-duals : goal.returns-clause-duals
 returns-clause-duals c =
     let i = c.self.inside in
     let t : Table = table_of i.table in
-    let is_walk = c.self.invariant.is_walk in
+    let is_walk = c.self.invariant.1.is_walk in
     let kept : IsTableOf i.problem t = well_formed_keeps i.problem i.improved t is_walk.well_formed is_walk.steps in
     subst (λ (w : TableauWalk). AreDuals w.problem w.table) c.self.view_is
     (duals i.problem t (well_formed_problem i.problem is_walk.well_formed) kept.shaped (All-from_get_or (λ v. v < numbers_of i.problem) t.others 0 kept.basis.others_below) kept.true_of)
@@ -24,7 +24,7 @@ pub returns-clause-above : goal.returns-clause-above
 returns-clause-above c blocked v =
     let i = c.self.inside in
     let t : Table = table_of i.table in
-    let is_walk = c.self.invariant.is_walk in
+    let is_walk = c.self.invariant.1.is_walk in
     let kept : IsTableOf i.problem t = well_formed_keeps i.problem i.improved t is_walk.well_formed is_walk.steps in
     let here : IsBlocked i.problem t = subst (λ (w : TableauWalk). IsBlocked w.problem w.table) (sym c.self.view_is) blocked in
     subst (λ (w : TableauWalk). pos 0 ≤ℤ number_for w.table v) c.self.view_is (none_below t kept.shaped here.none_below v)
@@ -33,7 +33,7 @@ pub returns-clause-free : goal.returns-clause-free
 returns-clause-free c blocked =
     let i = c.self.inside in
     let t : Table = table_of i.table in
-    let is_walk = c.self.invariant.is_walk in
+    let is_walk = c.self.invariant.1.is_walk in
     let kept : IsTableOf i.problem t = well_formed_keeps i.problem i.improved t is_walk.well_formed is_walk.steps in
     let here : IsBlocked i.problem t = subst (λ (w : TableauWalk). IsBlocked w.problem w.table) (sym c.self.view_is) blocked in
     subst (λ (w : TableauWalk). number_for w.table (w.problem.columns + length w.problem.rows) ≡ pos 0) c.self.view_is (target_is_free i.problem t (well_formed_problem i.problem is_walk.well_formed) kept here.below)

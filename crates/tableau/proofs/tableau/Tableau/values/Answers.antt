@@ -9,6 +9,6 @@ use Rattle.tableau.proofs.tableau.Tableau.values.Goals as goal
 pub returns-clause-feasible : goal.returns-clause-feasible
 returns-clause-feasible c =
     let i = c.self.inside in
-    let is_walk = c.self.invariant.is_walk in
+    let is_walk = c.self.invariant.1.is_walk in
     subst (λ (w : TableauWalk). AreFeasible w.problem w.table) c.self.view_is
     (values_are_allowed i.problem (table_of i.table) (well_formed_problem i.problem is_walk.well_formed) (well_formed_keeps i.problem i.improved (table_of i.table) is_walk.well_formed is_walk.steps))
