@@ -12,8 +12,8 @@ use Rattle.job_lang.specs.declared.rule_clauses.RuleClause.{RuleClause}
 use Rattle.job_lang.specs.declared.rule_clauses.RuleClause.TheVariants.{Named, Man, Weights}
 use Rattle.job_lang.specs.LineTokens.{behind_mark, run_of, behind_run, number_at, closing_token, end_of_tokens}
 use Rattle.job_lang.specs.Pieces.{pieces}
-use Rattle.job_lang.specs.RuleTexts.{named_in, is_frequency, is_man, is_weights, are_rules, man_of, rules_in}
-use Rattle.job_lang.specs.RuleClauses.{one_number, frequency_clause, dominance_clause, percent_behind, percent_clause, man_clause, weights_clause, clause_in, clauses_in}
+use Rattle.job_lang.specs.RuleTexts.{named_in, is_frequency, is_zero, is_man, is_weights, are_rules, man_of, rules_in}
+use Rattle.job_lang.specs.RuleClauses.{one_number, frequency_clause, dominance_clause, percent_behind, percent_clause, prior_posterior_clause, zero_clause, man_clause, weights_clause, clause_in, clauses_in}
 use Rattle.job_lang.specs.Arguments.{work_argument, most_work}
 use Rattle.job_lang.specs.MethodTexts.{passes_method, modular_method, rounding_method, method_argument}
 use Rattle.job_lang.specs.JobLimits.{IsInRange, AreInRange, IsMethod, IsWork}
@@ -71,6 +71,22 @@ percent_known text =
     then_known IsClause (number_at 1 1000 open_) _ (λ p h1.
     then_known IsClause (percent_behind p.1) _ (λ end h2. known (IsFrom 1 1000) (number_at 1 1000 open_) p (number_known 1 1000 open_) h1)))
 
+prior_posterior_known : (text : List ℕ) → IfOk (prior_posterior_clause text) IsClause
+unfolding prior_posterior_clause
+prior_posterior_known text =
+    then_known IsClause (behind_mark 40 text) _ (λ open_ h.
+    then_known IsClause (number_at 1 1000 open_) _ (λ p h1.
+    then_known IsClause (behind_mark 44 p.1) _ (λ comma h2.
+    then_known IsClause (number_at 1 1000 comma) _ (λ q h3.
+    then_known IsClause (closing_token q.1) _ (λ end h4.
+    let first = known (IsFrom 1 1000) (number_at 1 1000 open_) p (number_known 1 1000 open_) h1 in
+    let second = known (IsFrom 1 1000) (number_at 1 1000 comma) q (number_known 1 1000 comma) h3 in
+    (first.0, first.1, second.0, second.1))))))
+
+zero_known : (text : List ℕ) → IfOk (zero_clause text) IsClause
+unfolding zero_clause
+zero_known text = then_known IsClause (one_number 1 1000000000 text) _ (λ r h. known (λ n. (1 ≤ n) × (n ≤ 1000000000)) (one_number 1 1000000000 text) r (one_known 1 1000000000 text) h)
+
 man_known : (text : List ℕ) → IfOk (man_clause text) IsClause
 unfolding man_clause
 man_known text = then_known IsClause (one_number 0 1000 text) _ (λ r h. (known (λ n. (0 ≤ n) × (n ≤ 1000)) (one_number 0 1000 text) r (one_known 0 1000 text) h).1)
@@ -85,8 +101,10 @@ clause_known text =
     either_known IsClause (str_eq_ignore_ascii_case (run_of text) (codes "FREQ")) (frequency_clause (behind_run text)) _ (frequency_known (behind_run text))
     (either_known IsClause (str_eq_ignore_ascii_case (run_of text) (codes "NK")) (dominance_clause (behind_run text)) _ (dominance_known (behind_run text))
     (either_known IsClause (str_eq_ignore_ascii_case (run_of text) (codes "P")) (percent_clause (behind_run text)) _ (percent_known (behind_run text))
+    (either_known IsClause (str_eq_ignore_ascii_case (run_of text) (codes "PQ")) (prior_posterior_clause (behind_run text)) _ (prior_posterior_known (behind_run text))
+    (either_known IsClause (str_eq_ignore_ascii_case (run_of text) (codes "ZERO")) (zero_clause (behind_run text)) _ (zero_known (behind_run text))
     (either_known IsClause (str_eq_ignore_ascii_case (run_of text) (codes "MAN")) (man_clause (behind_run text)) _ (man_known (behind_run text))
-    (either_known IsClause (str_eq_ignore_ascii_case (run_of text) (codes "WGT")) (weights_clause (behind_run text)) _ (weights_known (behind_run text)) tt))))
+    (either_known IsClause (str_eq_ignore_ascii_case (run_of text) (codes "WGT")) (weights_clause (behind_run text)) _ (weights_known (behind_run text)) tt))))))
 
 clauses_known : (texts : List (List ℕ)) → IfOk (clauses_in texts) (AllByRecursion IsClause)
 unfolding clauses_in
@@ -107,8 +125,8 @@ man_within (Named one ∷ clauses) all = man_within clauses all.1
 man_within (Man r ∷ clauses) all = all.0
 man_within (Weights flag ∷ clauses) all = man_within clauses all.1
 
-few_named : (n : ℕ) (a b d : Bool) → not (nat_lt 0 n && nat_lt n 9 && a && b && d) ≡ false → (0 < n) × (n ≤ 8)
-few_named n a b d h = grind arith
+few_named : (n : ℕ) (a z b d : Bool) → not (nat_lt 0 n && nat_lt n 9 && a && z && b && d) ≡ false → (0 < n) × (n ≤ 8)
+few_named n a z b d h = grind arith
 
 pub rules_known : (text : List ℕ) → IfOk (rules_in text) AreInRange
 unfolding rules_in
@@ -116,7 +134,7 @@ rules_known text =
     then_known AreInRange (clauses_in (pieces text)) _ (λ clauses h.
     then_known AreInRange (refuse BadValue (not (are_rules clauses))) _ (λ fine h1.
     let all = known (AllByRecursion IsClause) (clauses_in (pieces text)) clauses (clauses_known (pieces text)) h in
-    let few = few_named (length (named_in clauses)) (nat_lt (count_by is_frequency clauses) 2) (nat_lt (count_by is_man clauses) 2) (nat_lt (count_by is_weights clauses) 2) (not_refused BadValue (not (are_rules clauses)) fine h1) in
+    let few = few_named (length (named_in clauses)) (nat_lt (count_by is_frequency clauses) 2) (nat_lt (count_by is_zero clauses) 2) (nat_lt (count_by is_man clauses) 2) (nat_lt (count_by is_weights clauses) 2) (not_refused BadValue (not (are_rules clauses)) fine h1) in
     record { has_rule = few.0; at_most_8_rules = few.1; ranges = named_known clauses all; man = man_within clauses all }))
 
 pub work_known : (text : List ℕ) → IfOk (work_argument text) IsWork

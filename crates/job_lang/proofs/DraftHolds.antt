@@ -24,7 +24,7 @@ use Rattle.job_lang.specs.Faults.{at_line}
 use Rattle.job_lang.specs.LineTokens.{is_next, behind_mark, quoted_at, digits_at, end_of_tokens, closing_token}
 use Rattle.job_lang.specs.Keywords.{keyword_of, word_in}
 use Rattle.job_lang.specs.RuleTexts.{rules_in}
-use Rattle.job_lang.specs.TableTexts.{names_up_to, is_twice, quoted_part, behind_again, are_free_parts, table_argument}
+use Rattle.job_lang.specs.TableTexts.{most_variables, names_up_to, is_twice, quoted_part, behind_again, are_free_parts, table_argument}
 use Rattle.job_lang.specs.Arguments.{file_at, only_file, separator_of, prior_argument, output_argument, cost_argument, work_argument, argument_of}
 use Rattle.job_lang.specs.MethodTexts.{method_argument}
 use Rattle.job_lang.specs.Statements.{is_again, names_in, is_past_room, is_other_response, with_table, with_statement, with_said, is_passed_over, command_line, text_says, lines_say, empty_draft}
@@ -35,7 +35,7 @@ use Rattle.job_lang.proofs.ClausesHold.{rules_known, work_known, method_known}
 
 -- what is said of a table, rules, a method and work is within the limits
 abbrev pub IsSaid : Instruction → Type 0
-IsSaid (said.Table variables response) = (0 < length variables) × (length variables ≤ 4) × IsDistinct bytes_eq variables
+IsSaid (said.Table variables response) = (0 < length variables) × (length variables ≤ most_variables) × IsDistinct bytes_eq variables
 IsSaid (said.Safety rules) = AreInRange rules
 IsSaid (said.Steps steps) = IsWork steps
 IsSaid (said.Nodes nodes) = IsWork nodes
@@ -67,14 +67,14 @@ no_twice n m h g = grind arith
 table_known : (text : List ℕ) → IfOk (table_argument text) IsSaid
 unfolding table_argument
 table_known text =
-    then_known IsSaid (names_up_to 4 text) _ (λ variables h.
+    then_known IsSaid (names_up_to most_variables text) _ (λ variables h.
     then_known IsSaid (refuse BadValue (length variables.0 == 0)) _ (λ some h1.
     then_known IsSaid (refuse BadValue (is_twice variables.0)) _ (λ once h2.
     then_known IsSaid (behind_mark 124 variables.1) _ (λ bar h3.
     then_known IsSaid (quoted_at bar) _ (λ response h4.
     then_known IsSaid (refuse BadValue (not (are_free_parts (behind_again response.0 response.1 (quoted_part response.1))))) _ (λ free h5. (
       some_there (length variables.0) (not_refused BadValue (length variables.0 == 0) some h1),
-      known (AreFew 4) (names_up_to 4 text) variables (names_known 4 text) h,
+      known (AreFew most_variables) (names_up_to most_variables text) variables (names_known most_variables text) h,
       IsDistinct-from_count nat_list_eq_equiv variables.0 (no_twice (distinct_count bytes_eq variables.0) (length variables.0) (not_refused BadValue (is_twice variables.0) once h2) (distinct_count-le bytes_eq variables.0)),
     )))))))
 

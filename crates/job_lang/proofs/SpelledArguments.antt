@@ -1,5 +1,5 @@
 -- Arguments that were spelled are read again.
-use Rattle.std.proofs.Common.{◌≡◌, ℕ, zero, suc, ◌+◌, ◌<◌, ◌≤◌, ◌==◌, ◌||◌, Bool, true, false, List, [], ◌∷◌, ◌++◌, length, Ok, refl, ap, sym, ◌∙◌, subst, arith, append_assoc, decimal, codes, nat_lt, pos, negsuc}
+use Rattle.std.proofs.Common.{◌≡◌, ℕ, zero, suc, ◌+◌, ◌-◌, ◌<◌, ◌≤◌, ◌==◌, ◌||◌, Bool, true, false, List, [], ◌∷◌, ◌++◌, length, Ok, refl, ap, sym, ◌∙◌, subst, arith, append_assoc, decimal, codes, nat_lt, pos, negsuc}
 use Rattle.std.specs.Prelude.{◌&&◌}
 use Rattle.std.specs.Char.{is_ascii_digit}
 use Rattle.std.specs.List.{AllByRecursion, IsDistinct, list_any, list_all}
@@ -18,7 +18,7 @@ use Rattle.sdc_base.specs.declared.method.Method.{Method}
 use Rattle.sdc_base.specs.declared.method.Method.TheVariants.{Gh, Modular, Rnd}
 use Rattle.job_lang.specs.declared.statement.Instruction.TheVariants as said
 use Rattle.job_lang.specs.LineTokens.{begins_with, is_break, is_next, behind_mark, quoted_at, number_at, digits_at, end_of_tokens, closing_token}
-use Rattle.job_lang.specs.TableTexts.{names_up_to, is_twice, quoted_part, behind_again, are_free_parts, table_argument}
+use Rattle.job_lang.specs.TableTexts.{most_variables, names_up_to, is_twice, quoted_part, behind_again, are_free_parts, table_argument}
 use Rattle.job_lang.specs.Arguments.{file_at, only_file, may_separate, prior_argument, output_argument, cost_of, cost_argument, most_work, work_argument}
 use Rattle.job_lang.specs.MethodTexts.{passes_method, modular_method, rounding_method, method_argument}
 use Rattle.job_lang.specs.JobLimits.{IsMethod, IsWork}
@@ -166,16 +166,16 @@ names_read (suc most) (name ∷ names) text few plain ends =
     (names_read most names text (omega (arith, few)) plain.1 ends)
 
 -- names behind a space
-names_behind : (name : List ℕ) (names : List (List ℕ)) (text : List ℕ) → length (name ∷ names) ≤ 4 → AllByRecursion (λ name. list_any is_quote name ≡ false) (name ∷ names) → IsEnded (124 ∷ text)
-    → names_up_to 4 (32 ∷ quoted_each (name ∷ names) ++ 124 ∷ text) ≡ Ok (name ∷ names, 124 ∷ text)
+names_behind : (name : List ℕ) (names : List (List ℕ)) (text : List ℕ) → length (name ∷ names) ≤ most_variables → AllByRecursion (λ name. list_any is_quote name ≡ false) (name ∷ names) → IsEnded (124 ∷ text)
+    → names_up_to most_variables (32 ∷ quoted_each (name ∷ names) ++ 124 ∷ text) ≡ Ok (name ∷ names, 124 ∷ text)
 names_behind name names text few plain ends =
     let rest : List ℕ = quoted_each names ++ 124 ∷ text in
     let behind : IsEnded (34 ∷ rest) = ended_behind (34 ∷ quoted_each names) (124 ∷ text) ends in
-    ap (λ (t : List ℕ). names_up_to 4 (32 ∷ t)) (append_assoc (in_quotes name) (quoted_each names) (124 ∷ text))
-    ∙ names_step 3 (32 ∷ (in_quotes name ++ rest)) name rest (124 ∷ text) names
+    ap (λ (t : List ℕ). names_up_to most_variables (32 ∷ t)) (append_assoc (in_quotes name) (quoted_each names) (124 ∷ text))
+    ∙ names_step (most_variables - 1) (32 ∷ (in_quotes name ++ rest)) name rest (124 ∷ text) names
     (next_is 34 (32 ∷ (in_quotes name ++ rest)) (34 ∷ (name ++ 34 ∷ rest)) (trim_space (in_quotes name ++ rest) ∙ quoted_clean name rest behind))
     (quoted_space (in_quotes name ++ rest) ∙ quoted_read name rest plain.0 behind)
-    (names_read 3 names text (omega (arith, few)) plain.1 ends)
+    (names_read (most_variables - 1) names text (omega (arith, few)) plain.1 ends)
 
 none_free : (response : List ℕ) → are_free_parts (behind_again response [] (quoted_part [])) ≡ true
 unfolding quoted_part behind_mark
@@ -184,7 +184,7 @@ none_free response = refl
 not_twice : (n m : ℕ) → n ≡ m → nat_lt n m ≡ false
 not_twice n m h = grind arith
 
-pub table_read : (variables : List (List ℕ)) (response : List ℕ) → 0 < length variables → length variables ≤ 4 → IsDistinct bytes_eq variables
+pub table_read : (variables : List (List ℕ)) (response : List ℕ) → 0 < length variables → length variables ≤ most_variables → IsDistinct bytes_eq variables
     → AllByRecursion (λ name. list_any is_quote name ≡ false) variables → list_any is_quote response ≡ false
     → table_argument (32 ∷ quoted_each variables ++ 124 ∷ in_quotes response) ≡ Ok (said.Table variables response)
 unfolding table_argument

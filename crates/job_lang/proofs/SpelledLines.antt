@@ -16,7 +16,7 @@ use Rattle.sdc_base.specs.Steps.{◌>>=◌}
 use Rattle.sdc_base.specs.Tokens.{is_quote, is_name_byte, is_file_name, in_quotes}
 use Rattle.sdc_base.specs.declared.method.Method.{Method}
 use Rattle.sdc_base.specs.declared.method.Method.TheVariants.{Gh, Modular, Rnd}
-use Rattle.sdc_base.specs.declared.rule.Rule.TheVariants.{Freq, Nk, Percent}
+use Rattle.sdc_base.specs.declared.rule.Rule.TheVariants.{Freq, Nk, Percent, Pq, Zero}
 use Rattle.sdc_base.specs.declared.rule.Rules.{Rules}
 use Rattle.job_lang.specs.declared.rule_clauses.RuleClause.{RuleClause}
 use Rattle.job_lang.specs.declared.rule_clauses.RuleClause.TheVariants.{Named, Man, Weights}
@@ -108,6 +108,8 @@ clause_ended : (clause : RuleClause) → IsEnded (clause_text clause)
 clause_ended (Named (Freq n r)) = ended_behind (70 ∷ 82 ∷ 69 ∷ 81 ∷ 40 ∷ decimal n) (44 ∷ decimal r ++ 41 ∷ []) (ended_behind (44 ∷ decimal r) (41 ∷ []) (ended_with 41 refl refl))
 clause_ended (Named (Nk n k)) = ended_behind (78 ∷ 75 ∷ 40 ∷ decimal n) (44 ∷ decimal k ++ 41 ∷ []) (ended_behind (44 ∷ decimal k) (41 ∷ []) (ended_with 41 refl refl))
 clause_ended (Named (Percent p)) = ended_behind (80 ∷ 40 ∷ decimal p) (41 ∷ []) (ended_with 41 refl refl)
+clause_ended (Named (Pq p q)) = ended_behind (80 ∷ 81 ∷ 40 ∷ decimal p) (44 ∷ decimal q ++ 41 ∷ []) (ended_behind (44 ∷ decimal q) (41 ∷ []) (ended_with 41 refl refl))
+clause_ended (Named (Zero r)) = ended_behind (90 ∷ 69 ∷ 82 ∷ 79 ∷ 40 ∷ decimal r) (41 ∷ []) (ended_with 41 refl refl)
 clause_ended (Man r) = ended_behind (77 ∷ 65 ∷ 78 ∷ 40 ∷ decimal r) (41 ∷ []) (ended_with 41 refl refl)
 clause_ended (Weights false) = ended_behind (87 ∷ 71 ∷ 84 ∷ 40 ∷ decimal 0) (41 ∷ []) (ended_with 41 refl refl)
 clause_ended (Weights true) = ended_behind (87 ∷ 71 ∷ 84 ∷ 40 ∷ decimal 1) (41 ∷ []) (ended_with 41 refl refl)
@@ -211,6 +213,8 @@ clause_free : (clause : RuleClause) → IsClause clause → HasNoFeed (clause_te
 clause_free (Named (Freq n r)) h = past (decimal n) (44 ∷ decimal r ++ 41 ∷ []) (decimal_free n (omega (arith, h.1))) ∙ past (decimal r) (41 ∷ []) (decimal_free r (omega (arith, h.2)))
 clause_free (Named (Nk n k)) h = past (decimal n) (44 ∷ decimal k ++ 41 ∷ []) (decimal_free n (omega (arith, h.1))) ∙ past (decimal k) (41 ∷ []) (decimal_free k (omega (arith, h.3)))
 clause_free (Named (Percent p)) h = past (decimal p) (41 ∷ []) (decimal_free p (omega (arith, h.1)))
+clause_free (Named (Pq p q)) h = past (decimal p) (44 ∷ decimal q ++ 41 ∷ []) (decimal_free p (omega (arith, h.1))) ∙ past (decimal q) (41 ∷ []) (decimal_free q (omega (arith, h.3)))
+clause_free (Named (Zero r)) h = past (decimal r) (41 ∷ []) (decimal_free r (omega (arith, h.1)))
 clause_free (Man r) h = past (decimal r) (41 ∷ []) (decimal_free r (omega (arith, h)))
 clause_free (Weights false) h = past (decimal 0) (41 ∷ []) (decimal_free 0 (omega arith))
 clause_free (Weights true) h = past (decimal 1) (41 ∷ []) (decimal_free 1 (omega arith))

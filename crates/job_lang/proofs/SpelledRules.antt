@@ -7,17 +7,17 @@ use Rattle.std.proofs.lemmas.List.Folds.{list_any-append}
 use Rattle.std.proofs.lemmas.List.Sums.{sum_by-cons}
 use Rattle.sdc_base.specs.Lines.{with_front}
 use Rattle.sdc_base.specs.declared.rule.Rule.{Rule}
-use Rattle.sdc_base.specs.declared.rule.Rule.TheVariants.{Freq, Nk, Percent}
+use Rattle.sdc_base.specs.declared.rule.Rule.TheVariants.{Freq, Nk, Percent, Pq, Zero}
 use Rattle.sdc_base.specs.declared.rule.Rules.{Rules}
 use Rattle.job_lang.specs.declared.rule_clauses.RuleClause.{RuleClause}
 use Rattle.job_lang.specs.declared.rule_clauses.RuleClause.TheVariants.{Named, Man, Weights}
 use Rattle.job_lang.specs.LineTokens.{is_bar, is_break, behind_mark, run_of, behind_run, closing_token, end_of_tokens}
 use Rattle.job_lang.specs.Pieces.{pieces}
-use Rattle.job_lang.specs.RuleTexts.{named_in, is_frequency, is_man, is_weights, are_rules, man_of, weighted_of, rules_in}
-use Rattle.job_lang.specs.RuleClauses.{one_number, frequency_clause, dominance_clause, percent_behind, percent_clause, man_clause, weights_clause, clause_in, clauses_in}
+use Rattle.job_lang.specs.RuleTexts.{named_in, is_frequency, is_zero, is_man, is_weights, are_rules, man_of, weighted_of, rules_in}
+use Rattle.job_lang.specs.RuleClauses.{one_number, frequency_clause, dominance_clause, percent_behind, percent_clause, prior_posterior_clause, zero_clause, man_clause, weights_clause, clause_in, clauses_in}
 use Rattle.job_lang.specs.JobLimits.{IsInRange, AreInRange}
 use Rattle.job_lang.specs.Spelling.{texts_between_bars, number_in_parentheses, enclosed_both, clause_text, clauses_of, rules_text}
-use Rattle.job_lang.specs.WritableJobs.{is_on_frequencies}
+use Rattle.job_lang.specs.WritableJobs.{is_on_frequencies, is_on_zeros, HasEachOnce}
 use Rattle.job_lang.proofs.ClausesHold.{IsClause}
 use Rattle.job_lang.proofs.Spelled.{or_right, IsEnded, ended_behind, ended_with, trim_space, mark_read, run_read, number_read, digits_whole}
 
@@ -69,6 +69,22 @@ unfolding percent_clause
 percent_read p h =
     rw (mark_read 40 (decimal p ++ 41 ∷ []) refl (closing 40 (decimal p)) refl, number_read 1 1000 p 41 [] h.0 h.1 (omega arith) refl (ended_with 41 refl refl), nothing_behind) refl
 
+prior_posterior_read : (p q : ℕ) → IsInRange (Pq p q) → prior_posterior_clause (enclosed_both (decimal p) (decimal q)) ≡ Ok (Named (Pq p q))
+unfolding prior_posterior_clause
+prior_posterior_read p q h =
+    let behind : IsEnded (44 ∷ decimal q ++ 41 ∷ []) = closing 44 (decimal q) in
+    rw (
+      mark_read 40 (decimal p ++ (44 ∷ decimal q ++ 41 ∷ [])) refl (ended_behind (40 ∷ decimal p) (44 ∷ decimal q ++ 41 ∷ []) behind) refl,
+      number_read 1 1000 p 44 (decimal q ++ 41 ∷ []) h.0 h.1 (omega arith) refl behind,
+      mark_read 44 (decimal q ++ 41 ∷ []) refl behind refl,
+      number_read 1 1000 q 41 [] h.2 h.3 (omega arith) refl (ended_with 41 refl refl),
+      closed_read,
+    ) refl
+
+zero_read : (r : ℕ) → IsInRange (Zero r) → zero_clause (number_in_parentheses (decimal r)) ≡ Ok (Named (Zero r))
+unfolding zero_clause
+zero_read r h = rw (enclosed_read 1 1000000000 r h.0 h.1 (omega arith)) refl
+
 man_read : (r : ℕ) → r ≤ 1000 → man_clause (number_in_parentheses (decimal r)) ≡ Ok (Man r)
 unfolding man_clause
 man_read r h = rw (enclosed_read 0 1000 r (omega arith) h (omega arith)) refl
@@ -92,6 +108,12 @@ clause_read (Named (Nk n k)) h =
 clause_read (Named (Percent p)) h =
     let word = word_read 80 [] (decimal p ++ 41 ∷ []) refl (closing 40 (decimal p)) in
     rw (word.0, word.1) (percent_read p h)
+clause_read (Named (Pq p q)) h =
+    let word = word_read 80 (codes "Q") (decimal p ++ (44 ∷ decimal q ++ 41 ∷ [])) refl (ended_behind (40 ∷ decimal p) (44 ∷ decimal q ++ 41 ∷ []) (closing 44 (decimal q))) in
+    rw (word.0, word.1) (prior_posterior_read p q h)
+clause_read (Named (Zero r)) h =
+    let word = word_read 90 (codes "ERO") (decimal r ++ 41 ∷ []) refl (closing 40 (decimal r)) in
+    rw (word.0, word.1) (zero_read r h)
 clause_read (Man r) h =
     let word = word_read 77 (codes "AN") (decimal r ++ 41 ∷ []) refl (closing 40 (decimal r)) in
     rw (word.0, word.1) (man_read r h)
@@ -135,6 +157,8 @@ clause_barless : (clause : RuleClause) → IsClause clause → list_any is_bar (
 clause_barless (Named (Freq n r)) h = bars_past (decimal n) (44 ∷ decimal r ++ 41 ∷ []) (number_barless n (omega (arith, h.1))) ∙ bars_past (decimal r) (41 ∷ []) (number_barless r (omega (arith, h.2)))
 clause_barless (Named (Nk n k)) h = bars_past (decimal n) (44 ∷ decimal k ++ 41 ∷ []) (number_barless n (omega (arith, h.1))) ∙ bars_past (decimal k) (41 ∷ []) (number_barless k (omega (arith, h.3)))
 clause_barless (Named (Percent p)) h = bars_past (decimal p) (41 ∷ []) (number_barless p (omega (arith, h.1)))
+clause_barless (Named (Pq p q)) h = bars_past (decimal p) (44 ∷ decimal q ++ 41 ∷ []) (number_barless p (omega (arith, h.1))) ∙ bars_past (decimal q) (41 ∷ []) (number_barless q (omega (arith, h.3)))
+clause_barless (Named (Zero r)) h = bars_past (decimal r) (41 ∷ []) (number_barless r (omega (arith, h.1)))
 clause_barless (Man r) h = bars_past (decimal r) (41 ∷ []) (number_barless r (omega (arith, h)))
 clause_barless (Weights false) h = bars_past (decimal 0) (41 ∷ []) (number_barless 0 (omega arith))
 clause_barless (Weights true) h = bars_past (decimal 1) (41 ∷ []) (number_barless 1 (omega arith))
@@ -194,12 +218,27 @@ pub frequency_same : (rule : Rule) → is_frequency (Named rule) ≡ is_on_frequ
 frequency_same (Freq n r) = refl
 frequency_same (Nk n k) = refl
 frequency_same (Percent p) = refl
+frequency_same (Pq p q) = refl
+frequency_same (Zero r) = refl
+
+pub zero_same : (rule : Rule) → is_zero (Named rule) ≡ is_on_zeros rule
+zero_same (Freq n r) = refl
+zero_same (Nk n k) = refl
+zero_same (Percent p) = refl
+zero_same (Pq p q) = refl
+zero_same (Zero r) = refl
 
 frequencies : (list : List Rule) (man : ℕ) (weighted : Bool) → count_by is_frequency (map Named list ++ Man man ∷ Weights weighted ∷ []) ≡ count_by is_on_frequencies list
 frequencies [] man weighted = refl
 frequencies (rule ∷ list) man weighted =
     sum_by-cons (λ c. cond (is_frequency c) 1 0) (Named rule) (map Named list ++ Man man ∷ Weights weighted ∷ [])
     ∙ rw (frequency_same rule, frequencies list man weighted) (sym (sum_by-cons (λ r. cond (is_on_frequencies r) 1 0) rule list))
+
+zeros : (list : List Rule) (man : ℕ) (weighted : Bool) → count_by is_zero (map Named list ++ Man man ∷ Weights weighted ∷ []) ≡ count_by is_on_zeros list
+zeros [] man weighted = refl
+zeros (rule ∷ list) man weighted =
+    sum_by-cons (λ c. cond (is_zero c) 1 0) (Named rule) (map Named list ++ Man man ∷ Weights weighted ∷ [])
+    ∙ rw (zero_same rule, zeros list man weighted) (sym (sum_by-cons (λ r. cond (is_on_zeros r) 1 0) rule list))
 
 one_man : (list : List Rule) (man : ℕ) (weighted : Bool) → count_by is_man (map Named list ++ Man man ∷ Weights weighted ∷ []) ≡ 1
 one_man [] man weighted = refl
@@ -209,8 +248,8 @@ one_weights : (list : List Rule) (man : ℕ) (weighted : Bool) → count_by is_w
 one_weights [] man weighted = refl
 one_weights (rule ∷ list) man weighted = sum_by-cons (λ c. cond (is_weights c) 1 0) (Named rule) (map Named list ++ Man man ∷ Weights weighted ∷ []) ∙ ap (λ (n : ℕ). 0 + n) (one_weights list man weighted)
 
-within_room : (n f m w : ℕ) → 0 < n → n ≤ 8 → f ≤ 1 → m ≡ 1 → w ≡ 1 → (nat_lt 0 n && nat_lt n 9 && nat_lt f 2 && nat_lt m 2 && nat_lt w 2) ≡ true
-within_room n f m w some few once man weights = grind arith
+within_room : (n f z m w : ℕ) → 0 < n → n ≤ 8 → f ≤ 1 → z ≤ 1 → m ≡ 1 → w ≡ 1 → (nat_lt 0 n && nat_lt n 9 && nat_lt f 2 && nat_lt z 2 && nat_lt m 2 && nat_lt w 2) ≡ true
+within_room n f z m w some few once zero man weights = grind arith
 
 pub all_clauses : (list : List Rule) (man : ℕ) (weighted : Bool) → AllByRecursion IsInRange list → man ≤ 1000 → AllByRecursion IsClause (map Named list ++ Man man ∷ Weights weighted ∷ [])
 all_clauses [] man weighted all h = (h, (tt, tt))
@@ -222,13 +261,14 @@ text_of [] man weighted some all h = absurd (omega (arith, some))
 text_of (rule ∷ list) man weighted some all h = clauses_read (Named rule) (map Named list ++ Man man ∷ Weights weighted ∷ []) all.0 (all_clauses list man weighted all.1 h)
 
 -- rules that were spelled are read again
-pub rules_read : (rules : Rules) → AreInRange rules → count_by is_on_frequencies rules.list ≤ 1 → rules_in (32 ∷ rules_text rules) ≡ Ok rules
+pub rules_read : (rules : Rules) → AreInRange rules → HasEachOnce rules.list → rules_in (32 ∷ rules_text rules) ≡ Ok rules
 unfolding rules_in
 rules_read rules h once =
     let fine : are_rules (clauses_of rules) ≡ true =
-    within_room _ (count_by is_frequency (clauses_of rules)) (count_by is_man (clauses_of rules)) (count_by is_weights (clauses_of rules))
+    within_room _ (count_by is_frequency (clauses_of rules)) (count_by is_zero (clauses_of rules)) (count_by is_man (clauses_of rules)) (count_by is_weights (clauses_of rules))
     (subst (λ (l : List Rule). 0 < length l) (sym (named_again rules.list rules.man rules.weighted)) h.has_rule)
     (subst (λ (l : List Rule). length l ≤ 8) (sym (named_again rules.list rules.man rules.weighted)) h.at_most_8_rules)
-    (subst (λ (n : ℕ). n ≤ 1) (sym (frequencies rules.list rules.man rules.weighted)) once)
+    (subst (λ (n : ℕ). n ≤ 1) (sym (frequencies rules.list rules.man rules.weighted)) once.frequencies)
+    (subst (λ (n : ℕ). n ≤ 1) (sym (zeros rules.list rules.man rules.weighted)) once.zeros)
     (one_man rules.list rules.man rules.weighted) (one_weights rules.list rules.man rules.weighted) in
     rw (text_of rules.list rules.man rules.weighted h.has_rule h.ranges h.man, fine, named_again rules.list rules.man rules.weighted, man_again rules.list rules.man rules.weighted, weighted_again rules.list rules.man rules.weighted) refl

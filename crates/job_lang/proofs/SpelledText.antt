@@ -68,7 +68,7 @@ all_spellable job h =
       (
         read.1.0,
         all_both IsSpellable (map table_said job.tables) _ tables (
-          (h.limits.rules, h.frequencies),
+          (h.limits.rules, h.rules),
           (
             tt,
             all_both IsSpellable (map prior_said job.priors) _ priors (

@@ -2,7 +2,7 @@
 use Rattle.std.proofs.Common.{◌≡◌, ◌≢◌, ℕ, zero, suc, ◌+◌, ◌<◌, ◌≤◌, ◌==◌, Bool, true, false, cond, List, [], ◌∷◌, ◌++◌, length, map, None, Some, Ok, Err, refl, ap, sym, ◌∙◌, subst, arith, decimal}
 use Rattle.std.specs.Prelude.{◌&&◌, not, option_map, find, slice_index_or}
 use Rattle.std.specs.Result.{IfOk}
-use Rattle.std.specs.List.{AllByRecursion, IsDistinct, list_any, count_by}
+use Rattle.std.specs.List.{AllByRecursion, IsDistinct, list_any}
 use Rattle.std.specs.Str.{all_ascii_digits, bytes_eq}
 use Rattle.std.specs.Str.Parse.{digits_value}
 use Rattle.std.specs.Cmp.Lexicographic.{nat_list_eq_equiv}
@@ -36,7 +36,7 @@ use Rattle.job_lang.specs.JobLimits.{IsJob}
 use Rattle.job_lang.specs.Jobs.{job_of}
 use Rattle.job_lang.specs.FileLaws.{puts_of, reads_of}
 use Rattle.job_lang.specs.Spelling.{table_number}
-use Rattle.job_lang.specs.WritableJobs.{is_on_frequencies, HasQuotable, HasSeparator, IsWritable, JobsAreWritable}
+use Rattle.job_lang.specs.WritableJobs.{HasEachOnce, HasQuotable, HasSeparator, IsWritable, JobsAreWritable}
 use Rattle.job_lang.proofs.FirstFault.{no_strays}
 use Rattle.job_lang.proofs.JobHolds.{find_known, was_there, wider, job_known}
 use Rattle.job_lang.proofs.Known.{then_known, known, either_known, not_refused, was_some, all_and_last}
@@ -170,13 +170,13 @@ outputs_named all (suc more) place outputs written h =
 
 -- ---- rules
 
-rules_few : (one : Instruction) (line : ℕ) (r : RulesLine) → IsWritten one → rules_from line one ≡ Some r → count_by is_on_frequencies r.rules.list ≤ 1
-rules_few (said.Safety rules) line r w h = let is : ◌≡◌ {A = RulesLine} (record { line = line; rules = rules }) r = cc in subst (λ (r : RulesLine). count_by is_on_frequencies r.rules.list ≤ 1) is w
+rules_few : (one : Instruction) (line : ℕ) (r : RulesLine) → IsWritten one → rules_from line one ≡ Some r → HasEachOnce r.rules.list
+rules_few (said.Safety rules) line r w h = let is : ◌≡◌ {A = RulesLine} (record { line = line; rules = rules }) r = cc in subst (λ (r : RulesLine). HasEachOnce r.rules.list) is w
 rules_few one line r w h = absurd cc
 
-rules_found : (all : List Statement) (test : Statement → Bool) (r : RulesLine) → AllByRecursion (λ s. IsWritten s.said) all → rules_line (find test all) ≡ Some r → count_by is_on_frequencies r.rules.list ≤ 1
+rules_found : (all : List Statement) (test : Statement → Bool) (r : RulesLine) → AllByRecursion (λ s. IsWritten s.said) all → rules_line (find test all) ≡ Some r → HasEachOnce r.rules.list
 rules_found all test r written h =
-    elim (find test all) as (λ f. find test all ≡ f → rules_line f ≡ Some r → count_by is_on_frequencies r.rules.list ≤ 1) [
+    elim (find test all) as (λ f. find test all ≡ f → rules_line f ≡ Some r → HasEachOnce r.rules.list) [
       | None ↦ λ is g. absurd cc
       | Some s ↦ λ is g. rules_few s.said s.line r (find_known (λ s. IsWritten s.said) test all written s is) g
     ] refl h
@@ -281,7 +281,7 @@ writable bytes job h =
     let priors = priors_files draft.said written.said in
     subst IsWritable made.whole (record {
       limits = subst IsJob back limits;
-      frequencies = rules_found draft.said _ made.rules written.said made.is_rules;
+      rules = rules_found draft.said _ made.rules written.said made.is_rules;
       names = written.tables;
       separators = priors_separators draft.said written.said;
       priors = priors_once (length draft.tables) draft.said few written.other written.said placed;

@@ -20,15 +20,15 @@ use Rattle.job_lang.specs.declared.statement.Instruction.TheVariants as said
 use Rattle.job_lang.specs.Keywords.{word_in}
 use Rattle.job_lang.specs.LineTokens.{is_next, behind_mark, quoted_at, run_of, behind_run, digits_at, without_zeros, end_of_tokens, closing_token}
 use Rattle.job_lang.specs.Pieces.{pieces}
-use Rattle.job_lang.specs.RuleTexts.{named_in, is_frequency, is_man, is_weights, are_rules, rules_in}
+use Rattle.job_lang.specs.RuleTexts.{named_in, is_frequency, is_zero, is_man, is_weights, are_rules, rules_in}
 use Rattle.job_lang.specs.RuleClauses.{clauses_in}
-use Rattle.job_lang.specs.TableTexts.{names_up_to, is_twice, quoted_part, behind_again, are_free_parts, table_argument}
+use Rattle.job_lang.specs.TableTexts.{most_variables, names_up_to, is_twice, quoted_part, behind_again, are_free_parts, table_argument}
 use Rattle.job_lang.specs.Arguments.{file_at, only_file, may_separate, separator_of, prior_argument, output_argument, cost_argument, work_argument, argument_of}
 use Rattle.job_lang.specs.MethodTexts.{method_argument}
-use Rattle.job_lang.specs.WritableJobs.{is_on_frequencies, IsQuotable}
+use Rattle.job_lang.specs.WritableJobs.{is_on_frequencies, is_on_zeros, HasEachOnce, IsQuotable}
 use Rattle.job_lang.proofs.Known.{then_known, known, either_known, not_refused, was_some}
 use Rattle.job_lang.proofs.Spelled.{or_left, or_right}
-use Rattle.job_lang.proofs.SpelledRules.{frequency_same}
+use Rattle.job_lang.proofs.SpelledRules.{frequency_same, zero_same}
 
 -- ---- parts of a list
 
@@ -135,7 +135,7 @@ abbrev pub IsWritten : Instruction → Type 0
 IsWritten (said.Microdata name) = IsNamed name
 IsWritten (said.Metadata name) = IsNamed name
 IsWritten (said.Table variables response) = AllByRecursion IsQuotable variables × IsQuotable response
-IsWritten (said.Safety rules) = count_by is_on_frequencies rules.list ≤ 1
+IsWritten (said.Safety rules) = HasEachOnce rules.list
 IsWritten (said.Prior file number separator) = IsNamed file × IsDigits number × (may_separate separator ≡ true) × (is_line_feed separator ≡ false)
 IsWritten (said.Output number file) = IsNamed file × IsDigits number
 IsWritten (said.Certificate name) = IsNamed name
@@ -223,8 +223,8 @@ names_written (suc most) text h =
 table_written : (text : List ℕ) → HasNoFeed text → IfOk (table_argument text) IsWritten
 unfolding table_argument
 table_written text h =
-    then_known IsWritten (names_up_to 4 text) _ (λ variables g.
-    let a = known AreWords (names_up_to 4 text) variables (names_written 4 text h) g in
+    then_known IsWritten (names_up_to most_variables text) _ (λ variables g.
+    let a = known AreWords (names_up_to most_variables text) variables (names_written most_variables text h) g in
     then_known IsWritten (refuse BadValue (length variables.0 == 0)) _ (λ some g1.
     then_known IsWritten (refuse BadValue (is_twice variables.0)) _ (λ once g2.
     then_known IsWritten (behind_mark 124 variables.1) _ (λ bar g3.
@@ -244,24 +244,35 @@ named_frequencies (Named one ∷ clauses) =
 named_frequencies (Man r ∷ clauses) = let rest = named_frequencies clauses in let b = sum_by-cons (λ c. cond (is_frequency c) 1 0) (Man r) clauses in omega (arith, rest, b)
 named_frequencies (Weights flag ∷ clauses) = let rest = named_frequencies clauses in let b = sum_by-cons (λ c. cond (is_frequency c) 1 0) (Weights flag) clauses in omega (arith, rest, b)
 
-few_frequencies : (a b d e : Bool) (f : ℕ) → not (a && b && nat_lt f 2 && d && e) ≡ false → f ≤ 1
-few_frequencies a b d e f h = grind arith
+named_zeros : (clauses : List RuleClause) → count_by is_on_zeros (named_in clauses) ≤ count_by is_zero clauses
+named_zeros [] = omega arith
+named_zeros (Named one ∷ clauses) =
+    let rest = named_zeros clauses in
+    let a = sum_by-cons (λ r. cond (is_on_zeros r) 1 0) one (named_in clauses) in
+    let b = sum_by-cons (λ c. cond (is_zero c) 1 0) (Named one) clauses in
+    let same : ◌≡◌ {A = ℕ} (cond (is_zero (Named one)) 1 0) (cond (is_on_zeros one) 1 0) = ap (λ (t : Bool). cond t 1 0) (zero_same one) in
+    omega (arith, rest, a, b, same)
+named_zeros (Man r ∷ clauses) = let rest = named_zeros clauses in let b = sum_by-cons (λ c. cond (is_zero c) 1 0) (Man r) clauses in omega (arith, rest, b)
+named_zeros (Weights flag ∷ clauses) = let rest = named_zeros clauses in let b = sum_by-cons (λ c. cond (is_zero c) 1 0) (Weights flag) clauses in omega (arith, rest, b)
 
-rules_written : (text : List ℕ) → IfOk (rules_in text) (λ rules. count_by is_on_frequencies rules.list ≤ 1)
+few_of_each : (a b d e : Bool) (f z : ℕ) → not (a && b && nat_lt f 2 && nat_lt z 2 && d && e) ≡ false → (f ≤ 1) × (z ≤ 1)
+few_of_each a b d e f z h = grind arith
+
+rules_written : (text : List ℕ) → IfOk (rules_in text) (λ rules. HasEachOnce rules.list)
 unfolding rules_in
 rules_written text =
-    then_known (λ rules. count_by is_on_frequencies rules.list ≤ 1) (clauses_in (pieces text)) _ (λ clauses g.
-    then_known (λ rules. count_by is_on_frequencies rules.list ≤ 1) (refuse BadValue (not (are_rules clauses))) _ (λ fine g1.
-    let few = few_frequencies (nat_lt 0 (length (named_in clauses))) (nat_lt (length (named_in clauses)) 9) (nat_lt (count_by is_man clauses) 2) (nat_lt (count_by is_weights clauses) 2) (count_by is_frequency clauses) (not_refused BadValue (not (are_rules clauses)) fine g1) in
-    let less = named_frequencies clauses in
-    omega (arith, few, less)))
+    then_known (λ rules. HasEachOnce rules.list) (clauses_in (pieces text)) _ (λ clauses g.
+    then_known (λ rules. HasEachOnce rules.list) (refuse BadValue (not (are_rules clauses))) _ (λ fine g1.
+    let few = few_of_each (nat_lt 0 (length (named_in clauses))) (nat_lt (length (named_in clauses)) 9) (nat_lt (count_by is_man clauses) 2) (nat_lt (count_by is_weights clauses) 2) (count_by is_frequency clauses) (count_by is_zero clauses)
+    (not_refused BadValue (not (are_rules clauses)) fine g1) in
+    record { frequencies = omega (arith, few.0, named_frequencies clauses); zeros = omega (arith, few.1, named_zeros clauses) }))
 
 pub argument_written : (keyword : Keyword) (text : List ℕ) → HasNoFeed text → IfOk (argument_of keyword text) IsWritten
 unfolding argument_of
 argument_written OpenMicrodata text h = then_known IsWritten (only_file text) _ (λ name g. known IsNamed (only_file text) name (only_written text h) g)
 argument_written OpenMetadata text h = then_known IsWritten (only_file text) _ (λ name g. known IsNamed (only_file text) name (only_written text h) g)
 argument_written SpecifyTable text h = table_written text h
-argument_written SafetyRule text h = then_known IsWritten (rules_in text) _ (λ rules g. known (λ rules. count_by is_on_frequencies rules.list ≤ 1) (rules_in text) rules (rules_written text) g)
+argument_written SafetyRule text h = then_known IsWritten (rules_in text) _ (λ rules g. known (λ rules. HasEachOnce rules.list) (rules_in text) rules (rules_written text) g)
 argument_written ReadMicrodata text h = then_known IsWritten (end_of_tokens text) _ (λ end g. tt)
 argument_written Apriori text h = prior_written text h
 argument_written Cost text h = then_known IsWritten (cost_argument text) _ (λ cost g. tt)

@@ -6,12 +6,13 @@ use Rattle.std.specs.Str.{bytes_eq}
 use Rattle.sdc_base.specs.declared.method.Method.{Method}
 use Rattle.sdc_base.specs.declared.method.Method.TheVariants.{Gh, Modular, Rnd}
 use Rattle.sdc_base.specs.declared.rule.Rule.{Rule}
-use Rattle.sdc_base.specs.declared.rule.Rule.TheVariants.{Freq, Nk, Percent}
+use Rattle.sdc_base.specs.declared.rule.Rule.TheVariants.{Freq, Nk, Percent, Pq, Zero}
 use Rattle.sdc_base.specs.declared.rule.Rules.{Rules}
 use Rattle.job_lang.specs.declared.job.Job.{Job}
 use Rattle.job_lang.specs.declared.job.TableLine.{TableLine}
 use Rattle.job_lang.specs.Statements.{names_in}
 use Rattle.job_lang.specs.Binding.{response_of}
+use Rattle.job_lang.specs.TableTexts.{most_variables}
 
 -- no variable stands twice in a table
 abbrev pub HasNoTwice : TableLine → Type 0
@@ -24,15 +25,17 @@ pub record AreTables (tables : List TableLine) : Type 0 where
   pub once : AllByRecursion HasNoTwice tables
   pub variables : distinct_count bytes_eq (names_in tables) ≤ 8
 
--- 1 to 4 variables
+-- 1 to 6 variables
 abbrev pub HasVariables : TableLine → Type 0
-HasVariables table = (0 < length table.variables) × (length table.variables ≤ 4)
+HasVariables table = (0 < length table.variables) × (length table.variables ≤ most_variables)
 
 -- the numbers of a rule are in their ranges
 abbrev pub IsInRange : Rule → Type 0
 IsInRange (Freq n r) = (1 ≤ n) × (n ≤ 1000000) × (r ≤ 1000)
 IsInRange (Nk n k) = (1 ≤ n) × (n ≤ 10) × (1 ≤ k) × (k ≤ 100)
 IsInRange (Percent p) = (1 ≤ p) × (p ≤ 1000)
+IsInRange (Pq p q) = (1 ≤ p) × (p ≤ 1000) × (1 ≤ q) × (q ≤ 1000)
+IsInRange (Zero r) = (1 ≤ r) × (r ≤ 1000000000)
 
 -- one to eight rules in their ranges
 pub record AreInRange (rules : Rules) : Type 0 where

@@ -1,8 +1,8 @@
--- One rule of the argument of SAFETYRULE (tau-ARGUS user manual; ranges own). P(p,2) is no rule of argus.
+-- One rule of the argument of SAFETYRULE (tau-ARGUS user manual; PQ, ZERO and ranges own). P(p,2) is no rule of argus.
 use Rattle.std.specs.Prelude.{ℕ, ◌==◌, codes, if◌then◌else◌, List, [], ◌∷◌, Result, Ok, Err}
 use Rattle.std.specs.Str.{str_eq_ignore_ascii_case}
 use Rattle.sdc_base.specs.Steps.{◌>>=◌}
-use Rattle.sdc_base.specs.declared.rule.Rule.TheVariants.{Freq, Nk, Percent}
+use Rattle.sdc_base.specs.declared.rule.Rule.TheVariants.{Freq, Nk, Percent, Pq, Zero}
 use Rattle.job_lang.specs.declared.faults.JobWhy.{JobWhy}
 use Rattle.job_lang.specs.declared.faults.JobWhy.TheVariants.{BadValue}
 use Rattle.job_lang.specs.declared.rule_clauses.RuleClause.{RuleClause}
@@ -56,6 +56,22 @@ percent_clause text = do
   end ← percent_behind p.1
   Ok (Named (Percent p.0))
 
+-- PQ(p,q): p and q from 1 to 1,000
+unfoldable pub prior_posterior_clause : List ℕ → Result RuleClause JobWhy
+prior_posterior_clause text = do
+  open_ ← behind_mark 40 text
+  p ← number_at 1 1000 open_
+  comma ← behind_mark 44 p.1
+  q ← number_at 1 1000 comma
+  end ← closing_token q.1
+  Ok (Named (Pq p.0 q.0))
+
+-- ZERO(r): r from 1 to 1,000,000,000
+unfoldable pub zero_clause : List ℕ → Result RuleClause JobWhy
+zero_clause text = do
+  r ← one_number 1 1000000000 text
+  Ok (Named (Zero r))
+
 -- MAN(r): r from 0 to 1,000
 unfoldable pub man_clause : List ℕ → Result RuleClause JobWhy
 man_clause text = do
@@ -74,6 +90,8 @@ clause_in text =
     if str_eq_ignore_ascii_case (run_of text) (codes "FREQ") then frequency_clause (behind_run text)
     else if str_eq_ignore_ascii_case (run_of text) (codes "NK") then dominance_clause (behind_run text)
     else if str_eq_ignore_ascii_case (run_of text) (codes "P") then percent_clause (behind_run text)
+    else if str_eq_ignore_ascii_case (run_of text) (codes "PQ") then prior_posterior_clause (behind_run text)
+    else if str_eq_ignore_ascii_case (run_of text) (codes "ZERO") then zero_clause (behind_run text)
     else if str_eq_ignore_ascii_case (run_of text) (codes "MAN") then man_clause (behind_run text)
     else if str_eq_ignore_ascii_case (run_of text) (codes "WGT") then weights_clause (behind_run text)
     else Err BadValue

@@ -1,9 +1,9 @@
--- The argument of SAFETYRULE: rules joined by bars, each kind at most once (tau-ARGUS user manual).
+-- The argument of SAFETYRULE: rules joined by bars (tau-ARGUS user manual; how often each kind may stand: own).
 use Rattle.std.specs.Prelude.{ℕ, Bool, true, false, not, ◌&&◌, nat_lt, List, [], ◌∷◌, length, Result, Ok}
 use Rattle.std.specs.List.{count_by}
 use Rattle.sdc_base.specs.Steps.{◌>>=◌, refuse}
 use Rattle.sdc_base.specs.declared.rule.Rule.{Rule}
-use Rattle.sdc_base.specs.declared.rule.Rule.TheVariants.{Freq}
+use Rattle.sdc_base.specs.declared.rule.Rule.TheVariants.{Freq, Zero}
 use Rattle.sdc_base.specs.declared.rule.Rules.{Rules}
 use Rattle.job_lang.specs.declared.faults.JobWhy.{JobWhy}
 use Rattle.job_lang.specs.declared.faults.JobWhy.TheVariants.{BadValue}
@@ -24,6 +24,11 @@ abbrev pub is_frequency : RuleClause → Bool
 is_frequency (Named (Freq n r)) = true
 is_frequency clause = false
 
+-- a rule on zeros
+abbrev pub is_zero : RuleClause → Bool
+is_zero (Named (Zero r)) = true
+is_zero clause = false
+
 -- a level of cells that are declared unsafe
 abbrev pub is_man : RuleClause → Bool
 is_man (Man r) = true
@@ -34,11 +39,13 @@ abbrev pub is_weights : RuleClause → Bool
 is_weights (Weights flag) = true
 is_weights clause = false
 
--- one to eight rules that name cells, one of them on frequencies at most, and at most one MAN and one WGT
+-- one to eight rules that name cells, at most one of them on frequencies and one on zeros, and at most one MAN and one
+-- WGT
 abbrev pub are_rules : List RuleClause → Bool
 are_rules clauses =
     nat_lt 0 (length (named_in clauses)) && nat_lt (length (named_in clauses)) 9
-    && nat_lt (count_by is_frequency clauses) 2 && nat_lt (count_by is_man clauses) 2
+    && nat_lt (count_by is_frequency clauses) 2 && nat_lt (count_by is_zero clauses) 2
+    && nat_lt (count_by is_man clauses) 2
     && nat_lt (count_by is_weights clauses) 2
 
 -- the level of cells that are declared unsafe, 20 percent where no rule says so

@@ -5,7 +5,7 @@ use Rattle.cost_rule.specs.declared.kind.CostKind.{CostKind}
 use Rattle.cost_rule.specs.declared.kind.CostKind.TheVariants as kind
 use Rattle.sdc_base.specs.declared.method.Method.{Method}
 use Rattle.sdc_base.specs.declared.method.Method.TheVariants.{Gh, Modular, Rnd}
-use Rattle.sdc_base.specs.declared.rule.Rule.TheVariants.{Freq, Nk, Percent}
+use Rattle.sdc_base.specs.declared.rule.Rule.TheVariants.{Freq, Nk, Percent, Pq, Zero}
 use Rattle.sdc_base.specs.declared.rule.Rules.{Rules}
 use Rattle.job_lang.specs.declared.rule_clauses.RuleClause.{RuleClause}
 use Rattle.job_lang.specs.declared.rule_clauses.RuleClause.TheVariants.{Named, Man, Weights}
@@ -63,6 +63,8 @@ abbrev pub clause_text : RuleClause → List ℕ
 clause_text (Named (Freq n r)) = codes "FREQ" ++ enclosed_both (decimal n) (decimal r)
 clause_text (Named (Nk n k)) = codes "NK" ++ enclosed_both (decimal n) (decimal k)
 clause_text (Named (Percent p)) = codes "P" ++ number_in_parentheses (decimal p)
+clause_text (Named (Pq p q)) = codes "PQ" ++ enclosed_both (decimal p) (decimal q)
+clause_text (Named (Zero r)) = codes "ZERO" ++ number_in_parentheses (decimal r)
 clause_text (Man r) = codes "MAN" ++ number_in_parentheses (decimal r)
 clause_text (Weights false) = codes "WGT" ++ number_in_parentheses (decimal 0)
 clause_text (Weights true) = codes "WGT" ++ number_in_parentheses (decimal 1)

@@ -13,6 +13,10 @@ use Rattle.job_lang.specs.declared.statement.Instruction.TheVariants as said
 use Rattle.job_lang.specs.LineTokens.{is_next, behind_mark, quoted_at}
 use Rattle.job_lang.specs.Pieces.{pieces}
 
+-- the most variables that span a table
+abbrev pub most_variables : ℕ
+most_variables = 6
+
 -- the words in quotes that stand next, at most so many, and what stands behind them
 unfoldable pub names_up_to : ℕ → List ℕ → Result (List (List ℕ) × List ℕ) JobWhy
 names_up_to zero text = Ok ([], text)
@@ -44,10 +48,10 @@ is_free_part piece = (length (trim piece) == 0) || bytes_eq (trim piece) (34 ∷
 abbrev pub are_free_parts : List ℕ → Bool
 are_free_parts text = ((length (trim text) == 0) || is_next 124 text) && list_all is_free_part (pieces text)
 
--- 1 to 4 variables, none of them twice, a bar, the response, and perhaps parts that say nothing more
+-- 1 to 6 variables, none of them twice, a bar, the response, and perhaps parts that say nothing more
 unfoldable pub table_argument : List ℕ → Result Instruction JobWhy
 table_argument text = do
-  variables ← names_up_to 4 text
+  variables ← names_up_to most_variables text
   some ← refuse BadValue (length variables.0 == 0)
   once ← refuse BadValue (is_twice variables.0)
   bar ← behind_mark 124 variables.1

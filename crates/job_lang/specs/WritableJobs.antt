@@ -6,7 +6,7 @@ use Rattle.sdc_base.specs.Blanks.{trim}
 use Rattle.sdc_base.specs.Lines.{is_line_feed, IsLine, HasNoFeed}
 use Rattle.sdc_base.specs.Tokens.{is_quote, is_file_name}
 use Rattle.sdc_base.specs.declared.rule.Rule.{Rule}
-use Rattle.sdc_base.specs.declared.rule.Rule.TheVariants.{Freq}
+use Rattle.sdc_base.specs.declared.rule.Rule.TheVariants.{Freq, Zero}
 use Rattle.job_lang.specs.declared.job.Job.{Job}
 use Rattle.job_lang.specs.declared.job.PriorLine.{PriorLine}
 use Rattle.job_lang.specs.declared.job.TableLine.{TableLine}
@@ -18,12 +18,23 @@ use Rattle.job_lang.specs.Jobs.{job_of}
 use Rattle.job_lang.specs.Meaning.{line_says}
 use Rattle.job_lang.specs.FileLaws.{puts_of, reads_of}
 use Rattle.job_lang.specs.Spelling.{table_number, said_line}
+use Rattle.job_lang.specs.TableTexts.{most_variables}
 use Rattle.job_lang.specs.JobText.{job_text, in_text}
 
 -- a rule on frequencies
 abbrev pub is_on_frequencies : Rule → Bool
 is_on_frequencies (Freq n r) = true
 is_on_frequencies rule = false
+
+-- a rule on zeros
+abbrev pub is_on_zeros : Rule → Bool
+is_on_zeros (Zero r) = true
+is_on_zeros rule = false
+
+-- at most one rule is on frequencies, and at most one on zeros
+pub record HasEachOnce (rules : List Rule) : Type 0 where
+  pub frequencies : count_by is_on_frequencies rules ≤ 1
+  pub zeros : count_by is_on_zeros rules ≤ 1
 
 -- a name that can stand between quotes in a line: neither a quote nor LF in it
 abbrev pub IsQuotable : List ℕ → Type 0
@@ -42,9 +53,9 @@ HasSeparator prior = (may_separate prior.separator ≡ true) × (is_line_feed pr
 abbrev pub IsSpellable : Instruction → Type 0
 IsSpellable (said.Microdata name) = is_file_name name ≡ true
 IsSpellable (said.Metadata name) = is_file_name name ≡ true
-IsSpellable (said.Table variables response) = (0 < length variables) × (length variables ≤ 4)
+IsSpellable (said.Table variables response) = (0 < length variables) × (length variables ≤ most_variables)
     × IsDistinct bytes_eq variables × AllByRecursion IsQuotable variables × IsQuotable response
-IsSpellable (said.Safety rules) = AreInRange rules × (count_by is_on_frequencies rules.list ≤ 1)
+IsSpellable (said.Safety rules) = AreInRange rules × HasEachOnce rules.list
 IsSpellable said.Read = Unit {0}
 IsSpellable (said.Prior file number separator) =
     (place : ℕ) × (place < 8) × (number ≡ table_number place) × (is_file_name file ≡ true)
@@ -64,11 +75,11 @@ LinesAreRead =
     (one : Instruction) → IsSpellable one → (line_says (said_line one) ≡ Ok one) × (trim (said_line one) ≡ said_line one)
     × IsLine (said_line one)
 
--- A job within its limits whose names can be written, with at most one rule on frequencies and one a priori file for
--- each table, and whose files are told apart: each that is put from all others.
+-- A job within its limits whose names can be written, with at most one rule on frequencies, one on zeros and one a
+-- priori file for each table, and whose files are told apart: each that is put from all others.
 pub record IsWritable (job : Job) : Type 0 where
   pub limits : IsJob job
-  pub frequencies : count_by is_on_frequencies job.rules.list ≤ 1
+  pub rules : HasEachOnce job.rules.list
   pub names : AllByRecursion HasQuotable job.tables
   pub separators : AllByRecursion HasSeparator job.priors
   pub priors : IsDistinct ◌==◌ (map (λ p. p.table) job.priors)

@@ -37,7 +37,7 @@ pub struct Job {
 pub struct TableLine {
     /// The line, from 1.
     pub line: u32,
-    /// The names of the variables that span the table, 1 to 4, none twice.
+    /// The names of the variables that span the table, 1 to 6, none twice.
     pub variables: Items<Text>,
     /// The name of the variable that is summed.
     pub response: Text,

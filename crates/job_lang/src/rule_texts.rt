@@ -39,6 +39,12 @@ pub(crate) fn clause_in(text: &[u8]) -> Result<RuleClause, JobWhy>
     if spells(word, b"P") {
         return percent_clause(&mut cursor);
     }
+    if spells(word, b"PQ") {
+        return prior_posterior_clause(&mut cursor);
+    }
+    if spells(word, b"ZERO") {
+        return zero_clause(&mut cursor);
+    }
     if spells(word, b"MAN") {
         return man_clause(&mut cursor);
     }
@@ -109,6 +115,31 @@ fn percent_clause(cursor: &mut Cursor) -> Result<RuleClause, JobWhy>
     let p = cursor.number(1, 1000)?;
     percent_end(cursor)?;
     Ok(RuleClause::Named(Rule::Percent(p as u32)))
+}
+
+// The numbers of PQ.
+#[tactic(auto, unfolding(crate::specs::RuleClauses::prior_posterior_clause))]
+fn prior_posterior_clause(cursor: &mut Cursor) -> Result<RuleClause, JobWhy>
+    ensures { Gives fault_itself (λ one. one) result (spec.prior_posterior_clause cursor.old) }
+{
+    cursor.mark(b'(')?;
+    let p = cursor.number(1, 1000)?;
+    cursor.mark(b',')?;
+    let q = cursor.number(1, 1000)?;
+    cursor.close()?;
+    Ok(RuleClause::Named(Rule::Pq {
+        p: p as u32,
+        q: q as u32,
+    }))
+}
+
+// The number of ZERO.
+#[tactic(auto, unfolding(crate::specs::RuleClauses::zero_clause))]
+fn zero_clause(cursor: &mut Cursor) -> Result<RuleClause, JobWhy>
+    ensures { Gives fault_itself (λ one. one) result (spec.zero_clause cursor.old) }
+{
+    let r = one_number(1, 1_000_000_000, cursor)?;
+    Ok(RuleClause::Named(Rule::Zero(r as u32)))
 }
 
 // The number of MAN.

@@ -55,6 +55,16 @@ fn is_frequency(clause: &RuleClause) -> bool
     }
 }
 
+// Whether it is a rule on zeros.
+fn is_zero(clause: &RuleClause) -> bool
+    ensures { result ≡ spec.is_zero clause.now }
+{
+    match clause {
+        RuleClause::Named(Rule::Zero(_)) => true,
+        _ => false,
+    }
+}
+
 // Whether it is the level of cells that are declared unsafe.
 fn is_man(clause: &RuleClause) -> bool
     ensures { result ≡ spec.is_man clause.now }
@@ -80,6 +90,13 @@ fn frequency_count(clauses: &[RuleClause]) -> usize
     ensures { result ≡ count_by spec.is_frequency clauses.now }
 {
     clauses.iter().filter(|c| is_frequency(c)).count()
+}
+
+// How many are rules on zeros.
+fn zero_count(clauses: &[RuleClause]) -> usize
+    ensures { result ≡ count_by spec.is_zero clauses.now }
+{
+    clauses.iter().filter(|c| is_zero(c)).count()
 }
 
 // How many are levels of cells that are declared unsafe.
@@ -109,7 +126,8 @@ fn named_count(clauses: &[RuleClause]) -> usize
     count
 }
 
-// One to eight rules that name cells, at most one of them on frequencies, and at most one MAN and one WGT.
+// One to eight rules that name cells, at most one of them on frequencies and one on zeros, and at most one MAN and one
+// WGT.
 fn are_rules(clauses: &[RuleClause]) -> bool
     ensures { result ≡ spec.are_rules clauses.now }
 {
@@ -117,6 +135,7 @@ fn are_rules(clauses: &[RuleClause]) -> bool
     0 < named
         && named < 9
         && frequency_count(clauses) < 2
+        && zero_count(clauses) < 2
         && man_count(clauses) < 2
         && weights_count(clauses) < 2
 }

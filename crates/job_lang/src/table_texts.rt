@@ -3,7 +3,7 @@ ghost use Rattle.std.specs.List.{list_all};
 ghost use Rattle.sdc_base.specs.Answers.{Gives};
 ghost use Rattle.job_lang.specs.Faults.{fault_itself, why_of};
 ghost use Rattle.job_lang.specs.Pieces.{pieces};
-ghost use Rattle.job_lang.specs.TableTexts.{names_up_to};
+ghost use Rattle.job_lang.specs.TableTexts.{most_variables, names_up_to};
 ghost use Rattle.job_lang.specs.TableTexts as spec;
 
 use crate::cursor::{Cursor, at_front};
@@ -16,7 +16,7 @@ use sdc_base::{Items, Text};
 use std::alloc::Global;
 
 // The most variables of a table.
-const MOST_VARIABLES: usize = 4;
+const MOST_VARIABLES: usize = 6;
 
 /// The table that the text behind SPECIFYTABLE states.
 #[tactic(auto, unfolding(crate::specs::TableTexts::table_argument))]
@@ -44,9 +44,9 @@ pub(crate) fn table_argument(alloc: Global, text: &[u8]) -> Result<Instruction, 
     })
 }
 
-// The words in quotes that stand next, at most four.
+// The words in quotes that stand next, at most six.
 fn variables_at(alloc: Global, cursor: &mut Cursor) -> Result<Items<Text>, LineError>
-    ensures { Gives why_of (λ names. (names, cursor.new)) result (names_up_to 4 cursor.old) }
+    ensures { Gives why_of (λ names. (names, cursor.new)) result (names_up_to most_variables cursor.old) }
 {
     let mut names = Items::empty(alloc);
     for k in 0..MOST_VARIABLES {

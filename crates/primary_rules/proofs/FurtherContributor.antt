@@ -1,5 +1,5 @@
 -- A further contributor that isn't the largest hides what the largest one contributes.
-use Rattle.std.proofs.Common.{◌≡◌, ℕ, ◌+◌, ◌-◌, ◌*◌, ◌≤◌, min, true, false, List, [], ◌∷◌, ◌++◌, All, fold, sum_by, ℤ, pos, ◌+ℤ◌, ◌*ℤ◌, ◌≤ℤ◌, ◌<ℤ◌, int_lt, arith, refl, ap, sym, subst, ◌∙◌, if◌then◌else◌}
+use Rattle.std.proofs.Common.{◌≡◌, ℕ, ◌+◌, ◌-◌, ◌*◌, ◌≤◌, min, true, false, List, [], ◌∷◌, ◌++◌, All, fold, sum_by, IsTrue, ℤ, pos, ◌+ℤ◌, ◌*ℤ◌, ◌≤ℤ◌, ◌<ℤ◌, int_lt, arith, refl, ap, sym, subst, ◌∙◌, if◌then◌else◌}
 use Rattle.std.specs.List.{AllByRecursion}
 use Rattle.std.proofs.lemmas.Int.{ints}
 use Rattle.std.proofs.lemmas.List.Elements.{All-head, All-tail}
@@ -8,7 +8,8 @@ use Rattle.sdc_base.proofs.WholeNumbers.{times_up}
 use Rattle.sdc_base.specs.declared.tops.Unit.{Unit as Contribution}
 use Rattle.sdc_base.specs.Largest.{with_contribution, ranking_of, first_steps}
 use Rattle.sdc_base.specs.Shares.{weight_from}
-use Rattle.sdc_base.specs.RuleLevels.{Figures, rest_beside_two}
+use Rattle.sdc_base.specs.RuleLevels.{Figures, names, rest_beside_two}
+use Rattle.sdc_base.specs.declared.rule.Rule.TheVariants as rule
 use Rattle.primary_rules.specs.Contributors.{figures_of, FurtherIsNotNamed}
 use Rattle.primary_rules.proofs.Stricter.{times_of}
 
@@ -119,8 +120,10 @@ adds_itself n (x ∷ xs) new all here =
       | false ↦ omega (arith, ints, adds_itself (n - x.weight) xs new all.1 here)
     ]
 
-pub further_is_not_named : FurtherIsNotNamed
-further_is_not_named p scale units new all here full named =
+-- the largest stays, and the rest grows
+no_more : (p q scale : ℕ) (units : List Contribution) (new : Contribution) → All (λ unit. pos 0 ≤ℤ unit.value) units → pos 0 ≤ℤ new.value → scale ≤ weight_from new.value units
+    → IsTrue (names (rule.Pq p q) (figures_of (units ++ new ∷ []) scale)) → IsTrue (names (rule.Pq p q) (figures_of units scale))
+no_more p q scale units new all here full named =
     let before : Figures = figures_of units scale in
     let after : Figures = figures_of (units ++ new ∷ []) scale in
     let order : ranking_of (units ++ new ∷ []) ≡ with_contribution (ranking_of units) new = fold_push with_contribution [] units new in
@@ -131,6 +134,9 @@ further_is_not_named p scale units new all here full named =
     let second : after.largest 2 ≤ℤ (before.largest 2 +ℤ pos new.weight *ℤ new.value) = subst (λ xs. first_steps (2 * scale) xs ≤ℤ (before.largest 2 +ℤ pos new.weight *ℤ new.value)) (sym order) (adds_itself (2 * scale) (ranking_of units) new zero_on here) in
     let whole : after.truth ≡ before.truth +ℤ pos new.weight *ℤ new.value = fold_push (λ sum (unit : Contribution). sum +ℤ pos unit.weight *ℤ unit.value) (pos 0) units new in
     let rests : rest_beside_two before ≤ℤ rest_beside_two after = omega (arith, ints, second, whole) in
-    let hundred : (pos 100 *ℤ rest_beside_two before) ≤ℤ (pos 100 *ℤ rest_beside_two after) = times_up (pos 100) (rest_beside_two before) (rest_beside_two after) (omega (arith, ints)) rests in
+    let part : (pos q *ℤ rest_beside_two before) ≤ℤ (pos q *ℤ rest_beside_two after) = times_up (pos q) (rest_beside_two before) (rest_beside_two after) (omega (arith, ints)) rests in
     let bound : pos p *ℤ after.largest 1 ≡ pos p *ℤ before.largest 1 = ap (λ x. pos p *ℤ x) first in
-    grind (arith, ints, named, hundred, bound)
+    grind (arith, ints, named, part, bound)
+
+pub further_is_not_named : FurtherIsNotNamed
+further_is_not_named = (λ p. no_more p 100, λ p q. no_more p q)

@@ -20,11 +20,15 @@ same_names : (kept : ℕ) (one : Rule) (cell other : Figures) → 2 ≤ kept →
 same_names kept (rule.Freq n r) cell other two looks same = ap (λ f. names (rule.Freq n r) (record cell { freq = f })) same.freq
 same_names kept (rule.Nk n k) cell other two looks same = rw (same.truth, same.largest n looks) refl
 same_names kept (rule.Percent p) cell other two looks same = rw (same.truth, same.largest 1 (omega arith), same.largest 2 two) refl
+same_names kept (rule.Pq p q) cell other two looks same = rw (same.truth, same.largest 1 (omega arith), same.largest 2 two) refl
+same_names kept (rule.Zero r) cell other two looks same = rw (same.truth, same.freq) refl
 
 same_wanted : (kept : ℕ) (one : Rule) (cell other : Figures) → 2 ≤ kept → looks_at one ≤ kept → AgreeUpTo kept cell other → wanted_level one cell ≡ wanted_level one other
 same_wanted kept (rule.Freq n r) cell other two looks same = rw same.truth refl
 same_wanted kept (rule.Nk n k) cell other two looks same = rw (same.truth, same.largest n looks) refl
 same_wanted kept (rule.Percent p) cell other two looks same = rw (same.truth, same.largest 1 (omega arith), same.largest 2 two) refl
+same_wanted kept (rule.Pq p q) cell other two looks same = rw (same.truth, same.largest 1 (omega arith), same.largest 2 two) refl
+same_wanted kept (rule.Zero r) cell other two looks same = refl
 
 same_upper : (kept most : ℕ) (rules : List Rule) (cell other : Figures) → 2 ≤ most → fold (λ most one. max most (looks_at one)) most rules ≤ kept → AgreeUpTo kept cell other → upper_of rules cell ≡ upper_of rules other
 same_upper kept most [] cell other two enough same = refl

@@ -7,3 +7,4 @@ pub mod Rescaling
 pub mod RescaledRecords
 pub mod FurtherContributor
 pub mod FromZero
+pub mod EqualRules

@@ -13,6 +13,8 @@ pub names_where_disclosing : NamesWhereDisclosing
 names_where_disclosing (rule.Freq n r) cell = (λ h. search (arith, rules), λ h. search (arith, rules))
 names_where_disclosing (rule.Nk n k) cell = (λ h. grind (arith, ints, h), λ h. grind (arith, ints, h))
 names_where_disclosing (rule.Percent p) cell = (λ h. grind (arith, ints, h), λ h. grind (arith, ints, h))
+names_where_disclosing (rule.Pq p q) cell = (λ h. grind (arith, ints, h), λ h. grind (arith, ints, h))
+names_where_disclosing (rule.Zero r) cell = (λ h. search (arith, ints, rules), λ h. search (arith, ints, rules))
 
 any_head : {P : Rule → Type 0} → (x : Rule) (xs : List Rule) → P x → Any P (x ∷ xs)
 any_head {P} x xs here = (0, x, omega arith, refl, here)

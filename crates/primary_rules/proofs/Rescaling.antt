@@ -1,5 +1,7 @@
 -- A change of the unit changes no naming, and levels only within rounding.
-use Rattle.std.proofs.Common.{◌≡◌, ℕ, ◌≤◌, true, false, List, [], ◌∷◌, All, Option, None, Some, option_map, ℤ, pos, negsuc, neg_ℤ, ◌+ℤ◌, ◌*ℤ◌, ◌≤ℤ◌, ◌<ℤ◌, int_lt, arith, refl, ap, sym, subst, ◌∙◌, if◌then◌else◌}
+use Rattle.std.proofs.Common.{◌≡◌, ◌≢◌, ℕ, zero, suc, ◌*◌, ◌≤◌, Bool, true, false, List, [], ◌∷◌, map, All, Option, None, Some, option_map, ℤ, pos, negsuc, neg_ℤ, ◌+ℤ◌, ◌*ℤ◌, ◌≤ℤ◌, ◌<ℤ◌, int_lt, arith, refl, ap, sym, subst, ◌∙◌, if◌then◌else◌}
+use Rattle.std.specs.Ordering.{int_eq}
+use Rattle.std.proofs.lemmas.Bool.Decides.{Decides-int_eq}
 use Rattle.std.proofs.lemmas.Int.{ints, by_lt_z}
 use Rattle.std.proofs.Math.IntN.{*ℤ_comm}
 use Rattle.std.proofs.lemmas.List.Elements.{All-head, All-tail}
@@ -9,7 +11,7 @@ use Rattle.sdc_base.specs.declared.rule.Rule.{Rule}
 use Rattle.sdc_base.specs.declared.rule.Rule.TheVariants as rule
 use Rattle.primary_rules.specs.Ranges.{IsInRange}
 use Rattle.primary_rules.specs.OneRule.{up_by, greater_of}
-use Rattle.primary_rules.specs.Units.{IsRescaled, IsWithinRounding, AreWithinRounding, neither, both, UnitsChangeNoNaming}
+use Rattle.primary_rules.specs.Units.{IsRescaled, IsWithinRounding, AreWithinRounding, neither, both, rule_in_units, UnitsChangeNoNaming}
 use Rattle.primary_rules.proofs.Rounding.{rounded_is}
 use Rattle.primary_rules.proofs.OneByOne.{upper_first}
 
@@ -106,15 +108,32 @@ part_rescaled : (t m n : ℕ) (a b : ℤ) → pos m *ℤ (pos t *ℤ a) +ℤ neg
 part_rescaled t m n a b =
     omega (arith, ints, swap_times (pos m) (pos t) a, swap_times (pos n) (pos t) b, distrib (pos t) (pos m *ℤ a) (neg_ℤ (pos n *ℤ b)), times_minus t (pos n *ℤ b))
 
-names_rescaled : (t : ℕ) (one : Rule) (cell other : Figures) → 1 ≤ t → IsRescaled t cell other → names one other ≡ names one cell
+apart : (a : ℤ) → a ≢ pos 0 → int_eq a (pos 0) ≡ false
+apart a h = by_test (int_eq a (pos 0)) (λ is. h ((Decides-int_eq a (pos 0)).0 is))
+  where
+    by_test : (t : Bool) → (t ≡ true → ⊥) → t ≡ false
+    by_test true g = absurd (g refl)
+    by_test false g = refl
+
+-- so many times a number is 0 exactly where the number is
+zero_rescaled : (t : ℕ) (a : ℤ) → 1 ≤ t → int_eq (pos t *ℤ a) (pos 0) ≡ int_eq a (pos 0)
+zero_rescaled t (pos zero) h = let none : pos t *ℤ pos 0 ≡ pos 0 = omega (arith, ints) in ap (λ x. int_eq x (pos 0)) none
+zero_rescaled t (pos (suc n)) h = let more : (pos t *ℤ pos 0) <ℤ (pos t *ℤ pos (suc n)) = times_more (pos t) (pos 0) (pos (suc n)) (omega (arith, ints, h)) (omega (arith, ints)) in apart (pos t *ℤ pos (suc n)) (λ is. omega (arith, ints, more, is)) ∙ sym (apart (pos (suc n)) (λ is. omega (arith, ints, is)))
+zero_rescaled t (negsuc n) h = let less : (pos t *ℤ negsuc n) <ℤ (pos t *ℤ pos 0) = times_more (pos t) (negsuc n) (pos 0) (omega (arith, ints, h)) (omega (arith, ints)) in apart (pos t *ℤ negsuc n) (λ is. omega (arith, ints, less, is)) ∙ sym (apart (negsuc n) (λ is. omega (arith, ints, is)))
+
+names_rescaled : (t : ℕ) (one : Rule) (cell other : Figures) → 1 ≤ t → IsRescaled t cell other → names (rule_in_units t one) other ≡ names one cell
 names_rescaled t (rule.Freq n r) cell other h are = rw are.freq refl
 names_rescaled t (rule.Nk n k) cell other h are =
     rw (are.truth, are.largest n, swap_times (pos k) (pos t) cell.truth, swap_times (pos 100) (pos t) (cell.largest n)) (less_rescaled t (pos k *ℤ cell.truth) (pos 100 *ℤ cell.largest n) h)
 names_rescaled t (rule.Percent p) cell other h are =
     ap (λ x. int_lt (pos 100 *ℤ x) (pos p *ℤ other.largest 1)) (rest_rescaled t cell other are)
     ∙ rw (are.largest 1, swap_times (pos 100) (pos t) (rest_beside_two cell), swap_times (pos p) (pos t) (cell.largest 1)) (less_rescaled t (pos 100 *ℤ rest_beside_two cell) (pos p *ℤ cell.largest 1) h)
+names_rescaled t (rule.Pq p q) cell other h are =
+    ap (λ x. int_lt (pos q *ℤ x) (pos p *ℤ other.largest 1)) (rest_rescaled t cell other are)
+    ∙ rw (are.largest 1, swap_times (pos q) (pos t) (rest_beside_two cell), swap_times (pos p) (pos t) (cell.largest 1)) (less_rescaled t (pos q *ℤ rest_beside_two cell) (pos p *ℤ cell.largest 1) h)
+names_rescaled t (rule.Zero r) cell other h are = rw (are.freq, are.truth, zero_rescaled t cell.truth h) refl
 
-wanted_within : (t : ℕ) (one : Rule) (cell other : Figures) → 1 ≤ t → IsInRange one → IsRescaled t cell other → IsWithinRounding t (rounded_up (wanted_level one cell)) (rounded_up (wanted_level one other))
+wanted_within : (t : ℕ) (one : Rule) (cell other : Figures) → 1 ≤ t → IsInRange one → IsRescaled t cell other → IsWithinRounding t (rounded_up (wanted_level one cell)) (rounded_up (wanted_level (rule_in_units t one) other))
 wanted_within t (rule.Freq n r) cell other h range are =
     let over : pos r *ℤ other.truth ≡ pos t *ℤ (pos r *ℤ cell.truth) = ap (λ x. pos r *ℤ x) are.truth ∙ swap_times (pos r) (pos t) cell.truth in
     subst (λ x. IsWithinRounding t (rounded_up (wanted_level (rule.Freq n r) cell)) (rounded_up (fraction_of x 100))) (sym over) (rounded_within t 100 (pos r *ℤ cell.truth) h (omega arith))
@@ -128,6 +147,15 @@ wanted_within t (rule.Percent p) cell other h range are =
     ∙ ap (λ x. pos p *ℤ x +ℤ neg_ℤ (pos 100 *ℤ (pos t *ℤ rest_beside_two cell))) (are.largest 1)
     ∙ part_rescaled t p 100 (cell.largest 1) (rest_beside_two cell) in
     subst (λ x. IsWithinRounding t (rounded_up (wanted_level (rule.Percent p) cell)) (rounded_up (fraction_of x 100))) (sym over) (rounded_within t 100 (pos p *ℤ cell.largest 1 +ℤ neg_ℤ (pos 100 *ℤ rest_beside_two cell)) h (omega arith))
+wanted_within t (rule.Pq p q) cell other h range are =
+    let over : pos p *ℤ other.largest 1 +ℤ neg_ℤ (pos q *ℤ rest_beside_two other) ≡ pos t *ℤ (pos p *ℤ cell.largest 1 +ℤ neg_ℤ (pos q *ℤ rest_beside_two cell)) =
+    ap (λ x. pos p *ℤ other.largest 1 +ℤ neg_ℤ (pos q *ℤ x)) (rest_rescaled t cell other are)
+    ∙ ap (λ x. pos p *ℤ x +ℤ neg_ℤ (pos q *ℤ (pos t *ℤ rest_beside_two cell))) (are.largest 1)
+    ∙ part_rescaled t p q (cell.largest 1) (rest_beside_two cell) in
+    subst (λ x. IsWithinRounding t (rounded_up (wanted_level (rule.Pq p q) cell)) (rounded_up (fraction_of x q))) (sym over) (rounded_within t q (pos p *ℤ cell.largest 1 +ℤ neg_ℤ (pos q *ℤ rest_beside_two cell)) h range.2)
+wanted_within t (rule.Zero r) cell other h range are =
+    let over : pos (t * r) ≡ pos t *ℤ pos r = omega (arith, ints) in
+    subst (λ x. IsWithinRounding t (rounded_up (wanted_level (rule.Zero r) cell)) (rounded_up (fraction_of x 1))) (sym over) (rounded_within t 1 (pos r) h (omega arith))
 
 -- ---- all rules
 
@@ -146,19 +174,19 @@ greatest_within t (Some n) (Some a) None (Some b) h first second = absurd second
 greatest_within t (Some n) (Some a) (Some m) None h first second = absurd second
 greatest_within t (Some n) (Some a) (Some m) (Some b) h first second = greater_within t n m a b h first second
 
-one_within : (t : ℕ) (one : Rule) (cell other : Figures) → 1 ≤ t → IsInRange one → IsRescaled t cell other → UpWithin t (up_by one cell) (up_by one other)
+one_within : (t : ℕ) (one : Rule) (cell other : Figures) → 1 ≤ t → IsInRange one → IsRescaled t cell other → UpWithin t (up_by one cell) (up_by (rule_in_units t one) other)
 one_within t one cell other h range are =
     let low : ℤ = rounded_up (wanted_level one cell) in
-    let high : ℤ = rounded_up (wanted_level one other) in
+    let high : ℤ = rounded_up (wanted_level (rule_in_units t one) other) in
     let within : IsWithinRounding t low high = wanted_within t one cell other h range are in
     subst (λ b. UpWithin t (up_by one cell) (if b then Some high else None)) (sym (names_rescaled t one cell other h are))
     (elim (names one cell) as (λ b. UpWithin t (if b then Some low else None) (if b then Some high else None)) [ true ↦ within | false ↦ tt ])
 
-upper_within : (t : ℕ) (rules : List Rule) (cell other : Figures) → 1 ≤ t → All IsInRange rules → IsRescaled t cell other → UpWithin t (upper_of rules cell) (upper_of rules other)
+upper_within : (t : ℕ) (rules : List Rule) (cell other : Figures) → 1 ≤ t → All IsInRange rules → IsRescaled t cell other → UpWithin t (upper_of rules cell) (upper_of (map (rule_in_units t) rules) other)
 upper_within t [] cell other h ranges are = tt
 upper_within t (one ∷ rules) cell other h ranges are =
-    rw (upper_first one rules cell, upper_first one rules other)
-    (greatest_within t (up_by one cell) (up_by one other) (upper_of rules cell) (upper_of rules other) h
+    rw (upper_first one rules cell, upper_first (rule_in_units t one) (map (rule_in_units t) rules) other)
+    (greatest_within t (up_by one cell) (up_by (rule_in_units t one) other) (upper_of rules cell) (upper_of (map (rule_in_units t) rules) other) h
     (one_within t one cell other h (All-head IsInRange one rules ranges) are)
     (upper_within t rules cell other h (All-tail IsInRange one rules ranges) are))
 
@@ -171,5 +199,5 @@ levels_within t truth (Some level) (Some other) h within =
 
 pub units_change_no_naming : UnitsChangeNoNaming
 units_change_no_naming t rules cell other h ranges are =
-    subst (λ x. AreWithinRounding t (level_of rules cell) (option_map (levels_up_to x) (upper_of rules other))) (sym are.truth)
-    (levels_within t cell.truth (upper_of rules cell) (upper_of rules other) h (upper_within t rules cell other h ranges are))
+    subst (λ x. AreWithinRounding t (level_of rules cell) (option_map (levels_up_to x) (upper_of (map (rule_in_units t) rules) other))) (sym are.truth)
+    (levels_within t cell.truth (upper_of rules cell) (upper_of (map (rule_in_units t) rules) other) h (upper_within t rules cell other h ranges are))

@@ -1,5 +1,5 @@
 -- Stricter rules name more and want more.
-use Rattle.std.proofs.Common.{◌≡◌, ℕ, ◌≤◌, ◌++◌, true, false, List, [], ◌∷◌, Option, None, Some, option_map, ℤ, pos, neg_ℤ, ◌+ℤ◌, ◌*ℤ◌, ◌≤ℤ◌, arith, rules, refl, if◌then◌else◌}
+use Rattle.std.proofs.Common.{◌≡◌, ℕ, ◌≤◌, ◌++◌, true, false, IsTrue, List, [], ◌∷◌, Option, None, Some, option_map, ℤ, pos, negsuc, neg_ℤ, ◌+ℤ◌, ◌*ℤ◌, ◌≤ℤ◌, ◌<ℤ◌, int_lt, arith, rules, refl, if◌then◌else◌}
 use Rattle.std.proofs.lemmas.Int.{ints}
 use Rattle.std.proofs.Math.IntN.{*ℤ_comm}
 use Rattle.sdc_base.proofs.WholeNumbers.{distrib, times_up}
@@ -16,6 +16,13 @@ use Rattle.primary_rules.proofs.OneByOne.{upper_first}
 pub times_of : (m n : ℕ) (a : ℤ) → m ≤ n → pos 0 ≤ℤ a → (pos m *ℤ a) ≤ℤ (pos n *ℤ a)
 times_of m n a h from = omega (arith, ints, times_up a (pos m) (pos n) from (omega (arith, ints, h)), *ℤ_comm a (pos m), *ℤ_comm a (pos n))
 
+-- so many times a number below 0 is below 0
+below_zero : (t n : ℕ) → 1 ≤ t → (pos t *ℤ negsuc n) <ℤ pos 0
+below_zero t n h =
+    let up : (pos t *ℤ negsuc n) ≤ℤ (pos t *ℤ negsuc 0) = times_up (pos t) (negsuc n) (negsuc 0) (omega (arith, ints)) (omega (arith, ints)) in
+    let one : (pos t *ℤ negsuc 0) ≡ neg_ℤ (pos t) = omega (arith, ints) in
+    omega (arith, ints, up, one, h)
+
 -- a quotient by the same divisor that is no less rounds up to no less
 pub rounded_more : (over more : ℤ) (d : ℕ) → 1 ≤ d → over ≤ℤ more → rounded_up (fraction_of over d) ≤ℤ rounded_up (fraction_of more d)
 rounded_more over more d h less =
@@ -23,6 +30,11 @@ rounded_more over more d h less =
     let reaches : more ≤ℤ (pos d *ℤ rounded_up (fraction_of more d)) = that.reaches in
     let this : IsRoundedUp (fraction_of over d) (rounded_up (fraction_of over d)) = rounded_is over d h in
     this.least (rounded_up (fraction_of more d)) that.unit (omega (arith, ints, less, reaches))
+
+-- a number of which so many times is from 0 is from 0
+factor_from : (t : ℕ) (a : ℤ) → 1 ≤ t → pos 0 ≤ℤ (pos t *ℤ a) → pos 0 ≤ℤ a
+factor_from t (pos n) h from = omega (arith, ints)
+factor_from t (negsuc n) h from = absurd (let below : (pos t *ℤ negsuc n) <ℤ pos 0 = below_zero t n h in omega (arith, ints, from, below))
 
 -- the sum over n contributions over k percent, less the truth, and a sum over no fewer over a lower percentage
 share_more : (k l : ℕ) (truth sum more : ℤ) → 1 ≤ l → l ≤ k → pos 0 ≤ℤ truth → sum ≤ℤ more → rounded_up (fraction_of (sum +ℤ neg_ℤ (pos k *ℤ truth)) k) ≤ℤ rounded_up (fraction_of (more +ℤ neg_ℤ (pos l *ℤ truth)) l)
@@ -36,6 +48,28 @@ share_more k l truth sum more least h from less =
     let this : IsRoundedUp (fraction_of (sum +ℤ neg_ℤ (pos k *ℤ truth)) k) (rounded_up (fraction_of (sum +ℤ neg_ℤ (pos k *ℤ truth)) k)) = rounded_is (sum +ℤ neg_ℤ (pos k *ℤ truth)) k (omega (arith, least, h)) in
     this.least up unit (omega (arith, ints, less, reaches, wider, distrib (pos l) up truth, distrib (pos k) up truth))
 
+-- a fraction that is less a number of any sign, and no smaller one over a smaller part
+part_more : (q t : ℕ) (rest over more : ℤ) → 1 ≤ t → t ≤ q → pos 0 ≤ℤ more → over ≤ℤ more → rounded_up (fraction_of (over +ℤ neg_ℤ (pos q *ℤ rest)) q) ≤ℤ rounded_up (fraction_of (more +ℤ neg_ℤ (pos t *ℤ rest)) t)
+part_more q t rest over more least h from less =
+    let up : ℤ = rounded_up (fraction_of (more +ℤ neg_ℤ (pos t *ℤ rest)) t) in
+    let that : IsRoundedUp (fraction_of (more +ℤ neg_ℤ (pos t *ℤ rest)) t) up = rounded_is (more +ℤ neg_ℤ (pos t *ℤ rest)) t least in
+    let reaches : (more +ℤ neg_ℤ (pos t *ℤ rest)) ≤ℤ (pos t *ℤ up) = that.reaches in
+    let unit : pos 1 ≤ℤ up = that.unit in
+    let all : more ≤ℤ (pos t *ℤ (up +ℤ rest)) = omega (arith, ints, reaches, distrib (pos t) up rest) in
+    let whole : pos 0 ≤ℤ (up +ℤ rest) = factor_from t (up +ℤ rest) least (omega (arith, ints, from, all)) in
+    let wider : (pos t *ℤ (up +ℤ rest)) ≤ℤ (pos q *ℤ (up +ℤ rest)) = times_of t q (up +ℤ rest) h whole in
+    let this : IsRoundedUp (fraction_of (over +ℤ neg_ℤ (pos q *ℤ rest)) q) (rounded_up (fraction_of (over +ℤ neg_ℤ (pos q *ℤ rest)) q)) = rounded_is (over +ℤ neg_ℤ (pos q *ℤ rest)) q (omega (arith, least, h)) in
+    this.least up unit (omega (arith, ints, less, all, wider, distrib (pos q) up rest))
+
+-- a part of a rest of any sign, and no greater part of it
+looser_part : (q t : ℕ) (over more rest : ℤ) → 1 ≤ t → t ≤ q → pos 0 ≤ℤ more → over ≤ℤ more → IsTrue (int_lt (pos q *ℤ rest) over) → IsTrue (int_lt (pos t *ℤ rest) more)
+looser_part q t over more (pos n) least h from less named =
+    let part : (pos t *ℤ pos n) ≤ℤ (pos q *ℤ pos n) = times_of t q (pos n) h (omega (arith, ints)) in
+    grind (arith, ints, named, part, less)
+looser_part q t over more (negsuc n) least h from less named =
+    let part : (pos t *ℤ negsuc n) <ℤ pos 0 = below_zero t n least in
+    grind (arith, ints, part, from)
+
 pub stricter_wants_more : StricterWantsMore
 stricter_wants_more (rule.Freq n r) (rule.Freq m s) cell here there from stricter named =
     (search (arith, rules), rounded_more (pos r *ℤ cell.truth) (pos s *ℤ cell.truth) 100 (omega arith) (times_of r s cell.truth stricter.1 from.truth))
@@ -47,6 +81,12 @@ stricter_wants_more (rule.Nk n k) (rule.Nk m l) cell here there from stricter na
 stricter_wants_more (rule.Percent p) (rule.Percent q) cell here there from stricter named =
     let more : (pos p *ℤ cell.largest 1) ≤ℤ (pos q *ℤ cell.largest 1) = times_of p q (cell.largest 1) stricter (from.largest 1) in
     (grind (arith, ints, named, more), rounded_more (pos p *ℤ cell.largest 1 +ℤ neg_ℤ (pos 100 *ℤ rest_beside_two cell)) (pos q *ℤ cell.largest 1 +ℤ neg_ℤ (pos 100 *ℤ rest_beside_two cell)) 100 (omega arith) (omega (arith, ints, more)))
+stricter_wants_more (rule.Pq p q) (rule.Pq s t) cell here there from stricter named =
+    let more : (pos p *ℤ cell.largest 1) ≤ℤ (pos s *ℤ cell.largest 1) = times_of p s (cell.largest 1) stricter.0 (from.largest 1) in
+    let zero_on : pos 0 ≤ℤ (pos s *ℤ cell.largest 1) = omega (arith, ints, times_of 0 s (cell.largest 1) (omega arith) (from.largest 1)) in
+    (looser_part q t (pos p *ℤ cell.largest 1) (pos s *ℤ cell.largest 1) (rest_beside_two cell) there.2 stricter.1 zero_on more named, part_more q t (rest_beside_two cell) (pos p *ℤ cell.largest 1) (pos s *ℤ cell.largest 1) there.2 stricter.1 zero_on more)
+stricter_wants_more (rule.Zero r) (rule.Zero s) cell here there from stricter named =
+    (named, rounded_more (pos r) (pos s) 1 (omega arith) (omega (arith, ints, stricter)))
 stricter_wants_more one other cell here there from stricter named = absurd stricter
 
 -- ---- levels that are there where others are, and no lower

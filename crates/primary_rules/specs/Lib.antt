@@ -5,3 +5,4 @@ pub mod EnoughForRules
 pub mod Units
 pub mod Strictness
 pub mod Contributors
+pub mod PriorPosterior

@@ -7,11 +7,13 @@ use Rattle.sdc_base.specs.declared.rule.Rule.{Rule}
 use Rattle.sdc_base.specs.declared.rule.Rule.TheVariants as rule
 
 -- The inequality under which a rule names a cell. Each is strict. Not: a cell that meets its bound exactly, or under
--- FREQ one without records.
+-- FREQ and ZERO one without records.
 abbrev pub Discloses : Rule → Figures → Type 0
 Discloses (rule.Freq n r) cell = (1 ≤ cell.freq) × (cell.freq < n)
 Discloses (rule.Nk n k) cell = (pos k *ℤ cell.truth) <ℤ (pos 100 *ℤ cell.largest n)
 Discloses (rule.Percent p) cell = (pos 100 *ℤ rest_beside_two cell) <ℤ (pos p *ℤ cell.largest 1)
+Discloses (rule.Pq p q) cell = (pos q *ℤ rest_beside_two cell) <ℤ (pos p *ℤ cell.largest 1)
+Discloses (rule.Zero r) cell = (1 ≤ cell.freq) × (cell.truth ≡ pos 0)
 
 -- a rule names exactly the cells for which its inequality holds
 abbrev pub NamesWhereDisclosing : Type 0

@@ -21,16 +21,23 @@ whole_share = 100
 abbrev pub most_percent : ℕ
 most_percent = 1000
 
+-- the greatest level of a cell that shows 0, in units
+abbrev pub most_zero_level : ℕ
+most_zero_level = 10 ^ 9
+
 -- the greatest level
 abbrev pub most_level : ℕ
 most_level = 10 ^ 31
 
 -- A rule's numbers are in their ranges: FREQ(n,r) with n from 1 to 1,000,000 records and r from 0 to 1,000 percent;
--- NK(n,k) with n from 1 to 10 contributions and k from 1 to 100 percent; P(p) with p from 1 to 1,000 percent.
+-- NK(n,k) with n from 1 to 10 contributions and k from 1 to 100 percent; P(p) with p from 1 to 1,000 percent; PQ(p,q)
+-- with p and q from 1 to 1,000 percent; ZERO(r) with r from 1 to 10^9 units.
 abbrev pub IsInRange : Rule → Type 0
 IsInRange (rule.Freq n r) = (1 ≤ n) × (n ≤ most_records) × (r ≤ most_percent)
 IsInRange (rule.Nk n k) = (1 ≤ n) × (n ≤ most_contributions) × (1 ≤ k) × (k ≤ whole_share)
 IsInRange (rule.Percent p) = (1 ≤ p) × (p ≤ most_percent)
+IsInRange (rule.Pq p q) = (1 ≤ p) × (p ≤ most_percent) × (1 ≤ q) × (q ≤ most_percent)
+IsInRange (rule.Zero r) = (1 ≤ r) × (r ≤ most_zero_level)
 
 -- all rules of a job are in their ranges, and so is the percentage of cells that are declared unsafe
 pub record AreInRange (rules : Rules) : Type 0 where

@@ -10,11 +10,14 @@ use Rattle.sdc_base.specs.declared.rule.Rule.TheVariants as rule
 use Rattle.primary_rules.specs.Ranges.{IsInRange}
 
 -- The second rule is of the first one's kind and at least as strict: no fewer records and no lower percentage of the
--- level; no fewer contributions and no greater share of the truth; or no lower percentage.
+-- level; no fewer contributions and no greater share of the truth; no lower percentage; no lower percentage of the
+-- largest and no greater one of the rest; or no fewer units.
 abbrev pub IsStricter : Rule → Rule → Type 0
 IsStricter (rule.Freq n r) (rule.Freq m s) = (n ≤ m) × (r ≤ s)
 IsStricter (rule.Nk n k) (rule.Nk m l) = (n ≤ m) × (l ≤ k)
 IsStricter (rule.Percent p) (rule.Percent q) = p ≤ q
+IsStricter (rule.Pq p q) (rule.Pq s t) = (p ≤ s) × (t ≤ q)
+IsStricter (rule.Zero r) (rule.Zero s) = r ≤ s
 IsStricter one other = ⊥
 
 -- figures of values from 0: the truth is from 0, and so is each sum over the largest, which more contributions don't

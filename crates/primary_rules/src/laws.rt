@@ -5,6 +5,7 @@ ghost use Rattle.primary_rules.specs.EnoughForRules.{KeptAreEnough};
 ghost use Rattle.primary_rules.specs.Units.{UnitsChangeNoNaming, RecordsAreRescaled};
 ghost use Rattle.primary_rules.specs.Strictness.{StricterWantsMore, StricterLowersNone, FurtherLowersNone, MoreLowersNoManual, ValuesFromZeroAreEnough};
 ghost use Rattle.primary_rules.specs.Contributors.{FurtherIsNotNamed};
+ghost use Rattle.primary_rules.specs.PriorPosterior.{IsPercentOfHundred};
 
 /// A rule names exactly the cells for which its inequality holds, which is strict.
 #[tactic(auto, using(crate::proofs::NamedCells::names_where_disclosing))]
@@ -35,8 +36,8 @@ pub fn kept_are_enough()
     ensures { KeptAreEnough }
 {}
 
-/// Where all values are written in a smaller unit, truth and largest contributions are, and the same cells are named;
-/// the levels stay but for rounding.
+/// Where all values are written in a smaller unit, and with them the level of the rule on zeros, truth and largest
+/// contributions are, and the same cells are named; the levels stay but for rounding.
 pub fn units_change_no_naming()
     ensures records { RecordsAreRescaled }
     ensures levels { UnitsChangeNoNaming }
@@ -52,7 +53,14 @@ pub fn stricter_lowers_none()
     ensures from_zero { ValuesFromZeroAreEnough }
 {}
 
-/// A further contributor that isn't the largest never makes the p-percent rule name a cell.
+/// Where each contribution is known to within 100 percent, the prior-posterior rule is the p-percent rule.
+#[tactic(auto, using(crate::proofs::EqualRules::percent_of_hundred))]
+pub fn prior_posterior_of_hundred()
+    ensures { IsPercentOfHundred }
+{}
+
+/// A further contributor that isn't the largest never makes the p-percent rule name a cell, nor the prior-posterior
+/// rule.
 #[tactic(auto, using(crate::proofs::FurtherContributor::further_is_not_named))]
 pub fn further_is_not_named()
     ensures { FurtherIsNotNamed }

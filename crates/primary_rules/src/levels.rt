@@ -19,15 +19,17 @@ use sdc_base::{CellFacts, Levels, Rule, Rules};
 /// open upwards. The dominance rule `NK(n,k)` names a cell where `100 * T > k * X`, with the truth `X` and the sum `T`
 /// over the `n` largest contributions, and wants `100 * T / k - X`. The p-percent rule `P(p)` names a cell where `100 *
 /// R < p * x`, with the largest contribution `x` and the rest `R` of the truth beside the two largest, and wants `p * x
-/// / 100 - R`. What a rule wants is rounded up to a unit and at least 1; the greatest of the rules that name the cell
-/// is the upper level, and the lesser of it and the truth the lower one.
+/// / 100 - R`. The prior-posterior rule `PQ(p,q)` names a cell where `q * R < p * x`, and wants `p * x / q - R`. The
+/// rule on zeros `ZERO(r)` names a cell with a record and truth 0, and wants `r` units. What a rule wants is rounded up
+/// to a unit and at least 1; the greatest of the rules that name the cell is the upper level, and the lesser of it and
+/// the truth the lower one.
 ///
 /// The rules must be in their ranges, the truth from 0 to `10^29` units, and the facts must keep at least [`keep`]
 /// contributions. Where the facts are those of a cell over records, so are the levels. Nothing is refused, and no
 /// memory is taken. It takes time in proportion to the rules times the contributions that are kept.
 ///
-/// The rules and what they want are the handbook's (sensitivity rules); rounding and the lower level are this project's
-/// own.
+/// The rules and what they want are the handbook's (sensitivity rules); the rule on zeros, rounding and the lower level
+/// are this project's own.
 pub fn level(rules: &Rules, facts: &CellFacts) -> Option<Levels>
     requires in_range { AreInRange rules.now }
     requires truth { IsTruth facts.now.truth }

@@ -20,6 +20,8 @@ pub(crate) fn up_under(rule: Rule, facts: &CellFacts) -> Option<i128>
         Rule::Freq { n, r } => by_frequency(n, r, facts),
         Rule::Nk { n, k } => by_dominance(n, k, facts),
         Rule::Percent(p) => by_percent(p, facts),
+        Rule::Pq { p, q } => by_prior_posterior(p, q, facts),
+        Rule::Zero(r) => by_zero(r, facts),
     }
 }
 
@@ -59,6 +61,32 @@ fn by_percent(p: u32, facts: &CellFacts) -> Option<i128>
     let rest = hundredths(100, rest_of(facts));
     let bound = hundredths(p, facts.tops.sum_of_largest(1));
     excess(bound, rest, 100)
+}
+
+// By the prior-posterior rule.
+fn by_prior_posterior(p: u32, q: u32, facts: &CellFacts) -> Option<i128>
+    requires in_range { IsInRange (rule.Pq p q) }
+    requires truth { IsTruth facts.now.truth }
+    ensures level { ForSome result IsUpper }
+    ensures value { result ≡ up_by (rule.Pq p q) (figures_of_facts facts.now) }
+{
+    let rest = hundredths(q, rest_of(facts));
+    let bound = hundredths(p, facts.tops.sum_of_largest(1));
+    excess(bound, rest, q)
+}
+
+// By the rule on zeros.
+fn by_zero(r: u32, facts: &CellFacts) -> Option<i128>
+    requires in_range { IsInRange (rule.Zero r) }
+    requires truth { IsTruth facts.now.truth }
+    ensures level { ForSome result IsUpper }
+    ensures value { result ≡ up_by (rule.Zero r) (figures_of_facts facts.now) }
+{
+    if facts.freq >= 1 && facts.truth == 0 {
+        Some(up_from(i128::from(r), 1))
+    } else {
+        None
+    }
 }
 
 // What the truth has beside the two largest contributions.

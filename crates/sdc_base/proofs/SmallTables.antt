@@ -23,7 +23,7 @@ pub relation_rows : RelationRows
 relation_rows = record { two_way = refl; linked = refl; levels = refl; not_spanned = refl }
 
 pub rule_rows : RuleRows
-rule_rows = record { dominance = refl; percent = refl; both = refl; at_bound = refl; at_percent = refl; frequency = refl; nothing = refl; unit = refl }
+rule_rows = record { dominance = refl; percent = refl; both = refl; at_bound = refl; at_percent = refl; at_prior_posterior = refl; prior_posterior = refl; half_known = refl; zero_shown = refl; no_contributors = refl; frequency = refl; nothing = refl; unit = refl }
 
 pub cube_rows : CubeRows
 cube_rows = record { of_code = refl; of_total = refl; inner = refl; outer = refl; order = refl }

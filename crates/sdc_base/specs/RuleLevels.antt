@@ -1,7 +1,8 @@
 -- What the primary rules say of a cell: which rule names it, and how far it must then be open (handbook, sensitivity
 -- rules and protection levels; rounding up to a unit, the least level and the lower level: own).
-use Rattle.std.specs.Prelude.{ℕ, ◌*◌, max, Bool, if◌then◌else◌, List, [], ◌∷◌, fold, Option, None, Some, option_map, ℤ, pos, neg_ℤ, ◌+ℤ◌, ◌*ℤ◌, ◌≤ℤ◌, int_lt}
+use Rattle.std.specs.Prelude.{ℕ, ◌*◌, max, nat_le, ◌&&◌, Bool, if◌then◌else◌, List, [], ◌∷◌, fold, Option, None, Some, option_map, ℤ, pos, neg_ℤ, ◌+ℤ◌, ◌*ℤ◌, ◌≤ℤ◌, int_lt}
 use Rattle.std.specs.Int.{int_div_euclid}
+use Rattle.std.specs.Ordering.{int_eq}
 use Rattle.sdc_base.specs.Trees.{Tree}
 use Rattle.sdc_base.specs.Records.{Name}
 use Rattle.sdc_base.specs.Sums.{truth, freq}
@@ -37,12 +38,15 @@ figures_in trees name rows scale =
 abbrev pub rest_beside_two : Figures → ℤ
 rest_beside_two cell = cell.truth +ℤ neg_ℤ (cell.largest 2)
 
--- The rule names the cell: too few records; the n largest above k percent of the truth; or the rest below p percent of
--- the largest. All comparisons are strict, so exactly k percent, or exactly p percent, name no cell.
+-- The rule names the cell: too few records; the n largest above k percent of the truth; the rest below p percent of
+-- the largest; q percent of the rest below p percent of the largest; or a truth of 0 over some records. All comparisons
+-- are strict, so exactly k percent, or exactly p percent, name no cell.
 abbrev pub names : Rule → Figures → Bool
 names (rule.Freq n r) cell = frequency_names n cell.freq
 names (rule.Nk n k) cell = int_lt (pos k *ℤ cell.truth) (pos 100 *ℤ cell.largest n)
 names (rule.Percent p) cell = int_lt (pos 100 *ℤ rest_beside_two cell) (pos p *ℤ cell.largest 1)
+names (rule.Pq p q) cell = int_lt (pos q *ℤ rest_beside_two cell) (pos p *ℤ cell.largest 1)
+names (rule.Zero r) cell = nat_le 1 cell.freq && int_eq cell.truth (pos 0)
 
 -- a fraction of whole numbers, its denominator above 0
 pub record Fraction : Type 0 where
@@ -58,11 +62,14 @@ abbrev pub fraction_less : Fraction → ℤ → Fraction
 fraction_less q n = fraction_of (q.over +ℤ neg_ℤ (pos q.under *ℤ n)) q.under
 
 -- How far the rule wants a cell that it names to be open upwards: r percent of the truth; what the truth lacks for the
--- n largest to be k percent of it; or what the rest lacks for p percent of the largest.
+-- n largest to be k percent of it; what the rest lacks for p percent of the largest, or for p parts in q of it; or r
+-- units.
 abbrev pub wanted_level : Rule → Figures → Fraction
 wanted_level (rule.Freq n r) cell = fraction_of (pos r *ℤ cell.truth) 100
 wanted_level (rule.Nk n k) cell = fraction_less (fraction_of (pos 100 *ℤ cell.largest n) k) cell.truth
 wanted_level (rule.Percent p) cell = fraction_less (fraction_of (pos p *ℤ cell.largest 1) 100) (rest_beside_two cell)
+wanted_level (rule.Pq p q) cell = fraction_less (fraction_of (pos p *ℤ cell.largest 1) q) (rest_beside_two cell)
+wanted_level (rule.Zero r) cell = fraction_of (pos r) 1
 
 -- the least whole number that is not below the fraction, and a unit at least
 abbrev pub rounded_up : Fraction → ℤ

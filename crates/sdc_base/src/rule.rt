@@ -15,6 +15,13 @@ pub enum Rule {
     /// The p-percent rule `P(p)`: a cell is named where the contributions but for the two largest come to less than
     /// `p` percent of the largest, 1 to 1,000.
     Percent(u32),
+    /// The prior-posterior rule `PQ(p,q)`: contributors are thought to know each contribution to within `q` percent. A
+    /// cell is named where `q` percent of the contributions but for the two largest come to less than `p` percent of
+    /// the largest. Both are from 1 to 1,000.
+    Pq { p: u32, q: u32 },
+    /// The rule on zeros `ZERO(r)`: a cell that has a record and shows 0 is named. Its protection level is `r` units,
+    /// 1 to 1,000,000,000.
+    Zero(u32),
 }
 
 impl Default for Rule {

@@ -12,6 +12,8 @@ fn is_in_range(rule: Rule) -> bool
         Rule::Freq { n, r } => 1 <= n && n <= 1000000 && r <= 1000,
         Rule::Nk { n, k } => 1 <= n && n <= 10 && 1 <= k && k <= 100,
         Rule::Percent(p) => 1 <= p && p <= 1000,
+        Rule::Pq { p, q } => 1 <= p && p <= 1000 && 1 <= q && q <= 1000,
+        Rule::Zero(r) => 1 <= r && r <= 1000000000,
     }
 }
 
@@ -112,6 +114,42 @@ fn levels_by_rules(rt: HostRuntime) {
             Some((1, 1)),
         ),
         (Rule::Percent(1000), None, 5, 1, [5, 0, 0], Some((50, 5))),
+        (Rule::Pq { p: 10, q: 100 }, None, 100, 3, [80, 12, 8], None),
+        (
+            Rule::Pq { p: 11, q: 100 },
+            None,
+            100,
+            3,
+            [80, 12, 8],
+            Some((1, 1)),
+        ),
+        (
+            Rule::Pq { p: 1, q: 2 },
+            None,
+            100,
+            3,
+            [80, 12, 8],
+            Some((32, 32)),
+        ),
+        (
+            Rule::Pq { p: 1000, q: 1 },
+            None,
+            greatest,
+            1,
+            [999999999999999, 0, 0],
+            None,
+        ),
+        (Rule::Zero(5), None, 0, 3, [0, 0, 0], Some((5, 0))),
+        (Rule::Zero(5), None, 0, 0, [0, 0, 0], None),
+        (Rule::Zero(5), None, 1, 1, [1, 0, 0], None),
+        (
+            Rule::Zero(5),
+            Some(frequency),
+            0,
+            1,
+            [0, 0, 0],
+            Some((5, 0)),
+        ),
         (
             Rule::Freq { n: 3, r: 1000 },
             None,
