@@ -10,7 +10,7 @@ use Rattle.linked_tables.specs.declared.book_fault.BookFault.TheVariants as faul
 
 -- the most cells that a book has
 abbrev pub most_cells : ℕ
-most_cells = 20000
+most_cells = 60000
 
 -- it spans a variable that isn't one of so many
 abbrev pub has_unknown : ℕ → List ℕ → Bool

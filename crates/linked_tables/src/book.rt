@@ -21,7 +21,7 @@ use std::marker::Model;
 ///
 /// A cell's name is one code for each variable, the total for those that a table doesn't span, and two tables share
 /// a cell where the names are equal. Cells are numbered from 0 in the order in which the tables first name them, the
-/// places of a table in lexicographic order. There are at most 8 variables and 20,000 cells.
+/// places of a table in lexicographic order. There are at most 8 variables and 60,000 cells.
 #[derive(Drop)]
 pub struct Book {
     trees: Vec<CodeTree>,
@@ -52,7 +52,7 @@ impl Book {
     /// There are at most 8 trees, and fewer than `2^32` tables; a table may span no variable, and there may be none.
     ///
     /// The first table that has a fault is refused by its number, with what comes first of: a variable that there
-    /// isn't, a variable that stands twice in it, and more than 20,000 distinct cells in the tables up to it; want of
+    /// isn't, a variable that stands twice in it, and more than 60,000 distinct cells in the tables up to it; want of
     /// memory is `Memory`. Each drops what was handed over. It takes one look-up for each place of each table, and
     /// stops at the first cell too many. Numbering is the manual's order of tables, the limit and the order of
     /// refusals are argus's own.

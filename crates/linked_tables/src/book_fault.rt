@@ -11,8 +11,8 @@ pub enum BookFault {
     /// The table spans a variable twice.
     #[error("table {0} spans a variable twice")]
     TwiceInTable(u32),
-    /// The tables up to this one have more than 20,000 distinct cells.
-    #[error("with table {0} there are more than 20,000 cells")]
+    /// The tables up to this one have more than 60,000 distinct cells.
+    #[error("with table {0} there are more than 60,000 cells")]
     TooManyCells(u32),
     /// There was no memory.
     #[error("out of memory")]

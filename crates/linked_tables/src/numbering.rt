@@ -14,7 +14,7 @@ use sdc_base::{Place, name_at, with_code};
 use std::alloc::{AllocError, Global};
 
 // The most cells of a book.
-const MOST_CELLS: usize = 20_000;
+const MOST_CELLS: usize = 60_000;
 
 /// The names of cells in the order of their numbers, and how many of them the first t tables name, for each t.
 #[derive(Drop)]

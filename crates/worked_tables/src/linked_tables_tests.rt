@@ -72,8 +72,8 @@ fn cells_and_refusals(rt: HostRuntime) -> Result<(), Fail> {
         ([3, 3, 3, 1], apart, Ok(5)),
         ([3, 3, 3, 1], twice, Err(BookFault::TwiceInTable(1))),
         ([3, 3, 3, 1], unknown, Err(BookFault::NoSuchVariable(1))),
-        ([200, 100, 2, 1], two_ways_full, Ok(20000)),
-        ([200, 100, 2, 1], one_more, Err(BookFault::TooManyCells(2))),
+        ([300, 200, 2, 1], two_ways_full, Ok(60000)),
+        ([300, 200, 2, 1], one_more, Err(BookFault::TooManyCells(2))),
         ([5001, 1, 1, 1], apart, Ok(5001)),
         (
             [5001, 5001, 5001, 5001],
