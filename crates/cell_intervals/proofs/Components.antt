@@ -9,14 +9,14 @@ use Rattle.interval_audit.specs.declared.answer.Walk.{Walk}
 use Rattle.interval_audit.specs.declared.answer.WidePlace.{WidePlace}
 use Rattle.interval_audit.specs.declared.question.Question.{Question}
 use Rattle.interval_audit.specs.Ends.{IsEndCause, IsEndQuestion, IsIntervalCause}
-use Rattle.interval_audit.specs.Groups.{Group, IsComponentOf, members}
+use Rattle.interval_audit.specs.Groups.{Group, IsComponentOf, members, most_members}
 use Rattle.cell_intervals.specs.IntervalFaults.{HasSmallComponent}
 use Rattle.cell_intervals.specs.Laws.{SizeIsLarge}
 use Rattle.interval_audit.proofs.SameGroups.{groups_alike}
 
 -- a component of at most so many cells, of the cell that a question asks about
-asked_small : (system : System) (flags : List Bool) (cell : ℕ) (side : Side) (question : Question) (group : Group) → IsEndQuestion cell side question → IsComponentOf system.relations flags question.cell group → length (members group system.cells) ≤ 1500 → HasSmallComponent system flags cell
-asked_small system flags cell side question group asks is few = record { group = group; is_component = subst (λ c. IsComponentOf system.relations flags c group) asks.cell_is is; at_most_1500 = few }
+asked_small : (system : System) (flags : List Bool) (cell : ℕ) (side : Side) (question : Question) (group : Group) → IsEndQuestion cell side question → IsComponentOf system.relations flags question.cell group → length (members group system.cells) ≤ most_members → HasSmallComponent system flags cell
+asked_small system flags cell side question group asks is few = record { group = group; is_component = subst (λ c. IsComponentOf system.relations flags c group) asks.cell_is is; within_most_members = few }
 
 work_small : (system : System) (cells : List Cell) (flags : List Bool) (cell : ℕ) (side : Side) (limit : ℕ) (walk : Walk) → IsEndCause system cells flags cell side limit (fault.Work walk) → HasSmallComponent system flags cell
 work_small system cells flags cell side limit walk cause = asked_small system flags cell side cause.0 cause.2.0 cause.1 cause.2.1 cause.2.2.4
@@ -29,7 +29,7 @@ size_large system cells flags cell side limit asked hidden cause small =
     let group : Group = cause.2.0 in
     let own : IsComponentOf system.relations flags cell group = subst (λ c. IsComponentOf system.relations flags c group) cause.1.cell_is cause.2.1 in
     let same : length (members small.group system.cells) ≡ length (members group system.cells) = ap (λ (g : Group). length (members g system.cells)) (groups_alike system.relations flags cell small.group group small.is_component own) in
-    omega (arith, small.at_most_1500, same, cause.2.2.1, cause.2.2.2)
+    omega (arith, small.within_most_members, same, cause.2.2.1, cause.2.2.2)
 
 either : (system : System) (cells : List Cell) (flags : List Bool) (limit cell : ℕ) (why : AskFault) (P : Type 0) → ((side : Side) → IsEndCause system cells flags cell side limit why → P) → IsIntervalCause system cells flags cell limit why → P
 either system cells flags limit cell why P each (inl below) = each _ below

@@ -61,5 +61,5 @@ small_where_ended system cells flags cell ends =
     record {
       group = read.2.0;
       is_component = subst (λ c. IsComponentOf system.relations flags c read.2.0) read.1.cell_is read.2.1;
-      at_most_1500 = read.2.2;
+      within_most_members = read.2.2;
     }

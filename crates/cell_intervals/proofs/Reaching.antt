@@ -22,7 +22,7 @@ use Rattle.worlds.specs.declared.multipliers.Multipliers.{Multipliers}
 use Rattle.worlds.specs.declared.world.World.{World}
 use Rattle.worlds.specs.NumberLists.{terms_of, number_given}
 use Rattle.worlds.specs.RefutationFaults.{terms_added}
-use Rattle.interval_audit.specs.declared.answer.Fraction.{Fraction}
+use Rattle.sdc_base.specs.declared.fraction.Fraction.{Fraction}
 use Rattle.interval_audit.specs.declared.question.Question.{Question}
 use Rattle.interval_audit.specs.Answers.{ReachesTarget, StopsShort}
 use Rattle.interval_audit.specs.Ends.{IsEndQuestion}

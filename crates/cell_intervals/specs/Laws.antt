@@ -22,7 +22,7 @@ IsSize (fault.Size asked hidden) = Unit {0}
 IsSize other = ⊥
 
 -- The fault at a hidden cell, where all earlier questions have ended, is that its component is too large exactly where
--- the component has more than 1,500 hidden cells; want of memory aside.
+-- the component has more than 4,000 hidden cells; want of memory aside.
 abbrev pub SizeIsLarge : Type 0
 SizeIsLarge =
     (system : System) (cells : List Cell) (flags : List Bool) (limit cell : ℕ) (why : AskFault)

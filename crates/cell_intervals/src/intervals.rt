@@ -1,7 +1,9 @@
-ghost use Rattle.std.specs.Prelude.{◌≡◌, ◌≤◌, ◌≤ℤ◌, ◌^◌, All, IfErr, IfOk, pos, true, ℕ};
+ghost use Rattle.std.specs.Prelude.{◌≡◌, ◌≤◌, ◌≤ℤ◌, ◌^◌, All, Bool, IfErr, IfOk, List, pos, true, ℕ};
 ghost use Rattle.sdc_base.specs.Grounds.{IsGround};
 ghost use Rattle.sdc_base.specs.HiddenSets as sets;
+ghost use Rattle.sdc_base.specs.Signs.{AreSigns};
 ghost use Rattle.interval_audit.specs.Ends.{IsIntervalCause};
+ghost use Rattle.interval_audit.specs.WalkLimits.{HasNoWalk};
 ghost use Rattle.cell_intervals.specs.IntervalFaults.{HasBothEnds, HasSmallComponent, IsFaultOf};
 ghost use Rattle.cell_intervals.specs.Intervals.{AreIntervals, IsIntervalOf};
 
@@ -19,8 +21,9 @@ use std::alloc::Global;
 /// how many improvements each question may make.
 ///
 /// For each hidden cell two questions are asked, below first ([`interval`]). The refusals are those of the first
-/// question that has no answer: `Size` where the component of its cell has more than 1,500 hidden cells, `Work` and
-/// `Wide` where its walk stops short. Want of memory may come at any time. What is lent stays as it was.
+/// question that has no answer: `Size` where the component of its cell has more than 4,000 hidden cells, `Work` and
+/// `Wide` where its walk stops short, which never happens where the system has signs. Want of memory may come at any
+/// time. What is lent stays as it was.
 ///
 /// It costs as much as two questions for each hidden cell.
 ///
@@ -40,6 +43,8 @@ pub fn intervals_of(
     ensures small { IfOk result (λ _. (cell : ℕ) → sets.is_hidden hidden.now.flags cell ≡ true
         → HasSmallComponent system.now hidden.now.flags cell) }
     ensures cause { IfErr result (IsFaultOf system.now cells.now hidden.now.flags limit) }
+    ensures signed { (signs : List Bool) → AreSigns system.now.relations signs
+        → IfErr result (λ fault. HasNoWalk fault) }
 {
     let mut intervals = Items::empty(alloc);
     'cells: for cell in 0..system.cells {
@@ -68,6 +73,8 @@ fn interval_of(
     ensures right { IfOk result (IsIntervalOf system.now cells.now hidden.now.flags) }
     ensures ended { IfOk result (λ _. HasBothEnds system.now cells.now hidden.now.flags cell) }
     ensures cause { IfErr result (IsIntervalCause system.now cells.now hidden.now.flags cell limit) }
+    ensures signed { (signs : List Bool) → AreSigns system.now.relations signs
+        → IfErr result (λ fault. HasNoWalk fault) }
 {
     let ends = interval(alloc, system, cells, hidden, cell, limit)?;
     Ok(interval_from(system, cells, hidden, cell, &ends))

@@ -5,7 +5,7 @@ pub fn file_is_one()
     ensures { FileIsOne }
 {}
 
-/// A component is too large, among the faults, exactly where it has more than 1,500 hidden cells.
+/// A component is too large, among the faults, exactly where it has more than 4,000 hidden cells.
 pub fn size_is_large()
     ensures { SizeIsLarge }
 {}

@@ -28,3 +28,4 @@ pub mod Best
 mod OwnGroup
 mod CutOff
 mod OneAnswer
+mod WholeAnswers

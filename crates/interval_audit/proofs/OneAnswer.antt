@@ -22,7 +22,7 @@ use Rattle.worlds.specs.declared.world.World.{World}
 use Rattle.worlds.specs.declared.multipliers.Multipliers.{Multipliers}
 use Rattle.worlds.specs.NumberLists.{terms_of}
 use Rattle.interval_audit.specs.declared.question.Question.{Question}
-use Rattle.interval_audit.specs.declared.answer.Fraction.{Fraction}
+use Rattle.sdc_base.specs.declared.fraction.Fraction.{Fraction}
 use Rattle.interval_audit.specs.declared.answer.Answer.{Answer}
 use Rattle.interval_audit.specs.declared.answer.Answer.TheVariants.{Reaches, Stops}
 use Rattle.interval_audit.specs.Answers.{IsTrueAnswer, IsReadOff, IsWalkAnswerIn, asked_move_in, AnswerIsOne}

@@ -19,7 +19,7 @@ use Rattle.sdc_base.proofs.TotalLemmas.{sum_of-cons}
 use Rattle.tableau.specs.declared.problem.LinRow.{LinRow}
 use Rattle.tableau.specs.ProblemForm.{AscendFrom, AreEntries, IsWellFormed}
 use Rattle.interval_audit.specs.declared.question.Question.{Question}
-use Rattle.interval_audit.specs.Groups.{Group, members}
+use Rattle.interval_audit.specs.Groups.{Group, members, most_members}
 use Rattle.interval_audit.specs.Columns.{rank, up_column, down_column, entries_for, entries_of}
 use Rattle.interval_audit.specs.Labels.{Label, CapAbove, CapBelow, Form, Negated, caps_for, forms_for, met_relations, labels, form_at, rise_at, fall, fall_at}
 use Rattle.interval_audit.specs.FormSigns.{IsFormSign}
@@ -188,7 +188,7 @@ one_is : (side : Side) → IsFormSign (amount_toward side (pos 1))
 one_is Above = record { low = omega (arith, ints); high = omega (arith, ints) }
 one_is Below = record { low = omega (arith, ints); high = omega (arith, ints) }
 
-pub problem_is : (system : System) (cells : List Cell) (group : Group) (question : Question) → length (members group system.cells) ≤ 1500 → IsWellFormed (problem_of system cells group question)
+pub problem_is : (system : System) (cells : List Cell) (group : Group) (question : Question) → length (members group system.cells) ≤ most_members → IsWellFormed (problem_of system cells group question)
 problem_is system cells group question few = record {
   rows = All-map (λ (row : LinRow). AreEntries (2 * length (members group system.cells)) row.entries) (row_of system cells group) (labels system.relations cells group system.cells)
       (All-weaker (IsLabel system cells group) (λ label. AreEntries (2 * length (members group system.cells)) (row_of system cells group label).entries) (entries_of_row system cells group) (labels system.relations cells group system.cells) (labels_are system cells group));

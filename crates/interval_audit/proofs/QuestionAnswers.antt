@@ -24,11 +24,11 @@ use Rattle.worlds.specs.NumberLists.{terms_of, number_given}
 use Rattle.worlds.specs.WorldFaults.{IsGivenWorld}
 use Rattle.worlds.specs.RefutationFaults.{IsGivenSum, terms_added}
 use Rattle.interval_audit.specs.declared.question.Question.{Question}
-use Rattle.interval_audit.specs.declared.answer.Fraction.{Fraction}
+use Rattle.sdc_base.specs.declared.fraction.Fraction.{Fraction}
 use Rattle.interval_audit.specs.Answers.{asked_move_in, StopsShort}
 use Rattle.interval_audit.specs.QuestionLaws.{IsBest, refuting_by, dual_value}
 use Rattle.interval_audit.specs.Columns.{rank, down_column, moves_of}
-use Rattle.interval_audit.specs.Groups.{Group, IsGroup, members}
+use Rattle.interval_audit.specs.Groups.{Group, IsGroup, members, most_members}
 use Rattle.interval_audit.specs.Labels.{Label, caps_for, met_relations, labels, multiplier, terms_of_label, relation_terms}
 use Rattle.interval_audit.specs.LowestTerms.{AreLowestTermsOf}
 use Rattle.interval_audit.specs.Problems.{problem_of, row_of}
@@ -68,7 +68,7 @@ has_slacks system cells group question walk is blocked = record {
 pub slacks_long : (system : System) (cells : List Cell) (group : Group) (slacks weights : List ℤ) → HasSlacks system cells group slacks weights → length slacks ≡ length (flat_map (caps_for cells) (members group system.cells)) + 2 * length (met_relations group system.relations) + 1
 slacks_long system cells group slacks weights has = ap length has.slacks_are ∙ length-append weights (pos 0 ∷ []) ∙ omega (arith, has.long)
 
-pub slacks_few : (system : System) (cells : List Cell) (group : Group) (slacks weights : List ℤ) → length (members group system.cells) ≤ 1500 → HasSlacks system cells group slacks weights → length slacks < 2 ^ 32
+pub slacks_few : (system : System) (cells : List Cell) (group : Group) (slacks weights : List ℤ) → length (members group system.cells) ≤ most_members → HasSlacks system cells group slacks weights → length slacks < 2 ^ 32
 slacks_few system cells group slacks weights few has =
     omega (arith, few, slacks_long system cells group slacks weights has, caps_few cells (members group system.cells), rank-most (meets group system.relations) (length system.relations), system.at_most_2_30)
 

@@ -1,11 +1,12 @@
 -- What answers of questions say, and when a question has none (handbook, feasibility interval; linear duality; faults
 -- own).
-use Rattle.std.specs.Prelude.{◌≡◌, ◌+◌, ◌<◌, ◌≤◌, ◌⊎◌, Bool, List, length, FitsSigned, ℤ, ◌*ℤ◌, ◌<ℤ◌}
+use Rattle.std.specs.Prelude.{◌≡◌, ◌+◌, ◌<◌, ◌≤◌, ◌⊎◌, Bool, List, length, FitsSigned, ℤ, pos, ◌*ℤ◌, ◌<ℤ◌}
 use Rattle.std.specs.Int.{w128}
 use Rattle.sdc_base.specs.declared.cell.Cell.{Cell}
 use Rattle.sdc_base.specs.declared.system.System.{System}
 use Rattle.sdc_base.specs.Forms.{coefficient}
 use Rattle.sdc_base.specs.Refutations.{bound_sum, IsRefutation}
+use Rattle.sdc_base.specs.Signs.{AreSigns, HasNone}
 use Rattle.sdc_base.specs.Worlds.{amount_toward}
 use Rattle.sdc_base.specs.Systems.{number_at}
 use Rattle.tableau.specs.Readings.{values_of, slacks_of}
@@ -20,11 +21,11 @@ use Rattle.worlds.specs.NumberLists.{terms_of, number_given}
 use Rattle.worlds.specs.WorldFaults.{IsGivenWorld}
 use Rattle.worlds.specs.RefutationFaults.{IsGivenSum, terms_added}
 use Rattle.interval_audit.specs.declared.question.Question.{Question}
-use Rattle.interval_audit.specs.declared.answer.Fraction.{Fraction}
+use Rattle.sdc_base.specs.declared.fraction.Fraction.{Fraction}
 use Rattle.interval_audit.specs.declared.answer.Answer.{Answer}
 use Rattle.interval_audit.specs.declared.answer.Answer.TheVariants.{Reaches, Stops}
 use Rattle.interval_audit.specs.QuestionLaws.{IsBest}
-use Rattle.interval_audit.specs.Groups.{Group, IsComponentOf, members}
+use Rattle.interval_audit.specs.Groups.{Group, IsComponentOf, members, most_members}
 use Rattle.interval_audit.specs.Problems.{problem_of}
 use Rattle.interval_audit.specs.Readings.{IsWorldOf, AreMultipliersOf}
 
@@ -91,9 +92,27 @@ IsWalkAnswerIn system cells group question answer =
 abbrev pub IsWalkAnswer : System → List Cell → List Bool → Question → Answer → Type 0
 IsWalkAnswer system cells flags question answer =
     (group : Group) × IsComponentOf system.relations flags question.cell group
-    × (length (members group system.cells) ≤ 1500) × IsWalkAnswerIn system cells group question answer
+    × (length (members group system.cells) ≤ most_members) × IsWalkAnswerIn system cells group question answer
 
--- what a question is answered with is one: its walk has one end, and what is read there in lowest terms is one
+-- the answer is in whole units: the denominators of its world and of its multipliers are 1
+abbrev pub IsWhole : Answer → Type 0
+IsWhole (Reaches world) = world.den ≡ pos 1
+IsWhole (Stops best world multipliers) = (world.den ≡ pos 1) × (multipliers.den ≡ pos 1)
+
+-- The answer is one of the question: where the relations have no signs it is read off the end of the question's walk,
+-- and where they have signs it is in whole units. Not: read off a walk where they have signs.
+pub record IsAnswerIn (system : System) (cells : List Cell) (group : Group) (question : Question)
+    (answer : Answer) : Type 0 where
+  pub walked : HasNone system.relations → IsWalkAnswerIn system cells group question answer
+  pub whole : (signs : List Bool) → AreSigns system.relations signs → IsWhole answer
+
+-- the answer is one of the question in its component, of at most so many cells
+abbrev pub IsAnswerOf : System → List Cell → List Bool → Question → Answer → Type 0
+IsAnswerOf system cells flags question answer =
+    (group : Group) × IsComponentOf system.relations flags question.cell group
+    × (length (members group system.cells) ≤ most_members) × IsAnswerIn system cells group question answer
+
+-- what a walk of a question answers is one: its walk has one end, and what is read there in lowest terms is one
 abbrev pub AnswerIsOne : Type 0
 AnswerIsOne =
     (system : System) (cells : List Cell) (flags : List Bool) (question : Question) (one other : Answer)

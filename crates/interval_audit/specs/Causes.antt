@@ -3,6 +3,7 @@ use Rattle.std.specs.Prelude.{◌≡◌, ℕ, ◌<◌, ◌≤◌, ◌⊎◌, Boo
 use Rattle.std.specs.Int.{w128}
 use Rattle.sdc_base.specs.declared.cell.Cell.{Cell}
 use Rattle.sdc_base.specs.declared.system.System.{System}
+use Rattle.sdc_base.specs.Signs.{HasNone}
 use Rattle.tableau.specs.Readings.{slacks_of}
 use Rattle.tableau.specs.Steps.{IsBlocked}
 use Rattle.tableau.specs.Tableaus.{TableauWalk, IsTableauWalk}
@@ -16,7 +17,7 @@ use Rattle.interval_audit.specs.declared.answer.WidePlace.{WidePlace}
 use Rattle.interval_audit.specs.declared.answer.WidePlace.TheVariants.{Pivot, Refutation}
 use Rattle.interval_audit.specs.declared.answer.AskFault.{AskFault}
 use Rattle.interval_audit.specs.declared.answer.AskFault.TheVariants as fault
-use Rattle.interval_audit.specs.Groups.{Group, IsComponentOf, members}
+use Rattle.interval_audit.specs.Groups.{Group, IsComponentOf, members, most_members}
 use Rattle.interval_audit.specs.Problems.{problem_of}
 use Rattle.interval_audit.specs.Readings.{AreMultipliersOf}
 use Rattle.interval_audit.specs.Answers.{HasEnded}
@@ -38,30 +39,31 @@ NeedsWideAt system cells flags group question walk (Refutation cell) =
     × NeedsWideNumber system cells flags question multipliers cell
 
 -- Why there is no answer: a walk over the question's problem that was cut off, or that needs a wide number. A component
--- of more than 1,500 cells is looked for first, so every other cause but want of memory, which is free, comes only where
--- there are at most so many.
+-- of more than 4,000 cells is looked for first, so every other cause but want of memory, which is free, comes only
+-- where there are at most so many.
 abbrev pub IsCauseIn : System → List Cell → List Bool → Group → Question → ℕ → AskFault → Type 0
 IsCauseIn system cells flags group question limit (fault.Work walk) =
     (walk.question ≡ question) × (walk.tableau.problem ≡ problem_of system cells group question)
-    × (walk.tableau.improved ≡ limit) × (¬ HasEnded walk.tableau) × (length (members group system.cells) ≤ 1500)
+    × (walk.tableau.improved ≡ limit) × (¬ HasEnded walk.tableau) × (length (members group system.cells) ≤ most_members)
     × IsTableauWalk walk.tableau
 IsCauseIn system cells flags group question limit (fault.Wide walk place) =
     (walk.question ≡ question) × (walk.tableau.problem ≡ problem_of system cells group question)
     × NeedsWideAt system cells flags group question walk.tableau place
-    × (length (members group system.cells) ≤ 1500) × IsTableauWalk walk.tableau
+    × (length (members group system.cells) ≤ most_members) × IsTableauWalk walk.tableau
 IsCauseIn system cells flags group question limit (fault.Size asked hidden) = (asked ≡ question)
-    × (hidden ≡ length (members group system.cells)) × (1500 < hidden)
+    × (hidden ≡ length (members group system.cells)) × (most_members < hidden)
 IsCauseIn system cells flags group question limit fault.Memory = Unit {0}
 
--- why the question has no answer; want of memory is free
+-- Why the question has no answer; want of memory is free. A walk is cut off, or needs a wide number, only where the
+-- relations have no signs.
 abbrev pub IsCauseOf : System → List Cell → List Bool → Question → ℕ → AskFault → Type 0
 IsCauseOf system cells flags question limit fault.Memory = Unit {0}
 IsCauseOf system cells flags question limit (fault.Work walk) = (group : Group)
     × IsComponentOf system.relations flags question.cell group
-    × IsCauseIn system cells flags group question limit (fault.Work walk)
+    × IsCauseIn system cells flags group question limit (fault.Work walk) × HasNone system.relations
 IsCauseOf system cells flags question limit (fault.Wide walk place) = (group : Group)
     × IsComponentOf system.relations flags question.cell group
-    × IsCauseIn system cells flags group question limit (fault.Wide walk place)
+    × IsCauseIn system cells flags group question limit (fault.Wide walk place) × HasNone system.relations
 IsCauseOf system cells flags question limit (fault.Size asked hidden) = (group : Group)
     × IsComponentOf system.relations flags question.cell group
     × IsCauseIn system cells flags group question limit (fault.Size asked hidden)

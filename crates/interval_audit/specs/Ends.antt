@@ -7,7 +7,7 @@ use Rattle.sdc_base.specs.declared.system.System.{System}
 use Rattle.interval_audit.specs.declared.question.Question.{Question}
 use Rattle.interval_audit.specs.declared.answer.Answer.{Answer}
 use Rattle.interval_audit.specs.declared.answer.AskFault.{AskFault}
-use Rattle.interval_audit.specs.Answers.{IsTrueAnswer, IsWalkAnswer}
+use Rattle.interval_audit.specs.Answers.{IsTrueAnswer, IsAnswerOf}
 use Rattle.interval_audit.specs.Causes.{IsCauseOf}
 
 -- the question asks how far the cell lies to the side, with the target 2^110
@@ -21,10 +21,10 @@ abbrev pub IsTrueEnd : System → List Cell → List Bool → ℕ → Side → A
 IsTrueEnd system cells flags cell side answer =
     (question : Question) × IsEndQuestion cell side question × IsTrueAnswer system cells flags question answer
 
--- the answer of such a question is read off the end of the walk in its component
-abbrev pub IsWalkEnd : System → List Cell → List Bool → ℕ → Side → Answer → Type 0
-IsWalkEnd system cells flags cell side answer =
-    (question : Question) × IsEndQuestion cell side question × IsWalkAnswer system cells flags question answer
+-- the answer is one of such a question
+abbrev pub IsEndAnswer : System → List Cell → List Bool → ℕ → Side → Answer → Type 0
+IsEndAnswer system cells flags cell side answer =
+    (question : Question) × IsEndQuestion cell side question × IsAnswerOf system cells flags question answer
 
 -- such a question has no answer for this cause
 abbrev pub IsEndCause : System → List Cell → List Bool → ℕ → Side → ℕ → AskFault → Type 0
@@ -36,4 +36,4 @@ abbrev pub IsIntervalCause : System → List Cell → List Bool → ℕ → ℕ 
 IsIntervalCause system cells flags cell limit fault =
     IsEndCause system cells flags cell Below limit fault
     ⊎ ((answer : Answer) × IsTrueEnd system cells flags cell Below answer
-    × IsWalkEnd system cells flags cell Below answer × IsEndCause system cells flags cell Above limit fault)
+    × IsEndAnswer system cells flags cell Below answer × IsEndCause system cells flags cell Above limit fault)

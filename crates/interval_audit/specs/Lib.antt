@@ -12,5 +12,6 @@ pub mod WalkStates
 pub mod Answers
 pub mod Causes
 pub mod WalkLimits
+pub mod FlowQuestions
 pub mod Inquiries
 pub mod Ends

@@ -33,3 +33,10 @@ IsCutBelow system cells group question limit (fault.Work walk) = limit < walk_bo
 IsCutBelow system cells group question limit (fault.Wide walk place) = Unit {0}
 IsCutBelow system cells group question limit (fault.Size asked hidden) = Unit {0}
 IsCutBelow system cells group question limit fault.Memory = Unit {0}
+
+-- the fault has no walk: it is neither one that was cut off nor one that needs a wide number
+abbrev pub HasNoWalk : AskFault → Type 0
+HasNoWalk (fault.Work walk) = ⊥
+HasNoWalk (fault.Wide walk place) = ⊥
+HasNoWalk (fault.Size asked hidden) = Unit {0}
+HasNoWalk fault.Memory = Unit {0}

@@ -1,9 +1,12 @@
-ghost use Rattle.std.specs.Prelude.{◌≡◌, ◌≤◌, ◌<◌, ◌^◌, ◌-◌, true, IfOk, IfErr};
+ghost use Rattle.std.specs.Prelude.{◌≡◌, ◌≤◌, ◌<◌, ◌^◌, ◌-◌, ℕ, Bool, List, length, true, IfOk, IfErr};
 ghost use Rattle.sdc_base.specs.Grounds.{IsGround};
 ghost use Rattle.sdc_base.specs.HiddenSets.{is_hidden};
-ghost use Rattle.interval_audit.specs.Answers.{IsTrueAnswer, IsWalkAnswer, IsStepOutcome};
+ghost use Rattle.sdc_base.specs.Signs.{AreSigns, HasNone};
+ghost use Rattle.interval_audit.specs.Answers.{IsTrueAnswer, IsAnswerOf, IsWalkAnswer, IsStepOutcome};
 ghost use Rattle.interval_audit.specs.Causes.{IsCauseOf};
-ghost use Rattle.interval_audit.specs.WalkLimits.{IsAmple, IsNotCutOff};
+ghost use Rattle.interval_audit.specs.FlowQuestions.{answer_of_flow};
+ghost use Rattle.interval_audit.specs.Groups.{Group, IsComponentOf, members};
+ghost use Rattle.interval_audit.specs.WalkLimits.{HasNoWalk, IsAmple, IsNotCutOff};
 ghost use Rattle.interval_audit.specs.Inquiries as inquiries;
 
 use crate::answer::{Answer, AskFault, Walk, WidePlace};
@@ -12,9 +15,13 @@ use crate::group::{list_of, members_of};
 use crate::inquiry::Inquiry;
 use crate::problem::problem_over;
 use crate::question::Question;
-use sdc_base::{Cell, Hidden, Memory, System, components, rows_of};
+use flow_worlds::{FlowAnswer, flow};
+use sdc_base::{Cell, Fraction, Hidden, Memory, System, components, rows_of, signs};
 use std::alloc::Global;
 use tableau::{Step, Tableau};
+
+// The most hidden cells that a question is about.
+const MOST_MEMBERS: usize = 4000;
 
 /// Whether a hidden cell can lie in some world as far as a target to a side, and else how far it can lie there.
 ///
@@ -22,24 +29,27 @@ use tableau::{Step, Tableau};
 /// ([`crate::problem_of`]) may make. There are a cell and a flag for each cell of the system, the asked cell is hidden,
 /// and the limit is 1 or more.
 ///
-/// The walk goes step by step from the first table of the problem to the first that is reached or blocked; the world
-/// and the multipliers are read off that one, in lowest terms. Where it is reached the world takes the cell exactly to
-/// the target. Where it is blocked no world takes the cell further than the best value, which is below the target; the
-/// world takes it there, and the bound sum of the multipliers is exactly their denominator times the best value, so
-/// that they refute the target.
+/// Where it can, the world takes the cell exactly to the target. Where it can't, no world takes the cell further than
+/// the best value, which is below the target; the world takes it there, and the bound sum of the multipliers is exactly
+/// their denominator times the best value, so that they refute the target.
 ///
-/// The refusals: `Size` comes first, exactly where the asked cell's component has more than 1,500 hidden cells; `Work`
-/// where the walk made `limit` improvements and is neither reached nor blocked; `Wide` at a pivot where it is neither,
-/// and the next step needs a number of more than 128 bits at that place; `Wide` at a cell where it is blocked, and
-/// checking the multipliers, with the target as level, needs such a number at that cell. The walk of a fault is one on
-/// the problem of this question. Want of memory may come at any time. What is lent stays as it was.
+/// Where the system has signs ([`sdc_base::signs`]), the answer is that of [`flow_worlds::flow`], whose denominators are
+/// 1. Else a walk goes step by step from the first table of the problem to the first that is reached or blocked; the
+/// world and the multipliers are read off that one, in lowest terms.
+///
+/// The refusals: `Size` exactly where the asked cell's component has more than 4,000 hidden cells. The others but want of
+/// memory never come where the system has signs: `Work` where the walk made `limit` improvements and is neither reached
+/// nor blocked; `Wide` at a pivot where it is neither, and the next step needs a number of more than 128 bits at that
+/// place; `Wide` at a cell where it is blocked, and checking the multipliers, with the target as level, needs such a
+/// number at that cell. The walk of a fault is one on the problem of this question. Want of memory may come at any time.
+/// What is lent stays as it was.
 ///
 /// No basis comes twice in a walk, so that `Work` never comes where the limit is 2 to the number of the problem's
 /// columns and rows, the target's among them, or more.
 ///
-/// It goes once through all relations and their parts for the components, once more for the relations of each, and
-/// from there on only through the relations of the asked cell's component: it makes the problem and at most so many
-/// steps. It takes memory for the components and their relations, for the problem and for the numbers of its table.
+/// It goes three times through all relations and their parts, for the signs, for the components and for the arcs of the
+/// cells or the relations of each component. From there on it costs what `flow` does, or goes only through the relations
+/// of the asked cell's component: it makes the problem and at most so many steps.
 ///
 /// The question is that of the feasibility interval in Hundepool et al., Statistical Disclosure Control, chapter on
 /// magnitude tables; the order of the steps is own.
@@ -55,6 +65,101 @@ pub fn ask(
     requires hidden { is_hidden hidden.now.flags question.cell ≡ true }
     requires limit { 1 ≤ limit }
     ensures right { IfOk result (λ answer. IsTrueAnswer system.now cells.now hidden.now.flags question answer) }
+    ensures read { IfOk result (λ answer. IsAnswerOf system.now cells.now hidden.now.flags question answer) }
+    ensures cause { IfErr result (λ fault. IsCauseOf system.now cells.now hidden.now.flags question limit fault) }
+    ensures short { IsAmple system.now cells.now hidden.now.flags question limit
+        → IfErr result (λ fault. IsNotCutOff fault) }
+    ensures signed { (signs : List Bool) → AreSigns system.now.relations signs
+        → IfErr result (λ fault. HasNoWalk fault) }
+{
+    let Some(signs) = signs(alloc, system)? else {
+        return ask_walk(alloc, system, cells, hidden, question, limit);
+    };
+    ask_flow(alloc, system, cells, hidden, signs.as_slice(), question)
+}
+
+// The answer of a question to a system with signs.
+fn ask_flow(
+    alloc: Global,
+    system: &System,
+    cells: &[Cell],
+    hidden: &Hidden,
+    signs: &[bool],
+    question: Question,
+) -> Result<Answer, AskFault>
+    requires ground { IsGround system.now cells.now hidden.now.flags }
+    requires hidden { is_hidden hidden.now.flags question.cell ≡ true }
+    requires signs { AreSigns system.now.relations signs.now }
+    ensures right { IfOk result (λ answer. IsTrueAnswer system.now cells.now hidden.now.flags question answer) }
+    ensures read { IfOk result (λ answer. IsAnswerOf system.now cells.now hidden.now.flags question answer) }
+    ensures cause { IfErr result (λ fault. (limit : ℕ)
+        → IsCauseOf system.now cells.now hidden.now.flags question limit fault) }
+    ensures no_walk { IfErr result (λ fault. HasNoWalk fault) }
+{
+    let size = component_size(alloc, system, hidden, question.cell)?;
+    if size as usize > MOST_MEMBERS {
+        return Err(AskFault::Size {
+            question,
+            hidden: size,
+        });
+    }
+    let answer = flow(
+        alloc,
+        system,
+        cells,
+        hidden,
+        signs,
+        question.cell,
+        question.side,
+        question.target,
+    )?;
+    Ok(whole_answer(answer))
+}
+
+// How many cells the component of a hidden cell has.
+fn component_size(alloc: Global, system: &System, hidden: &Hidden, cell: u32) -> Result<u32, Memory>
+    requires each { length hidden.now.flags ≡ system.now.cells }
+    requires hidden { is_hidden hidden.now.flags cell ≡ true }
+    ensures { IfOk result (λ size. (group : Group) × IsComponentOf system.now.relations hidden.now.flags cell group
+        × (size ≡ length (members group system.now.cells))) }
+{
+    let grouping = components(alloc, system, hidden)?;
+    let members = members_of(alloc, grouping.of.as_slice(), cell, system.cells)?;
+    Ok(members.len() as u32)
+}
+
+// The answer of a flow as that of a question.
+fn whole_answer(answer: FlowAnswer) -> Answer
+    ensures { result ≡ answer_of_flow answer }
+{
+    match answer {
+        FlowAnswer::Reaches(world) => Answer::Reaches(world),
+        FlowAnswer::Stops {
+            best,
+            world,
+            multipliers,
+        } => Answer::Stops {
+            best: Fraction { num: best, den: 1 },
+            world,
+            multipliers,
+        },
+    }
+}
+
+// The answer of a question by a walk on its problem.
+fn ask_walk(
+    alloc: Global,
+    system: &System,
+    cells: &[Cell],
+    hidden: &Hidden,
+    question: Question,
+    limit: u64,
+) -> Result<Answer, AskFault>
+    requires ground { IsGround system.now cells.now hidden.now.flags }
+    requires hidden { is_hidden hidden.now.flags question.cell ≡ true }
+    requires limit { 1 ≤ limit }
+    requires no_signs { HasNone system.now.relations }
+    ensures right { IfOk result (λ answer. IsTrueAnswer system.now cells.now hidden.now.flags question answer) }
     ensures read { IfOk result (λ answer. IsWalkAnswer system.now cells.now hidden.now.flags question answer) }
     ensures cause { IfErr result (λ fault. IsCauseOf system.now cells.now hidden.now.flags question limit fault) }
     ensures short { IsAmple system.now cells.now hidden.now.flags question limit
@@ -64,7 +169,7 @@ pub fn ask(
     let of = grouping.of.as_slice();
     let members = members_of(alloc, of, question.cell, system.cells)?;
     let size = members.len();
-    if size > 1500 {
+    if size > MOST_MEMBERS {
         return Err(AskFault::Size {
             question,
             hidden: size as u32,

@@ -1,12 +1,14 @@
-ghost use Rattle.std.specs.Prelude.{◌≡◌, ◌≤◌, length, true, IfOk, IfErr};
+ghost use Rattle.std.specs.Prelude.{◌≡◌, ◌≤◌, Bool, List, length, true, IfOk, IfErr};
 ghost use Rattle.sdc_base.specs.Grounds.{IsGround};
 ghost use Rattle.sdc_base.specs.HiddenSets.{is_hidden};
 ghost use Rattle.sdc_base.specs.declared.side.Side.{Side as AnySide};
 ghost use Rattle.sdc_base.specs.declared.side.Side.TheVariants.{Above, Below};
 ghost use Rattle.interval_audit.specs.declared.question.Question.{Question as AnyQuestion};
-ghost use Rattle.interval_audit.specs.Answers.{IsTrueAnswer, IsWalkAnswer};
+ghost use Rattle.interval_audit.specs.Answers.{IsTrueAnswer};
 ghost use Rattle.interval_audit.specs.Causes.{IsCauseOf};
-ghost use Rattle.interval_audit.specs.Ends.{IsEndQuestion, IsTrueEnd, IsWalkEnd, IsEndCause, IsIntervalCause};
+ghost use Rattle.sdc_base.specs.Signs.{AreSigns};
+ghost use Rattle.interval_audit.specs.WalkLimits.{HasNoWalk};
+ghost use Rattle.interval_audit.specs.Ends.{IsEndQuestion, IsTrueEnd, IsEndAnswer, IsEndCause, IsIntervalCause};
 
 use crate::answer::{Answer, AskFault};
 use crate::asking::ask;
@@ -44,9 +46,11 @@ pub fn interval(
     requires limit { 1 ≤ limit }
     ensures below { IfOk result (λ ends. IsTrueEnd system.now cells.now hidden.now.flags cell Below ends.below) }
     ensures above { IfOk result (λ ends. IsTrueEnd system.now cells.now hidden.now.flags cell Above ends.above) }
-    ensures below_read { IfOk result (λ ends. IsWalkEnd system.now cells.now hidden.now.flags cell Below ends.below) }
-    ensures above_read { IfOk result (λ ends. IsWalkEnd system.now cells.now hidden.now.flags cell Above ends.above) }
+    ensures below_read { IfOk result (λ ends. IsEndAnswer system.now cells.now hidden.now.flags cell Below ends.below) }
+    ensures above_read { IfOk result (λ ends. IsEndAnswer system.now cells.now hidden.now.flags cell Above ends.above) }
     ensures cause { IfErr result (λ fault. IsIntervalCause system.now cells.now hidden.now.flags cell limit fault) }
+    ensures signed { (signs : List Bool) → AreSigns system.now.relations signs
+        → IfErr result (λ fault. HasNoWalk fault) }
 {
     let below = end_of(alloc, system, cells, hidden, cell, Side::Below, limit)?;
     let above = end_of(alloc, system, cells, hidden, cell, Side::Above, limit)?;
@@ -67,8 +71,10 @@ fn end_of(
     requires hidden { is_hidden hidden.now.flags cell ≡ true }
     requires limit { 1 ≤ limit }
     ensures right { IfOk result (λ answer. IsTrueEnd system.now cells.now hidden.now.flags cell side answer) }
-    ensures read { IfOk result (λ answer. IsWalkEnd system.now cells.now hidden.now.flags cell side answer) }
+    ensures read { IfOk result (λ answer. IsEndAnswer system.now cells.now hidden.now.flags cell side answer) }
     ensures cause { IfErr result (λ fault. IsEndCause system.now cells.now hidden.now.flags cell side limit fault) }
+    ensures signed { (signs : List Bool) → AreSigns system.now.relations signs
+        → IfErr result (λ fault. HasNoWalk fault) }
 {
     let question = end_question(cell, side);
     ask(alloc, system, cells, hidden, question, limit)

@@ -8,13 +8,13 @@ ghost use Rattle.worlds.specs.NumberLists.{terms_of, number_given};
 ghost use Rattle.interval_audit.specs.Answers.{HasEnded, asked_move_in};
 ghost use Rattle.interval_audit.specs.Inquiries as inquiries;
 
-use crate::answer::{Answer, AskFault, Fraction, Walk, WidePlace};
+use crate::answer::{Answer, AskFault, Walk, WidePlace};
 use crate::checking::wide_at;
 use crate::group::members_of;
 use crate::inquiry::Inquiry;
 use crate::question::Question;
 use crate::readings::{read_multipliers, read_world};
-use sdc_base::{Memory, Side};
+use sdc_base::{Fraction, Memory, Side};
 use std::alloc::Global;
 use tableau::Tableau;
 use worlds::{Move, Multipliers, World};

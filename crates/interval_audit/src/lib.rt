@@ -17,7 +17,7 @@ mod readings;
 mod rows;
 mod terms;
 
-pub use answer::{Answer, AskFault, Fraction, Walk, WidePlace};
+pub use answer::{Answer, AskFault, Walk, WidePlace};
 pub use asking::ask;
 pub use ends::{TwoEnds, interval};
 pub use laws::{answer_is_one, question_laws};

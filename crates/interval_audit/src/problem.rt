@@ -29,7 +29,7 @@ use tableau::{LinRow, Problem};
 /// is. The target is the last row.
 ///
 /// There is a cell for each cell of the system, `of` has the number of each cell's component, none for a shown one, and
-/// the component has at most 1,500 cells. It goes once through the cells and through the parts of all relations, and
+/// the component has at most 4,000 cells. It goes once through the cells and through the parts of all relations, and
 /// for each relation in which one of the component's cells stands twice through these. Its one refusal is want of
 /// memory. The question is the handbook's (feasibility intervals by linear programs), the order of rows argus's own.
 pub fn problem_of(
@@ -41,7 +41,8 @@ pub fn problem_of(
 ) -> Result<Problem, Memory>
     requires cells { length cells.now ≡ system.now.cells }
     requires asked { question.cell < system.now.cells }
-    requires at_most_1500 { length (groups.members (group_of of.now question.cell) system.now.cells) ≤ 1500 }
+    requires within_most_members { length (groups.members (group_of of.now question.cell) system.now.cells)
+        ≤ groups.most_members }
     ensures { IfOk result (λ problem. problem
         ≡ problems.problem_of system.now cells.now (group_of of.now question.cell) question) }
 {
@@ -62,7 +63,8 @@ pub(crate) fn problem_over(
 ) -> Result<Problem, Memory>
     requires cells { length cells.now ≡ system.now.cells }
     requires asked { question.cell < system.now.cells }
-    requires at_most_1500 { length (groups.members (group_of of.now question.cell) system.now.cells) ≤ 1500 }
+    requires within_most_members { length (groups.members (group_of of.now question.cell) system.now.cells)
+        ≤ groups.most_members }
     requires met { met.now ≡ met_relations (group_of of.now question.cell) system.now.relations }
     ensures { IfOk result (λ problem. problem
         ≡ problems.problem_of system.now cells.now (group_of of.now question.cell) question) }

@@ -22,7 +22,7 @@ use Rattle.linked_tables.specs.BookViews.{BookView}
 use Rattle.linked_tables.specs.BookCells.{cells, tree_of, IsBook}
 use Rattle.linked_tables.specs.Tables.{has_twice}
 use Rattle.relations.specs.Holding.{IsSystemOf, sum_in}
-use Rattle.relations.specs.TableSigns.{HaveSigns, IsFlat, OneVariableHasSigns, TwoFlatVariablesHaveSigns}
+use Rattle.relations.specs.TableSigns.{HaveSigns, IsFlat, IsOneOrTwoWay, OneOrTwoWayHasSigns, OneVariableHasSigns, TwoFlatVariablesHaveSigns}
 use Rattle.relations.proofs.Holding.{at-named, tables-of}
 use Rattle.relations.proofs.Tables.{cell-of_trees}
 use Rattle.relations.proofs.Keyed.{items, keyed, keyed-at, map-keyed, place_of}
@@ -392,3 +392,19 @@ two_flat_variables_have_signs book a b system is one flat_first flat_second of =
     flat : (variable : ℕ) → (variable ≡ a) ⊎ (variable ≡ b) → IsFlat (tree_of book variable)
     flat variable (inl same) = subst (λ (u : ℕ). IsFlat (tree_of book u)) (sym same) flat_first
     flat variable (inr same) = subst (λ (u : ℕ). IsFlat (tree_of book u)) (sym same) flat_second
+
+signs-by : (trees : List Tree) (tables : List (List ℕ)) (book : BookView) (system : System) → IsOneOrTwoWay trees tables → book.trees ≡ trees → book.tables ≡ tables → IsBook book → IsSystemOf book system → HaveSigns system.relations
+signs-by trees [] book system shape same_trees same_tables is_book is = absurd shape
+signs-by trees ([] ∷ tables) book system shape same_trees same_tables is_book is = absurd shape
+signs-by trees ((variable ∷ []) ∷ []) book system shape same_trees same_tables is_book is = one_variable_has_signs book variable system is_book same_tables is
+signs-by trees ((variable ∷ []) ∷ (table ∷ tables)) book system shape same_trees same_tables is_book is = absurd shape
+signs-by trees ((one ∷ other ∷ []) ∷ []) book system shape same_trees same_tables is_book is =
+    two_flat_variables_have_signs book one other system is_book same_tables
+    (subst (λ (ts : List Tree). IsFlat (slice_index_or ts one [])) (sym same_trees) shape.0)
+    (subst (λ (ts : List Tree). IsFlat (slice_index_or ts other [])) (sym same_trees) shape.1) is
+signs-by trees ((one ∷ other ∷ []) ∷ (table ∷ tables)) book system shape same_trees same_tables is_book is = absurd shape
+signs-by trees ((one ∷ other ∷ third ∷ more) ∷ tables) book system shape same_trees same_tables is_book is = absurd shape
+
+-- the relations of one table of one variable, and of two flat ones, have signs
+pub one_or_two_way_has_signs : OneOrTwoWayHasSigns
+one_or_two_way_has_signs book system shape is_book is = signs-by book.trees book.tables book system shape refl refl is_book is

@@ -1,5 +1,5 @@
 -- Which tables have signs: those of one variable, and those of two flat ones (network flows; own).
-use Rattle.std.specs.Prelude.{◌≡◌, ℕ, Bool, List, [], ◌∷◌, Some}
+use Rattle.std.specs.Prelude.{◌≡◌, ℕ, Bool, List, [], ◌∷◌, slice_index_or, Some}
 use Rattle.sdc_base.specs.Trees.{Tree, parent_at}
 use Rattle.sdc_base.specs.Signs.{AreSigns}
 use Rattle.sdc_base.specs.declared.relation.Relation.{Relation}
@@ -28,3 +28,16 @@ TwoFlatVariablesHaveSigns =
     (book : BookView) (one other : ℕ) (system : System) → IsBook book → book.tables ≡ (one ∷ other ∷ []) ∷ []
     → IsFlat (tree_of book one) → IsFlat (tree_of book other) → IsSystemOf book system
     → HaveSigns system.relations
+
+-- The tables are one table of one variable, or of two flat ones. Not: of two of which one has codes below others.
+abbrev pub IsOneOrTwoWay : List Tree → List (List ℕ) → Type 0
+IsOneOrTwoWay trees ((variable ∷ []) ∷ []) = Unit {0}
+IsOneOrTwoWay trees ((one ∷ other ∷ []) ∷ []) = IsFlat (slice_index_or trees one [])
+    × IsFlat (slice_index_or trees other [])
+IsOneOrTwoWay trees tables = ⊥
+
+-- the relations of such tables have signs
+abbrev pub OneOrTwoWayHasSigns : Type 0
+OneOrTwoWayHasSigns =
+    (book : BookView) (system : System) → IsOneOrTwoWay book.trees book.tables → IsBook book
+    → IsSystemOf book system → HaveSigns system.relations

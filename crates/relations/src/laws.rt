@@ -1,6 +1,6 @@
 //! Laws of the definitions, each the contract of a function with an empty body.
 
-ghost use Rattle.relations.specs.TableSigns.{OneVariableHasSigns, TwoFlatVariablesHaveSigns};
+ghost use Rattle.relations.specs.TableSigns.{OneOrTwoWayHasSigns, OneVariableHasSigns, TwoFlatVariablesHaveSigns};
 
 /// The relations of one table of one variable have signs, whatever its tree.
 pub fn one_variable_has_signs()
@@ -10,4 +10,9 @@ pub fn one_variable_has_signs()
 /// The relations of one table of two flat variables have signs.
 pub fn two_flat_variables_have_signs()
     ensures { TwoFlatVariablesHaveSigns }
+{}
+
+/// The relations of one table of one variable, and of one table of two flat ones, have signs.
+pub fn one_or_two_way_has_signs()
+    ensures { OneOrTwoWayHasSigns }
 {}

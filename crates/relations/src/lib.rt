@@ -7,6 +7,6 @@ mod having;
 mod laws;
 mod relating;
 
-pub use laws::{one_variable_has_signs, two_flat_variables_have_signs};
+pub use laws::{one_or_two_way_has_signs, one_variable_has_signs, two_flat_variables_have_signs};
 pub use relating::relations_of;
 pub use sdc_base::{Grouping, components, rows_of, signs};

@@ -13,23 +13,30 @@ use std::alloc::Global;
 
 /// That a relation counts a cell: with plus as its total, with minus as a part.
 #[derive(Clone, Copy)]
-pub(crate) struct End {
+pub struct End {
     /// The number of the relation.
-    pub(crate) relation: u32,
+    pub relation: u32,
     /// Whether it counts the cell with plus.
-    pub(crate) plus: bool,
+    pub plus: bool,
 }
 
 /// Which relations count a cell.
 #[derive(Clone, Copy)]
-pub(crate) enum Ends {
+pub enum Ends {
+    /// None does.
     Free,
+    /// One does.
     One(End),
+    /// Two different ones do.
     Two(End, End),
 }
 
-// Which relations count each cell. None where one counts a cell twice or three count it: then no signs are.
-pub(crate) fn ends_of(alloc: Global, system: &System) -> Result<Option<Vec<Ends>>, Memory>
+/// Which relations count each cell, and with which sign. None where one counts a cell twice or three count it: then the
+/// relations have no signs.
+///
+/// Its one refusal is want of memory. It looks at each part of each relation once. That a cell is an arc between two
+/// relations is the rule of network flows.
+pub fn ends_of(alloc: Global, system: &System) -> Result<Option<Vec<Ends>>, Memory>
     ensures ends { IfOk result (λ found. IfSome found (λ ends. AreEnds system.now.relations ends.items)) }
     ensures none { IfOk result (λ found. IfNone found (HasNone system.now.relations)) }
 {

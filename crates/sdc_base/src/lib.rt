@@ -10,6 +10,7 @@ mod duality;
 mod ends;
 mod facts;
 mod few;
+mod fraction;
 mod hidden;
 mod items;
 mod kinds;
@@ -35,8 +36,10 @@ pub use component_rows::rows_of;
 pub use connected::{Grouping, components};
 pub use cube::{Corner, Cube, Edge, Subtable};
 pub use duality::weak_duality;
+pub use ends::{End, Ends, ends_of};
 pub use facts::{CellFacts, Levels};
 pub use few::{Few, Place};
+pub use fraction::Fraction;
 pub use hidden::{Hidden, is_hidden};
 pub use items::Items;
 pub use laws::{

@@ -105,12 +105,12 @@ fn cell_too_large(alloc: Global, parts: u32) -> Result<Option<u32>, Fail> {
     }
 }
 
-// The cell of the first question of the two-way table that takes more than one improvement.
+// The cell of the first question of the ring that takes more than one improvement.
 fn cell_cut_off(alloc: Global) -> Result<Option<u32>, Fail> {
-    let Some(table) = two_by_two(alloc, (5, 0, None), &[4, 5, 7, 8])? else {
+    let Some(ring) = ring_of_three(alloc)? else {
         return Ok(None);
     };
-    match intervals_in(alloc, &table, 1) {
+    match intervals_in(alloc, &ring, 1) {
         Some(Err(AskFault::Work(walk))) => Ok(Some(walk.question.cell)),
         _ => Ok(None),
     }
@@ -119,7 +119,7 @@ fn cell_cut_off(alloc: Global) -> Result<Option<u32>, Fail> {
 #[test]
 fn first_question_without_an_answer_is_named(rt: HostRuntime) -> Result<(), Fail> {
     let alloc = rt.alloc();
-    assert_eq!(&rt; cell_too_large(alloc, 1501)?, Some(1));
-    assert_eq!(&rt; cell_cut_off(alloc)?, Some(4));
+    assert_eq!(&rt; cell_too_large(alloc, 4001)?, Some(1));
+    assert_eq!(&rt; cell_cut_off(alloc)?, Some(2));
     Ok(())
 }

@@ -117,11 +117,11 @@ fn cell_alone_stops_at_once(rt: HostRuntime) -> Result<(), Fail> {
         assert!(&rt; false);
         return Ok(());
     };
-    for (side, times) in [(Side::Above, 1), (Side::Below, -1)] {
+    for (side, relation, times) in [(Side::Above, 2, 1), (Side::Below, 4, -1)] {
         let wanted = Wanted {
             best: Some((0, 1)),
             world: (1, &[]),
-            multipliers: Some((1, &[(4, times)])),
+            multipliers: Some((1, &[(relation, times)])),
         };
         assert!(&rt; is_answered(alloc, &case, side, &wanted));
     }
@@ -130,7 +130,7 @@ fn cell_alone_stops_at_once(rt: HostRuntime) -> Result<(), Fail> {
 
 // How many improvements a question took that was cut off after one, with its cell and target.
 fn cut_off(alloc: Global, case: &Case) -> Option<(u64, u32, i128)> {
-    let Some(Err(AskFault::Work(walk))) = answer_of(alloc, case, 4, Side::Above, 6, 1) else {
+    let Some(Err(AskFault::Work(walk))) = answer_of(alloc, case, 3, Side::Below, 6, 1) else {
         return None;
     };
     Some((
@@ -142,7 +142,7 @@ fn cut_off(alloc: Global, case: &Case) -> Option<(u64, u32, i128)> {
 
 // Whether the answer to a question about the first inner cell is this one.
 fn is_answered(alloc: Global, case: &Case, side: Side, wanted: &Wanted<'_>) -> bool {
-    let answer = answer_of(alloc, case, 4, side, 6, 100);
+    let answer = answer_of(alloc, case, 4, side, 6, 1);
     matches!(&answer, Some(Ok(found)) if is_wanted(found, wanted))
 }
 
@@ -159,7 +159,18 @@ fn four_cells_reach_the_target(rt: HostRuntime) -> Result<(), Fail> {
         multipliers: None,
     };
     assert!(&rt; is_answered(alloc, &case, Side::Above, &wanted));
-    assert_eq!(&rt; cut_off(alloc, &case), Some((1, 4, 6)));
+    Ok(())
+}
+
+// The ring has no signs, so that its questions are walks.
+#[test]
+fn walk_is_cut_off(rt: HostRuntime) -> Result<(), Fail> {
+    let alloc = rt.alloc();
+    let Some(case) = ring_of_three(alloc)? else {
+        assert!(&rt; false);
+        return Ok(());
+    };
+    assert_eq!(&rt; cut_off(alloc, &case), Some((1, 3, 6)));
     Ok(())
 }
 
@@ -302,15 +313,15 @@ fn parts_are_too_many(alloc: Global, parts: u32) -> Result<bool, Fail> {
     Ok(matches!(answer, Some(Err(AskFault::Size { hidden, .. })) if hidden == parts))
 }
 
-fn parts_take_work(alloc: Global, parts: u32) -> Result<bool, Fail> {
+fn parts_reach(alloc: Global, parts: u32) -> Result<bool, Fail> {
     let answer = parts_asked(alloc, parts)?;
-    Ok(matches!(answer, Some(Err(AskFault::Work(_)))))
+    Ok(matches!(answer, Some(Ok(Answer::Reaches(_)))))
 }
 
 #[test]
 fn component_is_too_large(rt: HostRuntime) -> Result<(), Fail> {
     let alloc = rt.alloc();
-    assert!(&rt; parts_are_too_many(alloc, 1501)?);
-    assert!(&rt; parts_take_work(alloc, 1500)?);
+    assert!(&rt; parts_are_too_many(alloc, 4001)?);
+    assert!(&rt; parts_reach(alloc, 4000)?);
     Ok(())
 }

@@ -6,6 +6,8 @@ mod cases;
 #[cfg(test)]
 mod cell_intervals_tests;
 #[cfg(test)]
+mod flow_worlds_tests;
+#[cfg(test)]
 mod interval_audit_tests;
 #[cfg(test)]
 mod rounding_tests;

@@ -15,7 +15,7 @@ problem_over-requires-clause-met c = c.args.inquiry.now.met_are
 pub start-requires : goal.start-requires
 start-requires c =
     let group : Group = group_of c.args.inquiry.now.of.now c.args.inquiry.now.question.cell in
-    subst IsWellFormed (sym c.in_ok-problem.ensures) (problem_is c.args.inquiry.now.system.now c.args.inquiry.now.cells.now group c.args.inquiry.now.question c.args.inquiry.now.at_most_1500)
+    subst IsWellFormed (sym c.in_ok-problem.ensures) (problem_is c.args.inquiry.now.system.now c.args.inquiry.now.cells.now group c.args.inquiry.now.question c.args.inquiry.now.within_most_members)
 
 pub finish-requires-2-clause-ended : goal.finish-requires-2-clause-ended
 finish-requires-2-clause-ended c =

@@ -2,9 +2,9 @@ use Rattle.std.proofs.Common.{◌≡◌, ℕ, true, sym, subst}
 use Rattle.sdc_base.specs.HiddenSets.{is_hidden}
 use Rattle.interval_audit.specs.declared.answer.Answer.{Answer}
 use Rattle.interval_audit.specs.declared.answer.AskFault.{AskFault}
-use Rattle.interval_audit.specs.Answers.{IsTrueAnswer, IsWalkAnswer}
+use Rattle.interval_audit.specs.Answers.{IsTrueAnswer, IsAnswerOf}
 use Rattle.interval_audit.specs.Causes.{IsCauseOf}
-use Rattle.interval_audit.specs.Ends.{IsTrueEnd, IsWalkEnd, IsEndCause}
+use Rattle.interval_audit.specs.Ends.{IsTrueEnd, IsEndAnswer, IsEndCause}
 use Rattle.interval_audit.proofs.QuestionAnswers.{if_ok_more, if_err_more}
 use Rattle.interval_audit.proofs.ends.end_of.Goals as goal
 
@@ -19,8 +19,8 @@ returns-clause-right c =
 
 pub returns-clause-read : goal.returns-clause-read
 returns-clause-read c =
-    if_ok_more (λ (answer : Answer). IsWalkAnswer c.args.system.now c.args.cells.now c.args.hidden.now.flags c.end_question-question.result answer)
-    (λ (answer : Answer). IsWalkEnd c.args.system.now c.args.cells.now c.args.hidden.now.flags c.args.cell c.args.side answer)
+    if_ok_more (λ (answer : Answer). IsAnswerOf c.args.system.now c.args.cells.now c.args.hidden.now.flags c.end_question-question.result answer)
+    (λ (answer : Answer). IsEndAnswer c.args.system.now c.args.cells.now c.args.hidden.now.flags c.args.cell c.args.side answer)
     c.ask.result (λ answer own. (c.end_question-question.result, c.end_question-question.ensures, own)) c.ask.ensures.read
 
 pub returns-clause-cause : goal.returns-clause-cause

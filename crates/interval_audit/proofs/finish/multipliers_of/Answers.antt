@@ -24,7 +24,7 @@ pub read_multipliers-requires-clause-fewer_than_2_32 : goal.read_multipliers-req
 read_multipliers-requires-clause-fewer_than_2_32 c =
     let group : Group = group_of c.args.inquiry.now.of.now c.args.inquiry.now.question.cell in
     let has : HasSlacks c.args.inquiry.now.system.now c.args.inquiry.now.cells.now group (slacks_of c.args.tableau.now.problem c.args.tableau.now.table) c.requires.stuck.weights = has_slacks c.args.inquiry.now.system.now c.args.inquiry.now.cells.now group c.args.inquiry.now.question (state_of c.args.tableau.now) c.requires.problem c.requires.stuck in
-    subst (λ (xs : List ℤ). length xs < 4294967296) (sym c.slacks-slacks.ensures.slacks) (slacks_few c.args.inquiry.now.system.now c.args.inquiry.now.cells.now group (slacks_of c.args.tableau.now.problem c.args.tableau.now.table) c.requires.stuck.weights c.args.inquiry.now.at_most_1500 has)
+    subst (λ (xs : List ℤ). length xs < 4294967296) (sym c.slacks-slacks.ensures.slacks) (slacks_few c.args.inquiry.now.system.now c.args.inquiry.now.cells.now group (slacks_of c.args.tableau.now.problem c.args.tableau.now.table) c.requires.stuck.weights c.args.inquiry.now.within_most_members has)
 
 pub read_multipliers-requires-clause-from_zero : goal.read_multipliers-requires-clause-from_zero
 read_multipliers-requires-clause-from_zero c =

@@ -29,7 +29,7 @@ pub returns-in-Some-clause-cause : goal.returns-in-Some-clause-cause
 returns-in-Some-clause-cause c = λ limit.
     let group : Group = group_of c.args.inquiry.now.of.now c.args.inquiry.now.question.cell in
     let read = slacks_read c.args.inquiry.now.system.now c.args.inquiry.now.cells.now group c.args.tableau.table.den (slacks_of c.args.tableau.problem c.args.tableau.table) c.requires.stuck.weights c.in_ok-multipliers.multipliers (has_slacks c.args.inquiry.now.system.now c.args.inquiry.now.cells.now group c.args.inquiry.now.question (state_of c.args.tableau) c.requires.problem c.requires.stuck) (c.in_ok-multipliers.ensures c.requires.stuck) in
-    (refl, c.requires.problem, (c.requires.blocked, c.in_ok-multipliers.multipliers, read, c.in-Some.ensures.wide), c.args.inquiry.now.at_most_1500, c.requires.walked)
+    (refl, c.requires.problem, (c.requires.blocked, c.in_ok-multipliers.multipliers, read, c.in-Some.ensures.wide), c.args.inquiry.now.within_most_members, c.requires.walked)
 
 pub returns-clause-read : goal.returns-clause-read
 returns-clause-read c =

@@ -1,0 +1,14 @@
+pub mod Rooming
+pub mod Listed
+pub mod Turns
+pub mod Balances
+pub mod GoingRound
+pub mod Arcing
+pub mod Touching
+pub mod Listing
+pub mod Circling
+pub mod Searching
+pub mod Weighing
+pub mod Cutting
+pub mod Tightness
+pub mod Answering

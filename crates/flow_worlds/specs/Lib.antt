@@ -1,0 +1,11 @@
+pub mod Arcs
+pub mod Networks
+pub mod Steps
+pub mod Tasks
+pub mod Rooms
+pub mod Flows
+pub mod Searches
+pub mod Circuits
+pub mod Cuts
+pub mod Finds
+pub mod FlowAnswers
