@@ -1,3 +1,4 @@
 pub mod Spellable
 pub mod Protecting
 pub mod CertificateLists
+pub mod Wholeness

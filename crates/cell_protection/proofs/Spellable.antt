@@ -25,7 +25,7 @@ use Rattle.worlds.specs.declared.world.World.{World}
 use Rattle.worlds.proofs.Lists.{each_given}
 use Rattle.worlds.proofs.TrueTests.{true_unless}
 use Rattle.certificate.specs.Numerals.{ascends_from}
-use Rattle.certificate.specs.Spelling.{IsAmong, IsRefutationSpellable, IsSpellable, IsStepSpellable, IsWorldSpellable}
+use Rattle.certificate.specs.Spelling.{IsRefutationSpellable, IsSpellable, IsStepSpellable, IsWorldSpellable}
 use Rattle.modular_plan.specs.StepLaws.{IsWholeStep}
 use Rattle.repair.specs.HidingOrder.{Case, case, hide}
 use Rattle.repair.specs.KeptWorlds.{AreServed}
@@ -69,58 +69,7 @@ by-all : {X : Type 0} (P : X → Type 0) (xs : List X) → All P xs → AllByRec
 by-all P [] all = tt
 by-all P (x ∷ xs) all = (All-head P x xs all, by-all P xs (All-tail P x xs all))
 
-all-more : {X : Type 0} (P Q : X → Type 0) (xs : List X) → ((x : X) → P x → Q x) → AllByRecursion P xs → AllByRecursion Q xs
-all-more P Q [] f all = tt
-all-more P Q (x ∷ xs) f all = (f x all.0, all-more P Q xs f all.1)
-
--- one number more before those that pass
-any-front : (test : ℕ → Bool) (cell a : ℕ) (numbers : List ℕ) → test cell ≡ true → (a ≡ cell) ⊎ (list_any (λ other. other == cell) (filter test numbers) ≡ true) → list_any (λ other. other == cell) (filter test (a ∷ numbers)) ≡ true
-any-front test cell a numbers passes (inl same) = subst (λ n. list_any (λ other. other == cell) (filter test (n ∷ numbers)) ≡ true) (sym same) (rw passes (rw ((Decides-eqb cell cell).1 refl) refl))
-any-front test cell a numbers passes (inr later) = elim (test a) as (λ b. list_any (λ other. other == cell) (cond b (a ∷ filter test numbers) (filter test numbers)) ≡ true) [
-  | true ↦ elim (a == cell) as (λ b. (b || list_any (λ other. other == cell) (filter test numbers)) ≡ true) [
-    | true ↦ refl
-    | false ↦ later
-  ]
-  | false ↦ later
-]
-
--- a number either is the first of a range or comes later
-either : (cell a n : ℕ) → a ≤ cell → cell < a + suc n → (a ≡ cell) ⊎ ((a + 1 ≤ cell) × (cell < (a + 1) + n))
-either cell a n from below = elim (a == cell) as (λ b. (a == cell) ≡ b → (a ≡ cell) ⊎ ((a + 1 ≤ cell) × (cell < (a + 1) + n))) [
-  | true ↦ λ is. inl ((Decides-eqb a cell).0 is)
-  | false ↦ λ is. inr (grind (arith, nat_tests, is, from), omega (arith, below))
-] refl
-
-filter-any : (test : ℕ → Bool) (cell a n : ℕ) → a ≤ cell → cell < a + n → test cell ≡ true → list_any (λ other. other == cell) (filter test (range_with_len a n)) ≡ true
-filter-any test cell a zero from below passes = absurd (omega (arith, from, below))
-filter-any test cell a (suc n) from below passes =
-    elim (either cell a n from below) as (λ _. list_any (λ other. other == cell) (filter test (range_with_len a (suc n))) ≡ true) [
-      | inl same ↦ any-front test cell a (range_with_len (a + 1) n) passes (inl same)
-      | inr later ↦ any-front test cell a (range_with_len (a + 1) n) passes (inr (filter-any test cell (a + 1) n later.0 later.1 passes))
-    ]
-
-hidden-among : (flags : List Bool) (count cell : ℕ) → cell < count → is_hidden flags cell ≡ true → IsAmong (hidden_numbers count flags) cell
-hidden-among flags count cell within h = filter-any (is_hidden flags) cell 0 count (omega arith) (omega (arith, within)) h
-
--- ---- what moves is hidden
-
--- a listed move of a world is of a hidden cell
-listed-hidden : (system : System) (cells : List Cell) (flags : List Bool) (den : ℤ) (moves : Numbers) (listed : List Move) → IsWorld system cells flags den moves
-    → All (λ (t : Term). t.0 < system.cells) (terms_of listed) → All (λ (t : Term). t.1 ≢ pos 0) (terms_of listed) → All (λ (t : Term). moves t.0 ≡ t.1) (terms_of listed) → AllByRecursion (λ one. (one.cell < system.cells) × (is_hidden flags one.cell ≡ true)) listed
-listed-hidden system cells flags den moves [] world inside counts same = tt
-listed-hidden system cells flags den moves (one ∷ listed) world inside counts same =
-    let term : Term = (one.cell, one.by) in
-    let terms : List Term = terms_of listed in
-    let Inside : Term → Type 0 = λ t. t.0 < system.cells in
-    let Counts : Term → Type 0 = λ t. t.1 ≢ pos 0 in
-    let Same : Term → Type 0 = λ t. moves t.0 ≡ t.1 in (
-      (All-head Inside term terms inside, true_unless (is_hidden flags one.cell) (λ shown. absurd (All-head Counts term terms counts (sym (All-head Same term terms same) ∙ world.shown_stay one.cell (All-head Inside term terms inside) shown)))),
-      listed-hidden system cells flags den moves listed world (All-tail Inside term terms inside) (All-tail Counts term terms counts) (All-tail Same term terms same),
-    )
-
-world-hidden : (system : System) (cells : List Cell) (flags : List Bool) (world : World) → IsGivenWorld system cells flags world → AllByRecursion (λ one. (one.cell < system.cells) × (is_hidden flags one.cell ≡ true)) world.moves
-world-hidden system cells flags world is =
-    listed-hidden system cells flags world.den (number_given (terms_of world.moves)) world.moves is.is_world is.listed.named is.listed.counting (each_given 0 (terms_of world.moves) is.listed.ascending)
+-- ---- lines
 
 -- no listed move is by 0
 moves-move : (listed : List Move) → All (λ (t : Term). t.1 ≢ pos 0) (terms_of listed) → AllByRecursion (λ one. one.by ≢ pos 0) listed
@@ -128,8 +77,6 @@ moves-move [] counts = tt
 moves-move (one ∷ listed) counts =
     let Counts : Term → Type 0 = λ t. t.1 ≢ pos 0 in
     (All-head Counts (one.cell, one.by) (terms_of listed) counts, moves-move listed (All-tail Counts (one.cell, one.by) (terms_of listed) counts))
-
--- ---- lines
 
 refutation-spelled : (system : System) (cells : List Cell) (flags : List Bool) (refuted : Refuted) → IsGivenRefutation system cells flags refuted.cell refuted.side refuted.multipliers → IsRefutationSpellable refuted
 refutation-spelled system cells flags refuted is = record {
@@ -164,7 +111,7 @@ steps-spelled : (book : BookView) (cells : List Cell) (steps : List PlanStep) �
 steps-spelled book cells [] few narrow whole = tt
 steps-spelled book cells (step ∷ steps) few narrow whole = (step-spelled book cells step few narrow whole.0, steps-spelled book cells steps few narrow whole.1)
 
-worlds-spelled : (c : Case) (flags : List Bool) (asked : List (ℕ × Side)) (worlds : List World) → AreServed c flags asked worlds → AllByRecursion (IsWorldSpellable (hidden_numbers c.system.cells flags)) (world_lines asked worlds)
+worlds-spelled : (c : Case) (flags : List Bool) (asked : List (ℕ × Side)) (worlds : List World) → AreServed c flags asked worlds → AllByRecursion IsWorldSpellable (world_lines asked worlds)
 worlds-spelled c flags [] worlds served = tt
 worlds-spelled c flags (one ∷ asked) [] served = tt
 worlds-spelled c flags (one ∷ asked) (world ∷ worlds) served = (
@@ -172,7 +119,6 @@ worlds-spelled c flags (one ∷ asked) (world ∷ worlds) served = (
     den = served.0.is_world.is_world.positive;
     ascending = moves-ascend 0 world.moves served.0.is_world.listed.ascending;
     moving = moves-move world.moves served.0.is_world.listed.counting;
-    among = all-more (λ (move : Move). (move.cell < c.system.cells) × (is_hidden flags move.cell ≡ true)) (λ (move : Move). IsAmong (hidden_numbers c.system.cells flags) move.cell) world.moves (λ move hidden. hidden-among flags c.system.cells move.cell hidden.0 hidden.1) (world-hidden c.system c.cells flags world served.0.is_world);
   },
   worlds-spelled c flags asked worlds served.1,
 )

@@ -27,7 +27,7 @@ use Rattle.worlds.specs.ProtectFaults.{is_reaching}
 use Rattle.worlds.specs.RefutationFaults.{terms_added, IsGivenRefutation}
 use Rattle.worlds.proofs.Bounds.{decides_le}
 use Rattle.interval_audit.specs.declared.question.Question.{Question}
-use Rattle.interval_audit.specs.declared.answer.Fraction.{Fraction}
+use Rattle.sdc_base.specs.declared.fraction.Fraction.{Fraction}
 use Rattle.interval_audit.specs.Answers.{ReachesTarget, StopsShort}
 use Rattle.repair.specs.LevelQuestions.{IsLevelQuestion}
 use Rattle.repair.specs.HidingOrder.{breaks, breaks_at}
@@ -76,7 +76,7 @@ not_false : (a : Bool) → not a ≡ false → a ≡ true
 not_false true is = refl
 not_false false is = absurd cc
 
-share_full : (kind : Kind) (hidden : Bool) (k : ℤ) (cell : Cell) → (kind ≡ Primary → hidden ≡ true) → (kind ≡ Fixed → hidden ≡ false) → (is_free kind && (not hidden && not (int_eq k (pos 0)))) ≡ false → share hidden k cell ≡ share (may_hide kind) k cell
+pub share_full : (kind : Kind) (hidden : Bool) (k : ℤ) (cell : Cell) → (kind ≡ Primary → hidden ≡ true) → (kind ≡ Fixed → hidden ≡ false) → (is_free kind && (not hidden && not (int_eq k (pos 0)))) ≡ false → share hidden k cell ≡ share (may_hide kind) k cell
 share_full Primary hidden k cell primary fixed none = let is : hidden ≡ true = primary refl in rw is refl
 share_full Fixed hidden k cell primary fixed none = let is : hidden ≡ false = fixed refl in rw is refl
 share_full Free true k cell primary fixed none = refl
@@ -95,7 +95,7 @@ share_at_full cells flags k permitted none n =
           ∙ ap (λ b. share b (k n) cell) (sym full)
     ] refl
 
-hidden_or_none : (kind : Kind) (hidden : Bool) (k : ℤ) → (kind ≡ Primary → hidden ≡ true) → (is_free kind && (not hidden && not (int_eq k (pos 0)))) ≡ false → may_hide kind ≡ true → pos 0 <ℤ k → hidden ≡ true
+pub hidden_or_none : (kind : Kind) (hidden : Bool) (k : ℤ) → (kind ≡ Primary → hidden ≡ true) → (is_free kind && (not hidden && not (int_eq k (pos 0)))) ≡ false → may_hide kind ≡ true → pos 0 <ℤ k → hidden ≡ true
 hidden_or_none Primary hidden k primary none may up = primary refl
 hidden_or_none Fixed hidden k primary none may up = absurd cc
 hidden_or_none Free true k primary none may up = refl

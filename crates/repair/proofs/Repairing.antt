@@ -25,8 +25,8 @@ use Rattle.interval_audit.specs.declared.question.Question.{Question}
 use Rattle.interval_audit.specs.declared.answer.Answer.TheVariants.{Reaches, Stops}
 use Rattle.interval_audit.specs.declared.answer.AskFault.{AskFault}
 use Rattle.interval_audit.specs.declared.answer.AskFault.TheVariants.{Work, Wide, Size, Memory}
-use Rattle.interval_audit.specs.declared.answer.Fraction.{Fraction}
-use Rattle.interval_audit.specs.Answers.{ReachesTarget, StopsShort, IsWalkAnswer}
+use Rattle.sdc_base.specs.declared.fraction.Fraction.{Fraction}
+use Rattle.interval_audit.specs.Answers.{ReachesTarget, StopsShort, IsAnswerOf}
 use Rattle.repair.specs.LevelQuestions.{IsLevelQuestion, IsCausing, HasCause}
 use Rattle.repair.specs.HidingOrder.{Case, IsOfKind, hide, hide_subjects, breaks, breaks_at, coefficients_for, IsCheapest, StandsAt}
 use Rattle.repair.specs.Repairs.{cell_and_side, IsJustified, IsInOrder, EachRepair}
@@ -143,6 +143,8 @@ cannot_by c flags place question m one_each each permitted is none =
       stands = is.stands;
       before = all_protected_more c flags (full_set c.cells) (take place (asked_of 0 c.cells)) (within_full c.cells flags (omega (arith, one_each, each)) permitted (λ n hidden. hidden_cell c.cells flags n (omega (arith, one_each, each)) hidden)) is.before;
       refutes = all;
+      set = flags;
+      gives = is.gives;
       unprotected = unprotected;
       none_protects = λ other long own protects. unprotected (protects_more c.system c.cells other (full_set c.cells) question.0 question.1 (within_full c.cells other long own (λ n hidden. hidden_cell c.cells other n long hidden)) protects);
     }
@@ -153,7 +155,7 @@ cheapest_inside cells prices flags counts number is =
     slice_get_within cells number own.is_free.cell own.is_free.found
 
 -- a world that reaches the level of the question at a place
-pub serving_by : (c : Case) (flags : List Bool) (place : ℕ) (question : ℕ × Side) (asking : Question) (world : World) → IsPermitted c.cells flags → StandsAt c.cells question place → IsLevelQuestion c.cells question asking → ReachesTarget c.system c.cells flags asking world → IsWalkAnswer c.system c.cells flags asking (Reaches world) → IsServing c flags question world
+pub serving_by : (c : Case) (flags : List Bool) (place : ℕ) (question : ℕ × Side) (asking : Question) (world : World) → IsPermitted c.cells flags → StandsAt c.cells question place → IsLevelQuestion c.cells question asking → ReachesTarget c.system c.cells flags asking world → IsAnswerOf c.system c.cells flags asking (Reaches world) → IsServing c flags question world
 serving_by c flags place question asking world permitted stands is reaching read = record {
   is_primary = asked_primary c.cells place question stands;
   is_world = reaching.is_world;
@@ -173,7 +175,7 @@ pub question_of : (c : Case) (flags : List Bool) (place : ℕ) (question : ℕ �
 question_of c flags place question worlds limit fault stands served cause = record { asked = question; stands = stands; before = served_protect c flags (take place (asked_of 0 c.cells)) worlds served; cause = cause }
 
 -- a world that reaches the level of the question at a place serves it
-pub one_served : (c : Case) (flags : List Bool) (place : ℕ) (question : ℕ × Side) (asking : Question) (worlds : List World) (world : World) → IsPermitted c.cells flags → StandsAt c.cells question place → IsLevelQuestion c.cells question asking → ReachesTarget c.system c.cells flags asking world → IsWalkAnswer c.system c.cells flags asking (Reaches world) → AreServedBefore c flags place worlds → AreServedBefore c flags (place + 1) (worlds ++ world ∷ [])
+pub one_served : (c : Case) (flags : List Bool) (place : ℕ) (question : ℕ × Side) (asking : Question) (worlds : List World) (world : World) → IsPermitted c.cells flags → StandsAt c.cells question place → IsLevelQuestion c.cells question asking → ReachesTarget c.system c.cells flags asking world → IsAnswerOf c.system c.cells flags asking (Reaches world) → AreServedBefore c flags place worlds → AreServedBefore c flags (place + 1) (worlds ++ world ∷ [])
 one_served c flags place question asking worlds world permitted stands is reaching read served =
     let all : List (ℕ × Side) = asked_of 0 c.cells in
     let serving : IsServing c flags question world = serving_by c flags place question asking world permitted stands is reaching read in
@@ -182,7 +184,7 @@ one_served c flags place question asking worlds world permitted stands is reachi
     subst (λ (qs : List (ℕ × Side)). AreServed c flags qs (worlds ++ world ∷ [])) (sym more) (served_push c flags (take place all) worlds question world served serving)
 
 -- multipliers that stop the question at a place
-pub stopped_by : (c : Case) (flags : List Bool) (place : ℕ) (question : ℕ × Side) (asking : Question) (worlds : List World) (best : Fraction) (world : World) (m : Multipliers) → StandsAt c.cells question place → AreServedBefore c flags place worlds → IsLevelQuestion c.cells question asking → StopsShort c.system c.cells flags asking best world m → IsWalkAnswer c.system c.cells flags asking (Stops best world m) → IsStopped c flags place question m
+pub stopped_by : (c : Case) (flags : List Bool) (place : ℕ) (question : ℕ × Side) (asking : Question) (worlds : List World) (best : Fraction) (world : World) (m : Multipliers) → StandsAt c.cells question place → AreServedBefore c flags place worlds → IsLevelQuestion c.cells question asking → StopsShort c.system c.cells flags asking best world m → IsAnswerOf c.system c.cells flags asking (Stops best world m) → IsStopped c flags place question m
 stopped_by c flags place question asking worlds best world m stands served is does read = record {
   stands = stands;
   before = served_protect c flags (take place (asked_of 0 c.cells)) worlds served;

@@ -1,5 +1,5 @@
 -- Cells tried as shown, one after another.
-use Rattle.std.proofs.Common.{◌≡◌, ◌≢◌, ℕ, zero, suc, ◌+◌, ◌<◌, ◌≤◌, inl, inr, ◌&&◌, not, Bool, true, false, List, [], ◌∷◌, ◌++◌, length, take, drop, map, slice_set, slice_get, All, Some, Result, Ok, Err, OnOk, refl, ap, sym, ◌∙◌, subst, arith, add-one, if◌then◌else◌}
+use Rattle.std.proofs.Common.{◌≡◌, ◌≢◌, ℕ, zero, suc, ◌+◌, ◌<◌, ◌≤◌, inl, inr, ◌&&◌, not, Bool, true, false, List, [], ◌∷◌, ◌++◌, length, take, drop, map, slice_set, slice_get, All, Some, Result, Ok, Err, OnOk, IfErr, refl, ap, sym, ◌∙◌, subst, arith, add-one, if◌then◌else◌}
 use Rattle.std.proofs.Math.Seq.{take-length}
 use Rattle.std.proofs.lemmas.List.{length-take, get_or-set_same, get_or-set_other, map-append, append-nil}
 use Rattle.std.proofs.lemmas.Option.{slice_get_within}
@@ -74,31 +74,31 @@ within_cut (f ∷ flags) larger (suc s) zero h is = is
 within_cut (f ∷ flags) [] (suc s) (suc k) h is = within_cut flags [] s k (λ c own. h (suc c) own) is
 within_cut (f ∷ flags) (l ∷ larger) (suc s) (suc k) h is = within_cut flags larger s k (λ c own. h (suc c) own) is
 
-show_within : (flags larger : List Bool) (s : ℕ) → ((c : ℕ) → is_hidden flags c ≡ true → is_hidden larger c ≡ true) → IsWithin (show flags s) (set_when_tried flags larger s)
+pub show_within : (flags larger : List Bool) (s : ℕ) → ((c : ℕ) → is_hidden flags c ≡ true → is_hidden larger c ≡ true) → IsWithin (show flags s) (set_when_tried flags larger s)
 show_within flags larger s within = record {
   hides = λ k is. subst (λ (l : List Bool). is_hidden l k ≡ true) (sym (tried_suc flags larger s)) (within_cut flags larger s k within is);
 }
 
 -- while no higher cell has been tried, what is tried is the hidden set without the cell
-tried_now : (flags larger : List Bool) (s : ℕ) → s < length flags → drop s flags ≡ drop s larger → set_when_tried flags larger s ≡ show flags s
+pub tried_now : (flags larger : List Bool) (s : ℕ) → s < length flags → drop s flags ≡ drop s larger → set_when_tried flags larger s ≡ show flags s
 tried_now flags larger s within rest =
     tried_suc flags larger s
     ∙ ap (λ (l : List Bool). take s flags ++ false ∷ l) (drop_more_one s larger ∙ ap (λ (l : List Bool). drop 1 l) (sym rest) ∙ sym (drop_more_one s flags))
     ∙ sym (set_cut flags s false within)
 
 -- what was tried stays the same while higher cells change
-tried_same : (flags larger : List Bool) (s n : ℕ) (v : Bool) → s ≤ n → set_when_tried (slice_set flags n v) larger s ≡ set_when_tried flags larger s
+pub tried_same : (flags larger : List Bool) (s n : ℕ) (v : Bool) → s ≤ n → set_when_tried (slice_set flags n v) larger s ≡ set_when_tried flags larger s
 tried_same flags larger s n v below = ap (λ (l : List Bool). l ++ false ∷ drop (s + 1) larger) (take-set_behind flags s n v below)
 
-rest_next : (n : ℕ) (flags larger : List Bool) → drop n flags ≡ drop n larger → drop (n + 1) flags ≡ drop (n + 1) larger
+pub rest_next : (n : ℕ) (flags larger : List Bool) → drop n flags ≡ drop n larger → drop (n + 1) flags ≡ drop (n + 1) larger
 rest_next n flags larger same =
     ap (λ m. drop m flags) (add-one n) ∙ drop_more_one n flags ∙ ap (λ (l : List Bool). drop 1 l) same ∙ sym (drop_more_one n larger) ∙ ap (λ m. drop m larger) (sym (add-one n))
 
-rest_set : (n : ℕ) (flags larger : List Bool) (v : Bool) → drop n flags ≡ drop n larger → drop (n + 1) (slice_set flags n v) ≡ drop (n + 1) larger
+pub rest_set : (n : ℕ) (flags larger : List Bool) (v : Bool) → drop n flags ≡ drop n larger → drop (n + 1) (slice_set flags n v) ≡ drop (n + 1) larger
 rest_set n flags larger v same =
     ap (λ m. drop m (slice_set flags n v)) (add-one n) ∙ drop-set_before flags n v ∙ ap (λ m. drop m flags) (sym (add-one n)) ∙ rest_next n flags larger same
 
-without_more : (larger : List Bool) (shown : List ℕ) (n : ℕ) → show_all larger (shown ++ n ∷ []) ≡ show (show_all larger shown) n
+pub without_more : (larger : List Bool) (shown : List ℕ) (n : ℕ) → show_all larger (shown ++ n ∷ []) ≡ show (show_all larger shown) n
 without_more larger shown n = fold_push show larger shown n
 
 -- ---- the hidden cells that aren't primary
@@ -176,15 +176,15 @@ not_protecting c flags need one_each is all =
 
 -- ---- one cell after another
 
-ascend_more : (shown : List ℕ) (n : ℕ) → All (λ k. k < n) shown → Ascend shown → Ascend (shown ++ n ∷ [])
+pub ascend_more : (shown : List ℕ) (n : ℕ) → All (λ k. k < n) shown → Ascend shown → Ascend (shown ++ n ∷ [])
 ascend_more [] n below is = (All-nil (λ k. n < k), tt)
 ascend_more (one ∷ shown) n below is =
     (All-append (λ k. one < k) shown (n ∷ []) is.0 (All-cons (λ k. one < k) n [] (All-head (λ k. k < n) one shown below) (All-nil (λ k. one < k))), ascend_more shown n (All-tail (λ k. k < n) one shown below) is.1)
 
-all_more : (P : ℕ → Type 0) (shown : List ℕ) (n : ℕ) → All P shown → P n → All P (shown ++ n ∷ [])
+pub all_more : (P : ℕ → Type 0) (shown : List ℕ) (n : ℕ) → All P shown → P n → All P (shown ++ n ∷ [])
 all_more P shown n all own = All-append P shown (n ∷ []) all (All-cons P n [] own (All-nil P))
 
-front_same : (xs ys : List ℕ) (x y : ℕ) → xs ++ x ∷ [] ≡ ys ++ y ∷ [] → xs ≡ ys
+pub front_same : (xs ys : List ℕ) (x y : ℕ) → xs ++ x ∷ [] ≡ ys ++ y ∷ [] → xs ≡ ys
 front_same [] [] x y is = refl
 front_same [] (b ∷ ys) x y is = absurd (none_is_more ys y (let own : [] ≡ ys ++ y ∷ [] = cc in own))
 front_same (a ∷ xs) [] x y is = absurd (none_is_more xs x (let own : [] ≡ xs ++ x ∷ [] = cc in own))
@@ -218,7 +218,7 @@ needs_on c flags larger n v needs all =
 needs_stay : (c : Case) (flags larger : List Bool) (n : ℕ) (needs : List Refuted) → All (IsNeedBelow c flags larger n) needs → All (IsNeedBelow c flags larger (n + 1)) needs
 needs_stay c flags larger n needs all = All-weaker (IsNeedBelow c flags larger n) (IsNeedBelow c flags larger (n + 1)) (λ need is. record { below = omega (arith, is.below); refuted = is.refuted }) needs all
 
-below_on : (n : ℕ) (shown : List ℕ) → All (λ k. k < n) shown → All (λ k. k < n + 1) shown
+pub below_on : (n : ℕ) (shown : List ℕ) → All (λ k. k < n) shown → All (λ k. k < n + 1) shown
 below_on n shown all = All-weaker (λ k. k < n) (λ k. k < n + 1) (λ k is. omega (arith, is)) shown all
 
 -- a cell that isn't tried
@@ -239,7 +239,7 @@ one_passed c larger n flags worlds needs shown cell found other is = record {
   are_open = is.are_open;
 }
 
-shown_here : (flags : List Bool) (n : ℕ) → n < length flags → is_hidden (show flags n) n ≡ false
+pub shown_here : (flags : List Bool) (n : ℕ) → n < length flags → is_hidden (show flags n) n ≡ false
 shown_here flags n inside = get_or-set_same flags n false false inside
 
 -- a cell that is shown
@@ -337,6 +337,9 @@ all_needed c larger flags worlds needs shown is = record {
     cell_primary = own.refuted.cell_primary;
     refutes = refutation_fewer c.system c.cells (show flags need.subject) (set_when_tried flags larger need.subject) need.cell need.side need.multipliers (show_within flags larger need.subject is.within) own.refuted.refutes;
     refutes_larger = own.refuted.refutes;
+    place = own.refuted.place;
+    stands = own.refuted.stands;
+    before = own.refuted.before;
     gives = own.refuted.gives;
   }) needs is.are_needs;
 }
@@ -347,6 +350,11 @@ all_needed c larger flags worlds needs shown is = record {
 pub on_ok_two : {A F : Type 0} {P Q R : Type 0} (r : Result A F) → OnOk r P → OnOk r Q → (P → Q → R) → OnOk r R
 on_ok_two (Ok x) p q both = both p q
 on_ok_two (Err e) p q both = tt
+
+-- a fact on an error from another
+pub on_err_from : {A F : Type 0} {P Q : F → Type 0} (r : Result A F) → ((e : F) → P e → Q e) → IfErr r P → IfErr r Q
+on_err_from (Ok x) more own = tt
+on_err_from (Err e) more own = more e own
 
 -- a cell that isn't free is no hidden one but a primary one
 pub other_kind : (kind : Kind) (hidden : Bool) → is_free kind ≡ false → (kind ≡ Fixed → hidden ≡ false) → (hidden && not (is_primary kind)) ≡ false

@@ -1,8 +1,11 @@
--- How far the hidden cells that aren't primary have been set_when_tried (own).
-use Rattle.std.specs.Prelude.{◌≡◌, ◌≢◌, ℕ, ◌<◌, Bool, true, List, [], ◌∷◌, length, map, take, drop, All, pos, slice_get, slice_set, Option, None, Some}
+-- Hidden cells that aren't primary, tried as shown, and how far this has come (own).
+use Rattle.std.specs.Prelude.{◌≡◌, ◌≢◌, ℕ, ◌<◌, ◌==◌, ◌&&◌, not, Bool, true, List, [], map, take, drop, All, Option, None, Some, pos, ◌*ℤ◌, int_le}
+use Rattle.std.specs.List.{list_any}
+use Rattle.sdc_base.specs.declared.cell.Cell.{Cell}
 use Rattle.sdc_base.specs.declared.cell.Kind.TheVariants.{Primary, Free}
 use Rattle.sdc_base.specs.declared.side.Side.{Side}
 use Rattle.sdc_base.specs.HiddenSets.{is_hidden}
+use Rattle.sdc_base.specs.Worlds.{level, amount_toward}
 use Rattle.worlds.specs.declared.refuted.Refuted.{Refuted}
 use Rattle.worlds.specs.declared.world.World.{World}
 use Rattle.worlds.specs.NumberLists.{terms_of, number_given}
@@ -14,48 +17,53 @@ use Rattle.repair.specs.LevelQuestions.{AreGiven}
 use Rattle.repair.specs.declared.progress.Progress.{Progress}
 use Rattle.repair.specs.declared.task.Task.{Task}
 use Rattle.repair.specs.declared.trying.Findings.{Findings}
-use Rattle.repair.specs.declared.trial.Trial.{Trial}
-use Rattle.repair.specs.declared.trial.Trial.TheVariants.{Reached, Stopped}
-use Rattle.repair.specs.declared.trial.Renewal.{Renewal}
-use Rattle.repair.specs.declared.trial.Renewal.TheVariants.{Renewed, Refuses}
-use Rattle.repair.specs.HidingOrder.{Case, IsOfKind, show_all}
+use Rattle.repair.specs.declared.trial.Spare.{Spare}
+use Rattle.repair.specs.HidingOrder.{Case, IsOfKind, show_all, StandsAt, ProtectsBefore}
 use Rattle.repair.specs.Repairs.{cell_and_side}
 use Rattle.repair.specs.Needs.{others_hidden, set_when_tried}
 use Rattle.repair.specs.KeptWorlds.{IsServing, AreServed}
 use Rattle.repair.specs.Stops.{Ascend, AreShown, IsQuestion}
 use Rattle.repair.specs.Tasks.{case_of}
 
--- each world replaced by the new one, where there is one
-abbrev pub renew_worlds : List World → List (Option World) → List World
-renew_worlds [] news = []
-renew_worlds (world ∷ worlds) [] = world ∷ worlds
-renew_worlds (world ∷ worlds) (None ∷ news) = world ∷ renew_worlds worlds news
-renew_worlds (world ∷ worlds) (Some new ∷ news) = new ∷ renew_worlds worlds news
+-- a world leaves a cell where it is
+abbrev pub RestsIn : ℕ → World → Type 0
+RestsIn cell world = number_given (terms_of world.moves) cell ≡ pos 0
 
--- multipliers refute the level of a primary cell for the hidden set, as the walk of its question gives them
+-- the first worlds, as many as this number, leave a cell where it is
+abbrev pub RestsBefore : ℕ → ℕ → List World → Type 0
+RestsBefore cell place worlds = All (RestsIn cell) (take place worlds)
+
+-- whether a world takes a cell at least its level to a side, and moves another not at all
+abbrev pub serves_beside : Cell → ℕ × Side → ℕ → World → Bool
+serves_beside cell asked other world =
+    int_le (world.den *ℤ level asked.1 cell) (amount_toward asked.1 (number_given (terms_of world.moves) asked.0))
+    && not (list_any (λ one. one.cell == other) world.moves)
+
+-- a spare world serves the question at its place
+pub record IsSpare (c : Case) (flags : List Bool) (spare : Spare) : Type 0 where
+  pub asked : ℕ × Side
+  pub stands : StandsAt c.cells asked spare.place
+  pub serving : IsServing c flags asked spare.world
+
+-- worlds at hand beside the kept ones: each serves the question at its place
+abbrev pub AreSpare : Case → List Bool → List Spare → Type 0
+AreSpare c flags spares = All (IsSpare c flags) spares
+
+-- Multipliers refute the level of a primary cell for the hidden set, as its question is answered; and the set protects
+-- all that is asked before it.
 pub record IsRefuted (c : Case) (flags : List Bool) (refuted : Refuted) : Type 0 where
   pub cell_primary : IsOfKind c.cells refuted.cell Primary
+  pub place : ℕ
+  pub stands : StandsAt c.cells (cell_and_side refuted) place
+  pub before : ProtectsBefore c flags place
   pub refutes : IsGivenRefutation c.system c.cells flags refuted.cell refuted.side refuted.multipliers
   pub gives : AreGiven c.system c.cells flags (cell_and_side refuted) refuted.multipliers
 
--- what a question at a place comes to while a cell is tried: its kept world doesn't move the cell, or this new world
--- serves it
-abbrev pub IsRenewed : Case → List Bool → ℕ → List (ℕ × Side) → List World → ℕ → Option World → Type 0
-IsRenewed c flags cell questions worlds place None =
-    (world : World) × (slice_get worlds place ≡ Some world) × (number_given (terms_of world.moves) cell ≡ pos 0)
-IsRenewed c flags cell questions worlds place (Some new) = (question : ℕ × Side)
-    × (slice_get questions place ≡ Some question) × IsServing c flags question new
-
--- the same, or multipliers that refute it
-abbrev pub IsRenewal : Case → List Bool → ℕ → List World → ℕ → Renewal → Type 0
-IsRenewal c flags cell worlds place (Renewed new) = IsRenewed c flags cell (asked_of 0 c.cells) worlds place new
-IsRenewal c flags cell worlds place (Refuses need) = (need.subject ≡ cell) × IsRefuted c flags need
-
--- what trying to show a cell comes to: new worlds with which all that is asked is served, or a refutation
-abbrev pub IsTrial : Case → List Bool → ℕ → List World → Trial → Type 0
-IsTrial c flags cell worlds (Reached news) = (length news.items ≡ length worlds)
-    × AreServed c flags (asked_of 0 c.cells) (renew_worlds worlds news.items)
-IsTrial c flags cell worlds (Stopped need) = (need.subject ≡ cell) × IsRefuted c flags need
+-- the hidden set, in which a cell is tried as shown, protects what is asked before a place, or the first that it
+-- doesn't protect is refuted
+abbrev pub ProtectsBeforeOr : Case → List Bool → ℕ → ℕ → Option Refuted → Type 0
+ProtectsBeforeOr c flags cell place None = ProtectsBefore c flags place
+ProtectsBeforeOr c flags cell place (Some need) = (need.subject ≡ cell) × IsRefuted c flags need
 
 -- a question has a fault, and all that is asked before it is protected
 abbrev pub HasFault : Case → List Bool → ℕ → AskFault → Type 0
@@ -98,8 +106,3 @@ TriesStopFor c larger limit Memory shown = Unit {0}
 TriesStopFor c larger limit (Work walk) shown = IsTryStop c larger limit (Work walk) shown
 TriesStopFor c larger limit (Wide walk place) shown = IsTryStop c larger limit (Wide walk place) shown
 TriesStopFor c larger limit (Size question hidden) shown = IsTryStop c larger limit (Size question hidden) shown
-
--- the worlds with a new one in the place, where there is one
-abbrev pub with_new_world : List World → ℕ → Option World → List World
-with_new_world worlds place None = worlds
-with_new_world worlds place (Some new) = slice_set worlds place new

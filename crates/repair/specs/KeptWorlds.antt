@@ -56,7 +56,7 @@ pub record IsRepaired (c : Case) (prices : List ℕ) (planned flags : List Bool)
   pub are_repairs : AreRepairs c prices planned repairs
   pub onward : LastIsNotBehind c.cells repairs place
 
--- the question at a place, with multipliers that refute its level for the hidden set, as its walk gives them
+-- the question at a place, with multipliers that refute its level for the hidden set, as it is answered
 pub record IsStopped (c : Case) (flags : List Bool) (place : ℕ) (question : ℕ × Side) (m : Multipliers) : Type 0 where
   pub stands : StandsAt c.cells question place
   pub before : ProtectsBefore c flags place

@@ -8,11 +8,11 @@ use Rattle.sdc_base.specs.Worlds.{level_at}
 use Rattle.worlds.specs.declared.multipliers.Multipliers.{Multipliers}
 use Rattle.worlds.specs.declared.world.World.{World}
 use Rattle.interval_audit.specs.declared.question.Question.{Question}
-use Rattle.interval_audit.specs.declared.answer.Fraction.{Fraction}
+use Rattle.sdc_base.specs.declared.fraction.Fraction.{Fraction}
 use Rattle.interval_audit.specs.declared.answer.Answer.TheVariants.{Reaches, Stops}
 use Rattle.interval_audit.specs.declared.answer.AskFault.{AskFault}
 use Rattle.interval_audit.specs.declared.answer.AskFault.TheVariants.{Work, Wide, Size, Memory}
-use Rattle.interval_audit.specs.Answers.{IsWalkAnswer}
+use Rattle.interval_audit.specs.Answers.{IsAnswerOf}
 use Rattle.interval_audit.specs.Causes.{IsCauseOf}
 
 -- the question whether a cell can be moved to a side as far as its level
@@ -28,7 +28,7 @@ pub record AreGiven (system : System) (cells : List Cell) (flags : List Bool) (a
   pub best : Fraction
   pub world : World
   pub is_asked : IsLevelQuestion cells asked question
-  pub is_read : IsWalkAnswer system cells flags question (Stops best world multipliers)
+  pub is_read : IsAnswerOf system cells flags question (Stops best world multipliers)
 
 -- the world is that of an answer of that question for some permitted set
 pub record IsGiven (system : System) (cells : List Cell) (asked : ℕ × Side) (world : World) : Type 0 where
@@ -36,7 +36,7 @@ pub record IsGiven (system : System) (cells : List Cell) (asked : ℕ × Side) (
   pub permitted : IsPermitted cells set
   pub question : Question
   pub is_asked : IsLevelQuestion cells asked question
-  pub is_read : IsWalkAnswer system cells set question (Reaches world)
+  pub is_read : IsAnswerOf system cells set question (Reaches world)
 
 -- that question, asked of the hidden set, is why there is this fault
 pub record IsCausing (system : System) (cells : List Cell) (flags : List Bool) (asked : ℕ × Side) (limit : ℕ)

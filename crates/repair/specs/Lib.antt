@@ -6,6 +6,7 @@ pub mod Needs
 pub mod KeptWorlds
 pub mod Stops
 pub mod Verdicts
+pub mod WholeVerdicts
 pub mod QuestionSteps
 pub mod CellTrials
 pub mod Laws

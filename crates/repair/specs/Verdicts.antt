@@ -8,6 +8,7 @@ use Rattle.worlds.specs.declared.refuted.Refuted.{Refuted}
 use Rattle.worlds.specs.Protection.{Protection}
 use Rattle.worlds.specs.ProtectFaults.{asked_of, IsProtecting}
 use Rattle.repair.specs.KeptWorlds.{AreServed}
+use Rattle.repair.specs.LevelQuestions.{AreGiven}
 use Rattle.worlds.specs.RefutationFaults.{IsGivenRefutation}
 use Rattle.repair.specs.declared.progress.Progress.{Progress}
 use Rattle.repair.specs.declared.task.Task.{Task}
@@ -19,12 +20,15 @@ use Rattle.repair.specs.Needs.{others_hidden, IsNeed}
 use Rattle.repair.specs.Tasks.{case_of}
 
 -- A cell can't be protected to a side: multipliers refute its level for the full set, so that no permitted set protects
--- it; and the full set protects all that is asked before it.
+-- it; and the full set protects all that is asked before it. The multipliers are an answer of that question for some
+-- hidden set.
 pub record IsCannot (c : Case) (cell : ℕ) (side : Side) (multipliers : Multipliers) : Type 0 where
   pub place : ℕ
   pub stands : StandsAt c.cells (cell, side) place
   pub before : ProtectsBefore c (full_set c.cells) place
   pub refutes : IsGivenRefutation c.system c.cells (full_set c.cells) cell side multipliers
+  pub set : List Bool
+  pub gives : AreGiven c.system c.cells set (cell, side) multipliers
   pub unprotected : ¬ Protects c.system c.cells (full_set c.cells) cell side
   pub none_protects : (flags : List Bool) → length flags ≡ length c.cells → IsPermitted c.cells flags
       → ¬ Protects c.system c.cells flags cell side

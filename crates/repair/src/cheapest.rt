@@ -45,8 +45,12 @@ pub(crate) fn subject_of(
     }
 }
 
-// The cheapest free shown cell that counts.
-fn find_cheapest(cells: &[Cell], flags: &[bool], prices: &[u64], counts: &[i128]) -> Option<u32>
+/// The cell of lowest price, then of lowest number, of those that are free and shown and count; none where there is no
+/// such cell.
+///
+/// There are a flag, a price and a count for each cell, in the order of their numbers from 0. Nothing is refused; it
+/// goes once through the cells and takes no memory. That the cheapest cell is hidden is argus's own.
+pub fn find_cheapest(cells: &[Cell], flags: &[bool], prices: &[u64], counts: &[i128]) -> Option<u32>
     requires flags { length flags.now ≡ length cells.now }
     requires prices { length prices.now ≡ length cells.now }
     requires counts { length counts.now ≡ length cells.now }

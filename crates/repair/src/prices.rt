@@ -7,8 +7,13 @@ use linked_tables::Mark;
 use sdc_base::{Cell, Memory};
 use std::alloc::Global;
 
-// The price of each cell.
-pub(crate) fn list_prices<F: TellsCosts>(
+/// The price of each cell, without a unit: its own where it has one, else what its facts cost by the rule.
+///
+/// There is a mark for each cell, in the order of their numbers from 0, with facts that the rule may be asked about. Its
+/// one refusal is want of memory. The rule is asked once for each cell without a price.
+///
+/// Prices are those of the manual's cost variable; that a cell may have one of its own is argus's own.
+pub fn list_prices<F: TellsCosts>(
     alloc: Global,
     cells: &[Cell],
     marks: &[Mark],

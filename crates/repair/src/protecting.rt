@@ -2,6 +2,7 @@ ghost use Rattle.std.specs.Prelude.{◌≡◌, ◌↔◌, ◌≤◌, IsTrue, Lis
 ghost use Rattle.sdc_base.specs.HiddenSets.{IsPermitted, full_set};
 ghost use Rattle.cost_rule.specs.Costs.{AreCosted};
 ghost use Rattle.sdc_base.specs.HiddenSets.{MayHide};
+ghost use Rattle.sdc_base.specs.Signs.{AreSigns};
 ghost use Rattle.sdc_base.specs.Trails.{corners_of};
 ghost use Rattle.repair.specs.HidingOrder.{case, prices_of, planned_set, ProtectsAll};
 ghost use Rattle.repair.specs.KeptWorlds.{HasModestLevels, AreServed};
@@ -10,6 +11,7 @@ ghost use Rattle.worlds.specs.ProtectFaults.{asked_of};
 ghost use Rattle.repair.specs.Stops.{StopsAsTold};
 ghost use Rattle.repair.specs.QuestionSteps.{IsRepairedForAll};
 ghost use Rattle.repair.specs.Verdicts.{IsVerdict, IsNarrowed, is_cannot};
+ghost use Rattle.repair.specs.WholeVerdicts.{IsWholeVerdict, IsWholeStop};
 
 use crate::planned::planned_hidden;
 use crate::prices::list_prices;
@@ -34,9 +36,14 @@ use worlds::{Protected, Refuted};
 /// number, is hidden too; that is a repair, and the question is asked again. Where there is no such cell, no hidden set
 /// protects the cell to that side: the verdict is `Cannot`, with these multipliers.
 ///
-/// Then each hidden free cell is tried as shown, in ascending order: the questions whose worlds move it are asked
-/// again, in their order. Where all are reached the cell is shown; else it stays hidden, and the first refutation is
-/// kept as its need. The verdict is `Protected`, with a world for each question.
+/// Then each hidden free cell is tried as shown, in ascending order. The questions are gone through in their order, and
+/// one is asked, with the cell shown, where no world at hand reaches its level without moving the cell. Where all are
+/// reached the cell is shown, and each question whose world moves it gets a new answer of its own. Else it stays
+/// hidden, and the first refutation is kept as its need: every question before that of the need is protected with the
+/// cell shown. The verdict is `Protected`, with a world for each question.
+///
+/// At hand are the worlds that are kept for the questions, one each, and beside them answers that trials gave, also
+/// those in vain; of these there are at most as many as questions, and none moves a cell that is shown.
 ///
 /// There are a cell and a mark for each cell of the system, in the order of their numbers from 0; the marks' facts are
 /// ones that the rule may be asked about; levels are in units and at most `2^110`; the corners are numbers of cells
@@ -47,10 +54,14 @@ use worlds::{Protected, Refuted};
 /// give. It tells the repairs so far and, ascending, the cells that were shown again, of which the last was being
 /// tried; under `Memory` both lists are empty. What was lent stays as it was.
 ///
+/// Where the system has signs ([`sdc_base::signs`]), neither `Work` nor `Wide` comes, and each denominator is 1.
+///
 /// The rule is asked once for each cell without a price. There is a question for each primary cell and side and for
-/// each repair, and for each hidden free cell as many as have a kept world that moves it. A repair goes once through
-/// the cells and the parts of the relations that have a multiplier, and a trial once through the moves of all kept
-/// worlds.
+/// each repair; for each hidden free cell one for each question that no world at hand serves with it shown; and for
+/// each that is shown one more for each question whose kept world moves it, but for those whose answer is a spare of
+/// its trial. A repair goes once through the cells and the parts of the relations that have a multiplier; a trial once
+/// through the moves of all kept worlds, and for each question whose kept world moves the cell through those of the
+/// worlds at hand.
 ///
 /// Repairs and needs are this project's own; the questions are those of the feasibility interval in Hundepool et al.,
 /// Statistical Disclosure Control, chapter on magnitude tables.
@@ -75,6 +86,10 @@ pub fn protect<'a, F: TellsCosts>(
         (full_set cells.now)) }
     ensures stopped { IfErr result (λ stopped. StopsAsTold (case system.now cells.now)
         (prices_of rule.now cells.now marks.now) (planned_set cells.now (corners_of trail.now.steps)) limit stopped) }
+    ensures whole { (signs : List Bool) → AreSigns system.now.relations signs
+        → IfOk result (λ verdict. IsWholeVerdict verdict) }
+    ensures whole_stop { (signs : List Bool) → AreSigns system.now.relations signs
+        → IfErr result (λ stopped. IsWholeStop stopped) }
 {
     // for the proof: read, so that it is known to be a number of 32 bits
     let _cells = system.cells;
@@ -156,6 +171,7 @@ fn narrowed_question<'a>(
     let mut tried = Findings {
         needs: Items::empty(alloc),
         shown: Items::empty(alloc),
+        spares: Vec::new(alloc),
     };
     let outcome = try_all(alloc, task, &mut progress, &mut tried);
     if let Err(fault) = outcome {

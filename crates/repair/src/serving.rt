@@ -169,8 +169,11 @@ fn hide_one(
     }
 }
 
-// The question whether a cell can be moved to a side by its level.
-pub(crate) fn level_question(cells: &[Cell], asked: (u32, Side)) -> Question
+/// The question whether a primary cell can be moved to a side by its level, which is at most `2^110` units.
+///
+/// The cell is asked about by its number from 0 among these cells. Nothing is refused; it takes one look and no memory.
+/// Levels are those of the handbook's feasibility interval.
+pub fn level_question(cells: &[Cell], asked: (u32, Side)) -> Question
     requires primary { IsOfKind cells.now asked.0 PrimaryKind }
     requires modest { All HasModestLevels cells.now }
     ensures { IsLevelQuestion cells.now asked result }

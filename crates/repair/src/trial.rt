@@ -1,94 +1,100 @@
-ghost use Rattle.std.specs.Prelude.{◌≡◌, ◌==◌, ◌<◌, ℕ, length, IfOk, IfErr};
+ghost use Rattle.std.specs.Prelude.{◌≡◌, ◌==◌, ◌||◌, ◌<◌, ◌+◌, ◌++◌, ◌∷◌, [], Some, slice_get, length, nat_lt, if◌then◌else◌, IfOk, IfErr, OnOk, OnErr};
 ghost use Rattle.std.specs.List.{list_any};
 ghost use Rattle.sdc_base.specs.HiddenSets.{IsPermitted};
-ghost use Rattle.sdc_base.specs.declared.side.Side.{Side as AnySide};
+ghost use Rattle.sdc_base.specs.declared.cell.Cell.{Cell as AnyCell};
+ghost use Rattle.sdc_base.specs.declared.cell.Kind.TheVariants.{Primary as PrimaryKind};
 ghost use Rattle.worlds.specs.ProtectFaults.{asked_of};
-ghost use Rattle.repair.specs.LevelQuestions.{HasCause};
-ghost use Rattle.repair.specs.HidingOrder.{hide, StandsAt};
+ghost use Rattle.repair.specs.HidingOrder.{hide, IsOfKind, ProtectsBefore};
 ghost use Rattle.repair.specs.Tasks.{case_of};
 ghost use Rattle.repair.specs.KeptWorlds.{AreServed};
-ghost use Rattle.repair.specs.CellTrials.{IsTrial, IsRenewal, HasFault};
+ghost use Rattle.repair.specs.Stops.{IsQuestion};
+ghost use Rattle.repair.specs.CellTrials.{AreSpare, ProtectsBeforeOr, HasFault};
+ghost use Rattle.repair.specs.CellTrials as spec;
 
 use crate::serving::level_question;
 use crate::task::Task;
 use interval_audit::{Answer, AskFault, ask};
-use sdc_base::{Hidden, Side};
+use sdc_base::{Cell, Hidden, Memory, Side};
 use std::alloc::Global;
-use worlds::{Refuted, World};
+use worlds::{Refuted, World, reaches};
 
-/// What trying to show a cell comes to.
+/// A world at hand beside the kept ones: the answer of the question at a place while some cell was tried.
 #[derive(Drop)]
-pub(crate) enum Trial {
-    /// All questions are served; where the kept world moved the cell, by this one.
-    Reached(Vec<Option<World>>),
-    /// A question isn't.
-    Stopped(Refuted),
+pub(crate) struct Spare {
+    pub(crate) place: usize,
+    pub(crate) world: World,
 }
 
-/// What one question comes to while a cell is tried.
-#[derive(Drop)]
-pub(crate) enum Renewal {
-    /// The kept world serves it, or else this new one.
-    Renewed(Option<World>),
-    /// No world does.
-    Refuses(Refuted),
-}
-
-// Asks again, with a cell shown, the questions whose kept worlds move it.
-pub(crate) fn ask_anew(
+// The first question, with its multipliers, that no world serves with a cell shown, if there is one. Only what no world
+// at hand serves is asked, and the answers are kept as spares.
+pub(crate) fn first_refused(
     alloc: Global,
     task: &Task<'_, '_>,
     cell: u32,
     hidden: &Hidden,
     worlds: &[World],
-) -> Result<Trial, AskFault>
+    spares: &mut Vec<Spare>,
+) -> Result<Option<Refuted>, AskFault>
     requires each { length hidden.now.flags ≡ task.now.system.now.cells }
     requires permitted { IsPermitted task.now.cells.now hidden.now.flags }
+    requires inside { cell < length hidden.now.flags }
     requires served { AreServed (case_of task.now) (hide hidden.now.flags cell) (asked_of 0 task.now.cells.now)
         worlds.now }
-    ensures ok { IfOk result (λ trial. IsTrial (case_of task.now) hidden.now.flags cell worlds.now trial) }
+    requires spares { AreSpare (case_of task.now) (hide hidden.now.flags cell) spares.old.items }
+    ensures spares { IfOk result (λ _. AreSpare (case_of task.now) (hide hidden.now.flags cell) spares.new.items) }
+    ensures ok { IfOk result (λ need. ProtectsBeforeOr (case_of task.now) hidden.now.flags cell
+        (length task.now.questions.now) need) }
     ensures err { IfErr result (λ fault. HasFault (case_of task.now) hidden.now.flags task.now.limit fault) }
 {
-    let mut news = Vec::new(alloc);
     'places: for place in 0..task.questions.len() {
-        let renewal = renew(alloc, task, place, cell, hidden, worlds)?;
-        let new = match renewal {
-            Renewal::Renewed(new) => new,
-            Renewal::Refuses(need) => return Ok(Trial::Stopped(need)),
-        };
-        let Ok(()) = news.push(new) else {
-            return Err(AskFault::Memory);
-        };
+        let need = refusal_of(alloc, task, place, cell, hidden, worlds, spares)?;
+        if let Some(need) = need {
+            return Ok(Some(need));
+        }
     }
-    Ok(Trial::Reached(news))
+    Ok(None)
 }
 
-// Asks one question again, with a cell shown, where its kept world moves it.
-fn renew(
+// The multipliers of the question at a place, where no world serves it with a cell shown.
+fn refusal_of(
     alloc: Global,
     task: &Task<'_, '_>,
     place: usize,
     cell: u32,
     hidden: &Hidden,
     worlds: &[World],
-) -> Result<Renewal, AskFault>
+    spares: &mut Vec<Spare>,
+) -> Result<Option<Refuted>, AskFault>
     requires place { place < length task.now.questions.now }
     requires each { length hidden.now.flags ≡ task.now.system.now.cells }
     requires permitted { IsPermitted task.now.cells.now hidden.now.flags }
-    requires worlds { length worlds.now ≡ length task.now.questions.now }
-    ensures ok { IfOk result (λ renewal. IsRenewal (case_of task.now) hidden.now.flags cell worlds.now place renewal) }
-    ensures err { IfErr result (λ fault. (asked : ℕ × AnySide) × StandsAt task.now.cells.now asked place
-        × HasCause task.now.system.now task.now.cells.now hidden.now.flags asked task.now.limit fault) }
+    requires inside { cell < length hidden.now.flags }
+    requires served { AreServed (case_of task.now) (hide hidden.now.flags cell) (asked_of 0 task.now.cells.now)
+        worlds.now }
+    requires spares { AreSpare (case_of task.now) (hide hidden.now.flags cell) spares.old.items }
+    requires count { length worlds.now ≡ length task.now.questions.now }
+    requires before { ProtectsBefore (case_of task.now) hidden.now.flags place }
+    ensures spares { IfOk result (λ _. AreSpare (case_of task.now) (hide hidden.now.flags cell) spares.new.items) }
+    ensures ok { IfOk result (λ need. ProtectsBeforeOr (case_of task.now) hidden.now.flags cell (place + 1) need) }
+    ensures err { IfErr result (λ fault. IsQuestion (case_of task.now) hidden.now.flags task.now.limit fault place) }
 {
     if !is_moved(&worlds[place], cell) {
-        return Ok(Renewal::Renewed(None));
+        return Ok(None);
     }
     let asked = task.questions[place];
+    if is_at_hand(task.cells, asked, cell, worlds, spares.as_slice()) {
+        return Ok(None);
+    }
     let question = level_question(task.cells, asked);
     let answer = ask(alloc, task.system, task.cells, hidden, question, task.limit)?;
     match answer {
-        Answer::Reaches(world) => Ok(Renewal::Renewed(Some(world))),
-        Answer::Stops { multipliers, .. } => Ok(Renewal::Refuses(Refuted {
+        Answer::Reaches(world) => {
+            let Ok(()) = keep_spare(spares, Spare { place, world }, task.questions.len()) else {
+                return Err(AskFault::Memory);
+            };
+            Ok(None)
+        }
+        Answer::Stops { multipliers, .. } => Ok(Some(Refuted {
             subject: cell,
             cell: asked.0,
             side: asked.1,
@@ -97,9 +103,63 @@ fn renew(
     }
 }
 
+// Whether a world at hand, one that is kept or a spare one, takes a cell to its level to a side without moving another.
+fn is_at_hand(
+    cells: &[Cell],
+    asked: (u32, Side),
+    other: u32,
+    worlds: &[World],
+    spares: &[Spare],
+) -> bool
+    requires primary { IsOfKind cells.now asked.0 PrimaryKind }
+    ensures { (cell : AnyCell) → slice_get cells.now asked.0 ≡ Some cell
+        → result ≡ (list_any (spec.serves_beside cell asked other) worlds.now
+        || list_any (λ spare. spec.serves_beside cell asked other spare.world) spares.now) }
+{
+    let cell = &cells[asked.0 as usize];
+    is_served(cell, asked, other, worlds) || is_served_by_spare(cell, asked, other, spares)
+}
+
+// Whether one of these worlds takes a cell to its level to a side without moving another.
+fn is_served(cell: &Cell, asked: (u32, Side), other: u32, worlds: &[World]) -> bool
+    ensures { result ≡ list_any (spec.serves_beside cell.now asked other) worlds.now }
+{
+    worlds
+        .iter()
+        .any(|world| serves_beside(cell, asked, other, world))
+}
+
+// The same of spares.
+fn is_served_by_spare(cell: &Cell, asked: (u32, Side), other: u32, spares: &[Spare]) -> bool
+    ensures { result ≡ list_any (λ spare. spec.serves_beside cell.now asked other spare.world) spares.now }
+{
+    spares
+        .iter()
+        .any(|spare| serves_beside(cell, asked, other, &spare.world))
+}
+
+// Whether a world takes a cell to its level to a side without moving another.
+fn serves_beside(cell: &Cell, asked: (u32, Side), other: u32, world: &World) -> bool
+    ensures { result ≡ spec.serves_beside cell.now asked other world.now }
+{
+    reaches(cell, asked.1, asked.0, world) && !is_moved(world, other)
+}
+
 // Whether a world moves a cell.
-fn is_moved(world: &World, cell: u32) -> bool
+pub(crate) fn is_moved(world: &World, cell: u32) -> bool
     ensures { result ≡ list_any (λ one. one.cell == cell) world.now.moves }
 {
     world.moves.as_slice().iter().any(|one| one.cell == cell)
+}
+
+// Keeps a spare, where there aren't as many already as there may be.
+fn keep_spare(spares: &mut Vec<Spare>, spare: Spare, most: usize) -> Result<(), Memory>
+    ensures ok { OnOk result (spares.new.items ≡ (if nat_lt (length spares.old.items) most
+        then spares.old.items ++ spare ∷ [] else spares.old.items)) }
+    ensures err { OnErr result (spares.new.items ≡ spares.old.items) }
+{
+    if spares.len() < most {
+        spares.push(spare)?;
+    }
+    Ok(())
 }

@@ -5,15 +5,16 @@ ghost use Rattle.worlds.specs.ProtectFaults.{asked_of};
 ghost use Rattle.repair.specs.HidingOrder.{hide, IsOfKind};
 ghost use Rattle.repair.specs.Tasks.{case_of};
 ghost use Rattle.repair.specs.KeptWorlds.{AreServed};
-ghost use Rattle.repair.specs.CellTrials.{renew_worlds, with_new_world, HasTried, TriesStopFor};
+ghost use Rattle.repair.specs.CellTrials.{AreSpare, HasTried, TriesStopFor};
 
 use crate::progress::Progress;
+use crate::renewing::renew_all;
 use crate::task::Task;
-use crate::trial::{Trial, ask_anew};
+use crate::trial::{Spare, first_refused};
 use interval_audit::AskFault;
 use sdc_base::Items;
 use std::alloc::Global;
-use worlds::{Refuted, World};
+use worlds::Refuted;
 
 /// What was found of the hidden cells that aren't primary.
 #[derive(Drop)]
@@ -22,6 +23,8 @@ pub(crate) struct Findings {
     pub(crate) needs: Items<Refuted>,
     /// The cells that are shown.
     pub(crate) shown: Items<u32>,
+    /// Worlds at hand beside the kept ones, at most as many as there are questions.
+    pub(crate) spares: Vec<Spare>,
 }
 
 // Tries each hidden free cell as shown, in ascending order.
@@ -35,6 +38,7 @@ pub(crate) fn try_all(
     requires permitted { IsPermitted task.now.cells.now progress.old.hidden.flags }
     requires served { AreServed (case_of task.now) progress.old.hidden.flags (asked_of 0 task.now.cells.now)
         progress.old.worlds }
+    requires no_spares { tried.old.spares.items ≡ [] }
     requires no_needs { tried.old.needs ≡ [] }
     requires none_shown { tried.old.shown ≡ [] }
     ensures repairs { progress.new.repairs ≡ progress.old.repairs }
@@ -66,9 +70,11 @@ fn try_next(
     requires permitted { IsPermitted task.now.cells.now progress.old.hidden.flags }
     requires served { AreServed (case_of task.now) progress.old.hidden.flags (asked_of 0 task.now.cells.now)
         progress.old.worlds }
+    requires spares { AreSpare (case_of task.now) progress.old.hidden.flags tried.old.spares.items }
     ensures repairs { progress.new.repairs ≡ progress.old.repairs }
     ensures each { OnOk result (length progress.new.hidden.flags ≡ task.now.system.now.cells) }
     ensures permitted { OnOk result (IsPermitted task.now.cells.now progress.new.hidden.flags) }
+    ensures spares { OnOk result (AreSpare (case_of task.now) progress.new.hidden.flags tried.new.spares.items) }
     ensures ok { OnOk result ((larger : List Bool) → HasTried task.now larger cell progress.old tried.old
         → HasTried task.now larger (cell + 1) progress.new tried.new) }
     ensures err { IfErr result (λ fault. (larger : List Bool) → HasTried task.now larger cell progress.old tried.old
@@ -99,9 +105,11 @@ fn try_one(
     requires permitted { IsPermitted task.now.cells.now progress.old.hidden.flags }
     requires served { AreServed (case_of task.now) progress.old.hidden.flags (asked_of 0 task.now.cells.now)
         progress.old.worlds }
+    requires spares { AreSpare (case_of task.now) progress.old.hidden.flags tried.old.spares.items }
     ensures repairs { progress.new.repairs ≡ progress.old.repairs }
     ensures each { OnOk result (length progress.new.hidden.flags ≡ task.now.system.now.cells) }
     ensures permitted { OnOk result (IsPermitted task.now.cells.now progress.new.hidden.flags) }
+    ensures spares { OnOk result (AreSpare (case_of task.now) progress.new.hidden.flags tried.new.spares.items) }
     ensures ok { OnOk result ((larger : List Bool) → HasTried task.now larger cell progress.old tried.old
         → HasTried task.now larger (cell + 1) progress.new tried.new) }
     ensures err { IfErr result (λ fault. (larger : List Bool) → HasTried task.now larger cell progress.old tried.old
@@ -111,19 +119,26 @@ fn try_one(
         return Err(AskFault::Memory);
     };
     progress.hidden.flags.set(cell as usize, false);
-    let trial = ask_anew(
+    let first = tried.spares.len();
+    let found = first_refused(
         alloc,
         task,
         cell,
         &progress.hidden,
         progress.worlds.as_slice(),
+        &mut tried.spares,
     )?;
-    match trial {
-        Trial::Reached(news) => {
-            replace(&mut progress.worlds, news);
-            Ok(())
-        }
-        Trial::Stopped(need) => put_back(cell, need, progress, tried),
+    match found {
+        None => renew_all(
+            alloc,
+            task,
+            cell,
+            &progress.hidden,
+            &mut progress.worlds,
+            &mut tried.spares,
+            first,
+        ),
+        Some(need) => put_back(cell, need, progress, tried),
     }
 }
 
@@ -138,6 +153,7 @@ fn put_back(
     ensures flags { progress.new.hidden.flags ≡ hide progress.old.hidden.flags cell }
     ensures worlds { progress.new.worlds ≡ progress.old.worlds }
     ensures repairs { progress.new.repairs ≡ progress.old.repairs }
+    ensures spares { tried.new.spares ≡ tried.old.spares }
     ensures needs { OnOk result (tried.new.needs ≡ tried.old.needs ++ need ∷ []) }
     ensures shown { OnOk result ((earlier : List ℕ) (last : ℕ) → tried.old.shown ≡ earlier ++ last ∷ []
         → tried.new.shown ≡ earlier) }
@@ -149,26 +165,4 @@ fn put_back(
         return Err(AskFault::Memory);
     };
     Ok(())
-}
-
-// Puts new worlds in the places of those that they replace.
-fn replace(worlds: &mut Items<World>, news: Vec<Option<World>>)
-    requires { length news.items ≡ length worlds.old }
-    ensures { worlds.new ≡ renew_worlds worlds.old news.items }
-{
-    let mut left = news;
-    'news: while let Some(new) = left.pop() {
-        let place = left.len();
-        put_new(worlds, place, new);
-    }
-}
-
-// Puts a new world in a place, where there is one.
-fn put_new(worlds: &mut Items<World>, place: usize, new: Option<World>)
-    requires { place < length worlds.old }
-    ensures { worlds.new ≡ with_new_world worlds.old place new }
-{
-    if let Some(world) = new {
-        worlds.set(place, world);
-    }
 }

@@ -177,16 +177,16 @@ fn two_by_two(
 #[test]
 fn margins_always_shown(rt: HostRuntime) -> Result<(), Fail> {
     let alloc = rt.alloc();
-    let certificate = b"argus certificate 1\nmethod MOD\ncells 9\nrelations 6\nhidden 4 5 7 8\n\
+    let certificate = b"argus certificate 2\nmethod MOD\ncells 9\nrelations 6\nhidden 4 5 7 8\n\
 step 1 0,0 4 4,5,7,8\n\
-need 5 4 above 1 4:1\nneed 7 4 above 1 3:-1 4:1 5:1\nneed 8 4 above 1 3:-1 4:1\n\
-world 4 above 1 6 -6 -6 6\nworld 4 below 1 -6 6 6 -6\nend\n"
+need 5 4 above 1 4:1\nneed 7 4 above 1 2:1\nneed 8 4 above 1 2:1 5:-1\n\
+world 4 above 1 4:6 5:-6 7:-6 8:6\nworld 4 below 1 4:-6 5:6 7:6 8:-6\nend\n"
         .as_slice();
     let made = two_by_two(alloc, Kind::Fixed, false, Method::Modular, 100000)?;
     assert_eq!(rt; made.as_deref(), Some(certificate));
-    // the first question takes four improvements
-    let stopped = two_by_two(alloc, Kind::Fixed, false, Method::Modular, 3)?;
-    assert_eq!(rt; stopped.as_deref(), Some(b"work 4 above 3\n".as_slice()));
+    // the table has signs, so that no question is a walk
+    let limited = two_by_two(alloc, Kind::Fixed, false, Method::Modular, 1)?;
+    assert_eq!(rt; limited.as_deref(), Some(certificate));
     Ok(())
 }
 
@@ -203,10 +203,10 @@ fn nothing_protects(rt: HostRuntime) -> Result<(), Fail> {
 #[test]
 fn free_margins(rt: HostRuntime) -> Result<(), Fail> {
     let alloc = rt.alloc();
-    let certificate = b"argus certificate 1\nmethod GH 2\ncells 9\nrelations 6\nhidden 3 4 6 7\n\
+    let certificate = b"argus certificate 2\nmethod GH 2\ncells 9\nrelations 6\nhidden 3 4 6 7\n\
 step 1 0,0 4 3,4,6,7\n\
 need 3 4 above 1 4:1\nneed 6 4 above 1 2:1 5:-1\nneed 7 4 above 1 2:1\n\
-world 4 above 1 6 6 -6 -6\nworld 4 below 1 -6 -6 6 6\nend\n"
+world 4 above 1 3:6 4:6 6:-6 7:-6\nworld 4 below 1 3:-6 4:-6 6:6 7:6\nend\n"
         .as_slice();
     let made = two_by_two(alloc, Kind::Free, true, Method::Gh(2), 100000)?;
     assert_eq!(rt; made.as_deref(), Some(certificate));
@@ -242,10 +242,10 @@ fn industries_protected(alloc: Global, book: &mut Book) -> Result<Option<Vec<u8>
 }
 
 const INDUSTRIES_CERTIFICATE: &[u8] =
-    b"argus certificate 1\nmethod MOD\ncells 6\nrelations 3\nhidden 1 3 4 5\n\
+    b"argus certificate 2\nmethod MOD\ncells 6\nrelations 3\nhidden 1 3 4 5\n\
 step 1 0 4 1,4\nstep 1 1 1 1,3\nneed 1 4 above 1 0:1\nneed 3 4 above 1 0:1 1:1\n\
-world 4 above 1 -3 -3 3 3\nworld 4 below 1 3 3 -3 -3\n\
-world 5 above 1 -3 -3 3 3\nworld 5 below 1 3 3 -3 -3\nend\n";
+world 4 above 1 1:-3 3:-3 4:3 5:3\nworld 4 below 1 1:3 3:3 4:-3 5:-3\n\
+world 5 above 1 1:-3 3:-3 4:3 5:3\nworld 5 below 1 1:3 3:3 4:-3 5:-3\nend\n";
 
 #[test]
 fn two_levels(rt: HostRuntime) -> Result<(), Fail> {

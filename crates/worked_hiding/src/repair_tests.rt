@@ -305,12 +305,12 @@ fn stop_lines(alloc: Global, stopped: &Stopped) -> Result<String, Fail> {
 fn two_by_two_with_shown_margins(rt: HostRuntime) -> Result<(), Fail> {
     let alloc = rt.alloc();
     let rows = inner_and_margins(Kind::Fixed, None);
-    // Without 5, relation 4 alone holds the primary cell. Without 8, cell 5 can't move, by relation 3, and so neither
-    // can cell 4. Without 7, cell 8 can't, by relation 5, and so neither can 5 and 4.
+    // Without 5, relation 4 alone holds the primary cell, and without 7 relation 2. Without 8, cell 7 can't move, by
+    // relation 5, and so neither can cell 4.
     let planned = "hidden 4 5 7 8\n\
 need 5 4 above 1 4:1\n\
-need 7 4 above 1 3:-1 4:1 5:1\n\
-need 8 4 above 1 3:-1 4:1\n\
+need 7 4 above 1 2:1\n\
+need 8 4 above 1 2:1 5:-1\n\
 world 1 4:6 5:-6 7:-6 8:6\n\
 world 1 4:-6 5:6 7:6 8:-6\n";
     let job = Job {
@@ -320,30 +320,27 @@ world 1 4:-6 5:6 7:6 8:-6\n";
         limit: 100000,
     };
     assert_eq!(rt; lines_of(alloc, job)?.as_deref(), Some(planned));
-    // Four improvements are enough for every question, and three aren't for the first one.
+    // The table has signs, so that no question is a walk.
     assert_eq!(rt;
-        lines_of(alloc, Job { limit: 4, ..job })?.as_deref(),
+        lines_of(alloc, Job { limit: 1, ..job })?.as_deref(),
         Some(planned)
     );
-    for limit in 1..4 {
-        let stopped = format!(in alloc; "work 4 above {limit}\nshown\n")?;
-        assert_eq!(rt; lines_of(alloc, Job { limit, ..job })?, Some(stopped));
-    }
     Ok(())
 }
 
 #[test]
 fn two_by_two_without_a_trail(rt: HostRuntime) -> Result<(), Fail> {
     let alloc = rt.alloc();
-    // Relation 4 holds cell 4, and among the cells that count in it 5 has the lowest price: with free margins 51,
-    // before the 71 of cell 3. Then 5 is held by relation 3, where 8 counts, and 8 by relation 5, where 7 does.
+    // Relation 2 holds cell 4, and among the cells that count in it 7 has the lowest price: with free margins 31,
+    // before the 51 of cell 1. Then relation 4 holds it, where 5 does, before the 71 of cell 3. Then 7 is held by relation 5,
+    // where 8 counts.
     let repaired = "hidden 4 5 7 8\n\
+repair 7 4 above 1 2:1\n\
 repair 5 4 above 1 4:1\n\
-repair 8 4 above 1 3:-1 4:1\n\
-repair 7 4 above 1 3:-1 4:1 5:1\n\
+repair 8 4 above 1 2:1 5:-1\n\
 need 5 4 above 1 4:1\n\
-need 7 4 above 1 3:-1 4:1 5:1\n\
-need 8 4 above 1 3:-1 4:1\n\
+need 7 4 above 1 2:1\n\
+need 8 4 above 1 2:1 5:-1\n\
 world 1 4:6 5:-6 7:-6 8:6\n\
 world 1 4:-6 5:6 7:6 8:-6\n";
     for margin in [Kind::Fixed, Kind::Free] {
@@ -472,11 +469,45 @@ need 3 1 above 1 0:1\n\
 world 1 1:5 3:-5\n\
 world 1 1:-5 3:5\n";
     assert_eq!(rt; lines_of(alloc, job)?.as_deref(), Some(lines));
-    // The first question ends after two improvements, 1 up and 2 down; once 3 is hidden it takes a third.
-    let stopped = "work 1 above 2\nrepair 3 1 above 1 0:1\nshown\n";
+    Ok(())
+}
+
+// Six shown cells in a ring of three relations: a system with them has no signs.
+const RING: [Row; 6] = [
+    (20, Kind::Fixed, 0, None),
+    (20, Kind::Fixed, 0, None),
+    (20, Kind::Fixed, 0, None),
+    (10, Kind::Fixed, 0, None),
+    (10, Kind::Fixed, 0, None),
+    (10, Kind::Fixed, 0, None),
+];
+
+#[test]
+fn work_after_a_repair(rt: HostRuntime) -> Result<(), Fail> {
+    let alloc = rt.alloc();
+    // The corner that a repair makes needless, beside a ring: the first question ends after two improvements, 1 up and 2
+    // down; once 3 is hidden it takes a third.
+    let rows = [
+        (17, Kind::Fixed, 0, None),
+        (5, Kind::Primary, 5, None),
+        (2, Kind::Free, 0, None),
+        (10, Kind::Free, 0, None),
+        RING[0],
+        RING[1],
+        RING[2],
+        RING[3],
+        RING[4],
+        RING[5],
+    ];
+    let job = Job {
+        rows: &rows,
+        relations: &[(0, &[1, 2, 3]), (4, &[7, 8]), (5, &[8, 9]), (6, &[7, 9])],
+        corners: &[1, 2],
+        limit: 2,
+    };
     assert_eq!(rt;
-        lines_of(alloc, Job { limit: 2, ..job })?.as_deref(),
-        Some(stopped)
+        lines_of(alloc, job)?.as_deref(),
+        Some("work 1 above 2\nrepair 3 1 above 1 0:1\nshown\n")
     );
     Ok(())
 }
@@ -484,17 +515,30 @@ world 1 1:-5 3:5\n";
 #[test]
 fn work_while_a_cell_is_tried(rt: HostRuntime) -> Result<(), Fail> {
     let alloc = rt.alloc();
-    // Cell 1 rises as 2 falls, two improvements. With 2 shown, 3 falls, and with it 4, which takes a third.
+    // Beside a ring, cell 1 rises as 2 falls, two improvements. With 2 shown, 3 falls, and with it 4, which takes a third.
+    let rows = [
+        (25, Kind::Fixed, 0, None),
+        (5, Kind::Primary, 5, None),
+        (10, Kind::Free, 0, None),
+        (10, Kind::Free, 0, None),
+        (4, Kind::Free, 0, None),
+        (6, Kind::Free, 0, None),
+        RING[0],
+        RING[1],
+        RING[2],
+        RING[3],
+        RING[4],
+        RING[5],
+    ];
     let job = Job {
-        rows: &[
-            (25, Kind::Fixed, 0, None),
-            (5, Kind::Primary, 5, None),
-            (10, Kind::Free, 0, None),
-            (10, Kind::Free, 0, None),
-            (4, Kind::Free, 0, None),
-            (6, Kind::Free, 0, None),
+        rows: &rows,
+        relations: &[
+            (0, &[1, 2, 3]),
+            (3, &[4, 5]),
+            (6, &[9, 10]),
+            (7, &[10, 11]),
+            (8, &[9, 11]),
         ],
-        relations: &[(0, &[1, 2, 3]), (3, &[4, 5])],
         corners: &[1, 2, 3, 4],
         limit: 2,
     };

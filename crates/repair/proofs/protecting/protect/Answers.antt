@@ -2,6 +2,7 @@ use Rattle.std.proofs.Common.{◌∙◌, List, Bool, ℕ, length, ap, sym, subst
 use Rattle.sdc_base.specs.HiddenSets.{IsPermitted}
 use Rattle.sdc_base.specs.Trails.{corners_of}
 use Rattle.repair.specs.HidingOrder.{case, planned_set}
+use Rattle.repair.proofs.Wholeness.{where_whole, where_whole_stop}
 use Rattle.repair.proofs.Concluding.{where_ok, cannot_where}
 use Rattle.repair.proofs.Corners.{length-prices}
 use Rattle.repair.proofs.Flags.{planned_length, planned_permitted}
@@ -32,3 +33,11 @@ settle-requires-clause-permitted g c =
 pub returns-clause-cannot : goal.returns-clause-cannot
 returns-clause-cannot g c =
     where_ok c.settle.result c.settle.ensures.verdict (λ verdict is. cannot_where (case c.args.system.now c.args.cells.now) c.deref.result.now c.in-Ok-planned_hidden.hidden.flags verdict is)
+
+pub returns-clause-whole : goal.returns-clause-whole
+returns-clause-whole g c =
+    where_whole (case c.args.system.now c.args.cells.now) c.deref.result.now c.in-Ok-planned_hidden.hidden.flags c.settle.result c.settle.ensures.verdict
+
+pub returns-clause-whole_stop : goal.returns-clause-whole_stop
+returns-clause-whole_stop g c =
+    where_whole_stop (case c.args.system.now c.args.cells.now) c.deref.result.now c.in-Ok-planned_hidden.hidden.flags c.args.limit c.settle.result c.settle.ensures.stopped

@@ -5,7 +5,7 @@ use Rattle.sdc_base.specs.declared.side.Side.TheVariants.{Above}
 use Rattle.sdc_base.specs.declared.cell.Kind.TheVariants.{Primary}
 use Rattle.sdc_base.specs.HiddenSets.{is_hidden}
 use Rattle.interval_audit.specs.declared.answer.Answer.TheVariants.{Reaches, Stops}
-use Rattle.interval_audit.specs.Answers.{IsTrueAnswer, IsWalkAnswer, ReachesTarget, StopsShort}
+use Rattle.interval_audit.specs.Answers.{IsTrueAnswer, IsAnswerOf, ReachesTarget, StopsShort}
 use Rattle.worlds.specs.declared.world.World.{World}
 use Rattle.repair.specs.LevelQuestions.{IsCausing, HasCause}
 use Rattle.repair.specs.HidingOrder.{Case, case, IsOfKind, StandsAt}
@@ -44,8 +44,8 @@ returns-in-Ok-clause-ok c =
     let flags : List Bool = c.args.progress.now.hidden.flags in
     let reaching : ReachesTarget c.args.task.now.system.now c.args.task.now.cells.now flags c.level_question-question.result c.in-Reaches.world =
     subst (IsTrueAnswer c.args.task.now.system.now c.args.task.now.cells.now flags c.level_question-question.result) c.in-Reaches.is c.in_ok-answer.ensures.right in
-    let read : IsWalkAnswer c.args.task.now.system.now c.args.task.now.cells.now flags c.level_question-question.result (Reaches c.in-Reaches.world) =
-    subst (IsWalkAnswer c.args.task.now.system.now c.args.task.now.cells.now flags c.level_question-question.result) c.in-Reaches.is c.in_ok-answer.ensures.read in
+    let read : IsAnswerOf c.args.task.now.system.now c.args.task.now.cells.now flags c.level_question-question.result (Reaches c.in-Reaches.world) =
+    subst (IsAnswerOf c.args.task.now.system.now c.args.task.now.cells.now flags c.level_question-question.result) c.in-Reaches.is c.in_ok-answer.ensures.read in
     subst (λ (f : List Bool). AreServedBefore task f (c.args.place + 1) c.keep.new.self.worlds) (sym c.in-Ok.ensures.flags)
     (subst (λ (ws : List World). AreServedBefore task flags (c.args.place + 1) ws) (sym c.in-Ok.ensures.ok)
     (one_served task flags c.args.place asked c.level_question-question.result c.args.progress.now.worlds c.in-Reaches.world c.requires.ready.permitted stands c.level_question-question.ensures reaching read c.requires.served))
@@ -66,8 +66,8 @@ hide_one-requires-clause-stopped c =
     let flags : List Bool = c.args.progress.now.hidden.flags in
     let does : StopsShort c.args.task.now.system.now c.args.task.now.cells.now flags c.level_question-question.result c.in-Stops.best c.in-Stops.world c.in-Stops.multipliers =
     subst (IsTrueAnswer c.args.task.now.system.now c.args.task.now.cells.now flags c.level_question-question.result) c.in-Stops.is c.in_ok-answer.ensures.right in
-    let read : IsWalkAnswer c.args.task.now.system.now c.args.task.now.cells.now flags c.level_question-question.result (Stops c.in-Stops.best c.in-Stops.world c.in-Stops.multipliers) =
-    subst (IsWalkAnswer c.args.task.now.system.now c.args.task.now.cells.now flags c.level_question-question.result) c.in-Stops.is c.in_ok-answer.ensures.read in
+    let read : IsAnswerOf c.args.task.now.system.now c.args.task.now.cells.now flags c.level_question-question.result (Stops c.in-Stops.best c.in-Stops.world c.in-Stops.multipliers) =
+    subst (IsAnswerOf c.args.task.now.system.now c.args.task.now.cells.now flags c.level_question-question.result) c.in-Stops.is c.in_ok-answer.ensures.read in
     stopped_by task flags c.args.place asked c.level_question-question.result c.args.progress.now.worlds c.in-Stops.best c.in-Stops.world c.in-Stops.multipliers stands c.requires.served c.level_question-question.ensures does read
 
 pub returns-clause-err : goal.returns-clause-err

@@ -1,0 +1,17 @@
+use Rattle.std.proofs.Common.{◌≡◌, ◌∙◌, ℕ, List, ap, sym, length, arith}
+use Rattle.sdc_base.specs.declared.side.Side.{Side}
+use Rattle.worlds.specs.ProtectFaults.{asked_of}
+use Rattle.repair.specs.HidingOrder.{case, hide}
+use Rattle.repair.proofs.AtHand.{all_resting}
+use Rattle.repair.proofs.Growing.{served_length}
+use Rattle.repair.proofs.renewing.ask_again.Goals as goal
+
+pub renew-requires-clause-count : goal.renew-requires-clause-count
+renew-requires-clause-count c =
+    served_length (case c.args.task.now.system.now c.args.task.now.cells.now) (hide c.args.hidden.now.flags c.args.cell) (asked_of 0 c.args.task.now.cells.now) c.places.worlds c.places.invariant.served
+    ∙ ap (λ (l : List (ℕ × Side)). length l) (sym c.args.task.now.fits.in_order)
+
+pub returns-clause-served : goal.returns-clause-served
+returns-clause-served c =
+    let order : length c.args.task.now.questions.now ≡ length (asked_of 0 c.args.task.now.cells.now) = ap (λ (l : List (ℕ × Side)). length l) c.args.task.now.fits.in_order in
+    all_resting (case c.args.task.now.system.now c.args.task.now.cells.now) c.args.hidden.now.flags c.args.cell (asked_of 0 c.args.task.now.cells.now) c.places.worlds c.places.place (omega (arith, c.places-test.false, c.places.auto.place-end, order)) c.places.invariant.served c.places.invariant.resting

@@ -1,0 +1,87 @@
+use Rattle.std.proofs.Common.{◌≡◌, ◌<◌, ◌+◌, ◌∙◌, ℕ, ap, sym, subst, length, true, List, Bool, Some, slice_get, get_or, arith}
+use Rattle.std.proofs.lemmas.Option.{slice_get_read}
+use Rattle.std.proofs.lemmas.Result.{err_from_is_err_and}
+use Rattle.sdc_base.specs.declared.side.Side.{Side}
+use Rattle.sdc_base.specs.declared.side.Side.TheVariants.{Above}
+use Rattle.sdc_base.specs.declared.cell.Kind.TheVariants.{Primary}
+use Rattle.sdc_base.specs.HiddenSets.{is_hidden}
+use Rattle.worlds.specs.declared.world.World.{World}
+use Rattle.worlds.specs.ProtectFaults.{asked_of}
+use Rattle.interval_audit.specs.declared.answer.Answer.TheVariants.{Reaches}
+use Rattle.interval_audit.specs.Answers.{IsTrueAnswer, IsAnswerOf, ReachesTarget, StopsShort}
+use Rattle.repair.specs.LevelQuestions.{IsCausing}
+use Rattle.repair.specs.HidingOrder.{Case, case, IsOfKind, hide, StandsAt}
+use Rattle.repair.specs.KeptWorlds.{IsServing, AreServed}
+use Rattle.repair.specs.CellTrials.{RestsIn, RestsBefore}
+use Rattle.repair.proofs.AtHand.{unmoved, rests_there, served_set, serving_more, rests_next, rests_set, protects_before, none_refuted}
+use Rattle.repair.proofs.Flags.{within_hide}
+use Rattle.repair.proofs.Order.{asked_primary}
+use Rattle.repair.proofs.Refuting.{stopping_refutes}
+use Rattle.repair.proofs.Repairing.{cause_of, serving_by, stands_there}
+use Rattle.repair.proofs.renewing.renew.Goals as goal
+
+pub returns-then-not-is_moved-clause-resting : goal.returns-then-not-is_moved-clause-resting
+returns-then-not-is_moved-clause-resting c =
+    let within : c.args.place < length c.args.worlds.now = omega (arith, c.requires.place, c.requires.count) in
+    let read : slice_get c.as_slice-kept.result.now c.args.place ≡ Some c.index-kept-place.result = slice_get_read c.as_slice-kept.result.now (length c.args.worlds.now) c.args.place c.index-kept-place.result (ap (λ (l : List World). length l) (sym c.as_slice-kept.ensures)) within c.index-kept-place.is in
+    let kept : slice_get c.args.worlds.now c.args.place ≡ Some c.index-kept-place.result = subst (λ (l : List World). slice_get l c.args.place ≡ Some c.index-kept-place.result) c.as_slice-kept.ensures read in
+    rests_next c.args.cell c.args.worlds.now c.args.place c.index-kept-place.result kept (unmoved c.args.cell c.index-kept-place.result.moves (sym c.is_moved.ensures ∙ c.if-not-is_moved.true)) c.requires.resting
+
+pub level_question-question-requires-clause-primary : goal.level_question-question-requires-clause-primary
+level_question-question-requires-clause-primary c =
+    asked_primary c.args.task.now.cells.now c.args.place (get_or c.args.task.now.questions.now c.args.place (0, Above)) (stands_there c.args.task.now.cells.now c.args.task.now.questions.now c.args.place (0, Above) c.args.task.now.fits.in_order c.requires.place)
+
+pub ask-requires-clause-hidden : goal.ask-requires-clause-hidden
+ask-requires-clause-hidden c =
+    let asked : ℕ × Side = get_or c.args.task.now.questions.now c.args.place (0, Above) in
+    let is : IsOfKind c.args.task.now.cells.now asked.0 Primary = asked_primary c.args.task.now.cells.now c.args.place asked (stands_there c.args.task.now.cells.now c.args.task.now.questions.now c.args.place (0, Above) c.args.task.now.fits.in_order c.requires.place) in
+    subst (λ n. is_hidden c.args.hidden.now.flags n ≡ true) (sym c.level_question-question.ensures.cell_is) (c.requires.permitted.primary_hidden asked.0 is.cell is.found is.is_kind)
+
+pub returns-in_err-answer-clause-err : goal.returns-in_err-answer-clause-err
+returns-in_err-answer-clause-err c =
+    let task : Case = case c.args.task.now.system.now c.args.task.now.cells.now in
+    let asked : ℕ × Side = get_or c.args.task.now.questions.now c.args.place (0, Above) in
+    let flags : List Bool = c.args.hidden.now.flags in
+    let stands : StandsAt c.args.task.now.cells.now asked c.args.place = stands_there c.args.task.now.cells.now c.args.task.now.questions.now c.args.place (0, Above) c.args.task.now.fits.in_order c.requires.place in
+    let own : IsCausing c.args.task.now.system.now c.args.task.now.cells.now flags asked c.args.task.now.limit c.in_err-answer.field-0.0 = record { question = c.level_question-question.result; is_asked = c.level_question-question.ensures; cause = c.in_err-answer.ensures.cause } in
+    let before = protects_before task flags (length c.args.task.now.questions.now) c.args.place (ap (λ (l : List (ℕ × Side)). length l) c.args.task.now.fits.in_order) c.requires.protecting in
+    let p = err_from_is_err_and c.from_residual.result c.from_residual.ensures.1 in
+    rw (p.1, p.2) (c.args.place, record { asked = asked; stands = stands; before = before; cause = cause_of c.args.task.now.system.now c.args.task.now.cells.now flags asked c.args.task.now.limit c.in_err-answer.field-0.0 own })
+
+pub set-requires : goal.set-requires
+set-requires c = omega (arith, c.requires.place, c.requires.count)
+
+pub returns-clause-served : goal.returns-clause-served
+returns-clause-served c =
+    let task : Case = case c.args.task.now.system.now c.args.task.now.cells.now in
+    let asked : ℕ × Side = get_or c.args.task.now.questions.now c.args.place (0, Above) in
+    let flags : List Bool = c.args.hidden.now.flags in
+    let stands : StandsAt c.args.task.now.cells.now asked c.args.place = stands_there c.args.task.now.cells.now c.args.task.now.questions.now c.args.place (0, Above) c.args.task.now.fits.in_order c.requires.place in
+    let reaching : ReachesTarget c.args.task.now.system.now c.args.task.now.cells.now flags c.level_question-question.result c.in-Reaches.world =
+    subst (IsTrueAnswer c.args.task.now.system.now c.args.task.now.cells.now flags c.level_question-question.result) c.in-Reaches.is c.in_ok-answer.ensures.right in
+    let read : IsAnswerOf c.args.task.now.system.now c.args.task.now.cells.now flags c.level_question-question.result (Reaches c.in-Reaches.world) =
+    subst (IsAnswerOf c.args.task.now.system.now c.args.task.now.cells.now flags c.level_question-question.result) c.in-Reaches.is c.in_ok-answer.ensures.read in
+    let serving : IsServing task flags asked c.in-Reaches.world = serving_by task flags c.args.place asked c.level_question-question.result c.in-Reaches.world c.requires.permitted stands c.level_question-question.ensures reaching read in
+    subst (λ (ws : List World). AreServed task (hide flags c.args.cell) (asked_of 0 c.args.task.now.cells.now) ws) (sym c.set.ensures)
+    (served_set task (hide flags c.args.cell) (asked_of 0 c.args.task.now.cells.now) c.args.worlds.now c.args.place asked c.in-Reaches.world stands (serving_more task flags (hide flags c.args.cell) asked c.in-Reaches.world (within_hide flags c.args.cell c.requires.inside) serving) c.requires.served)
+
+pub returns-clause-resting : goal.returns-clause-resting
+returns-clause-resting c =
+    let task : Case = case c.args.task.now.system.now c.args.task.now.cells.now in
+    let flags : List Bool = c.args.hidden.now.flags in
+    let reaching : ReachesTarget c.args.task.now.system.now c.args.task.now.cells.now flags c.level_question-question.result c.in-Reaches.world =
+    subst (IsTrueAnswer c.args.task.now.system.now c.args.task.now.cells.now flags c.level_question-question.result) c.in-Reaches.is c.in_ok-answer.ensures.right in
+    let inside : c.args.cell < c.args.task.now.system.now.cells = omega (arith, c.requires.inside, c.requires.each) in
+    let rest : RestsIn c.args.cell c.in-Reaches.world = rests_there task flags c.args.cell c.in-Reaches.world inside c.requires.shown reaching.is_world in
+    subst (λ (ws : List World). RestsBefore c.args.cell (c.args.place + 1) ws) (sym c.set.ensures) (rests_set c.args.cell c.args.worlds.now c.args.place c.in-Reaches.world rest c.requires.resting)
+
+pub unreachable-requires : goal.unreachable-requires
+unreachable-requires c =
+    let task : Case = case c.args.task.now.system.now c.args.task.now.cells.now in
+    let asked : ℕ × Side = get_or c.args.task.now.questions.now c.args.place (0, Above) in
+    let flags : List Bool = c.args.hidden.now.flags in
+    let stands : StandsAt c.args.task.now.cells.now asked c.args.place = stands_there c.args.task.now.cells.now c.args.task.now.questions.now c.args.place (0, Above) c.args.task.now.fits.in_order c.requires.place in
+    let does : StopsShort c.args.task.now.system.now c.args.task.now.cells.now flags c.level_question-question.result c.in-Stops.best c.in-Stops.world c.in-Stops.multipliers =
+    subst (IsTrueAnswer c.args.task.now.system.now c.args.task.now.cells.now flags c.level_question-question.result) c.in-Stops.is c.in_ok-answer.ensures.right in
+    none_refuted task flags (length c.args.task.now.questions.now) c.args.place asked c.in-Stops.multipliers c.args.task.now.fits.one_each (ap (λ (l : List (ℕ × Side)). length l) c.args.task.now.fits.in_order) stands c.requires.protecting
+    (stopping_refutes c.args.task.now.system.now c.args.task.now.cells.now flags asked c.level_question-question.result c.in-Stops.best c.in-Stops.world c.in-Stops.multipliers c.level_question-question.ensures does)

@@ -1,0 +1,127 @@
+use Rattle.std.proofs.Common.{◌≡◌, ◌<◌, ◌∙◌, ℕ, refl, sym, subst, length, nat_lt, true, List, Bool, Some, slice_get, get_or, arith}
+use Rattle.std.proofs.lemmas.Option.{slice_get_read}
+use Rattle.std.proofs.lemmas.Result.{err_from_is_err_and}
+use Rattle.sdc_base.specs.declared.side.Side.{Side}
+use Rattle.sdc_base.specs.declared.side.Side.TheVariants.{Above}
+use Rattle.sdc_base.specs.declared.cell.Kind.TheVariants.{Primary}
+use Rattle.sdc_base.specs.HiddenSets.{is_hidden}
+use Rattle.worlds.specs.ProtectFaults.{asked_of}
+use Rattle.interval_audit.specs.declared.answer.Answer.TheVariants.{Reaches, Stops}
+use Rattle.interval_audit.specs.Answers.{IsTrueAnswer, IsAnswerOf, ReachesTarget, StopsShort}
+use Rattle.repair.specs.LevelQuestions.{IsCausing}
+use Rattle.repair.specs.HidingOrder.{Case, case, IsOfKind, hide, StandsAt}
+use Rattle.repair.specs.KeptWorlds.{IsServing}
+use Rattle.repair.specs.CellTrials.{AreSpare}
+use Rattle.repair.proofs.AtHand.{unmoved, still_serving, served_at, serving_more, protects_at_hand, protects_next, spare_kept}
+use Rattle.repair.proofs.Flags.{within_hide}
+use Rattle.repair.proofs.Growing.{serving_protects}
+use Rattle.repair.proofs.Order.{asked_primary}
+use Rattle.repair.proofs.Refuting.{stopping_refutes}
+use Rattle.repair.proofs.Repairing.{cause_of, serving_by, stands_there}
+use Rattle.repair.proofs.trial.refusal_of.Goals as goal
+
+pub returns-then-not-is_moved-clause-ok : goal.returns-then-not-is_moved-clause-ok
+returns-then-not-is_moved-clause-ok c =
+    let task : Case = case c.args.task.now.system.now c.args.task.now.cells.now in
+    let flags : List Bool = c.args.hidden.now.flags in
+    let asked : ℕ × Side = get_or c.args.task.now.questions.now c.args.place (0, Above) in
+    let stands : StandsAt c.args.task.now.cells.now asked c.args.place = stands_there c.args.task.now.cells.now c.args.task.now.questions.now c.args.place (0, Above) c.args.task.now.fits.in_order c.requires.place in
+    let within : c.args.place < length c.args.worlds.now = omega (arith, c.requires.place, c.requires.count) in
+    let kept : slice_get c.args.worlds.now c.args.place ≡ Some c.index-worlds-place.result = slice_get_read c.args.worlds.now (length c.args.worlds.now) c.args.place c.index-worlds-place.result refl within c.index-worlds-place.is in
+    let serving : IsServing task (hide flags c.args.cell) asked c.index-worlds-place.result = served_at task (hide flags c.args.cell) (asked_of 0 c.args.task.now.cells.now) c.args.worlds.now c.args.place asked c.index-worlds-place.result stands kept c.requires.served in
+    let own : IsServing task flags asked c.index-worlds-place.result = still_serving task flags c.args.cell asked c.index-worlds-place.result (unmoved c.args.cell c.index-worlds-place.result.moves (sym c.is_moved.ensures ∙ c.if-not-is_moved.true)) serving in
+    protects_next task flags c.args.place asked stands (serving_protects task flags asked c.index-worlds-place.result own) c.requires.before
+
+pub is_at_hand-requires : goal.is_at_hand-requires
+is_at_hand-requires c = record {
+  primary =
+      asked_primary c.args.task.now.cells.now c.args.place (get_or c.args.task.now.questions.now c.args.place (0, Above)) (stands_there c.args.task.now.cells.now c.args.task.now.questions.now c.args.place (0, Above) c.args.task.now.fits.in_order c.requires.place);
+}
+
+pub returns-then-is_at_hand-clause-ok : goal.returns-then-is_at_hand-clause-ok
+returns-then-is_at_hand-clause-ok c =
+    let task : Case = case c.args.task.now.system.now c.args.task.now.cells.now in
+    let flags : List Bool = c.args.hidden.now.flags in
+    let asked : ℕ × Side = get_or c.args.task.now.questions.now c.args.place (0, Above) in
+    let stands : StandsAt c.args.task.now.cells.now asked c.args.place = stands_there c.args.task.now.cells.now c.args.task.now.questions.now c.args.place (0, Above) c.args.task.now.fits.in_order c.requires.place in
+    let is : IsOfKind c.args.task.now.cells.now asked.0 Primary = asked_primary c.args.task.now.cells.now c.args.place asked stands in
+    let spares : AreSpare task (hide flags c.args.cell) c.as_slice.result.now = subst (AreSpare task (hide flags c.args.cell)) (sym c.as_slice.ensures.value) c.requires.spares in
+    protects_next task flags c.args.place asked stands
+    (protects_at_hand task flags c.args.cell asked is.cell (asked_of 0 c.args.task.now.cells.now) c.args.worlds.now c.as_slice.result.now is.found c.requires.served spares (sym (c.is_at_hand.ensures is.cell is.found) ∙ c.if-is_at_hand.true)) c.requires.before
+
+pub level_question-question-requires-clause-primary : goal.level_question-question-requires-clause-primary
+level_question-question-requires-clause-primary c =
+    asked_primary c.args.task.now.cells.now c.args.place (get_or c.args.task.now.questions.now c.args.place (0, Above)) (stands_there c.args.task.now.cells.now c.args.task.now.questions.now c.args.place (0, Above) c.args.task.now.fits.in_order c.requires.place)
+
+pub ask-requires-clause-hidden : goal.ask-requires-clause-hidden
+ask-requires-clause-hidden c =
+    let asked : ℕ × Side = get_or c.args.task.now.questions.now c.args.place (0, Above) in
+    let is : IsOfKind c.args.task.now.cells.now asked.0 Primary = asked_primary c.args.task.now.cells.now c.args.place asked (stands_there c.args.task.now.cells.now c.args.task.now.questions.now c.args.place (0, Above) c.args.task.now.fits.in_order c.requires.place) in
+    subst (λ n. is_hidden c.args.hidden.now.flags n ≡ true) (sym c.level_question-question.ensures.cell_is) (c.requires.permitted.primary_hidden asked.0 is.cell is.found is.is_kind)
+
+pub returns-in_err-answer-clause-err : goal.returns-in_err-answer-clause-err
+returns-in_err-answer-clause-err c =
+    let asked : ℕ × Side = get_or c.args.task.now.questions.now c.args.place (0, Above) in
+    let flags : List Bool = c.args.hidden.now.flags in
+    let stands : StandsAt c.args.task.now.cells.now asked c.args.place = stands_there c.args.task.now.cells.now c.args.task.now.questions.now c.args.place (0, Above) c.args.task.now.fits.in_order c.requires.place in
+    let own : IsCausing c.args.task.now.system.now c.args.task.now.cells.now flags asked c.args.task.now.limit c.in_err-answer.field-0.0 = record { question = c.level_question-question.result; is_asked = c.level_question-question.ensures; cause = c.in_err-answer.ensures.cause } in
+    let p = err_from_is_err_and c.from_residual.result c.from_residual.ensures.1 in
+    rw (p.1, p.2) (record { asked = asked; stands = stands; before = c.requires.before; cause = cause_of c.args.task.now.system.now c.args.task.now.cells.now flags asked c.args.task.now.limit c.in_err-answer.field-0.0 own })
+
+pub returns-in_default-clause-err : goal.returns-in_default-clause-err
+returns-in_default-clause-err c =
+    let asked : ℕ × Side = get_or c.args.task.now.questions.now c.args.place (0, Above) in
+    record {
+      asked = asked;
+      stands = stands_there c.args.task.now.cells.now c.args.task.now.questions.now c.args.place (0, Above) c.args.task.now.fits.in_order c.requires.place;
+      before = c.requires.before;
+      cause = tt;
+    }
+
+pub returns-in-Reaches-clause-spares : goal.returns-in-Reaches-clause-spares
+returns-in-Reaches-clause-spares c =
+    let task : Case = case c.args.task.now.system.now c.args.task.now.cells.now in
+    let flags : List Bool = c.args.hidden.now.flags in
+    let asked : ℕ × Side = get_or c.args.task.now.questions.now c.args.place (0, Above) in
+    let stands : StandsAt c.args.task.now.cells.now asked c.args.place = stands_there c.args.task.now.cells.now c.args.task.now.questions.now c.args.place (0, Above) c.args.task.now.fits.in_order c.requires.place in
+    let reaching : ReachesTarget c.args.task.now.system.now c.args.task.now.cells.now flags c.level_question-question.result c.in-Reaches.world =
+    subst (IsTrueAnswer c.args.task.now.system.now c.args.task.now.cells.now flags c.level_question-question.result) c.in-Reaches.is c.in_ok-answer.ensures.right in
+    let read : IsAnswerOf c.args.task.now.system.now c.args.task.now.cells.now flags c.level_question-question.result (Reaches c.in-Reaches.world) =
+    subst (IsAnswerOf c.args.task.now.system.now c.args.task.now.cells.now flags c.level_question-question.result) c.in-Reaches.is c.in_ok-answer.ensures.read in
+    let serving : IsServing task flags asked c.in-Reaches.world = serving_by task flags c.args.place asked c.level_question-question.result c.in-Reaches.world c.requires.permitted stands c.level_question-question.ensures reaching read in
+    let more : IsServing task (hide flags c.args.cell) asked c.in-Reaches.world = serving_more task flags (hide flags c.args.cell) asked c.in-Reaches.world (within_hide flags c.args.cell c.requires.inside) serving in
+    subst (AreSpare task (hide flags c.args.cell)) (sym c.in-Ok.ensures.ok)
+    (spare_kept task (hide flags c.args.cell) c.args.spares.now.items (record { place = c.args.place; world = c.in-Reaches.world }) (nat_lt (length c.args.spares.now.items) (length c.args.task.now.questions.now)) (record { asked = asked; stands = stands; serving = more }) c.requires.spares)
+
+pub returns-in-Reaches-clause-ok : goal.returns-in-Reaches-clause-ok
+returns-in-Reaches-clause-ok c =
+    let task : Case = case c.args.task.now.system.now c.args.task.now.cells.now in
+    let flags : List Bool = c.args.hidden.now.flags in
+    let asked : ℕ × Side = get_or c.args.task.now.questions.now c.args.place (0, Above) in
+    let stands : StandsAt c.args.task.now.cells.now asked c.args.place = stands_there c.args.task.now.cells.now c.args.task.now.questions.now c.args.place (0, Above) c.args.task.now.fits.in_order c.requires.place in
+    let reaching : ReachesTarget c.args.task.now.system.now c.args.task.now.cells.now flags c.level_question-question.result c.in-Reaches.world =
+    subst (IsTrueAnswer c.args.task.now.system.now c.args.task.now.cells.now flags c.level_question-question.result) c.in-Reaches.is c.in_ok-answer.ensures.right in
+    let read : IsAnswerOf c.args.task.now.system.now c.args.task.now.cells.now flags c.level_question-question.result (Reaches c.in-Reaches.world) =
+    subst (IsAnswerOf c.args.task.now.system.now c.args.task.now.cells.now flags c.level_question-question.result) c.in-Reaches.is c.in_ok-answer.ensures.read in
+    let serving : IsServing task flags asked c.in-Reaches.world = serving_by task flags c.args.place asked c.level_question-question.result c.in-Reaches.world c.requires.permitted stands c.level_question-question.ensures reaching read in
+    protects_next task flags c.args.place asked stands (serving_protects task flags asked c.in-Reaches.world serving) c.requires.before
+
+pub returns-clause-ok : goal.returns-clause-ok
+returns-clause-ok c =
+    let asked : ℕ × Side = get_or c.args.task.now.questions.now c.args.place (0, Above) in
+    let flags : List Bool = c.args.hidden.now.flags in
+    let stands : StandsAt c.args.task.now.cells.now asked c.args.place = stands_there c.args.task.now.cells.now c.args.task.now.questions.now c.args.place (0, Above) c.args.task.now.fits.in_order c.requires.place in
+    let does : StopsShort c.args.task.now.system.now c.args.task.now.cells.now flags c.level_question-question.result c.in-Stops.best c.in-Stops.world c.in-Stops.multipliers =
+    subst (IsTrueAnswer c.args.task.now.system.now c.args.task.now.cells.now flags c.level_question-question.result) c.in-Stops.is c.in_ok-answer.ensures.right in
+    let read : IsAnswerOf c.args.task.now.system.now c.args.task.now.cells.now flags c.level_question-question.result (Stops c.in-Stops.best c.in-Stops.world c.in-Stops.multipliers) =
+    subst (IsAnswerOf c.args.task.now.system.now c.args.task.now.cells.now flags c.level_question-question.result) c.in-Stops.is c.in_ok-answer.ensures.read in (
+      refl,
+      record {
+        cell_primary = asked_primary c.args.task.now.cells.now c.args.place asked stands;
+        place = c.args.place;
+        stands = stands;
+        before = c.requires.before;
+        refutes = stopping_refutes c.args.task.now.system.now c.args.task.now.cells.now flags asked c.level_question-question.result c.in-Stops.best c.in-Stops.world c.in-Stops.multipliers c.level_question-question.ensures does;
+        gives = record { question = c.level_question-question.result; best = c.in-Stops.best; world = c.in-Stops.world; is_asked = c.level_question-question.ensures; is_read = read };
+      },
+    )
