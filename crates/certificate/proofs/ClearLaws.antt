@@ -12,9 +12,11 @@ use Rattle.sdc_base.specs.declared.side.Side.TheVariants as side
 use Rattle.worlds.specs.declared.refuted.Refuted.{Refuted}
 use Rattle.worlds.specs.declared.world.Move.{Move}
 use Rattle.certificate.specs.declared.certificate.WorldLine.{WorldLine}
+use Rattle.certificate.specs.declared.version.Version.{Version}
+use Rattle.certificate.specs.declared.version.Version.TheVariants.{One, Two}
 use Rattle.sdc_base.specs.Sides.{side_word}
-use Rattle.certificate.specs.Texts.{method_arguments, comma_list, step_arguments, pair_token, refutation_arguments, next_move, moves_in_turn, world_arguments}
-use Rattle.certificate.specs.Spelling.{FitsIn128Bits, FitsIn32Bits, IsMethodWithinTypes, IsStepSpellable, IsStepWithinTypes, IsTermWithinTypes, IsRefutationWithinTypes, IsWorldWithinTypes}
+use Rattle.certificate.specs.Texts.{method_arguments, comma_list, step_arguments, pair_token, refutation_arguments, next_move, moves_in_turn, move_token, move_tokens, world_arguments}
+use Rattle.certificate.specs.Spelling.{FitsIn128Bits, FitsIn32Bits, IsMethodWithinTypes, IsStepSpellable, IsStepWithinTypes, IsTermWithinTypes, IsMoveWithinTypes, IsRefutationWithinTypes, IsWorldWithinTypes}
 use Rattle.certificate.proofs.NumeralLaws.{decimal_apart, signed_apart}
 use Rattle.certificate.proofs.PieceLaws.{Avoids, avoids_append, avoids_joined}
 
@@ -38,8 +40,8 @@ clear_word mark (b ∷ word) low h =
 pub clear_decimal : (mark n : ℕ) → mark < 44 → FitsIn32Bits n → Avoids mark (decimal n)
 clear_decimal mark n low short = decimal_apart mark n (omega (arith, short)) (inl (omega (arith, low)))
 
-clear-signed : (mark : ℕ) (z : ℤ) → mark < 44 → FitsIn128Bits z → Avoids mark (signed_decimal z)
-clear-signed mark z low wide = signed_apart mark z wide (λ same. omega (arith, low, same)) (inl (omega (arith, low)))
+pub clear_signed : (mark : ℕ) (z : ℤ) → mark < 44 → FitsIn128Bits z → Avoids mark (signed_decimal z)
+clear_signed mark z low wide = signed_apart mark z wide (λ same. omega (arith, low, same)) (inl (omega (arith, low)))
 
 pub clear_numbers : (mark : ℕ) (numbers : List ℕ) → mark < 44 → AllByRecursion FitsIn32Bits numbers → AllByRecursion (Avoids mark) (map decimal numbers)
 clear_numbers mark [] low short = tt
@@ -48,21 +50,21 @@ clear_numbers mark (n ∷ numbers) low short = (clear_decimal mark n low short.0
 clear-comma_list : (mark : ℕ) (numbers : List ℕ) → mark < 44 → AllByRecursion FitsIn32Bits numbers → Avoids mark (comma_list numbers)
 clear-comma_list mark numbers low short = avoids_joined mark 44 (map decimal numbers) (apart-high 44 mark low (omega arith)) (clear_numbers mark numbers low short)
 
-clear-pairs : (mark : ℕ) (terms : List Term) → mark < 44 → AllByRecursion IsTermWithinTypes terms → AllByRecursion (Avoids mark) (map pair_token terms)
-clear-pairs mark [] low wide = tt
-clear-pairs mark (term ∷ terms) low wide = (
-  avoids_append mark (decimal term.0) (58 ∷ signed_decimal term.1) (clear_decimal mark term.0 low wide.0.0) (rw (apart-high 58 mark low (omega arith)) (clear-signed mark term.1 low wide.0.1)),
-  clear-pairs mark terms low wide.1,
+pub clear_pairs : (mark : ℕ) (terms : List Term) → mark < 44 → AllByRecursion IsTermWithinTypes terms → AllByRecursion (Avoids mark) (map pair_token terms)
+clear_pairs mark [] low wide = tt
+clear_pairs mark (term ∷ terms) low wide = (
+  avoids_append mark (decimal term.0) (58 ∷ signed_decimal term.1) (clear_decimal mark term.0 low wide.0.0) (rw (apart-high 58 mark low (omega arith)) (clear_signed mark term.1 low wide.0.1)),
+  clear_pairs mark terms low wide.1,
 )
 
 AreWide : List Move → Type 0
-AreWide moves = AllByRecursion (λ one. FitsIn128Bits one.by) moves
+AreWide moves = AllByRecursion IsMoveWithinTypes moves
 
 taken-wide : (cell : ℕ) (moves : List Move) → AreWide moves → FitsIn128Bits (next_move cell moves).0 × AreWide (next_move cell moves).1
 unfolding AreWide
 taken-wide cell [] wide = (omega arith, tt)
 taken-wide cell (move ∷ moves) wide = elim (move.cell == cell) as (λ t. FitsIn128Bits (cond {A = ℤ × List Move} t (move.by, moves) (pos 0, move ∷ moves)).0 × AreWide (cond {A = ℤ × List Move} t (move.by, moves) (pos 0, move ∷ moves)).1) [
-  | true ↦ (wide.0, wide.1)
+  | true ↦ (wide.0.1, wide.1)
   | false ↦ (omega arith, wide)
 ]
 
@@ -70,18 +72,30 @@ clear-turns : (mark : ℕ) (hidden : List ℕ) (moves : List Move) → mark < 44
 clear-turns mark [] moves low wide = tt
 clear-turns mark (cell ∷ cells) moves low wide =
     let taken = taken-wide cell moves wide in
-    (clear-signed mark (next_move cell moves).0 low taken.0, clear-turns mark cells (next_move cell moves).1 low taken.1)
+    (clear_signed mark (next_move cell moves).0 low taken.0, clear-turns mark cells (next_move cell moves).1 low taken.1)
 
-clear-side : (mark : ℕ) (s : Side) → mark < 44 → Avoids mark (side_word s)
-clear-side mark side.Above low = clear_word mark (side_word side.Above) low refl
-clear-side mark side.Below low = clear_word mark (side_word side.Below) low refl
+pub clear_side : (mark : ℕ) (s : Side) → mark < 44 → Avoids mark (side_word s)
+clear_side mark side.Above low = clear_word mark (side_word side.Above) low refl
+clear_side mark side.Below low = clear_word mark (side_word side.Below) low refl
+
+clear-paired : (mark : ℕ) (moves : List Move) → mark < 44 → AreWide moves → AllByRecursion (Avoids mark) (map move_token moves)
+unfolding AreWide
+clear-paired mark [] low wide = tt
+clear-paired mark (move ∷ moves) low wide = (
+  avoids_append mark (decimal move.cell) (58 ∷ signed_decimal move.by) (clear_decimal mark move.cell low wide.0.0) (rw (apart-high 58 mark low (omega arith)) (clear_signed mark move.by low wide.0.1)),
+  clear-paired mark moves low wide.1,
+)
+
+clear-moves : (version : Version) (mark : ℕ) (hidden : List ℕ) (moves : List Move) → mark < 44 → AreWide moves → AllByRecursion (Avoids mark) (move_tokens version hidden moves)
+clear-moves One mark hidden moves low wide = clear-turns mark hidden moves low wide
+clear-moves Two mark hidden moves low wide = clear-paired mark moves low wide
 
 -- ---- lines
 
 pub clear_method : (mark : ℕ) (how : Method) → mark < 44 → IsMethodWithinTypes how → AllByRecursion (Avoids mark) (codes "method" ∷ method_arguments how)
 clear_method mark method.Modular low wide = (clear_word mark (codes "method") low refl, (clear_word mark (codes "MOD") low refl, tt))
 clear_method mark (method.Gh passes) low wide = (clear_word mark (codes "method") low refl, (clear_word mark (codes "GH") low refl, (clear_decimal mark passes low wide, tt)))
-clear_method mark (method.Rnd base) low wide = (clear_word mark (codes "method") low refl, (clear_word mark (codes "RND") low refl, (clear-signed mark base low wide, tt)))
+clear_method mark (method.Rnd base) low wide = (clear_word mark (codes "method") low refl, (clear_word mark (codes "RND") low refl, (clear_signed mark base low wide, tt)))
 
 pub clear_step : (mark : ℕ) (step : PlanStep) → mark < 44 → IsStepSpellable step → IsStepWithinTypes step → AllByRecursion (Avoids mark) (codes "step" ∷ step_arguments step)
 clear_step mark step low fine wide = (
@@ -106,24 +120,24 @@ clear_refuted mark word refuted low letters wide = (
     (
       clear_decimal mark refuted.cell low wide.cell,
       (
-        clear-side mark refuted.side low,
-        (clear-signed mark refuted.multipliers.den low wide.den, clear-pairs mark refuted.multipliers.by_relation low wide.terms),
+        clear_side mark refuted.side low,
+        (clear_signed mark refuted.multipliers.den low wide.den, clear_pairs mark refuted.multipliers.by_relation low wide.terms),
       ),
     ),
   ),
 )
 
-pub clear_world : (mark : ℕ) (hidden : List ℕ) (line : WorldLine) → mark < 44 → IsWorldWithinTypes line → AllByRecursion (Avoids mark) (codes "world" ∷ world_arguments hidden line)
+pub clear_world : (version : Version) (mark : ℕ) (word hidden : List ℕ) (line : WorldLine) → mark < 44 → list_all (λ b. nat_lt 43 b) word ≡ true → IsWorldWithinTypes line → AllByRecursion (Avoids mark) (word ∷ world_arguments version hidden line)
 unfolding AreWide
-clear_world mark hidden line low wide = (
-  clear_word mark (codes "world") low refl,
+clear_world version mark word hidden line low letters wide = (
+  clear_word mark word low letters,
   (
     clear_decimal mark line.cell low wide.cell,
     (
-      clear-side mark line.side low,
+      clear_side mark line.side low,
       (
-        clear-signed mark line.world.den low wide.den,
-        clear-turns mark hidden line.world.moves low wide.moves,
+        clear_signed mark line.world.den low wide.den,
+        clear-moves version mark hidden line.world.moves low wide.moves,
       ),
     ),
   ),

@@ -15,16 +15,19 @@ use Rattle.certificate.specs.declared.certificate.WorldLine.{WorldLine}
 use Rattle.certificate.specs.declared.faults.CertWhy.TheVariants.{Shape, Order}
 use Rattle.certificate.specs.Pieces.{pieces}
 use Rattle.certificate.specs.Numerals.{natural_of, denominator_of, ascends}
-use Rattle.certificate.specs.TokenLists.{first_of, only_of, numbers_of, is_pair, terms_of, moves_of}
+use Rattle.certificate.specs.declared.version.Version.{Version}
+use Rattle.certificate.specs.declared.version.Version.TheVariants.{One, Two}
+use Rattle.certificate.specs.TokenLists.{first_of, only_of, numbers_of, is_pair, terms_of, have_form, moves_by}
 use Rattle.sdc_base.specs.Sides.{side_word}
 use Rattle.certificate.specs.LineReadings.{step_by, step_of, side_of, refutation_by, refutation_of, world_by, world_of}
-use Rattle.certificate.specs.Texts.{comma_list, step_arguments, pair_token, refutation_arguments, moves_in_turn, next_move, world_arguments}
-use Rattle.certificate.specs.Spelling.{FitsIn32Bits, IsStepSpellable, IsRefutationSpellable, IsWorldSpellable, IsStepWithinTypes, IsRefutationWithinTypes, IsWorldWithinTypes}
+use Rattle.certificate.specs.Texts.{comma_list, step_arguments, pair_token, refutation_arguments, move_tokens, world_arguments}
+use Rattle.certificate.specs.Spelling.{FitsIn32Bits, IsStepSpellable, IsRefutationSpellable, IsWorldSpellable, IsSayable, IsStepWithinTypes, IsRefutationWithinTypes, IsWorldWithinTypes}
 use Rattle.certificate.proofs.LineReads.{refutation_reads}
 use Rattle.certificate.proofs.LineSteps.{pieces-some}
 use Rattle.certificate.proofs.NumeralLaws.{natural_again, natural_text, denominator_again, denominator_text, decimal_apart}
 use Rattle.certificate.proofs.PieceLaws.{Avoids, equal_bytes, pieces_joined, joined_again}
-use Rattle.certificate.proofs.TokenLaws.{bind_ok, ok_same, not_refused, numbers_again, numbers_text, terms_again, pairs_again, terms_text, moves_again, moves_text}
+use Rattle.certificate.proofs.TokenLaws.{bind_ok, ok_same, not_refused, numbers_again, numbers_text, terms_again, pairs_again, terms_text}
+use Rattle.certificate.proofs.MoveLaws.{AreSayable, form_again, moves_by_again, moves_by_text}
 use Rattle.certificate.proofs.LineLaws.{first_text, only_text, not-false}
 
 -- ---- lists with commas
@@ -129,7 +132,7 @@ step_text tokens step h =
 
 -- ---- sides
 
-side_again : (s : Side) → side_of (side_word s) ≡ Ok s
+pub side_again : (s : Side) → side_of (side_word s) ≡ Ok s
 side_again side.Above = refl
 side_again side.Below = refl
 
@@ -204,52 +207,52 @@ refuted_text tokens refuted h =
 
 -- ---- complete tables
 
-turn-length : (hidden : List ℕ) (moves : List Move) → length (moves_in_turn hidden moves) ≡ length hidden
-turn-length [] moves = refl
-turn-length (cell ∷ cells) moves = ap (λ n. suc n) (turn-length cells (next_move cell moves).1)
-
-same-count : (m n : ℕ) → m ≡ n → (m == n) ≡ true
-same-count m n h = grind arith
-
-count-same : (m n : ℕ) → (m == n) ≡ true → m ≡ n
-count-same m n h = grind arith
-
-world_reads : (hidden : List ℕ) (cell side den : List ℕ) (numbers : List (List ℕ)) (at : Side) (primary : ℕ) (divisor : ℤ) (moves : List Move)
-    → side_of side ≡ Ok at → (length numbers == length hidden) ≡ true → natural_of 0 cell ≡ Ok primary → denominator_of den ≡ Ok divisor → moves_of hidden numbers ≡ Ok moves
-    → world_by hidden cell side den numbers ≡ Ok (record { cell = primary; side = at; world = record { den = divisor; moves = moves } })
+world_reads : (version : Version) (hidden : List ℕ) (cell side den : List ℕ) (tokens : List (List ℕ)) (at : Side) (primary : ℕ) (divisor : ℤ) (moves : List Move)
+    → side_of side ≡ Ok at → have_form version hidden tokens ≡ true → natural_of 0 cell ≡ Ok primary → denominator_of den ≡ Ok divisor → moves_by version hidden tokens ≡ Ok moves
+    → world_by version hidden cell side den tokens ≡ Ok (record { cell = primary; side = at; world = record { den = divisor; moves = moves } })
 unfolding world_by
-world_reads hidden cell side den numbers at primary divisor moves is-side each is-cell is-den is-moves = rw (is-side, each, is-cell, is-den, is-moves) refl
+world_reads version hidden cell side den tokens at primary divisor moves is-side form is-cell is-den is-moves = rw (is-side, form, is-cell, is-den, is-moves) refl
 
-pub world_again : (hidden : List ℕ) (line : WorldLine) → ascends hidden ≡ true → IsWorldSpellable hidden line → IsWorldWithinTypes line → world_of hidden (world_arguments hidden line) ≡ Ok line
+sayable-moves : (version : Version) (hidden : List ℕ) (line : WorldLine) → IsSayable version hidden line → AreSayable version hidden line.world.moves
+sayable-moves One hidden line sayable = sayable
+sayable-moves Two hidden line sayable = tt
+
+pub world_again : (version : Version) (hidden : List ℕ) (line : WorldLine) → ascends hidden ≡ true → IsWorldSpellable line → IsSayable version hidden line → IsWorldWithinTypes line
+    → world_of version hidden (world_arguments version hidden line) ≡ Ok line
 unfolding world_of
-world_again hidden line up fine wide =
-    let each = same-count (length (map signed_decimal (moves_in_turn hidden line.world.moves))) (length hidden) (length-map (moves_in_turn hidden line.world.moves) signed_decimal ∙ turn-length hidden line.world.moves) in
-    world_reads hidden (decimal line.cell) (side_word line.side) (signed_decimal line.world.den) (map signed_decimal (moves_in_turn hidden line.world.moves)) line.side line.cell line.world.den line.world.moves
-    (side_again line.side) each (natural_again 0 line.cell (omega arith) wide.cell) (denominator_again line.world.den wide.den fine.den)
-    (moves_again 0 hidden 0 line.world.moves up fine.ascending fine.among fine.moving wide.moves)
+world_again version hidden line up fine sayable wide =
+    world_reads version hidden (decimal line.cell) (side_word line.side) (signed_decimal line.world.den) (move_tokens version hidden line.world.moves) line.side line.cell line.world.den line.world.moves
+    (side_again line.side) (form_again version hidden line.world.moves) (natural_again 0 line.cell (omega arith) wide.cell) (denominator_again line.world.den wide.den fine.den)
+    (moves_by_again version hidden line.world.moves up fine.ascending (sayable-moves version hidden line sayable) fine.moving wide.moves)
 
-pub record IsWorldRead (hidden : List ℕ) (tokens : List (List ℕ)) (line : WorldLine) : Type 0 where
-  pub text : tokens ≡ world_arguments hidden line
-  pub fine : IsWorldSpellable hidden line
+pub record IsWorldRead (version : Version) (hidden : List ℕ) (tokens : List (List ℕ)) (line : WorldLine) : Type 0 where
+  pub text : tokens ≡ world_arguments version hidden line
+  pub fine : IsWorldSpellable line
+  pub sayable : IsSayable version hidden line
   pub wide : IsWorldWithinTypes line
 
-world-by-text : (hidden : List ℕ) (cell side den : List ℕ) (numbers : List (List ℕ)) (line : WorldLine) → ascends hidden ≡ true → world_by hidden cell side den numbers ≡ Ok line
-    → IsWorldRead hidden (cell ∷ side ∷ den ∷ numbers) line
+sayable-line : (version : Version) (hidden : List ℕ) (line : WorldLine) → AreSayable version hidden line.world.moves → IsSayable version hidden line
+sayable-line One hidden line sayable = sayable
+sayable-line Two hidden line sayable = tt
+
+world-by-text : (version : Version) (hidden : List ℕ) (cell side den : List ℕ) (tokens : List (List ℕ)) (line : WorldLine) → ascends hidden ≡ true → AllByRecursion FitsIn32Bits hidden
+    → world_by version hidden cell side den tokens ≡ Ok line → IsWorldRead version hidden (cell ∷ side ∷ den ∷ tokens) line
 unfolding world_by
-world-by-text hidden cell side den numbers line up h =
+world-by-text version hidden cell side den tokens line up short h =
     let a = bind_ok (side_of side) _ line h in
-    let b = bind_ok (refuse Shape (not (length numbers == length hidden))) _ line a.2 in
+    let b = bind_ok (refuse Shape (not (have_form version hidden tokens))) _ line a.2 in
     let c = bind_ok (natural_of 0 cell) _ line b.2 in
     let d = bind_ok (denominator_of den) _ line c.2 in
-    let e = bind_ok (moves_of hidden numbers) _ line d.2 in
+    let e = bind_ok (moves_by version hidden tokens) _ line d.2 in
     let primary = natural_text 0 cell c.0 c.1 in
     let divisor = denominator_text den d.0 d.1 in
-    let each = count-same (length numbers) (length hidden) (not-false (length numbers == length hidden) (not_refused Shape (not (length numbers == length hidden)) b.0 b.1)) in
-    let moves = moves_text 0 hidden numbers e.0 up each e.1 in
+    let form = not-false (have_form version hidden tokens) (not_refused Shape (not (have_form version hidden tokens)) b.0 b.1) in
+    let moves = moves_by_text version hidden tokens e.0 up short form e.1 in
     let made : WorldLine = record { cell = c.0; side = a.0; world = record { den = d.0; moves = e.0 } } in
-    subst (λ (w : WorldLine). IsWorldRead hidden (cell ∷ side ∷ den ∷ numbers) w) (ok_same made line e.2) (record {
-      text = ap (λ (ts : List (List ℕ)). ts) (three cell side den numbers (decimal c.0) (side_word a.0) (signed_decimal d.0) (map signed_decimal (moves_in_turn hidden e.0)) primary.0 (side_text side a.0 a.1) divisor.0 moves.text);
-      fine = record { den = divisor.2; ascending = moves.ascending; moving = moves.moving; among = moves.among };
+    subst (λ (w : WorldLine). IsWorldRead version hidden (cell ∷ side ∷ den ∷ tokens) w) (ok_same made line e.2) (record {
+      text = ap (λ (ts : List (List ℕ)). ts) (three cell side den tokens (decimal c.0) (side_word a.0) (signed_decimal d.0) (move_tokens version hidden e.0) primary.0 (side_text side a.0 a.1) divisor.0 moves.text);
+      fine = record { den = divisor.2; ascending = moves.ascending; moving = moves.moving };
+      sayable = sayable-line version hidden made moves.sayable;
       wide = record { cell = primary.2; den = divisor.1; moves = moves.wide };
     })
   where
@@ -257,11 +260,12 @@ world-by-text hidden cell side den numbers line up h =
         → ◌≡◌ {A = List (List ℕ)} (cell ∷ side ∷ den ∷ rest) (cell2 ∷ side2 ∷ den2 ∷ rest2)
     three cell side den rest cell2 side2 den2 rest2 a b c d = rw (a, b, c, d) refl
 
-pub world_text : (hidden : List ℕ) (tokens : List (List ℕ)) (line : WorldLine) → ascends hidden ≡ true → world_of hidden tokens ≡ Ok line → IsWorldRead hidden tokens line
+pub world_text : (version : Version) (hidden : List ℕ) (tokens : List (List ℕ)) (line : WorldLine) → ascends hidden ≡ true → AllByRecursion FitsIn32Bits hidden → world_of version hidden tokens ≡ Ok line
+    → IsWorldRead version hidden tokens line
 unfolding world_of
-world_text hidden tokens line up h =
+world_text version hidden tokens line up short h =
     let a = bind_ok (first_of tokens) _ line h in
     let b = bind_ok (first_of a.0.1) _ line a.2 in
     let c = bind_ok (first_of b.0.1) _ line b.2 in
     let shape : tokens ≡ a.0.0 ∷ b.0.0 ∷ c.0.0 ∷ c.0.1 = first_text tokens a.0 a.1 ∙ ap (λ (ts : List (List ℕ)). a.0.0 ∷ ts) (first_text a.0.1 b.0 b.1 ∙ ap (λ (ts : List (List ℕ)). b.0.0 ∷ ts) (first_text b.0.1 c.0 c.1)) in
-    subst (λ (ts : List (List ℕ)). IsWorldRead hidden ts line) (sym shape) (world-by-text hidden a.0.0 b.0.0 c.0.0 c.0.1 line up c.2)
+    subst (λ (ts : List (List ℕ)). IsWorldRead version hidden ts line) (sym shape) (world-by-text version hidden a.0.0 b.0.0 c.0.0 c.0.1 line up short c.2)

@@ -66,7 +66,7 @@ past_lines word other said (x ∷ xs) rest apart each past = is_by_word word oth
 
 -- ---- what is read was written so
 
-at-line-ok : {A : Type 0} (line : ℕ) (read : Result A CertWhy) (x : A) → at_line line read ≡ Ok x → read ≡ Ok x
+pub at-line-ok : {A : Type 0} (line : ℕ) (read : Result A CertWhy) (x : A) → at_line line read ≡ Ok x → read ≡ Ok x
 at-line-ok {A} line (Ok y) x h = ap (λ (z : A). Ok z) (ok_same y x h)
 at-line-ok line (Err why) x h = absurd cc
 

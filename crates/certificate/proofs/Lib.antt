@@ -6,6 +6,7 @@ mod ItemLaws
 mod LineLaws
 mod LineReads
 mod LineSteps
+mod MoveLaws
 mod NumeralLaws
 mod OneSpelling
 mod PieceLaws
@@ -16,3 +17,8 @@ mod TextLines
 mod TokenLaws
 mod TokenSteps
 mod Widths
+mod ExtraBack
+mod ExtraEntries
+mod ExtraLineTexts
+mod ExtraSteps
+mod OneExtraSpelling

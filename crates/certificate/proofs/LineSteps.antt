@@ -1,12 +1,13 @@
 -- Lines that are read one after the other.
-use Rattle.std.proofs.Common.{◌≡◌, ℕ, ◌+◌, ◌<◌, ◌==◌, true, false, cond, List, [], ◌∷◌, ◌++◌, length, Result, Ok, Err, refl, ap, sym, arith, append_assoc}
-use Rattle.std.specs.List.{list_any, before_first, after_first, onto_first}
+use Rattle.std.proofs.Common.{◌≡◌, ℕ, ◌+◌, ◌<◌, ◌==◌, true, false, cond, List, [], ◌∷◌, ◌++◌, length, take, Result, Ok, Err, refl, ap, sym, arith, append_assoc}
+use Rattle.std.specs.Prelude.{not}
+use Rattle.std.specs.List.{list_any, before_first, after_first, onto_first, position_or_len}
 use Rattle.std.specs.Str.{bytes_eq}
 use Rattle.std.proofs.lemmas.List.{append-nil}
 use Rattle.sdc_base.specs.Answers.{Fails}
 use Rattle.sdc_base.specs.Steps.{◌>>=◌}
 use Rattle.certificate.specs.declared.faults.CertWhy.{CertWhy}
-use Rattle.certificate.specs.declared.faults.CertWhy.TheVariants.{Version, Shape}
+use Rattle.certificate.specs.declared.faults.CertWhy.TheVariants.{Shape}
 use Rattle.certificate.specs.declared.faults.CertError.{CertError}
 use Rattle.certificate.specs.declared.faults.CertError.TheVariants as cert_error
 use Rattle.certificate.specs.declared.faults.LineError.{LineError}
@@ -15,8 +16,8 @@ use Rattle.certificate.specs.Faults.{why_of, fault_of, at_line, error_of}
 use Rattle.certificate.specs.Remainder.{Remainder}
 use Rattle.certificate.specs.Pieces.{pieces}
 use Rattle.certificate.specs.LineReadings.{item_of}
-use Rattle.certificate.specs.Certificates.{next_line, is_next, first_line, is_first, first_line_fault, version_at, end_at, item_at, items_from}
-use Rattle.certificate.proofs.PieceList.{piece_last, piece_first, piece_head}
+use Rattle.certificate.specs.Certificates.{next_line, is_next, version_of, first_version, end_at, item_at, items_from}
+use Rattle.certificate.proofs.PieceList.{piece_last, piece_first, piece_head, next-take}
 
 -- an error of a line keeps its fault when the line's number is put to it
 pub fails_at : {Y : Type 0} (line : ℕ) (e : LineError) (read : Result Y CertWhy) → Fails (why_of e) read → Fails (fault_of (error_of line e)) (at_line line read)
@@ -46,9 +47,6 @@ line_first given bytes h = rw (piece_first 10 bytes h) (line-more given _ _ (pie
 
 pub next_by_head : (word bytes : List ℕ) → is_next word (pieces 10 bytes) ≡ bytes_eq (before_first (λ b. b == 32) (before_first (λ b. b == 10) bytes)) word
 next_by_head word bytes = let head = piece_head 10 bytes in rw head.1 refl
-
-pub first_by_head : (bytes : List ℕ) → is_first (pieces 10 bytes) ≡ bytes_eq (before_first (λ b. b == 10) bytes) first_line
-first_by_head bytes = let head = piece_head 10 bytes in rw head.1 refl
 
 pub over_more : (given : ℕ) (bytes : List ℕ) → 0 < length bytes → end_at given (pieces 10 bytes) ≡ Err (given + 1, Shape)
 over_more given [] some = absurd (omega (arith, some))
@@ -99,18 +97,15 @@ items_end {A} word read front given (line ∷ lines) named = rw named (ap (λ (a
 
 -- ---- the first line
 
-first_line_fault-more : (bytes : List ℕ) → 0 < length bytes → first_line_fault (pieces 10 bytes) ≡ Version
-first_line_fault-more [] some = absurd (omega (arith, some))
-first_line_fault-more (b ∷ bytes) some =
+pub version_by_head : (bytes : List ℕ) → 0 < length bytes → first_version (pieces 10 bytes) ≡ version_of (before_first (λ b. b == 10) bytes)
+version_by_head [] some = absurd (omega (arith, some))
+version_by_head (b ∷ bytes) some =
     let head = piece_head 10 bytes in
-    elim (b == 10) as (λ t. first_line_fault (cond t ([] ∷ pieces 10 bytes) (onto_first b (pieces 10 bytes))) ≡ Version) [
+    let front = next-take (position_or_len (λ b. b == 10) bytes) b bytes in
+    elim (b == 10) as (λ t. first_version (cond t ([] ∷ pieces 10 bytes) (onto_first b (pieces 10 bytes))) ≡ version_of (take (cond (not t) (1 + position_or_len (λ b. b == 10) bytes) 0) (b ∷ bytes))) [
       | true ↦ rw head.1 refl
-      | false ↦ rw head.1 refl
+      | false ↦ rw (head.1, front) refl
     ]
-
-pub version_strange : (bytes : List ℕ) → 0 < length bytes → is_first (pieces 10 bytes) ≡ false → version_at (pieces 10 bytes) ≡ Err (1, Version)
-unfolding version_at
-version_strange bytes some other = rw (other, first_line_fault-more bytes some) refl
 
 -- ---- an error at a line, and fewer lines behind one
 

@@ -4,9 +4,11 @@ use Rattle.std.specs.Prelude.{codes}
 use Rattle.std.specs.List.{AllByRecursion, join_with_byte}
 use Rattle.std.proofs.lemmas.List.{map-append}
 use Rattle.certificate.specs.declared.certificate.Certificate.{Certificate}
+use Rattle.certificate.specs.declared.version.Version.{Version}
+use Rattle.certificate.specs.declared.version.Version.TheVariants.{One, Two}
 use Rattle.certificate.specs.Pieces.{pieces}
 use Rattle.certificate.specs.Certificates.{first_line}
-use Rattle.certificate.specs.Texts.{method_arguments, head_tokens, hidden_tokens, step_arguments, step_tokens, refutation_arguments, refutation_tokens, world_arguments, world_tokens, token_lines, text_of}
+use Rattle.certificate.specs.Texts.{method_arguments, head_tokens, hidden_tokens, step_arguments, step_tokens, refutation_arguments, refutation_tokens, world_arguments, world_tokens, token_lines, text_in}
 use Rattle.certificate.specs.Spelling.{FitsIn32Bits, IsSpellable, IsWithinTypes}
 use Rattle.certificate.proofs.ClearLaws.{clear_word, clear_decimal, clear_numbers, clear_method, clear_step, clear_refuted, clear_world}
 use Rattle.certificate.proofs.ItemLaws.{line_by}
@@ -22,11 +24,11 @@ pub both_hold : {A : Type 0} (P Q R : A → Type 0) (xs : List A) → ((x : A) �
 both_hold P Q R [] step h g = tt
 both_hold P Q R (x ∷ xs) step h g = (step x h.0 g.0, both_hold P Q R xs step h.1 g.1)
 
-all-append : {A : Type 0} (P : A → Type 0) (xs ys : List A) → AllByRecursion P xs → AllByRecursion P ys → AllByRecursion P (xs ++ ys)
+pub all-append : {A : Type 0} (P : A → Type 0) (xs ys : List A) → AllByRecursion P xs → AllByRecursion P ys → AllByRecursion P (xs ++ ys)
 all-append P [] ys h g = g
 all-append P (x ∷ xs) ys h g = (h.0, all-append P xs ys h.1 g)
 
-all-map : {A B : Type 0} (P : B → Type 0) (f : A → B) (xs : List A) → AllByRecursion (λ x. P (f x)) xs → AllByRecursion P (map f xs)
+pub all-map : {A B : Type 0} (P : B → Type 0) (f : A → B) (xs : List A) → AllByRecursion (λ x. P (f x)) xs → AllByRecursion P (map f xs)
 all-map P f [] h = tt
 all-map P f (x ∷ xs) h = (h.0, all-map P f xs h.1)
 
@@ -37,31 +39,31 @@ abbrev pub end_lines : List (List ℕ)
 end_lines = line_by (codes "end") [] ∷ [] ∷ []
 
 -- the complete tables, and what stands behind them
-abbrev pub world_lines : Certificate → List (List ℕ)
-world_lines c = map (λ line. line_by (codes "world") (world_arguments c.hidden line)) c.worlds ++ end_lines
+abbrev pub world_lines : Version → Certificate → List (List ℕ)
+world_lines version c = map (λ line. line_by (codes "world") (world_arguments version c.hidden line)) c.worlds ++ end_lines
 
-abbrev pub need_lines : Certificate → List (List ℕ)
-need_lines c = map (λ r. line_by (codes "need") (refutation_arguments r)) c.needs ++ world_lines c
+abbrev pub need_lines : Version → Certificate → List (List ℕ)
+need_lines version c = map (λ r. line_by (codes "need") (refutation_arguments r)) c.needs ++ world_lines version c
 
-abbrev pub repair_lines : Certificate → List (List ℕ)
-repair_lines c = map (λ r. line_by (codes "repair") (refutation_arguments r)) c.repairs ++ need_lines c
+abbrev pub repair_lines : Version → Certificate → List (List ℕ)
+repair_lines version c = map (λ r. line_by (codes "repair") (refutation_arguments r)) c.repairs ++ need_lines version c
 
-abbrev pub step_lines : Certificate → List (List ℕ)
-step_lines c = map (λ s. line_by (codes "step") (step_arguments s)) c.steps ++ repair_lines c
+abbrev pub step_lines : Version → Certificate → List (List ℕ)
+step_lines version c = map (λ s. line_by (codes "step") (step_arguments s)) c.steps ++ repair_lines version c
 
 -- the line of the hidden cells
 abbrev pub hidden_line : List ℕ → List (List ℕ)
 hidden_line [] = []
 hidden_line (cell ∷ cells) = line_by (codes "hidden") (decimal cell ∷ map decimal cells) ∷ []
 
-abbrev pub hidden_lines : Certificate → List (List ℕ)
-hidden_lines c = hidden_line c.hidden ++ step_lines c
+abbrev pub hidden_lines : Version → Certificate → List (List ℕ)
+hidden_lines version c = hidden_line c.hidden ++ step_lines version c
 
-abbrev pub all_lines : Certificate → List (List ℕ)
-all_lines c =
-    first_line ∷ line_by (codes "method") (method_arguments c.method) ∷ line_by (codes "cells") (decimal c.cells ∷ []) ∷ line_by (codes "relations") (decimal c.relations ∷ []) ∷ hidden_lines c
+abbrev pub all_lines : Version → Certificate → List (List ℕ)
+all_lines version c =
+    first_line version ∷ line_by (codes "method") (method_arguments c.method) ∷ line_by (codes "cells") (decimal c.cells ∷ []) ∷ line_by (codes "relations") (decimal c.relations ∷ []) ∷ hidden_lines version c
 
-abbrev joined : List (List ℕ) → List ℕ
+abbrev pub joined : List (List ℕ) → List ℕ
 joined tokens = join_with_byte 32 tokens
 
 map-twice : {A B C : Type 0} (f : B → C) (g : A → B) (xs : List A) → map f (map g xs) ≡ map (λ x. f (g x)) xs
@@ -73,41 +75,45 @@ hidden-joined [] = refl
 hidden-joined (cell ∷ cells) = refl
 
 -- one list more in front of what stands behind
-moved : {A B : Type 0} (f : A → B) (xs ys : List A) (zs : List B) → map f (xs ++ ys) ++ zs ≡ map f xs ++ (map f ys ++ zs)
+pub moved : {A B : Type 0} (f : A → B) (xs ys : List A) (zs : List B) → map f (xs ++ ys) ++ zs ≡ map f xs ++ (map f ys ++ zs)
 moved f xs ys zs = ap (λ all. all ++ zs) (map-append f xs ys) ∙ append_assoc (map f xs) (map f ys) zs
 
-moved-by : {A B C : Type 0} (f : A → B) (g : C → A) (xs : List A) (ys : List C) (zs : List B) → map f (xs ++ map g ys) ++ zs ≡ map f xs ++ (map (λ y. f (g y)) ys ++ zs)
+pub moved-by : {A B C : Type 0} (f : A → B) (g : C → A) (xs : List A) (ys : List C) (zs : List B) → map f (xs ++ map g ys) ++ zs ≡ map f xs ++ (map (λ y. f (g y)) ys ++ zs)
 moved-by f g xs ys zs = moved f xs (map g ys) zs ∙ ap (λ middle. map f xs ++ (middle ++ zs)) (map-twice f g ys)
 
-pub lines_are : (c : Certificate) → map joined (token_lines c) ++ [] ∷ [] ≡ all_lines c
-lines_are c =
-    let first = head_tokens c.method c.cells c.relations ++ hidden_tokens c.hidden in
+pub lines_are : (version : Version) (c : Certificate) → map joined (token_lines version c) ++ [] ∷ [] ≡ all_lines version c
+lines_are version c =
+    let first = head_tokens version c.method c.cells c.relations ++ hidden_tokens c.hidden in
     let second = first ++ map step_tokens c.steps in
     let third = second ++ map (refutation_tokens (codes "repair")) c.repairs in
     let fourth = third ++ map (refutation_tokens (codes "need")) c.needs in
-    let fifth = fourth ++ map (world_tokens c.hidden) c.worlds in
+    let fifth = fourth ++ map (world_tokens (codes "world") version c.hidden) c.worlds in
     moved joined fifth ((codes "end" ∷ []) ∷ []) ([] ∷ [])
-    ∙ moved-by joined (world_tokens c.hidden) fourth c.worlds end_lines
-    ∙ moved-by joined (refutation_tokens (codes "need")) third c.needs (world_lines c)
-    ∙ moved-by joined (refutation_tokens (codes "repair")) second c.repairs (need_lines c)
-    ∙ moved-by joined step_tokens first c.steps (repair_lines c)
-    ∙ moved joined (head_tokens c.method c.cells c.relations) (hidden_tokens c.hidden) (step_lines c)
-    ∙ ap (λ (lines : List (List ℕ)). map joined (head_tokens c.method c.cells c.relations) ++ (lines ++ step_lines c)) (hidden-joined c.hidden)
+    ∙ moved-by joined (world_tokens (codes "world") version c.hidden) fourth c.worlds end_lines
+    ∙ moved-by joined (refutation_tokens (codes "need")) third c.needs (world_lines version c)
+    ∙ moved-by joined (refutation_tokens (codes "repair")) second c.repairs (need_lines version c)
+    ∙ moved-by joined step_tokens first c.steps (repair_lines version c)
+    ∙ moved joined (head_tokens version c.method c.cells c.relations) (hidden_tokens c.hidden) (step_lines version c)
+    ∙ ap (λ (lines : List (List ℕ)). map joined (head_tokens version c.method c.cells c.relations) ++ (lines ++ step_lines version c)) (hidden-joined c.hidden)
 
 -- ---- the text is cut into these lines, and what is cut into them is the text
 
-abbrev IsClear : List (List ℕ) → Type 0
+abbrev pub IsClear : List (List ℕ) → Type 0
 IsClear tokens = AllByRecursion (Avoids 10) tokens
 
 hidden-clear : (cells : List ℕ) → AllByRecursion FitsIn32Bits cells → AllByRecursion IsClear (hidden_tokens cells)
 hidden-clear [] h = tt
 hidden-clear (cell ∷ cells) h = ((clear_word 10 (codes "hidden") (omega arith) refl, clear_numbers 10 (cell ∷ cells) (omega arith) h), tt)
 
-pub text_cut : (c : Certificate) → IsSpellable c → IsWithinTypes c → pieces 10 (text_of c) ≡ all_lines c
-text_cut c fine wide =
+clear-first : (version : Version) → Avoids 10 (first_line version)
+clear-first One = refl
+clear-first Two = refl
+
+pub text_cut : (version : Version) (c : Certificate) → IsSpellable c → IsWithinTypes c → pieces 10 (text_in version c) ≡ all_lines version c
+text_cut version c fine wide =
     let low : 10 < 44 = omega arith in
-    let head : AllByRecursion IsClear (head_tokens c.method c.cells c.relations) = (
-      (refl, tt),
+    let head : AllByRecursion IsClear (head_tokens version c.method c.cells c.relations) = (
+      (clear-first version, tt),
       (
         clear_method 10 c.method low wide.method,
         (
@@ -119,19 +125,19 @@ text_cut c fine wide =
     let steps = all-map IsClear step_tokens c.steps (both_hold _ _ _ c.steps (λ s f w. clear_step 10 s low f w) fine.steps wide.steps) in
     let repairs = all-map IsClear (refutation_tokens (codes "repair")) c.repairs (each_holds _ _ c.repairs (λ r w. clear_refuted 10 (codes "repair") r low refl w) wide.repairs) in
     let needs = all-map IsClear (refutation_tokens (codes "need")) c.needs (each_holds _ _ c.needs (λ r w. clear_refuted 10 (codes "need") r low refl w) wide.needs) in
-    let worlds = all-map IsClear (world_tokens c.hidden) c.worlds (each_holds _ _ c.worlds (λ l w. clear_world 10 c.hidden l low w) wide.worlds) in
+    let worlds = all-map IsClear (world_tokens (codes "world") version c.hidden) c.worlds (each_holds _ _ c.worlds (λ l w. clear_world version 10 (codes "world") c.hidden l low refl w) wide.worlds) in
     let last : AllByRecursion IsClear ((codes "end" ∷ []) ∷ []) = ((clear_word 10 (codes "end") low refl, tt), tt) in
-    let to_hidden = head_tokens c.method c.cells c.relations ++ hidden_tokens c.hidden in
+    let to_hidden = head_tokens version c.method c.cells c.relations ++ hidden_tokens c.hidden in
     let to_steps = to_hidden ++ map step_tokens c.steps in
     let to_repairs = to_steps ++ map (refutation_tokens (codes "repair")) c.repairs in
     let to_needs = to_repairs ++ map (refutation_tokens (codes "need")) c.needs in
-    let to_worlds = to_needs ++ map (world_tokens c.hidden) c.worlds in
-    let a = all-append IsClear (head_tokens c.method c.cells c.relations) (hidden_tokens c.hidden) head (hidden-clear c.hidden wide.hidden) in
+    let to_worlds = to_needs ++ map (world_tokens (codes "world") version c.hidden) c.worlds in
+    let a = all-append IsClear (head_tokens version c.method c.cells c.relations) (hidden_tokens c.hidden) head (hidden-clear c.hidden wide.hidden) in
     let b = all-append IsClear to_hidden (map step_tokens c.steps) a steps in
     let d = all-append IsClear to_steps (map (refutation_tokens (codes "repair")) c.repairs) b repairs in
     let e = all-append IsClear to_repairs (map (refutation_tokens (codes "need")) c.needs) d needs in
-    let f = all-append IsClear to_needs (map (world_tokens c.hidden) c.worlds) e worlds in
-    pieces_lines (token_lines c) (all-append IsClear to_worlds ((codes "end" ∷ []) ∷ []) f last) ∙ lines_are c
+    let f = all-append IsClear to_needs (map (world_tokens (codes "world") version c.hidden) c.worlds) e worlds in
+    pieces_lines (token_lines version c) (all-append IsClear to_worlds ((codes "end" ∷ []) ∷ []) f last) ∙ lines_are version c
 
-pub text_again : (bytes : List ℕ) (c : Certificate) → pieces 10 bytes ≡ all_lines c → bytes ≡ text_of c
-text_again bytes c h = lines_again bytes (token_lines c) (h ∙ sym (lines_are c))
+pub text_again : (version : Version) (bytes : List ℕ) (c : Certificate) → pieces 10 bytes ≡ all_lines version c → bytes ≡ text_in version c
+text_again version bytes c h = lines_again bytes (token_lines version c) (h ∙ sym (lines_are version c))

@@ -11,7 +11,7 @@ use Rattle.certificate.specs.declared.faults.CertWhy.TheVariants.{Number}
 use Rattle.certificate.specs.Numerals.{natural_of, integer_of, ascends_from}
 use Rattle.certificate.specs.TokenLists.{numbers_of, is_pair, term_of, terms_of, with_move, first_integer, moves_of}
 use Rattle.certificate.specs.Texts.{pair_token, next_move, moves_in_turn}
-use Rattle.certificate.specs.Spelling.{FitsIn128Bits, FitsIn32Bits, IsTermWithinTypes, IsAmong}
+use Rattle.certificate.specs.Spelling.{FitsIn128Bits, FitsIn32Bits, IsTermWithinTypes, IsMoveWithinTypes, IsAmong}
 use Rattle.certificate.proofs.NumeralLaws.{natural_again, natural_text, integer_again, integer_text, decimal_apart}
 use Rattle.certificate.proofs.PieceLaws.{Avoids, before_at, after_at, mark_in, cut_again}
 
@@ -186,7 +186,7 @@ pub flipped : (m n : ℕ) → (m == n) ≡ false → (n == m) ≡ false
 flipped m n h = grind arith
 
 pub moves_again : (least : ℕ) (hidden : List ℕ) (from : ℕ) (moves : List Move) → ascends_from least hidden ≡ true → ascends_from from (Cells moves) ≡ true
-    → AllByRecursion (λ one. IsAmong hidden one.cell) moves → AllByRecursion (λ one. one.by ≢ pos 0) moves → AllByRecursion (λ one. FitsIn128Bits one.by) moves
+    → AllByRecursion (λ one. IsAmong hidden one.cell) moves → AllByRecursion (λ one. one.by ≢ pos 0) moves → AllByRecursion IsMoveWithinTypes moves
     → moves_of hidden (map signed_decimal (moves_in_turn hidden moves)) ≡ Ok moves
 unfolding moves_of
 moves_again least [] from [] up rise among counts wide = refl
@@ -200,7 +200,7 @@ moves_again least (cell ∷ cells) from (move ∷ moves) up rise among counts wi
     elim (move.cell == cell) as (λ t. (move.cell == cell) ≡ t → moves_of (cell ∷ cells) (map signed_decimal (moves_in_turn (cell ∷ cells) (move ∷ moves))) ≡ Ok (move ∷ moves)) [
       | true ↦ λ is.
           let past : cell < move.cell + 1 = omega (arith, same-is move.cell cell is) in
-          step-here cell cells move moves is wide.0 counts.0 (moves_again (cell + 1) cells (move.cell + 1) moves p.1 q.1 (all-later cell cells (move.cell + 1) moves past q.1 among.1) counts.1 wide.1)
+          step-here cell cells move moves is wide.0.1 counts.0 (moves_again (cell + 1) cells (move.cell + 1) moves p.1 q.1 (all-later cell cells (move.cell + 1) moves past q.1 among.1) counts.1 wide.1)
       | false ↦ λ is.
           let one = later-one cell move.cell cells (flipped move.cell cell is) among.0 in
           let past : cell < move.cell + 1 = omega (arith, among-least (cell + 1) cells move.cell p.1 one) in
@@ -231,7 +231,7 @@ pub record AreRead (least : ℕ) (hidden : List ℕ) (tokens : List (List ℕ)) 
   pub ascending : ascends_from least (Cells moves) ≡ true
   pub moving : AllByRecursion (λ one. one.by ≢ pos 0) moves
   pub among : AllByRecursion (λ one. IsAmong hidden one.cell) moves
-  pub wide : AllByRecursion (λ one. FitsIn128Bits one.by) moves
+  pub wide : AllByRecursion IsMoveWithinTypes moves
 
 moves-step : (cell : ℕ) (cells : List ℕ) (token : List ℕ) (tokens : List (List ℕ)) (moves : List Move) → moves_of (cell ∷ cells) (token ∷ tokens) ≡ Ok moves
     → (by : ℤ) × (rest : List Move) × (integer_of token ≡ Ok by) × (moves_of cells tokens ≡ Ok rest) × (with_move cell by rest ≡ moves)
@@ -253,26 +253,26 @@ read-zero least cell cells token tokens moves below is r = record {
   wide = r.wide;
 }
 
-read-move : (least cell : ℕ) (cells : List ℕ) (token : List ℕ) (tokens : List (List ℕ)) (by : ℤ) (moves : List Move) → least ≤ cell → token ≡ signed_decimal by → FitsIn128Bits by → by ≢ pos 0
+read-move : (least cell : ℕ) (cells : List ℕ) (token : List ℕ) (tokens : List (List ℕ)) (by : ℤ) (moves : List Move) → least ≤ cell → token ≡ signed_decimal by → FitsIn32Bits cell → FitsIn128Bits by → by ≢ pos 0
     → AreRead (cell + 1) cells tokens moves → AreRead least (cell ∷ cells) (token ∷ tokens) (record { cell = cell; by = by } ∷ moves)
-read-move least cell cells token tokens by moves below is wide counts r = record {
+read-move least cell cells token tokens by moves below is short wide counts r = record {
   text = rw (same-test cell) (ap (λ (t : List ℕ). t ∷ tokens) is ∙ ap (λ (ts : List (List ℕ)). signed_decimal by ∷ ts) r.text);
   ascending = rw (le-is least cell below) r.ascending;
   moving = (counts, r.moving);
   among = (rw (same-test cell) refl, wider cell cells moves r.among);
-  wide = (wide, r.wide);
+  wide = ((short, wide), r.wide);
 }
 
-pub moves_text : (least : ℕ) (hidden : List ℕ) (tokens : List (List ℕ)) (moves : List Move) → ascends_from least hidden ≡ true → length tokens ≡ length hidden → moves_of hidden tokens ≡ Ok moves → AreRead least hidden tokens moves
+pub moves_text : (least : ℕ) (hidden : List ℕ) (tokens : List (List ℕ)) (moves : List Move) → ascends_from least hidden ≡ true → AllByRecursion FitsIn32Bits hidden → length tokens ≡ length hidden → moves_of hidden tokens ≡ Ok moves → AreRead least hidden tokens moves
 unfolding moves_of
-moves_text least [] [] moves up each h = subst (λ (ms : List Move). AreRead least [] [] ms) (ok_same [] moves h) (record { text = refl; ascending = refl; moving = tt; among = tt; wide = tt })
-moves_text least [] (token ∷ tokens) moves up each h = absurd (omega (arith, each))
-moves_text least (cell ∷ cells) [] moves up each h = absurd (omega (arith, each))
-moves_text least (cell ∷ cells) (token ∷ tokens) moves up each h =
+moves_text least [] [] moves up short each h = subst (λ (ms : List Move). AreRead least [] [] ms) (ok_same [] moves h) (record { text = refl; ascending = refl; moving = tt; among = tt; wide = tt })
+moves_text least [] (token ∷ tokens) moves up short each h = absurd (omega (arith, each))
+moves_text least (cell ∷ cells) [] moves up short each h = absurd (omega (arith, each))
+moves_text least (cell ∷ cells) (token ∷ tokens) moves up short each h =
     let p = both-true (nat_le least cell) (ascends_from (cell + 1) cells) up in
     let s = moves-step cell cells token tokens moves h in
     let one = integer_text token s.0 s.2 in
-    let rest = moves_text (cell + 1) cells tokens s.1 p.1 (omega (arith, each)) s.3 in
+    let rest = moves_text (cell + 1) cells tokens s.1 p.1 short.1 (omega (arith, each)) s.3 in
     elim (int_eq s.0 (pos 0)) as (λ t. int_eq s.0 (pos 0) ≡ t → cond t s.1 (record { cell = cell; by = s.0 } ∷ s.1) ≡ moves → AreRead least (cell ∷ cells) (token ∷ tokens) moves) [
       | true ↦ λ zero-test same.
           let none = (Decides-int_eq s.0 (pos 0)).0 zero-test in
@@ -280,5 +280,5 @@ moves_text least (cell ∷ cells) (token ∷ tokens) moves up each h =
           (read-zero least cell cells token tokens s.1 (le-of least cell p.0) (one.0 ∙ ap signed_decimal none) rest)
       | false ↦ λ test same.
           subst (λ (ms : List Move). AreRead least (cell ∷ cells) (token ∷ tokens) ms) same
-          (read-move least cell cells token tokens s.0 s.1 (le-of least cell p.0) one.0 one.1 (counts-not s.0 test) rest)
+          (read-move least cell cells token tokens s.0 s.1 (le-of least cell p.0) one.0 short.0 one.1 (counts-not s.0 test) rest)
     ] refl s.4

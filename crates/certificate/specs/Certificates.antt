@@ -1,11 +1,13 @@
 -- The certificate that bytes are, or the first fault with its line (own).
-use Rattle.std.specs.Prelude.{ℕ, ◌+◌, ◌==◌, Bool, false, not, List, [], ◌∷◌, codes, if◌then◌else◌, Result, Ok, Err}
+use Rattle.std.specs.Prelude.{ℕ, ◌+◌, ◌==◌, Bool, false, List, [], ◌∷◌, codes, if◌then◌else◌, Result, Ok, Err}
 use Rattle.std.specs.List.{before_first}
 use Rattle.std.specs.Str.{bytes_eq}
-use Rattle.sdc_base.specs.Steps.{◌>>=◌, refuse}
+use Rattle.sdc_base.specs.Steps.{◌>>=◌}
 use Rattle.certificate.specs.declared.certificate.Certificate.{Certificate}
 use Rattle.certificate.specs.declared.faults.CertWhy.{CertWhy}
-use Rattle.certificate.specs.declared.faults.CertWhy.TheVariants.{Version, Shape, NoEnd}
+use Rattle.certificate.specs.declared.faults.CertWhy.TheVariants as why
+use Rattle.certificate.specs.declared.version.Version.{Version}
+use Rattle.certificate.specs.declared.version.Version.TheVariants.{One, Two}
 use Rattle.certificate.specs.Faults.{at_line}
 use Rattle.certificate.specs.Remainder.{Remainder}
 use Rattle.certificate.specs.Pieces.{pieces, line_feed, space}
@@ -15,12 +17,12 @@ use Rattle.certificate.specs.MethodReadings.{method_of, count_of}
 
 -- what is wrong with bytes that no LF ends: where there are none, the line `end` is missing
 abbrev pub open_line_fault : List ℕ → CertWhy
-open_line_fault [] = NoEnd
-open_line_fault (b ∷ bytes) = Shape
+open_line_fault [] = why.NoEnd
+open_line_fault (b ∷ bytes) = why.Shape
 
 -- the next line, which LF must end
 abbrev pub next_line : ℕ → List (List ℕ) → Result (List ℕ × Remainder) (ℕ × CertWhy)
-next_line given [] = Err (given + 1, NoEnd)
+next_line given [] = Err (given + 1, why.NoEnd)
 next_line given (last ∷ []) = Err (given + 1, open_line_fault last)
 next_line given (line ∷ next ∷ lines) = Ok (line, record { given = given + 1; lines = next ∷ lines })
 
@@ -56,26 +58,30 @@ abbrev pub items_at : {A : Type 0} → List ℕ → (List (List ℕ) → Result 
     → Result (List A × Remainder) (ℕ × CertWhy)
 items_at word read left = items_from word read left.given left.lines
 
--- the line of this version
-abbrev pub first_line : List ℕ
-first_line = codes "argus certificate 1"
+-- the first line of a version
+abbrev pub first_line : Version → List ℕ
+first_line One = codes "argus certificate 1"
+first_line Two = codes "argus certificate 2"
 
--- the bytes begin with that line, whether LF ends it or not
-abbrev pub is_first : List (List ℕ) → Bool
-is_first [] = false
-is_first (line ∷ lines) = bytes_eq line first_line
+-- the version of which a line is the first one
+abbrev pub version_of : List ℕ → Result Version CertWhy
+version_of line =
+    if bytes_eq line (first_line One) then Ok One
+    else if bytes_eq line (first_line Two) then Ok Two
+    else Err why.Version
 
--- what is wrong where they don't
-abbrev pub first_line_fault : List (List ℕ) → CertWhy
-first_line_fault ([] ∷ []) = NoEnd
-first_line_fault other = Version
+-- the version with whose first line the bytes begin, whether LF ends it or not
+abbrev pub first_version : List (List ℕ) → Result Version CertWhy
+first_version [] = Err why.NoEnd
+first_version ([] ∷ []) = Err why.NoEnd
+first_version (line ∷ lines) = version_of line
 
 -- the first line
-unfoldable pub version_at : List (List ℕ) → Result Remainder (ℕ × CertWhy)
+unfoldable pub version_at : List (List ℕ) → Result (Version × Remainder) (ℕ × CertWhy)
 version_at lines = do
-  first ← refuse (1, first_line_fault lines) (not (is_first lines))
+  version ← at_line 1 (first_version lines)
   line ← next_line 0 lines
-  Ok line.1
+  Ok (version, line.1)
 
 -- the hidden cells, where there is a line of them
 unfoldable pub hidden_at : Remainder → Result (List ℕ × Remainder) (ℕ × CertWhy)
@@ -85,20 +91,20 @@ hidden_at left = if is_next (codes "hidden") left.lines then item_at (codes "hid
 abbrev pub end_at : ℕ → List (List ℕ) → Result (Unit {0}) (ℕ × CertWhy)
 end_at given [] = Ok tt
 end_at given ([] ∷ []) = Ok tt
-end_at given other = Err (given + 1, Shape)
+end_at given other = Err (given + 1, why.Shape)
 
 -- The certificate, or the first fault with its line.
 unfoldable pub certificate_of : List ℕ → Result Certificate (ℕ × CertWhy)
 certificate_of bytes = do
   start ← version_at (pieces line_feed bytes)
-  method ← item_at (codes "method") method_of start
+  method ← item_at (codes "method") method_of start.1
   cells ← item_at (codes "cells") count_of method.1
   relations ← item_at (codes "relations") count_of cells.1
   hidden ← hidden_at relations.1
   steps ← items_at (codes "step") step_of hidden.1
   repairs ← items_at (codes "repair") refutation_of steps.1
   needs ← items_at (codes "need") refutation_of repairs.1
-  worlds ← items_at (codes "world") (world_of hidden.0) needs.1
+  worlds ← items_at (codes "world") (world_of start.0 hidden.0) needs.1
   end ← item_at (codes "end") end_of worlds.1
   nothing ← end_at end.1.given end.1.lines
   Ok (record {

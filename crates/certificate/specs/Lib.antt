@@ -10,3 +10,5 @@ pub mod Texts
 pub mod Spelling
 pub mod Laws
 pub mod WorkedTexts
+pub mod ExtraReadings
+pub mod ExtraTexts

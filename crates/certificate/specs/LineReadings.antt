@@ -12,10 +12,11 @@ use Rattle.worlds.specs.declared.refuted.Refuted.{Refuted}
 use Rattle.certificate.specs.declared.certificate.WorldLine.{WorldLine}
 use Rattle.certificate.specs.declared.faults.CertWhy.{CertWhy}
 use Rattle.certificate.specs.declared.faults.CertWhy.TheVariants.{Shape, Order}
+use Rattle.certificate.specs.declared.version.Version.{Version}
 use Rattle.certificate.specs.Pieces.{pieces, space}
 use Rattle.sdc_base.specs.TableText.{comma}
 use Rattle.certificate.specs.Numerals.{natural_of, denominator_of, ascends}
-use Rattle.certificate.specs.TokenLists.{behind_word, first_of, only_of, numbers_of, is_pair, terms_of, moves_of}
+use Rattle.certificate.specs.TokenLists.{behind_word, first_of, only_of, numbers_of, is_pair, terms_of, have_form, moves_by}
 
 -- the hidden cells, one at least, ascending
 unfoldable pub hidden_of : List (List ℕ) → Result (List ℕ) CertWhy
@@ -80,23 +81,23 @@ refutation_of tokens = do
   den ← first_of side.1
   refutation_by subject.0 cell.0 side.0 den.0 den.1
 
--- a complete table by its tokens, with one move for each hidden cell
-unfoldable pub world_by : List ℕ → List ℕ → List ℕ → List ℕ → List (List ℕ) → Result WorldLine CertWhy
-world_by hidden cell side den numbers = do
+-- a complete table by its tokens, in this version and with these hidden cells
+unfoldable pub world_by : Version → List ℕ → List ℕ → List ℕ → List ℕ → List (List ℕ) → Result WorldLine CertWhy
+world_by version hidden cell side den tokens = do
   at ← side_of side
-  each ← refuse Shape (not (length numbers == length hidden))
+  shape ← refuse Shape (not (have_form version hidden tokens))
   primary ← natural_of 0 cell
   divisor ← denominator_of den
-  moves ← moves_of hidden numbers
+  moves ← moves_by version hidden tokens
   Ok (record { cell = primary; side = at; world = record { den = divisor; moves = moves } })
 
--- a complete table for these hidden cells
-unfoldable pub world_of : List ℕ → List (List ℕ) → Result WorldLine CertWhy
-world_of hidden tokens = do
+-- a complete table, in this version and with these hidden cells
+unfoldable pub world_of : Version → List ℕ → List (List ℕ) → Result WorldLine CertWhy
+world_of version hidden tokens = do
   cell ← first_of tokens
   side ← first_of cell.1
   den ← first_of side.1
-  world_by hidden cell.0 side.0 den.0 den.1
+  world_by version hidden cell.0 side.0 den.0 den.1
 
 -- what a line by this word says
 unfoldable pub item_of : {A : Type 0} → List ℕ → (List (List ℕ) → Result A CertWhy) → List ℕ → Result A CertWhy

@@ -1,4 +1,5 @@
--- The text of a certificate: lines, each end_of by LF, of tokens with one space between them (own).
+-- The texts of a certificate, one in each version: lines, each ended by LF, of tokens with one space between them
+-- (own).
 use Rattle.std.specs.Prelude.{ℕ, ◌+◌, ◌==◌, List, [], ◌∷◌, ◌++◌, map, flat_map, codes, decimal, if◌then◌else◌, ℤ, pos}
 use Rattle.std.specs.Fmt.{signed_decimal}
 use Rattle.std.specs.List.{join_with_byte}
@@ -10,6 +11,8 @@ use Rattle.worlds.specs.declared.refuted.Refuted.{Refuted}
 use Rattle.worlds.specs.declared.world.Move.{Move}
 use Rattle.certificate.specs.declared.certificate.Certificate.{Certificate}
 use Rattle.certificate.specs.declared.certificate.WorldLine.{WorldLine}
+use Rattle.certificate.specs.declared.version.Version.{Version}
+use Rattle.certificate.specs.declared.version.Version.TheVariants.{One, Two}
 use Rattle.certificate.specs.Pieces.{line_feed, space, colon}
 use Rattle.sdc_base.specs.TableText.{comma}
 use Rattle.sdc_base.specs.Sides.{side_word}
@@ -67,37 +70,51 @@ abbrev pub moves_in_turn : List ℕ → List Move → List ℤ
 moves_in_turn [] moves = []
 moves_in_turn (cell ∷ cells) moves = (next_move cell moves).0 ∷ moves_in_turn cells (next_move cell moves).1
 
--- what a complete table says, with one token for the move of each hidden cell
-abbrev pub world_arguments : List ℕ → WorldLine → List (List ℕ)
-world_arguments hidden line =
+-- a cell that moves, a colon and what it moves by
+abbrev pub move_token : Move → List ℕ
+move_token move = pair_token (move.cell, move.by)
+
+-- the moves of a complete table: in the first version one token for each hidden cell, in the second one for each cell
+-- that moves
+abbrev pub move_tokens : Version → List ℕ → List Move → List (List ℕ)
+move_tokens One hidden moves = map signed_decimal (moves_in_turn hidden moves)
+move_tokens Two hidden moves = map move_token moves
+
+-- what a complete table says
+abbrev pub world_arguments : Version → List ℕ → WorldLine → List (List ℕ)
+world_arguments version hidden line =
     decimal line.cell ∷ side_word line.side ∷ signed_decimal line.world.den
-    ∷ map signed_decimal (moves_in_turn hidden line.world.moves)
+    ∷ move_tokens version hidden line.world.moves
 
 -- the tokens of the line of a complete table
-abbrev pub world_tokens : List ℕ → WorldLine → List (List ℕ)
-world_tokens hidden line = codes "world" ∷ world_arguments hidden line
+abbrev pub world_tokens : List ℕ → Version → List ℕ → WorldLine → List (List ℕ)
+world_tokens word version hidden line = word ∷ world_arguments version hidden line
 
 -- the tokens of the first four lines; the version's line stands here as one token
-abbrev pub head_tokens : Method → ℕ → ℕ → List (List (List ℕ))
-head_tokens method cells relations =
-    (first_line ∷ []) ∷ method_tokens method ∷ (codes "cells" ∷ decimal cells ∷ [])
+abbrev pub head_tokens : Version → Method → ℕ → ℕ → List (List (List ℕ))
+head_tokens version method cells relations =
+    (first_line version ∷ []) ∷ method_tokens method ∷ (codes "cells" ∷ decimal cells ∷ [])
     ∷ (codes "relations" ∷ decimal relations ∷ []) ∷ []
 
 -- the tokens of all lines
-abbrev pub token_lines : Certificate → List (List (List ℕ))
-token_lines c =
-    head_tokens c.method c.cells c.relations
+abbrev pub token_lines : Version → Certificate → List (List (List ℕ))
+token_lines version c =
+    head_tokens version c.method c.cells c.relations
     ++ hidden_tokens c.hidden
     ++ map step_tokens c.steps
     ++ map (refutation_tokens (codes "repair")) c.repairs
     ++ map (refutation_tokens (codes "need")) c.needs
-    ++ map (world_tokens c.hidden) c.worlds
+    ++ map (world_tokens (codes "world") version c.hidden) c.worlds
     ++ (codes "end" ∷ []) ∷ []
 
 -- a line of these tokens
 abbrev pub line_text : List (List ℕ) → List ℕ
 line_text tokens = join_with_byte space tokens ++ line_feed ∷ []
 
--- the text of a certificate
+-- the text of a certificate in a version
+abbrev pub text_in : Version → Certificate → List ℕ
+text_in version c = flat_map line_text (token_lines version c)
+
+-- the text that is written, in the second version
 abbrev pub text_of : Certificate → List ℕ
-text_of c = flat_map line_text (token_lines c)
+text_of c = text_in Two c

@@ -1,15 +1,17 @@
 -- Lists of tokens of a line: what each token must be, and what they mean together (own).
-use Rattle.std.specs.Prelude.{ℕ, ◌==◌, Bool, List, [], ◌∷◌, if◌then◌else◌, Result, Ok, Err, ℤ, pos}
-use Rattle.std.specs.List.{list_any, before_first, after_first}
+use Rattle.std.specs.Prelude.{ℕ, ◌==◌, not, Bool, List, [], ◌∷◌, length, map, if◌then◌else◌, Result, Ok, Err, ℤ, pos}
+use Rattle.std.specs.List.{list_all, list_any, before_first, after_first}
 use Rattle.std.specs.Ordering.{int_eq}
 use Rattle.std.specs.Str.{bytes_eq}
 use Rattle.sdc_base.specs.Forms.{Term}
 use Rattle.sdc_base.specs.Steps.{◌>>=◌, refuse}
 use Rattle.worlds.specs.declared.world.Move.{Move}
 use Rattle.certificate.specs.declared.faults.CertWhy.{CertWhy}
-use Rattle.certificate.specs.declared.faults.CertWhy.TheVariants.{Shape, Number}
+use Rattle.certificate.specs.declared.faults.CertWhy.TheVariants.{Shape, Number, Order}
+use Rattle.certificate.specs.declared.version.Version.{Version}
+use Rattle.certificate.specs.declared.version.Version.TheVariants.{One, Two}
 use Rattle.certificate.specs.Pieces.{colon}
-use Rattle.certificate.specs.Numerals.{natural_of, integer_of}
+use Rattle.certificate.specs.Numerals.{natural_of, integer_of, ascends}
 
 -- the tokens behind the first one, where that is this word
 abbrev pub behind_word : List ℕ → List (List ℕ) → Result (List (List ℕ)) CertWhy
@@ -72,10 +74,32 @@ first_integer tokens = do
   by ← integer_of token.0
   Ok (by, token.1)
 
--- one token for each cell, the whole number by which it moves
+-- one token for each cell, the whole number by which it moves; a cell that moves by 0 has no move
 unfoldable pub moves_of : List ℕ → List (List ℕ) → Result (List Move) CertWhy
 moves_of [] tokens = Ok []
 moves_of (cell ∷ cells) tokens = do
   by ← first_integer tokens
   moves ← moves_of cells by.1
   Ok (with_move cell by.0 moves)
+
+-- the cell and the number of such a pair, as a move
+abbrev pub move_of : Term → Move
+move_of term = record { cell = term.0; by = term.1 }
+
+-- each token a cell and the number by which it moves, the cells ascending
+unfoldable pub paired_moves_of : List (List ℕ) → Result (List Move) CertWhy
+paired_moves_of tokens = do
+  terms ← terms_of tokens
+  order ← refuse Order (not (ascends (map (λ term. term.0) terms)))
+  Ok (map move_of terms)
+
+-- The tokens of moves have the form of their version: in the first there is one for each hidden cell, in the second
+-- each has a colon.
+abbrev pub have_form : Version → List ℕ → List (List ℕ) → Bool
+have_form One hidden tokens = length tokens == length hidden
+have_form Two hidden tokens = list_all is_pair tokens
+
+-- the moves of tokens of that form
+abbrev pub moves_by : Version → List ℕ → List (List ℕ) → Result (List Move) CertWhy
+moves_by One hidden tokens = moves_of hidden tokens
+moves_by Two hidden tokens = paired_moves_of tokens

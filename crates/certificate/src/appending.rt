@@ -1,11 +1,9 @@
-ghost use Rattle.std.specs.Prelude.{◌≡◌, ◌<◌, ◌++◌, ◌∷◌, [], OnOk, length, flat_map, map, decimal, true, FitsSigned};
-ghost use Rattle.std.specs.Int.{w128};
+ghost use Rattle.std.specs.Prelude.{◌≡◌, ◌<◌, ◌++◌, ◌∷◌, OnOk, length, flat_map, decimal};
 ghost use Rattle.std.specs.Fmt.{signed_decimal};
 ghost use Rattle.certificate.specs.Pieces.{space};
 ghost use Rattle.std.specs.List.{AllByRecursion};
-ghost use Rattle.certificate.specs.Numerals.{ascends};
-ghost use Rattle.certificate.specs.Spelling.{FitsIn32Bits, FitsIn128Bits, IsTermWithinTypes, IsAmong};
-ghost use Rattle.certificate.specs.Texts.{comma_list, pair_token, next_move, moves_in_turn};
+ghost use Rattle.certificate.specs.Spelling.{FitsIn32Bits, FitsIn128Bits, IsTermWithinTypes, IsMoveWithinTypes};
+ghost use Rattle.certificate.specs.Texts.{comma_list, pair_token, move_token};
 
 use sdc_base::{Items, Memory};
 use std::alloc::Global;
@@ -101,39 +99,25 @@ pub(crate) fn add_integer(alloc: Global, text: &mut Items<u8>, number: &i128) ->
     Ok(())
 }
 
-/// The move of each of these cells, in turn, each with a space before it.
-pub(crate) fn add_moves(
-    alloc: Global,
-    text: &mut Items<u8>,
-    hidden: &[u32],
-    moves: &[Move],
-) -> Result<(), Memory>
-    requires hidden { ascends hidden.now ≡ true }
-    requires moves { ascends (map (λ one. one.cell) moves.now) ≡ true }
-    requires among { AllByRecursion (λ one. IsAmong hidden.now one.cell) moves.now }
-    ensures text { OnOk result (text.new
-        ≡ text.old ++ flat_map (λ number. space ∷ signed_decimal number) (moves_in_turn hidden.now moves.now)) }
-    ensures wide { OnOk result (AllByRecursion (λ one. FitsIn128Bits one.by) moves.now) }
+// A space, a cell, a colon and the number by which it moves.
+fn add_move(alloc: Global, text: &mut Items<u8>, one: &Move) -> Result<(), Memory>
+    ensures text { OnOk result (text.new ≡ text.old ++ space ∷ move_token one.now) }
+    ensures wide { OnOk result (IsMoveWithinTypes one.now) }
 {
-    let mut rest = moves;
-    'cells: for cell in hidden {
-        let (by, later) = take_move(*cell, rest);
-        add_integer(alloc, text, &by)?;
-        rest = later;
-    }
+    let cell = one.cell;
+    let by = one.by;
+    let token = format!(in alloc; " {cell}:{by}")?;
+    add(text, token.as_bytes())?;
     Ok(())
 }
 
-// What a cell moves by, and the moves behind: the next move where it is the cell's, else 0.
-fn take_move<'a>(cell: u32, moves: &'a [Move]) -> (i128, &'a [Move])
-    ensures taken { (result.0, result.1.now) ≡ next_move cell moves.now }
-    ensures fits { FitsSigned w128 result.0 }
+/// The cells that move, each with the number by which it moves.
+pub(crate) fn add_moves(alloc: Global, text: &mut Items<u8>, moves: &[Move]) -> Result<(), Memory>
+    ensures text { OnOk result (text.new ≡ text.old ++ flat_map (λ one. space ∷ move_token one) moves.now) }
+    ensures wide { OnOk result (AllByRecursion IsMoveWithinTypes moves.now) }
 {
-    let Some(first) = moves.first() else {
-        return (0, moves);
-    };
-    if first.cell != cell {
-        return (0, moves);
+    for one in moves {
+        add_move(alloc, text, one)?;
     }
-    (first.by, &moves[1..])
+    Ok(())
 }

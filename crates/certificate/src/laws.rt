@@ -1,24 +1,30 @@
 //! Laws of certificates, as contracts of functions that do nothing.
 
 ghost use Rattle.certificate.specs.Laws.{IsReadBack, HasOneSpelling};
-ghost use Rattle.certificate.specs.WorkedTexts.{ReadsOpenCertificate, ReadsSuppressionCertificate, FindsShapeFirst, FindsNumberNext, FindsOrderLast};
+ghost use Rattle.certificate.specs.WorkedTexts.{ReadsOpenCertificate, ReadsFirstVersion, ReadsSecondVersion, WritesSecondVersion, FindsVersion, FindsMoveOfZero, FindsOrderOfMoves, FindsFormOfMoves, FindsShapeFirst, FindsNumberNext, FindsOrderLast};
 
-/// The text of a certificate that has one is read as that certificate.
+/// The text of a certificate in a version in which it has one is read as that certificate.
 #[tactic(auto, using(crate::proofs::ReadBack::read_back))]
 pub fn text_is_read_back()
     ensures { IsReadBack }
 {}
 
-/// Bytes that are read as a certificate are the text of it, so a certificate has one spelling.
+/// Bytes that are read as a certificate are its text in one of the versions, so it has one spelling in each.
 pub fn one_spelling()
     ensures { HasOneSpelling }
 {}
 
-/// Worked texts are read as they should be: two certificates, and the order of faults in a line.
-#[tactic(auto, using(crate::proofs::WorkedTextsHold::open_release, crate::proofs::WorkedTextsHold::closed_release, crate::proofs::WorkedTextsHold::shape_first, crate::proofs::WorkedTextsHold::number_first, crate::proofs::WorkedTextsHold::order_last))]
+/// Worked texts are read as they should be: certificates of both versions, and the faults of a line in their order.
+#[tactic(auto, using(crate::proofs::WorkedTextsHold::open_release, crate::proofs::WorkedTextsHold::first_version, crate::proofs::WorkedTextsHold::second_version, crate::proofs::WorkedTextsHold::written_version, crate::proofs::WorkedTextsHold::other_version, crate::proofs::WorkedTextsHold::zero_move, crate::proofs::WorkedTextsHold::moves_order, crate::proofs::WorkedTextsHold::moves_form, crate::proofs::WorkedTextsHold::shape_first, crate::proofs::WorkedTextsHold::number_first, crate::proofs::WorkedTextsHold::order_last))]
 pub fn worked_texts()
     ensures nothing_hidden { ReadsOpenCertificate }
-    ensures hidden_cells { ReadsSuppressionCertificate }
+    ensures first_version { ReadsFirstVersion }
+    ensures second_version { ReadsSecondVersion }
+    ensures written { WritesSecondVersion }
+    ensures other_version { FindsVersion }
+    ensures zero_move { FindsMoveOfZero }
+    ensures moves_order { FindsOrderOfMoves }
+    ensures moves_form { FindsFormOfMoves }
     ensures shape { FindsShapeFirst }
     ensures number { FindsNumberNext }
     ensures order { FindsOrderLast }

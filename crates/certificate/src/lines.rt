@@ -9,7 +9,10 @@ use crate::certificate::WorldLine;
 use crate::faults::{CertWhy, LineError};
 use crate::numerals::{are_ascending, ascends, denominator_of, integer_of, natural_of};
 use crate::pieces::{Pieces, pieces_in};
-use crate::tokens::{all_pairs, behind_word, is_word, moves_in, numbers_in, places_in, terms_in};
+use crate::tokens::{
+    all_pairs, behind_word, have_form, is_word, moves_by, numbers_in, places_in, terms_in,
+};
+use crate::version::Version;
 use sdc_base::{Items, Method, PlanStep, Side};
 use std::alloc::Global;
 use worlds::{Multipliers, Refuted, World};
@@ -81,13 +84,13 @@ pub(crate) fn count_in(word: &[u8], line: &[u8]) -> Result<u32, CertWhy>
     natural_of(0, token)
 }
 
-/// The hidden cells of a line.
+/// The cells of a line by a word.
 #[tactic(auto, unfolding(crate::specs::LineReadings::item_of, crate::specs::LineReadings::hidden_of))]
-pub(crate) fn hidden_in(alloc: Global, line: &[u8]) -> Result<Items<u32>, LineError>
+pub(crate) fn hidden_in(alloc: Global, word: &[u8], line: &[u8]) -> Result<Items<u32>, LineError>
     ensures { Gives why_of (λ cells. cells) result
-        (line_readings.item_of (codes "hidden") line_readings.hidden_of line.now) }
+        (line_readings.item_of word.now line_readings.hidden_of line.now) }
 {
-    let mut tokens = behind_word(b"hidden", line)?;
+    let mut tokens = behind_word(word, line)?;
     if tokens.is_count(0) {
         return Err(LineError::Fault(CertWhy::Shape));
     }
@@ -148,8 +151,8 @@ pub(crate) fn step_in(alloc: Global, line: &[u8]) -> Result<PlanStep, LineError>
     step_by(alloc, table, parents, cell, corners)
 }
 
-// The side of a word.
-fn side_of(word: &[u8]) -> Result<Side, CertWhy>
+/// The side of a word.
+pub(crate) fn side_of(word: &[u8]) -> Result<Side, CertWhy>
     ensures { Gives fault_itself (λ side. side) result (line_readings.side_of word.now) }
 {
     if is_word(word, b"above") {
@@ -211,22 +214,23 @@ pub(crate) fn refutation_in(alloc: Global, word: &[u8], line: &[u8]) -> Result<R
 #[tactic(auto, unfolding(crate::specs::LineReadings::world_by))]
 fn world_by(
     alloc: Global,
+    version: Version,
     hidden: &[u32],
     cell: &[u8],
     side: &[u8],
     den: &[u8],
-    numbers: &mut Pieces<'_>,
+    tokens: &mut Pieces<'_>,
 ) -> Result<WorldLine, LineError>
     ensures { Gives why_of (λ world. world) result
-        (line_readings.world_by hidden.now cell.now side.now den.now numbers.old) }
+        (line_readings.world_by version hidden.now cell.now side.now den.now tokens.old) }
 {
     let side = side_of(side)?;
-    if !numbers.is_count(hidden.len()) {
+    if !have_form(version, hidden, tokens) {
         return Err(LineError::Fault(CertWhy::Shape));
     }
     let cell = natural_of(0, cell)?;
     let den = denominator_of(den)?;
-    let moves = moves_in(alloc, hidden, numbers)?;
+    let moves = moves_by(alloc, version, hidden, tokens)?;
     Ok(WorldLine {
         cell,
         side,
@@ -234,17 +238,23 @@ fn world_by(
     })
 }
 
-/// The complete table of a line, for these hidden cells.
+/// The complete table of a line by a word, in this version and with these hidden cells.
 #[tactic(auto, unfolding(crate::specs::LineReadings::item_of, crate::specs::LineReadings::world_of))]
-pub(crate) fn world_in(alloc: Global, hidden: &[u32], line: &[u8]) -> Result<WorldLine, LineError>
+pub(crate) fn world_in(
+    alloc: Global,
+    word: &[u8],
+    version: Version,
+    hidden: &[u32],
+    line: &[u8],
+) -> Result<WorldLine, LineError>
     ensures { Gives why_of (λ line. line) result
-        (line_readings.item_of (codes "world") (line_readings.world_of hidden.now) line.now) }
+        (line_readings.item_of word.now (line_readings.world_of version hidden.now) line.now) }
 {
-    let mut tokens = behind_word(b"world", line)?;
+    let mut tokens = behind_word(word, line)?;
     let cell = tokens.first()?;
     let side = tokens.first()?;
     let den = tokens.first()?;
-    world_by(alloc, hidden, cell, side, den, &mut tokens)
+    world_by(alloc, version, hidden, cell, side, den, &mut tokens)
 }
 
 /// A line of one word.

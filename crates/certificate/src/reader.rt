@@ -1,11 +1,13 @@
 ghost use Rattle.std.specs.Prelude.{◌≡◌, ◌+◌, IfOk};
 ghost use Rattle.sdc_base.specs.Answers.{Gives};
-ghost use Rattle.certificate.specs.Faults.{fault_of};
+ghost use Rattle.certificate.specs.Faults.{at_line, fault_of};
 ghost use Rattle.certificate.specs.Pieces.{pieces, line_feed};
 ghost use Rattle.certificate.specs.Certificates as certificates;
+ghost use Rattle.certificate.specs.ExtraReadings.{heading_at, begins_with_line};
 
 use crate::faults::{CertError, CertWhy};
 use crate::tokens::is_word;
+use crate::version::Version;
 use plain_text::cut_at;
 use std::marker::Model;
 
@@ -47,10 +49,46 @@ fn reader_of<'a>(bytes: &'a [u8]) -> Reader<'a>
     }
 }
 
-/// A reader behind the first line, which must be that of this version.
+/// The version of the first line, and a reader behind that line.
 #[tactic(auto, unfolding(crate::specs::Certificates::version_at))]
-pub(crate) fn behind_version<'a>(bytes: &'a [u8]) -> Result<Reader<'a>, CertError>
-    ensures { Gives fault_of (λ reader. reader) result (certificates.version_at (pieces line_feed bytes.now)) }
+pub(crate) fn behind_version<'a>(bytes: &'a [u8]) -> Result<(Version, Reader<'a>), CertError>
+    ensures { Gives fault_of (λ start. start) result (certificates.version_at (pieces line_feed bytes.now)) }
+{
+    let version = first_version(bytes)?;
+    let mut reader = reader_of(bytes);
+    reader.next_line()?;
+    Ok((version, reader))
+}
+
+// The version with whose first line the bytes begin.
+#[tactic(auto, using(crate::proofs::LineSteps::version_by_head))]
+fn first_version(bytes: &[u8]) -> Result<Version, CertError>
+    ensures { Gives fault_of (λ version. version) result
+        (at_line 1 (certificates.first_version (pieces line_feed bytes.now))) }
+{
+    if bytes.is_empty() {
+        return Err(CertError::At {
+            line: 1,
+            why: CertWhy::NoEnd,
+        });
+    }
+    let (line, _) = cut_at(b'\n', bytes);
+    if is_word(line, b"argus certificate 1") {
+        return Ok(Version::One);
+    }
+    if is_word(line, b"argus certificate 2") {
+        return Ok(Version::Two);
+    }
+    Err(CertError::At {
+        line: 1,
+        why: CertWhy::Version,
+    })
+}
+
+/// A reader behind the first line, which must be this one.
+#[tactic(auto, unfolding(crate::specs::ExtraReadings::heading_at))]
+pub(crate) fn behind_heading<'a>(heading: &[u8], bytes: &'a [u8]) -> Result<Reader<'a>, CertError>
+    ensures { Gives fault_of (λ reader. reader) result (heading_at heading.now (pieces line_feed bytes.now)) }
 {
     let mut reader = reader_of(bytes);
     if bytes.is_empty() {
@@ -59,7 +97,7 @@ pub(crate) fn behind_version<'a>(bytes: &'a [u8]) -> Result<Reader<'a>, CertErro
             why: CertWhy::NoEnd,
         });
     }
-    if !is_first(bytes) {
+    if !has_heading(heading, bytes) {
         return Err(CertError::At {
             line: 1,
             why: CertWhy::Version,
@@ -69,12 +107,12 @@ pub(crate) fn behind_version<'a>(bytes: &'a [u8]) -> Result<Reader<'a>, CertErro
     Ok(reader)
 }
 
-// Whether the bytes begin with the line of this version.
-fn is_first(bytes: &[u8]) -> bool
-    ensures { result ≡ certificates.is_first (pieces line_feed bytes.now) }
+// Whether the bytes begin with this line.
+fn has_heading(heading: &[u8], bytes: &[u8]) -> bool
+    ensures { result ≡ begins_with_line heading.now (pieces line_feed bytes.now) }
 {
     let (line, _) = cut_at(b'\n', bytes);
-    is_word(line, b"argus certificate 1")
+    is_word(line, heading)
 }
 
 impl<'a> Reader<'a> {

@@ -6,32 +6,36 @@ ghost use Rattle.certificate.specs.LineReadings.{hidden_of, step_of, refutation_
 ghost use Rattle.certificate.specs.MethodReadings.{method_of, count_of};
 ghost use Rattle.certificate.specs.Certificates as certificates;
 ghost use Rattle.certificate.specs.Certificates.{item_at, items_at, certificate_of};
-ghost use Rattle.certificate.specs.Spelling.{IsSpellable, IsWithinTypes};
-ghost use Rattle.certificate.specs.Texts.{text_of};
+ghost use Rattle.certificate.specs.Spelling.{IsSpellable, IsTextOf, IsWithinTypes};
 
 use crate::certificate::{Certificate, WorldLine};
 use crate::faults::{CertError, LineError, error_at};
 use crate::lines::{count_in, hidden_in, method_in, refutation_in, step_in, word_in, world_in};
 use crate::reader::{Reader, behind_version};
+use crate::version::Version;
 use sdc_base::{Items, Method, PlanStep};
 use std::alloc::Global;
 use worlds::Refuted;
 
-/// The certificate of which these bytes are the text.
+/// The certificate of which these bytes are a text, in either version.
 ///
-/// The fault is that of the first line, from 1, that isn't as the format says. `Version`: the first line has other
-/// words. `NoEnd`: the bytes end before the line `end`; its line is the one after the last. `Shape`: no LF ends the
-/// line, its kind isn't the next one, its tokens are too few or too many, or a token has the wrong form. `Number`: a
-/// number isn't spelled as this program writes it, or is out of range. `Order`: a list in the line doesn't ascend. In
-/// one line all tokens are looked at for `Shape`, then for `Number`, then for `Order`; bytes behind the line `end` are
-/// `Shape` at the next line. `Memory` may come at any point.
+/// The fault is that of the first line, from 1, that isn't as the format says. `Version`: the first line is that of
+/// neither version. `NoEnd`: the bytes end before the line `end`; its line is the one after the last. `Shape`: no LF
+/// ends the line, its kind isn't the next one, its tokens are too few or too many, or a token has the wrong form.
+/// `Number`: a number isn't spelled as this program writes it, or is out of range. `Order`: a list in the line doesn't
+/// ascend. In one line all tokens are looked at for `Shape`, then for `Number`, then for `Order`; bytes behind the line
+/// `end` are `Shape` at the next line. `Memory` may come at any point.
+///
+/// The two versions differ in the lines of complete tables alone. In the first such a line has one move for each hidden
+/// cell, and one of 0 is no move. In the second it has the cells that move, each with its move: one of 0 is `Number`,
+/// and cells that don't ascend are `Order`.
 ///
 /// Which steps, repairs, needs and complete tables there should be is not looked at. A certificate that is read has
-/// exactly these bytes as its text, so each has one spelling. The cost is the number of bytes; memory is taken for the
-/// lists of the certificate alone. The format is argus's own.
+/// exactly these bytes as its text in their version, so each has one spelling per version. The cost is the number of
+/// bytes; memory is taken for the lists of the certificate alone. The format is argus's own.
 pub fn read_certificate(alloc: Global, bytes: &[u8]) -> Result<Certificate, CertError>
     ensures exact { Gives fault_of (λ certificate. certificate) result (certificate_of bytes.now) }
-    ensures spelling { IfOk result (λ certificate. bytes.now ≡ text_of certificate) }
+    ensures spelling { IfOk result (λ certificate. IsTextOf bytes.now certificate) }
     ensures spellable { IfOk result (λ certificate. IsSpellable certificate) }
     ensures within { IfOk result (λ certificate. IsWithinTypes certificate) }
 {
@@ -44,7 +48,7 @@ pub fn read_certificate(alloc: Global, bytes: &[u8]) -> Result<Certificate, Cert
 fn read_lines(alloc: Global, bytes: &[u8]) -> Result<Certificate, CertError>
     ensures { Gives fault_of (λ certificate. certificate) result (certificate_of bytes.now) }
 {
-    let mut reader = behind_version(bytes)?;
+    let (version, mut reader) = behind_version(bytes)?;
     let method = method_line(&mut reader)?;
     let cells = count_line(b"cells", &mut reader)?;
     let relations = count_line(b"relations", &mut reader)?;
@@ -52,7 +56,7 @@ fn read_lines(alloc: Global, bytes: &[u8]) -> Result<Certificate, CertError>
     let steps = step_lines(alloc, &mut reader)?;
     let repairs = refutation_lines(alloc, b"repair", &mut reader)?;
     let needs = refutation_lines(alloc, b"need", &mut reader)?;
-    let worlds = world_lines(alloc, hidden.as_slice(), &mut reader)?;
+    let worlds = world_lines(alloc, b"world", version, hidden.as_slice(), &mut reader)?;
     word_line(b"end", &mut reader)?;
     reader.end()?;
     Ok(Certificate {
@@ -97,9 +101,9 @@ fn count_line(word: &[u8], reader: &mut Reader<'_>) -> Result<u32, CertError>
     }
 }
 
-// A line that is a word.
+/// A line that is a word.
 #[tactic(auto, unfolding(crate::specs::Certificates::item_at), using(crate::proofs::LineSteps::fails_with))]
-fn word_line(word: &[u8], reader: &mut Reader<'_>) -> Result<(), CertError>
+pub(crate) fn word_line(word: &[u8], reader: &mut Reader<'_>) -> Result<(), CertError>
     ensures { Gives fault_of (λ fine. (fine, reader.new)) result (item_at word.now end_of reader.old) }
 {
     let line = reader.next_line()?;
@@ -118,7 +122,7 @@ fn hidden_line(alloc: Global, reader: &mut Reader<'_>) -> Result<Items<u32>, Cer
     ensures { Gives fault_of (λ cells. (cells, reader.new)) result (item_at (codes "hidden") hidden_of reader.old) }
 {
     let line = reader.next_line()?;
-    match hidden_in(alloc, line.text) {
+    match hidden_in(alloc, b"hidden", line.text) {
         Ok(cells) => Ok(cells),
         Err(error) => Err(error_at(line.number, error)),
     }
@@ -191,35 +195,39 @@ fn refutation_lines(
     Ok(all)
 }
 
-// The line of a complete table, for these hidden cells.
+// The line of a complete table by a word, in this version and with these hidden cells.
 #[tactic(auto, unfolding(crate::specs::Certificates::item_at), using(crate::proofs::LineSteps::fails_at))]
 fn world_line(
     alloc: Global,
+    word: &[u8],
+    version: Version,
     hidden: &[u32],
     reader: &mut Reader<'_>,
 ) -> Result<WorldLine, CertError>
     ensures { Gives fault_of (λ world. (world, reader.new)) result
-        (item_at (codes "world") (world_of hidden.now) reader.old) }
+        (item_at word.now (world_of version hidden.now) reader.old) }
 {
     let line = reader.next_line()?;
-    match world_in(alloc, hidden, line.text) {
+    match world_in(alloc, word, version, hidden, line.text) {
         Ok(world) => Ok(world),
         Err(error) => Err(error_at(line.number, error)),
     }
 }
 
-// The lines of complete tables, for these hidden cells.
-fn world_lines(
+/// The lines of complete tables by a word, in this version and with these hidden cells.
+pub(crate) fn world_lines(
     alloc: Global,
+    word: &[u8],
+    version: Version,
     hidden: &[u32],
     reader: &mut Reader<'_>,
 ) -> Result<Items<WorldLine>, CertError>
     ensures { Gives fault_of (λ worlds. (worlds, reader.new)) result
-        (items_at (codes "world") (world_of hidden.now) reader.old) }
+        (items_at word.now (world_of version hidden.now) reader.old) }
 {
     let mut worlds = Items::empty(alloc);
-    'lines: while reader.is_next(b"world") {
-        let world = world_line(alloc, hidden, reader)?;
+    'lines: while reader.is_next(word) {
+        let world = world_line(alloc, word, version, hidden, reader)?;
         worlds.push(world)?;
     }
     Ok(worlds)

@@ -1,4 +1,4 @@
-ghost use Rattle.std.specs.Prelude.{◌≡◌, ◌≤◌, ◌++◌, [], length, OnOk, IfOk, FitsSigned, pos};
+ghost use Rattle.std.specs.Prelude.{◌≡◌, ◌≤◌, ◌++◌, [], length, map, OnOk, IfOk, FitsSigned, pos};
 ghost use Rattle.std.specs.Int.{w128};
 ghost use Rattle.std.specs.List.{list_all};
 ghost use Rattle.std.specs.Str.{bytes_eq};
@@ -6,11 +6,12 @@ ghost use Rattle.sdc_base.specs.Answers.{Gives};
 ghost use Rattle.certificate.specs.Faults.{fault_itself, why_of};
 ghost use Rattle.certificate.specs.Pieces.{pieces, space};
 ghost use Rattle.certificate.specs.TokenLists as token_lists;
-ghost use Rattle.certificate.specs.TokenLists.{numbers_of, terms_of, with_move, moves_of};
+ghost use Rattle.certificate.specs.TokenLists.{numbers_of, terms_of, with_move, moves_of, move_of, paired_moves_of};
 
 use crate::faults::{CertWhy, LineError};
-use crate::numerals::{integer_of, natural_of};
+use crate::numerals::{are_ascending, integer_of, natural_of};
 use crate::pieces::{Pieces, pieces_in};
+use crate::version::Version;
 use arrayvec::ArrayVec;
 use plain_text::cut_at;
 use sdc_base::{Few, Items, Memory, Place};
@@ -132,8 +133,8 @@ fn add_move(moves: &mut Items<Move>, cell: u32, by: i128) -> Result<(), Memory>
     moves.push(Move { cell, by })
 }
 
-/// The moves of these cells, one token for each.
-pub(crate) fn moves_in(
+// The moves of these cells, one token for each.
+fn moves_in(
     alloc: Global,
     hidden: &[u32],
     tokens: &mut Pieces<'_>,
@@ -146,4 +147,56 @@ pub(crate) fn moves_in(
         add_move(&mut moves, *cell, by)?;
     }
     Ok(moves)
+}
+
+// The moves of cells and numbers.
+fn moves_of_terms(alloc: Global, terms: &[(u32, i128)]) -> Result<Items<Move>, Memory>
+    ensures { IfOk result (λ moves. moves ≡ map move_of terms.now) }
+{
+    let mut moves = Items::empty(alloc);
+    'terms: for term in terms {
+        moves.push(Move {
+            cell: term.0,
+            by: term.1,
+        })?;
+    }
+    Ok(moves)
+}
+
+// Each token as a cell and the number by which it moves, the cells ascending.
+#[tactic(auto, unfolding(crate::specs::TokenLists::paired_moves_of))]
+fn paired_moves_in(alloc: Global, tokens: &mut Pieces<'_>) -> Result<Items<Move>, LineError>
+    ensures { Gives why_of (λ moves. moves) result (paired_moves_of tokens.old) }
+{
+    let terms = terms_in(alloc, tokens)?;
+    if !are_ascending(terms.as_slice()) {
+        return Err(LineError::Fault(CertWhy::Order));
+    }
+    let moves = moves_of_terms(alloc, terms.as_slice())?;
+    Ok(moves)
+}
+
+/// Whether the tokens of moves have the form of their version.
+pub(crate) fn have_form(version: Version, hidden: &[u32], tokens: &Pieces<'_>) -> bool
+    ensures { result ≡ token_lists.have_form version hidden.now tokens.now }
+{
+    match version {
+        Version::One => tokens.is_count(hidden.len()),
+        Version::Two => all_pairs(tokens),
+    }
+}
+
+/// The moves of tokens in their version, with these hidden cells.
+pub(crate) fn moves_by(
+    alloc: Global,
+    version: Version,
+    hidden: &[u32],
+    tokens: &mut Pieces<'_>,
+) -> Result<Items<Move>, LineError>
+    ensures { Gives why_of (λ moves. moves) result (token_lists.moves_by version hidden.now tokens.old) }
+{
+    match version {
+        Version::One => moves_in(alloc, hidden, tokens),
+        Version::Two => paired_moves_in(alloc, tokens),
+    }
 }

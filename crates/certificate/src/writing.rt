@@ -1,10 +1,10 @@
 ghost use Rattle.std.specs.Prelude.{◌≡◌, ◌++◌, ◌∷◌, [], OnOk, IfOk, IsOk, Ok, true, codes, flat_map};
 ghost use Rattle.std.specs.List.{AllByRecursion};
 ghost use Rattle.sdc_base.specs.Sides as sides;
+ghost use Rattle.certificate.specs.declared.version.Version.TheVariants.{Two};
 ghost use Rattle.certificate.specs.Texts.{method_tokens, head_tokens, hidden_tokens, step_tokens, refutation_tokens, world_tokens, line_text, text_of};
 ghost use Rattle.certificate.specs.Certificates.{certificate_of};
-ghost use Rattle.certificate.specs.Numerals.{ascends};
-ghost use Rattle.certificate.specs.Spelling.{IsSpellable, IsStepSpellable, IsWorldSpellable, FitsIn32Bits, IsMethodWithinTypes, IsStepWithinTypes, IsRefutationWithinTypes, IsWorldWithinTypes, IsWithinTypes};
+ghost use Rattle.certificate.specs.Spelling.{IsSpellable, IsStepSpellable, FitsIn32Bits, IsMethodWithinTypes, IsStepWithinTypes, IsRefutationWithinTypes, IsWorldWithinTypes, IsWithinTypes};
 
 use crate::appending::{add, add_all_with_mark, add_integer, add_list, add_moves, add_pairs};
 use crate::certificate::{Certificate, WorldLine};
@@ -12,11 +12,11 @@ use sdc_base::{Items, Memory, Method, PlanStep, Side};
 use std::alloc::Global;
 use worlds::Refuted;
 
-/// The text of a certificate that has one.
+/// The text of a certificate that has one, in the second version.
 ///
 /// It has one where the lists in its lines are as the format says: hidden cells, corners and relations ascend, a step
 /// has 1 to 8 parents and at least one corner, denominators are 1 or more, no multiplier is 0, and the moves of a
-/// complete table ascend, aren't 0 and are of hidden cells. Cells, relations and places are numbered from 0, in the
+/// complete table ascend by their cells and aren't 0. Cells, relations and places are numbered from 0, in the
 /// text tables from 1; the base of a method is the number that the job names, before it is brought to units of 10^-d.
 ///
 /// `Memory` is the only refusal, and the certificate stays. The cost is the length of the text. The format is argus's
@@ -39,12 +39,7 @@ pub fn write_certificate(alloc: Global, certificate: &Certificate) -> Result<Vec
     add_steps(alloc, &mut text, certificate.steps.as_slice())?;
     add_refutations(alloc, &mut text, b"repair", certificate.repairs.as_slice())?;
     add_refutations(alloc, &mut text, b"need", certificate.needs.as_slice())?;
-    add_worlds(
-        alloc,
-        &mut text,
-        certificate.hidden.as_slice(),
-        certificate.worlds.as_slice(),
-    )?;
+    add_worlds(alloc, &mut text, b"world", certificate.worlds.as_slice())?;
     add(&mut text, b"end\n")?;
     Ok(text.into_vec())
 }
@@ -71,12 +66,12 @@ fn add_head(
     cells: u32,
     relations: u32,
 ) -> Result<(), Memory>
-    ensures text { OnOk result (text.new ≡ text.old ++ flat_map line_text (head_tokens method cells relations)) }
+    ensures text { OnOk result (text.new ≡ text.old ++ flat_map line_text (head_tokens Two method cells relations)) }
     ensures wide { OnOk result (IsMethodWithinTypes method) }
     ensures cells { OnOk result (FitsIn32Bits cells) }
     ensures relations { OnOk result (FitsIn32Bits relations) }
 {
-    add(text, b"argus certificate 1\n")?;
+    add(text, b"argus certificate 2\n")?;
     add_method(alloc, text, method)?;
     let counts = format!(in alloc; "cells {cells}\nrelations {relations}\n")?;
     add(text, counts.as_bytes())?;
@@ -127,8 +122,8 @@ fn add_steps(alloc: Global, text: &mut Items<u8>, steps: &[PlanStep]) -> Result<
     Ok(())
 }
 
-// The word of a side.
-fn side_word(side: Side) -> &'static [u8]
+/// The word of a side.
+pub(crate) fn side_word(side: Side) -> &'static [u8]
     ensures { result.now ≡ sides.side_word side }
 {
     side.word().as_bytes()
@@ -173,43 +168,40 @@ fn add_refutations(
     Ok(())
 }
 
-// The line of a complete table.
+// The line of a complete table, behind its word, whatever cells are hidden.
 fn add_world(
     alloc: Global,
     text: &mut Items<u8>,
-    hidden: &[u32],
+    word: &[u8],
     line: &WorldLine,
 ) -> Result<(), Memory>
-    requires hidden { ascends hidden.now ≡ true }
-    requires line { IsWorldSpellable hidden.now line.now }
-    ensures text { OnOk result (text.new ≡ text.old ++ line_text (world_tokens hidden.now line.now)) }
+    ensures text { OnOk result (text.new ≡ text.old ++ line_text (world_tokens word.now Two [] line.now)) }
     ensures wide { OnOk result (IsWorldWithinTypes line.now) }
 {
     let cell = line.cell;
-    let head = format!(in alloc; "world {cell} ")?;
+    add(text, word)?;
+    let head = format!(in alloc; " {cell} ")?;
     add(text, head.as_bytes())?;
     add(text, side_word(line.side))?;
     add_integer(alloc, text, &line.world.den)?;
-    add_moves(alloc, text, hidden, line.world.moves.as_slice())?;
+    add_moves(alloc, text, line.world.moves.as_slice())?;
     add(text, b"\n")?;
     Ok(())
 }
 
-// The lines of complete tables.
-fn add_worlds(
+/// The lines of complete tables, behind a word.
+pub(crate) fn add_worlds(
     alloc: Global,
     text: &mut Items<u8>,
-    hidden: &[u32],
+    word: &[u8],
     worlds: &[WorldLine],
 ) -> Result<(), Memory>
-    requires hidden { ascends hidden.now ≡ true }
-    requires worlds { AllByRecursion (IsWorldSpellable hidden.now) worlds.now }
     ensures text { OnOk result (text.new
-        ≡ text.old ++ flat_map (λ line. line_text (world_tokens hidden.now line)) worlds.now) }
+        ≡ text.old ++ flat_map (λ line. line_text (world_tokens word.now Two [] line)) worlds.now) }
     ensures wide { OnOk result (AllByRecursion IsWorldWithinTypes worlds.now) }
 {
     'worlds: for line in worlds {
-        add_world(alloc, text, hidden, line)?;
+        add_world(alloc, text, word, line)?;
     }
     Ok(())
 }

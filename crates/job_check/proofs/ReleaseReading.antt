@@ -30,16 +30,16 @@ pub settled-fails : (files : Files) (name : List ℕ) (o : Option Fault) → Fai
 unfolding released_of
 settled-fails files name o h = fails-on o (settled_of purpose.Release files name) _ h
 
-certificate-fails : (files : Files) (name : List ℕ) (settled : SettledInputs) (o : Option Fault) → settled_of purpose.Release files name ≡ Ok settled → Fails o (certificate_in files settled.inputs.described.job) → Fails o (released_of files name)
+certificate-fails : (files : Files) (name : List ℕ) (settled : SettledInputs) (o : Option Fault) → settled_of purpose.Release files name ≡ Ok settled → Fails o (certificate_in files settled.inputs.described.job.certificate) → Fails o (released_of files name)
 unfolding released_of
-certificate-fails files name settled o read h = rw read (fails-on o (certificate_in files settled.inputs.described.job) _ h)
+certificate-fails files name settled o read h = rw read (fails-on o (certificate_in files settled.inputs.described.job.certificate) _ h)
 
-tables-fail : (files : Files) (name : List ℕ) (settled : SettledInputs) (certificate : Certificate) (o : Option Fault) → settled_of purpose.Release files name ≡ Ok settled → certificate_in files settled.inputs.described.job ≡ Ok certificate
+tables-fail : (files : Files) (name : List ℕ) (settled : SettledInputs) (certificate : Certificate) (o : Option Fault) → settled_of purpose.Release files name ≡ Ok settled → certificate_in files settled.inputs.described.job.certificate ≡ Ok certificate
     → Fails o (tables_of files settled.inputs.described.job) → Fails o (released_of files name)
 unfolding released_of
 tables-fail files name settled certificate o read signed h = rw (read, signed) (fails-on o (tables_of files settled.inputs.described.job) _ h)
 
-released-is : (files : Files) (name : List ℕ) (settled : SettledInputs) (certificate : Certificate) (tables : List (List ℕ)) → settled_of purpose.Release files name ≡ Ok settled → certificate_in files settled.inputs.described.job ≡ Ok certificate
+released-is : (files : Files) (name : List ℕ) (settled : SettledInputs) (certificate : Certificate) (tables : List (List ℕ)) → settled_of purpose.Release files name ≡ Ok settled → certificate_in files settled.inputs.described.job.certificate ≡ Ok certificate
     → tables_of files settled.inputs.described.job ≡ Ok tables → released_of files name ≡ Ok (record { settled = settled; certificate = certificate; tables = tables })
 unfolding released_of
 released-is files name settled certificate tables read signed put = rw (read, signed, put) refl
@@ -59,24 +59,24 @@ inputs-of : (files : Files) (name : List ℕ) (job : SettledJob) → WasSettled 
 inputs-of files name job was = let it = ok-and (λ settled. IsSettledOf settled job) (settled_of purpose.Release files name) was in record { settled = it.0; read = it.1; is = it.2 }
 
 -- so does what stops the certificate
-pub no-certificate : (files : Files) (name : List ℕ) (job : SettledJob) (o : Option Fault) → WasSettled files name job → Fails o (certificate_in files job.described.job) → Fails o (released_of files name)
+pub no-certificate : (files : Files) (name : List ℕ) (job : SettledJob) (o : Option Fault) → WasSettled files name job → Fails o (certificate_in files job.described.job.certificate) → Fails o (released_of files name)
 no-certificate files name job o was h =
     let it = inputs-of files name job was in
-    certificate-fails files name it.settled o it.read (subst (λ (d : DescribedJob). Fails o (certificate_in files d.job)) it.is.described h)
+    certificate-fails files name it.settled o it.read (subst (λ (d : DescribedJob). Fails o (certificate_in files d.job.certificate)) it.is.described h)
 
 -- and what stops a table
-pub no-tables : (files : Files) (name : List ℕ) (job : SettledJob) (certificate : Certificate) (o : Option Fault) → WasSettled files name job → certificate_in files job.described.job ≡ Ok certificate → Fails o (tables_of files job.described.job)
+pub no-tables : (files : Files) (name : List ℕ) (job : SettledJob) (certificate : Certificate) (o : Option Fault) → WasSettled files name job → certificate_in files job.described.job.certificate ≡ Ok certificate → Fails o (tables_of files job.described.job)
     → Fails o (released_of files name)
 no-tables files name job certificate o was signed h =
     let it = inputs-of files name job was in
-    tables-fail files name it.settled certificate o it.read (subst (λ (d : DescribedJob). certificate_in files d.job ≡ Ok certificate) it.is.described signed) (subst (λ (d : DescribedJob). Fails o (tables_of files d.job)) it.is.described h)
+    tables-fail files name it.settled certificate o it.read (subst (λ (d : DescribedJob). certificate_in files d.job.certificate ≡ Ok certificate) it.is.described signed) (subst (λ (d : DescribedJob). Fails o (tables_of files d.job)) it.is.described h)
 
 -- job, certificate and tables are all that there is
-pub all-read : (files : Files) (name : List ℕ) (read : ReadRelease) → WasSettled files name read.job → certificate_in files read.job.described.job ≡ Ok read.certificate → tables_of files read.job.described.job ≡ Ok read.tables
+pub all-read : (files : Files) (name : List ℕ) (read : ReadRelease) → WasSettled files name read.job → certificate_in files read.job.described.job.certificate ≡ Ok read.certificate → tables_of files read.job.described.job ≡ Ok read.tables
     → IsOkAnd (released_of files name) (λ released. IsReleasedOf released read)
 all-read files name read was signed put =
     let it = inputs-of files name read.job was in
-    rw (released-is files name it.settled read.certificate read.tables it.read (subst (λ (d : DescribedJob). certificate_in files d.job ≡ Ok read.certificate) it.is.described signed)
+    rw (released-is files name it.settled read.certificate read.tables it.read (subst (λ (d : DescribedJob). certificate_in files d.job.certificate ≡ Ok read.certificate) it.is.described signed)
     (subst (λ (d : DescribedJob). tables_of files d.job ≡ Ok read.tables) it.is.described put))
     (record { settled = it.is; certificate = refl; tables = refl })
 
@@ -98,9 +98,9 @@ certificate-comes files name job f held was comes =
     let it = inputs-of files name job was in
     rw comes.is_file (it.settled, it.read, comes.is_name ∙ ap (λ (d : DescribedJob). d.job.certificate) it.is.described)
 
-pub tables-come : (files : Files) (name : List ℕ) (job : SettledJob) (certificate : Certificate) (f : FileRef) (held : List ℕ) → WasSettled files name job → certificate_in files job.described.job ≡ Ok certificate
+pub tables-come : (files : Files) (name : List ℕ) (job : SettledJob) (certificate : Certificate) (f : FileRef) (held : List ℕ) → WasSettled files name job → certificate_in files job.described.job.certificate ≡ Ok certificate
     → ComesToTables files job.described.job f held → ComesTo files name f held
 tables-come files name job certificate f held was signed comes =
     let it = inputs-of files name job was in
-    let here = subst (λ (d : DescribedJob). certificate_in files d.job ≡ Ok certificate) it.is.described signed in
+    let here = subst (λ (d : DescribedJob). certificate_in files d.job.certificate ≡ Ok certificate) it.is.described signed in
     rw comes.1 (it.settled, it.read, rw here refl, subst (λ (d : DescribedJob). TablesComeTo files d.job comes.0 held) it.is.described comes.2)

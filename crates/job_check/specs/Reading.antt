@@ -39,6 +39,6 @@ ComesTo files name file.Certificate held =
     × (held ≡ settled.inputs.described.job.certificate)
 ComesTo files name (file.Table t) held =
     (settled : SettledInputs) × (settled_of purpose.Release files name ≡ Ok settled)
-    × IsOk (certificate_in files settled.inputs.described.job)
+    × IsOk (certificate_in files settled.inputs.described.job.certificate)
     × TablesComeTo files settled.inputs.described.job t held
 ComesTo files name other held = InputsComeTo purpose.Release files name other held

@@ -20,6 +20,6 @@ pub record ReleasedFiles : Type 0 where
 unfoldable pub released_of : Files → List ℕ → Result ReleasedFiles Fault
 released_of files name = do
   settled ← settled_of purpose.Release files name
-  certificate ← certificate_in files settled.inputs.described.job
+  certificate ← certificate_in files settled.inputs.described.job.certificate
   tables ← tables_of files settled.inputs.described.job
   Ok (record { settled = settled; certificate = certificate; tables = tables })

@@ -28,7 +28,7 @@ pub(crate) fn read_release<S: Shelf>(
         IsReadyRelease result (S.state shelf.old) (S.state shelf.new) }
 {
     let job = read_settled(alloc, shelf, name, Purpose::Release)?;
-    let certificate = read_certificate_file(alloc, shelf, &job.described.job)?;
+    let certificate = read_certificate_file(alloc, shelf, &job.described.job.certificate)?;
     let tables = read_tables(alloc, shelf, &job.described.job)?;
     Ok(ReadRelease {
         job,

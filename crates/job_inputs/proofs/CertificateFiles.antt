@@ -9,7 +9,6 @@ use Rattle.certificate.specs.declared.certificate.Certificate.{Certificate}
 use Rattle.certificate.specs.declared.faults.CertError.{CertError}
 use Rattle.certificate.specs.declared.faults.CertError.TheVariants as error
 use Rattle.certificate.specs.declared.faults.CertWhy.{CertWhy}
-use Rattle.job_lang.specs.declared.job.Job.{Job}
 use Rattle.job_inputs.proofs.Refusing.{fails-on}
 use Rattle.job_inputs.specs.CertificateFile.{certificate_fault, certificate_in, certificate_refusal}
 use Rattle.job_inputs.specs.ReadFiles.{bytes_of_file}
@@ -25,14 +24,14 @@ pub certificate_is_for_contents : (e : CertError) → IsForContents (certificate
 certificate_is_for_contents (error.At line why) = tt
 certificate_is_for_contents error.Memory = tt
 
-pub file-stops : (files : Files) (job : Job) (o : Option Fault) → Fails o (bytes_of_file files job.certificate file.Certificate) → Fails o (certificate_in files job)
+pub file-stops : (files : Files) (name : List ℕ) (o : Option Fault) → Fails o (bytes_of_file files name file.Certificate) → Fails o (certificate_in files name)
 unfolding certificate_in
-file-stops files job o h = fails-on o (bytes_of_file files job.certificate file.Certificate) _ h
+file-stops files name o h = fails-on o (bytes_of_file files name file.Certificate) _ h
 
-pub contents-stop-it : (files : Files) (job : Job) (bytes : List ℕ) (o : Option Fault) → bytes_of_file files job.certificate file.Certificate ≡ Ok bytes → Fails o (map_fault certificate_fault (certificate_of bytes)) → Fails o (certificate_in files job)
+pub contents-stop-it : (files : Files) (name : List ℕ) (bytes : List ℕ) (o : Option Fault) → bytes_of_file files name file.Certificate ≡ Ok bytes → Fails o (map_fault certificate_fault (certificate_of bytes)) → Fails o (certificate_in files name)
 unfolding certificate_in
-contents-stop-it files job bytes o read h = rw read h
+contents-stop-it files name bytes o read h = rw read h
 
-pub certificate-is : (files : Files) (job : Job) (bytes : List ℕ) (certificate : Certificate) → bytes_of_file files job.certificate file.Certificate ≡ Ok bytes → map_fault certificate_fault (certificate_of bytes) ≡ Ok certificate → certificate_in files job ≡ Ok certificate
+pub certificate-is : (files : Files) (name : List ℕ) (bytes : List ℕ) (certificate : Certificate) → bytes_of_file files name file.Certificate ≡ Ok bytes → map_fault certificate_fault (certificate_of bytes) ≡ Ok certificate → certificate_in files name ≡ Ok certificate
 unfolding certificate_in
-certificate-is files job bytes certificate read h = rw read h
+certificate-is files name bytes certificate read h = rw read h

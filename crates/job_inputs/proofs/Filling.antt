@@ -27,6 +27,8 @@ rule-range : (one : Rule) → IsJobRule one → IsInRange one
 rule-range (rule.Freq n r) h = h
 rule-range (rule.Nk n k) h = h
 rule-range (rule.Percent p) h = h
+rule-range (rule.Pq p q) h = h
+rule-range (rule.Zero r) h = h
 
 rules-range : (rules : List Rule) → AllByRecursion IsJobRule rules → All IsInRange rules
 rules-range [] h = All-nil IsInRange

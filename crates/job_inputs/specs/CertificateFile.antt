@@ -1,8 +1,7 @@
--- The certificate that a job's file of one holds, or what is wrong with it (own).
-use Rattle.std.specs.Prelude.{ℕ, Result}
+-- The certificate that a file holds, or what is wrong with it (own).
+use Rattle.std.specs.Prelude.{ℕ, List, Result}
 use Rattle.sdc_base.specs.Steps.{◌>>=◌, map_fault}
 use Rattle.office_io.specs.Files.{Files}
-use Rattle.job_lang.specs.declared.job.Job.{Job}
 use Rattle.certificate.specs.Certificates.{certificate_of}
 use Rattle.certificate.specs.Spelling.{IsSpellable, IsWithinTypes}
 use Rattle.certificate.specs.declared.certificate.Certificate.{Certificate}
@@ -20,10 +19,10 @@ use Rattle.job_inputs.specs.declared.refusal.Refusal.TheVariants as refusal
 abbrev pub certificate_fault : ℕ × CertWhy → Fault
 certificate_fault at = fault.Certificate at.0 at.1
 
--- the certificate of a job, or the first fault of its file: Absent, TooLong, then that of its first bad line
-unfoldable pub certificate_in : Files → Job → Result Certificate Fault
-certificate_in files job = do
-  bytes ← bytes_of_file files job.certificate file.Certificate
+-- the certificate under a name, or the first fault of its file: Absent, TooLong, then that of its first bad line
+unfoldable pub certificate_in : Files → List ℕ → Result Certificate Fault
+certificate_in files name = do
+  bytes ← bytes_of_file files name file.Certificate
   map_fault certificate_fault (certificate_of bytes)
 
 -- an error of the certificate as a refusal

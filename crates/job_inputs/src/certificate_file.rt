@@ -13,16 +13,15 @@ use crate::loading::load;
 use crate::refusal::Refusal;
 use crate::stop::InputStop;
 use certificate::{CertError, Certificate, read_certificate};
-use job_lang::Job;
 use office_io::Shelf;
+use sdc_base::Text;
 use std::alloc::Global;
 
-/// The certificate of a job, from the shelf.
+/// The certificate under this name, from the shelf.
 ///
-/// The file is the one that the job names. It is looked at for Absent, then for TooLong, which is more than `2^60`
-/// bytes, and then for what it says; the first fault is the answer, of what it says with the number of the line, from
-/// 1. Where the shelf fails, the answer is `ReadFault`; want of memory is `Memory`. Whether it is a certificate of this
-/// job is not looked at.
+/// The file is looked at for Absent, then for TooLong, which is more than `2^60` bytes, and then for what it says; the
+/// first fault is the answer, of what it says with the number of the line, from 1. Where the shelf fails, the answer is
+/// `ReadFault`; want of memory is `Memory`. Of which job it is a certificate is not looked at.
 ///
 /// The file is read whole and kept in memory until the certificate is made, and the cost is that of its bytes. The
 /// format is argus's own.
@@ -30,13 +29,13 @@ use std::alloc::Global;
 pub fn read_certificate_file<S: Shelf>(
     alloc: Global,
     shelf: &mut S,
-    job: &Job,
+    name: &Text,
 ) -> Result<Certificate, InputStop>
-    ensures { IsReadFrom (λ certificate. certificate) (λ fs. certificate_in fs job.now)
-        (λ fs. IsFile FileRef.Certificate job.now.certificate) IsSoundCertificate result (S.state shelf.old)
+    ensures { IsReadFrom (λ certificate. certificate) (λ fs. certificate_in fs name.now)
+        (λ fs. IsFile FileRef.Certificate name.now) IsSoundCertificate result (S.state shelf.old)
         (S.state shelf.new) }
 {
-    let bytes = load(alloc, shelf, &job.certificate, FileRef::Certificate)?;
+    let bytes = load(alloc, shelf, name, FileRef::Certificate)?;
     let certificate = certificate_by(alloc, bytes.as_slice())?;
     Ok(certificate)
 }

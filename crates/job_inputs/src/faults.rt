@@ -37,7 +37,7 @@ pub enum Fault {
         number: u64,
         why: RowWhy,
     },
-    /// With this table the distinct cells pass 20,000.
+    /// With this table the distinct cells pass 60,000.
     Cells(u32),
     /// A line of a table's a priori file, the table from 0 and the line from 1.
     Prior {

@@ -1,13 +1,17 @@
 -- Faults of tables and of questions as stops.
 use Rattle.std.proofs.Common.{◌≡◌, ◌⊎◌, inl, inr, ℕ, Bool, List, Option, Some, Result, Ok, Err, refl, subst, sym, ◌∙◌}
 use Rattle.sdc_base.specs.Answers.{Fails}
+use Rattle.sdc_base.specs.Signs.{AreSigns}
 use Rattle.sdc_base.specs.declared.system.System.{System}
 use Rattle.office_io.specs.Files.{Files}
 use Rattle.office_io.specs.Shelves.{ShelfState}
 use Rattle.interval_audit.specs.declared.answer.AskFault.{AskFault}
 use Rattle.interval_audit.specs.declared.answer.AskFault.TheVariants as ask
+use Rattle.interval_audit.specs.WalkLimits.{HasNoWalk}
 use Rattle.cell_intervals.specs.IntervalFaults.{IsFaultOf}
+use Rattle.linked_tables.specs.BookCells.{IsBook}
 use Rattle.relations.specs.Holding.{IsSystemOf}
+use Rattle.relations.proofs.SignedTables.{one_or_two_way_has_signs}
 use Rattle.cert_check.specs.FirstFault.{fault_of}
 use Rattle.cert_check.specs.declared.faults.CheckFault.{CheckFault}
 use Rattle.cert_check.specs.declared.faults.CheckFault.TheVariants as check
@@ -91,11 +95,29 @@ table_comes_to e comes files new = λ why is. (let same : table_stop e ≡ stop.
 -- ---- questions without an answer
 
 -- a question without an answer stops the run
-pub question_stops : (job : SettledJob) (system : System) (flags : List Bool) (e : AskFault) → IsSystemOf job.book system → IsFaultOf system job.cells flags job.described.job.steps e → ComesFromSet job flags (Err (question_stop e))
-question_stops job system flags ask.Memory is fault = tt
-question_stops job system flags (ask.Work walk) is fault = record { system = system; system_is = is; not_memory = λ same. absurd cc; fault = fault }
-question_stops job system flags (ask.Wide walk place) is fault = record { system = system; system_is = is; not_memory = λ same. absurd cc; fault = fault }
-question_stops job system flags (ask.Size question hidden) is fault = record { system = system; system_is = is; not_memory = λ same. absurd cc; fault = fault }
+pub question_stops : (job : SettledJob) (system : System) (flags : List Bool) (e : AskFault) → IsBook job.book → IsSystemOf job.book system → IsFaultOf system job.cells flags job.described.job.steps e → ((signs : List Bool) → AreSigns system.relations signs → HasNoWalk e) → ComesFromSet job flags (Err (question_stop e))
+question_stops job system flags ask.Memory is_book is fault signed = tt
+question_stops job system flags (ask.Work walk) is_book is fault signed = record {
+  system = system;
+  system_is = is;
+  not_memory = λ same. absurd cc;
+  fault = fault;
+  signed = λ shape. (let signs = one_or_two_way_has_signs job.book system shape is_book is in signed signs.0 signs.1);
+}
+question_stops job system flags (ask.Wide walk place) is_book is fault signed = record {
+  system = system;
+  system_is = is;
+  not_memory = λ same. absurd cc;
+  fault = fault;
+  signed = λ shape. (let signs = one_or_two_way_has_signs job.book system shape is_book is in signed signs.0 signs.1);
+}
+question_stops job system flags (ask.Size question hidden) is_book is fault signed = record {
+  system = system;
+  system_is = is;
+  not_memory = λ same. absurd cc;
+  fault = fault;
+  signed = λ shape. tt;
+}
 
 -- where the answer for a hidden set stops the inputs, that is for want of memory
 pub set_memory : (job : SettledJob) (flags : List Bool) (r : Result IntervalFile IntervalStop) (why : InputStop) → ComesFromSet job flags r → r ≡ Err (stop.Inputs why) → why ≡ input.Memory

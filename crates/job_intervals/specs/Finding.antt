@@ -5,7 +5,9 @@ use Rattle.sdc_base.specs.Answers.{Fails}
 use Rattle.sdc_base.specs.declared.system.System.{System}
 use Rattle.interval_audit.specs.declared.answer.AskFault.{AskFault}
 use Rattle.interval_audit.specs.declared.answer.AskFault.TheVariants as ask
+use Rattle.interval_audit.specs.WalkLimits.{HasNoWalk}
 use Rattle.relations.specs.Holding.{IsSystemOf}
+use Rattle.relations.specs.TableSigns.{IsOneOrTwoWay}
 use Rattle.cell_intervals.specs.IntervalFaults.{IsFaultOf}
 use Rattle.cell_intervals.specs.IntervalTexts.{interval_text}
 use Rattle.cell_intervals.specs.Intervals.{AreIntervals}
@@ -34,13 +36,14 @@ pub record IsFileFor (job : SettledJob) (flags : List Bool) (file : IntervalFile
   pub bytes : file.bytes ≡ interval_text intervals
   pub cells : file.cells ≡ length intervals
 
--- the fault is that of the first question about a hidden cell that has no answer within the job's steps, and isn't want
--- of memory
+-- The fault is that of the first question about a hidden cell that has no answer within the job's steps, and isn't want
+-- of memory. Where the job has one table of one variable, or of two flat ones, no walk stopped short.
 pub record IsStuckAt (job : SettledJob) (flags : List Bool) (why : AskFault) : Type 0 where
   pub system : System
   pub system_is : IsSystemOf job.book system
   pub not_memory : why ≢ ask.Memory
   pub fault : IsFaultOf system job.cells flags job.described.job.steps why
+  pub signed : IsOneOrTwoWay job.book.trees job.book.tables → HasNoWalk why
 
 -- the answer for a hidden set: the file of its intervals, or the fault of the first question without an answer, want of
 -- memory aside

@@ -75,6 +75,8 @@ fn file_for(
     ensures { ComesFromSet shelved.now.job hidden.now.flags result }
 {
     let job = &shelved.job;
+    // for the proof: what holds of every book
+    let _known = job.book.cells();
     let system = relations_of(alloc, &job.book)?;
     let steps = job.described.job.steps;
     let intervals = intervals_of(alloc, &system, job.cells.as_slice(), hidden, steps)?;

@@ -40,12 +40,12 @@ const ROUNDED: &str =
 
 // A certificate of a plan, one of repairs alone, and one of a rounding.
 const PLANNED: &str =
-    "argus certificate 1\nmethod MOD\ncells 9\nrelations 6\nhidden 4 5 7 8\nstep 1 0,0 4 4,5,7,8\nneed 5 4 above 1 4:1\nneed 7 4 above 1 3:-1 4:1 5:1\nneed 8 4 above 1 3:-1 4:1\nworld 4 above 1 6 -6 -6 6\nworld 4 below 1 -6 6 6 -6\nend\n";
+    "argus certificate 2\nmethod MOD\ncells 9\nrelations 6\nhidden 4 5 7 8\nstep 1 0,0 4 4,5,7,8\nneed 5 4 above 1 4:1\nneed 7 4 above 1 3:-1 4:1 5:1\nneed 8 4 above 1 3:-1 4:1\nworld 4 above 1 4:6 5:-6 7:-6 8:6\nworld 4 below 1 4:-6 5:6 7:6 8:-6\nend\n";
 
 const REPAIRED: &str =
-    "argus certificate 1\nmethod MOD\ncells 9\nrelations 6\nhidden 4 5 7 8\nrepair 5 4 above 1 4:1\nrepair 8 4 above 1 3:-1 4:1\nrepair 7 4 above 1 3:-1 4:1 5:1\nneed 5 4 above 1 4:1\nneed 7 4 above 1 3:-1 4:1 5:1\nneed 8 4 above 1 3:-1 4:1\nworld 4 above 1 6 -6 -6 6\nworld 4 below 1 -6 6 6 -6\nend\n";
+    "argus certificate 2\nmethod MOD\ncells 9\nrelations 6\nhidden 4 5 7 8\nrepair 5 4 above 1 4:1\nrepair 8 4 above 1 3:-1 4:1\nrepair 7 4 above 1 3:-1 4:1 5:1\nneed 5 4 above 1 4:1\nneed 7 4 above 1 3:-1 4:1 5:1\nneed 8 4 above 1 3:-1 4:1\nworld 4 above 1 4:6 5:-6 7:-6 8:6\nworld 4 below 1 4:-6 5:6 7:6 8:-6\nend\n";
 
-const ROUNDING: &str = "argus certificate 1\nmethod RND 5\ncells 9\nrelations 6\nend\n";
+const ROUNDING: &str = "argus certificate 2\nmethod RND 5\ncells 9\nrelations 6\nend\n";
 
 fn cells_of(alloc: Global, rows: &[Row]) -> Result<Vec<Cell>, Fail> {
     let mut cells = Vec::new(alloc);
@@ -311,20 +311,34 @@ fn faults_of_certificates(rt: HostRuntime) -> Result<(), Fail> {
             CheckFault::RepairCell(0),
         ),
         ("world 4 below", "world 4 above", CheckFault::WorldCell(1)),
-        ("world 4 below 1 -6 6 6 -6\n", "", CheckFault::WorldCell(1)),
         (
-            "above 1 6 -6",
-            "above 1 7 -6",
+            "world 4 below 1 4:-6 5:6 7:6 8:-6\n",
+            "",
+            CheckFault::WorldCell(1),
+        ),
+        (
+            "above 1 4:6 5:-6",
+            "above 1 4:7 5:-6",
             CheckFault::World(0, WorldFault::Relation(2)),
         ),
         (
-            "below 1 -6 6 6 -6",
-            "below 1 -5 5 5 -5",
+            "above 1 4:6",
+            "above 1 3:1 4:6",
+            CheckFault::World(0, WorldFault::Shown(3)),
+        ),
+        (
+            "7:-6 8:6\n",
+            "7:-6 9:6\n",
+            CheckFault::World(0, WorldFault::Order(3)),
+        ),
+        (
+            "below 1 4:-6 5:6 7:6 8:-6",
+            "below 1 4:-5 5:5 7:5 8:-5",
             CheckFault::NotReached(4, Side::Below),
         ),
         (
-            "need 8 4 above 1 3:-1 4:1\nworld 4 above 1 6",
-            "world 4 above 1 7",
+            "need 8 4 above 1 3:-1 4:1\nworld 4 above 1 4:6",
+            "world 4 above 1 4:7",
             CheckFault::World(0, WorldFault::Relation(2)),
         ),
         ("need 7 4", "need 8 4", CheckFault::NeedCell(1)),
@@ -381,12 +395,12 @@ fn faults_of_repairs(rt: HostRuntime) -> Result<(), Fail> {
 #[test]
 fn faults_of_hidden_sets_and_tables(rt: HostRuntime) -> Result<(), Fail> {
     let alloc = rt.alloc();
-    let shown = "argus certificate 1\nmethod MOD\ncells 9\nrelations 6\nhidden 5 7 8\nend\n";
+    let shown = "argus certificate 2\nmethod MOD\ncells 9\nrelations 6\nhidden 5 7 8\nend\n";
     assert_eq!(rt;
         planned(&rt, alloc, SUPPRESSED, shown)?,
         Some(CheckFault::PrimaryShown(4))
     );
-    let hidden = "argus certificate 1\nmethod MOD\ncells 9\nrelations 6\nhidden 3 4 5\nend\n";
+    let hidden = "argus certificate 2\nmethod MOD\ncells 9\nrelations 6\nhidden 3 4 5\nend\n";
     assert_eq!(rt;
         planned(&rt, alloc, SUPPRESSED, hidden)?,
         Some(CheckFault::FixedHidden(3))

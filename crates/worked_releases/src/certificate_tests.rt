@@ -6,7 +6,69 @@ use std::rt::HostRuntime;
 use std::test::Fail;
 
 // The certificate of a realistic hierarchical table.
-const REALISTIC: &str = "argus certificate 1\n\
+const REALISTIC: &str = "argus certificate 2\n\
+method MOD\n\
+cells 6\n\
+relations 3\n\
+hidden 1 3 4 5\n\
+step 1 0 4 1,4\n\
+step 1 1 1 1,3\n\
+need 1 4 above 1 0:1\n\
+need 3 4 above 1 0:1 1:1\n\
+world 4 above 1 1:-3 3:-3 4:3 5:3\n\
+world 4 below 1 1:3 3:3 4:-3 5:-3\n\
+world 5 above 1 1:-3 3:-3 4:3 5:3\n\
+world 5 below 1 1:3 3:3 4:-3 5:-3\n\
+end\n";
+
+// The certificate of a flat table without primary cells.
+const FLAT: &str = "argus certificate 2\n\
+method MOD\n\
+cells 3\n\
+relations 1\n\
+end\n";
+
+// Certificates of a two by two table with shown margins: by repairs alone, and by a trail with needs.
+const REPAIRED: &str = "argus certificate 2\n\
+method MOD\n\
+cells 9\n\
+relations 6\n\
+hidden 4 5 7 8\n\
+repair 5 4 above 1 4:1\n\
+repair 8 4 above 1 3:-1 4:1\n\
+repair 7 4 above 1 3:-1 4:1 5:1\n\
+world 4 above 1 4:6 5:-6 7:-6 8:6\n\
+world 4 below 1 4:-6 5:6 7:6 8:-6\n\
+end\n";
+
+const PLANNED: &str = "argus certificate 2\n\
+method MOD\n\
+cells 9\n\
+relations 6\n\
+hidden 4 5 7 8\n\
+step 1 0,0 4 4,5,7,8\n\
+need 5 4 above 1 4:1\n\
+need 7 4 above 1 3:-1 4:1 5:1\n\
+need 8 4 above 1 3:-1 4:1\n\
+world 4 above 1 4:6 5:-6 7:-6 8:6\n\
+world 4 below 1 4:-6 5:6 7:6 8:-6\n\
+end\n";
+
+// Numbers at the ends of their ranges, and a complete table without moves.
+const WIDE: &str = "argus certificate 2\n\
+method RND -170141183460469231731687303715884105728\n\
+cells 4294967295\n\
+relations 0\n\
+hidden 0 4294967295\n\
+step 4294967295 0,1,2,3,4,5,6,4294967295 0 0,4294967295\n\
+repair 0 0 below 170141183460469231731687303715884105727\n\
+repair 0 0 above 1 0:-170141183460469231731687303715884105728 4294967295:170141183460469231731687303715884105727\n\
+world 0 below 1\n\
+world 0 below 2 4294967295:-1\n\
+end\n";
+
+// Two of them in the first version.
+const REALISTIC_FIRST: &str = "argus certificate 1\n\
 method MOD\n\
 cells 6\n\
 relations 3\n\
@@ -21,41 +83,7 @@ world 5 above 1 -3 -3 3 3\n\
 world 5 below 1 3 3 -3 -3\n\
 end\n";
 
-// The certificate of a flat table without primary cells.
-const FLAT: &str = "argus certificate 1\n\
-method MOD\n\
-cells 3\n\
-relations 1\n\
-end\n";
-
-// Certificates of a two by two table with shown margins: by repairs alone, and by a trail with needs.
-const REPAIRED: &str = "argus certificate 1\n\
-method MOD\n\
-cells 9\n\
-relations 6\n\
-hidden 4 5 7 8\n\
-repair 5 4 above 1 4:1\n\
-repair 8 4 above 1 3:-1 4:1\n\
-repair 7 4 above 1 3:-1 4:1 5:1\n\
-world 4 above 1 6 -6 -6 6\n\
-world 4 below 1 -6 6 6 -6\n\
-end\n";
-
-const PLANNED: &str = "argus certificate 1\n\
-method MOD\n\
-cells 9\n\
-relations 6\n\
-hidden 4 5 7 8\n\
-step 1 0,0 4 4,5,7,8\n\
-need 5 4 above 1 4:1\n\
-need 7 4 above 1 3:-1 4:1 5:1\n\
-need 8 4 above 1 3:-1 4:1\n\
-world 4 above 1 6 -6 -6 6\n\
-world 4 below 1 -6 6 6 -6\n\
-end\n";
-
-// Numbers at the ends of their ranges, and moves of 0.
-const WIDE: &str = "argus certificate 1\n\
+const WIDE_FIRST: &str = "argus certificate 1\n\
 method RND -170141183460469231731687303715884105728\n\
 cells 4294967295\n\
 relations 0\n\
@@ -87,10 +115,10 @@ fn answer(alloc: Global, text: &[u8]) -> Option<Result<[usize; 5], (u64, CertWhy
     }
 }
 
-// A text with this line behind a head of four lines with two hidden cells.
-fn with_line(alloc: Global, line: &str) -> Result<String, Fail> {
+// A text of a version with this line behind a head of four lines with two hidden cells.
+fn with_line(alloc: Global, version: u8, line: &str) -> Result<String, Fail> {
     let text = format!(in alloc;
-        "argus certificate 1\nmethod MOD\ncells 6\nrelations 3\nhidden 1 3\n{line}\nend\n"
+        "argus certificate {version}\nmethod MOD\ncells 6\nrelations 3\nhidden 1 3\n{line}\nend\n"
     )?;
     Ok(text)
 }
@@ -119,6 +147,16 @@ fn certificates_are_written_as_they_were_read(rt: HostRuntime) {
     let alloc = rt.alloc();
     for text in [FLAT, REPAIRED, PLANNED, REALISTIC, WIDE] {
         assert!(rt; is_same_again(alloc, text.as_bytes()));
+    }
+}
+
+#[test]
+fn first_versions_are_written_in_the_second(rt: HostRuntime) {
+    let alloc = rt.alloc();
+    for (first, second) in [(REALISTIC_FIRST, REALISTIC), (WIDE_FIRST, WIDE)] {
+        let written = written_again(alloc, first.as_bytes());
+        let bytes = written.expect(&rt, "it is a certificate");
+        assert_eq!(rt; bytes.as_slice(), second.as_bytes());
     }
 }
 
@@ -167,13 +205,18 @@ fn what_a_certificate_says(rt: HostRuntime) {
     world_is(&rt, &certificate);
 }
 
+// Whether it is the first line of a version.
+fn is_first_line(text: &[u8]) -> bool {
+    text == b"argus certificate 1".as_slice() || text == b"argus certificate 2".as_slice()
+}
+
 // The first fault of a text that was cut off: its last line has no LF or isn't there, and its first words may be cut.
 fn fault_of_cut(text: &[u8]) -> (u64, CertWhy) {
     let ends = text.iter().filter(|b| **b == b'\n').count() as u64;
     let why = match text.last() {
         None => CertWhy::NoEnd,
         Some(b'\n') => CertWhy::NoEnd,
-        Some(_) if ends == 0 && text != b"argus certificate 1".as_slice() => CertWhy::Version,
+        Some(_) if ends == 0 && !is_first_line(text) => CertWhy::Version,
         Some(_) => CertWhy::Shape,
     };
     (ends.saturating_add(1), why)
@@ -195,6 +238,7 @@ fn each_cut_of_a_certificate_is_refused_at_its_last_line(rt: HostRuntime) {
         Some(Ok([4, 2, 0, 2, 4]))
     );
     cuts_are_refused(&rt, alloc, REALISTIC.as_bytes());
+    cuts_are_refused(&rt, alloc, REALISTIC_FIRST.as_bytes());
 }
 
 #[test]
@@ -205,8 +249,10 @@ fn texts_and_their_first_faults(rt: HostRuntime) {
         ("", Err((1, NoEnd))),
         ("argus certificate 1", Err((1, Shape))),
         ("argus certificate 1\n", Err((2, NoEnd))),
-        ("argus certificate 2\n", Err((1, Version))),
-        ("argus certificate 2", Err((1, Version))),
+        ("argus certificate 2", Err((1, Shape))),
+        ("argus certificate 2\n", Err((2, NoEnd))),
+        ("argus certificate 3\n", Err((1, Version))),
+        ("argus certificate 02\n", Err((1, Version))),
         ("argus certificate 1\r\n", Err((1, Version))),
         ("\n", Err((1, Version))),
         ("argus certificate 1\nmethod MOD", Err((2, Shape))),
@@ -331,7 +377,7 @@ fn lines_and_their_faults(rt: HostRuntime) -> Result<(), Fail> {
         ("end", Err((7, Shape))),
     ];
     for (line, wanted) in rows {
-        let text = with_line(alloc, line)?;
+        let text = with_line(alloc, 1, line)?;
         assert_eq!(rt; answer(alloc, text.as_bytes()), Some(wanted));
     }
     Ok(())
@@ -340,15 +386,42 @@ fn lines_and_their_faults(rt: HostRuntime) -> Result<(), Fail> {
 #[test]
 fn kinds_of_lines_in_order(rt: HostRuntime) -> Result<(), Fail> {
     let alloc = rt.alloc();
-    let text = with_line(alloc, "repair 1 4 above 1\nstep 1 0 4 1")?;
+    let text = with_line(alloc, 1, "repair 1 4 above 1\nstep 1 0 4 1")?;
     assert_eq!(rt;
         answer(alloc, text.as_bytes()),
         Some(Err((7, CertWhy::Shape)))
     );
-    let text = with_line(alloc, "world 4 above 1 0 0\nneed 1 4 above 1")?;
+    let text = with_line(alloc, 1, "world 4 above 1 0 0\nneed 1 4 above 1")?;
     assert_eq!(rt;
         answer(alloc, text.as_bytes()),
         Some(Err((7, CertWhy::Shape)))
     );
+    Ok(())
+}
+
+#[test]
+fn complete_tables_in_the_second_version(rt: HostRuntime) -> Result<(), Fail> {
+    use CertWhy::{Number, Order, Shape};
+    let alloc = rt.alloc();
+    let rows = [
+        ("world 4 above 1", Ok([2, 0, 0, 0, 1])),
+        ("world 4 above 1 1:-3 4:2", Ok([2, 0, 0, 0, 1])),
+        ("world 4 above 1 4294967295:1", Ok([2, 0, 0, 0, 1])),
+        ("world 4 above 1 4294967296:1", Err((6, Number))),
+        ("world 4 above 1 1:0", Err((6, Number))),
+        ("world 4 above 1 1:-0", Err((6, Number))),
+        ("world 4 above 1 01:3", Err((6, Number))),
+        ("world 4 above 0 1:3", Err((6, Number))),
+        ("world 4 above 1 1:3 1:4", Err((6, Order))),
+        ("world 4 above 1 3:1 1:3", Err((6, Order))),
+        ("world 4 above 1 3:1 1:0", Err((6, Number))),
+        ("world 4 above 1 -3 0", Err((6, Shape))),
+        ("world x above 1 3:1 1", Err((6, Shape))),
+        ("world 4 above 1 ", Err((6, Shape))),
+    ];
+    for (line, wanted) in rows {
+        let text = with_line(alloc, 2, line)?;
+        assert_eq!(rt; answer(alloc, text.as_bytes()), Some(wanted));
+    }
     Ok(())
 }

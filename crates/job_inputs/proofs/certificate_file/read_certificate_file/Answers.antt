@@ -16,7 +16,7 @@ returns-in_err-bytes g c =
     let e = c.in_err-bytes.field-0.0 in
     rw (p.1, p.2)
     (look-stops _ _ _ _ _ _ e _ _ _ (only-read-nothing _) c.in_err-bytes.ensures
-    (λ fs told fails. file-stops fs c.args.job.now (stopped_for e) fails)
+    (λ fs told fails. file-stops fs c.args.name.now (stopped_for e) fails)
     (λ fs told f held comes. comes))
 
 pub returns-in_err-certificate : goal.returns-in_err-certificate
@@ -27,7 +27,7 @@ returns-in_err-certificate g c =
     let refused = subst (λ (bytes : List ℕ). Fails (refused_for r) (map_fault certificate_fault (certificate_of bytes))) c.as_slice.ensures.value c.in_err-certificate.ensures.told in
     rw (p.1, p.2)
     (contents-stop _ _ _ r _ _ first.only_read c.in_err-certificate.ensures.contents
-    (λ fs told. contents-stop-it fs c.args.job.now c.in_ok-bytes.bytes.items (refused_for r) (first.told fs told) refused))
+    (λ fs told. contents-stop-it fs c.args.name.now c.in_ok-bytes.bytes.items (refused_for r) (first.told fs told) refused))
 
 pub returns : goal.returns
 returns g c =
@@ -35,5 +35,5 @@ returns g c =
     let certificate = c.in_ok-certificate.certificate in
     let given = subst (λ (bytes : List ℕ). map_fault certificate_fault (certificate_of bytes) ≡ Ok certificate) c.as_slice.ensures.value c.in_ok-certificate.ensures.told in
     look-ends _ _ _ _ _ _ first.only_read (only-read-nothing _)
-    (λ fs told. certificate-is fs c.args.job.now c.in_ok-bytes.bytes.items certificate (first.told fs told) given)
+    (λ fs told. certificate-is fs c.args.name.now c.in_ok-bytes.bytes.items certificate (first.told fs told) given)
     c.in_ok-certificate.ensures.sound

@@ -19,8 +19,9 @@ returns-in_err-intervals c =
     let job = c.args.shelved.now.job in
     let flags = c.args.hidden.now.flags in
     rw (p.1, p.2)
-    (question_stops job c.in_ok-system.system flags e (record { cells = c.in_ok-system.ensures.cells; relations = c.in_ok-system.ensures.exact })
-    (subst (λ (cells : List Cell). IsFaultOf c.in_ok-system.system cells flags job.described.job.steps e) c.as_slice.ensures c.in_err-intervals.ensures.cause))
+    (question_stops job c.in_ok-system.system flags e c.cells-known.ensures.book (record { cells = c.in_ok-system.ensures.cells; relations = c.in_ok-system.ensures.exact })
+    (subst (λ (cells : List Cell). IsFaultOf c.in_ok-system.system cells flags job.described.job.steps e) c.as_slice.ensures c.in_err-intervals.ensures.cause)
+    c.in_err-intervals.ensures.signed)
 
 pub overflow_cast-cells : goal.overflow_cast-cells
 overflow_cast-cells c =
