@@ -1,0 +1,17 @@
+pub mod Falls
+pub mod OneRecord
+pub mod AskedCells
+pub mod Knowing
+pub mod Thinning
+pub mod Holding
+pub mod Resisting
+pub mod Choices
+pub mod Tries
+pub mod Listed
+pub mod AllAttacks
+pub mod AcceptedExtras
+pub mod Halting
+pub mod GuardOrder
+pub mod Concluding
+pub mod Saying
+pub mod EachAttack

@@ -1,0 +1,11 @@
+use Rattle.std.proofs.Common.{◌∙◌, ◌++◌, ◌∷◌, [], List, Bool, ap, sym, map, arith}
+use Rattle.std.specs.List.{range_with_len}
+use Rattle.std.proofs.lemmas.List.FromFn.{map-range_with_len_more}
+use Rattle.attackers.specs.KnownCells.{is_left}
+use Rattle.attackers.proofs.known.without_known.Goals as goal
+
+pub cells-preserved : goal.cells-preserved
+cells-preserved c =
+    c.in_ok-push.ensures.items ∙ ap (λ (l : List Bool). l ++ c.is_left.result ∷ []) c.cells.invariant
+    ∙ ap (λ b. map (is_left c.args.soles.now c.args.row c.args.flags.now) (range_with_len 0 c.cells.cell) ++ b ∷ []) c.is_left.ensures
+    ∙ sym (map-range_with_len_more (is_left c.args.soles.now c.args.row c.args.flags.now) 0 c.cells.cell c.cells.cell (omega arith))

@@ -1,0 +1,7 @@
+use Rattle.attackers.specs.Sieges.{case_of}
+use Rattle.attackers.proofs.Tries.{none_renewed}
+use Rattle.attackers.proofs.trial.ask_anew.Goals as goal
+
+pub places-init : goal.places-init
+places-init c =
+    none_renewed (case_of c.args.siege.now) c.args.siege.now.soles.now c.args.siege.now.attacks.now c.args.hidden.now.flags c.args.cell c.args.guards.now c.empty-news.result c.empty-news.ensures c.requires.holds

@@ -1,0 +1,13 @@
+pub mod Alone
+pub mod KnownCells
+pub mod AttackOrder
+pub mod Extras
+pub mod SiegeParts
+pub mod Sieges
+pub mod Dropping
+pub mod ExtraFaults
+pub mod ExtraAcceptance
+pub mod GuardStops
+pub mod Guarding
+pub mod Narrowing
+pub mod Laws

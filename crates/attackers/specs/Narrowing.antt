@@ -1,0 +1,34 @@
+-- What guarding against a list of attacks comes to (own).
+use Rattle.std.specs.Prelude.{◌≡◌, ℕ, Bool, List, length}
+use Rattle.sdc_base.specs.HiddenSets.{IsPermitted}
+use Rattle.worlds.specs.ProtectFaults.{asked_of}
+use Rattle.certificate.specs.declared.certificate.WorldLine.{WorldLine}
+use Rattle.certificate.specs.declared.extra.Extra.{Extra}
+use Rattle.attackers.specs.declared.extra.Guarded.{Guarded}
+use Rattle.attackers.specs.declared.extra.Guarded.TheVariants.{Guards, CannotAgainst}
+use Rattle.attackers.specs.declared.siege.Siege.{Siege}
+use Rattle.attackers.specs.Extras.{subjects_of}
+use Rattle.attackers.specs.Sieges.{case_of, IsCannot}
+use Rattle.attackers.specs.Dropping.{IsTried}
+use Rattle.attackers.specs.Guarding.{guards_in_order}
+
+-- An extra is what is left when all extra cells have been tried: the cells that have needs, and the guards in the order
+-- of what is asked.
+pub record IsNarrowed (siege : Siege) (first : List Bool) (extra : Extra) : Type 0 where
+  pub larger : List Bool
+  pub flags : List Bool
+  pub guards : List WorldLine
+  pub dropped : List ℕ
+  pub tried : IsTried (case_of siege) siege.soles.now siege.attacks.now first larger (length siege.cells.now) flags
+      guards extra.needs dropped
+  pub each : length flags ≡ siege.system.now.cells
+  pub permitted : IsPermitted siege.cells.now flags
+  pub cells_are : extra.cells ≡ subjects_of extra.needs
+  pub guards_are : extra.guards ≡ guards_in_order (asked_of 0 siege.cells.now) guards
+
+-- what guarding against the attacks comes to
+abbrev pub IsOutcome : Siege → List Bool → Guarded → Type 0
+IsOutcome siege first (Guards extra) = IsNarrowed siege first extra
+IsOutcome siege first (CannotAgainst row cell side multipliers) =
+    IsCannot (case_of siege) siege.soles.now siege.attacks.now (record { row = row; cell = cell; side = side })
+    multipliers

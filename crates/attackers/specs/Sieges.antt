@@ -1,0 +1,129 @@
+-- How far guarding against attacks has come (own).
+use Rattle.std.specs.Prelude.{◌≡◌, ℕ, ℤ, ◌+◌, ◌<◌, Bool, true, List, length, take, slice_get, All, Option, None, Some}
+use Rattle.sdc_base.specs.declared.cell.Kind.TheVariants.{Primary}
+use Rattle.sdc_base.specs.HiddenSets.{IsPermitted, full_set}
+use Rattle.worlds.specs.declared.multipliers.Multipliers.{Multipliers}
+use Rattle.worlds.specs.WorldFaults.{IsGivenWorld}
+use Rattle.interval_audit.specs.declared.answer.Answer.{Answer}
+use Rattle.interval_audit.specs.declared.answer.Answer.TheVariants.{Reaches, Stops}
+use Rattle.interval_audit.specs.declared.answer.AskFault.{AskFault}
+use Rattle.certificate.specs.declared.certificate.WorldLine.{WorldLine}
+use Rattle.repair.specs.HidingOrder.{Case, case, IsOfKind}
+use Rattle.repair.specs.KeptWorlds.{shown_count}
+use Rattle.repair.specs.LevelQuestions.{AreGiven, HasCause}
+use Rattle.attackers.specs.declared.attack.Attack.{Attack}
+use Rattle.certificate.specs.declared.extra.ExtraNeed.{ExtraNeed}
+use Rattle.attackers.specs.declared.progress.Progress.{Progress}
+use Rattle.attackers.specs.declared.siege.Siege.{Siege}
+use Rattle.attackers.specs.declared.serving.Impossible.{Impossible}
+use Rattle.attackers.specs.declared.serving.Step.{Step}
+use Rattle.attackers.specs.declared.serving.Step.TheVariants.{Served, Extended, Cannot}
+use Rattle.attackers.specs.KnownCells.{without_known, target_of, Guards, GuardsBefore, serves, is_served}
+use Rattle.attackers.specs.Extras.{hide_cells, subjects_of, Unguards, IsInTurn, EachExtra, LastIsNotBehind}
+
+-- what is to be guarded
+abbrev pub case_of : Siege → Case
+case_of siege = case siege.system.now siege.cells.now
+
+-- Guards hold against attacks: their worlds are ones for the hidden set, they stand for primary cells, and against each
+-- attack some of them serves.
+pub record HoldGuards (c : Case) (soles : List (Option ℕ)) (flags : List Bool) (attacks : List Attack)
+    (guards : List WorldLine) : Type 0 where
+  pub are_worlds : All (λ line. IsGivenWorld c.system c.cells flags line.world) guards
+  pub are_lines : All (λ line. IsOfKind c.cells line.cell Primary) guards
+  pub served : All (λ attack. is_served c.cells soles attack guards ≡ true) attacks
+
+-- Guarding is ready for a question: the hidden set is permitted, and there are a flag of it and a number of the scratch
+-- for each cell of the system.
+pub record IsReady (siege : Siege) (scratch : List ℤ) (progress : Progress) : Type 0 where
+  pub long : length scratch ≡ siege.system.now.cells
+  pub each : length progress.hidden.flags ≡ siege.system.now.cells
+  pub permitted : IsPermitted siege.cells.now progress.hidden.flags
+
+-- guards hold against the attacks before a place
+abbrev pub AreHeldBefore : Siege → ℕ → Progress → Type 0
+AreHeldBefore siege place progress =
+    HoldGuards (case_of siege) siege.soles.now progress.hidden.flags (take place siege.attacks.now) progress.guards
+
+-- Hiding extra cells has come to a place from the first set: the hidden set is what they made of it, each is in turn, and
+-- none is for an attack behind the place.
+pub record IsExtended (c : Case) (soles : List (Option ℕ)) (prices : List ℕ) (attacks : List Attack)
+    (first flags : List Bool) (extras : List ExtraNeed) (place : ℕ) : Type 0 where
+  pub hidden_is : flags ≡ hide_cells first (subjects_of extras)
+  pub each : EachExtra (IsInTurn c soles prices attacks) first extras
+  pub onward : LastIsNotBehind attacks extras place
+
+-- the same of a siege
+abbrev pub IsExtendedUpTo : Siege → ℕ → List Bool → Progress → Type 0
+IsExtendedUpTo siege place first progress =
+    IsExtended (case_of siege) siege.soles.now siege.prices.now siege.attacks.now first progress.hidden.flags
+    progress.extras place
+
+-- from whatever set hiding extra cells had come to the place, it still has
+abbrev pub StaysExtended : Siege → ℕ → Progress → Progress → Type 0
+StaysExtended siege place before after =
+    (first : List Bool) → IsExtendedUpTo siege place first before → IsExtendedUpTo siege place first after
+
+-- what asking about an attack comes to: a world for the hidden set that serves against it, or multipliers that refute it,
+-- as its question is answered
+abbrev pub IsAnswerAgainst : Case → List (Option ℕ) → List Bool → Attack → Answer → Type 0
+IsAnswerAgainst c soles flags attack (Reaches world) =
+    IsGivenWorld c.system c.cells flags world × (serves c.cells soles attack world ≡ true)
+IsAnswerAgainst c soles flags attack (Stops best world multipliers) = Unguards c soles flags attack multipliers
+    × AreGiven c.system c.cells (without_known soles attack.row flags) (target_of attack) multipliers
+
+-- the attack at a place, with multipliers that refute it for the hidden set, as its question is answered
+pub record IsRefutedAt (c : Case) (soles : List (Option ℕ)) (attacks : List Attack) (flags : List Bool) (place : ℕ)
+    (attack : Attack) (multipliers : Multipliers) : Type 0 where
+  pub stands : slice_get attacks place ≡ Some attack
+  pub before : GuardsBefore c soles flags attacks place
+  pub refutes : Unguards c soles flags attack multipliers
+  pub gives : AreGiven c.system c.cells (without_known soles attack.row flags) (target_of attack) multipliers
+
+-- No hidden set guards against an attack: multipliers refute it for the full set without what the contributor knows; and
+-- the full set guards against all that stand before it.
+pub record IsCannot (c : Case) (soles : List (Option ℕ)) (attacks : List Attack) (attack : Attack)
+    (multipliers : Multipliers) : Type 0 where
+  pub place : ℕ
+  pub stands : slice_get attacks place ≡ Some attack
+  pub before : GuardsBefore c soles (full_set c.cells) attacks place
+  pub refutes : Unguards c soles (full_set c.cells) attack multipliers
+  pub unguarded : ¬ Guards c soles (full_set c.cells) attack
+
+-- the same of what was found
+abbrev pub IsImpossible : Siege → Impossible → Type 0
+IsImpossible siege found =
+    IsCannot (case_of siege) siege.soles.now siege.attacks.now found.attack found.multipliers
+
+-- what the attack at a place comes to: a guard serves; or an extra cell more; or that no hidden set guards against it
+abbrev pub IsStep : Siege → ℕ → Progress → Progress → Step → Type 0
+IsStep siege place before after Served = AreHeldBefore siege (place + 1) after
+IsStep siege place before after Extended =
+    AreHeldBefore siege place after × (shown_count after.hidden.flags < shown_count before.hidden.flags)
+IsStep siege place before after (Cannot found) = IsImpossible siege found
+
+-- guards hold against the attacks before a place, or no hidden set guards against one
+abbrev pub AreHeldOr : Siege → ℕ → Progress → Option Impossible → Type 0
+AreHeldOr siege place progress None = AreHeldBefore siege place progress
+AreHeldOr siege place progress (Some found) = IsImpossible siege found
+
+-- A question about the attack at a place, asked of a hidden set without what its contributor knows: the set guards
+-- against all attacks before it, and the fault has its cause in it.
+pub record IsAsked (c : Case) (soles : List (Option ℕ)) (attacks : List Attack) (flags : List Bool) (limit : ℕ)
+    (fault : AskFault) (row place : ℕ) : Type 0 where
+  pub attack : Attack
+  pub stands : slice_get attacks place ≡ Some attack
+  pub by_row : attack.row ≡ row
+  pub before : GuardsBefore c soles flags attacks place
+  pub cause : HasCause c.system c.cells (without_known soles row flags) (target_of attack) limit fault
+
+-- the same of a siege
+abbrev pub IsAskedOf : Siege → List Bool → AskFault → ℕ → ℕ → Type 0
+IsAskedOf siege flags fault row place =
+    IsAsked (case_of siege) siege.soles.now siege.attacks.now flags siege.limit fault row place
+
+-- the question at some place has a fault, and hiding extra cells has come to it from the first set
+pub record IsHalted (siege : Siege) (first : List Bool) (progress : Progress) (fault : AskFault) (row : ℕ) : Type 0 where
+  pub place : ℕ
+  pub asked : IsAskedOf siege progress.hidden.flags fault row place
+  pub is_extended : IsExtendedUpTo siege place first progress

@@ -1,0 +1,234 @@
+ghost use Rattle.std.specs.Prelude.{◌≡◌, ◌↔◌, ◌≤◌, IsTrue, length, All, IfOk, IfErr};
+ghost use Rattle.sdc_base.specs.HiddenSets.{full_set, IsPermitted};
+ghost use Rattle.cost_rule.specs.Costs.{AreCosted};
+ghost use Rattle.worlds.specs.ProtectFaults.{asked_of};
+ghost use Rattle.repair.specs.HidingOrder.{case, prices_of};
+ghost use Rattle.repair.specs.KeptWorlds.{HasModestLevels};
+ghost use Rattle.attackers.specs.AttackOrder as order;
+ghost use Rattle.attackers.specs.KnownCells.{GuardsAll};
+ghost use Rattle.attackers.specs.Sieges.{case_of, HoldGuards, IsExtendedUpTo};
+ghost use Rattle.attackers.specs.GuardStops.{StopsAsTold};
+ghost use Rattle.attackers.specs.Guarding.{IsGuarded, is_cannot};
+ghost use Rattle.attackers.specs.Narrowing.{IsOutcome};
+
+use crate::collecting::extra_of;
+use crate::extra::{GuardStop, Guarded};
+use crate::order::unserved_attacks;
+use crate::progress::Progress;
+use crate::serving::guard_all;
+use crate::siege::Siege;
+use crate::stopping::{out_of_memory, stop_with};
+use crate::trying::{Findings, try_all};
+use cost_rule::{CostRule, TellsCosts};
+use linked_tables::Mark;
+use repair::{list_prices, questions_of};
+use sdc_base::{Cell, Hidden, Items, Side, System};
+use std::alloc::Global;
+use worlds::Protected;
+
+/// Hides further cells until a protected hidden set guards against each contributor that alone makes up some cell, and
+/// shows those that needn't be hidden.
+///
+/// Such a contributor knows its cells. The set guards against it where each primary cell that it doesn't know is open
+/// to both sides by its levels without them. The contributors are asked about in ascending order of their rows, for
+/// each the primary cells that it doesn't know ascending, above before below: whether some world for the hidden set
+/// without what the contributor knows takes the cell as far as its level. A world at hand serves too, where it takes
+/// the cell as far and moves no cell that the contributor knows. Where none does, multipliers show it, and among the
+/// free cells that aren't hidden, aren't known to the contributor and count in them, the one of lowest price, then of
+/// lowest number, is hidden too, as an extra cell; and the question is asked again. Where there is no such cell, no
+/// hidden set guards against the contributor there: the answer is `CannotAgainst`, with these multipliers.
+///
+/// Then each extra cell is tried as shown, in ascending order: where all questions are reached the cell is dropped; else
+/// it stays hidden, and the first refutation is kept as its need. The answer is `Guards`, with the worlds that serve
+/// beside those of the protection.
+///
+/// There are a cell, a mark, a flag and an entry of the soles for each cell of the system, in the order of their
+/// numbers from 0; the protection is one of this system and these cells; the marks' facts are ones that the rule may be
+/// asked about; levels are in units and at most `2^110`. A question takes at most `limit` improvements, 1 or more.
+///
+/// `GuardStop` has the fault of the question that stopped short: `Size` where its component has too many hidden cells,
+/// `Work` after `limit` improvements, `Wide` where a number is wider than 128 bits, or `Memory`, which any call may give.
+/// It tells the row of the contributor that was asked about, the extra cells so far and, ascending, those that were
+/// dropped, of which the last was being tried; under `Memory` both lists are empty, and the row is 0. What was lent
+/// stays as it was.
+///
+/// The rule is asked once for each cell without a price. For each contributor, primary cell and side it takes one look
+/// at the protection's world, and only where that one doesn't serve one at the worlds at hand, and where none of them
+/// does, a question. A trial goes once through those for which the protection's world doesn't serve.
+///
+/// Extra cells are argus's own; the questions are those of the feasibility interval in Hundepool et al., Statistical
+/// Disclosure Control, chapter on magnitude tables.
+pub fn guard<F: TellsCosts>(
+    alloc: Global,
+    system: &System,
+    cells: &[Cell],
+    marks: &[Mark],
+    rule: &CostRule<F>,
+    soles: &[Option<u32>],
+    protected: &Protected<'_>,
+    limit: u64,
+) -> Result<Guarded, GuardStop>
+    requires cells { length cells.now ≡ system.now.cells }
+    requires marks { length marks.now ≡ length cells.now }
+    requires costed { All (λ mark. AreCosted mark.facts) marks.now }
+    requires modest { All HasModestLevels cells.now }
+    requires of_system { protected.now.system ≡ system.now }
+    requires of_cells { protected.now.cells ≡ cells.now }
+    requires each_flag { length protected.now.hidden.flags ≡ length cells.now }
+    requires limit { 1 ≤ limit }
+    ensures guarded { IfOk result (IsGuarded (case system.now cells.now) soles.now protected.now.hidden.flags
+        protected.now.worlds) }
+    ensures cannot { IfOk result (λ guarded. IsTrue (is_cannot guarded) ↔ ¬ GuardsAll (case system.now cells.now)
+        soles.now (full_set cells.now) (order.attacks_of cells.now soles.now)) }
+    ensures stopped { IfErr result (StopsAsTold (case system.now cells.now) soles.now
+        (prices_of rule.now cells.now marks.now) (order.attacks_of cells.now soles.now) protected.now.hidden.flags
+        limit) }
+{
+    let Ok(prices) = list_prices(alloc, cells, marks, rule) else {
+        return Err(out_of_memory(alloc));
+    };
+    guard_by(alloc, system, cells, &prices, soles, protected, limit)
+}
+
+// The same by prices.
+fn guard_by(
+    alloc: Global,
+    system: &System,
+    cells: &[Cell],
+    prices: &[u64],
+    soles: &[Option<u32>],
+    protected: &Protected<'_>,
+    limit: u64,
+) -> Result<Guarded, GuardStop>
+    requires cells { length cells.now ≡ system.now.cells }
+    requires prices { length prices.now ≡ system.now.cells }
+    requires modest { All HasModestLevels cells.now }
+    requires of_system { protected.now.system ≡ system.now }
+    requires of_cells { protected.now.cells ≡ cells.now }
+    requires each_flag { length protected.now.hidden.flags ≡ length cells.now }
+    requires limit { 1 ≤ limit }
+    ensures guarded { IfOk result (IsGuarded (case system.now cells.now) soles.now protected.now.hidden.flags
+        protected.now.worlds) }
+    ensures stopped { IfErr result (StopsAsTold (case system.now cells.now) soles.now prices.now
+        (order.attacks_of cells.now soles.now) protected.now.hidden.flags limit) }
+{
+    // for the proof: read, so that it is known to be a number of 32 bits
+    let _cells = system.cells;
+    let Ok(asked) = questions_of(alloc, cells) else {
+        return Err(out_of_memory(alloc));
+    };
+    let Ok(attacks) = unserved_attacks(alloc, cells, soles, &asked, protected.worlds()) else {
+        return Err(out_of_memory(alloc));
+    };
+    let siege = Siege {
+        system,
+        cells,
+        soles,
+        prices,
+        attacks: &attacks,
+        limit,
+    };
+    resist_beside(alloc, &siege, &asked, protected)
+}
+
+// Guards against the attacks that a protection's worlds don't serve, beside its hidden set.
+fn resist_beside(
+    alloc: Global,
+    siege: &Siege<'_>,
+    asked: &[(u32, Side)],
+    protected: &Protected<'_>,
+) -> Result<Guarded, GuardStop>
+    requires of_system { protected.now.system ≡ siege.now.system.now }
+    requires of_cells { protected.now.cells ≡ siege.now.cells.now }
+    requires each_flag { length protected.now.hidden.flags ≡ length siege.now.cells.now }
+    requires asked { asked.now ≡ asked_of 0 siege.now.cells.now }
+    requires left { siege.now.attacks.now
+        ≡ order.unserved_attacks siege.now.cells.now siege.now.soles.now protected.now.worlds }
+    ensures guarded { IfOk result (IsGuarded (case_of siege.now) siege.now.soles.now protected.now.hidden.flags
+        protected.now.worlds) }
+    ensures stopped { IfErr result (StopsAsTold (case_of siege.now) siege.now.soles.now siege.now.prices.now
+        (order.attacks_of siege.now.cells.now siege.now.soles.now) protected.now.hidden.flags siege.now.limit) }
+{
+    // for the proof: read, so that they are known to have no fault
+    let _worlds = protected.worlds();
+    resist(alloc, siege, asked, protected.hidden())
+}
+
+// Guards against a list of attacks, beside a first hidden set.
+fn resist(
+    alloc: Global,
+    siege: &Siege<'_>,
+    asked: &[(u32, Side)],
+    first: &Hidden,
+) -> Result<Guarded, GuardStop>
+    requires each { length first.now.flags ≡ siege.now.system.now.cells }
+    requires permitted { IsPermitted siege.now.cells.now first.now.flags }
+    requires asked { asked.now ≡ asked_of 0 siege.now.cells.now }
+    ensures guarded { IfOk result (IsOutcome siege.now first.now.flags) }
+    ensures stopped { IfErr result (StopsAsTold (case_of siege.now) siege.now.soles.now siege.now.prices.now
+        siege.now.attacks.now first.now.flags siege.now.limit) }
+{
+    let Ok(flags) = first.flags.as_slice().to_vec(alloc) else {
+        return Err(out_of_memory(alloc));
+    };
+    let Ok(mut scratch) = Vec::from_elem(alloc, 0, siege.cells.len()) else {
+        return Err(out_of_memory(alloc));
+    };
+    let mut progress = Progress {
+        hidden: Hidden {
+            flags: Items::new(flags),
+        },
+        guards: Items::empty(alloc),
+        extras: Items::empty(alloc),
+    };
+    let outcome = guard_all(alloc, siege, &mut scratch, &mut progress);
+    let found = match outcome {
+        Ok(found) => found,
+        Err(halt) => {
+            return Err(stop_with(alloc, halt, progress.extras, Items::empty(alloc)));
+        }
+    };
+    match found {
+        Some(impossible) => Ok(Guarded::CannotAgainst {
+            row: impossible.attack.row,
+            cell: impossible.attack.cell,
+            side: impossible.attack.side,
+            multipliers: impossible.multipliers,
+        }),
+        None => narrow(alloc, siege, asked, first, progress),
+    }
+}
+
+// Drops the extra cells that needn't be hidden, where guards hold against all attacks.
+fn narrow(
+    alloc: Global,
+    siege: &Siege<'_>,
+    asked: &[(u32, Side)],
+    first: &Hidden,
+    extended: Progress,
+) -> Result<Guarded, GuardStop>
+    requires each { length extended.hidden.flags ≡ siege.now.system.now.cells }
+    requires first { IsPermitted siege.now.cells.now first.now.flags }
+    requires permitted { IsPermitted siege.now.cells.now extended.hidden.flags }
+    requires asked { asked.now ≡ asked_of 0 siege.now.cells.now }
+    requires holds { HoldGuards (case_of siege.now) siege.now.soles.now extended.hidden.flags siege.now.attacks.now
+        extended.guards }
+    requires extended { IsExtendedUpTo siege.now (length siege.now.attacks.now) first.now.flags extended }
+    ensures guarded { IfOk result (IsOutcome siege.now first.now.flags) }
+    ensures stopped { IfErr result (StopsAsTold (case_of siege.now) siege.now.soles.now siege.now.prices.now
+        siege.now.attacks.now first.now.flags siege.now.limit) }
+{
+    let mut progress = extended;
+    let mut found = Findings {
+        needs: Items::empty(alloc),
+        dropped: Items::empty(alloc),
+    };
+    let outcome = try_all(alloc, siege, first, &mut progress, &mut found);
+    if let Err(halt) = outcome {
+        return Err(stop_with(alloc, halt, progress.extras, found.dropped));
+    }
+    match extra_of(alloc, asked, progress.guards.as_slice(), found.needs) {
+        Ok(extra) => Ok(Guarded::Guards(extra)),
+        Err(_) => Err(out_of_memory(alloc)),
+    }
+}

@@ -1,0 +1,34 @@
+//! Contributors as attackers: a contributor that alone makes up a cell knows it, and further cells are hidden against
+//! that.
+#![tactic(auto)]
+
+mod accepting;
+mod alone;
+mod asking;
+mod attack;
+mod collecting;
+mod extra;
+mod falling;
+mod faults;
+mod guarding;
+mod guesses;
+mod known;
+mod laws;
+mod lines;
+mod meeting;
+mod order;
+mod progress;
+mod serving;
+mod siege;
+mod stopping;
+mod trial;
+mod trying;
+
+pub use accepting::accept_extra;
+pub use alone::soles;
+pub use attack::Attack;
+pub use certificate::{Extra, ExtraNeed, read_extra, write_extra};
+pub use extra::{Against, GuardStop, Guarded};
+pub use faults::ExtraFault;
+pub use guarding::guard;
+pub use laws::{every_attack_is_guarded, extra_has_text};

@@ -1,0 +1,41 @@
+ghost use Rattle.std.specs.Prelude.{◌≡◌, ◌<◌, ◌++◌, ◌∷◌, [], length, OnOk, OnErr};
+ghost use Rattle.repair.specs.HidingOrder.{hide};
+
+use certificate::{ExtraNeed, WorldLine};
+use sdc_base::{Hidden, Items, Memory};
+
+/// How far guarding against attacks has come.
+#[derive(Drop)]
+pub(crate) struct Progress {
+    pub(crate) hidden: Hidden,
+    /// The worlds kept for attacks so far.
+    pub(crate) guards: Items<WorldLine>,
+    pub(crate) extras: Items<ExtraNeed>,
+}
+
+impl Progress {
+    /// Keeps a world that serves.
+    pub(crate) fn keep(&mut self, line: WorldLine) -> Result<(), Memory>
+        ensures flags { self.new.hidden.flags ≡ self.old.hidden.flags }
+        ensures extras { self.new.extras ≡ self.old.extras }
+        ensures ok { OnOk result (self.new.guards ≡ self.old.guards ++ line ∷ []) }
+        ensures err { OnErr result (self.new.guards ≡ self.old.guards) }
+    {
+        self.guards.push(line)
+    }
+
+    /// Hides an extra cell, and keeps its reason.
+    pub(crate) fn extend(&mut self, extra: ExtraNeed) -> Result<(), Memory>
+        requires { extra.subject < length self.old.hidden.flags }
+        ensures guards { self.new.guards ≡ self.old.guards }
+        ensures ok_flags { OnOk result (self.new.hidden.flags ≡ hide self.old.hidden.flags extra.subject) }
+        ensures ok_extras { OnOk result (self.new.extras ≡ self.old.extras ++ extra ∷ []) }
+        ensures err_flags { OnErr result (self.new.hidden.flags ≡ self.old.hidden.flags) }
+        ensures err_extras { OnErr result (self.new.extras ≡ self.old.extras) }
+    {
+        let subject = extra.subject as usize;
+        self.extras.push(extra)?;
+        self.hidden.flags.set(subject, true);
+        Ok(())
+    }
+}

@@ -1,0 +1,52 @@
+ghost use Rattle.std.specs.Prelude.{◌≡◌, []};
+ghost use Rattle.attackers.specs.GuardStops.{list_with_fault, row_with_fault};
+
+use crate::extra::{Against, GuardStop};
+use crate::serving::Halt;
+use certificate::ExtraNeed;
+use interval_audit::AskFault;
+use sdc_base::Items;
+use std::alloc::Global;
+
+// Guarding that stopped with these lists; under want of memory both are empty, and the row is 0.
+pub(crate) fn stop_with(
+    alloc: Global,
+    halt: Halt,
+    extras: Items<ExtraNeed>,
+    dropped: Items<u32>,
+) -> GuardStop
+    ensures fault { result.fault ≡ halt.fault }
+    ensures row { result.against.row ≡ row_with_fault halt.fault halt.row }
+    ensures extras { result.against.extras ≡ list_with_fault halt.fault extras }
+    ensures dropped { result.against.dropped ≡ list_with_fault halt.fault dropped }
+{
+    let row = halt.row;
+    match halt.fault {
+        AskFault::Memory => out_of_memory(alloc),
+        other => GuardStop {
+            fault: other,
+            against: Against {
+                row,
+                extras,
+                dropped,
+            },
+        },
+    }
+}
+
+// Guarding that stopped for want of memory.
+pub(crate) fn out_of_memory(alloc: Global) -> GuardStop
+    ensures fault { result.fault ≡ AskFault.Memory }
+    ensures row { result.against.row ≡ 0 }
+    ensures extras { result.against.extras ≡ [] }
+    ensures dropped { result.against.dropped ≡ [] }
+{
+    GuardStop {
+        fault: AskFault::Memory,
+        against: Against {
+            row: 0,
+            extras: Items::empty(alloc),
+            dropped: Items::empty(alloc),
+        },
+    }
+}

@@ -1,0 +1,215 @@
+ghost use Rattle.std.specs.Prelude.{◌≡◌, ◌+◌, ◌<◌, ◌++◌, ◌∷◌, [], ℕ, List, Bool, true, length, IfErr, OnOk};
+ghost use Rattle.sdc_base.specs.HiddenSets.{is_hidden, IsPermitted};
+ghost use Rattle.repair.specs.HidingOrder.{hide};
+ghost use Rattle.attackers.specs.Sieges.{case_of, HoldGuards};
+ghost use Rattle.attackers.specs.Dropping.{is_beside, renewed_guards, HasTried, TriesStopFor};
+
+use crate::lines::drop_moved;
+use crate::progress::Progress;
+use crate::serving::Halt;
+use crate::siege::Siege;
+use crate::trial::{Trial, ask_anew};
+use certificate::{ExtraNeed, WorldLine};
+use interval_audit::AskFault;
+use sdc_base::{Hidden, Items, Memory, is_hidden};
+use std::alloc::Global;
+
+/// What was found of the extra cells.
+#[derive(Drop)]
+pub(crate) struct Findings {
+    /// Why cells must stay hidden.
+    pub(crate) needs: Items<ExtraNeed>,
+    /// The cells that are dropped.
+    pub(crate) dropped: Items<u32>,
+}
+
+// Tries each extra cell as shown, in ascending order.
+pub(crate) fn try_all(
+    alloc: Global,
+    siege: &Siege<'_>,
+    first: &Hidden,
+    progress: &mut Progress,
+    found: &mut Findings,
+) -> Result<(), Halt>
+    requires each { length progress.old.hidden.flags ≡ siege.now.system.now.cells }
+    requires first { IsPermitted siege.now.cells.now first.now.flags }
+    requires permitted { IsPermitted siege.now.cells.now progress.old.hidden.flags }
+    requires within { (cell : ℕ) → is_hidden first.now.flags cell ≡ true
+        → is_hidden progress.old.hidden.flags cell ≡ true }
+    requires holds { HoldGuards (case_of siege.now) siege.now.soles.now progress.old.hidden.flags
+        siege.now.attacks.now progress.old.guards }
+    requires no_needs { found.old.needs ≡ [] }
+    requires none_dropped { found.old.dropped ≡ [] }
+    ensures extras { progress.new.extras ≡ progress.old.extras }
+    ensures each { OnOk result (length progress.new.hidden.flags ≡ siege.now.system.now.cells) }
+    ensures permitted { OnOk result (IsPermitted siege.now.cells.now progress.new.hidden.flags) }
+    ensures ok { OnOk result (HasTried siege.now first.now.flags progress.old.hidden.flags
+        (length siege.now.cells.now) progress.new found.new) }
+    ensures err { IfErr result (λ halt. TriesStopFor siege.now first.now.flags progress.old.hidden.flags halt.fault
+        halt.row found.new.dropped) }
+{
+    // for the proof: read, so that it is known to be a number of 32 bits
+    let _cells = siege.system.cells;
+    'cells: for number in 0..siege.cells.len() {
+        try_next(alloc, siege, first, number as u32, progress, found)?;
+    }
+    Ok(())
+}
+
+// Tries a cell as shown, where it is an extra one.
+fn try_next(
+    alloc: Global,
+    siege: &Siege<'_>,
+    first: &Hidden,
+    cell: u32,
+    progress: &mut Progress,
+    found: &mut Findings,
+) -> Result<(), Halt>
+    requires inside { cell < length siege.now.cells.now }
+    requires each { length progress.old.hidden.flags ≡ siege.now.system.now.cells }
+    requires first { IsPermitted siege.now.cells.now first.now.flags }
+    requires permitted { IsPermitted siege.now.cells.now progress.old.hidden.flags }
+    requires holds { HoldGuards (case_of siege.now) siege.now.soles.now progress.old.hidden.flags
+        siege.now.attacks.now progress.old.guards }
+    ensures extras { progress.new.extras ≡ progress.old.extras }
+    ensures each { OnOk result (length progress.new.hidden.flags ≡ siege.now.system.now.cells) }
+    ensures permitted { OnOk result (IsPermitted siege.now.cells.now progress.new.hidden.flags) }
+    ensures ok { OnOk result ((larger : List Bool)
+        → HasTried siege.now first.now.flags larger cell progress.old found.old
+        → HasTried siege.now first.now.flags larger (cell + 1) progress.new found.new) }
+    ensures err { IfErr result (λ halt. (larger : List Bool)
+        → HasTried siege.now first.now.flags larger cell progress.old found.old
+        → TriesStopFor siege.now first.now.flags larger halt.fault halt.row found.new.dropped) }
+{
+    if !is_extra(first, &progress.hidden, cell) {
+        return Ok(());
+    }
+    try_one(alloc, siege, first, cell, progress, found)
+}
+
+// Whether a cell is hidden beside the first set.
+fn is_extra(first: &Hidden, hidden: &Hidden, cell: u32) -> bool
+    ensures { result ≡ is_beside first.now.flags hidden.now.flags cell }
+{
+    let place = cell as usize;
+    is_hidden(hidden.flags.as_slice(), place) && !is_hidden(first.flags.as_slice(), place)
+}
+
+// Tries an extra cell as shown: drops it with new worlds, or hides it again and keeps the need.
+fn try_one(
+    alloc: Global,
+    siege: &Siege<'_>,
+    first: &Hidden,
+    cell: u32,
+    progress: &mut Progress,
+    found: &mut Findings,
+) -> Result<(), Halt>
+    requires inside { cell < length siege.now.cells.now }
+    requires extra { is_beside first.now.flags progress.old.hidden.flags cell ≡ true }
+    requires each { length progress.old.hidden.flags ≡ siege.now.system.now.cells }
+    requires first { IsPermitted siege.now.cells.now first.now.flags }
+    requires permitted { IsPermitted siege.now.cells.now progress.old.hidden.flags }
+    requires holds { HoldGuards (case_of siege.now) siege.now.soles.now progress.old.hidden.flags
+        siege.now.attacks.now progress.old.guards }
+    ensures extras { progress.new.extras ≡ progress.old.extras }
+    ensures each { OnOk result (length progress.new.hidden.flags ≡ siege.now.system.now.cells) }
+    ensures permitted { OnOk result (IsPermitted siege.now.cells.now progress.new.hidden.flags) }
+    ensures ok { OnOk result ((larger : List Bool)
+        → HasTried siege.now first.now.flags larger cell progress.old found.old
+        → HasTried siege.now first.now.flags larger (cell + 1) progress.new found.new) }
+    ensures err { IfErr result (λ halt. (larger : List Bool)
+        → HasTried siege.now first.now.flags larger cell progress.old found.old
+        → TriesStopFor siege.now first.now.flags larger halt.fault halt.row found.new.dropped) }
+{
+    let Ok(()) = found.dropped.push(cell) else {
+        return Err(out_of_memory());
+    };
+    progress.hidden.flags.set(cell as usize, false);
+    let trial = ask_anew(
+        alloc,
+        siege,
+        cell,
+        &progress.hidden,
+        progress.guards.as_slice(),
+    )?;
+    match trial {
+        Trial::Renewed(news) => take_new(alloc, cell, news, progress),
+        Trial::Refused(need) => put_back(cell, need, progress, found),
+    }
+}
+
+// Want of memory.
+fn out_of_memory() -> Halt
+    ensures { result.fault ≡ AskFault.Memory }
+{
+    Halt {
+        fault: AskFault::Memory,
+        row: 0,
+    }
+}
+
+// Lets go of the worlds that move a cell, and keeps the new ones.
+fn take_new(
+    alloc: Global,
+    cell: u32,
+    news: Items<WorldLine>,
+    progress: &mut Progress,
+) -> Result<(), Halt>
+    ensures flags { progress.new.hidden.flags ≡ progress.old.hidden.flags }
+    ensures extras { progress.new.extras ≡ progress.old.extras }
+    ensures guards { OnOk result (progress.new.guards ≡ renewed_guards cell progress.old.guards news) }
+    ensures err { IfErr result (λ halt. halt.fault ≡ AskFault.Memory) }
+{
+    match replace_guards(alloc, cell, news, &mut progress.guards) {
+        Ok(()) => Ok(()),
+        Err(_) => Err(out_of_memory()),
+    }
+}
+
+// The same of the worlds alone.
+fn replace_guards(
+    alloc: Global,
+    cell: u32,
+    news: Items<WorldLine>,
+    guards: &mut Items<WorldLine>,
+) -> Result<(), Memory>
+    ensures { OnOk result (guards.new ≡ renewed_guards cell guards.old news) }
+{
+    drop_moved(alloc, guards, cell)?;
+    add_all(guards, news)?;
+    Ok(())
+}
+
+// Puts worlds behind others.
+fn add_all(lines: &mut Items<WorldLine>, news: Items<WorldLine>) -> Result<(), Memory>
+    ensures { OnOk result (lines.new ≡ lines.old ++ news) }
+{
+    'news: for line in news.into_vec() {
+        lines.push(line)?;
+    }
+    Ok(())
+}
+
+// Hides a cell again, and keeps the need.
+fn put_back(
+    cell: u32,
+    need: ExtraNeed,
+    progress: &mut Progress,
+    found: &mut Findings,
+) -> Result<(), Halt>
+    requires { cell < length progress.old.hidden.flags }
+    ensures flags { progress.new.hidden.flags ≡ hide progress.old.hidden.flags cell }
+    ensures guards { progress.new.guards ≡ progress.old.guards }
+    ensures extras { progress.new.extras ≡ progress.old.extras }
+    ensures needs { OnOk result (found.new.needs ≡ found.old.needs ++ need ∷ []) }
+    ensures dropped { OnOk result ((earlier : List ℕ) (last : ℕ) → found.old.dropped ≡ earlier ++ last ∷ []
+        → found.new.dropped ≡ earlier) }
+    ensures err { IfErr result (λ halt. halt.fault ≡ AskFault.Memory) }
+{
+    progress.hidden.flags.set(cell as usize, true);
+    found.dropped.pop();
+    let Ok(()) = found.needs.push(need) else {
+        return Err(out_of_memory());
+    };
+    Ok(())
+}
