@@ -25,7 +25,7 @@ fn refusal_of_front(alloc: Global, front: &str) -> Result<String, Memory> {
     let line = front.split('\n').count();
     let kind = if front.is_empty() || front.ends_with('\n') {
         "NoEnd"
-    } else if line > 1 || front == "argus certificate 1" {
+    } else if line > 1 || front == "argus certificate 2" {
         "Shape"
     } else {
         "Version"
@@ -51,11 +51,12 @@ fn cut_certificates(rt: HostRuntime) -> Result<(), Fail> {
 //
 // Cell 0 equals cells 1 and 4, cell 1 equals cells 2 and 3, and cell 4 equals cell 5. The hidden cells are 1, 3, 4 and
 // 5, with the truths 75, 15, 42 and 42. Cells 4 and 5 are primary with the levels 3 and 3. With cell 2 for cell 1 among
-// the hidden cells the third line of the table would show 75. A world with the den 2 moves its cell by one and a half.
+// the hidden cells the third line of the table would show 75. A world with the den 2 moves its cell by one and a half,
+// and one with cell 2 for cell 1 moves a shown cell.
 // A refutation of cell 4 has cell 4 itself and the sum of its relations. Where cell 4 or 5 or 1 is left with a number
 // above 0, it may rise without end; where a number below 0 is left at cell 4, that cell falls by up to 42, which isn't
 // below 3.
-const RAISED: [&str; 53] = [
+const RAISED: [&str; 69] = [
     "2 refused: certificate line 1: Version\n",
     "3 not accepted: Counts\n",
     "3 not accepted: Counts\n",
@@ -90,33 +91,49 @@ const RAISED: [&str; 53] = [
     "3 not accepted: Need 1 NotBelow\n",
     "3 not accepted: Need 1 Unbounded 4\n",
     "3 not accepted: Need 1 Unbounded 1\n",
-    // world 4 above 1 -3 -3 3 3
+    // world 4 above 1 1:-3 3:-3 4:3 5:3
     "3 not accepted: WorldCell 0\n",
     "3 not accepted: NotReached 4 above\n",
+    "3 not accepted: World 0 Shown 2\n",
     "3 not accepted: World 0 Relation 0\n",
+    "2 refused: certificate line 10: Order\n",
     "3 not accepted: World 0 Relation 1\n",
+    "2 refused: certificate line 10: Order\n",
     "3 not accepted: World 0 Relation 0\n",
+    "3 not accepted: World 0 Order 3\n",
     "3 not accepted: World 0 Relation 2\n",
-    // world 4 below 1 3 3 -3 -3
+    // world 4 below 1 1:3 3:3 4:-3 5:-3
     "3 not accepted: WorldCell 1\n",
     "3 not accepted: NotReached 4 below\n",
+    "3 not accepted: World 1 Shown 2\n",
     "3 not accepted: World 1 Relation 0\n",
+    "2 refused: certificate line 11: Order\n",
     "3 not accepted: World 1 Relation 1\n",
+    "2 refused: certificate line 11: Order\n",
     "3 not accepted: World 1 Relation 0\n",
+    "3 not accepted: World 1 Order 3\n",
     "3 not accepted: World 1 Relation 2\n",
-    // world 5 above 1 -3 -3 3 3
+    // world 5 above 1 1:-3 3:-3 4:3 5:3
     "3 not accepted: Counts\n",
     "3 not accepted: NotReached 5 above\n",
+    "3 not accepted: World 2 Shown 2\n",
     "3 not accepted: World 2 Relation 0\n",
+    "2 refused: certificate line 12: Order\n",
     "3 not accepted: World 2 Relation 1\n",
+    "2 refused: certificate line 12: Order\n",
     "3 not accepted: World 2 Relation 0\n",
+    "3 not accepted: World 2 Order 3\n",
     "3 not accepted: World 2 Relation 2\n",
-    // world 5 below 1 3 3 -3 -3
+    // world 5 below 1 1:3 3:3 4:-3 5:-3
     "3 not accepted: Counts\n",
     "3 not accepted: NotReached 5 below\n",
+    "3 not accepted: World 3 Shown 2\n",
     "3 not accepted: World 3 Relation 0\n",
+    "2 refused: certificate line 13: Order\n",
     "3 not accepted: World 3 Relation 1\n",
+    "2 refused: certificate line 13: Order\n",
     "3 not accepted: World 3 Relation 0\n",
+    "3 not accepted: World 3 Order 3\n",
     "3 not accepted: World 3 Relation 2\n",
 ];
 

@@ -178,7 +178,7 @@ fn puts_of_a_small_job(rt: HostRuntime) -> Result<(), Fail> {
         ("m.asc", SEVEN_RECORDS),
     ];
     let said = "0 released: 7 records, 0 skipped, 0 passed over, 3 cells, 0 primary, 0 hidden\n";
-    let certificate = "argus certificate 1\nmethod MOD\ncells 3\nrelations 1\nend\n";
+    let certificate = "argus certificate 2\nmethod MOD\ncells 3\nrelations 1\nend\n";
     let table = "A,V\nTotal,150\na,60\nb,90\n";
     let wrong = wrong_put(rt.alloc(), &files, said, certificate, table)?;
     assert_eq!(rt; wrong, None);

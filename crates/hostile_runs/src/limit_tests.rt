@@ -31,7 +31,7 @@ fn ran_by_tree(alloc: Global, hierarchy: &str) -> Result<String, Memory> {
 fn deep_hierarchies(rt: HostRuntime) -> Result<(), Fail> {
     let alloc = rt.alloc();
     let released =
-        "0 released: 3 records, 0 skipped, 0 passed over, 10 cells, 0 primary, 0 hidden\nargus certificate 1\nmethod MOD\ncells 10\nrelations 9\nend\nA,V\nTotal,60\n1,60\n2,60\n3,60\n4,60\n5,60\n6,60\n7,60\n8,60\n9,60\n";
+        "0 released: 3 records, 0 skipped, 0 passed over, 10 cells, 0 primary, 0 hidden\nargus certificate 2\nmethod MOD\ncells 10\nrelations 9\nend\nA,V\nTotal,60\n1,60\n2,60\n3,60\n4,60\n5,60\n6,60\n7,60\n8,60\n9,60\n";
     let refused = "2 refused: hierarchy 1 line 10: TooDeep\n";
     let got = ran_by_tree(alloc, NINE_DEEP)?;
     assert_eq!(rt; got.as_str(), released);
@@ -120,5 +120,38 @@ fn many_tables(rt: HostRuntime) -> Result<(), Fail> {
     ];
     let got = run_alone(alloc, &files, WHOLE_FILES, 0)?;
     assert_eq!(rt; got.as_str(), "2 refused: job line 14: TooMany\n");
+    Ok(())
+}
+
+// A record of 1 for each of the 64 ways to choose a code from each of six variables.
+const SIX_CODES: &str =
+    "aaaaaa 1\nbaaaaa 1\nabaaaa 1\nbbaaaa 1\naabaaa 1\nbabaaa 1\nabbaaa 1\nbbbaaa 1\naaabaa 1\nbaabaa 1\nababaa 1\nbbabaa 1\naabbaa 1\nbabbaa 1\nabbbaa 1\nbbbbaa 1\naaaaba 1\nbaaaba 1\nabaaba 1\nbbaaba 1\naababa 1\nbababa 1\nabbaba 1\nbbbaba 1\naaabba 1\nbaabba 1\nababba 1\nbbabba 1\naabbba 1\nbabbba 1\nabbbba 1\nbbbbba 1\naaaaab 1\nbaaaab 1\nabaaab 1\nbbaaab 1\naabaab 1\nbabaab 1\nabbaab 1\nbbbaab 1\naaabab 1\nbaabab 1\nababab 1\nbbabab 1\naabbab 1\nbabbab 1\nabbbab 1\nbbbbab 1\naaaabb 1\nbaaabb 1\nabaabb 1\nbbaabb 1\naababb 1\nbababb 1\nabbabb 1\nbbbabb 1\naaabbb 1\nbaabbb 1\nababbb 1\nbbabbb 1\naabbbb 1\nbabbbb 1\nabbbbb 1\nbbbbbb 1\n";
+
+const SEVEN_VARIABLES: &str =
+    "A 1 1\n<RECODEABLE>\nB 2 1\n<RECODEABLE>\nC 3 1\n<RECODEABLE>\nD 4 1\n<RECODEABLE>\nE 5 1\n<RECODEABLE>\nF 6 1\n<RECODEABLE>\nG 1 1\n<RECODEABLE>\nV 7 2\n<NUMERIC>\n";
+
+// What a run over these records says and puts.
+fn ran_over_six(alloc: Global, job: &str) -> Result<String, Memory> {
+    let files = [
+        ("r.job", job),
+        ("m.rda", SEVEN_VARIABLES),
+        ("m.asc", SIX_CODES),
+    ];
+    run_alone(alloc, &files, WHOLE_FILES, 0)
+}
+
+// A table by six variables of two codes each is released; a seventh variable is one too many.
+#[test]
+fn six_variables(rt: HostRuntime) -> Result<(), Fail> {
+    let alloc = rt.alloc();
+    let six = ONE_TABLE.replace(alloc, "\"A\"", "\"A\"\"B\"\"C\"\"D\"\"E\"\"F\"")?;
+    let six = six.replace(alloc, "FREQ(3,30)", "FREQ(1,30)")?;
+    let seven = six.replace(alloc, "\"F\"", "\"F\"\"G\"")?;
+    let released =
+        "0 released: 64 records, 0 skipped, 0 passed over, 729 cells, 0 primary, 0 hidden\nargus certificate 2\nmethod MOD\ncells 729\nrelations 1458\nend\nA,B,C,D,E,F,V\nTotal,Total,Total,Total,Total,Total,64\n";
+    let got = ran_over_six(alloc, six.as_str())?;
+    assert!(rt; got.starts_with(released));
+    let got = ran_over_six(alloc, seven.as_str())?;
+    assert_eq!(rt; got.as_str(), "2 refused: job line 3: BadValue\n");
     Ok(())
 }

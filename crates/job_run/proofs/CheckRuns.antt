@@ -51,6 +51,7 @@ settles-check report.Memory (Err f) h no_read = inr refl
 settles-check (report.Released s) outcome h no_read = absurd h
 settles-check (report.Intervals n) outcome h no_read = absurd h
 settles-check (report.Demo demo) outcome h no_read = absurd h
+settles-check report.Migrated outcome h no_read = absurd h
 settles-check report.Usage outcome h no_read = absurd h
 settles-check (report.Cannot cell side multipliers) outcome h no_read = absurd h
 settles-check report.NoRounding outcome h no_read = absurd h

@@ -153,6 +153,7 @@ settles report.Memory (Err f) h no_read no_write = inr refl
 settles report.Accepted outcome h no_read no_write = absurd h
 settles (report.Released s) outcome h no_read no_write = absurd h
 settles (report.Demo demo) outcome h no_read no_write = absurd h
+settles report.Migrated outcome h no_read no_write = absurd h
 settles report.Usage outcome h no_read no_write = absurd h
 settles (report.Cannot cell side multipliers) outcome h no_read no_write = absurd h
 settles report.NoRounding outcome h no_read no_write = absurd h

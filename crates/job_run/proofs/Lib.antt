@@ -15,5 +15,6 @@ pub mod DemoJobs
 pub mod DemoRuns
 pub mod CheckRuns
 pub mod IntervalRuns
+mod Migrations
 pub mod PutSteps
 pub mod TermTexts

@@ -15,13 +15,14 @@ use Rattle.sdc_base.specs.declared.system.System.{System}
 use Rattle.certificate.specs.declared.certificate.Certificate.{Certificate}
 use Rattle.cell_protection.specs.Certifying.{hidden_numbers}
 use Rattle.cell_protection.specs.Protections.{IsProtectedWith, IsProtectionOf}
+use Rattle.cell_protection.proofs.Wholeness.{protection-whole}
 use Rattle.modular_plan.specs.Methods.{passes_of}
 use Rattle.cell_protection.specs.declared.protection.Protection.{Protection}
 use Rattle.cell_protection.specs.declared.protection.Protection.TheVariants as protection
 use Rattle.interval_audit.specs.declared.answer.AskFault.{AskFault}
 use Rattle.interval_audit.specs.declared.answer.AskFault.TheVariants as ask
 use Rattle.linked_tables.specs.BookViews.{BookView}
-use Rattle.linked_tables.specs.BookCells.{cells as cells_in}
+use Rattle.linked_tables.specs.BookCells.{cells as cells_in, IsBook}
 use Rattle.linked_tables.specs.declared.mark.Mark.{Mark}
 use Rattle.modular_plan.specs.Plans.{trail_of}
 use Rattle.sdc_base.specs.Truths.{IsTruth}
@@ -37,6 +38,8 @@ use Rattle.job_inputs.specs.TabulatedBooks.{IsReadyFor}
 use Rattle.job_inputs.specs.declared.described.DescribedJob.{DescribedJob}
 use Rattle.job_inputs.specs.declared.settled.SettledJob.{SettledJob}
 use Rattle.relations.specs.Holding.{IsSystemOf}
+use Rattle.relations.specs.TableSigns.{HaveSigns, IsOneOrTwoWay}
+use Rattle.relations.proofs.SignedTables.{one_or_two_way_has_signs}
 use Rattle.job_run.specs.Endings.{IsReleaseBy}
 use Rattle.job_run.specs.Protections.{IsProtectionFor, IsSuppressedRelease, StopsShort}
 use Rattle.job_run.specs.Releases.{summary_of}
@@ -49,11 +52,28 @@ use Rattle.job_run.specs.Stops.{ComesToRelease, question_stop, stopped_stop}
 pub same-base : (settled : SettledInputs) (job : SettledJob) → IsSettledOf settled job → base_of settled.inputs.described ≡ base_of job.described
 same-base settled job is = ap base_of (sym is.described)
 
+-- the relations of a job of one table of one variable, or of two flat ones, have signs
+pub signs-for : (settled : SettledInputs) (job : SettledJob) (system : System) → IsOneOrTwoWay settled.inputs.records.trees settled.inputs.described.bound.tables → IsSettledOf settled job → IsBook job.book → IsSystemOf job.book system → HaveSigns system.relations
+signs-for settled job system shape is_job is_book is_system =
+    one_or_two_way_has_signs job.book system
+    (subst (λ (trees : List Tree). IsOneOrTwoWay trees job.book.tables) (sym is_job.book.trees)
+    (subst (λ (tables : List (List ℕ)). IsOneOrTwoWay settled.inputs.records.trees tables) (sym is_job.book.tables) shape)) is_book is_system
+
 -- what protecting the cells of a job comes to is what its settled inputs come to
-pub protection-for : (settled : SettledInputs) (job : SettledJob) (system : System) (protection : Protection) → base_of job.described ≡ None → IsSettledOf settled job → IsSystemOf job.book system
+pub protection-for : (settled : SettledInputs) (job : SettledJob) (system : System) (protection : Protection) → base_of job.described ≡ None → IsSettledOf settled job → IsBook job.book → IsSystemOf job.book system
     → IsProtectionOf (case system job.cells) (prices_of job.described.job.cost job.cells job.book.marks) job.described.job.method (trail_of job.book job.cells job.described.job.cost (passes_of job.described.job.method)) job.described.job.steps protection
     → IsProtectionFor settled protection
-protection-for settled job system protection hides is_job is_system is = record { hides = same-base settled job is_job ∙ hides; job = job; system = system; job_is = is_job; system_is = is_system; comes_to = is }
+protection-for settled job system protection hides is_job is_book is_system is = record {
+  hides = same-base settled job is_job ∙ hides;
+  job = job;
+  system = system;
+  job_is = is_job;
+  system_is = is_system;
+  comes_to = is;
+  whole = λ shape.
+      let signs = signs-for settled job system shape is_job is_book is_system in
+      protection-whole (case system job.cells) (prices_of job.described.job.cost job.cells job.book.marks) job.described.job.method (trail_of job.book job.cells job.described.job.cost (passes_of job.described.job.method)) job.described.job.steps protection signs.0 signs.1 is;
+}
 
 question-comes : (settled : SettledInputs) (fault : AskFault) (repairs : List Refuted) (shown : List ℕ) → StopsShort settled fault repairs shown
     → ComesToRelease settled (Err (question_stop fault repairs shown))
@@ -67,11 +87,11 @@ pub stopped-comes : (settled : SettledInputs) (stopped : Stopped) → IsProtecti
 stopped-comes settled stopped is = question-comes settled stopped.fault stopped.repairs stopped.shown is
 
 -- the same, where the cells are read through a slice
-pub outcome-for : (settled : SettledInputs) (job : SettledJob) (system : System) (cells : List Cell) (one other : Protection) → base_of job.described ≡ None → IsSettledOf settled job → IsSystemOf job.book system → cells ≡ job.cells → one ≡ other
+pub outcome-for : (settled : SettledInputs) (job : SettledJob) (system : System) (cells : List Cell) (one other : Protection) → base_of job.described ≡ None → IsSettledOf settled job → IsBook job.book → IsSystemOf job.book system → cells ≡ job.cells → one ≡ other
     → IsProtectionOf (case system cells) (prices_of job.described.job.cost cells job.book.marks) job.described.job.method (trail_of job.book cells job.described.job.cost (passes_of job.described.job.method)) job.described.job.steps one
     → IsProtectionFor settled other
-outcome-for settled job system cells one other hides is_job is_system same is_other is =
-    protection-for settled job system other hides is_job is_system
+outcome-for settled job system cells one other hides is_job is_book is_system same is_other is =
+    protection-for settled job system other hides is_job is_book is_system
     (subst (λ (protection : Protection). IsProtectionOf (case system job.cells) (prices_of job.described.job.cost job.cells job.book.marks) job.described.job.method (trail_of job.book job.cells job.described.job.cost (passes_of job.described.job.method)) job.described.job.steps protection) is_other
     (subst (λ (all : List Cell). IsProtectionOf (case system all) (prices_of job.described.job.cost all job.book.marks) job.described.job.method (trail_of job.book all job.described.job.cost (passes_of job.described.job.method)) job.described.job.steps one) same is))
 

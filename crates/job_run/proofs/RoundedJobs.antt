@@ -1,5 +1,5 @@
 -- What a job that rounds comes to.
-use Rattle.std.proofs.Common.{◌≡◌, ℕ, Bool, List, [], ◌∷◌, length, map, slice_index_or, All, Option, Some, Ok, Err, Bor, ◌<◌, arith, refl, ap, sym, subst, ◌∙◌, ℤ, pos, negsuc, ◌*ℤ◌, ◌≤ℤ◌, ◌<ℤ◌}
+use Rattle.std.proofs.Common.{◌≡◌, ℕ, Bool, List, [], ◌∷◌, length, map, All, Option, Some, Ok, Err, Bor, ◌<◌, arith, refl, ap, sym, subst, ◌∙◌, ℤ, pos, negsuc, ◌*ℤ◌, ◌≤ℤ◌, ◌<ℤ◌}
 use Rattle.std.proofs.lemmas.List.{get_or_default, length-map}
 use Rattle.std.proofs.lemmas.List.Elements.{All-nil, All-cons, All-head, All-tail}
 use Rattle.std.proofs.lemmas.Int.{ints, by_lt_z}
@@ -10,7 +10,6 @@ use Rattle.sdc_base.specs.Numbers.{too_wide}
 use Rattle.sdc_base.specs.Roundings.{IsAdjacent, IsRounding}
 use Rattle.sdc_base.specs.Signs.{AreSigns}
 use Rattle.sdc_base.specs.Systems.{HoldOn, number_at}
-use Rattle.sdc_base.specs.Trees.{Tree}
 use Rattle.sdc_base.specs.declared.cell.Cell.{Cell}
 use Rattle.sdc_base.specs.declared.method.Method.{Method}
 use Rattle.sdc_base.specs.declared.rows.Row.{Row}
@@ -27,8 +26,6 @@ use Rattle.sdc_base.specs.Truths.{IsTruth}
 use Rattle.release_writer.specs.ShownCells.{CanBeShown}
 use Rattle.release_writer.specs.declared.shown.Shown.TheVariants as shown
 use Rattle.relations.specs.Holding.{AreTruths, HaveNoChildren, IsSystemOf, sum_in, truth_at}
-use Rattle.relations.specs.TableSigns.{IsFlat, HaveSigns}
-use Rattle.relations.proofs.SignedTables.{one_variable_has_signs, two_flat_variables_have_signs}
 use Rattle.rounding.specs.Searches.{Stops}
 use Rattle.rounding.specs.Tasks.{IsProper}
 use Rattle.rounding.specs.declared.fault.RoundFault.{RoundFault}
@@ -40,12 +37,12 @@ use Rattle.job_inputs.specs.declared.settled.SettledJob.{SettledJob}
 use Rattle.job_run.specs.Books.{CanBeReleased}
 use Rattle.job_run.specs.Endings.{IsReleaseBy}
 use Rattle.job_run.specs.Releases.{puts_of, summary_of, value_in}
-use Rattle.job_run.specs.Roundings.{base_of, truths_in, HasNoRounding, IsAlwaysRounded, IsOneOrTwoWay, IsSystemIn, SearchStops, rounded_certificate}
+use Rattle.job_run.specs.Roundings.{base_of, truths_in, HasNoRounding, IsAlwaysRounded, IsSystemIn, SearchStops, rounded_certificate}
 use Rattle.job_run.specs.Stops.{ComesToRelease, search_stop}
 use Rattle.job_run.specs.declared.put.Release.{Release}
 use Rattle.job_run.proofs.Bases.{base-within}
 use Rattle.job_run.proofs.JobTruths.{are-bare, are-coded, are-truths, holds-on, truths-are}
-use Rattle.job_run.proofs.Releasing.{same-base}
+use Rattle.job_run.proofs.Releasing.{same-base, signs-for}
 use Rattle.job_run.proofs.SameSystem.{as-many-cells, its-relations, rounding-elsewhere}
 
 -- ---- values that are shown
@@ -127,24 +124,11 @@ its-system settled job system base truths task = (job.book, task.is_of.book, tas
 its-truths : (settled : SettledInputs) (job : SettledJob) (system : System) (base : ℤ) (truths : List ℤ) → IsTask settled job system base truths → truths ≡ truths_in settled.inputs
 its-truths settled job system base truths task = task.listed ∙ truths-are settled.inputs job.book job.cells task.is_of.book task.can.ready.truths
 
--- the relations of one table of one variable, and of two flat ones, have signs
-signs-by : (trees : List Tree) (tables : List (List ℕ)) (book : BookView) (system : System) → IsOneOrTwoWay trees tables → book.trees ≡ trees → book.tables ≡ tables → IsBook book → IsSystemOf book system → HaveSigns system.relations
-signs-by trees [] book system shape same_trees same_tables is_book is = absurd shape
-signs-by trees ([] ∷ tables) book system shape same_trees same_tables is_book is = absurd shape
-signs-by trees ((variable ∷ []) ∷ []) book system shape same_trees same_tables is_book is = one_variable_has_signs book variable system is_book same_tables is
-signs-by trees ((variable ∷ []) ∷ (table ∷ tables)) book system shape same_trees same_tables is_book is = absurd shape
-signs-by trees ((one ∷ other ∷ []) ∷ []) book system shape same_trees same_tables is_book is =
-    two_flat_variables_have_signs book one other system is_book same_tables
-    (subst (λ (ts : List Tree). IsFlat (slice_index_or ts one [])) (sym same_trees) shape.0)
-    (subst (λ (ts : List Tree). IsFlat (slice_index_or ts other [])) (sym same_trees) shape.1) is
-signs-by trees ((one ∷ other ∷ []) ∷ (table ∷ tables)) book system shape same_trees same_tables is_book is = absurd shape
-signs-by trees ((one ∷ other ∷ third ∷ more) ∷ tables) book system shape same_trees same_tables is_book is = absurd shape
-
 -- so where a search stops, the job has other tables
 other-tables : (settled : SettledInputs) (job : SettledJob) (system : System) (base : ℤ) (truths : List ℤ) (fault : RoundFault) → IsTask settled job system base truths → IsBook job.book
     → ((signs : List Bool) → AreSigns system.relations signs → fault ≡ round.Memory) → (fault ≡ round.Memory → ⊥) → ¬ IsAlwaysRounded settled.inputs
 other-tables settled job system base truths fault task is_book signed no_memory shape =
-    let signs = signs-by settled.inputs.records.trees settled.inputs.described.bound.tables job.book system shape task.is_of.book.trees task.is_of.book.tables is_book task.is_system in
+    let signs = signs-for settled job system shape task.is_of is_book task.is_system in
     no_memory (signed signs.0 signs.1)
 
 no-rounding : (settled : SettledInputs) (job : SettledJob) (system : System) (base : ℤ) (truths : List ℤ) → IsTask settled job system base truths → ((values : List ℤ) → IsRounding system truths base values → ⊥) → ¬ IsAlwaysRounded settled.inputs → HasNoRounding settled

@@ -30,6 +30,7 @@ settles (report.Released s) (Err f) meets no_read no_write = absurd cc
 settles report.Accepted outcome meets no_read no_write = absurd meets
 settles (report.Intervals cells) outcome meets no_read no_write = absurd meets
 settles (report.Demo demo) outcome meets no_read no_write = absurd meets
+settles report.Migrated outcome meets no_read no_write = absurd meets
 settles report.Usage outcome meets no_read no_write = absurd meets
 settles (report.Refused f) (Ok settled) meets no_read no_write = absurd cc
 settles (report.Refused f) (Err g) meets no_read no_write = inl (let same : g ≡ f = cc in ap report.Refused (sym same))

@@ -22,6 +22,12 @@ interval_names (word ∷ (b ∷ name) ∷ (d ∷ out) ∷ []) = if bytes_eq word
     else None
 interval_names words = None
 
+-- `migrate OLD NEW`: the name of a certificate, and the name under which it is put again
+abbrev pub migration_names : List (List ℕ) → Option (List ℕ × List ℕ)
+migration_names (word ∷ (b ∷ old) ∷ (d ∷ new) ∷ []) = if bytes_eq word (codes "migrate") then Some (b ∷ old, d ∷ new)
+    else None
+migration_names words = None
+
 -- a seed up to 2^64 - 1 and a number of records from 1 to 1,000,000, where two words spell these, without zeros in
 -- front
 abbrev pub seed_and_records : List ℕ → List ℕ → Option (ℕ × ℕ)
@@ -39,3 +45,4 @@ pub record AreUsage (words : List (List ℕ)) : Type 0 where
   pub no_check : check_job words ≡ None
   pub no_intervals : interval_names words ≡ None
   pub no_demo : demo_numbers words ≡ None
+  pub no_migration : migration_names words ≡ None

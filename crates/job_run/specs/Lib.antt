@@ -12,6 +12,7 @@ pub mod PutReleases
 pub mod ReleaseRuns
 pub mod Checks
 pub mod IntervalRuns
+pub mod Migrations
 pub mod CheckTexts
 pub mod Demos
 pub mod Summaries

@@ -6,6 +6,7 @@ use Rattle.certificate.specs.Certificates.{certificate_of}
 use Rattle.certificate.specs.Texts.{text_of}
 use Rattle.certificate.specs.declared.certificate.Certificate.{Certificate}
 use Rattle.cell_protection.specs.Protections.{IsProtectionOf}
+use Rattle.cell_protection.specs.WholeProtections.{IsWholeProtection}
 use Rattle.modular_plan.specs.Methods.{passes_of}
 use Rattle.cell_protection.specs.declared.protection.Protection.{Protection}
 use Rattle.cell_protection.specs.declared.protection.Protection.TheVariants as protection
@@ -17,12 +18,14 @@ use Rattle.worlds.specs.declared.refuted.Refuted.{Refuted}
 use Rattle.job_inputs.specs.SettledJobs.{SettledInputs, IsSettledOf}
 use Rattle.job_inputs.specs.declared.settled.SettledJob.{SettledJob}
 use Rattle.relations.specs.Holding.{IsSystemOf}
+use Rattle.relations.specs.TableSigns.{IsOneOrTwoWay}
 use Rattle.job_run.specs.Releases.{puts_of, shown_in, summary_of}
 use Rattle.job_run.specs.Roundings.{base_of}
 use Rattle.job_run.specs.declared.put.Release.{Release}
 
 -- The job hides, and the protection of settled inputs comes to this: that of their settled cells, with the system of
--- the relations between them, planned by the job's method and its costs, each question within the job's steps.
+-- the relations between them, planned by the job's method and its costs, each question within the job's steps. It is in
+-- whole units where the job has one table of one variable, or of two flat ones.
 pub record IsProtectionFor (settled : SettledInputs) (protection : Protection) : Type 0 where
   pub hides : base_of settled.inputs.described ≡ None
   pub job : SettledJob
@@ -33,6 +36,8 @@ pub record IsProtectionFor (settled : SettledInputs) (protection : Protection) :
       job.described.job.method
       (trail_of job.book job.cells job.described.job.cost (passes_of job.described.job.method)) job.described.job.steps
       protection
+  pub whole : IsOneOrTwoWay settled.inputs.records.trees settled.inputs.described.bound.tables
+      → IsWholeProtection protection
 
 -- A suppressed release of settled inputs: a hidden set protects their primary cells, and its certificate, the tables
 -- that hide these cells, and their numbers are what the release puts and says. The certificate's text is read as that

@@ -29,6 +29,7 @@ AgreesWith (report.Released summary) outcome = IsOk outcome
 AgreesWith report.Accepted outcome = ⊥
 AgreesWith (report.Intervals cells) outcome = ⊥
 AgreesWith (report.Demo demo) outcome = ⊥
+AgreesWith report.Migrated outcome = ⊥
 AgreesWith report.Usage outcome = ⊥
 AgreesWith (report.Refused reason) outcome = outcome ≡ Err reason
 AgreesWith (report.Cannot cell side multipliers) outcome = IsOkAnd outcome
@@ -41,13 +42,14 @@ AgreesWith (report.ReadFault file) outcome = Unit {0}
 AgreesWith (report.WriteFault file) outcome = IsOk outcome
 AgreesWith report.Memory outcome = Unit {0}
 
--- what a run for a release can answer, whatever shelf and tray tell: neither what is said of a check, of intervals or
--- of a demonstration, nor the usage line
+-- what a run for a release can answer, whatever shelf and tray tell: neither what is said of a check, of intervals, of
+-- a demonstration or of a certificate that is put again, nor the usage line
 abbrev pub IsReleaseAnswer : Report → Type 0
 IsReleaseAnswer report.Accepted = ⊥
 IsReleaseAnswer (report.NotAccepted why) = ⊥
 IsReleaseAnswer (report.Intervals cells) = ⊥
 IsReleaseAnswer (report.Demo demo) = ⊥
+IsReleaseAnswer report.Migrated = ⊥
 IsReleaseAnswer report.Usage = ⊥
 IsReleaseAnswer other = Unit {0}
 

@@ -1,8 +1,7 @@
 -- What a job that rounds asks for, and its release (zero-restricted controlled rounding; own).
-use Rattle.std.specs.Prelude.{◌≡◌, ◌^◌, ℕ, List, [], ◌∷◌, length, map, slice_index_or, Option, None, Some, Ok, ℤ, pos, ◌*ℤ◌}
+use Rattle.std.specs.Prelude.{◌≡◌, ◌^◌, ℕ, List, length, map, Option, None, Some, Ok, ℤ, pos, ◌*ℤ◌}
 use Rattle.sdc_base.specs.Relations.{relations_among}
 use Rattle.sdc_base.specs.Roundings.{IsRounding}
-use Rattle.sdc_base.specs.Trees.{Tree}
 use Rattle.sdc_base.specs.declared.method.Method.{Method}
 use Rattle.sdc_base.specs.declared.method.Method.TheVariants as method
 use Rattle.sdc_base.specs.declared.system.System.{System}
@@ -12,7 +11,7 @@ use Rattle.certificate.specs.Texts.{text_of}
 use Rattle.certificate.specs.declared.certificate.Certificate.{Certificate}
 use Rattle.linked_tables.specs.BookViews.{BookView}
 use Rattle.relations.specs.Holding.{IsSystemOf}
-use Rattle.relations.specs.TableSigns.{IsFlat}
+use Rattle.relations.specs.TableSigns.{IsOneOrTwoWay}
 use Rattle.rounding.specs.Searches.{Stops}
 use Rattle.job_inputs.specs.Cells.{cells, truth_in}
 use Rattle.job_inputs.specs.SettledJobs.{SettledInputs}
@@ -50,15 +49,7 @@ pub record IsRoundingFor (inputs : Inputs) (base : ℤ) (values : List ℤ) : Ty
   pub system_is : IsSystemIn inputs system
   pub rounding : IsRounding system (truths_in inputs) base values
 
--- The tables are one table of one variable, or of two flat ones: there is always a rounding then. Not: of two of which
--- one has codes below others.
-abbrev pub IsOneOrTwoWay : List Tree → List (List ℕ) → Type 0
-IsOneOrTwoWay trees ((variable ∷ []) ∷ []) = Unit {0}
-IsOneOrTwoWay trees ((one ∷ other ∷ []) ∷ []) = IsFlat (slice_index_or trees one [])
-    × IsFlat (slice_index_or trees other [])
-IsOneOrTwoWay trees tables = ⊥
-
--- the job has such tables
+-- the job has one table of one variable, or of two flat ones: there is always a rounding then
 abbrev pub IsAlwaysRounded : Inputs → Type 0
 IsAlwaysRounded inputs = IsOneOrTwoWay inputs.records.trees inputs.described.bound.tables
 

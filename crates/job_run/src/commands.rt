@@ -32,6 +32,22 @@ pub(crate) fn interval_names(words: &[Text]) -> Option<(&Text, &Text)>
     }
 }
 
+/// The name of a certificate and the name under which it is put again, where the words are `migrate OLD NEW` with names
+/// of one byte or more.
+pub(crate) fn migration_names(words: &[Text]) -> Option<(&Text, &Text)>
+    ensures { option_map (λ names. (names.0.now, names.1.now)) result ≡ commands.migration_names words.now }
+{
+    if words.len() == 3
+        && words[0].as_slice() == b"migrate".as_slice()
+        && !words[1].as_slice().is_empty()
+        && !words[2].as_slice().is_empty()
+    {
+        Some((&words[1], &words[2]))
+    } else {
+        None
+    }
+}
+
 /// The seed and the number of records, where the words are `demo SEED RECORDS` with plain whole numbers in range.
 pub(crate) fn demo_numbers(words: &[Text]) -> Option<(u64, u32)>
     ensures { result ≡ commands.demo_numbers words.now }

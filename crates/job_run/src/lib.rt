@@ -7,6 +7,7 @@ mod commands;
 mod demo;
 mod interval_run;
 mod laws;
+mod migration;
 mod numbers;
 mod printing;
 mod put;

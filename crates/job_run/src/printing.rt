@@ -13,10 +13,11 @@ use std::fmt::Display;
 use worlds::Multipliers;
 
 impl Report {
-    /// The status with which the program ends: 0 for a release, one that is accepted, intervals and a demonstration, 1
-    /// for the usage line, 2 for a refusal, 3 for a cell that can't be protected, where there is no rounding and for a
-    /// release that isn't accepted, 4 where a question or the search for a rounding stopped short, 5 and 6 for a fault
-    /// in reading and in writing, 7 for want of memory. The numbers are argus's own.
+    /// The status with which the program ends: 0 for a release, one that is accepted, intervals, a demonstration and a
+    /// certificate that was put again, 1 for the usage line, 2 for a refusal, 3 for a cell that can't be protected,
+    /// where there is no rounding and for a release that isn't accepted, 4 where a question or the search for a
+    /// rounding stopped short, 5 and 6 for a fault in reading and in writing, 7 for want of memory. The numbers are
+    /// argus's own.
     pub fn status(&self) -> u8
         ensures { result ≡ status_of self.now }
     {
@@ -25,6 +26,7 @@ impl Report {
             Report::Accepted => 0,
             Report::Intervals(_) => 0,
             Report::Demo(_) => 0,
+            Report::Migrated => 0,
             Report::Usage => 1,
             Report::Refused(_) => 2,
             Report::Cannot { .. } => 3,
@@ -55,8 +57,9 @@ pub fn report_text(alloc: Global, report: &Report) -> Result<Text, Memory>
         Report::Accepted => format!(in alloc; "accepted\n")?,
         Report::Intervals(cells) => format!(in alloc; "intervals: {cells} cells\n")?,
         Report::Demo(demo) => return demo_text(alloc, demo),
+        Report::Migrated => format!(in alloc; "migrated\n")?,
         Report::Usage => format!(in alloc;
-            "usage: argus run JOB | check JOB | intervals JOB OUT | demo SEED RECORDS\n"
+            "usage: argus run JOB | check JOB | intervals JOB OUT | demo SEED RECORDS | migrate OLD NEW\n"
         )?,
         Report::Refused(fault) => format!(in alloc; "refused: {fault}\n")?,
         Report::NoRounding => format!(in alloc; "no rounding\n")?,

@@ -59,6 +59,8 @@ fn suppressed_release(alloc: Global, job: SettledJob) -> Result<Release, Stop>
         cells,
         ..
     } = job;
+    // for the proof: what holds of every book
+    let _known = book.cells();
     let system = relations_of(alloc, &book)?;
     let protection = protect_cells(
         alloc,

@@ -63,7 +63,9 @@ pub enum Report {
     Intervals(u32),
     /// What came of a demonstration.
     Demo(DemoSummary),
-    /// The words are none of the four forms.
+    /// A certificate was put again, in the second version of its text.
+    Migrated,
+    /// The words are none of the five forms.
     Usage,
     /// The inputs have this fault, and nothing was put.
     Refused(Fault),

@@ -8,15 +8,17 @@ ghost use Rattle.job_run.specs.Commands as commands;
 ghost use Rattle.job_run.specs.Commands.{AreUsage};
 ghost use Rattle.job_run.specs.Demos.{IsDemoRunOf};
 ghost use Rattle.job_run.specs.IntervalRuns.{IsIntervalRunOf};
+ghost use Rattle.job_run.specs.Migrations.{IsMigrationOf};
 ghost use Rattle.job_run.specs.ReleaseRuns.{IsReleaseRunOf};
 ghost use Rattle.job_run.specs.PutReleases.{HasReleased};
 ghost use Rattle.job_run.specs.Reports.{AgreesWith, LeavesTray, LeavesAll, AnswersExactly, HasCause, HasComeTo, report_of};
 ghost use Rattle.job_run.specs.declared.report.Summary.{Summary as Numbers};
 
 use crate::check_run::check_job;
-use crate::commands::{demo_numbers, interval_names, job_behind};
+use crate::commands::{demo_numbers, interval_names, job_behind, migration_names};
 use crate::demo::run_demo;
 use crate::interval_run::put_intervals;
+use crate::migration::migrate;
 use crate::put::Release;
 use crate::puts::put_files;
 use crate::release::release_for;
@@ -29,8 +31,9 @@ use sdc_base::Text;
 use std::alloc::Global;
 
 /// Does what the words say: `run JOB` puts a release of a job, `check JOB` says whether the release that stands under
-/// the job's names is one, `intervals JOB OUT` puts what a reader of its tables can find out of each hidden cell, and
-/// `demo SEED RECORDS` protects a made survey of so many records, 1 to 1,000,000, drawn from a seed.
+/// the job's names is one, `intervals JOB OUT` puts what a reader of its tables can find out of each hidden cell, `demo
+/// SEED RECORDS` protects a made survey of so many records, 1 to 1,000,000, drawn from a seed, and `migrate OLD NEW`
+/// puts the certificate OLD again as NEW, in the second version of its text.
 ///
 /// Of a job its metadata, the code lists and hierarchies of its spanning variables and its microdata are looked at in
 /// this order, then the number of cells, the a priori files by table, the cells with what is stated of them, and
@@ -43,11 +46,12 @@ use std::alloc::Global;
 /// not hidden.
 ///
 /// Other words are answered with the usage line. Usage, a refusal and a fault of the shelf leave the tray as it was,
-/// and so does each answer without a release or intervals. After a fault of the tray the files put before the one that
-/// failed stand whole, and of that one its first bytes may be there; after want of memory some of the files may have
-/// been put whole. No file is put twice, and `check` puts nothing. `demo` makes its files in memory, runs its job there
-/// in the same way, and says what came of it; it looks neither at the shelf nor at the tray. It takes any words, any
-/// shelf and any tray.
+/// and so does each answer without a release, intervals or a certificate that was put again. After a fault of the tray
+/// the files put before the one that failed stand whole, and of that one its first bytes may be there; after want of
+/// memory some of the files may have been put whole. No file is put twice, and `check` puts nothing. `demo` makes its
+/// files in memory, runs its job there in the same way, and says what came of it; it looks neither at the shelf nor at
+/// the tray. `migrate` refuses equal names first, then looks at the file OLD alone; what it puts is read as the same
+/// certificate. It takes any words, any shelf and any tray.
 ///
 /// Over a shelf that tells nothing, as one over real files, four answers have a cause that counts show: that a file is
 /// absent, that one is too long, a read fault and a write fault. What else is refused, and what is put, is said of told
@@ -76,6 +80,11 @@ pub fn run<S: Shelf, T: Tray>(alloc: Global, words: &[Text], shelf: &mut S, tray
         (λ numbers. IsDemoRunOf numbers.0 numbers.1 result (S.state shelf.old) (S.state shelf.new) (T.state tray.old)
         (T.state tray.new)) }
 
+    // What `migrate OLD NEW` answers of told files, what it puts, and to which file it comes.
+    ensures migration { WhereTold (commands.migration_names words.now)
+        (λ names. IsMigrationOf names.0 names.1 result (S.state shelf.old) (S.state shelf.new) (T.state tray.old)
+        (T.state tray.new)) }
+
     // That the tray is as it was, and that a file is absent or too long, a read fault and a write fault have their
     // cause, whatever the shelf and the tray tell.
     ensures untouched { LeavesAll result (T.state tray.old) (T.state tray.new) }
@@ -92,6 +101,9 @@ pub fn run<S: Shelf, T: Tray>(alloc: Global, words: &[Text], shelf: &mut S, tray
     }
     if let Some((seed, records)) = demo_numbers(words) {
         return run_demo(alloc, seed, records);
+    }
+    if let Some((old, new)) = migration_names(words) {
+        return migrate(alloc, old, new, shelf, tray);
     }
     Report::Usage
 }

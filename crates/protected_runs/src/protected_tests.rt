@@ -1,21 +1,25 @@
+use sdc_base::Memory;
+use std::alloc::Global;
 use std::rt::HostRuntime;
 use std::test::Fail;
 use worked_runs::{
-    BY_INDUSTRY, FIRMS, FIRMS_CERTIFICATE, FIRMS_SAID, FIRMS_TABLE, MARGINS, ONE_VARIABLE, SURVEY,
-    THIRTEEN_RECORDS, THREE_VARIABLES, TWO_WAY, TWO_WAY_SAID, WHOLE_FILES, run_alone,
+    BY_INDUSTRY, FIRMS, FIRMS_CERTIFICATE, FIRMS_SAID, FIRMS_TABLE, MARGINS, ONE_TABLE,
+    ONE_VARIABLE, SEVEN_RECORDS, SURVEY, THIRTEEN_RECORDS, THREE_VARIABLES, TWO_WAY, TWO_WAY_SAID,
+    WHOLE_FILES, run_alone,
 };
 
 const BOUNDED: &str = "a1,b2,b,48,52\n";
 
 // What is put where the inner cells of the two-way table are hidden.
 const INNER: &str =
-    "argus certificate 1\nmethod MOD\ncells 9\nrelations 6\nhidden 4 5 7 8\nstep 1 0,0 4 4,5,7,8\nneed 5 4 above 1 4:1\nneed 7 4 above 1 3:-1 4:1 5:1\nneed 8 4 above 1 3:-1 4:1\nworld 4 above 1 6 -6 -6 6\nworld 4 below 1 -6 6 6 -6\nend\nA,B,V\nTotal,Total,140\nTotal,b1,50\nTotal,b2,90\na1,Total,70\na1,b1,x\na1,b2,x\na2,Total,70\na2,b1,x\na2,b2,x\n";
+    "argus certificate 2\nmethod MOD\ncells 9\nrelations 6\nhidden 4 5 7 8\nstep 1 0,0 4 4,5,7,8\nneed 5 4 above 1 4:1\nneed 7 4 above 1 2:1\nneed 8 4 above 1 2:1 5:-1\nworld 4 above 1 4:6 5:-6 7:-6 8:6\nworld 4 below 1 4:-6 5:6 7:6 8:-6\nend\nA,B,V\nTotal,Total,140\nTotal,b1,50\nTotal,b2,90\na1,Total,70\na1,b1,x\na1,b2,x\na2,Total,70\na2,b1,x\na2,b2,x\n";
 
 // And where one of them is bounded, so that margins are hidden in its place.
 const OUTER: &str =
-    "argus certificate 1\nmethod MOD\ncells 9\nrelations 6\nhidden 3 4 6 7\nstep 1 0,0 4 3,4,6,7\nneed 3 4 above 1 4:1\nneed 6 4 above 1 2:1 5:-1\nneed 7 4 above 1 2:1\nworld 4 above 1 6 6 -6 -6\nworld 4 below 1 -6 -6 6 6\nend\nA,B,V\nTotal,Total,140\nTotal,b1,50\nTotal,b2,90\na1,Total,x\na1,b1,x\na1,b2,50\na2,Total,x\na2,b1,x\na2,b2,40\n";
+    "argus certificate 2\nmethod MOD\ncells 9\nrelations 6\nhidden 3 4 6 7\nstep 1 0,0 4 3,4,6,7\nneed 3 4 above 1 4:1\nneed 6 4 above 1 2:1 5:-1\nneed 7 4 above 1 2:1\nworld 4 above 1 3:6 4:6 6:-6 7:-6\nworld 4 below 1 3:-6 4:-6 6:6 7:6\nend\nA,B,V\nTotal,Total,140\nTotal,b1,50\nTotal,b2,90\na1,Total,x\na1,b1,x\na1,b2,50\na2,Total,x\na2,b1,x\na2,b2,40\n";
 
-// By what the office states, and by a change of the job: what is said of the two-way table and what is put.
+// By what the office states: what is said of the two-way table and what is put. How many steps a question may take has no
+// effect on it.
 #[test]
 fn two_way_tables(rt: HostRuntime) -> Result<(), Fail> {
     let alloc = rt.alloc();
@@ -32,11 +36,7 @@ fn two_way_tables(rt: HostRuntime) -> Result<(), Fail> {
             &bounded,
             "3 cannot protect cell 4 above\nmultipliers 1 4:1\n",
         ),
-        (
-            &short,
-            MARGINS,
-            "4 undecided: work, cell 4 above, 1 steps\n",
-        ),
+        (&short, MARGINS, inner.as_str()),
     ];
     for (job, statements, want) in rows {
         let files = [
@@ -67,9 +67,19 @@ fn linked_table(rt: HostRuntime) -> Result<(), Fail> {
         ("p.hst", BOUNDED),
     ];
     let want =
-        "0 released: 13 records, 0 skipped, 0 passed over, 15 cells, 1 primary, 6 hidden\nargus certificate 1\nmethod MOD\ncells 15\nrelations 11\nhidden 3 4 6 7 11 13\nstep 1 0,0 4 3,4,6,7\nstep 2 0,0 3 3,6,11,13\nneed 3 4 above 1 5:1\nneed 6 4 above 1 5:1 6:-1 8:-1 9:1\nneed 7 4 above 1 5:1 6:-1 7:1 8:-1 9:1\nneed 11 4 above 1 5:1 6:-1\nneed 13 4 above 1 5:1 6:-1 9:1\nworld 4 above 1 6 6 -6 -6 6 -6\nworld 4 below 1 -6 -6 6 6 -6 6\nend\nA,B,V\nTotal,Total,140\nTotal,b1,50\nTotal,b2,90\na1,Total,x\na1,b1,x\na1,b2,50\na2,Total,x\na2,b1,x\na2,b2,40\nA,C,V\nTotal,Total,140\nTotal,c1,55\nTotal,c2,85\na1,Total,x\na1,c1,x\na1,c2,40\na2,Total,x\na2,c1,x\na2,c2,45\n";
+        "0 released: 13 records, 0 skipped, 0 passed over, 15 cells, 1 primary, 6 hidden\nargus certificate 2\nmethod MOD\ncells 15\nrelations 11\nhidden 3 4 6 7 11 13\nstep 1 0,0 4 3,4,6,7\nstep 2 0,0 3 3,6,11,13\nneed 3 4 above 1 5:1\nneed 6 4 above 1 5:1 6:-1 8:-1 9:1\nneed 7 4 above 1 5:1 6:-1 7:1 8:-1 9:1\nneed 11 4 above 1 5:1 6:-1\nneed 13 4 above 1 5:1 6:-1 9:1\nworld 4 above 1 3:6 4:6 6:-6 7:-6 11:6 13:-6\nworld 4 below 1 3:-6 4:-6 6:6 7:6 11:-6 13:6\nend\nA,B,V\nTotal,Total,140\nTotal,b1,50\nTotal,b2,90\na1,Total,x\na1,b1,x\na1,b2,50\na2,Total,x\na2,b1,x\na2,b2,40\nA,C,V\nTotal,Total,140\nTotal,c1,55\nTotal,c2,85\na1,Total,x\na1,c1,x\na1,c2,40\na2,Total,x\na2,c1,x\na2,c2,45\n";
     let got = run_alone(alloc, &files, WHOLE_FILES, 0)?;
     assert_eq!(rt; got.as_str(), want);
+    // the two tables have no signs, so that a question may take more steps than are allowed
+    let short = job.replace(alloc, "<SUPPRESS>", "<STEPS> 1\n<SUPPRESS>")?;
+    let files = [
+        ("r.job", short.as_str()),
+        ("m.rda", THREE_VARIABLES),
+        ("m.asc", THIRTEEN_RECORDS),
+        ("p.hst", BOUNDED),
+    ];
+    let got = run_alone(alloc, &files, WHOLE_FILES, 0)?;
+    assert_eq!(rt; got.as_str(), "4 undecided: work, cell 4 above, 1 steps\n");
     Ok(())
 }
 
@@ -93,7 +103,7 @@ fn put_of_a_two_way_table(rt: HostRuntime) -> Result<(), Fail> {
         ("p.hst", MARGINS),
     ];
     let want =
-        "6 write fault: table 1\nargus certificate 1\nmethod MOD\ncells 9\nrelations 6\nhidden 4 5 7 8\nstep 1 0,0 4 4,5,7,8\nneed 5 4 above 1 4:1\nneed 7 4 above 1 3:-1 4:1 5:1\nneed 8 4 above 1 3:-1 4:1\nworld 4 above 1 6 -6 -6 6\nworld 4 below 1 -6 6 6 -6\nend\nA,B,V\nTotal,Total,140\nTotal,b1,50\nTotal,b2,90\na1,To";
+        "6 write fault: table 1\nargus certificate 2\nmethod MOD\ncells 9\nrelations 6\nhidden 4 5 7 8\nstep 1 0,0 4 4,5,7,8\nneed 5 4 above 1 4:1\nneed 7 4 above 1 2:1\nneed 8 4 above 1 2:1 5:-1\nworld 4 above 1 4:6 5:-6 7:-6 8:6\nworld 4 below 1 4:-6 5:6 7:6 8:-6\nend\nA,B,V\nTotal,Total,140\nTotal,b1,50\nTotal,b2,90\na1,To";
     let got = run_alone(rt.alloc(), &files, WHOLE_FILES, 2)?;
     assert_eq!(rt; got.as_str(), want);
     Ok(())
@@ -116,26 +126,55 @@ fn shown_total(rt: HostRuntime) -> Result<(), Fail> {
     Ok(())
 }
 
-// 1,501 codes of one record each: the component of the first has one hidden cell too many for a question.
+// A record of 10 for each code of four digits: two of eight, one of seven, and one of ten.
+fn records_of_four_levels(alloc: Global) -> Result<String, Memory> {
+    let mut records = String::new(alloc);
+    for code in 0_u32..4480 {
+        let (digit, above) = (code % 10, code / 10);
+        let (third, front) = (above % 7, above / 7);
+        let (second, first) = (front % 8, front / 8);
+        let line = format!(in alloc; "{first}{second}{third}{digit} 10\n")?;
+        records.push_str(line.as_str())?;
+    }
+    Ok(records)
+}
+
+// 5,000 codes of four levels, all of which a rule names that wants 1,000 records: 5,000 hidden cells hang together, more
+// than a question is asked of.
 #[test]
 fn too_many_hidden_cells(rt: HostRuntime) -> Result<(), Fail> {
     let alloc = rt.alloc();
-    let job = TWO_WAY.replace(alloc, "\"A\"\"B\"", "\"A\"")?;
-    let mut records = String::new(alloc);
-    for code in 1000_u32..2501 {
-        let line = format!(in alloc; "{code} 10\n")?;
-        records.push_str(line.as_str())?;
-    }
+    let job = ONE_TABLE.replace(alloc, "FREQ(3,30)", "FREQ(1000,30)")?;
+    let records = records_of_four_levels(alloc)?;
+    let metadata = "A 1 4\n<RECODEABLE>\n<HIERARCHICAL>\n<HIERLEVELS> 1 1 1 1\nV 5 3\n<NUMERIC>\n";
     let files = [
         ("r.job", job.as_str()),
-        ("m.rda", "A 1 4\n<RECODEABLE>\nV 5 3\n<NUMERIC>\n"),
+        ("m.rda", metadata),
         ("m.asc", records.as_str()),
-        ("p.hst", ""),
     ];
     let got = run_alone(alloc, &files, WHOLE_FILES, 0)?;
     assert_eq!(rt;
         got.as_str(),
-        "4 undecided: size, cell 1 above, 1501 hidden\n"
+        "4 undecided: size, cell 1 above, 5000 hidden\n"
+    );
+    Ok(())
+}
+
+// Three more records of a third code, each of 0: the rule on zeros names it, and its level is a number of units.
+#[test]
+fn zero_of_three_records(rt: HostRuntime) -> Result<(), Fail> {
+    let alloc = rt.alloc();
+    let job = ONE_TABLE.replace(alloc, "FREQ(3,30)", "FREQ(3,30)|ZERO(5)")?;
+    let records = format!(in alloc; "{SEVEN_RECORDS}c  0\nc  0\nc  0\n")?;
+    let files = [
+        ("r.job", job.as_str()),
+        ("m.rda", ONE_VARIABLE),
+        ("m.asc", records.as_str()),
+    ];
+    let got = run_alone(alloc, &files, WHOLE_FILES, 0)?;
+    assert_eq!(rt;
+        got.as_str(),
+        "0 released: 10 records, 0 skipped, 0 passed over, 4 cells, 1 primary, 2 hidden\nargus certificate 2\nmethod MOD\ncells 4\nrelations 1\nhidden 1 3\nstep 1 0 3 1,3\nneed 1 3 above 1 0:1\nworld 3 above 1 1:-5 3:5\nworld 3 below 1\nend\nA,V\nTotal,150\na,x\nb,90\nc,x\n"
     );
     Ok(())
 }

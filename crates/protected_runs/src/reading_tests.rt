@@ -8,7 +8,7 @@ use worked_runs::{
 };
 
 // The certificate of the same job where it rounds, and records for it.
-const ROUNDED: &str = "argus certificate 1\nmethod RND 5\ncells 9\nrelations 6\nend\n";
+const ROUNDED: &str = "argus certificate 2\nmethod RND 5\ncells 9\nrelations 6\nend\n";
 
 const FOUR: &str = "a1b1c1  3\na1b2c1  4\na2b1c1  6\na2b2c1  2\n";
 
@@ -48,8 +48,8 @@ fn intervals_of<'x>(alloc: Global, job: &'x str, table: &'x str) -> Result<Strin
 #[test]
 fn checks(rt: HostRuntime) -> Result<(), Fail> {
     let alloc = rt.alloc();
-    let moved = TWO_WAY_CERTIFICATE.replace(alloc, "above 1 6 -6", "above 1 7 -6")?;
-    let other = TWO_WAY_CERTIFICATE.replace(alloc, "certificate 1", "certificate 2")?;
+    let moved = TWO_WAY_CERTIFICATE.replace(alloc, "above 1 4:6 5:-6", "above 1 4:7 5:-6")?;
+    let other = TWO_WAY_CERTIFICATE.replace(alloc, "certificate 2", "certificate 3")?;
     let shown = TWO_WAY_TABLE.replace(alloc, "a1,b1,x", "a1,b1,20")?;
     let rows = [
         (TWO_WAY_CERTIFICATE, TWO_WAY_TABLE, "0 accepted\n"),

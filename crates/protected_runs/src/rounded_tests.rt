@@ -32,21 +32,21 @@ fn roundings(rt: HostRuntime) -> Result<(), Fail> {
             "<NODES> 1\n<SUPPRESS> RND(2)\n",
             TWO_VARIABLES,
             "11 1\n12 1\n21 1\n22 1\n",
-            "0 released: 4 records, 0 skipped, 0 passed over, 9 cells, 8 primary, 0 hidden\nargus certificate 1\nmethod RND 2\ncells 9\nrelations 6\nend\nA,B,V\nTotal,Total,4\nTotal,1,2\nTotal,2,2\n1,Total,2\n1,1,2\n1,2,0\n2,Total,2\n2,1,0\n2,2,2\n",
+            "0 released: 4 records, 0 skipped, 0 passed over, 9 cells, 8 primary, 0 hidden\nargus certificate 2\nmethod RND 2\ncells 9\nrelations 6\nend\nA,B,V\nTotal,Total,4\nTotal,1,2\nTotal,2,2\n1,Total,2\n1,1,2\n1,2,0\n2,Total,2\n2,1,0\n2,2,2\n",
         ),
         (
             "\"A\"",
             "<SUPPRESS> RND(1)\n",
             ONE_VARIABLE,
             SEVEN_RECORDS,
-            "0 released: 7 records, 0 skipped, 0 passed over, 3 cells, 0 primary, 0 hidden\nargus certificate 1\nmethod RND 1\ncells 3\nrelations 1\nend\nA,V\nTotal,150\na,60\nb,90\n",
+            "0 released: 7 records, 0 skipped, 0 passed over, 3 cells, 0 primary, 0 hidden\nargus certificate 2\nmethod RND 1\ncells 3\nrelations 1\nend\nA,V\nTotal,150\na,60\nb,90\n",
         ),
         (
             "\"A\"",
             "<SUPPRESS> RND(1)\n",
             CENTS,
             "a 0.50\na99.25\nb    1\n",
-            "0 released: 3 records, 0 skipped, 0 passed over, 3 cells, 2 primary, 0 hidden\nargus certificate 1\nmethod RND 1\ncells 3\nrelations 1\nend\nA,V\nTotal,101.00\na,100.00\nb,1.00\n",
+            "0 released: 3 records, 0 skipped, 0 passed over, 3 cells, 2 primary, 0 hidden\nargus certificate 2\nmethod RND 1\ncells 3\nrelations 1\nend\nA,V\nTotal,101.00\na,100.00\nb,1.00\n",
         ),
         (
             "\"A\"\"B\"\"C\"",
@@ -82,7 +82,7 @@ fn linked_tables_are_rounded_together(rt: HostRuntime) -> Result<(), Fail> {
     let method =
         "<SPECIFYTABLE> \"A\"\"C\"|\"V\"\n<WRITETABLE> (2,\"u.csv\")\n<SUPPRESS> RND(10)\n";
     let want =
-        "0 released: 13 records, 0 skipped, 0 passed over, 15 cells, 1 primary, 0 hidden\nargus certificate 1\nmethod RND 10\ncells 15\nrelations 11\nend\nA,B,V\nTotal,Total,140\nTotal,b1,50\nTotal,b2,90\na1,Total,70\na1,b1,20\na1,b2,50\na2,Total,70\na2,b1,30\na2,b2,40\nA,C,V\nTotal,Total,140\nTotal,c1,50\nTotal,c2,90\na1,Total,70\na1,c1,30\na1,c2,40\na2,Total,70\na2,c1,20\na2,c2,50\n";
+        "0 released: 13 records, 0 skipped, 0 passed over, 15 cells, 1 primary, 0 hidden\nargus certificate 2\nmethod RND 10\ncells 15\nrelations 11\nend\nA,B,V\nTotal,Total,140\nTotal,b1,50\nTotal,b2,90\na1,Total,70\na1,b1,20\na1,b2,50\na2,Total,70\na2,b1,30\na2,b2,40\nA,C,V\nTotal,Total,140\nTotal,c1,50\nTotal,c2,90\na1,Total,70\na1,c1,30\na1,c2,40\na2,Total,70\na2,c1,20\na2,c2,50\n";
     let job = rounding_job(rt.alloc(), "\"A\"\"B\"", method)?;
     let files = [
         ("r.job", job.as_str()),

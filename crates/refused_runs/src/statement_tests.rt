@@ -30,7 +30,7 @@ fn answer_of<'x>(alloc: Global, job: &'x str, statements: &'x str) -> Result<Str
 // What is said and put where all cells of these tables are shown, by how many are primary and the certificate's method.
 fn all_shown(alloc: Global, primary: u32, method: &str) -> Result<String, Memory> {
     Ok(format!(in alloc;
-        "0 released: 13 records, 0 skipped, 0 passed over, 15 cells, {primary} primary, 0 hidden\nargus certificate 1\nmethod {method}\ncells 15\nrelations 11\nend\n{BY_B_AND_BY_C}"
+        "0 released: 13 records, 0 skipped, 0 passed over, 15 cells, {primary} primary, 0 hidden\nargus certificate 2\nmethod {method}\ncells 15\nrelations 11\nend\n{BY_B_AND_BY_C}"
     )?)
 }
 

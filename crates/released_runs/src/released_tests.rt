@@ -35,7 +35,7 @@ fn answer_of<'x>(
 fn released(alloc: Global, numbers: &str, relations: u32, tables: &str) -> Result<String, Memory> {
     let cells = numbers.rsplit(' ').next().unwrap_or("");
     Ok(format!(in alloc;
-        "0 released: {numbers} cells, 0 primary, 0 hidden\nargus certificate 1\nmethod MOD\ncells {cells}\nrelations {relations}\nend\n{tables}"
+        "0 released: {numbers} cells, 0 primary, 0 hidden\nargus certificate 2\nmethod MOD\ncells {cells}\nrelations {relations}\nend\n{tables}"
     )?)
 }
 
@@ -191,13 +191,13 @@ fn jobs(rt: HostRuntime) -> Result<(), Fail> {
             &hypercube,
             ONE_VARIABLE,
             SEVEN_RECORDS,
-            "0 released: 7 records, 0 skipped, 0 passed over, 3 cells, 0 primary, 0 hidden\nargus certificate 1\nmethod GH 1\ncells 3\nrelations 1\nend\nA,V\nTotal,150\na,60\nb,90\n",
+            "0 released: 7 records, 0 skipped, 0 passed over, 3 cells, 0 primary, 0 hidden\nargus certificate 2\nmethod GH 1\ncells 3\nrelations 1\nend\nA,V\nTotal,150\na,60\nb,90\n",
         ),
         (
             &weighed,
             weights,
             "a             10       2\na              1       3\nb              5       1\n",
-            "0 released: 3 records, 0 skipped, 0 passed over, 3 cells, 0 primary, 0 hidden\nargus certificate 1\nmethod MOD\ncells 3\nrelations 1\nend\nA,V\nTotal,28\na,23\nb,5\n",
+            "0 released: 3 records, 0 skipped, 0 passed over, 3 cells, 0 primary, 0 hidden\nargus certificate 2\nmethod MOD\ncells 3\nrelations 1\nend\nA,V\nTotal,28\na,23\nb,5\n",
         ),
     ];
     for (job, metadata, microdata, want) in rows {
@@ -218,11 +218,11 @@ fn each_put_fails_in_turn(rt: HostRuntime) -> Result<(), Fail> {
     let rows = [
         (
             1,
-            "6 write fault: certificate\nargus certificate 1\nmethod ",
+            "6 write fault: certificate\nargus certificate 2\nmethod ",
         ),
         (
             2,
-            "6 write fault: table 1\nargus certificate 1\nmethod MOD\ncells 3\nrelations 1\nend\nA,V\nTotal,15",
+            "6 write fault: table 1\nargus certificate 2\nmethod MOD\ncells 3\nrelations 1\nend\nA,V\nTotal,15",
         ),
         (3, ONE_TABLE_RELEASED),
     ];
@@ -240,15 +240,15 @@ fn a_tray_with_a_release(rt: HostRuntime) -> Result<(), Fail> {
     let rows = [
         (
             "",
-            "0 released: 0 records, 0 skipped, 0 passed over, 1 cells, 0 primary, 0 hidden\nargus certificate 1\nmethod MOD\ncells 1\nrelations 0\nend\nA,V\nTotal,0\n",
+            "0 released: 0 records, 0 skipped, 0 passed over, 1 cells, 0 primary, 0 hidden\nargus certificate 2\nmethod MOD\ncells 1\nrelations 0\nend\nA,V\nTotal,0\n",
         ),
         (
             SEVEN_RECORDS,
-            "6 write fault: certificate\nargus certificate 1\nmethod A,V\nTotal,0\n",
+            "6 write fault: certificate\nargus certificate 2\nmethod A,V\nTotal,0\n",
         ),
         (
             "a",
-            "2 refused: record 1: Short\nargus certificate 1\nmethod A,V\nTotal,0\n",
+            "2 refused: record 1: Short\nargus certificate 2\nmethod A,V\nTotal,0\n",
         ),
         (SEVEN_RECORDS, ONE_TABLE_RELEASED),
     ];

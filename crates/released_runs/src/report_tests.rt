@@ -23,7 +23,7 @@ fn words(rt: HostRuntime) -> Result<(), Fail> {
         ("m.rda", ONE_VARIABLE),
         ("m.asc", SEVEN_RECORDS),
     ];
-    let rows: [(&[&str], &str); 11] = [
+    let rows: [(&[&str], &str); 13] = [
         (&[], USAGE),
         (&["run"], USAGE),
         (&["run", ""], USAGE),
@@ -33,6 +33,8 @@ fn words(rt: HostRuntime) -> Result<(), Fail> {
         (&["r.job", "run"], USAGE),
         (&["check", "r.job", "t.csv"], USAGE),
         (&["intervals", "r.job"], USAGE),
+        (&["migrate", "t.cert"], USAGE),
+        (&["Migrate", "t.cert", "u.cert"], USAGE),
         (&["run", "r"], "2 refused: job: Absent\n"),
         (&["run", "r.job"], ONE_TABLE_RELEASED),
     ];
@@ -84,7 +86,7 @@ fn reports(rt: HostRuntime) -> Result<(), Fail> {
     };
     let stuck = Stuck::Size {
         question,
-        hidden: 2000,
+        hidden: 5000,
     };
     let rows = [
         (
@@ -135,7 +137,7 @@ fn reports(rt: HostRuntime) -> Result<(), Fail> {
                 repairs: Items::empty(rt.alloc()),
                 shown: Items::empty(rt.alloc()),
             },
-            "4 undecided: size, cell 7 above, 2000 hidden\n",
+            "4 undecided: size, cell 7 above, 5000 hidden\n",
         ),
         (
             Report::Demo(DemoSummary {
@@ -168,6 +170,7 @@ fn reports(rt: HostRuntime) -> Result<(), Fail> {
             },
             "4 undecided: nodes, 1000000000000\n",
         ),
+        (Report::Migrated, "0 migrated\n"),
         (Report::Memory, "7 memory\n"),
     ];
     for (report, want) in rows {

@@ -10,7 +10,7 @@ pub const SEVEN_RECORDS: &str = "a 10\na 20\na 30\nb 20\nb 20\nb 20\nb 30\n";
 
 /// What is said of the seven records, and then the certificate and the table.
 pub const ONE_TABLE_RELEASED: &str =
-    "0 released: 7 records, 0 skipped, 0 passed over, 3 cells, 0 primary, 0 hidden\nargus certificate 1\nmethod MOD\ncells 3\nrelations 1\nend\nA,V\nTotal,150\na,60\nb,90\n";
+    "0 released: 7 records, 0 skipped, 0 passed over, 3 cells, 0 primary, 0 hidden\nargus certificate 2\nmethod MOD\ncells 3\nrelations 1\nend\nA,V\nTotal,150\na,60\nb,90\n";
 
 /// Metadata of three variables, and the response.
 pub const THREE_VARIABLES: &str =
@@ -22,7 +22,7 @@ pub const THIRTEEN_RECORDS: &str =
 
 /// What is said of words that ask for nothing.
 pub const USAGE: &str =
-    "1 usage: argus run JOB | check JOB | intervals JOB OUT | demo SEED RECORDS\n";
+    "1 usage: argus run JOB | check JOB | intervals JOB OUT | demo SEED RECORDS | migrate OLD NEW\n";
 
 /// A job of a two-way table, with an a priori file.
 pub const TWO_WAY: &str =
@@ -53,14 +53,14 @@ pub const FIRMS_SAID: &str =
 
 /// The certificate that it puts.
 pub const FIRMS_CERTIFICATE: &str =
-    "argus certificate 1\nmethod MOD\ncells 6\nrelations 3\nhidden 1 3 4 5\nstep 1 0 4 1,4\nstep 1 1 1 1,3\nneed 1 4 above 1 0:1\nneed 3 4 above 1 0:1 1:1\nworld 4 above 1 -3 -3 3 3\nworld 4 below 1 3 3 -3 -3\nworld 5 above 1 -3 -3 3 3\nworld 5 below 1 3 3 -3 -3\nend\n";
+    "argus certificate 2\nmethod MOD\ncells 6\nrelations 3\nhidden 1 3 4 5\nstep 1 0 4 1,4\nstep 1 1 1 1,3\nneed 1 4 above 1 0:1\nneed 3 4 above 1 0:1 1:1\nworld 4 above 1 1:-3 3:-3 4:3 5:3\nworld 4 below 1 1:3 3:3 4:-3 5:-3\nworld 5 above 1 1:-3 3:-3 4:3 5:3\nworld 5 below 1 1:3 3:3 4:-3 5:-3\nend\n";
 
 /// The table that it puts.
 pub const FIRMS_TABLE: &str = "Ind,Turn\nTotal,117\n1,x\n11,60\n12,x\n2,x\n21,x\n";
 
 /// The certificate of the two-way job, as its run puts it.
 pub const TWO_WAY_CERTIFICATE: &str =
-    "argus certificate 1\nmethod MOD\ncells 9\nrelations 6\nhidden 4 5 7 8\nstep 1 0,0 4 4,5,7,8\nneed 5 4 above 1 4:1\nneed 7 4 above 1 3:-1 4:1 5:1\nneed 8 4 above 1 3:-1 4:1\nworld 4 above 1 6 -6 -6 6\nworld 4 below 1 -6 6 6 -6\nend\n";
+    "argus certificate 2\nmethod MOD\ncells 9\nrelations 6\nhidden 4 5 7 8\nstep 1 0,0 4 4,5,7,8\nneed 5 4 above 1 4:1\nneed 7 4 above 1 2:1\nneed 8 4 above 1 2:1 5:-1\nworld 4 above 1 4:6 5:-6 7:-6 8:6\nworld 4 below 1 4:-6 5:6 7:6 8:-6\nend\n";
 
 /// The table of the two-way job.
 pub const TWO_WAY_TABLE: &str =
@@ -77,7 +77,7 @@ pub const FOUR_SAID: &str =
     "0 released: 4 records, 0 skipped, 0 passed over, 9 cells, 8 primary, 0 hidden\n";
 
 /// The certificate that is put then.
-pub const FOUR_CERTIFICATE: &str = "argus certificate 1\nmethod RND 5\ncells 9\nrelations 6\nend\n";
+pub const FOUR_CERTIFICATE: &str = "argus certificate 2\nmethod RND 5\ncells 9\nrelations 6\nend\n";
 
 /// The table that is put then.
 pub const FOUR_TABLE: &str =

@@ -32,7 +32,7 @@ returns-in-Protected-clause-comes c = λ settled is.
     suppressed-comes settled c.args.job _ c.requires.hides is (record {
       hidden_set = c.in-Protected.protected;
       certificate = c.in-Protected.certificate;
-      protects = outcome-for settled c.args.job c.in_ok-system.system c.as_slice.result.now c.in_ok-protection.protection (protection.Protected c.in-Protected.protected c.in-Protected.certificate) c.requires.hides is
+      protects = outcome-for settled c.args.job c.in_ok-system.system c.as_slice.result.now c.in_ok-protection.protection (protection.Protected c.in-Protected.protected c.in-Protected.certificate) c.requires.hides is c.cells-known.ensures.book
           (record { cells = c.in_ok-system.ensures.cells; relations = c.in_ok-system.ensures.exact }) c.as_slice.ensures c.in-Protected.is c.in_ok-protection.ensures.outcome;
       read_back = c.in_ok-puts-in-Protected.ensures.read_back;
       puts = c.in_ok-puts-in-Protected.ensures.puts settled.inputs (sym is.described) book
@@ -44,11 +44,11 @@ returns-in-Protected-clause-comes c = λ settled is.
 
 pub returns-in-Cannot-clause-comes : goal.returns-in-Cannot-clause-comes
 returns-in-Cannot-clause-comes c = λ settled is.
-    outcome-for settled c.args.job c.in_ok-system.system c.as_slice.result.now c.in_ok-protection.protection (protection.Cannot c.in-Cannot.cell c.in-Cannot.side c.in-Cannot.multipliers) c.requires.hides is
+    outcome-for settled c.args.job c.in_ok-system.system c.as_slice.result.now c.in_ok-protection.protection (protection.Cannot c.in-Cannot.cell c.in-Cannot.side c.in-Cannot.multipliers) c.requires.hides is c.cells-known.ensures.book
     (record { cells = c.in_ok-system.ensures.cells; relations = c.in_ok-system.ensures.exact }) c.as_slice.ensures c.in-Cannot.is c.in_ok-protection.ensures.outcome
 
 pub returns-clause-comes : goal.returns-clause-comes
 returns-clause-comes c = λ settled is.
-    let stopped = outcome-for settled c.args.job c.in_ok-system.system c.as_slice.result.now c.in_ok-protection.protection (protection.Undecided c.in-Undecided.stopped) c.requires.hides is
+    let stopped = outcome-for settled c.args.job c.in_ok-system.system c.as_slice.result.now c.in_ok-protection.protection (protection.Undecided c.in-Undecided.stopped) c.requires.hides is c.cells-known.ensures.book
     (record { cells = c.in_ok-system.ensures.cells; relations = c.in_ok-system.ensures.exact }) c.as_slice.ensures c.in-Undecided.is c.in_ok-protection.ensures.outcome in
     rw (c.from.ensures) (stopped-comes settled c.in-Undecided.stopped stopped)
