@@ -1,11 +1,15 @@
 ghost use Rattle.std.specs.Prelude.{◌≡◌, ◌^◌, ◌≤◌, ◌<◌};
 ghost use Rattle.sdc_base.specs.Counts.{HasRisen};
 
+use crate::real_files::RealFiles;
+use arrayvec::ArrayVec;
 use office_io::{BeginFault, Failed, Shelf};
 use sdc_base::Text;
-use std::fs;
 use std::io::{ErrorKind, Read};
 use std::rt::Files;
+
+// No longer path is opened by the system.
+const LONGEST_PATH: usize = 4096;
 
 /// The real files of the system, to be read by their paths: a run's inputs come from here.
 ///
@@ -13,29 +17,31 @@ use std::rt::Files;
 /// The shelf is a trusted edge: it tells nothing of what the files hold, since no proof sees the
 /// system. It counts its faults, the files that it didn't find, and the bytes that it gave and the
 /// reads that it was asked for since a file was last begun. Each count stands still at the last value
-/// of its type.
+/// of its type. The system's reason of a fault goes to standard error.
 #[derive(Drop)]
 pub struct FileShelf<'a, R: Files> {
-    rt: &'a R,
-    // the chosen file
+    files: &'a RealFiles<'a, R>,
+    // the chosen file, and its name
     file: Option<R::File>,
+    name: ArrayVec<u8, LONGEST_PATH>,
     taken: u64,
     reads: u64,
     faults: u64,
     absences: u64,
 }
 
-impl<'a, R: Files> FileShelf<'a, R> {
+impl<'a, R: Files + Eprint> FileShelf<'a, R> {
     ghost use Rattle.std.specs.Prelude.{Some, None, []};
 
     /// A shelf from which no file is chosen yet.
-    pub fn new(rt: &'a R) -> Self
+    pub fn new(files: &'a RealFiles<'a, R>) -> Self
         ensures { ⟦<FileShelf<'a, R> as Shelf>⟧.state result
             ≡ record { files = None; left = Some []; taken = 0; reads = 0; last = None; faults = 0; absences = 0 } }
     {
         FileShelf {
-            rt,
+            files,
             file: None,
+            name: ArrayVec::new(),
             taken: 0,
             reads: 0,
             faults: 0,
@@ -53,7 +59,7 @@ impl<'a, R: Files> FileShelf<'a, R> {
     }
 }
 
-impl<'a, R: Files> Shelf for FileShelf<'a, R> {
+impl<'a, R: Files + Eprint> Shelf for FileShelf<'a, R> {
     ghost use Rattle.std.specs.Prelude.{Some, None, [], if◌then◌else◌, is_some};
 
     ghost state = { λ s. record {
@@ -71,20 +77,19 @@ impl<'a, R: Files> Shelf for FileShelf<'a, R> {
         self.taken = 0;
         self.reads = 0;
         // A name that isn't UTF-8 is a fault: the kit opens no such path, so nobody has looked.
-        let Ok(path) = str::from_utf8(name.as_slice()) else {
-            self.count_fault();
-            return Err(BeginFault::Failed);
-        };
-        match fs::open(self.rt, path) {
+        match self.files.open(name) {
             Ok(file) => {
                 self.file = Some(file);
+                self.name.clear();
+                let _ = self.name.try_extend_from_slice(name.as_slice());
                 Ok(())
             }
             Err(e) if e.kind() == ErrorKind::NotFound => {
                 self.absences = self.absences.saturating_add(1);
                 Err(BeginFault::Absent)
             }
-            Err(_) => {
+            Err(e) => {
+                self.files.tell(name.as_slice(), &e);
                 self.count_fault();
                 Err(BeginFault::Failed)
             }
@@ -102,7 +107,8 @@ impl<'a, R: Files> Shelf for FileShelf<'a, R> {
                 self.taken = self.taken.saturating_add(n as u64);
                 Ok(n)
             }
-            Err(_) => {
+            Err(e) => {
+                self.files.tell(self.name.as_slice(), &e);
                 self.count_fault();
                 Err(Failed)
             }
@@ -113,6 +119,7 @@ impl<'a, R: Files> Shelf for FileShelf<'a, R> {
 #[cfg(test)]
 mod tests {
     use super::FileShelf;
+    use crate::real_files::RealFiles;
     use crate::test_folder::TestFolder;
     use office_io::{FileFault, Shelf, read_all};
     use sdc_base::Text;
@@ -139,7 +146,8 @@ mod tests {
             ("long\0", Some(FileFault::Failed), 2, 2, 0),
             ("long", None, 2, 2, 9_000),
         ];
-        let mut shelf = FileShelf::new(&rt);
+        let files = RealFiles::new(&rt);
+        let mut shelf = FileShelf::new(&files);
         for (file, fault, faults, absences, taken) in rows {
             match read_all(alloc, &mut shelf, &folder.name(&rt, file)?, 9_000) {
                 Ok(read) => {

@@ -5,6 +5,7 @@
 mod answer;
 mod file_shelf;
 mod folder_tray;
+mod real_files;
 #[cfg(test)]
 mod test_folder;
 mod words;
@@ -12,6 +13,7 @@ mod words;
 use crate::answer::{ended_by, without_words};
 use crate::file_shelf::FileShelf;
 use crate::folder_tray::FolderTray;
+use crate::real_files::RealFiles;
 use crate::words::words_of;
 use job_run::run;
 use std::process::ExitCode;
@@ -20,8 +22,9 @@ fn main(rt: HostRuntime) -> ExitCode {
     let Ok(words) = words_of(&rt, rt.alloc()) else {
         return without_words();
     };
-    let mut shelf = FileShelf::new(&rt);
-    let mut tray = FolderTray::new(&rt);
+    let files = RealFiles::new(&rt);
+    let mut shelf = FileShelf::new(&files);
+    let mut tray = FolderTray::new(&files);
     let report = run(rt.alloc(), words.as_slice(), &mut shelf, &mut tray);
     ended_by(&rt, rt.alloc(), &report)
 }

@@ -1,0 +1,231 @@
+ghost use Rattle.std.specs.Prelude.{◌≡◌, ◌↔◌, Some, None, true, Contains};
+
+use arrayvec::ArrayVec;
+use sdc_base::Text;
+use std::cell::RefCell;
+use std::fmt::{Display, Formatter, Write as _};
+use std::fs::{Metadata, OpenFile, OpenOptions};
+use std::io::{Error, ErrorKind, Write};
+use std::os::unix::fs::MetadataExt;
+use std::rt::Files;
+use std::{fmt, fs, io};
+
+/// A file, by what the system says that it is: its device, and its number there.
+///
+/// All names that lead to one file give one mark: other spellings, links of both kinds, and ways
+/// through other folders.
+#[derive(Clone, Copy, Default, PartialEq, Eq)]
+struct FileMark {
+    device: u64,
+    inode: u64,
+}
+
+/// Why a name isn't written to.
+#[derive(Clone, Copy, PartialEq, Eq)]
+enum Refusal {
+    /// The name leads to a folder, a device, a pipe or a socket.
+    NotPlain,
+    /// The name leads to a file that was read or put before.
+    Opened,
+}
+
+// How many files a run opens at most, with room to spare: of 8 tables, 8 variables that span them
+// and 8 a priori files there come fewer than 40.
+const MOST: usize = 64;
+
+/// The real files of the system, and which of them a run has opened.
+///
+/// A shelf and a tray that share it never write to a file that one of them opened before. It takes
+/// no memory.
+#[derive(Drop)]
+pub struct RealFiles<'a, R> {
+    rt: &'a R,
+    opened: RefCell<ArrayVec<FileMark, MOST>>,
+}
+
+impl<'a, R: Files + Eprint> RealFiles<'a, R> {
+    /// None was opened so far.
+    pub fn new(rt: &'a R) -> Self {
+        RealFiles {
+            rt,
+            opened: RefCell::new(ArrayVec::new()),
+        }
+    }
+
+    /// Opens a file to be read, whatever it is, and remembers it.
+    ///
+    /// One that can't be remembered isn't read. The error is of the kind `NotFound` where the system
+    /// finds no file.
+    pub fn open(&self, name: &Text) -> io::Result<R::File> {
+        let file = fs::open(self.rt, path_of(name)?)?;
+        self.remember(mark_of(&file.metadata()?))?;
+        Ok(file)
+    }
+
+    /// Makes or replaces a plain file, and remembers it.
+    ///
+    /// A name that leads to anything but a plain file, or to one that was opened before, is refused
+    /// before it is opened. Since another program may turn the name elsewhere in between, the opened
+    /// file is looked at once more, before anything is cut from it or written to it.
+    pub fn write(&self, name: &Text, bytes: &[u8]) -> io::Result<()> {
+        let path = path_of(name)?;
+        match fs::metadata(self.rt, path) {
+            Ok(found) => self.check(&found)?,
+            Err(e) if e.kind() == ErrorKind::NotFound => {}
+            Err(e) => return Err(e),
+        }
+        let mut how = OpenOptions::new();
+        how.write(true).create(true);
+        let mut file = how.open(self.rt, path)?;
+        let found = file.metadata()?;
+        self.check(&found)?;
+        self.remember(mark_of(&found))?;
+        file.set_len(0)?;
+        file.write_all(bytes)
+    }
+
+    /// Says on standard error, in one line, why a file of this name wasn't read or put.
+    pub fn tell(&self, name: &[u8], why: &Error) {
+        let name = Shown(name);
+        let _ = eprintln!(self.rt; "argus: {name}: {why}");
+    }
+
+    // Refuses a file that may not be written to.
+    fn check(&self, found: &Metadata) -> io::Result<()> {
+        let Ok(opened) = self.opened.try_borrow() else {
+            return Err(Error::other("the list of opened files is in use"));
+        };
+        match why_not(opened.as_slice(), found.is_file(), mark_of(found)) {
+            None => Ok(()),
+            Some(Refusal::NotPlain) => Err(Error::other("is no plain file")),
+            Some(Refusal::Opened) => Err(Error::other("was read or written before in this run")),
+        }
+    }
+
+    fn remember(&self, mark: FileMark) -> io::Result<()> {
+        let Ok(mut opened) = self.opened.try_borrow_mut() else {
+            return Err(Error::other("the list of opened files is in use"));
+        };
+        match opened.try_push(mark) {
+            Ok(()) => Ok(()),
+            Err(_) => Err(Error::other("too many files were opened")),
+        }
+    }
+}
+
+// Why a file may not be written to, of which it is known whether it is plain and which it is.
+fn why_not(opened: &[FileMark], is_plain: bool, mark: FileMark) -> Option<Refusal>
+    ensures free { (result ≡ None) ↔ ((is_plain ≡ true) × ¬ (Contains opened.now mark)) }
+    ensures opened { (result ≡ Some Refusal.Opened) → Contains opened.now mark }
+{
+    if !is_plain {
+        return Some(Refusal::NotPlain);
+    }
+    if opened.contains(&mark) {
+        return Some(Refusal::Opened);
+    }
+    None
+}
+
+fn mark_of(found: &Metadata) -> FileMark {
+    FileMark {
+        device: found.dev(),
+        inode: found.ino(),
+    }
+}
+
+// A name as a path. The kit opens no path that isn't UTF-8.
+fn path_of(name: &Text) -> io::Result<&str> {
+    match str::from_utf8(name.as_slice()) {
+        Ok(path) => Ok(path),
+        Err(_) => Err(Error::new(ErrorKind::InvalidInput, "the name isn't UTF-8")),
+    }
+}
+
+// A name as it is printed: in one line, whatever bytes it has.
+#[derive(Drop)]
+struct Shown<'a>(&'a [u8]);
+
+impl Display for Shown<'_> {
+    fn fmt<W: fmt::Write>(&self, f: &mut Formatter<W>) -> fmt::Result {
+        let Ok(text) = str::from_utf8(self.0) else {
+            return f.write_str("?");
+        };
+        for c in text.chars() {
+            f.write_char(if c.is_control() { '?' } else { c })?;
+        }
+        Ok(())
+    }
+}
+
+#[cfg(test)]
+mod tests {
+    use super::RealFiles;
+    use crate::file_shelf::FileShelf;
+    use crate::folder_tray::FolderTray;
+    use crate::test_folder::TestFolder;
+    use office_io::{PutFault, Tray, read_all};
+    use std::fs;
+    use std::os::unix;
+    use std::test::Fail;
+
+    // Names of the file that was read, of the one that was put, and of what is no plain file.
+    const REFUSED: [&str; 11] = [
+        "firms",
+        "./firms",
+        "inner/../firms",
+        "hard",
+        "link",
+        "way/firms",
+        "table",
+        "way/table",
+        "inner",
+        "way",
+        "device",
+    ];
+
+    fn make_names(rt: &HostRuntime, folder: &TestFolder) -> Result<(), Fail> {
+        let firms = folder.path(rt, "firms")?;
+        fs::write(rt, firms.as_str(), "held")?;
+        fs::create_dir(rt, folder.path(rt, "inner")?.as_str())?;
+        fs::hard_link(rt, firms.as_str(), folder.path(rt, "hard")?.as_str())?;
+        unix::fs::symlink(rt, "firms", folder.path(rt, "link")?.as_str())?;
+        unix::fs::symlink(rt, ".", folder.path(rt, "way")?.as_str())?;
+        unix::fs::symlink(rt, "/dev/full", folder.path(rt, "device")?.as_str())?;
+        unix::fs::symlink(rt, "new", folder.path(rt, "ahead")?.as_str())?;
+        fs::write(rt, folder.path(rt, "older")?.as_str(), "of an earlier run")?;
+        Ok(())
+    }
+
+    fn holds(rt: &HostRuntime, folder: &TestFolder, file: &str, want: &str) -> Result<bool, Fail> {
+        let bytes = fs::read(rt, folder.path(rt, file)?.as_str())?;
+        Ok(bytes.as_slice() == want.as_bytes())
+    }
+
+    #[test]
+    fn no_opened_file_is_written_to(rt: HostRuntime) -> Result<(), Fail> {
+        let folder = TestFolder::make(&rt, "opened")?;
+        make_names(&rt, &folder)?;
+        let files = RealFiles::new(&rt);
+        let mut shelf = FileShelf::new(&files);
+        let mut tray = FolderTray::new(&files);
+        assert!(rt; read_all(rt.alloc(), &mut shelf, &folder.name(&rt, "way/link")?, 9).is_ok());
+        assert!(rt; tray.put(&folder.name(&rt, "table")?, b"first").is_ok());
+        for file in REFUSED {
+            let put = tray.put(&folder.name(&rt, file)?, b"x");
+            assert_eq!(rt; put.err(), Some(PutFault::Failed), "{file}");
+            assert!(rt; holds(&rt, &folder, "firms", "held")?, "{file}");
+            assert!(rt; holds(&rt, &folder, "table", "first")?, "{file}");
+        }
+        for file in ["older", "ahead"] {
+            assert!(rt;
+                tray.put(&folder.name(&rt, file)?, b"whole").is_ok(),
+                "{file}"
+            );
+        }
+        assert!(rt; holds(&rt, &folder, "older", "whole")?);
+        assert!(rt; holds(&rt, &folder, "new", "whole")?);
+        assert!(rt; tray.put(&folder.name(&rt, "new")?, b"x").is_err());
+        folder.remove(&rt)
+    }
+}
