@@ -5,7 +5,7 @@ usage: run.py PROGRAM [COUNT] [SEED]
 
 It takes five examples with all their files, releases them once, and then damages one file at a time, of every kind: job, metadata, hierarchy, code
 list, microdata, a priori file, certificate and table. A damage flips a bit, raises a byte, cuts the file, doubles a part of it, drops a
-part, moves a line or puts another file in its place. The words are `run`, `check` or `intervals`, as the kind of the file asks. Each call has to end
+part, moves a line or puts another file in its place. The words are `run`, `check`, `intervals` or `migrate`, as the kind of the file asks. Each call has to end
 within ten seconds with a status of argus and a line that the manual has; where nothing may be put, no file may differ afterwards. It prints
 how many calls ended with each status, and each call that broke this; its status is then 1. COUNT is 10,000 and SEED 1 where they
 aren't given. It stands outside `rt ci`.
@@ -26,7 +26,7 @@ JOBS = (("protected", "turnover.job"), ("linked", "firms.job"), ("manual", "surv
 PUT = (".cert", ".csv")
 
 LINES = {
-    0: r"released: \d+ records, \d+ skipped, \d+ passed over, \d+ cells, \d+ primary, \d+ hidden|accepted|intervals: \d+ cells",
+    0: r"released: \d+ records, \d+ skipped, \d+ passed over, \d+ cells, \d+ primary, \d+ hidden|accepted|intervals: \d+ cells|migrated",
     2: r"refused: .+",
     3: r"cannot protect cell \d+ (above|below)\nmultipliers \d+( \d+:-?\d+)*|no rounding|not accepted: .+",
     4: r"undecided: (work, cell \d+ (above|below), \d+ steps|wide, cell \d+ (above|below)|size, cell \d+ (above|below), \d+ hidden|nodes, \d+)",
@@ -66,6 +66,8 @@ def contents(folder):
 
 
 def words_for(draw, name, job):
+    if name.endswith(".cert"):
+        return draw.choice((["check", job], ["intervals", job, "ranges.out"], ["migrate", name, "again.cert"]))
     if name.endswith(PUT):
         return draw.choice((["check", job], ["intervals", job, "ranges.out"]))
     return draw.choice((["run", job], ["check", job], ["intervals", job, "ranges.out"]))
@@ -76,7 +78,7 @@ def is_right(done, before, after):
     line = LINES.get(done.returncode)
     if line is None or not re.fullmatch("(?:%s)\n" % line, said):
         return False
-    may_put = said.startswith(("released", "intervals", "write fault"))
+    may_put = said.startswith(("released", "intervals", "migrated", "write fault"))
     return may_put or before == after
 
 

@@ -3,11 +3,11 @@
 
 usage: run.py
 
-A table of 140 by 140 codes has five or six records in most of its 19,600 inner cells, and two in about a tenth of them, which are
-primary; or fifty-odd in most; and one of 26 by 26 by 26 codes has five or six. A table of two variables with three levels of codes each, of five and five
-and five codes and of four and five and five, has 19,500 cells in all, of which about a tenth are primary. Each is run twice: with a rule that names these
-cells, and with one that names none. The first run plans, and then ends as `undecided: size`, since more than 1,500 hidden cells hang together; the
-second reads, adds up and writes. It needs `python3` and the program built (`../../argus` does that).
+A table of 240 by 240 codes has five or six records in most of its 57,600 inner cells, and two in about a tenth of them, which are
+primary; or sixteen or seventeen in most; and one of 26 by 26 by 26 codes has five or six. A table of two variables with three levels of codes each, of
+five and five and five codes and of four and five and five, has 19,500 cells in all, of which about a tenth are primary. Each is run twice: with a rule that
+names these cells, and with one that names none. The first run plans, and then ends soon: as `undecided: size` in the flat tables of two variables, where
+more than 4,000 hidden cells hang together, and else as `undecided: work`, since a question may take one step alone. The second reads, adds up and writes. It needs `python3` and the program built (`../../argus` does that).
 """
 
 import os
@@ -82,11 +82,11 @@ def timed(folder, dimensions, least):
 
 
 def main():
-    flat, small = [(3, 140)], [(3, 26)]
+    flat, small = [(3, 240)], [(3, 26)]
     wide, deep = [(1, 5), (1, 5), (1, 5)], [(1, 4), (1, 5), (1, 5)]
     tables = (
-        ("140 by 140 codes", [flat, flat], 5, 0.1),
-        ("140 by 140 codes", [flat, flat], 50, 0.1),
+        ("240 by 240 codes", [flat, flat], 5, 0.1),
+        ("240 by 240 codes", [flat, flat], 16, 0.1),
         ("26 by 26 by 26 codes", [small, small, small], 5, 0.1),
         ("three levels by three, 156 by 125 codes", [wide, deep], 5, 0.16),
         ("three levels by three, 156 by 125 codes", [wide, deep], 50, 0.16),
