@@ -16,8 +16,8 @@ figures truth freq first second third =
     record { truth = pos truth; freq = freq; largest = λ n. sum_of_first n (pos first ∷ pos second ∷ pos third ∷ []) }
 
 -- Levels by the rules: dominance with 8000 / 75 rounded up, less 100; the greatest level holds; exactly 75 percent and
--- exactly 10 percent name no cell; and a level of 0 percent is still a unit. A cell that shows 0 is named where it has
--- records alone.
+-- exactly 10 percent name no cell; and a level of 0 percent is still a unit. A cell that shows 0 is named only where it
+-- has records.
 pub record RuleRows : Type 0 where
   pub dominance : level_of (rule.Nk 1 75 ∷ []) (figures 100 3 80 15 5) ≡ Some (record { up = pos 7; down = pos 7 })
   pub percent : level_of (rule.Percent 10 ∷ []) (figures 100 3 80 15 5) ≡ Some (record { up = pos 3; down = pos 3 })

@@ -62,8 +62,8 @@ abbrev pub fraction_less : Fraction → ℤ → Fraction
 fraction_less q n = fraction_of (q.over +ℤ neg_ℤ (pos q.under *ℤ n)) q.under
 
 -- How far the rule wants a cell that it names to be open upwards: r percent of the truth; what the truth lacks for the
--- n largest to be k percent of it; what the rest lacks for p percent of the largest, or for p parts in q of it; or r
--- units.
+-- n largest to be k percent of it; what the rest lacks for p percent of the largest, or for p / q of the largest; or
+-- r units.
 abbrev pub wanted_level : Rule → Figures → Fraction
 wanted_level (rule.Freq n r) cell = fraction_of (pos r *ℤ cell.truth) 100
 wanted_level (rule.Nk n k) cell = fraction_less (fraction_of (pos 100 *ℤ cell.largest n) k) cell.truth
