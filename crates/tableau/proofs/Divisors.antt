@@ -1,12 +1,11 @@
 -- Divisors of whole numbers and of lists of them.
-use Rattle.std.proofs.Common.{◌≡◌, ◌||◌, Bool, true, false, ℕ, zero, suc, ◌+◌, ◌*◌, ◌<◌, ◌^◌, ◌%◌, List, [], ◌∷◌, length, length-take, take, get_or, All, ℤ, pos, negsuc, ◌-ℤ◌, ◌*ℤ◌, ◌≤ℤ◌, ◌<ℤ◌, neg_ℤ, unsigned_abs, arith, refl, ap, sym, subst, ◌∙◌, to_z, FitsSigned}
+use Rattle.std.proofs.Common.{◌≡◌, ◌||◌, Bool, true, false, ℕ, zero, suc, ◌+◌, ◌*◌, ◌<◌, ◌^◌, ◌%◌, List, [], ◌∷◌, length, length-take, take, get_or, All, ℤ, pos, negsuc, ◌-ℤ◌, ◌*ℤ◌, ◌≤ℤ◌, unsigned_abs, arith, refl, ap, sym, subst, ◌∙◌, to_z, FitsSigned}
 use Prim.Native.Nat.{◌∣◌}
 use Rattle.std.specs.Int.{w128, IsGcd}
 use Rattle.std.specs.Int.RustNames.{int_div, int_rem}
 use Rattle.std.specs.List.{list_any}
 use Rattle.std.proofs.Math.Nat.{eq-zero_of_zero-dvd}
-use Rattle.std.proofs.lemmas.Int.{ints, quot-rem, to_z_pos, unsigned_abs-mul}
-use Rattle.std.proofs.lemmas.Nat.{mul-lt}
+use Rattle.std.proofs.lemmas.Int.{ints, quot-rem, to_z_pos}
 use Rattle.std.proofs.lemmas.Nat.Gcd.{le_of_dvd, dvd_trans, mod-eq-zero_of_dvd}
 use Rattle.std.proofs.lemmas.List.{take-take, get_or-take}
 use Rattle.std.proofs.lemmas.List.Elements.{All-get_or, All-take, All-more, All-weaker}
@@ -63,25 +62,6 @@ last_wide one other x y ex ey wide = or_last (is_wide one) (is_wide other) (is_w
 pub abs_small : (z : ℤ) → pos 1 ≤ℤ z → FitsSigned w128 z → unsigned_abs z < 2 ^ 127
 abs_small (pos n) up fits = fits.sfits
 abs_small (negsuc n) up fits = absurd (omega (arith, ints))
-
--- ---- products of small numbers
-
-pub fits_small : (z : ℤ) → unsigned_abs z < 2 ^ 127 → FitsSigned w128 z
-fits_small (pos n) less = record { sfits = omega (arith, less) }
-fits_small (negsuc n) less = record { sfits = omega (arith, less) }
-
-small_product : (x y : ℤ) → unsigned_abs x < 2 ^ 60 → unsigned_abs y < 2 ^ 60 → unsigned_abs (x *ℤ y) < 2 ^ 127
-small_product x y x_small y_small = omega (arith, unsigned_abs-mul x y, mul-lt (unsigned_abs x) (unsigned_abs y) (2 ^ 60) (2 ^ 60) x_small y_small)
-
-pub product_fits : (x y : ℤ) → unsigned_abs x < 2 ^ 60 → unsigned_abs y < 2 ^ 60 → FitsSigned w128 (x *ℤ y)
-product_fits x y x_small y_small = fits_small (x *ℤ y) (small_product x y x_small y_small)
-
-above_small : (z : ℤ) → unsigned_abs z < 2 ^ 127 → neg_ℤ (pos (2 ^ 127)) <ℤ z
-above_small (pos n) less = omega (arith, ints, less)
-above_small (negsuc n) less = omega (arith, ints, less)
-
-pub product_above_least : (x y : ℤ) → unsigned_abs x < 2 ^ 60 → unsigned_abs y < 2 ^ 60 → neg_ℤ (pos (2 ^ 127)) <ℤ (x *ℤ y)
-product_above_least x y x_small y_small = above_small (x *ℤ y) (small_product x y x_small y_small)
 
 -- ---- all of some first things
 

@@ -10,7 +10,7 @@ ghost use Rattle.tableau.specs.NewRows.{placed_list, IsPivot, IsNewRow};
 
 use crate::common_divisor::gcd;
 use crate::dividing::quotient;
-use crate::entries::{entry_at, least_place, number_here, past_place, place_at, put};
+use crate::entries::{entry_at, entry_here, least_place, place_at, put};
 use crate::faults::{ExchangeFault, RowFault, at_place};
 use crate::lowest_row::lowest_row;
 use crate::products::{narrow_difference, narrow_product};
@@ -55,6 +55,12 @@ fn number_outside(
         };
         return Some(-product);
     }
+    if g == 0 {
+        let Some(own) = narrow_product(e, p) else {
+            return None;
+        };
+        return Some(own);
+    }
     let Some(number) = crossed_number(e, p, f, g) else {
         return None;
     };
@@ -80,7 +86,7 @@ fn crossed_row(
         → (j < width) × (list_any is_wide
         (crossed_products den p f column j (coefficient own.now j) (coefficient pivot.now j)) ≡ true) }
 {
-    let Ok(mut made) = Vec::with_capacity(alloc, own.len()) else {
+    let Ok(mut made) = Vec::with_capacity(alloc, own.len() + pivot.len()) else {
         return Err(RowFault::Memory);
     };
     let mut i = 0;
@@ -91,17 +97,17 @@ fn crossed_row(
         if place >= width {
             return Ok(Items::new(made));
         }
-        let e = number_here(own, i, place);
-        let g = number_here(pivot, j, place);
-        let Some(number) = number_outside(den, p, f, column, place, e, g) else {
+        let here = entry_here(own, i, place);
+        let there = entry_here(pivot, j, place);
+        let Some(number) = number_outside(den, p, f, column, place, here.0, there.0) else {
             return Err(RowFault::Wide(place as usize));
         };
         match put(&mut made, place, number) {
             Ok(()) => {}
             Err(_) => return Err(RowFault::Memory),
         }
-        i = past_place(own, i, place);
-        j = past_place(pivot, j, place);
+        i = here.1;
+        j = there.1;
         next = place + 1;
     }
     Ok(Items::new(made))

@@ -15,6 +15,20 @@ pub(crate) fn quotient(number: i128, by: i128) -> i128
     if by == 1 {
         return number;
     }
+    if let Ok(small) = i64::try_from(number) {
+        if let Ok(small_by) = i64::try_from(by) {
+            return small_quotient(small, small_by) as i128;
+        }
+    }
+    number / by
+}
+
+// The same, of numbers of 64 bits.
+fn small_quotient(number: i64, by: i64) -> i64
+    requires by { pos 1 ≤ℤ by }
+    requires divides { unsigned_abs by ∣ unsigned_abs number }
+    ensures { result *ℤ by ≡ number }
+{
     number / by
 }
 

@@ -67,6 +67,20 @@ pub(crate) fn past_place(entries: &[(u32, i128)], i: usize, place: u32) -> usize
     i
 }
 
+// The number at a place, which no entry behind the first i is before, and how many entries are passed with it.
+pub(crate) fn entry_here(entries: &[(u32, i128)], i: usize, place: u32) -> (i128, usize)
+    requires { AreEntriesFrom place i entries.now }
+    ensures number { result.0 ≡ coefficient entries.now place }
+    ensures past { AreEntriesFrom (place + 1) result.1 entries.now }
+{
+    if i < entries.len() {
+        if entries[i].0 == place {
+            return (entries[i].1, i + 1);
+        }
+    }
+    (0, i)
+}
+
 // The lesser of two places.
 pub(crate) fn least_place(one: u32, other: u32) -> u32
     ensures one { result ≤ one }

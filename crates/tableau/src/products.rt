@@ -1,4 +1,4 @@
-ghost use Rattle.std.specs.Prelude.{◌≡◌, ◌*◌, ◌<◌, ◌≤◌, pos, ◌*ℤ◌, ◌<ℤ◌, ◌-ℤ◌, neg_ℤ, ◌^◌, true, unsigned_abs, IsTrue, IfSome, IfNone};
+ghost use Rattle.std.specs.Prelude.{◌≡◌, ◌*◌, ◌<◌, ◌≤◌, pos, ◌*ℤ◌, ◌<ℤ◌, ◌-ℤ◌, neg_ℤ, ◌^◌, true, IfSome, IfNone};
 ghost use Rattle.std.specs.Ordering.{nat_cmp};
 ghost use Rattle.tableau.specs.Widths.{is_wide};
 
@@ -35,8 +35,31 @@ fn compare_naturals(one: u128, times: u128, other: u128, other_times: u128) -> O
     }
 }
 
-// How one product stands to another, however wide both are; the second factors are above 0.
+// How one product stands to another; the second factors are above 0.
 pub(crate) fn compare_products(one: i128, times: i128, other: i128, other_times: i128) -> Ordering
+    requires times { pos 0 <ℤ times }
+    requires other_times { pos 0 <ℤ other_times }
+    ensures less { result ≡ Ordering.Less → (one *ℤ times) <ℤ (other *ℤ other_times) }
+    ensures equal { result ≡ Ordering.Equal → one *ℤ times ≡ other *ℤ other_times }
+    ensures greater { result ≡ Ordering.Greater → (other *ℤ other_times) <ℤ (one *ℤ times) }
+{
+    let Some(product) = narrow_product(one, times) else {
+        return compare_wide(one, times, other, other_times);
+    };
+    let Some(other_product) = narrow_product(other, other_times) else {
+        return compare_wide(one, times, other, other_times);
+    };
+    if product < other_product {
+        return Ordering::Less;
+    }
+    if other_product < product {
+        return Ordering::Greater;
+    }
+    Ordering::Equal
+}
+
+// How one product stands to another, however wide both are; the second factors are above 0.
+fn compare_wide(one: i128, times: i128, other: i128, other_times: i128) -> Ordering
     requires times { pos 0 <ℤ times }
     requires other_times { pos 0 <ℤ other_times }
     ensures less { result ≡ Ordering.Less → (one *ℤ times) <ℤ (other *ℤ other_times) }
@@ -65,14 +88,13 @@ pub(crate) fn compare_products(one: i128, times: i128, other: i128, other_times:
     )
 }
 
-// Whether a number is so small that a product of two such is far from wide.
-fn is_small(number: i128) -> bool
-    ensures { IsTrue result → unsigned_abs number < 2 ^ 60 }
+// A product of two numbers of 64 bits, which is far from wide.
+fn small_product(one: i64, other: i64) -> i128
+    ensures product { result ≡ one *ℤ other }
+    ensures above { neg_ℤ (pos (2 ^ 127)) <ℤ result }
 {
-    -SMALL < number && number < SMALL
+    one as i128 * other as i128
 }
-
-const SMALL: i128 = 1152921504606846976;
 
 // A product, none where it is wide.
 pub(crate) fn narrow_product(one: i128, other: i128) -> Option<i128>
@@ -80,9 +102,9 @@ pub(crate) fn narrow_product(one: i128, other: i128) -> Option<i128>
     ensures above { IfSome result (λ product. neg_ℤ (pos (2 ^ 127)) <ℤ product) }
     ensures none { IfNone result (is_wide (one *ℤ other) ≡ true) }
 {
-    if is_small(one) {
-        if is_small(other) {
-            return Some(one * other);
+    if let Ok(small) = i64::try_from(one) {
+        if let Ok(small_other) = i64::try_from(other) {
+            return Some(small_product(small, small_other));
         }
     }
     let Some(product) = one.checked_mul(other) else {

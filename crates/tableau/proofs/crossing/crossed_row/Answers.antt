@@ -16,29 +16,15 @@ merge-init c =
           (made_none (crossed_at (to_z w128 (of_z w128 c.args.den)) (to_z w128 (of_z w128 c.args.p)) (to_z w128 (of_z w128 c.args.f)) c.args.column c.args.pivot.now c.args.own.now));
     }
 
-pub number_here-e-requires : goal.number_here-e-requires
-number_here-e-requires c =
+pub entry_here-here-requires : goal.entry_here-here-requires
+entry_here-here-requires c =
     let l = c.merge in
     let one : l.next ≤ c.place_at.result = subst (λ n. l.next ≤ n) (sym c.place_at.ensures) (from_place l.next l.i c.args.width c.args.own.now l.invariant.own l.invariant.within) in
     let other : l.next ≤ c.place_at-in-merge.result = subst (λ n. l.next ≤ n) (sym c.place_at-in-merge.ensures) (from_place l.next l.j c.args.width c.args.pivot.now l.invariant.pivot l.invariant.within) in
     from_later l.next l.i c.args.width c.least_place-place.result c.args.own.now l.invariant.own (c.least_place-place.ensures.from l.next one other) (subst (λ n. c.least_place-place.result ≤ n) c.place_at.ensures c.least_place-place.ensures.one)
 
-pub number_here-g-requires : goal.number_here-g-requires
-number_here-g-requires c =
-    let l = c.merge in
-    let one : l.next ≤ c.place_at.result = subst (λ n. l.next ≤ n) (sym c.place_at.ensures) (from_place l.next l.i c.args.width c.args.own.now l.invariant.own l.invariant.within) in
-    let other : l.next ≤ c.place_at-in-merge.result = subst (λ n. l.next ≤ n) (sym c.place_at-in-merge.ensures) (from_place l.next l.j c.args.width c.args.pivot.now l.invariant.pivot l.invariant.within) in
-    from_later l.next l.j c.args.width c.least_place-place.result c.args.pivot.now l.invariant.pivot (c.least_place-place.ensures.from l.next one other) (subst (λ n. c.least_place-place.result ≤ n) c.place_at-in-merge.ensures c.least_place-place.ensures.other)
-
-pub past_place-i-requires : goal.past_place-i-requires
-past_place-i-requires c =
-    let l = c.merge in
-    let one : l.next ≤ c.place_at.result = subst (λ n. l.next ≤ n) (sym c.place_at.ensures) (from_place l.next l.i c.args.width c.args.own.now l.invariant.own l.invariant.within) in
-    let other : l.next ≤ c.place_at-in-merge.result = subst (λ n. l.next ≤ n) (sym c.place_at-in-merge.ensures) (from_place l.next l.j c.args.width c.args.pivot.now l.invariant.pivot l.invariant.within) in
-    from_later l.next l.i c.args.width c.least_place-place.result c.args.own.now l.invariant.own (c.least_place-place.ensures.from l.next one other) (subst (λ n. c.least_place-place.result ≤ n) c.place_at.ensures c.least_place-place.ensures.one)
-
-pub past_place-j-requires : goal.past_place-j-requires
-past_place-j-requires c =
+pub entry_here-there-requires : goal.entry_here-there-requires
+entry_here-there-requires c =
     let l = c.merge in
     let one : l.next ≤ c.place_at.result = subst (λ n. l.next ≤ n) (sym c.place_at.ensures) (from_place l.next l.i c.args.width c.args.own.now l.invariant.own l.invariant.within) in
     let other : l.next ≤ c.place_at-in-merge.result = subst (λ n. l.next ≤ n) (sym c.place_at-in-merge.ensures) (from_place l.next l.j c.args.width c.args.pivot.now l.invariant.pivot l.invariant.within) in
@@ -69,17 +55,17 @@ merge-preserved c =
     let numbers : ℕ → ℤ = crossed_at den p f c.args.column c.args.pivot.now c.args.own.now in
     let number : ℤ = c.in-Some.number in
     let fits : FitsSigned w128 number = search rules in
-    let e : ℤ = c.number_here-e.result in
+    let e : ℤ = c.entry_here-here.result.0 in
     let e_fits : FitsSigned w128 e = search rules in
-    let g : ℤ = c.number_here-g.result in
+    let g : ℤ = c.entry_here-there.result.0 in
     let g_fits : FitsSigned w128 g = search rules in
     let value : ℤ → ℤ → ℤ = crossed_value den p f c.args.column place in
     let here : to_z w128 (of_z w128 number) ≡ numbers place =
-    to_z-of_z w128 number fits ∙ c.in-Some.ensures.crossed_value ∙ ap (λ t. value t (to_z w128 (of_z w128 g))) (to_z-of_z w128 e e_fits ∙ c.number_here-e.ensures) ∙ ap (value (coefficient c.args.own.now place)) (to_z-of_z w128 g g_fits ∙ c.number_here-g.ensures) in
+    to_z-of_z w128 number fits ∙ c.in-Some.ensures.crossed_value ∙ ap (λ t. value t (to_z w128 (of_z w128 g))) (to_z-of_z w128 e e_fits ∙ c.entry_here-here.ensures.number) ∙ ap (value (coefficient c.args.own.now place)) (to_z-of_z w128 g g_fits ∙ c.entry_here-there.ensures.number) in
     record {
       within = omega (arith, c.if-place-width.false);
-      own = c.past_place-i.ensures;
-      pivot = c.past_place-j.ensures;
+      own = c.entry_here-here.ensures.past;
+      pivot = c.entry_here-there.ensures.past;
       made = made_more l.next place numbers l.made.items c.put.new.entries.items (to_z w128 (of_z w128 number)) l.invariant.made up
           (λ v from below.
           crossed_none den p f c.args.column v c.args.pivot.now c.args.own.now (from_none l.next l.i c.args.width v c.args.own.now l.invariant.own from (omega arith)) (from_none l.next l.j c.args.width v c.args.pivot.now l.invariant.pivot from (omega arith))
