@@ -143,7 +143,7 @@ pub never_answer : (system : System) (cells : List Cell) (flags : List Bool) (nu
 never_answer system cells flags number d inside few lies = never_open_below system cells flags number (slice_index_or cells number d) (slice_get-get_or cells number d inside) (few number d inside) lies
 
 -- what is read is the cell with the number
-same_cell : (cells : List Cell) (number : ℕ) (d known : Cell) → number < length cells → slice_get cells number ≡ Some known → slice_index_or cells number d ≡ known
+pub same_cell : (cells : List Cell) (number : ℕ) (d known : Cell) → number < length cells → slice_get cells number ≡ Some known → slice_index_or cells number d ≡ known
 same_cell cells number d known inside found = get_or_from_slice_get cells number known d found
 
 pub low_answer : (system : System) (cells : List Cell) (flags : List Bool) (number : ℕ) (d : Cell) (truth : ℕ) (far low : Ratio) → number < length cells → All (λ (cell : Cell). cell.truth ≤ℤ pos (10 ^ 29)) cells → truth ≡ unsigned_abs (to_z w128 (of_z w128 (slice_index_or cells number d).truth))

@@ -16,6 +16,16 @@ pub record IsFarthest (system : System) (cells : List Cell) (flags : List Bool) 
   pub short : far.num < far.den * 2 ^ 110
   pub narrow : far.den < 2 ^ 17
 
+-- in some world over the denominator 1 the cell lies exactly so many units to the side of its truth
+abbrev pub IsWholeDistance : System → List Cell → List Bool → ℕ → Side → ℤ → Type 0
+IsWholeDistance system cells flags number side distance =
+    (moves : Numbers) × IsWorld system cells flags (pos 1) moves × (amount_toward side (moves number) ≡ distance)
+
+-- how far the cell can lie to the side is a whole number of units, and some world over the denominator 1 takes it there
+abbrev pub IsWholeFar : System → List Cell → List Bool → ℕ → Side → Ratio → Type 0
+IsWholeFar system cells flags number side far = (far.den ≡ 1)
+    × IsWholeDistance system cells flags number side (pos far.num)
+
 -- in some world the cell lies 2^110 to the side of its truth
 abbrev pub IsOpenTo : System → List Cell → List Bool → ℕ → Side → Type 0
 IsOpenTo system cells flags number side =

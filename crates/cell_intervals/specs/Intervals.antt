@@ -63,3 +63,28 @@ pub record AreIntervals (system : System) (cells : List Cell) (flags : List Bool
     (intervals : List CellInterval) : Type 0 where
   pub numbers : map (λ interval. interval.cell) intervals ≡ hidden_cells flags
   pub each : All (IsIntervalOf system cells flags) intervals
+
+-- some world over the denominator 1 gives the cell exactly so many units
+abbrev pub IsAttainedWhole : System → List Cell → List Bool → ℕ → Cell → ℤ → Type 0
+IsAttainedWhole system cells flags number cell units =
+    (moves : Numbers) × IsWorld system cells flags (pos 1) moves
+    × (value_over (pos 1) cell (moves number) ≡ units)
+
+-- the value is a whole number of units, and some world over the denominator 1 gives it to the cell
+abbrev pub IsWholeValue : System → List Cell → List Bool → ℕ → Cell → Ratio → Type 0
+IsWholeValue system cells flags number cell value = (value.den ≡ 1)
+    × IsAttainedWhole system cells flags number cell (pos value.num)
+
+-- the upper end is a whole number of units, or open, and some world over the denominator 1 attains it
+abbrev pub IsWholeUpperEnd : System → List Cell → List Bool → ℕ → Cell → UpperEnd → Type 0
+IsWholeUpperEnd system cells flags number cell (At high) = IsWholeValue system cells flags number cell high
+IsWholeUpperEnd system cells flags number cell Open =
+    IsAttainedWhole system cells flags number cell (cell.truth +ℤ pos (2 ^ 110))
+
+-- Both ends of the cell's interval are whole, and worlds over the denominator 1 attain them. Not: an end of 21 over 2.
+pub record HasWholeEnds (system : System) (cells : List Cell) (flags : List Bool)
+    (interval : CellInterval) : Type 0 where
+  pub cell : Cell
+  pub known : slice_get cells interval.cell ≡ Some cell
+  pub low : IsWholeValue system cells flags interval.cell cell interval.low
+  pub high : IsWholeUpperEnd system cells flags interval.cell cell interval.high

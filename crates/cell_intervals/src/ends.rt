@@ -3,9 +3,9 @@ ghost use Rattle.sdc_base.specs.Grounds.{IsGround};
 ghost use Rattle.sdc_base.specs.HiddenSets.{is_hidden};
 ghost use Rattle.sdc_base.specs.declared.cell.Cell.{Cell as AnyCell};
 ghost use Rattle.sdc_base.specs.declared.side.Side.TheVariants.{Above, Below};
-ghost use Rattle.interval_audit.specs.Ends.{IsTrueEnd};
-ghost use Rattle.cell_intervals.specs.Farthest.{IsFarthest, IsOpenTo};
-ghost use Rattle.cell_intervals.specs.Intervals.{IsIntervalOf, IsLeastValue, IsUpperEnd};
+ghost use Rattle.interval_audit.specs.Ends.{IsTrueEnd, IsWholeEnd};
+ghost use Rattle.cell_intervals.specs.Farthest.{IsFarthest, IsOpenTo, IsWholeDistance, IsWholeFar};
+ghost use Rattle.cell_intervals.specs.Intervals.{HasWholeEnds, IsIntervalOf, IsLeastValue, IsUpperEnd, IsWholeUpperEnd, IsWholeValue};
 
 use crate::interval::{CellInterval, UpperEnd};
 use crate::ratio::{Ratio, lowest_terms_of, minus, plus};
@@ -27,6 +27,9 @@ pub(crate) fn interval_from(
     requires above { IsTrueEnd system.now cells.now hidden.now.flags cell Above ends.now.above }
     ensures number { result.cell ≡ cell }
     ensures interval { IsIntervalOf system.now cells.now hidden.now.flags result }
+    ensures whole { IsWholeEnd system.now cells.now hidden.now.flags cell Below ends.now.below
+        → IsWholeEnd system.now cells.now hidden.now.flags cell Above ends.now.above
+        → HasWholeEnds system.now cells.now hidden.now.flags result }
 {
     let low = low_end(system, cells, hidden, cell, &ends.below);
     let high = high_end(system, cells, hidden, cell, &ends.above);
@@ -40,8 +43,11 @@ fn low_end(system: &System, cells: &[Cell], hidden: &Hidden, cell: u32, below: &
     requires truths { All (λ cell. cell.truth ≤ℤ pos (10 ^ 29)) cells.now }
     requires hidden { is_hidden hidden.now.flags cell ≡ true }
     requires below { IsTrueEnd system.now cells.now hidden.now.flags cell Below below.now }
-    ensures { (known : AnyCell) → slice_get cells.now cell ≡ Some known
+    ensures least { (known : AnyCell) → slice_get cells.now cell ≡ Some known
         → IsLeastValue system.now cells.now hidden.now.flags cell known result }
+    ensures whole { IsWholeEnd system.now cells.now hidden.now.flags cell Below below.now
+        → (known : AnyCell) → slice_get cells.now cell ≡ Some known
+        → IsWholeValue system.now cells.now hidden.now.flags cell known result }
 {
     let truth = cells[cell as usize].truth.unsigned_abs();
     let Some(far) = farthest(system, cells, hidden, cell, Side::Below, below) else {
@@ -56,8 +62,11 @@ fn high_end(system: &System, cells: &[Cell], hidden: &Hidden, cell: u32, above: 
     requires truths { All (λ cell. cell.truth ≤ℤ pos (10 ^ 29)) cells.now }
     requires hidden { is_hidden hidden.now.flags cell ≡ true }
     requires above { IsTrueEnd system.now cells.now hidden.now.flags cell Above above.now }
-    ensures { (known : AnyCell) → slice_get cells.now cell ≡ Some known
+    ensures upper { (known : AnyCell) → slice_get cells.now cell ≡ Some known
         → IsUpperEnd system.now cells.now hidden.now.flags cell known result }
+    ensures whole { IsWholeEnd system.now cells.now hidden.now.flags cell Above above.now
+        → (known : AnyCell) → slice_get cells.now cell ≡ Some known
+        → IsWholeUpperEnd system.now cells.now hidden.now.flags cell known result }
 {
     let truth = cells[cell as usize].truth.unsigned_abs();
     let Some(far) = farthest(system, cells, hidden, cell, Side::Above, above) else {
@@ -79,6 +88,10 @@ fn farthest(
     requires end { IsTrueEnd system.now cells.now hidden.now.flags cell side answer.now }
     ensures stops { IfSome result (IsFarthest system.now cells.now hidden.now.flags cell side) }
     ensures reaches { IfNone result (IsOpenTo system.now cells.now hidden.now.flags cell side) }
+    ensures whole { IsWholeEnd system.now cells.now hidden.now.flags cell side answer.now
+        → IfSome result (IsWholeFar system.now cells.now hidden.now.flags cell side) }
+    ensures whole_open { IsWholeEnd system.now cells.now hidden.now.flags cell side answer.now
+        → IfNone result (IsWholeDistance system.now cells.now hidden.now.flags cell side (pos (2 ^ 110))) }
 {
     match answer {
         Answer::Stops { best, .. } => Some(lowest_terms_of(

@@ -5,7 +5,7 @@ ghost use Rattle.sdc_base.specs.Signs.{AreSigns};
 ghost use Rattle.interval_audit.specs.Ends.{IsIntervalCause};
 ghost use Rattle.interval_audit.specs.WalkLimits.{HasNoWalk};
 ghost use Rattle.cell_intervals.specs.IntervalFaults.{HasBothEnds, HasSmallComponent, IsFaultOf};
-ghost use Rattle.cell_intervals.specs.Intervals.{AreIntervals, IsIntervalOf};
+ghost use Rattle.cell_intervals.specs.Intervals.{AreIntervals, HasWholeEnds, IsIntervalOf};
 
 use crate::ends::interval_from;
 use crate::interval::CellInterval;
@@ -15,7 +15,8 @@ use std::alloc::Global;
 
 /// What a reader of the tables can find out of each hidden cell, in ascending order of the cells' numbers: the least
 /// and the greatest value that a complete table gives it, of all that agree with the shown cells, the relations and the
-/// bounds. The upper end is open where some complete table gives the cell 2^110 units more than its truth.
+/// bounds. The upper end is open where some complete table gives the cell 2^110 units more than its truth. Where the
+/// system has signs all ends are whole numbers of units, and complete tables in whole units attain them.
 ///
 /// There are a cell and a flag for each cell of the system, no truth is above 10^29 units, and `limit`, 1 or more, says
 /// how many improvements each question may make.
@@ -40,6 +41,8 @@ pub fn intervals_of(
     requires truths { All (λ cell. cell.truth ≤ℤ pos (10 ^ 29)) cells.now }
     requires limit { 1 ≤ limit }
     ensures intervals { IfOk result (AreIntervals system.now cells.now hidden.now.flags) }
+    ensures whole { (signs : List Bool) → AreSigns system.now.relations signs
+        → IfOk result (All (HasWholeEnds system.now cells.now hidden.now.flags)) }
     ensures small { IfOk result (λ _. (cell : ℕ) → sets.is_hidden hidden.now.flags cell ≡ true
         → HasSmallComponent system.now hidden.now.flags cell) }
     ensures cause { IfErr result (IsFaultOf system.now cells.now hidden.now.flags limit) }
@@ -71,6 +74,8 @@ fn interval_of(
     requires limit { 1 ≤ limit }
     ensures number { IfOk result (λ one. one.cell ≡ cell) }
     ensures right { IfOk result (IsIntervalOf system.now cells.now hidden.now.flags) }
+    ensures whole { (signs : List Bool) → AreSigns system.now.relations signs
+        → IfOk result (HasWholeEnds system.now cells.now hidden.now.flags) }
     ensures ended { IfOk result (λ _. HasBothEnds system.now cells.now hidden.now.flags cell) }
     ensures cause { IfErr result (IsIntervalCause system.now cells.now hidden.now.flags cell limit) }
     ensures signed { (signs : List Bool) → AreSigns system.now.relations signs

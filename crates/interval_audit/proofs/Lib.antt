@@ -27,5 +27,8 @@ mod Furthest
 pub mod Best
 mod OwnGroup
 mod CutOff
+mod ProblemSizes
 mod OneAnswer
 mod WholeAnswers
+mod WholeEnds
+mod WalkAnswers

@@ -1,5 +1,5 @@
 -- What flows answer is right.
-use Rattle.std.proofs.Common.{◌≡◌, ℕ, ◌<◌, ◌^◌, Bool, true, List, length, ℤ, pos, ◌*ℤ◌, ◌<ℤ◌, ◌≤ℤ◌, FitsSigned, arith, ap, sym, subst, ◌∙◌}
+use Rattle.std.proofs.Common.{◌≡◌, ℕ, ◌<◌, Bool, List, length, ℤ, pos, ◌*ℤ◌, ◌<ℤ◌, ◌≤ℤ◌, FitsSigned, arith, ap, sym, subst, ◌∙◌}
 use Rattle.std.specs.Int.{w128}
 use Rattle.std.proofs.Math.IntN.{*ℤ_comm}
 use Rattle.std.proofs.lemmas.Int.{ints}
@@ -12,16 +12,14 @@ use Rattle.sdc_base.specs.Refutations.{bound_sum, refuting_terms}
 use Rattle.sdc_base.specs.Systems.{Numbers}
 use Rattle.sdc_base.specs.Worlds.{IsWorld, amount_toward}
 use Rattle.worlds.specs.NumberLists.{terms_of, number_given}
-use Rattle.worlds.specs.RefutationFaults.{terms_added}
 use Rattle.worlds.specs.declared.multipliers.Multipliers.{Multipliers}
 use Rattle.worlds.specs.declared.world.World.{World}
 use Rattle.flow_worlds.specs.declared.answer.FlowAnswer.{FlowAnswer}
 use Rattle.flow_worlds.specs.declared.answer.FlowAnswer.TheVariants as flow
 use Rattle.flow_worlds.specs.FlowAnswers.{AreWholeMultipliersAt, IsFlowAnswer, IsWholeWorldAt}
 use Rattle.interval_audit.specs.declared.question.Question.{Question}
-use Rattle.interval_audit.specs.Answers.{IsTrueAnswer, ReachesTarget, StopsShort}
+use Rattle.interval_audit.specs.Answers.{IsTrueAnswer, StopsShort}
 use Rattle.interval_audit.specs.FlowQuestions.{answer_of_flow}
-use Rattle.interval_audit.specs.QuestionLaws.{IsBest}
 use Rattle.interval_audit.proofs.Furthest.{furthest}
 
 once : (z : ℤ) → pos 1 *ℤ z ≡ z

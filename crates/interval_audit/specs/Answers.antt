@@ -1,6 +1,6 @@
 -- What answers of questions say, and when a question has none (handbook, feasibility interval; linear duality; faults
 -- own).
-use Rattle.std.specs.Prelude.{◌≡◌, ◌+◌, ◌<◌, ◌≤◌, ◌⊎◌, Bool, List, length, FitsSigned, ℤ, pos, ◌*ℤ◌, ◌<ℤ◌}
+use Rattle.std.specs.Prelude.{◌≡◌, ◌+◌, ◌≤◌, ◌⊎◌, Bool, List, length, FitsSigned, ℤ, pos, ◌*ℤ◌, ◌<ℤ◌}
 use Rattle.std.specs.Int.{w128}
 use Rattle.sdc_base.specs.declared.cell.Cell.{Cell}
 use Rattle.sdc_base.specs.declared.system.System.{System}

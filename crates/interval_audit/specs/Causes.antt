@@ -1,5 +1,5 @@
 -- When a question has no answer (faults own).
-use Rattle.std.specs.Prelude.{◌≡◌, ℕ, ◌<◌, ◌≤◌, ◌⊎◌, Bool, List, length, FitsSigned, ℤ, ◌*ℤ◌, Err}
+use Rattle.std.specs.Prelude.{◌≡◌, ℕ, ◌<◌, ◌≤◌, ◌⊎◌, Bool, List, length, FitsSigned, ◌*ℤ◌, Err}
 use Rattle.std.specs.Int.{w128}
 use Rattle.sdc_base.specs.declared.cell.Cell.{Cell}
 use Rattle.sdc_base.specs.declared.system.System.{System}
@@ -8,7 +8,6 @@ use Rattle.tableau.specs.Readings.{slacks_of}
 use Rattle.tableau.specs.Steps.{IsBlocked}
 use Rattle.tableau.specs.Tableaus.{TableauWalk, IsTableauWalk}
 use Rattle.tableau.specs.Widths.{IsWideStep}
-use Rattle.tableau.specs.declared.step.Step.TheVariants.{Wide}
 use Rattle.worlds.specs.declared.faults.RefutationFault.TheVariants as refutation
 use Rattle.worlds.specs.declared.multipliers.Multipliers.{Multipliers}
 use Rattle.worlds.specs.RefutationFaults.{IsGivenSum, sum_of_bounds}

@@ -17,7 +17,7 @@ use Rattle.interval_audit.specs.Problems.{problem_of}
 use Rattle.interval_audit.specs.Readings.{IsWorldOf, AreMultipliersOf}
 use Rattle.interval_audit.specs.Answers.{IsTrueAnswer, IsReadOff, IsWalkAnswerIn}
 use Rattle.interval_audit.specs.Causes.{IsCauseIn}
-use Rattle.interval_audit.specs.WalkLimits.{IsCutBelow}
+use Rattle.interval_audit.specs.WalkLimits.{IsCutBelow, IsWalkAnswerWithin}
 
 -- the component of the asked cell
 abbrev pub component_of : Inquiry → Group
@@ -47,6 +47,11 @@ IsReadOffWalk inquiry walk answer =
 abbrev pub IsGivenByWalk : Inquiry → Answer → Type 0
 IsGivenByWalk inquiry answer =
     IsWalkAnswerIn inquiry.system.now inquiry.cells.now (component_of inquiry) inquiry.question answer
+
+-- the same by a walk of at most so many improvements
+abbrev pub IsGivenWithin : Inquiry → ℕ → Answer → Type 0
+IsGivenWithin inquiry limit answer =
+    IsWalkAnswerWithin inquiry.system.now inquiry.cells.now (component_of inquiry) inquiry.question limit answer
 
 -- why there is no answer by a walk of at most so many improvements
 abbrev pub IsCauseFor : Inquiry → ℕ → AskFault → Type 0

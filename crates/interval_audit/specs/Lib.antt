@@ -3,6 +3,7 @@ pub mod Groups
 pub mod Columns
 pub mod Labels
 pub mod Problems
+pub mod ProblemSizes
 pub mod QuestionLaws
 pub mod FormSigns
 pub mod CellNumbers

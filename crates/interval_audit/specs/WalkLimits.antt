@@ -1,11 +1,15 @@
--- Which limits cut no walk of a question off (own).
-use Rattle.std.specs.Prelude.{ℕ, ◌<◌, ◌≤◌, ◌^◌, Bool, List}
+-- Which limits cut no walk of a question off, and how many improvements a walk makes under a limit (own).
+use Rattle.std.specs.Prelude.{◌≡◌, ℕ, ◌<◌, ◌≤◌, ◌^◌, Bool, List}
 use Rattle.sdc_base.specs.declared.cell.Cell.{Cell}
 use Rattle.sdc_base.specs.declared.system.System.{System}
 use Rattle.tableau.specs.Problems.{numbers_of}
+use Rattle.tableau.specs.Tableaus.{TableauWalk, IsTableauWalk}
 use Rattle.interval_audit.specs.declared.question.Question.{Question}
+use Rattle.interval_audit.specs.declared.answer.Answer.{Answer}
 use Rattle.interval_audit.specs.declared.answer.AskFault.{AskFault}
 use Rattle.interval_audit.specs.declared.answer.AskFault.TheVariants as fault
+use Rattle.interval_audit.specs.declared.answer.WidePlace.TheVariants.{Pivot, Refutation}
+use Rattle.interval_audit.specs.Answers.{IsReadOff}
 use Rattle.interval_audit.specs.Groups.{Group, IsComponentOf}
 use Rattle.interval_audit.specs.Problems.{problem_of}
 
@@ -40,3 +44,25 @@ HasNoWalk (fault.Work walk) = ⊥
 HasNoWalk (fault.Wide walk place) = ⊥
 HasNoWalk (fault.Size asked hidden) = Unit {0}
 HasNoWalk fault.Memory = Unit {0}
+
+-- The walk of a fault made at most as many improvements as the limit says: exactly so many where it was cut off, and
+-- fewer where its next step needs a wide number. So a walk that has made its limit is cut off, whether or not its next
+-- step is wide.
+abbrev pub IsWithinLimit : ℕ → AskFault → Type 0
+IsWithinLimit limit (fault.Work walk) = walk.tableau.improved ≡ limit
+IsWithinLimit limit (fault.Wide walk (Pivot row column)) = walk.tableau.improved < limit
+IsWithinLimit limit (fault.Wide walk (Refutation cell)) = walk.tableau.improved ≤ limit
+IsWithinLimit limit (fault.Size asked hidden) = Unit {0}
+IsWithinLimit limit fault.Memory = Unit {0}
+
+-- the answer is read off the end of a walk on the problem of the question that made at most so many improvements
+abbrev pub IsWalkAnswerWithin : System → List Cell → Group → Question → ℕ → Answer → Type 0
+IsWalkAnswerWithin system cells group question limit answer =
+    (walk : TableauWalk) × IsTableauWalk walk × (walk.problem ≡ problem_of system cells group question)
+    × IsReadOff system cells group walk answer × (walk.improved ≤ limit)
+
+-- the same in the question's component
+abbrev pub IsAnswerWithin : System → List Cell → List Bool → Question → ℕ → Answer → Type 0
+IsAnswerWithin system cells flags question limit answer =
+    (group : Group) × IsComponentOf system.relations flags question.cell group
+    × IsWalkAnswerWithin system cells group question limit answer

@@ -6,7 +6,8 @@ ghost use Rattle.interval_audit.specs.Answers.{IsTrueAnswer, IsAnswerOf, IsWalkA
 ghost use Rattle.interval_audit.specs.Causes.{IsCauseOf};
 ghost use Rattle.interval_audit.specs.FlowQuestions.{answer_of_flow};
 ghost use Rattle.interval_audit.specs.Groups.{Group, IsComponentOf, members};
-ghost use Rattle.interval_audit.specs.WalkLimits.{HasNoWalk, IsAmple, IsNotCutOff};
+ghost use Rattle.interval_audit.specs.ProblemSizes.{IsAmpleForSize};
+ghost use Rattle.interval_audit.specs.WalkLimits.{HasNoWalk, IsAmple, IsNotCutOff, IsWithinLimit, IsAnswerWithin};
 ghost use Rattle.interval_audit.specs.Inquiries as inquiries;
 
 use crate::answer::{Answer, AskFault, Walk, WidePlace};
@@ -39,13 +40,15 @@ const MOST_MEMBERS: usize = 4000;
 ///
 /// The refusals: `Size` exactly where the asked cell's component has more than 4,000 hidden cells. The others but want of
 /// memory never come where the system has signs: `Work` where the walk made `limit` improvements and is neither reached
-/// nor blocked; `Wide` at a pivot where it is neither, and the next step needs a number of more than 128 bits at that
-/// place; `Wide` at a cell where it is blocked, and checking the multipliers, with the target as level, needs such a
-/// number at that cell. The walk of a fault is one on the problem of this question. Want of memory may come at any time.
-/// What is lent stays as it was.
+/// nor blocked; `Wide` at a pivot where it made fewer and is neither, and the next step needs a number of more than 128
+/// bits at that place; `Wide` at a cell where it is blocked, and checking the multipliers, with the target as level,
+/// needs such a number at that cell. So a walk that has made `limit` improvements and goes on is `Work`, also where its
+/// next step is wide. The walk of a fault, and the one that an answer is read off, is one on the problem of this
+/// question with at most `limit` improvements. Want of memory may come at any time. What is lent stays as it was.
 ///
 /// No basis comes twice in a walk, so that `Work` never comes where the limit is 2 to the number of the problem's
-/// columns and rows, the target's among them, or more.
+/// columns and rows, the target's among them, or more. With h hidden cells and r relations in the component these are at
+/// most 2h columns and 2h + 2r + 1 rows, so that 2^(4h + 2r + 1) is enough.
 ///
 /// It goes three times through all relations and their parts, for the signs, for the components and for the arcs of the
 /// cells or the relations of each component. From there on it costs what `flow` does, or goes only through the relations
@@ -67,7 +70,12 @@ pub fn ask(
     ensures right { IfOk result (λ answer. IsTrueAnswer system.now cells.now hidden.now.flags question answer) }
     ensures read { IfOk result (λ answer. IsAnswerOf system.now cells.now hidden.now.flags question answer) }
     ensures cause { IfErr result (λ fault. IsCauseOf system.now cells.now hidden.now.flags question limit fault) }
+    ensures made { HasNone system.now.relations
+        → IfOk result (λ answer. IsAnswerWithin system.now cells.now hidden.now.flags question limit answer) }
+    ensures within { IfErr result (λ fault. IsWithinLimit limit fault) }
     ensures short { IsAmple system.now cells.now hidden.now.flags question limit
+        → IfErr result (λ fault. IsNotCutOff fault) }
+    ensures size { IsAmpleForSize system.now hidden.now.flags question limit
         → IfErr result (λ fault. IsNotCutOff fault) }
     ensures signed { (signs : List Bool) → AreSigns system.now.relations signs
         → IfErr result (λ fault. HasNoWalk fault) }
@@ -94,6 +102,7 @@ fn ask_flow(
     ensures read { IfOk result (λ answer. IsAnswerOf system.now cells.now hidden.now.flags question answer) }
     ensures cause { IfErr result (λ fault. (limit : ℕ)
         → IsCauseOf system.now cells.now hidden.now.flags question limit fault) }
+    ensures within { IfErr result (λ fault. (limit : ℕ) → IsWithinLimit limit fault) }
     ensures no_walk { IfErr result (λ fault. HasNoWalk fault) }
 {
     let size = component_size(alloc, system, hidden, question.cell)?;
@@ -162,7 +171,12 @@ fn ask_walk(
     ensures right { IfOk result (λ answer. IsTrueAnswer system.now cells.now hidden.now.flags question answer) }
     ensures read { IfOk result (λ answer. IsWalkAnswer system.now cells.now hidden.now.flags question answer) }
     ensures cause { IfErr result (λ fault. IsCauseOf system.now cells.now hidden.now.flags question limit fault) }
+    ensures made { IfOk result
+        (λ answer. IsAnswerWithin system.now cells.now hidden.now.flags question limit answer) }
+    ensures within { IfErr result (λ fault. IsWithinLimit limit fault) }
     ensures short { IsAmple system.now cells.now hidden.now.flags question limit
+        → IfErr result (λ fault. IsNotCutOff fault) }
+    ensures size { IsAmpleForSize system.now hidden.now.flags question limit
         → IfErr result (λ fault. IsNotCutOff fault) }
 {
     let grouping = components(alloc, system, hidden)?;
@@ -194,6 +208,8 @@ fn walk_on(alloc: Global, inquiry: &Inquiry<'_>, limit: u64) -> Result<Answer, A
     ensures right { IfOk result (λ answer. inquiries.IsRightFor inquiry.now answer) }
     ensures read { IfOk result (λ answer. inquiries.IsGivenByWalk inquiry.now answer) }
     ensures cause { IfErr result (λ fault. inquiries.IsCauseFor inquiry.now limit fault) }
+    ensures made { IfOk result (λ answer. inquiries.IsGivenWithin inquiry.now limit answer) }
+    ensures within { IfErr result (λ fault. IsWithinLimit limit fault) }
     ensures short { IfErr result (λ fault. inquiries.IsCutOffBelow inquiry.now limit fault) }
 {
     let question = inquiry.question;

@@ -8,7 +8,7 @@ ghost use Rattle.interval_audit.specs.Answers.{IsTrueAnswer};
 ghost use Rattle.interval_audit.specs.Causes.{IsCauseOf};
 ghost use Rattle.sdc_base.specs.Signs.{AreSigns};
 ghost use Rattle.interval_audit.specs.WalkLimits.{HasNoWalk};
-ghost use Rattle.interval_audit.specs.Ends.{IsEndQuestion, IsTrueEnd, IsEndAnswer, IsEndCause, IsIntervalCause};
+ghost use Rattle.interval_audit.specs.Ends.{IsEndQuestion, IsTrueEnd, IsEndAnswer, IsWholeEnd, IsEndCause, IsIntervalCause};
 
 use crate::answer::{Answer, AskFault};
 use crate::asking::ask;
@@ -26,7 +26,8 @@ pub struct TwoEnds {
 }
 
 /// How far a hidden cell can lie below the truth, and how far above: two questions with the target 2^110, in units,
-/// below first. An end that reaches its target is open.
+/// below first. An end that reaches its target is open. Where the system has signs both ends are whole numbers of units,
+/// and worlds in whole units attain them.
 ///
 /// The conditions are those of [`ask`], and so are the refusals: those of the question below, and then those of the
 /// question above. It costs as much as the two questions.
@@ -48,6 +49,10 @@ pub fn interval(
     ensures above { IfOk result (λ ends. IsTrueEnd system.now cells.now hidden.now.flags cell Above ends.above) }
     ensures below_read { IfOk result (λ ends. IsEndAnswer system.now cells.now hidden.now.flags cell Below ends.below) }
     ensures above_read { IfOk result (λ ends. IsEndAnswer system.now cells.now hidden.now.flags cell Above ends.above) }
+    ensures below_whole { (signs : List Bool) → AreSigns system.now.relations signs
+        → IfOk result (λ ends. IsWholeEnd system.now cells.now hidden.now.flags cell Below ends.below) }
+    ensures above_whole { (signs : List Bool) → AreSigns system.now.relations signs
+        → IfOk result (λ ends. IsWholeEnd system.now cells.now hidden.now.flags cell Above ends.above) }
     ensures cause { IfErr result (λ fault. IsIntervalCause system.now cells.now hidden.now.flags cell limit fault) }
     ensures signed { (signs : List Bool) → AreSigns system.now.relations signs
         → IfErr result (λ fault. HasNoWalk fault) }
@@ -72,6 +77,8 @@ fn end_of(
     requires limit { 1 ≤ limit }
     ensures right { IfOk result (λ answer. IsTrueEnd system.now cells.now hidden.now.flags cell side answer) }
     ensures read { IfOk result (λ answer. IsEndAnswer system.now cells.now hidden.now.flags cell side answer) }
+    ensures whole { (signs : List Bool) → AreSigns system.now.relations signs
+        → IfOk result (λ answer. IsWholeEnd system.now cells.now hidden.now.flags cell side answer) }
     ensures cause { IfErr result (λ fault. IsEndCause system.now cells.now hidden.now.flags cell side limit fault) }
     ensures signed { (signs : List Bool) → AreSigns system.now.relations signs
         → IfErr result (λ fault. HasNoWalk fault) }

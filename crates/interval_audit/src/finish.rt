@@ -7,6 +7,7 @@ ghost use Rattle.interval_audit.specs.WalkStates.{state_of, objective_of, IsAtPo
 ghost use Rattle.worlds.specs.NumberLists.{terms_of, number_given};
 ghost use Rattle.interval_audit.specs.Answers.{HasEnded, asked_move_in};
 ghost use Rattle.interval_audit.specs.Inquiries as inquiries;
+ghost use Rattle.interval_audit.specs.WalkLimits.{IsWithinLimit};
 
 use crate::answer::{Answer, AskFault, Walk, WidePlace};
 use crate::checking::wide_at;
@@ -31,6 +32,7 @@ pub(crate) fn finish(
     ensures read { IfOk result (λ answer. inquiries.IsReadOffWalk inquiry.now tableau answer) }
     ensures cause { IfErr result (λ fault. (limit : ℕ)
         → inquiries.IsCauseFor inquiry.now limit fault) }
+    ensures within { IfErr result (λ fault. (limit : ℕ) → tableau.improved ≤ limit → IsWithinLimit limit fault) }
     ensures short { IfErr result (λ fault. (limit : ℕ)
         → inquiries.IsCutOffBelow inquiry.now limit fault) }
 {
@@ -130,6 +132,7 @@ fn stop(
     ensures read { IfOk result (λ answer. inquiries.IsReadOffWalk inquiry.now tableau answer) }
     ensures cause { IfErr result (λ fault. (limit : ℕ)
         → inquiries.IsCauseFor inquiry.now limit fault) }
+    ensures within { IfErr result (λ fault. (limit : ℕ) → tableau.improved ≤ limit → IsWithinLimit limit fault) }
     ensures short { IfErr result (λ fault. (limit : ℕ)
         → inquiries.IsCutOffBelow inquiry.now limit fault) }
 {

@@ -11,6 +11,7 @@ ghost use Rattle.interval_audit.specs.FormSigns.{IsFormSign};
 ghost use Rattle.interval_audit.specs.CellNumbers.{AreZeros};
 ghost use Rattle.interval_audit.specs.Problems.{asked_move, row_of, met_rows};
 ghost use Rattle.interval_audit.specs.Problems as problems;
+ghost use Rattle.interval_audit.specs.ProblemSizes.{HasQuestionSize};
 
 use crate::entries::entries_of;
 use crate::group::{members_of, met_by};
@@ -26,7 +27,8 @@ use tableau::{LinRow, Problem};
 /// goes down; a cell's move is its up less its down. Its rows are, in this order: for each of these cells that its up
 /// is at most how far it can rise, where it has an upper bound, and that its down is at most how far it can fall; for
 /// each relation in which one of these cells stands, ascending, that its form is at most 0, and that its negated form
-/// is. The target is the last row.
+/// is. The target is the last row. So with h such cells and r such relations there are at most 2h columns and, the
+/// target's among them, 2h + 2r + 1 rows.
 ///
 /// There is a cell for each cell of the system, `of` has the number of each cell's component, none for a shown one, and
 /// the component has at most 4,000 cells. It goes once through the cells and through the parts of all relations, and
@@ -43,8 +45,9 @@ pub fn problem_of(
     requires asked { question.cell < system.now.cells }
     requires within_most_members { length (groups.members (group_of of.now question.cell) system.now.cells)
         ≤ groups.most_members }
-    ensures { IfOk result (λ problem. problem
+    ensures problem { IfOk result (λ problem. problem
         ≡ problems.problem_of system.now cells.now (group_of of.now question.cell) question) }
+    ensures size { IfOk result (λ problem. HasQuestionSize system.now (group_of of.now question.cell) problem) }
 {
     let relations = system.relations.as_slice();
     let met = met_by(alloc, relations, of, question.cell)?;

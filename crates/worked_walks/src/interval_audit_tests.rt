@@ -1,8 +1,8 @@
 ghost use Rattle.std.specs.Prelude.{◌<◌, true};
 
 use crate::cases::{Case, case_of, ring_of_three, two_by_two};
-use interval_audit::{Answer, AskFault, Question, TwoEnds, ask, interval};
-use sdc_base::Side;
+use interval_audit::{Answer, AskFault, Question, TwoEnds, ask, interval, problem_of};
+use sdc_base::{Side, components};
 use std::alloc::Global;
 use std::rt::HostRuntime;
 use std::test::Fail;
@@ -110,6 +110,93 @@ fn are_ends(alloc: Global, case: &Case, cell: u32, below: &Wanted<'_>, above: &W
     is_wanted(&ends.below, below) && is_wanted(&ends.above, above)
 }
 
+// What the problem of a question is to be: so many columns, the entries and bounds of the rows, and the objective.
+#[derive(Drop)]
+struct WantedProblem<'a> {
+    columns: u32,
+    rows: &'a [(&'a [(u32, i128)], i128)],
+    objective: &'a [(u32, i128)],
+}
+
+// Whether the problem of raising a cell by 6 is the one that is wanted; not where the case can't be asked so.
+fn has_problem(alloc: Global, case: &Case, cell: u32, wanted: &WantedProblem<'_>) -> bool {
+    let size = case.system.cells as usize;
+    let flags = case.hidden.flags.as_slice();
+    if case.cells.len() != size || flags.len() != size || size > 4000 || cell as usize >= size {
+        return false;
+    }
+    let Ok(grouping) = components(alloc, &case.system, &case.hidden) else {
+        return false;
+    };
+    let of = grouping.of.as_slice();
+    let question = Question {
+        cell,
+        side: Side::Above,
+        target: 6,
+    };
+    let Ok(problem) = problem_of(alloc, &case.system, &case.cells, of, question) else {
+        return false;
+    };
+    let rows = problem.rows.as_slice();
+    if rows.len() != wanted.rows.len() {
+        return false;
+    }
+    for (place, row) in rows.iter().enumerate() {
+        if place >= wanted.rows.len() {
+            return false;
+        }
+        let (entries, bound) = wanted.rows[place];
+        if row.entries.as_slice() != entries || row.bound != bound {
+            return false;
+        }
+    }
+    problem.columns == wanted.columns
+        && problem.objective.as_slice() == wanted.objective
+        && problem.target == 6
+}
+
+// Cell 4 alone is hidden, and two relations name it: 2 columns and 6 rows, the target's among them, of at most 7.
+#[test]
+fn problem_of_a_cell_alone(rt: HostRuntime) -> Result<(), Fail> {
+    let alloc = rt.alloc();
+    let Some(case) = two_by_two(alloc, (5, 0, Some(90)), &[4])? else {
+        assert!(&rt; false);
+        return Ok(());
+    };
+    let down: &[(u32, i128)] = &[(1, 1)];
+    let form: &[(u32, i128)] = &[(0, -1), (1, 1)];
+    let negated: &[(u32, i128)] = &[(0, 1), (1, -1)];
+    let wanted = WantedProblem {
+        columns: 2,
+        rows: &[(down, 20), (form, 0), (negated, 0), (form, 0), (negated, 0)],
+        objective: negated,
+    };
+    assert!(&rt; has_problem(alloc, &case, 4, &wanted));
+    Ok(())
+}
+
+// A part of a total is hidden, from 0 to 30 with the truth 20: 2 columns and 5 rows, as many as there can be.
+#[test]
+fn problem_of_a_cell_with_both_bounds(rt: HostRuntime) -> Result<(), Fail> {
+    let alloc = rt.alloc();
+    let relations = [(0, [1, 2].as_slice())];
+    let Some(case) = case_of(alloc, &relations, &[50, 20, 30], (1, 0, Some(30)), &[1])? else {
+        assert!(&rt; false);
+        return Ok(());
+    };
+    let up: &[(u32, i128)] = &[(0, 1)];
+    let down: &[(u32, i128)] = &[(1, 1)];
+    let form: &[(u32, i128)] = &[(0, -1), (1, 1)];
+    let negated: &[(u32, i128)] = &[(0, 1), (1, -1)];
+    let wanted = WantedProblem {
+        columns: 2,
+        rows: &[(up, 10), (down, 20), (form, 0), (negated, 0)],
+        objective: negated,
+    };
+    assert!(&rt; has_problem(alloc, &case, 1, &wanted));
+    Ok(())
+}
+
 #[test]
 fn cell_alone_stops_at_once(rt: HostRuntime) -> Result<(), Fail> {
     let alloc = rt.alloc();
@@ -146,10 +233,11 @@ fn is_answered(alloc: Global, case: &Case, side: Side, wanted: &Wanted<'_>) -> b
     matches!(&answer, Some(Ok(found)) if is_wanted(found, wanted))
 }
 
+// No cell has an upper bound.
 #[test]
 fn four_cells_reach_the_target(rt: HostRuntime) -> Result<(), Fail> {
     let alloc = rt.alloc();
-    let Some(case) = two_by_two(alloc, (5, 0, Some(90)), &[4, 5, 7, 8])? else {
+    let Some(case) = two_by_two(alloc, (5, 0, None), &[4, 5, 7, 8])? else {
         assert!(&rt; false);
         return Ok(());
     };

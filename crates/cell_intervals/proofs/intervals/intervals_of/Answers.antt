@@ -6,7 +6,7 @@ use Rattle.sdc_base.specs.HiddenSets.{is_hidden}
 use Rattle.sdc_base.proofs.Connecting.{hidden-inside}
 use Rattle.cell_intervals.specs.declared.interval.CellInterval.{CellInterval}
 use Rattle.cell_intervals.specs.IntervalFaults.{HasBothEnds}
-use Rattle.cell_intervals.specs.Intervals.{IsIntervalOf, hidden_cells}
+use Rattle.cell_intervals.specs.Intervals.{HasWholeEnds, IsIntervalOf, hidden_cells}
 use Rattle.cell_intervals.proofs.Listing.{below_next, fault_at, next_hidden, next_shown, numbers_more, small_where_ended}
 use Rattle.cell_intervals.proofs.intervals.intervals_of.Goals as goal
 use Rattle.cell_intervals.proofs.intervals.intervals_of.Goals.{then-as_slice-cell+in_ok-one+in_ok-push, else-as_slice-cell}
@@ -18,6 +18,7 @@ cells-preserved c =
     let flags = c.args.hidden.now.flags in
     let cell = c.cells.cell in
     let P : CellInterval → Type 0 = IsIntervalOf system cells flags in
+    let Whole : CellInterval → Type 0 = HasWholeEnds system cells flags in
     let rest : List ℕ = filter (is_hidden flags) (range_with_len (cell + 1) (system.cells - (cell + 1))) in
     elim c.if-as_slice-cell.branch [
       | then-as_slice-cell+in_ok-one+in_ok-push w ↦
@@ -29,6 +30,7 @@ cells-preserved c =
                 ap (λ (numbers : List ℕ). numbers ++ rest) (numbers_more c.cells.intervals one cell c.if-as_slice-cell.intervals grown w.in_ok-one.ensures.number)
                 ∙ next_hidden flags system.cells (map (λ (interval : CellInterval). interval.cell) c.cells.intervals) (hidden_cells flags) cell c.cells-test.true hidden c.cells.invariant.numbers;
             each = subst (All P) (sym grown) (All-push P c.cells.intervals one c.cells.invariant.each w.in_ok-one.ensures.right);
+            whole = λ signs are. subst (All Whole) (sym grown) (All-push Whole c.cells.intervals one (c.cells.invariant.whole signs are) (w.in_ok-one.ensures.whole signs are));
             ended = below_next (HasBothEnds system cells flags) flags cell c.cells.invariant.ended (λ _. w.in_ok-one.ensures.ended);
           }
       | else-as_slice-cell w ↦
@@ -39,6 +41,7 @@ cells-preserved c =
                 ap (λ (intervals : List CellInterval). map (λ (interval : CellInterval). interval.cell) intervals ++ rest) same
                 ∙ next_shown flags system.cells (map (λ (interval : CellInterval). interval.cell) c.cells.intervals) (hidden_cells flags) cell c.cells-test.true shown c.cells.invariant.numbers;
             each = subst (All P) (sym same) c.cells.invariant.each;
+            whole = λ signs are. subst (All Whole) (sym same) (c.cells.invariant.whole signs are);
             ended = below_next (HasBothEnds system cells flags) flags cell c.cells.invariant.ended (λ hidden. let clash : false ≡ true = sym shown ∙ hidden in absurd cc);
           }
     ]

@@ -6,6 +6,8 @@ use Rattle.interval_audit.specs.Answers.{IsWalkAnswerIn, IsWalkAnswer}
 use Rattle.interval_audit.specs.Groups.{Group, IsComponentOf, group_of, members, most_members}
 use Rattle.interval_audit.proofs.ComponentLists.{known_list, many_rows}
 use Rattle.interval_audit.proofs.CutOff.{if_ample}
+use Rattle.interval_audit.proofs.ProblemSizes.{ample_for_size}
+use Rattle.interval_audit.specs.WalkLimits.{IsWalkAnswerWithin, IsAnswerWithin}
 use Rattle.interval_audit.proofs.Connected.{components_are_groups}
 use Rattle.interval_audit.proofs.SameGroups.{group_is}
 use Rattle.interval_audit.proofs.QuestionAnswers.{if_ok_more}
@@ -83,3 +85,22 @@ returns-clause-short c = λ ample.
     subst (λ (of : List (Option ℕ)). AreComponents c.args.system.now.relations c.args.hidden.now.flags of c.in_ok-grouping.grouping.sizes) (sym c.as_slice-of.ensures) c.in_ok-grouping.ensures in
     let own : IsComponentOf c.args.system.now.relations c.args.hidden.now.flags c.args.question.cell (group_of of c.args.question.cell) = group_is c.args.system.now.relations c.args.hidden.now.flags of c.in_ok-grouping.grouping.sizes c.args.question.cell are c.requires.hidden in
     if_ample c.args.system.now c.args.cells.now (group_of of c.args.question.cell) c.args.question c.args.limit c.walk_on.result (ample (group_of of c.args.question.cell) own) c.walk_on.ensures.short
+
+pub returns-clause-size : goal.returns-clause-size
+returns-clause-size c = λ ample.
+    let of : List (Option ℕ) = c.as_slice-of.result.now in
+    let are : AreComponents c.args.system.now.relations c.args.hidden.now.flags of c.in_ok-grouping.grouping.sizes =
+    subst (λ (of : List (Option ℕ)). AreComponents c.args.system.now.relations c.args.hidden.now.flags of c.in_ok-grouping.grouping.sizes) (sym c.as_slice-of.ensures) c.in_ok-grouping.ensures in
+    let own : IsComponentOf c.args.system.now.relations c.args.hidden.now.flags c.args.question.cell (group_of of c.args.question.cell) = group_is c.args.system.now.relations c.args.hidden.now.flags of c.in_ok-grouping.grouping.sizes c.args.question.cell are c.requires.hidden in
+    if_ample c.args.system.now c.args.cells.now (group_of of c.args.question.cell) c.args.question c.args.limit c.walk_on.result
+    (ample_for_size c.args.system.now c.args.cells.now (group_of of c.args.question.cell) c.args.question c.args.limit (ample (group_of of c.args.question.cell) own)) c.walk_on.ensures.short
+
+pub returns-clause-made : goal.returns-clause-made
+returns-clause-made c =
+    let of : List (Option ℕ) = c.as_slice-of.result.now in
+    let are : AreComponents c.args.system.now.relations c.args.hidden.now.flags of c.in_ok-grouping.grouping.sizes =
+    subst (λ (of : List (Option ℕ)). AreComponents c.args.system.now.relations c.args.hidden.now.flags of c.in_ok-grouping.grouping.sizes) (sym c.as_slice-of.ensures) c.in_ok-grouping.ensures in
+    let own : IsComponentOf c.args.system.now.relations c.args.hidden.now.flags c.args.question.cell (group_of of c.args.question.cell) = group_is c.args.system.now.relations c.args.hidden.now.flags of c.in_ok-grouping.grouping.sizes c.args.question.cell are c.requires.hidden in
+    if_ok_more (λ (answer : Answer). IsWalkAnswerWithin c.args.system.now c.args.cells.now (group_of of c.args.question.cell) c.args.question c.args.limit answer)
+    (λ (answer : Answer). IsAnswerWithin c.args.system.now c.args.cells.now c.args.hidden.now.flags c.args.question c.args.limit answer)
+    c.walk_on.result (λ answer is. (group_of of c.args.question.cell, own, is)) c.walk_on.ensures.made

@@ -3,6 +3,7 @@ use Rattle.tableau.specs.ProblemForm.{IsWellFormed}
 use Rattle.interval_audit.specs.declared.answer.Answer.{Answer}
 use Rattle.interval_audit.specs.Answers.{IsReadOff, IsWalkAnswerIn}
 use Rattle.interval_audit.specs.Groups.{Group, group_of}
+use Rattle.interval_audit.specs.WalkLimits.{IsWalkAnswerWithin}
 use Rattle.interval_audit.proofs.CutOff.{limit_below}
 use Rattle.interval_audit.proofs.Proper.{problem_is}
 use Rattle.interval_audit.proofs.ReadStates.{ended_where}
@@ -32,3 +33,10 @@ returns-then-can_improve-clause-short c =
     let inquiry = c.args.inquiry.now in
     let past : c.args.limit ≤ c.walk.made = omega (arith, c.walk-test.false) in
     limit_below inquiry.system.now inquiry.cells.now (group_of inquiry.of.now inquiry.question.cell) inquiry.question c.args.limit c.walk.made c.walk.tableau.improved c.walk.tableau.problem past c.walk.invariant.improved c.walk.invariant.problem c.read_state-2.ensures.short
+
+pub returns-clause-made : goal.returns-clause-made
+returns-clause-made c =
+    let group : Group = group_of c.args.inquiry.now.of.now c.args.inquiry.now.question.cell in
+    let most : c.walk.tableau.improved ≤ c.args.limit = omega (arith, c.walk.invariant.improved) in
+    if_ok_more (λ (answer : Answer). IsReadOff c.args.inquiry.now.system.now c.args.inquiry.now.cells.now group c.walk.tableau answer) (λ (answer : Answer). IsWalkAnswerWithin c.args.inquiry.now.system.now c.args.inquiry.now.cells.now group c.args.inquiry.now.question c.args.limit answer)
+    c.finish-2.result (λ answer own. (c.walk.tableau, c.read_state-2.ensures.walked, c.walk.invariant.problem, own, most)) c.finish-2.ensures.read

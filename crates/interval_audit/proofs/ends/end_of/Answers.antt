@@ -6,6 +6,7 @@ use Rattle.interval_audit.specs.Answers.{IsTrueAnswer, IsAnswerOf}
 use Rattle.interval_audit.specs.Causes.{IsCauseOf}
 use Rattle.interval_audit.specs.Ends.{IsTrueEnd, IsEndAnswer, IsEndCause}
 use Rattle.interval_audit.proofs.QuestionAnswers.{if_ok_more, if_err_more}
+use Rattle.interval_audit.proofs.WholeEnds.{if_whole_end}
 use Rattle.interval_audit.proofs.ends.end_of.Goals as goal
 
 pub ask-requires-clause-hidden : goal.ask-requires-clause-hidden
@@ -22,6 +23,10 @@ returns-clause-read c =
     if_ok_more (λ (answer : Answer). IsAnswerOf c.args.system.now c.args.cells.now c.args.hidden.now.flags c.end_question-question.result answer)
     (λ (answer : Answer). IsEndAnswer c.args.system.now c.args.cells.now c.args.hidden.now.flags c.args.cell c.args.side answer)
     c.ask.result (λ answer own. (c.end_question-question.result, c.end_question-question.ensures, own)) c.ask.ensures.read
+
+pub returns-clause-whole : goal.returns-clause-whole
+returns-clause-whole c =
+    if_whole_end c.args.system.now c.args.cells.now c.args.hidden.now.flags c.args.cell c.args.side c.end_question-question.result c.ask.result c.end_question-question.ensures c.ask.ensures.right c.ask.ensures.read
 
 pub returns-clause-cause : goal.returns-clause-cause
 returns-clause-cause c =
