@@ -21,7 +21,7 @@ use Rattle.worlds.proofs.TrueTests.{and_true, both_true, not_true}
 use Rattle.repair.specs.HidingOrder.{Case}
 use Rattle.repair.proofs.Flags.{IsWithin, by_test, clash}
 use Rattle.repair.proofs.Growing.{protects_more}
-use Rattle.repair.proofs.AtHand.{unmoved}
+use Rattle.attackers.proofs.Resting.{unmoved}
 use Rattle.attackers.proofs.AskedCells.{AttackSays, attack_says}
 use Rattle.attackers.specs.declared.attack.Attack.{Attack}
 use Rattle.attackers.specs.KnownCells.{is_known, is_left, without_known, is_closed, with_known, target_of, Guards, GuardsAll, IsAttack, moves_known, serves}

@@ -1,4 +1,5 @@
 pub mod Falls
+pub mod Resting
 pub mod OneRecord
 pub mod AskedCells
 pub mod Knowing

@@ -43,7 +43,7 @@ answer_is c soles flags attack question (Reaches world) is right read = (
 )
 answer_is c soles flags attack question (Stops best world m) is right read = (
   stopping_refutes c.system c.cells (without_known soles attack.row flags) (target_of attack) question best world m is right,
-  record { question = question; best = best; world = world; is_asked = is; is_read = read },
+  record { question = question; best = best; world = world; is_asked = is; is_right = right; is_read = read },
 )
 
 -- ---- extra cells

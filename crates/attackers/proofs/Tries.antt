@@ -18,7 +18,7 @@ use Rattle.certificate.specs.declared.certificate.WorldLine.{WorldLine}
 use Rattle.repair.specs.HidingOrder.{Case, IsOfKind, hide, show, show_all}
 use Rattle.repair.specs.Needs.{set_when_tried}
 use Rattle.repair.proofs.Flags.{by_test, clash, same_or_other}
-use Rattle.repair.proofs.AtHand.{unmoved, still_world}
+use Rattle.attackers.proofs.Resting.{unmoved, still_world}
 use Rattle.repair.proofs.Repairing.{none_is_more, last_same}
 use Rattle.repair.proofs.Tries.{rest_next, rest_set, without_more, tried_now, tried_same, ascend_more, all_more, front_same, shown_here, below_on}
 use Rattle.attackers.specs.declared.attack.Attack.{Attack}

@@ -24,8 +24,9 @@ pub record AreNarrow (tables : List (List ℕ)) : Type 0 where
 abbrev pub planned_from : Case → List PlanStep → List Bool
 planned_from c steps = planned_set c.cells (corners_of steps)
 
--- A hidden set protects every primary cell, beginning with the cells of these steps, and each of its cells is needed;
--- the certificate names its cells, the steps, its complete tables, and the repairs and needs.
+-- A hidden set protects every primary cell, beginning with the cells of these steps, and each of its cells is needed, for
+-- the first question that isn't protected with the cell shown; the certificate names its cells, the steps, its complete
+-- tables, and the repairs and needs.
 pub record IsProtectedWith (c : Case) (prices : List ℕ) (method : Method) (steps : List PlanStep)
     (protected : HiddenSet) (certificate : Certificate) : Type 0 where
   pub verdict : IsVerdict c prices (planned_from c steps)
@@ -33,12 +34,13 @@ pub record IsProtectedWith (c : Case) (prices : List ℕ) (method : Method) (ste
   pub certificate_is : certificate ≡ certificate_made method c.system c.cells protected steps certificate.repairs
       certificate.needs
 
--- What becomes of a case whose trail has these steps: a hidden set that protects, a cell that can't be protected, or a
--- question that stopped short.
+-- What becomes of a case whose trail has these steps: a hidden set that protects, a cell that can't be protected, with
+-- the multipliers that stopped its question after repairs from there on, or a question that stopped short.
 abbrev pub IsProtectionOf : Case → List ℕ → Method → List PlanStep → ℕ → Protection → Type 0
 IsProtectionOf c prices method steps limit (protection.Protected protected certificate) = IsProtectedWith c prices
     method steps protected certificate
-IsProtectionOf c prices method steps limit (protection.Cannot cell side multipliers) = IsCannot c cell side multipliers
+IsProtectionOf c prices method steps limit (protection.Cannot cell side multipliers) = IsCannot c prices
+    (planned_from c steps) cell side multipliers
 IsProtectionOf c prices method steps limit (protection.Undecided stopped) = StopsFor c prices (planned_from c steps)
     limit stopped.fault stopped.repairs stopped.shown
 

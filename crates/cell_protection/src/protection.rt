@@ -24,8 +24,8 @@ pub enum Protection<'a> {
         protected: Protected<'a>,
         certificate: Certificate,
     },
-    /// No hidden set protects this cell to this side: the multipliers refute it for the set with all cells hidden that
-    /// may be.
+    /// No hidden set protects this cell to this side: the multipliers, with which its question stopped, refute it for the
+    /// set with all cells hidden that may be.
     Cannot {
         cell: u32,
         side: Side,

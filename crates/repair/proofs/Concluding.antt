@@ -14,6 +14,7 @@ use Rattle.repair.specs.HidingOrder.{Case, ProtectsAll, IsOfKind, IsSubset, hide
 use Rattle.repair.specs.Repairs.{AreRepairs}
 use Rattle.repair.specs.CellTrials.{IsTryStop, TriesStopFor}
 use Rattle.repair.specs.KeptWorlds.{AreServed, IsRepaired}
+use Rattle.repair.specs.OnTheWay.{IsOnWay, AreAnswers}
 use Rattle.repair.specs.QuestionSteps.{IsHalted}
 use Rattle.repair.specs.Stops.{list_with_fault, AreShown, IsQuestion, IsStop, StopsFor}
 use Rattle.repair.specs.Verdicts.{IsProtected, IsVerdict, is_cannot}
@@ -26,14 +27,15 @@ use Rattle.repair.proofs.Growing.{served_protect, all_protected_more}
 use Rattle.repair.proofs.Repairing.{none_is_more, hidden_cell}
 
 -- the hidden set that serves all that is asked
-pub protected_by : (c : Case) (prices : List ℕ) (planned : List Bool) (hidden : Hidden) (worlds : List World) (repairs : List Refuted) (p : Protection) → p ≡ protection c.system c.cells hidden worlds → length c.cells ≡ c.system.cells → length hidden.flags ≡ c.system.cells → IsProtecting c.system c.cells hidden.flags → AreServed c hidden.flags (asked_of 0 c.cells) worlds → AreRepairs c prices planned repairs → IsSubset hidden.flags (hide_subjects planned repairs) → IsProtected c prices planned p repairs
-protected_by c prices planned hidden worlds repairs p made one_each each protecting served repaired_so within =
+pub protected_by : (c : Case) (prices : List ℕ) (planned : List Bool) (hidden : Hidden) (worlds : List World) (repairs : List Refuted) (p : Protection) → p ≡ protection c.system c.cells hidden worlds → length c.cells ≡ c.system.cells → length hidden.flags ≡ c.system.cells → IsProtecting c.system c.cells hidden.flags → AreServed c hidden.flags (asked_of 0 c.cells) worlds → AreAnswers c (IsOnWay c planned repairs hidden.flags) (asked_of 0 c.cells) worlds → AreRepairs c prices planned repairs → IsSubset hidden.flags (hide_subjects planned repairs) → IsProtected c prices planned p repairs
+protected_by c prices planned hidden worlds repairs p made one_each each protecting served answers repaired_so within =
     subst (λ q. IsProtected c prices planned q repairs) (sym made) (record {
       of_system = refl;
       of_cells = refl;
       each_flag = omega (arith, one_each, each);
       protecting = protecting;
       served = served;
+      answers = answers;
       are_repairs = repaired_so;
       within = within;
       full_protects = all_protected_more c hidden.flags (full_set c.cells) (asked_of 0 c.cells)
@@ -88,7 +90,7 @@ stops_trying c prices planned flags repairs place limit Memory shown is stop = (
 -- a verdict is that a cell can't be protected exactly where the full set doesn't protect all
 pub cannot_where : (c : Case) (prices : List ℕ) (planned : List Bool) (verdict : Verdict) → IsVerdict c prices planned verdict → IsTrue (is_cannot verdict) ↔ ¬ ProtectsAll c (full_set c.cells)
 cannot_where c prices planned (Protected protected repairs needs) is = ((λ bad. absurd cc), (λ not_all. absurd (not_all is.0.full_protects)))
-cannot_where c prices planned (Cannot cell side multipliers) is = ((λ _ all. is.unprotected (protects_side c (full_set c.cells) cell side (asked_primary c.cells is.place (cell, side) is.stands) all)), (λ _. refl))
+cannot_where c prices planned (Cannot cell side multipliers) is = ((λ _ all. is.first.unprotected (protects_side c (full_set c.cells) cell side (asked_primary c.cells is.first.place (cell, side) is.first.stands) all)), (λ _. refl))
 
 pub where_ok : {A F : Type 0} {P Q : A → Type 0} (r : Result A F) → IfOk r P → ((x : A) → P x → Q x) → IfOk r Q
 where_ok (Ok x) p more = more x p

@@ -1,7 +1,10 @@
 -- Worlds for a hidden set are worlds for every larger one.
-use Rattle.std.proofs.Common.{◌≡◌, ℕ, Bool, List, [], ◌∷◌, ◌++◌, All, ℤ, pos, ◌*ℤ◌, ◌≤ℤ◌, refl, ap, subst, arith, length}
+use Rattle.std.proofs.Common.{◌≡◌, ℕ, Bool, List, [], ◌∷◌, ◌++◌, All, ℤ, pos, ◌*ℤ◌, ◌≤ℤ◌, ◌<◌, take, refl, ap, subst, arith, length}
 use Rattle.std.specs.Option.{option_map_or}
+use Rattle.std.proofs.lemmas.List.{length-take}
 use Rattle.std.proofs.lemmas.List.Elements.{All-nil, All-cons}
+use Rattle.std.proofs.lemmas.Option.{slice_get_within}
+use Rattle.worlds.specs.ProtectFaults.{asked_of}
 use Rattle.sdc_base.specs.declared.cell.Cell.{Cell}
 use Rattle.sdc_base.specs.declared.side.Side.{Side}
 use Rattle.sdc_base.specs.declared.system.System.{System}
@@ -11,8 +14,8 @@ use Rattle.worlds.specs.declared.world.World.{World}
 use Rattle.worlds.specs.NumberLists.{terms_of, number_given}
 use Rattle.worlds.specs.WorldFaults.{IsGivenWorld}
 use Rattle.worlds.proofs.Bounds.{decides_le}
-use Rattle.repair.specs.HidingOrder.{Case}
-use Rattle.repair.specs.KeptWorlds.{IsServing, AreServed}
+use Rattle.repair.specs.HidingOrder.{Case, StandsAt}
+use Rattle.repair.specs.KeptWorlds.{IsServing, AreServed, AreServedBefore}
 use Rattle.repair.proofs.Flags.{IsWithin, shown_within}
 
 pub world_more : (system : System) (cells : List Cell) (flags more : List Bool) (den : ℤ) (moves : Numbers) → IsWithin flags more → IsWorld system cells flags den moves → IsWorld system cells more den moves
@@ -37,7 +40,7 @@ served_more c flags more [] [] within are = tt
 served_more c flags more [] (world ∷ worlds) within are = are
 served_more c flags more (one ∷ asked) [] within are = are
 served_more c flags more (one ∷ asked) (world ∷ worlds) within are =
-    (record { is_primary = are.0.is_primary; is_world = given_more c.system c.cells flags more world within are.0.is_world; reaching = are.0.reaching; is_given = are.0.is_given }, served_more c flags more asked worlds within are.1)
+    (record { is_primary = are.0.is_primary; is_world = given_more c.system c.cells flags more world within are.0.is_world; reaching = are.0.reaching }, served_more c flags more asked worlds within are.1)
 
 -- one more question with its world
 pub served_push : (c : Case) (flags : List Bool) (asked : List (ℕ × Side)) (worlds : List World) (one : ℕ × Side) (world : World) → AreServed c flags asked worlds → IsServing c flags one world → AreServed c flags (asked ++ one ∷ []) (worlds ++ world ∷ [])
@@ -67,3 +70,9 @@ served_length c flags [] [] are = refl
 served_length c flags [] (world ∷ worlds) are = absurd are
 served_length c flags (one ∷ asked) [] are = absurd are
 served_length c flags (one ∷ asked) (world ∷ worlds) are = omega (arith, served_length c flags asked worlds are.1)
+
+-- there are as many worlds as questions before the place
+pub served_so_far : (c : Case) (flags : List Bool) (place : ℕ) (asked : ℕ × Side) (worlds : List World) → StandsAt c.cells asked place → AreServedBefore c flags place worlds → length worlds ≡ place
+served_so_far c flags place asked worlds stands are =
+    let within : place < length (asked_of 0 c.cells) = slice_get_within (asked_of 0 c.cells) place asked stands in
+    omega (arith, served_length c flags (take place (asked_of 0 c.cells)) worlds are, length-take place (asked_of 0 c.cells), within)

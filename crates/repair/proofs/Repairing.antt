@@ -22,14 +22,14 @@ use Rattle.worlds.specs.RefutationFaults.{IsGivenRefutation}
 use Rattle.worlds.proofs.TrueTests.{and_true, not_true}
 use Rattle.worlds.proofs.RefutationLaws.{no_world}
 use Rattle.interval_audit.specs.declared.question.Question.{Question}
-use Rattle.interval_audit.specs.declared.answer.Answer.TheVariants.{Reaches, Stops}
+use Rattle.interval_audit.specs.declared.answer.Answer.TheVariants.{Stops}
 use Rattle.interval_audit.specs.declared.answer.AskFault.{AskFault}
 use Rattle.interval_audit.specs.declared.answer.AskFault.TheVariants.{Work, Wide, Size, Memory}
 use Rattle.sdc_base.specs.declared.fraction.Fraction.{Fraction}
 use Rattle.interval_audit.specs.Answers.{ReachesTarget, StopsShort, IsAnswerOf}
 use Rattle.repair.specs.LevelQuestions.{IsLevelQuestion, IsCausing, HasCause}
-use Rattle.repair.specs.HidingOrder.{Case, IsOfKind, hide, hide_subjects, breaks, breaks_at, coefficients_for, IsCheapest, StandsAt}
-use Rattle.repair.specs.Repairs.{cell_and_side, IsJustified, IsInOrder, EachRepair}
+use Rattle.repair.specs.HidingOrder.{Case, IsOfKind, hide, hide_subjects, breaks, breaks_at, coefficients_for, NoneBreaks, IsCheapest, StandsAt}
+use Rattle.repair.specs.Repairs.{cell_and_side, IsJustified, IsInOrder, EachRepair, AreRepairs}
 use Rattle.repair.specs.KeptWorlds.{IsServing, AreServed, AreServedBefore, IsRepaired, IsStopped}
 use Rattle.repair.specs.Stops.{IsQuestion}
 use Rattle.repair.specs.Verdicts.{IsCannot}
@@ -132,20 +132,24 @@ hidden_cell (cell ∷ cells) (flag ∷ flags) zero each is = (cell, refl)
 hidden_cell (cell ∷ cells) (flag ∷ flags) (suc number) each is = hidden_cell cells flags number (omega (arith, each)) is
 
 -- where no cell would break them, the multipliers show that no hidden set protects
-pub cannot_by : (c : Case) (flags : List Bool) (place : ℕ) (question : ℕ × Side) (m : Multipliers) → length c.cells ≡ c.system.cells → length flags ≡ c.system.cells → IsPermitted c.cells flags → IsStopped c flags place question m → ((n : ℕ) → breaks_at c.cells flags (coefficients_for c.system question m) n ≡ false) → IsCannot c question.0 question.1 m
-cannot_by c flags place question m one_each each permitted is none =
+pub cannot_by : (c : Case) (prices : List ℕ) (planned flags : List Bool) (repairs : List Refuted) (place : ℕ) (question : ℕ × Side) (m : Multipliers) → length c.cells ≡ c.system.cells → length flags ≡ c.system.cells → IsPermitted c.cells flags → flags ≡ hide_subjects planned repairs → AreRepairs c prices planned repairs → IsStopped c flags place question m → NoneBreaks c flags question m → IsCannot c prices planned question.0 question.1 m
+cannot_by c prices planned flags repairs place question m one_each each permitted hidden_is are is none =
     let all : IsGivenRefutation c.system c.cells (full_set c.cells) question.0 question.1 m = refutes_full c.system c.cells flags question.0 question.1 m permitted none is.refutes in
     let primary : IsOfKind c.cells question.0 Primary = asked_primary c.cells place question is.stands in
     let inside : question.0 < c.system.cells = omega (arith, one_each, slice_get_within c.cells question.0 primary.cell primary.found) in
     let unprotected : ¬ Protects c.system c.cells (full_set c.cells) question.0 question.1 = no_world c.system c.cells (full_set c.cells) question.0 question.1 m one_each inside all in
     record {
-      place = place;
-      stands = is.stands;
-      before = all_protected_more c flags (full_set c.cells) (take place (asked_of 0 c.cells)) (within_full c.cells flags (omega (arith, one_each, each)) permitted (λ n hidden. hidden_cell c.cells flags n (omega (arith, one_each, each)) hidden)) is.before;
+      first = record {
+        place = place;
+        stands = is.stands;
+        before = all_protected_more c flags (full_set c.cells) (take place (asked_of 0 c.cells)) (within_full c.cells flags (omega (arith, one_each, each)) permitted (λ n hidden. hidden_cell c.cells flags n (omega (arith, one_each, each)) hidden)) is.before;
+        unprotected = unprotected;
+      };
       refutes = all;
-      set = flags;
-      gives = is.gives;
-      unprotected = unprotected;
+      repairs = repairs;
+      are_repairs = are;
+      stopped = subst (λ (f : List Bool). IsStopped c f place question m) hidden_is is;
+      none_breaks = subst (λ (f : List Bool). NoneBreaks c f question m) hidden_is none;
       none_protects = λ other long own protects. unprotected (protects_more c.system c.cells other (full_set c.cells) question.0 question.1 (within_full c.cells other long own (λ n hidden. hidden_cell c.cells other n long hidden)) protects);
     }
 
@@ -155,12 +159,11 @@ cheapest_inside cells prices flags counts number is =
     slice_get_within cells number own.is_free.cell own.is_free.found
 
 -- a world that reaches the level of the question at a place
-pub serving_by : (c : Case) (flags : List Bool) (place : ℕ) (question : ℕ × Side) (asking : Question) (world : World) → IsPermitted c.cells flags → StandsAt c.cells question place → IsLevelQuestion c.cells question asking → ReachesTarget c.system c.cells flags asking world → IsAnswerOf c.system c.cells flags asking (Reaches world) → IsServing c flags question world
-serving_by c flags place question asking world permitted stands is reaching read = record {
+pub serving_by : (c : Case) (flags : List Bool) (place : ℕ) (question : ℕ × Side) (asking : Question) (world : World) → StandsAt c.cells question place → IsLevelQuestion c.cells question asking → ReachesTarget c.system c.cells flags asking world → IsServing c flags question world
+serving_by c flags place question asking world stands is reaching = record {
   is_primary = asked_primary c.cells place question stands;
   is_world = reaching.is_world;
   reaching = reaching_test c.system c.cells flags question asking world is reaching;
-  is_given = record { set = flags; permitted = permitted; question = asking; is_asked = is; is_read = read };
 }
 
 -- a fault that a question has
@@ -175,10 +178,10 @@ pub question_of : (c : Case) (flags : List Bool) (place : ℕ) (question : ℕ �
 question_of c flags place question worlds limit fault stands served cause = record { asked = question; stands = stands; before = served_protect c flags (take place (asked_of 0 c.cells)) worlds served; cause = cause }
 
 -- a world that reaches the level of the question at a place serves it
-pub one_served : (c : Case) (flags : List Bool) (place : ℕ) (question : ℕ × Side) (asking : Question) (worlds : List World) (world : World) → IsPermitted c.cells flags → StandsAt c.cells question place → IsLevelQuestion c.cells question asking → ReachesTarget c.system c.cells flags asking world → IsAnswerOf c.system c.cells flags asking (Reaches world) → AreServedBefore c flags place worlds → AreServedBefore c flags (place + 1) (worlds ++ world ∷ [])
-one_served c flags place question asking worlds world permitted stands is reaching read served =
+pub one_served : (c : Case) (flags : List Bool) (place : ℕ) (question : ℕ × Side) (asking : Question) (worlds : List World) (world : World) → StandsAt c.cells question place → IsLevelQuestion c.cells question asking → ReachesTarget c.system c.cells flags asking world → AreServedBefore c flags place worlds → AreServedBefore c flags (place + 1) (worlds ++ world ∷ [])
+one_served c flags place question asking worlds world stands is reaching served =
     let all : List (ℕ × Side) = asked_of 0 c.cells in
-    let serving : IsServing c flags question world = serving_by c flags place question asking world permitted stands is reaching read in
+    let serving : IsServing c flags question world = serving_by c flags place question asking world stands is reaching in
     let more : take (place + 1) all ≡ take place all ++ question ∷ [] =
     take_more all place question (slice_get_within all place question stands) ∙ ap (λ (q : ℕ × Side). take place all ++ q ∷ []) (get_or_from_slice_get all place question question stands) in
     subst (λ (qs : List (ℕ × Side)). AreServed c flags qs (worlds ++ world ∷ [])) (sym more) (served_push c flags (take place all) worlds question world served serving)
@@ -189,7 +192,7 @@ stopped_by c flags place question asking worlds best world m stands served is do
   stands = stands;
   before = served_protect c flags (take place (asked_of 0 c.cells)) worlds served;
   refutes = stopping_refutes c.system c.cells flags question asking best world m is does;
-  gives = record { question = asking; best = best; world = world; is_asked = is; is_read = read };
+  gives = record { question = asking; best = best; world = world; is_asked = is; is_right = does; is_read = read };
 }
 
 -- the question that stands at a place of the list

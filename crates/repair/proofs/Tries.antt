@@ -1,5 +1,5 @@
 -- Cells tried as shown, one after another.
-use Rattle.std.proofs.Common.{◌≡◌, ◌≢◌, ℕ, zero, suc, ◌+◌, ◌<◌, ◌≤◌, inl, inr, ◌&&◌, not, Bool, true, false, List, [], ◌∷◌, ◌++◌, length, take, drop, map, slice_set, slice_get, All, Some, Result, Ok, Err, OnOk, IfErr, refl, ap, sym, ◌∙◌, subst, arith, add-one, if◌then◌else◌}
+use Rattle.std.proofs.Common.{◌≡◌, ◌≢◌, ℕ, zero, suc, ◌+◌, ◌<◌, ◌≤◌, ◌==◌, inl, inr, ◌&&◌, not, Bool, true, false, List, [], ◌∷◌, ◌++◌, length, take, drop, map, slice_set, slice_get, All, Some, Result, Ok, Err, OnOk, IfErr, refl, ap, sym, ◌∙◌, subst, arith, add-one, if◌then◌else◌}
 use Rattle.std.proofs.Math.Seq.{take-length}
 use Rattle.std.proofs.lemmas.List.{length-take, get_or-set_same, get_or-set_other, map-append, append-nil}
 use Rattle.std.proofs.lemmas.Option.{slice_get_within}
@@ -14,7 +14,6 @@ use Rattle.sdc_base.specs.declared.side.Side.TheVariants.{Above, Below}
 use Rattle.sdc_base.specs.HiddenSets.{is_hidden}
 use Rattle.sdc_base.specs.Worlds.{Protects}
 use Rattle.worlds.specs.declared.refuted.Refuted.{Refuted}
-use Rattle.worlds.specs.declared.world.World.{World}
 use Rattle.worlds.specs.ProtectFaults.{asked_of}
 use Rattle.worlds.proofs.TrueTests.{both_true}
 use Rattle.worlds.proofs.ProtectLaws.{both_asked, by_side, start}
@@ -23,13 +22,12 @@ use Rattle.interval_audit.specs.declared.answer.AskFault.{AskFault}
 use Rattle.interval_audit.specs.declared.answer.AskFault.TheVariants.{Work, Wide, Size, Memory}
 use Rattle.repair.specs.HidingOrder.{Case, IsOfKind, hide, show, show_all, ProtectsAll}
 use Rattle.repair.specs.Needs.{others_hidden, set_when_tried, IsNeed}
-use Rattle.repair.specs.KeptWorlds.{AreServed}
 use Rattle.repair.specs.Stops.{Ascend}
 use Rattle.repair.specs.CellTrials.{IsRefuted, IsNeedBelow, IsTried, IsTryStop, TriesStopFor, HasFault}
 use Rattle.repair.specs.Verdicts.{AreNeeds}
 use Rattle.repair.proofs.Flags.{IsWithin, clash, same_or_other}
 use Rattle.repair.proofs.Fewer.{refutation_fewer}
-use Rattle.repair.proofs.Growing.{served_protect}
+use Rattle.repair.proofs.Growing.{all_protected_more}
 use Rattle.repair.proofs.Repairing.{none_is_more, last_same}
 
 -- ---- lists of flags, cut and changed at a place
@@ -194,12 +192,12 @@ front_same (a ∷ xs) (b ∷ ys) x y is =
     ap (λ k. k ∷ xs) first ∙ ap (λ (l : List ℕ). b ∷ l) (front_same xs ys x y rest)
 
 -- before any cell is tried
-pub none_tried : (c : Case) (flags : List Bool) (worlds : List World) → AreServed c flags (asked_of 0 c.cells) worlds → IsTried c flags 0 flags worlds [] []
-none_tried c flags worlds served = record {
+pub none_tried : (c : Case) (flags : List Bool) → ProtectsAll c flags → IsTried c flags 0 flags [] []
+none_tried c flags protecting = record {
   hidden_is = refl;
   within = λ cell is. is;
   rest = refl;
-  served = served;
+  protecting = protecting;
   each_needed = refl;
   are_needs = All-nil (IsNeedBelow c flags flags 0);
   ascending = tt;
@@ -222,12 +220,12 @@ pub below_on : (n : ℕ) (shown : List ℕ) → All (λ k. k < n) shown → All 
 below_on n shown all = All-weaker (λ k. k < n) (λ k. k < n + 1) (λ k is. omega (arith, is)) shown all
 
 -- a cell that isn't tried
-pub one_passed : (c : Case) (larger : List Bool) (n : ℕ) (flags : List Bool) (worlds : List World) (needs : List Refuted) (shown : List ℕ) (cell : Cell) → slice_get c.cells n ≡ Some cell → (is_hidden flags n && not (is_primary cell.kind)) ≡ false → IsTried c larger n flags worlds needs shown → IsTried c larger (n + 1) flags worlds needs shown
-one_passed c larger n flags worlds needs shown cell found other is = record {
+pub one_passed : (c : Case) (larger : List Bool) (n : ℕ) (flags : List Bool) (needs : List Refuted) (shown : List ℕ) (cell : Cell) → slice_get c.cells n ≡ Some cell → (is_hidden flags n && not (is_primary cell.kind)) ≡ false → IsTried c larger n flags needs shown → IsTried c larger (n + 1) flags needs shown
+one_passed c larger n flags needs shown cell found other is = record {
   hidden_is = is.hidden_is;
   within = is.within;
   rest = rest_next n flags larger is.rest;
-  served = is.served;
+  protecting = is.protecting;
   each_needed =
       let none : own_other (is_hidden flags n) cell n ≡ [] = ap (λ b. if b then n ∷ [] else []) other in
       is.each_needed ∙ sym (append-nil (others_hidden flags 0 (take n c.cells)))
@@ -243,15 +241,15 @@ pub shown_here : (flags : List Bool) (n : ℕ) → n < length flags → is_hidde
 shown_here flags n inside = get_or-set_same flags n false false inside
 
 -- a cell that is shown
-pub one_shown : (c : Case) (larger : List Bool) (n : ℕ) (flags : List Bool) (worlds news : List World) (needs : List Refuted) (shown : List ℕ) → n < length flags → is_hidden flags n ≡ true → IsOfKind c.cells n Free → AreServed c (show flags n) (asked_of 0 c.cells) news → IsTried c larger n flags worlds needs shown → IsTried c larger (n + 1) (show flags n) news needs (shown ++ n ∷ [])
-one_shown c larger n flags worlds news needs shown inside hidden is_free served is = record {
+pub one_shown : (c : Case) (larger : List Bool) (n : ℕ) (flags : List Bool) (needs : List Refuted) (shown : List ℕ) → n < length flags → is_hidden flags n ≡ true → IsOfKind c.cells n Free → ProtectsAll c (show flags n) → IsTried c larger n flags needs shown → IsTried c larger (n + 1) (show flags n) needs (shown ++ n ∷ [])
+one_shown c larger n flags needs shown inside hidden is_free protecting is = record {
   hidden_is = ap (λ (f : List Bool). show f n) is.hidden_is ∙ sym (without_more larger shown n);
   within = λ k own. elim (same_or_other k n) [
     | inl same ↦ clash (is_hidden (show flags n) n) (subst (λ m. is_hidden (show flags n) m ≡ true) same own) (shown_here flags n inside)
     | inr other ↦ is.within k (sym (get_or-set_other flags n k false false other) ∙ own)
   ];
   rest = rest_set n flags larger false is.rest;
-  served = served;
+  protecting = protecting;
   each_needed =
       let none : own_other (is_hidden (show flags n) n) is_free.cell n ≡ [] = ap (λ b. own_other b is_free.cell n) (shown_here flags n inside) in
       is.each_needed ∙ sym (others_kept flags c.cells n false) ∙ sym (append-nil (others_hidden (show flags n) 0 (take n c.cells)))
@@ -264,12 +262,12 @@ one_shown c larger n flags worlds news needs shown inside hidden is_free served 
 }
 
 -- a cell that is needed
-pub one_needed : (c : Case) (larger : List Bool) (n : ℕ) (flags : List Bool) (worlds : List World) (needs : List Refuted) (shown : List ℕ) (need : Refuted) → n < length flags → is_hidden flags n ≡ true → IsOfKind c.cells n Free → need.subject ≡ n → IsRefuted c (show flags n) need → IsTried c larger n flags worlds needs shown → IsTried c larger (n + 1) flags worlds (needs ++ need ∷ []) shown
-one_needed c larger n flags worlds needs shown need inside hidden is_free subject refuted is = record {
+pub one_needed : (c : Case) (larger : List Bool) (n : ℕ) (flags : List Bool) (needs : List Refuted) (shown : List ℕ) (need : Refuted) → n < length flags → is_hidden flags n ≡ true → IsOfKind c.cells n Free → need.subject ≡ n → IsRefuted c (show flags n) need → IsTried c larger n flags needs shown → IsTried c larger (n + 1) flags (needs ++ need ∷ []) shown
+one_needed c larger n flags needs shown need inside hidden is_free subject refuted is = record {
   hidden_is = is.hidden_is;
   within = is.within;
   rest = rest_next n flags larger is.rest;
-  served = is.served;
+  protecting = is.protecting;
   each_needed =
       let kind : is_primary is_free.cell.kind ≡ false = ap is_primary is_free.is_kind in
       let own : own_other (is_hidden flags n) is_free.cell n ≡ n ∷ [] = ap (λ b. own_other b is_free.cell n) hidden ∙ ap (λ b. if not b then n ∷ [] else []) kind in
@@ -292,8 +290,8 @@ all_subjects : (Q : ℕ → Type 0) (needs : List Refuted) → All (λ (need : R
 all_subjects Q [] all = All-nil Q
 all_subjects Q (need ∷ needs) all = All-cons Q need.subject (map (λ need. need.subject) needs) (All-head (λ (r : Refuted). Q r.subject) need needs all) (all_subjects Q needs (All-tail (λ (r : Refuted). Q r.subject) need needs all))
 
-pub try_stop : (c : Case) (larger : List Bool) (n : ℕ) (flags : List Bool) (worlds : List World) (needs : List Refuted) (shown : List ℕ) (limit : ℕ) (fault : AskFault) → length c.cells ≡ c.system.cells → n < length flags → is_hidden flags n ≡ true → IsOfKind c.cells n Free → HasFault c (show flags n) limit fault → IsTried c larger n flags worlds needs shown → IsTryStop c larger limit fault (shown ++ n ∷ [])
-try_stop c larger n flags worlds needs shown limit fault one_each inside hidden is_free has is =
+pub try_stop : (c : Case) (larger : List Bool) (n : ℕ) (flags : List Bool) (needs : List Refuted) (shown : List ℕ) (limit : ℕ) (fault : AskFault) → length c.cells ≡ c.system.cells → n < length flags → is_hidden flags n ≡ true → IsOfKind c.cells n Free → HasFault c (show flags n) limit fault → IsTried c larger n flags needs shown → IsTryStop c larger limit fault (shown ++ n ∷ [])
+try_stop c larger n flags needs shown limit fault one_each inside hidden is_free has is =
     let set : List Bool = show_all larger (shown ++ n ∷ []) in
     let set_is : set ≡ show flags n = without_more larger shown n ∙ ap (λ (f : List Bool). show f n) (sym is.hidden_is) in
     let Needed : ℕ → Type 0 = λ s. ¬ ProtectsAll c (set_when_tried set larger s) in
@@ -309,7 +307,7 @@ try_stop c larger n flags worlds needs shown limit fault one_each inside hidden 
         are_open = all_more (λ k. is_hidden larger k ≡ true) shown n is.are_open (is.within n hidden);
         protected_before = λ earlier last same.
             let front : shown ≡ earlier = front_same shown earlier n last same in
-            subst (λ (l : List ℕ). ProtectsAll c (show_all larger l)) front (subst (λ (f : List Bool). ProtectsAll c f) is.hidden_is (served_protect c flags (asked_of 0 c.cells) worlds is.served));
+            subst (λ (l : List ℕ). ProtectsAll c (show_all larger l)) front (subst (λ (f : List Bool). ProtectsAll c f) is.hidden_is is.protecting);
         others_needed = λ earlier last cell same below free_cell still.
             let own : n ≡ last = last_same shown earlier n last same in
             let less : cell < n = omega (arith, below, own) in
@@ -322,6 +320,47 @@ try_stop c larger n flags worlds needs shown limit fault one_each inside hidden 
       has_fault = subst (λ (f : List Bool). HasFault c f limit fault) (sym set_is) has;
     }
 
+-- what is hidden with a cell shown is hidden
+within_shown : (xs : List Bool) (s k : ℕ) → is_hidden (show xs s) k ≡ true → is_hidden xs k ≡ true
+within_shown [] s k is = is
+within_shown (x ∷ xs) zero zero is = absurd cc
+within_shown (x ∷ xs) zero (suc k) is = is
+within_shown (x ∷ xs) (suc s) zero is = is
+within_shown (x ∷ xs) (suc s) (suc k) is = within_shown xs s k is
+
+-- ---- a stop once all cells have been tried
+
+pub some_shown : (shown : List ℕ) → (length shown == 0) ≡ false → shown ≢ []
+some_shown [] some none = cc
+some_shown (one ∷ shown) some none = cc
+
+pub end_stop : (c : Case) (larger flags : List Bool) (needs : List Refuted) (shown : List ℕ) (limit : ℕ) (fault : AskFault) → length c.cells ≡ c.system.cells → shown ≢ [] → HasFault c flags limit fault → IsTried c larger (length c.cells) flags needs shown → IsTryStop c larger limit fault shown
+end_stop c larger flags needs shown limit fault one_each some has is =
+    let Needed : ℕ → Type 0 = λ s. ¬ ProtectsAll c (set_when_tried flags larger s) in
+    let each : All (λ (need : Refuted). Needed need.subject) needs =
+    All-weaker (IsNeedBelow c flags larger (length c.cells)) (λ (need : Refuted). Needed need.subject) (λ need own. not_protecting c (set_when_tried flags larger need.subject) need one_each own.refuted) needs is.are_needs in
+    let others : All Needed (others_hidden flags 0 (take (length c.cells) c.cells)) = subst (All Needed) is.each_needed (all_subjects Needed needs each) in
+    record {
+      are_shown = record {
+        ascending = is.ascending;
+        are_free = is.are_free;
+        are_open = is.are_open;
+        protected_before = λ earlier last same.
+            let before : List Bool = show_all larger earlier in
+            let set_is : flags ≡ show before last = is.hidden_is ∙ ap (λ (l : List ℕ). show_all larger l) same ∙ without_more larger earlier last in
+            all_protected_more c flags before (asked_of 0 c.cells) (record { hides = λ k hidden. within_shown before last k (sym (ap (λ (f : List Bool). is_hidden f k) set_is) ∙ hidden) }) is.protecting;
+        others_needed = λ earlier last cell same below free_cell still.
+            let here : 0 + cell ≡ cell = omega arith in
+            let inside : cell < length c.cells = slice_get_within c.cells cell free_cell.cell free_cell.found in
+            let hidden : is_hidden flags cell ≡ true = ap (λ (f : List Bool). is_hidden f cell) is.hidden_is ∙ still in
+            let own : Needed cell =
+            subst Needed here (each_other Needed flags 0 (take (length c.cells) c.cells) others cell free_cell.cell (get_taken c.cells (length c.cells) cell free_cell.cell inside free_cell.found) (subst (λ m. is_hidden flags m ≡ true) (sym here) hidden) (ap is_primary free_cell.is_kind)) in
+            subst (λ (f : List Bool). ¬ ProtectsAll c (set_when_tried f larger cell)) is.hidden_is own;
+      };
+      shows_a_cell = some;
+      has_fault = subst (λ (f : List Bool). HasFault c f limit fault) is.hidden_is has;
+    }
+
 pub tries_stop : (c : Case) (larger : List Bool) (limit : ℕ) (fault : AskFault) (shown : List ℕ) → IsTryStop c larger limit fault shown → TriesStopFor c larger limit fault shown
 tries_stop c larger limit (Work walk) shown is = is
 tries_stop c larger limit (Wide walk place) shown is = is
@@ -330,16 +369,14 @@ tries_stop c larger limit Memory shown is = tt
 
 -- ---- at the end
 
-pub all_needed : (c : Case) (larger flags : List Bool) (worlds : List World) (needs : List Refuted) (shown : List ℕ) → IsTried c larger (length c.cells) flags worlds needs shown → AreNeeds c flags larger needs
-all_needed c larger flags worlds needs shown is = record {
+pub all_needed : (c : Case) (larger flags : List Bool) (needs : List Refuted) (shown : List ℕ) → IsTried c larger (length c.cells) flags needs shown → AreNeeds c flags larger needs
+all_needed c larger flags needs shown is = record {
   each_needed = is.each_needed ∙ ap (λ (l : List Cell). others_hidden flags 0 l) (take-length c.cells);
   are_needs = All-weaker (IsNeedBelow c flags larger (length c.cells)) (IsNeed c flags larger) (λ need own. record {
     cell_primary = own.refuted.cell_primary;
     refutes = refutation_fewer c.system c.cells (show flags need.subject) (set_when_tried flags larger need.subject) need.cell need.side need.multipliers (show_within flags larger need.subject is.within) own.refuted.refutes;
     refutes_larger = own.refuted.refutes;
-    place = own.refuted.place;
-    stands = own.refuted.stands;
-    before = own.refuted.before;
+    first = own.refuted.first;
     gives = own.refuted.gives;
   }) needs is.are_needs;
 }

@@ -4,21 +4,20 @@ use Rattle.std.proofs.lemmas.List.Elements.{All-nil, All-cons, All-weaker}
 use Rattle.sdc_base.specs.declared.cell.Cell.{Cell}
 use Rattle.sdc_base.specs.declared.side.Side.{Side}
 use Rattle.sdc_base.specs.declared.system.System.{System}
-use Rattle.sdc_base.specs.Signs.{AreSigns, HasNone}
+use Rattle.sdc_base.specs.Signs.{AreSigns}
 use Rattle.worlds.specs.declared.multipliers.Multipliers.{Multipliers}
 use Rattle.worlds.specs.declared.refuted.Refuted.{Refuted}
 use Rattle.worlds.specs.declared.world.World.{World}
 use Rattle.worlds.specs.ProtectFaults.{asked_of}
-use Rattle.interval_audit.specs.declared.answer.Answer.TheVariants.{Reaches, Stops}
 use Rattle.interval_audit.specs.declared.answer.AskFault.{AskFault}
 use Rattle.interval_audit.specs.declared.answer.AskFault.TheVariants.{Work, Wide, Size, Memory}
 use Rattle.interval_audit.specs.WalkLimits.{HasNoWalk}
 use Rattle.repair.specs.declared.stopped.Stopped.{Stopped}
 use Rattle.repair.specs.declared.verdict.Verdict.{Verdict}
 use Rattle.repair.specs.declared.verdict.Verdict.TheVariants.{Protected, Cannot}
-use Rattle.repair.specs.HidingOrder.{Case, hide}
-use Rattle.repair.specs.KeptWorlds.{AreServed}
-use Rattle.repair.specs.LevelQuestions.{AreGiven, IsGiven, HasCause}
+use Rattle.repair.specs.HidingOrder.{Case, hide, hide_subjects}
+use Rattle.repair.specs.OnTheWay.{IsOnWay, AreAnswers}
+use Rattle.repair.specs.LevelQuestions.{AreGiven, HasCause}
 use Rattle.repair.specs.Needs.{IsNeed}
 use Rattle.repair.specs.Repairs.{IsInOrder, EachRepair, cell_and_side}
 use Rattle.repair.specs.Stops.{StopsFor}
@@ -28,16 +27,11 @@ use Rattle.repair.specs.WholeVerdicts.{IsWholeWorld, IsWholeRefuted, IsWholeVerd
 given_whole : (system : System) (cells : List Cell) (flags signs : List Bool) (asked : ℕ × Side) (multipliers : Multipliers) → AreSigns system.relations signs → AreGiven system cells flags asked multipliers → multipliers.den ≡ pos 1
 given_whole system cells flags signs asked multipliers are given = (given.is_read.3.whole signs are).1
 
-world_whole : (system : System) (cells : List Cell) (signs : List Bool) (asked : ℕ × Side) (world : World) → AreSigns system.relations signs → IsGiven system cells asked world → world.den ≡ pos 1
-world_whole system cells signs asked world are given = given.is_read.3.whole signs are
-
-worlds_whole : (c : Case) (flags signs : List Bool) (asked : List (ℕ × Side)) (worlds : List World) → AreSigns c.system.relations signs → AreServed c flags asked worlds → All IsWholeWorld worlds
-worlds_whole c flags signs [] [] are served = All-nil IsWholeWorld
-worlds_whole c flags signs [] (world ∷ worlds) are served = absurd served
-worlds_whole c flags signs (q ∷ more) [] are served = absurd served
-worlds_whole c flags signs (q ∷ more) (world ∷ worlds) are served =
-    All-cons IsWholeWorld world worlds (world_whole c.system c.cells signs q world are served.0.is_given)
-    (worlds_whole c flags signs more worlds are served.1)
+worlds_whole : (c : Case) (Is : List Bool → Type 0) (signs : List Bool) (asked : List (ℕ × Side)) (worlds : List World) → AreSigns c.system.relations signs → AreAnswers c Is asked worlds → All IsWholeWorld worlds
+worlds_whole c Is signs asked [] are given = All-nil IsWholeWorld
+worlds_whole c Is signs [] (world ∷ worlds) are given = absurd given
+worlds_whole c Is signs (q ∷ more) (world ∷ worlds) are given =
+    All-cons IsWholeWorld world worlds (given.0.is_read.3.whole signs are) (worlds_whole c Is signs more worlds are given.1)
 
 repairs_whole : (c : Case) (prices : List ℕ) (flags signs : List Bool) (repairs : List Refuted) → AreSigns c.system.relations signs → EachRepair (IsInOrder c prices) flags repairs → All IsWholeRefuted repairs
 repairs_whole c prices flags signs [] are ordered = All-nil IsWholeRefuted
@@ -54,12 +48,12 @@ needs_whole c flags larger signs needs are all =
 -- where the relations have signs a verdict is in whole units
 pub verdict_whole : (c : Case) (prices : List ℕ) (planned signs : List Bool) (verdict : Verdict) → AreSigns c.system.relations signs → IsVerdict c prices planned verdict → IsWholeVerdict verdict
 verdict_whole c prices planned signs (Protected protected repairs needs) are is = (
-  worlds_whole c protected.hidden.flags signs (asked_of 0 c.cells) protected.worlds are is.0.served,
+  worlds_whole c (IsOnWay c planned repairs protected.hidden.flags) signs (asked_of 0 c.cells) protected.worlds are is.0.answers,
   repairs_whole c prices planned signs repairs are is.0.are_repairs.ordered,
   needs_whole c protected.hidden.flags _ signs needs are is.1.are_needs,
 )
 verdict_whole c prices planned signs (Cannot cell side multipliers) are is =
-    given_whole c.system c.cells is.set signs (cell, side) multipliers are is.gives
+    given_whole c.system c.cells (hide_subjects planned is.repairs) signs (cell, side) multipliers are is.stopped.gives
 
 cause_whole : (system : System) (cells : List Cell) (flags signs : List Bool) (asked : ℕ × Side) (limit : ℕ) (fault : AskFault) → AreSigns system.relations signs → HasCause system cells flags asked limit fault → HasNoWalk fault
 cause_whole system cells flags signs asked limit (Work walk) are is = absurd (is.cause.3 signs are)

@@ -1,6 +1,7 @@
 -- Hidden cells that aren't primary, tried as shown, and how far this has come (own).
-use Rattle.std.specs.Prelude.{◌≡◌, ◌≢◌, ℕ, ◌<◌, ◌==◌, ◌&&◌, not, Bool, true, List, [], map, take, drop, All, Option, None, Some, pos, ◌*ℤ◌, int_le}
-use Rattle.std.specs.List.{list_any}
+use Rattle.std.specs.Prelude.{◌≡◌, ◌≢◌, ℕ, ◌<◌, ◌&&◌, not, Bool, true, false, List, [], ◌∷◌, length, map, take, drop, slice_get, slice_set, All, Option, None, Some, ◌*ℤ◌, int_le, if◌then◌else◌}
+use Rattle.std.specs.List.{list_all}
+use Rattle.std.specs.Option.{option_map_or}
 use Rattle.sdc_base.specs.declared.cell.Cell.{Cell}
 use Rattle.sdc_base.specs.declared.cell.Kind.TheVariants.{Primary, Free}
 use Rattle.sdc_base.specs.declared.side.Side.{Side}
@@ -9,53 +10,85 @@ use Rattle.sdc_base.specs.Worlds.{level, amount_toward}
 use Rattle.worlds.specs.declared.refuted.Refuted.{Refuted}
 use Rattle.worlds.specs.declared.world.World.{World}
 use Rattle.worlds.specs.NumberLists.{terms_of, number_given}
-use Rattle.worlds.specs.ProtectFaults.{asked_of}
 use Rattle.worlds.specs.RefutationFaults.{IsGivenRefutation}
 use Rattle.interval_audit.specs.declared.answer.AskFault.{AskFault}
 use Rattle.interval_audit.specs.declared.answer.AskFault.TheVariants.{Work, Wide, Size, Memory}
-use Rattle.repair.specs.LevelQuestions.{AreGiven}
+use Rattle.repair.specs.LevelQuestions.{AreGiven, IsGiven}
+use Rattle.repair.specs.OnTheWay.{IsOfTrial, IsOnWay, AreAnswers}
+use Rattle.worlds.specs.ProtectFaults.{asked_of}
 use Rattle.repair.specs.declared.progress.Progress.{Progress}
 use Rattle.repair.specs.declared.task.Task.{Task}
 use Rattle.repair.specs.declared.trying.Findings.{Findings}
 use Rattle.repair.specs.declared.trial.Spare.{Spare}
-use Rattle.repair.specs.HidingOrder.{Case, IsOfKind, show_all, StandsAt, ProtectsBefore}
+use Rattle.repair.specs.HidingOrder.{Case, IsOfKind, hide_subjects, show_all, StandsAt, ProtectsBefore, IsFirstUnprotected, ProtectsAll}
 use Rattle.repair.specs.Repairs.{cell_and_side}
 use Rattle.repair.specs.Needs.{others_hidden, set_when_tried}
-use Rattle.repair.specs.KeptWorlds.{IsServing, AreServed}
+use Rattle.repair.specs.KeptWorlds.{IsServing}
 use Rattle.repair.specs.Stops.{Ascend, AreShown, IsQuestion}
 use Rattle.repair.specs.Tasks.{case_of}
 
--- a world leaves a cell where it is
-abbrev pub RestsIn : ℕ → World → Type 0
-RestsIn cell world = number_given (terms_of world.moves) cell ≡ pos 0
+-- whether a world moves only hidden cells
+abbrev pub fits : List Bool → World → Bool
+fits flags world = list_all (λ one. is_hidden flags one.cell) world.moves
 
--- the first worlds, as many as this number, leave a cell where it is
-abbrev pub RestsBefore : ℕ → ℕ → List World → Type 0
-RestsBefore cell place worlds = All (RestsIn cell) (take place worlds)
-
--- whether a world takes a cell at least its level to a side, and moves another not at all
-abbrev pub serves_beside : Cell → ℕ × Side → ℕ → World → Bool
-serves_beside cell asked other world =
+-- whether a world takes a cell at least its level to a side, and moves only hidden cells
+abbrev pub serves_beside : Cell → ℕ × Side → List Bool → World → Bool
+serves_beside cell asked flags world =
     int_le (world.den *ℤ level asked.1 cell) (amount_toward asked.1 (number_given (terms_of world.moves) asked.0))
-    && not (list_any (λ one. one.cell == other) world.moves)
+    && fits flags world
 
--- a spare world serves the question at its place
-pub record IsSpare (c : Case) (flags : List Bool) (spare : Spare) : Type 0 where
+-- a world that serves a question for some hidden set
+abbrev pub IsKept : Case → ℕ × Side → World → Type 0
+IsKept c asked world = (set : List Bool) × IsServing c set asked world
+
+-- each question has a world that serves it for some hidden set, in its order
+abbrev pub AreKept : Case → List (ℕ × Side) → List World → Type 0
+AreKept c [] [] = Unit {0}
+AreKept c [] (world ∷ worlds) = ⊥
+AreKept c (asked ∷ more) [] = ⊥
+AreKept c (asked ∷ more) (world ∷ worlds) = IsKept c asked world × AreKept c more worlds
+
+-- a spare world serves the question at its place for some hidden set
+pub record IsSpare (c : Case) (spare : Spare) : Type 0 where
   pub asked : ℕ × Side
   pub stands : StandsAt c.cells asked spare.place
-  pub serving : IsServing c flags asked spare.world
+  pub kept : IsKept c asked spare.world
 
--- worlds at hand beside the kept ones: each serves the question at its place
-abbrev pub AreSpare : Case → List Bool → List Spare → Type 0
-AreSpare c flags spares = All (IsSpare c flags) spares
+-- a spare world is that of the answer of the question at its place while a cell below a number was tried
+pub record IsTrialAnswer (c : Case) (larger : List Bool) (n : ℕ) (flags : List Bool) (spare : Spare) : Type 0 where
+  pub asked : ℕ × Side
+  pub stands : StandsAt c.cells asked spare.place
+  pub given : IsGiven (IsOfTrial c larger n flags) c.system c.cells asked spare.world
 
--- Multipliers refute the level of a primary cell for the hidden set, as its question is answered; and the set protects
--- all that is asked before it.
+-- all spare worlds are
+abbrev pub AreTrialAnswers : Case → List Bool → ℕ → List Bool → List Spare → Type 0
+AreTrialAnswers c larger n flags spares = All (IsTrialAnswer c larger n flags) spares
+
+-- worlds at hand beside the kept ones: each served the question at its place
+abbrev pub AreSpare : Case → List Spare → Type 0
+AreSpare c spares = All (IsSpare c) spares
+
+-- the worlds with a spare in its place, where it moves only hidden cells and the world there doesn't
+abbrev pub offered : List Bool → List World → Spare → List World
+offered flags worlds spare =
+    if fits flags spare.world && not (option_map_or (fits flags) (slice_get worlds spare.place) false)
+    then slice_set worlds spare.place spare.world else worlds
+
+-- the worlds of all questions are answers for sets on the way to these flags
+abbrev pub AnswerOnWay : Task → List Bool → List Refuted → List Bool → List World → Type 0
+AnswerOnWay task planned repairs flags worlds =
+    AreAnswers (case_of task) (IsOnWay (case_of task) planned repairs flags) (asked_of 0 task.cells.now) worlds
+
+-- the spares are answers of trials on the way to these flags
+abbrev pub AnswerTrials : Task → List Bool → List Refuted → List Bool → List Spare → Type 0
+AnswerTrials task planned repairs flags spares =
+    AreTrialAnswers (case_of task) (hide_subjects planned repairs) (length task.cells.now) flags spares
+
+-- Multipliers refute the level of a primary cell for the hidden set, as its question is answered; and that question is
+-- the first that the set doesn't protect.
 pub record IsRefuted (c : Case) (flags : List Bool) (refuted : Refuted) : Type 0 where
   pub cell_primary : IsOfKind c.cells refuted.cell Primary
-  pub place : ℕ
-  pub stands : StandsAt c.cells (cell_and_side refuted) place
-  pub before : ProtectsBefore c flags place
+  pub first : IsFirstUnprotected c flags (cell_and_side refuted)
   pub refutes : IsGivenRefutation c.system c.cells flags refuted.cell refuted.side refuted.multipliers
   pub gives : AreGiven c.system c.cells flags (cell_and_side refuted) refuted.multipliers
 
@@ -75,13 +108,13 @@ pub record IsNeedBelow (c : Case) (flags larger : List Bool) (n : ℕ) (need : R
   pub refuted : IsRefuted c (set_when_tried flags larger need.subject) need
 
 -- The cells below a number have been tried, from the set of all open cells on: the hidden set is what is left without
--- those that were shown, all that is asked has its world, and each hidden cell that isn't primary has its need.
-pub record IsTried (c : Case) (larger : List Bool) (n : ℕ) (flags : List Bool) (worlds : List World)
-    (needs : List Refuted) (shown : List ℕ) : Type 0 where
+-- those that were shown, it protects every primary cell, and each hidden cell that isn't primary has its need.
+pub record IsTried (c : Case) (larger : List Bool) (n : ℕ) (flags : List Bool) (needs : List Refuted)
+    (shown : List ℕ) : Type 0 where
   pub hidden_is : flags ≡ show_all larger shown
   pub within : (cell : ℕ) → is_hidden flags cell ≡ true → is_hidden larger cell ≡ true
   pub rest : drop n flags ≡ drop n larger
-  pub served : AreServed c flags (asked_of 0 c.cells) worlds
+  pub protecting : ProtectsAll c flags
   pub each_needed : map (λ need. need.subject) needs ≡ others_hidden flags 0 (take n c.cells)
   pub are_needs : All (IsNeedBelow c flags larger n) needs
   pub ascending : Ascend shown
@@ -89,12 +122,12 @@ pub record IsTried (c : Case) (larger : List Bool) (n : ℕ) (flags : List Bool)
   pub are_free : All (λ cell. IsOfKind c.cells cell Free) shown
   pub are_open : All (λ cell. is_hidden larger cell ≡ true) shown
 
--- so far has a task come with trying cells, by its progress and its findings
-abbrev pub HasTried : Task → List Bool → ℕ → Progress → Findings → Type 0
-HasTried task larger n progress tried =
-    IsTried (case_of task) larger n progress.hidden.flags progress.worlds tried.needs tried.shown
+-- so far has a task come with trying cells, by its progress and its findings; spare worlds are answers of trials
+pub record HasTried (task : Task) (larger : List Bool) (n : ℕ) (progress : Progress) (tried : Findings) : Type 0 where
+  pub are_tried : IsTried (case_of task) larger n progress.hidden.flags tried.needs tried.shown
+  pub answers : AreTrialAnswers (case_of task) larger n progress.hidden.flags tried.spares.items
 
--- a question has a fault while a cell, the last of those shown, is being tried
+-- a question has a fault while a cell, the last of those shown, is being tried, or once all have been tried
 pub record IsTryStop (c : Case) (larger : List Bool) (limit : ℕ) (fault : AskFault) (shown : List ℕ) : Type 0 where
   pub are_shown : AreShown c larger shown
   pub shows_a_cell : shown ≢ []

@@ -77,6 +77,13 @@ abbrev pub ProtectsBefore : Case → List Bool → ℕ → Type 0
 ProtectsBefore c flags place =
     All (λ asked. Protects c.system c.cells flags asked.0 asked.1) (take place (asked_of 0 c.cells))
 
+-- the question is the first in the order that the set doesn't protect
+pub record IsFirstUnprotected (c : Case) (flags : List Bool) (asked : ℕ × Side) : Type 0 where
+  pub place : ℕ
+  pub stands : StandsAt c.cells asked place
+  pub before : ProtectsBefore c flags place
+  pub unprotected : ¬ Protects c.system c.cells flags asked.0 asked.1
+
 -- the set protects every primary cell to both sides
 abbrev pub ProtectsAll : Case → List Bool → Type 0
 ProtectsAll c flags = All (λ asked. Protects c.system c.cells flags asked.0 asked.1) (asked_of 0 c.cells)
@@ -95,6 +102,11 @@ breaks hidden count cell = is_free cell.kind && (not hidden && not (int_eq count
 abbrev pub breaks_at : List Cell → List Bool → Numbers → ℕ → Bool
 breaks_at cells flags counts number =
     option_map_or (breaks (is_hidden flags number) (counts number)) (slice_get cells number) false
+
+-- no cell that could still be hidden would break the refutation of a question by multipliers
+abbrev pub NoneBreaks : Case → List Bool → ℕ × Side → Multipliers → Type 0
+NoneBreaks c flags asked multipliers =
+    (number : ℕ) → breaks_at c.cells flags (coefficients_for c.system asked multipliers) number ≡ false
 
 -- the one comes before the other: it has the lower price, or the same price and no higher number
 abbrev pub ComesFirst : List ℕ → ℕ → ℕ → Type 0

@@ -10,7 +10,7 @@ use Rattle.worlds.specs.declared.world.World.{World}
 use Rattle.worlds.specs.WorldFaults.{IsGivenWorld}
 use Rattle.worlds.specs.RefutationFaults.{IsGivenRefutation}
 use Rattle.worlds.specs.ProtectFaults.{asked_of, is_reaching}
-use Rattle.repair.specs.LevelQuestions.{AreGiven, IsGiven}
+use Rattle.repair.specs.LevelQuestions.{AreGiven}
 use Rattle.repair.specs.HidingOrder.{Case, IsOfKind, hide_subjects, StandsAt, ProtectsBefore}
 use Rattle.repair.specs.Repairs.{AreRepairs, LastIsNotBehind}
 
@@ -29,13 +29,11 @@ pub record IsTask (system : System) (cells : List Cell) (prices : List ℕ) (que
   pub in_order : questions ≡ asked_of 0 cells
   pub some_steps : 1 ≤ limit
 
--- the world is one for the hidden set, takes the primary cell that is asked about at least its level to the side, and
--- is an answer of that question
+-- the world is one for the hidden set, and takes the primary cell that is asked about at least its level to the side
 pub record IsServing (c : Case) (flags : List Bool) (asked : ℕ × Side) (world : World) : Type 0 where
   pub is_primary : IsOfKind c.cells asked.0 Primary
   pub is_world : IsGivenWorld c.system c.cells flags world
   pub reaching : is_reaching c.cells asked world ≡ true
-  pub is_given : IsGiven c.system c.cells asked world
 
 -- each question has its world, in its order
 abbrev pub AreServed : Case → List Bool → List (ℕ × Side) → List World → Type 0

@@ -3,6 +3,7 @@ pub mod Choices
 pub mod LevelQuestions
 pub mod Repairs
 pub mod Needs
+pub mod OnTheWay
 pub mod KeptWorlds
 pub mod Stops
 pub mod Verdicts

@@ -7,7 +7,7 @@ use Rattle.sdc_base.specs.HiddenSets.{is_hidden}
 use Rattle.worlds.specs.declared.refuted.Refuted.{Refuted}
 use Rattle.worlds.specs.RefutationFaults.{IsGivenRefutation}
 use Rattle.repair.specs.LevelQuestions.{AreGiven}
-use Rattle.repair.specs.HidingOrder.{Case, IsOfKind, show, StandsAt, ProtectsBefore}
+use Rattle.repair.specs.HidingOrder.{Case, IsOfKind, show, IsFirstUnprotected}
 use Rattle.repair.specs.Repairs.{cell_and_side}
 
 -- the hidden cells that aren't primary, from this number on
@@ -24,13 +24,11 @@ set_when_tried flags larger cell = take cell flags ++ false ∷ drop (cell + 1) 
 
 -- A need shows that its subject must stay hidden: its cell is primary, and its multipliers refute the cell's level for
 -- the hidden set without the subject, and for the larger set in which all open cells above the subject are hidden too.
--- Its question is the first that this larger set doesn't protect.
+-- Its question is the first that this larger set doesn't protect, and the multipliers are those of its answer.
 pub record IsNeed (c : Case) (flags larger : List Bool) (need : Refuted) : Type 0 where
   pub cell_primary : IsOfKind c.cells need.cell Primary
   pub refutes : IsGivenRefutation c.system c.cells (show flags need.subject) need.cell need.side need.multipliers
   pub refutes_larger : IsGivenRefutation c.system c.cells (set_when_tried flags larger need.subject) need.cell need.side
       need.multipliers
-  pub place : ℕ
-  pub stands : StandsAt c.cells (cell_and_side need) place
-  pub before : ProtectsBefore c (set_when_tried flags larger need.subject) place
+  pub first : IsFirstUnprotected c (set_when_tried flags larger need.subject) (cell_and_side need)
   pub gives : AreGiven c.system c.cells (set_when_tried flags larger need.subject) (cell_and_side need) need.multipliers

@@ -10,11 +10,11 @@ use Rattle.repair.specs.declared.serving.Impossible.{Impossible}
 use Rattle.repair.specs.declared.serving.Step.{Step}
 use Rattle.repair.specs.declared.serving.Step.TheVariants.{Served, Repaired, Cannot}
 use Rattle.repair.specs.declared.task.Task.{Task}
-use Rattle.repair.specs.HidingOrder.{Case}
-use Rattle.repair.specs.KeptWorlds.{AreServedBefore, IsRepaired, shown_count}
+use Rattle.repair.specs.HidingOrder.{Case, NoneBreaks}
+use Rattle.repair.specs.KeptWorlds.{AreServedBefore, IsRepaired, IsStopped, shown_count}
+use Rattle.repair.specs.OnTheWay.{IsOfFirst, AreAnswers}
 use Rattle.repair.specs.Stops.{IsQuestion}
 use Rattle.repair.specs.Tasks.{case_of}
-use Rattle.repair.specs.Verdicts.{IsCannot}
 
 -- A protection is ready for a repair: the hidden set is permitted, and there are a flag of it and a number of the
 -- scratch for each cell of the system.
@@ -23,10 +23,11 @@ pub record IsReadyForRepair (task : Task) (scratch : List ℤ) (progress : Progr
   pub each : length progress.hidden.flags ≡ task.system.now.cells
   pub permitted : IsPermitted task.cells.now progress.hidden.flags
 
--- repairing has come to this place, from the planned set
-abbrev pub IsRepairedUpTo : Task → ℕ → List Bool → Progress → Type 0
-IsRepairedUpTo task place planned progress =
-    IsRepaired (case_of task) task.prices.now planned progress.hidden.flags progress.repairs place
+-- repairing has come to this place, from the planned set; the worlds are answers for sets on the way
+pub record IsRepairedUpTo (task : Task) (place : ℕ) (planned : List Bool) (progress : Progress) : Type 0 where
+  pub is_repaired : IsRepaired (case_of task) task.prices.now planned progress.hidden.flags progress.repairs place
+  pub answers : AreAnswers (case_of task) (IsOfFirst planned progress.repairs) (asked_of 0 task.cells.now)
+      progress.worlds
 
 -- what was repaired stays repaired: from whatever set repairing had come to the place, it still has
 abbrev pub StaysRepaired : Task → ℕ → Progress → Progress → Type 0
@@ -37,21 +38,24 @@ StaysRepaired task place before after =
 abbrev pub IsRepairedForAll : Task → List Bool → Progress → Type 0
 IsRepairedForAll task planned progress = IsRepairedUpTo task (length (asked_of 0 task.cells.now)) planned progress
 
--- a cell that can't be protected to a side
-abbrev pub IsImpossible : Case → Impossible → Type 0
-IsImpossible c found = IsCannot c found.cell found.side found.multipliers
+-- a cell that can't be protected to a side: its question stopped for the hidden set with multipliers that no cell would
+-- break
+pub record IsImpossible (c : Case) (flags : List Bool) (found : Impossible) : Type 0 where
+  pub place : ℕ
+  pub stopped : IsStopped c flags place (found.cell, found.side) found.multipliers
+  pub none_breaks : NoneBreaks c flags (found.cell, found.side) found.multipliers
 
 -- what a question at a place comes to: a world more; or a hidden cell more; or that its cell can't be protected
 abbrev pub IsStep : Case → ℕ → List Bool → List Bool → List World → Step → Type 0
 IsStep c place before flags worlds Served = AreServedBefore c flags (place + 1) worlds
 IsStep c place before flags worlds Repaired =
     AreServedBefore c flags place worlds × (shown_count flags < shown_count before)
-IsStep c place before flags worlds (Cannot found) = IsImpossible c found
+IsStep c place before flags worlds (Cannot found) = IsImpossible c flags found
 
 -- the questions before a place have their worlds, or a cell can't be protected
 abbrev pub AreServedOr : Case → ℕ → List Bool → List World → Option Impossible → Type 0
 AreServedOr c place flags worlds None = AreServedBefore c flags place worlds
-AreServedOr c place flags worlds (Some found) = IsImpossible c found
+AreServedOr c place flags worlds (Some found) = IsImpossible c flags found
 
 -- a question at some place has a fault, and repairing from the planned set has come to it
 pub record IsHalted (c : Case) (prices : List ℕ) (planned flags : List Bool) (repairs : List Refuted) (limit : ℕ)

@@ -7,34 +7,35 @@ use Rattle.worlds.specs.declared.multipliers.Multipliers.{Multipliers}
 use Rattle.worlds.specs.declared.refuted.Refuted.{Refuted}
 use Rattle.worlds.specs.Protection.{Protection}
 use Rattle.worlds.specs.ProtectFaults.{asked_of, IsProtecting}
-use Rattle.repair.specs.KeptWorlds.{AreServed}
-use Rattle.repair.specs.LevelQuestions.{AreGiven}
+use Rattle.repair.specs.KeptWorlds.{AreServed, IsStopped}
 use Rattle.worlds.specs.RefutationFaults.{IsGivenRefutation}
 use Rattle.repair.specs.declared.progress.Progress.{Progress}
 use Rattle.repair.specs.declared.task.Task.{Task}
 use Rattle.repair.specs.declared.verdict.Verdict.{Verdict}
 use Rattle.repair.specs.declared.verdict.Verdict.TheVariants.{Protected, Cannot}
-use Rattle.repair.specs.HidingOrder.{Case, hide_subjects, IsSubset, StandsAt, ProtectsBefore, ProtectsAll}
+use Rattle.repair.specs.HidingOrder.{Case, hide_subjects, IsSubset, NoneBreaks, IsFirstUnprotected, ProtectsAll}
+use Rattle.repair.specs.OnTheWay.{IsOnWay, AreAnswers}
 use Rattle.repair.specs.Repairs.{AreRepairs}
 use Rattle.repair.specs.Needs.{others_hidden, IsNeed}
 use Rattle.repair.specs.Tasks.{case_of}
 
--- A cell can't be protected to a side: multipliers refute its level for the full set, so that no permitted set protects
--- it; and the full set protects all that is asked before it. The multipliers are an answer of that question for some
--- hidden set.
-pub record IsCannot (c : Case) (cell : ℕ) (side : Side) (multipliers : Multipliers) : Type 0 where
-  pub place : ℕ
-  pub stands : StandsAt c.cells (cell, side) place
-  pub before : ProtectsBefore c (full_set c.cells) place
+-- A cell can't be protected to a side: its question is the first that the full set doesn't protect, since multipliers
+-- refute its level for that set; so no permitted set protects it. Justified repairs in their order made a hidden set of
+-- the planned one, for which the question stopped with these multipliers, and no cell is left that would break them.
+pub record IsCannot (c : Case) (prices : List ℕ) (planned : List Bool) (cell : ℕ) (side : Side)
+    (multipliers : Multipliers) : Type 0 where
+  pub first : IsFirstUnprotected c (full_set c.cells) (cell, side)
   pub refutes : IsGivenRefutation c.system c.cells (full_set c.cells) cell side multipliers
-  pub set : List Bool
-  pub gives : AreGiven c.system c.cells set (cell, side) multipliers
-  pub unprotected : ¬ Protects c.system c.cells (full_set c.cells) cell side
+  pub repairs : List Refuted
+  pub are_repairs : AreRepairs c prices planned repairs
+  pub stopped : IsStopped c (hide_subjects planned repairs) first.place (cell, side) multipliers
+  pub none_breaks : NoneBreaks c (hide_subjects planned repairs) (cell, side) multipliers
   pub none_protects : (flags : List Bool) → length flags ≡ length c.cells → IsPermitted c.cells flags
       → ¬ Protects c.system c.cells flags cell side
 
 -- A hidden set, with a flag for each cell, protects every primary cell, as worlds show that are answers of what is
--- asked: it holds primary cells, corners and subjects of repairs alone, and the repairs are justified and in order.
+-- asked, each for a set on the way: it holds primary cells, corners and subjects of repairs alone, and the repairs are
+-- justified and in order.
 pub record IsProtected (c : Case) (prices : List ℕ) (planned : List Bool) (protected : Protection)
     (repairs : List Refuted) : Type 0 where
   pub of_system : protected.system ≡ c.system
@@ -42,6 +43,7 @@ pub record IsProtected (c : Case) (prices : List ℕ) (planned : List Bool) (pro
   pub each_flag : length protected.hidden.flags ≡ length c.cells
   pub protecting : IsProtecting c.system c.cells protected.hidden.flags
   pub served : AreServed c protected.hidden.flags (asked_of 0 c.cells) protected.worlds
+  pub answers : AreAnswers c (IsOnWay c planned repairs protected.hidden.flags) (asked_of 0 c.cells) protected.worlds
   pub are_repairs : AreRepairs c prices planned repairs
   pub within : IsSubset protected.hidden.flags (hide_subjects planned repairs)
   pub full_protects : ProtectsAll c (full_set c.cells)
@@ -57,12 +59,14 @@ pub record IsNarrowed (task : Task) (planned : List Bool) (progress : Progress) 
   pub are_repairs : AreRepairs (case_of task) task.prices.now planned progress.repairs
   pub within : IsSubset progress.hidden.flags (hide_subjects planned progress.repairs)
   pub are_needs : AreNeeds (case_of task) progress.hidden.flags (hide_subjects planned progress.repairs) needs
+  pub answers : AreAnswers (case_of task) (IsOnWay (case_of task) planned progress.repairs progress.hidden.flags)
+      (asked_of 0 task.cells.now) progress.worlds
 
 -- what a protection that began with this set comes to
 abbrev pub IsVerdict : Case → List ℕ → List Bool → Verdict → Type 0
 IsVerdict c prices planned (Protected protected repairs needs) = IsProtected c prices planned protected repairs
     × AreNeeds c protected.hidden.flags (hide_subjects planned repairs) needs
-IsVerdict c prices planned (Cannot cell side multipliers) = IsCannot c cell side multipliers
+IsVerdict c prices planned (Cannot cell side multipliers) = IsCannot c prices planned cell side multipliers
 
 -- whether the verdict is that a cell can't be protected
 abbrev pub is_cannot : Verdict → Bool

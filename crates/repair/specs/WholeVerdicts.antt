@@ -1,5 +1,5 @@
 -- Verdicts and stops in whole units, as they are where the relations have signs (own).
-use Rattle.std.specs.Prelude.{◌≡◌, List, All, pos}
+use Rattle.std.specs.Prelude.{◌≡◌, All, pos}
 use Rattle.worlds.specs.declared.refuted.Refuted.{Refuted}
 use Rattle.worlds.specs.declared.world.World.{World}
 use Rattle.interval_audit.specs.WalkLimits.{HasNoWalk}

@@ -34,13 +34,15 @@ use worlds::{Protected, Refuted};
 /// order, above before below: whether some world for the hidden set takes the cell as far as its level. Where none
 /// does, multipliers show it, and among the free shown cells that count in them the one of lowest price, then of lowest
 /// number, is hidden too; that is a repair, and the question is asked again. Where there is no such cell, no hidden set
-/// protects the cell to that side: the verdict is `Cannot`, with these multipliers.
+/// protects the cell to that side: the verdict is `Cannot`, with the multipliers that stopped this question.
 ///
 /// Then each hidden free cell is tried as shown, in ascending order. The questions are gone through in their order, and
-/// one is asked, with the cell shown, where no world at hand reaches its level without moving the cell. Where all are
-/// reached the cell is shown, and each question whose world moves it gets a new answer of its own. Else it stays
-/// hidden, and the first refutation is kept as its need: every question before that of the need is protected with the
-/// cell shown. The verdict is `Protected`, with a world for each question.
+/// one is asked, with the cell shown, where no world at hand reaches its level without moving a cell that is shown.
+/// Where all are reached the cell is shown from then on. Else it stays hidden, and the first refutation is kept as its
+/// need: every question before that of the need is protected with the cell shown.
+///
+/// At last each question whose world moves a cell that is shown gets an answer of its own that moves none: one that a
+/// trial gave, or else it is asked once, of the final set. The verdict is `Protected`, with a world for each question.
 ///
 /// At hand are the worlds that are kept for the questions, one each, and beside them answers that trials gave, also
 /// those in vain; of these there are at most as many as questions, and none moves a cell that is shown.
@@ -52,16 +54,15 @@ use worlds::{Protected, Refuted};
 /// `Stopped` has the fault of the question that stopped short: `Size` where its component has too many hidden cells,
 /// `Work` after `limit` improvements, `Wide` where a number is wider than 128 bits, or `Memory`, which any call may
 /// give. It tells the repairs so far and, ascending, the cells that were shown again, of which the last was being
-/// tried; under `Memory` both lists are empty. What was lent stays as it was.
+/// tried where not all had been; under `Memory` both lists are empty. What was lent stays as it was.
 ///
 /// Where the system has signs ([`sdc_base::signs`]), neither `Work` nor `Wide` comes, and each denominator is 1.
 ///
 /// The rule is asked once for each cell without a price. There is a question for each primary cell and side and for
-/// each repair; for each hidden free cell one for each question that no world at hand serves with it shown; and for
-/// each that is shown one more for each question whose kept world moves it, but for those whose answer is a spare of
-/// its trial. A repair goes once through the cells and the parts of the relations that have a multiplier; a trial once
-/// through the moves of all kept worlds, and for each question whose kept world moves the cell through those of the
-/// worlds at hand.
+/// each repair; for each hidden free cell one for each question that no world at hand serves with it shown; and at last
+/// at most one for each question. A repair goes once through the cells and the parts of the relations that have a
+/// multiplier; a trial once through the moves of all kept worlds, and for each question whose kept world moves a cell
+/// that is shown through those of the worlds at hand.
 ///
 /// Repairs and needs are this project's own; the questions are those of the feasibility interval in Hundepool et al.,
 /// Statistical Disclosure Control, chapter on magnitude tables.

@@ -1,14 +1,14 @@
-ghost use Rattle.std.specs.Prelude.{◌≡◌, ◌==◌, ◌||◌, ◌<◌, ◌+◌, ◌++◌, ◌∷◌, [], Some, slice_get, length, nat_lt, if◌then◌else◌, IfOk, IfErr, OnOk, OnErr};
+ghost use Rattle.std.specs.Prelude.{◌≡◌, ◌||◌, ◌<◌, ◌+◌, ◌++◌, ◌∷◌, [], List, Bool, Some, slice_get, length, nat_lt, if◌then◌else◌, IfOk, IfErr, OnOk, OnErr};
 ghost use Rattle.std.specs.List.{list_any};
-ghost use Rattle.sdc_base.specs.HiddenSets.{IsPermitted};
+ghost use Rattle.sdc_base.specs.HiddenSets.{is_hidden, IsPermitted};
 ghost use Rattle.sdc_base.specs.declared.cell.Cell.{Cell as AnyCell};
 ghost use Rattle.sdc_base.specs.declared.cell.Kind.TheVariants.{Primary as PrimaryKind};
 ghost use Rattle.worlds.specs.ProtectFaults.{asked_of};
-ghost use Rattle.repair.specs.HidingOrder.{hide, IsOfKind, ProtectsBefore};
+ghost use Rattle.repair.specs.HidingOrder.{IsOfKind, ProtectsBefore};
 ghost use Rattle.repair.specs.Tasks.{case_of};
-ghost use Rattle.repair.specs.KeptWorlds.{AreServed};
+ghost use Rattle.repair.specs.OnTheWay.{IsOfTrial};
 ghost use Rattle.repair.specs.Stops.{IsQuestion};
-ghost use Rattle.repair.specs.CellTrials.{AreSpare, ProtectsBeforeOr, HasFault};
+ghost use Rattle.repair.specs.CellTrials.{AreKept, AreSpare, AreTrialAnswers, ProtectsBeforeOr, HasFault};
 ghost use Rattle.repair.specs.CellTrials as spec;
 
 use crate::serving::level_question;
@@ -37,11 +37,13 @@ pub(crate) fn first_refused(
 ) -> Result<Option<Refuted>, AskFault>
     requires each { length hidden.now.flags ≡ task.now.system.now.cells }
     requires permitted { IsPermitted task.now.cells.now hidden.now.flags }
-    requires inside { cell < length hidden.now.flags }
-    requires served { AreServed (case_of task.now) (hide hidden.now.flags cell) (asked_of 0 task.now.cells.now)
-        worlds.now }
-    requires spares { AreSpare (case_of task.now) (hide hidden.now.flags cell) spares.old.items }
-    ensures spares { IfOk result (λ _. AreSpare (case_of task.now) (hide hidden.now.flags cell) spares.new.items) }
+    requires kept { AreKept (case_of task.now) (asked_of 0 task.now.cells.now) worlds.now }
+    requires spares { AreSpare (case_of task.now) spares.old.items }
+    ensures spares { IfOk result (λ _. AreSpare (case_of task.now) spares.new.items) }
+    ensures answers { (larger : List Bool)
+        → IsOfTrial (case_of task.now) larger (cell + 1) hidden.now.flags hidden.now.flags
+        → AreTrialAnswers (case_of task.now) larger (cell + 1) hidden.now.flags spares.old.items
+        → IfOk result (λ _. AreTrialAnswers (case_of task.now) larger (cell + 1) hidden.now.flags spares.new.items) }
     ensures ok { IfOk result (λ need. ProtectsBeforeOr (case_of task.now) hidden.now.flags cell
         (length task.now.questions.now) need) }
     ensures err { IfErr result (λ fault. HasFault (case_of task.now) hidden.now.flags task.now.limit fault) }
@@ -68,21 +70,24 @@ fn refusal_of(
     requires place { place < length task.now.questions.now }
     requires each { length hidden.now.flags ≡ task.now.system.now.cells }
     requires permitted { IsPermitted task.now.cells.now hidden.now.flags }
-    requires inside { cell < length hidden.now.flags }
-    requires served { AreServed (case_of task.now) (hide hidden.now.flags cell) (asked_of 0 task.now.cells.now)
-        worlds.now }
-    requires spares { AreSpare (case_of task.now) (hide hidden.now.flags cell) spares.old.items }
+    requires kept { AreKept (case_of task.now) (asked_of 0 task.now.cells.now) worlds.now }
+    requires spares { AreSpare (case_of task.now) spares.old.items }
     requires count { length worlds.now ≡ length task.now.questions.now }
     requires before { ProtectsBefore (case_of task.now) hidden.now.flags place }
-    ensures spares { IfOk result (λ _. AreSpare (case_of task.now) (hide hidden.now.flags cell) spares.new.items) }
+    ensures spares { IfOk result (λ _. AreSpare (case_of task.now) spares.new.items) }
+    ensures answers { (larger : List Bool)
+        → IsOfTrial (case_of task.now) larger (cell + 1) hidden.now.flags hidden.now.flags
+        → AreTrialAnswers (case_of task.now) larger (cell + 1) hidden.now.flags spares.old.items
+        → IfOk result (λ _. AreTrialAnswers (case_of task.now) larger (cell + 1) hidden.now.flags spares.new.items) }
     ensures ok { IfOk result (λ need. ProtectsBeforeOr (case_of task.now) hidden.now.flags cell (place + 1) need) }
     ensures err { IfErr result (λ fault. IsQuestion (case_of task.now) hidden.now.flags task.now.limit fault place) }
 {
-    if !is_moved(&worlds[place], cell) {
+    let flags = hidden.flags.as_slice();
+    if fits(&worlds[place], flags) {
         return Ok(None);
     }
     let asked = task.questions[place];
-    if is_at_hand(task.cells, asked, cell, worlds, spares.as_slice()) {
+    if is_at_hand(task.cells, asked, flags, worlds, spares.as_slice()) {
         return Ok(None);
     }
     let question = level_question(task.cells, asked);
@@ -103,53 +108,46 @@ fn refusal_of(
     }
 }
 
-// Whether a world at hand, one that is kept or a spare one, takes a cell to its level to a side without moving another.
+// Whether a world at hand, one that is kept or a spare one, takes a cell to its level to a side with hidden cells alone.
 fn is_at_hand(
     cells: &[Cell],
     asked: (u32, Side),
-    other: u32,
+    flags: &[bool],
     worlds: &[World],
     spares: &[Spare],
 ) -> bool
     requires primary { IsOfKind cells.now asked.0 PrimaryKind }
     ensures { (cell : AnyCell) → slice_get cells.now asked.0 ≡ Some cell
-        → result ≡ (list_any (spec.serves_beside cell asked other) worlds.now
-        || list_any (λ spare. spec.serves_beside cell asked other spare.world) spares.now) }
+        → result ≡ (list_any (spec.serves_beside cell asked flags.now) worlds.now
+        || list_any (λ spare. spec.serves_beside cell asked flags.now spare.world) spares.now) }
 {
     let cell = &cells[asked.0 as usize];
-    is_served(cell, asked, other, worlds) || is_served_by_spare(cell, asked, other, spares)
+    is_served(cell, asked, flags, worlds) || is_served_by_spare(cell, asked, flags, spares)
 }
 
-// Whether one of these worlds takes a cell to its level to a side without moving another.
-fn is_served(cell: &Cell, asked: (u32, Side), other: u32, worlds: &[World]) -> bool
-    ensures { result ≡ list_any (spec.serves_beside cell.now asked other) worlds.now }
+// Whether one of these worlds takes a cell to its level to a side with hidden cells alone.
+fn is_served(cell: &Cell, asked: (u32, Side), flags: &[bool], worlds: &[World]) -> bool
+    ensures { result ≡ list_any (spec.serves_beside cell.now asked flags.now) worlds.now }
 {
     worlds
         .iter()
-        .any(|world| serves_beside(cell, asked, other, world))
+        .any(|world| serves_beside(cell, asked, flags, world))
 }
 
 // The same of spares.
-fn is_served_by_spare(cell: &Cell, asked: (u32, Side), other: u32, spares: &[Spare]) -> bool
-    ensures { result ≡ list_any (λ spare. spec.serves_beside cell.now asked other spare.world) spares.now }
+fn is_served_by_spare(cell: &Cell, asked: (u32, Side), flags: &[bool], spares: &[Spare]) -> bool
+    ensures { result ≡ list_any (λ spare. spec.serves_beside cell.now asked flags.now spare.world) spares.now }
 {
     spares
         .iter()
-        .any(|spare| serves_beside(cell, asked, other, &spare.world))
+        .any(|spare| serves_beside(cell, asked, flags, &spare.world))
 }
 
-// Whether a world takes a cell to its level to a side without moving another.
-fn serves_beside(cell: &Cell, asked: (u32, Side), other: u32, world: &World) -> bool
-    ensures { result ≡ spec.serves_beside cell.now asked other world.now }
+// Whether a world takes a cell to its level to a side with hidden cells alone.
+fn serves_beside(cell: &Cell, asked: (u32, Side), flags: &[bool], world: &World) -> bool
+    ensures { result ≡ spec.serves_beside cell.now asked flags.now world.now }
 {
-    reaches(cell, asked.1, asked.0, world) && !is_moved(world, other)
-}
-
-// Whether a world moves a cell.
-pub(crate) fn is_moved(world: &World, cell: u32) -> bool
-    ensures { result ≡ list_any (λ one. one.cell == cell) world.now.moves }
-{
-    world.moves.as_slice().iter().any(|one| one.cell == cell)
+    reaches(cell, asked.1, asked.0, world) && fits(world, flags)
 }
 
 // Keeps a spare, where there aren't as many already as there may be.
@@ -162,4 +160,25 @@ fn keep_spare(spares: &mut Vec<Spare>, spare: Spare, most: usize) -> Result<(), 
         spares.push(spare)?;
     }
     Ok(())
+}
+
+// Whether a world moves only hidden cells.
+pub(crate) fn fits(world: &World, flags: &[bool]) -> bool
+    ensures { result ≡ spec.fits flags.now world.now }
+{
+    world
+        .moves
+        .as_slice()
+        .iter()
+        .all(|one| is_set(flags, one.cell))
+}
+
+// Whether a cell's flag is set; none is where there is no flag.
+fn is_set(flags: &[bool], cell: u32) -> bool
+    ensures { result ≡ is_hidden flags.now cell }
+{
+    match flags.get(cell as usize) {
+        Some(flag) => *flag,
+        None => false,
+    }
 }

@@ -2,13 +2,14 @@ ghost use Rattle.std.specs.Prelude.{◌≡◌, ◌+◌, ◌<◌, ◌++◌, ◌�
 ghost use Rattle.sdc_base.specs.HiddenSets.{is_hidden, IsPermitted};
 ghost use Rattle.sdc_base.specs.declared.cell.Kind.TheVariants.{Free as FreeKind};
 ghost use Rattle.worlds.specs.ProtectFaults.{asked_of};
-ghost use Rattle.repair.specs.HidingOrder.{hide, IsOfKind};
+ghost use Rattle.repair.specs.HidingOrder.{hide, hide_subjects, IsOfKind};
 ghost use Rattle.repair.specs.Tasks.{case_of};
 ghost use Rattle.repair.specs.KeptWorlds.{AreServed};
-ghost use Rattle.repair.specs.CellTrials.{AreSpare, HasTried, TriesStopFor};
+ghost use Rattle.repair.specs.OnTheWay.{IsOfFirst, AreAnswers};
+ghost use Rattle.repair.specs.CellTrials.{AreKept, AreSpare, AnswerOnWay, IsTried, HasTried, TriesStopFor};
 
 use crate::progress::Progress;
-use crate::renewing::renew_all;
+use crate::renewing::{drop_unfit, renew_all};
 use crate::task::Task;
 use crate::trial::{Spare, first_refused};
 use interval_audit::AskFault;
@@ -23,11 +24,12 @@ pub(crate) struct Findings {
     pub(crate) needs: Items<Refuted>,
     /// The cells that are shown.
     pub(crate) shown: Items<u32>,
-    /// Worlds at hand beside the kept ones, at most as many as there are questions.
+    /// Worlds at hand beside the kept ones, at most as many as there are questions; none moves a cell that is shown.
     pub(crate) spares: Vec<Spare>,
 }
 
-// Tries each hidden free cell as shown, in ascending order.
+// Tries each hidden free cell as shown, in ascending order; where cells are shown, each question then gets an answer of
+// its own that moves none of them.
 pub(crate) fn try_all(
     alloc: Global,
     task: &Task<'_, '_>,
@@ -44,8 +46,14 @@ pub(crate) fn try_all(
     ensures repairs { progress.new.repairs ≡ progress.old.repairs }
     ensures each { OnOk result (length progress.new.hidden.flags ≡ task.now.system.now.cells) }
     ensures permitted { OnOk result (IsPermitted task.now.cells.now progress.new.hidden.flags) }
-    ensures ok { OnOk result (HasTried task.now progress.old.hidden.flags (length task.now.cells.now) progress.new
-        tried.new) }
+    ensures served { OnOk result (AreServed (case_of task.now) progress.new.hidden.flags (asked_of 0 task.now.cells.now)
+        progress.new.worlds) }
+    ensures answers { (planned : List Bool) → progress.old.hidden.flags ≡ hide_subjects planned progress.old.repairs
+        → AreAnswers (case_of task.now) (IsOfFirst planned progress.old.repairs) (asked_of 0 task.now.cells.now)
+        progress.old.worlds
+        → OnOk result (AnswerOnWay task.now planned progress.old.repairs progress.new.hidden.flags progress.new.worlds) }
+    ensures ok { OnOk result (IsTried (case_of task.now) progress.old.hidden.flags (length task.now.cells.now)
+        progress.new.hidden.flags tried.new.needs tried.new.shown) }
     ensures err { IfErr result (λ fault. TriesStopFor (case_of task.now) progress.old.hidden.flags task.now.limit fault
         tried.new.shown) }
 {
@@ -54,7 +62,16 @@ pub(crate) fn try_all(
     'cells: for number in 0..task.cells.len() {
         try_next(alloc, task, number as u32, progress, tried)?;
     }
-    Ok(())
+    if tried.shown.as_slice().is_empty() {
+        return Ok(());
+    }
+    renew_all(
+        alloc,
+        task,
+        &progress.hidden,
+        &mut progress.worlds,
+        &mut tried.spares,
+    )
 }
 
 // Tries a cell as shown, where it is hidden and free.
@@ -68,13 +85,13 @@ fn try_next(
     requires inside { cell < length task.now.cells.now }
     requires each { length progress.old.hidden.flags ≡ task.now.system.now.cells }
     requires permitted { IsPermitted task.now.cells.now progress.old.hidden.flags }
-    requires served { AreServed (case_of task.now) progress.old.hidden.flags (asked_of 0 task.now.cells.now)
-        progress.old.worlds }
-    requires spares { AreSpare (case_of task.now) progress.old.hidden.flags tried.old.spares.items }
+    requires kept { AreKept (case_of task.now) (asked_of 0 task.now.cells.now) progress.old.worlds }
+    requires spares { AreSpare (case_of task.now) tried.old.spares.items }
     ensures repairs { progress.new.repairs ≡ progress.old.repairs }
+    ensures worlds { progress.new.worlds ≡ progress.old.worlds }
     ensures each { OnOk result (length progress.new.hidden.flags ≡ task.now.system.now.cells) }
     ensures permitted { OnOk result (IsPermitted task.now.cells.now progress.new.hidden.flags) }
-    ensures spares { OnOk result (AreSpare (case_of task.now) progress.new.hidden.flags tried.new.spares.items) }
+    ensures spares { OnOk result (AreSpare (case_of task.now) tried.new.spares.items) }
     ensures ok { OnOk result ((larger : List Bool) → HasTried task.now larger cell progress.old tried.old
         → HasTried task.now larger (cell + 1) progress.new tried.new) }
     ensures err { IfErr result (λ fault. (larger : List Bool) → HasTried task.now larger cell progress.old tried.old
@@ -91,7 +108,7 @@ fn try_next(
     try_one(alloc, task, cell, progress, tried)
 }
 
-// Tries a hidden free cell as shown: keeps it shown with new worlds, or hides it again and keeps the need.
+// Tries a hidden free cell as shown: keeps it shown, or hides it again and keeps the need.
 fn try_one(
     alloc: Global,
     task: &Task<'_, '_>,
@@ -103,13 +120,13 @@ fn try_one(
     requires hidden { is_hidden progress.old.hidden.flags cell ≡ true }
     requires each { length progress.old.hidden.flags ≡ task.now.system.now.cells }
     requires permitted { IsPermitted task.now.cells.now progress.old.hidden.flags }
-    requires served { AreServed (case_of task.now) progress.old.hidden.flags (asked_of 0 task.now.cells.now)
-        progress.old.worlds }
-    requires spares { AreSpare (case_of task.now) progress.old.hidden.flags tried.old.spares.items }
+    requires kept { AreKept (case_of task.now) (asked_of 0 task.now.cells.now) progress.old.worlds }
+    requires spares { AreSpare (case_of task.now) tried.old.spares.items }
     ensures repairs { progress.new.repairs ≡ progress.old.repairs }
+    ensures worlds { progress.new.worlds ≡ progress.old.worlds }
     ensures each { OnOk result (length progress.new.hidden.flags ≡ task.now.system.now.cells) }
     ensures permitted { OnOk result (IsPermitted task.now.cells.now progress.new.hidden.flags) }
-    ensures spares { OnOk result (AreSpare (case_of task.now) progress.new.hidden.flags tried.new.spares.items) }
+    ensures spares { OnOk result (AreSpare (case_of task.now) tried.new.spares.items) }
     ensures ok { OnOk result ((larger : List Bool) → HasTried task.now larger cell progress.old tried.old
         → HasTried task.now larger (cell + 1) progress.new tried.new) }
     ensures err { IfErr result (λ fault. (larger : List Bool) → HasTried task.now larger cell progress.old tried.old
@@ -119,7 +136,6 @@ fn try_one(
         return Err(AskFault::Memory);
     };
     progress.hidden.flags.set(cell as usize, false);
-    let first = tried.spares.len();
     let found = first_refused(
         alloc,
         task,
@@ -129,15 +145,10 @@ fn try_one(
         &mut tried.spares,
     )?;
     match found {
-        None => renew_all(
-            alloc,
-            task,
-            cell,
-            &progress.hidden,
-            &mut progress.worlds,
-            &mut tried.spares,
-            first,
-        ),
+        None => {
+            drop_unfit(&mut tried.spares, progress.hidden.flags.as_slice());
+            Ok(())
+        }
         Some(need) => put_back(cell, need, progress, tried),
     }
 }

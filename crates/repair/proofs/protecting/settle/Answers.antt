@@ -1,9 +1,11 @@
-use Rattle.std.proofs.Common.{◌≡◌, ◌∙◌, [], List, ℕ, ap, sym, subst}
+use Rattle.std.proofs.Common.{◌≡◌, ◌∙◌, [], List, Bool, ℕ, length, ap, sym, subst}
 use Rattle.worlds.specs.declared.refuted.Refuted.{Refuted}
 use Rattle.interval_audit.specs.declared.answer.AskFault.{AskFault}
 use Rattle.repair.specs.HidingOrder.{Case, case}
 use Rattle.repair.specs.Stops.{list_with_fault, StopsFor}
+use Rattle.repair.specs.QuestionSteps.{IsImpossible, AreServedOr}
 use Rattle.repair.proofs.Concluding.{stops_for}
+use Rattle.repair.proofs.Repairing.{cannot_by}
 use Rattle.repair.proofs.protecting.settle.Goals as goal
 
 pub returns-in-Err-clause-stopped : goal.returns-in-Err-clause-stopped
@@ -15,3 +17,12 @@ returns-in-Err-clause-stopped c =
     subst (λ (f : AskFault). StopsFor task c.args.task.now.prices.now c.args.hidden.flags c.args.task.now.limit f c.stop_with.result.repairs c.stop_with.result.shown) (sym c.stop_with.ensures.fault)
     (subst (λ (r : List Refuted). StopsFor task c.args.task.now.prices.now c.args.hidden.flags c.args.task.now.limit c.in-Err.fault r c.stop_with.result.shown) (sym c.stop_with.ensures.repairs)
     (subst (λ (l : List ℕ). StopsFor task c.args.task.now.prices.now c.args.hidden.flags c.args.task.now.limit c.in-Err.fault (list_with_fault c.in-Err.fault repairs) l) (sym none) own))
+
+pub returns-in-Some-clause-verdict : goal.returns-in-Some-clause-verdict
+returns-in-Some-clause-verdict c =
+    let task : Case = case c.args.task.now.system.now c.args.task.now.cells.now in
+    let flags : List Bool = c.serve_all-outcome.new.progress.hidden.flags in
+    let repairs : List Refuted = c.serve_all-outcome.new.progress.repairs in
+    let found : IsImpossible task flags c.in-Some.impossible = subst (AreServedOr task (length c.args.task.now.questions.now) flags c.serve_all-outcome.new.progress.worlds) c.in-Some.is c.in-Ok.ensures.ok in
+    cannot_by task c.args.task.now.prices.now c.args.hidden.flags flags repairs found.place (c.in-Some.impossible.cell, c.in-Some.impossible.side) c.in-Some.impossible.multipliers c.args.task.now.fits.one_each c.serve_all-outcome.ensures.ready.each c.serve_all-outcome.ensures.ready.permitted
+    c.in-Ok.ensures.repaired.is_repaired.hidden_is c.in-Ok.ensures.repaired.is_repaired.are_repairs found.stopped found.none_breaks

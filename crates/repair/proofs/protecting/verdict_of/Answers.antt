@@ -18,5 +18,5 @@ pub returns : goal.returns
 returns c =
     λ planned narrowed.
     let task : Case = case c.args.task.now.system.now c.args.task.now.cells.now in
-    let made = protected_by task c.args.task.now.prices.now planned c.args.progress.hidden c.args.progress.worlds c.args.progress.repairs c.in-Ok.protected c.in-Ok.ensures.value c.args.task.now.fits.one_each c.requires.each c.in-Ok.ensures.protecting c.requires.served narrowed.are_repairs narrowed.within in
+    let made = protected_by task c.args.task.now.prices.now planned c.args.progress.hidden c.args.progress.worlds c.args.progress.repairs c.in-Ok.protected c.in-Ok.ensures.value c.args.task.now.fits.one_each c.requires.each c.in-Ok.ensures.protecting c.requires.served narrowed.answers narrowed.are_repairs narrowed.within in
     (made, subst (λ (p : Protection). AreNeeds task p.hidden.flags (hide_subjects planned c.args.progress.repairs) c.args.needs) (sym c.in-Ok.ensures.value) narrowed.are_needs)

@@ -1,20 +1,16 @@
-use Rattle.std.proofs.Common.{List, sym, subst, length}
+use Rattle.std.proofs.Common.{◌≡◌, ◌∙◌, ℕ, List, ap, sym, length, arith}
+use Rattle.sdc_base.specs.declared.side.Side.{Side}
 use Rattle.worlds.specs.ProtectFaults.{asked_of}
-use Rattle.repair.specs.declared.trial.Spare.{Spare}
-use Rattle.repair.specs.HidingOrder.{Case, case, hide}
-use Rattle.repair.specs.CellTrials.{AreSpare}
-use Rattle.repair.proofs.AtHand.{spares_within, spares_resting}
-use Rattle.repair.proofs.Growing.{served_length}
+use Rattle.repair.specs.HidingOrder.{case}
+use Rattle.repair.proofs.AtHand.{kept_length, served_all}
 use Rattle.repair.proofs.renewing.renew_all.Goals as goal
 
-pub take_over-requires : goal.take_over-requires
-take_over-requires c = record {
-  within = spares_within (case c.args.task.now.system.now c.args.task.now.cells.now) (hide c.args.hidden.now.flags c.args.cell) c.args.spares.now.items (length c.args.worlds.now)
-      (served_length (case c.args.task.now.system.now c.args.task.now.cells.now) (hide c.args.hidden.now.flags c.args.cell) (asked_of 0 c.args.task.now.cells.now) c.args.worlds.now c.requires.served) c.requires.spares;
-}
+pub renew-requires-clause-count : goal.renew-requires-clause-count
+renew-requires-clause-count c =
+    kept_length (case c.args.task.now.system.now c.args.task.now.cells.now) (asked_of 0 c.args.task.now.cells.now) c.places.worlds c.places.invariant.kept
+    ∙ ap (λ (l : List (ℕ × Side)). length l) (sym c.args.task.now.fits.in_order)
 
-pub returns-clause-spares : goal.returns-clause-spares
-returns-clause-spares c =
-    let task : Case = case c.args.task.now.system.now c.args.task.now.cells.now in
-    subst (λ (l : List Spare). AreSpare task c.args.hidden.now.flags l) (sym c.drop_moving.ensures)
-    (spares_resting task c.args.hidden.now.flags c.args.cell c.take_over.new.spares.items (c.take_over.ensures.spares (hide c.args.hidden.now.flags c.args.cell) c.requires.spares))
+pub returns-clause-served : goal.returns-clause-served
+returns-clause-served c =
+    let order : length c.args.task.now.questions.now ≡ length (asked_of 0 c.args.task.now.cells.now) = ap (λ (l : List (ℕ × Side)). length l) c.args.task.now.fits.in_order in
+    served_all (case c.args.task.now.system.now c.args.task.now.cells.now) c.args.hidden.now.flags c.places.worlds c.places.place (omega (arith, c.places-test.false, c.places.auto.place-end, order)) c.places.invariant.kept c.places.invariant.served

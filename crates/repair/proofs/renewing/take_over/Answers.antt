@@ -1,27 +1,32 @@
-use Rattle.std.proofs.Common.{◌≡◌, ◌<◌, ◌++◌, ◌∷◌, [], List, All, length, length-set, ◌∙◌, ap, sym, subst, arith}
-use Rattle.std.proofs.lemmas.List.Elements.{All-weaker}
-use Rattle.worlds.specs.declared.world.World.{World}
+use Rattle.std.proofs.Common.{◌++◌, ◌∷◌, [], All, length, sym, subst}
 use Rattle.worlds.specs.ProtectFaults.{asked_of}
 use Rattle.repair.specs.declared.trial.Spare.{Spare}
-use Rattle.repair.specs.HidingOrder.{Case, case}
-use Rattle.repair.specs.KeptWorlds.{AreServed}
-use Rattle.repair.specs.CellTrials.{IsSpare, AreSpare}
-use Rattle.repair.proofs.AtHand.{All-front, All-last, served_set}
+use Rattle.repair.specs.HidingOrder.{Case, case, hide_subjects}
+use Rattle.repair.specs.CellTrials.{AreKept, IsSpare, AreSpare, IsTrialAnswer}
+use Rattle.repair.specs.OnTheWay.{IsOnWay, AreAnswers}
+use Rattle.repair.proofs.OnTheWay.{answers_offered}
+use Rattle.repair.proofs.AtHand.{All-front, All-last, spare_within, kept_offered}
 use Rattle.repair.proofs.renewing.take_over.Goals as goal
+
+pub offer-requires : goal.offer-requires
+offer-requires c =
+    let task : Case = case c.args.task.now.system.now c.args.task.now.cells.now in
+    let own : IsSpare task c.in-Some.spare = All-last (IsSpare task) c.pop.new.self.items c.in-Some.spare (subst (AreSpare task) c.in-Some.ensures.items c.spares.invariant.spares) in
+    spare_within task c.spares.worlds c.in-Some.spare c.spares.invariant.kept own
 
 pub spares-preserved : goal.spares-preserved
 spares-preserved c =
     let task : Case = case c.args.task.now.system.now c.args.task.now.cells.now in
-    let left : List Spare = c.pop.new.self.items in
-    let cut : c.spares.spares.items ≡ left ++ c.in-Some.spare ∷ [] = c.in-Some.ensures.items in
-    let long : length c.set.new.self ≡ length c.spares.worlds = ap (λ (l : List World). length l) c.set.ensures ∙ length-set c.spares.worlds c.in-Some.spare.place c.in-Some.spare.world in
+    let all : AreSpare task (c.pop.new.self.items ++ c.in-Some.spare ∷ []) = subst (AreSpare task) c.in-Some.ensures.items c.spares.invariant.spares in
+    let own : IsSpare task c.in-Some.spare = All-last (IsSpare task) c.pop.new.self.items c.in-Some.spare all in
     record {
-      within = All-weaker (λ (s : Spare). s.place < length c.spares.worlds) (λ (s : Spare). s.place < length c.set.new.self) (λ s own. omega (arith, own, long)) left
-          (All-front (λ (s : Spare). s.place < length c.spares.worlds) left c.in-Some.spare (subst (All (λ (s : Spare). s.place < length c.spares.worlds)) cut c.spares.invariant.within));
-      served = λ flags served are.
-          let all : AreSpare task flags (left ++ c.in-Some.spare ∷ []) = subst (AreSpare task flags) cut (c.spares.invariant.spares flags are) in
-          let own : IsSpare task flags c.in-Some.spare = All-last (IsSpare task flags) left c.in-Some.spare all in
-          subst (λ (ws : List World). AreServed task flags (asked_of 0 c.args.task.now.cells.now) ws) (sym c.set.ensures)
-          (served_set task flags (asked_of 0 c.args.task.now.cells.now) c.spares.worlds c.in-Some.spare.place own.asked c.in-Some.spare.world own.stands own.serving (c.spares.invariant.served flags served are));
-      spares = λ flags are. All-front (IsSpare task flags) left c.in-Some.spare (subst (AreSpare task flags) cut (c.spares.invariant.spares flags are));
+      kept = subst (AreKept task (asked_of 0 c.args.task.now.cells.now)) (sym c.offer.ensures) (kept_offered task c.args.flags.now c.spares.worlds c.in-Some.spare own c.spares.invariant.kept);
+      spares = All-front (IsSpare task) c.pop.new.self.items c.in-Some.spare all;
+      trials = λ planned repairs are.
+          let Is : Spare → Type 0 = IsTrialAnswer task (hide_subjects planned repairs) (length c.args.task.now.cells.now) c.args.flags.now in
+          All-front Is c.pop.new.self.items c.in-Some.spare (subst (All Is) c.in-Some.ensures.items (c.spares.invariant.trials planned repairs are));
+      answers = λ planned repairs worlds are.
+          let Is : Spare → Type 0 = IsTrialAnswer task (hide_subjects planned repairs) (length c.args.task.now.cells.now) c.args.flags.now in
+          let last : Is c.in-Some.spare = All-last Is c.pop.new.self.items c.in-Some.spare (subst (All Is) c.in-Some.ensures.items (c.spares.invariant.trials planned repairs are)) in
+          subst (AreAnswers task (IsOnWay task planned repairs c.args.flags.now) (asked_of 0 c.args.task.now.cells.now)) (sym c.offer.ensures) (answers_offered task planned repairs c.args.flags.now c.spares.worlds c.in-Some.spare last (c.spares.invariant.answers planned repairs worlds are));
     }

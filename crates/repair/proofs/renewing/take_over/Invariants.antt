@@ -1,18 +1,18 @@
-use Rattle.std.proofs.Common.{◌<◌, length, vec_len, List, Bool, All}
+use Rattle.std.proofs.Common.{vec_len, List, Bool}
+use Rattle.worlds.specs.declared.refuted.Refuted.{Refuted}
 use Rattle.worlds.specs.ProtectFaults.{asked_of}
 use Rattle.repair.specs.HidingOrder.{case}
-use Rattle.repair.specs.KeptWorlds.{AreServed}
-use Rattle.repair.specs.CellTrials.{AreSpare}
+use Rattle.repair.specs.CellTrials.{AreKept, AreSpare, AnswerOnWay, AnswerTrials}
 use Rattle.repair.proofs.renewing.take_over.Given as goal
 
 abbrev pub invariant-spares : goal.invariant-spares
 invariant-spares l = record {
-  within : All (λ spare. spare.place < length l.worlds) l.spares.items;
-  served : (flags : List Bool) → AreServed (case l.task.system.now l.task.cells.now) flags (asked_of 0 l.task.cells.now) l.fn.worlds
-      → AreSpare (case l.task.system.now l.task.cells.now) flags l.fn.spares.items
-      → AreServed (case l.task.system.now l.task.cells.now) flags (asked_of 0 l.task.cells.now) l.worlds;
-  spares : (flags : List Bool) → AreSpare (case l.task.system.now l.task.cells.now) flags l.fn.spares.items
-      → AreSpare (case l.task.system.now l.task.cells.now) flags l.spares.items;
+  kept : AreKept (case l.task.system.now l.task.cells.now) (asked_of 0 l.task.cells.now) l.worlds;
+  spares : AreSpare (case l.task.system.now l.task.cells.now) l.spares.items;
+  trials : (planned : List Bool) (repairs : List Refuted) → AnswerTrials l.task planned repairs l.flags l.fn.spares.items
+      → AnswerTrials l.task planned repairs l.flags l.spares.items;
+  answers : (planned : List Bool) (repairs : List Refuted) → AnswerOnWay l.task planned repairs l.flags l.fn.worlds
+      → AnswerTrials l.task planned repairs l.flags l.fn.spares.items → AnswerOnWay l.task planned repairs l.flags l.worlds;
 }
 
 abbrev pub decreases-spares : goal.decreases-spares

@@ -1,4 +1,4 @@
-use Rattle.std.proofs.Common.{◌≡◌, ◌+◌, ℕ, sym, subst, true, List, Bool, get_or}
+use Rattle.std.proofs.Common.{◌≡◌, ◌+◌, ◌++◌, ◌∷◌, [], ℕ, sym, subst, true, List, Bool, Some, length, slice_get, get_or}
 use Rattle.std.proofs.lemmas.Result.{err_from_is_err_and}
 use Rattle.sdc_base.specs.declared.side.Side.{Side}
 use Rattle.sdc_base.specs.declared.side.Side.TheVariants.{Above}
@@ -7,9 +7,14 @@ use Rattle.sdc_base.specs.HiddenSets.{is_hidden}
 use Rattle.interval_audit.specs.declared.answer.Answer.TheVariants.{Reaches, Stops}
 use Rattle.interval_audit.specs.Answers.{IsTrueAnswer, IsAnswerOf, ReachesTarget, StopsShort}
 use Rattle.worlds.specs.declared.world.World.{World}
-use Rattle.repair.specs.LevelQuestions.{IsCausing, HasCause}
+use Rattle.repair.specs.LevelQuestions.{IsCausing, IsGiven, HasCause}
+use Rattle.repair.specs.OnTheWay.{IsOfFirst, AreAnswers}
+use Rattle.worlds.specs.ProtectFaults.{asked_of}
+use Rattle.worlds.specs.declared.refuted.Refuted.{Refuted}
+use Rattle.repair.proofs.Growing.{served_so_far}
+use Rattle.repair.proofs.OnTheWay.{given_by, first_whole, answers_push}
 use Rattle.repair.specs.HidingOrder.{Case, case, IsOfKind, StandsAt}
-use Rattle.repair.specs.KeptWorlds.{AreServedBefore}
+use Rattle.repair.specs.KeptWorlds.{AreServedBefore, IsRepaired}
 use Rattle.repair.specs.Stops.{IsQuestion}
 use Rattle.repair.proofs.Order.{asked_primary}
 use Rattle.repair.proofs.Repairing.{cause_of, question_of, one_served, stopped_by, stands_there}
@@ -44,11 +49,34 @@ returns-in-Ok-clause-ok c =
     let flags : List Bool = c.args.progress.now.hidden.flags in
     let reaching : ReachesTarget c.args.task.now.system.now c.args.task.now.cells.now flags c.level_question-question.result c.in-Reaches.world =
     subst (IsTrueAnswer c.args.task.now.system.now c.args.task.now.cells.now flags c.level_question-question.result) c.in-Reaches.is c.in_ok-answer.ensures.right in
-    let read : IsAnswerOf c.args.task.now.system.now c.args.task.now.cells.now flags c.level_question-question.result (Reaches c.in-Reaches.world) =
-    subst (IsAnswerOf c.args.task.now.system.now c.args.task.now.cells.now flags c.level_question-question.result) c.in-Reaches.is c.in_ok-answer.ensures.read in
     subst (λ (f : List Bool). AreServedBefore task f (c.args.place + 1) c.keep.new.self.worlds) (sym c.in-Ok.ensures.flags)
     (subst (λ (ws : List World). AreServedBefore task flags (c.args.place + 1) ws) (sym c.in-Ok.ensures.ok)
-    (one_served task flags c.args.place asked c.level_question-question.result c.args.progress.now.worlds c.in-Reaches.world c.requires.ready.permitted stands c.level_question-question.ensures reaching read c.requires.served))
+    (one_served task flags c.args.place asked c.level_question-question.result c.args.progress.now.worlds c.in-Reaches.world stands c.level_question-question.ensures reaching c.requires.served))
+
+pub returns-in-Ok-clause-repaired : goal.returns-in-Ok-clause-repaired
+returns-in-Ok-clause-repaired c =
+    λ planned before.
+    let task : Case = case c.args.task.now.system.now c.args.task.now.cells.now in
+    let asked : ℕ × Side = get_or c.args.task.now.questions.now c.args.place (0, Above) in
+    let stands : StandsAt c.args.task.now.cells.now asked c.args.place = stands_there c.args.task.now.cells.now c.args.task.now.questions.now c.args.place (0, Above) c.args.task.now.fits.in_order c.requires.place in
+    let flags : List Bool = c.args.progress.now.hidden.flags in
+    let repairs : List Refuted = c.args.progress.now.repairs in
+    let reaching : ReachesTarget c.args.task.now.system.now c.args.task.now.cells.now flags c.level_question-question.result c.in-Reaches.world =
+    subst (IsTrueAnswer c.args.task.now.system.now c.args.task.now.cells.now flags c.level_question-question.result) c.in-Reaches.is c.in_ok-answer.ensures.right in
+    let read : IsAnswerOf c.args.task.now.system.now c.args.task.now.cells.now flags c.level_question-question.result (Reaches c.in-Reaches.world) =
+    subst (IsAnswerOf c.args.task.now.system.now c.args.task.now.cells.now flags c.level_question-question.result) c.in-Reaches.is c.in_ok-answer.ensures.read in
+    let given : IsGiven (IsOfFirst planned repairs) task.system task.cells asked c.in-Reaches.world =
+    given_by task (IsOfFirst planned repairs) flags asked c.level_question-question.result c.in-Reaches.world (first_whole planned flags repairs before.is_repaired.hidden_is) c.level_question-question.ensures reaching read in
+    let behind : slice_get (asked_of 0 c.args.task.now.cells.now) (length c.args.progress.now.worlds) ≡ Some asked =
+    subst (λ k. slice_get (asked_of 0 c.args.task.now.cells.now) k ≡ Some asked) (sym (served_so_far task flags c.args.place asked c.args.progress.now.worlds stands c.requires.served)) stands in
+    let answers : AreAnswers task (IsOfFirst planned repairs) (asked_of 0 c.args.task.now.cells.now) (c.args.progress.now.worlds ++ c.in-Reaches.world ∷ []) =
+    answers_push task (IsOfFirst planned repairs) (asked_of 0 c.args.task.now.cells.now) c.args.progress.now.worlds asked c.in-Reaches.world behind given before.answers in
+    record {
+      is_repaired = subst (λ (f : List Bool). IsRepaired task c.args.task.now.prices.now planned f c.keep.new.self.repairs c.args.place) (sym c.in-Ok.ensures.flags)
+          (subst (λ (r : List Refuted). IsRepaired task c.args.task.now.prices.now planned flags r c.args.place) (sym c.in-Ok.ensures.repairs) before.is_repaired);
+      answers = subst (λ (r : List Refuted). AreAnswers task (IsOfFirst planned r) (asked_of 0 c.args.task.now.cells.now) c.keep.new.self.worlds) (sym c.in-Ok.ensures.repairs)
+          (subst (AreAnswers task (IsOfFirst planned repairs) (asked_of 0 c.args.task.now.cells.now)) (sym c.in-Ok.ensures.ok) answers);
+    }
 
 pub returns-in-Reaches-clause-err : goal.returns-in-Reaches-clause-err
 returns-in-Reaches-clause-err c =

@@ -1,12 +1,17 @@
-use Rattle.std.proofs.Common.{◌<◌, ◌∙◌, ap, refl, sym, subst, length, length-set, true, List, Bool, arith}
+use Rattle.std.proofs.Common.{◌<◌, ◌++◌, ◌∷◌, [], ℕ, ◌∙◌, ap, refl, sym, subst, length, length-set, true, List, Bool, arith}
 use Rattle.sdc_base.specs.HiddenSets.{IsPermitted}
+use Rattle.sdc_base.specs.declared.side.Side.{Side}
+use Rattle.worlds.specs.ProtectFaults.{asked_of}
+use Rattle.worlds.specs.declared.world.World.{World}
+use Rattle.repair.specs.OnTheWay.{IsOfFirst, AreAnswers}
+use Rattle.repair.proofs.OnTheWay.{answers_wider, first_more}
 use Rattle.worlds.specs.declared.refuted.Refuted.{Refuted}
 use Rattle.repair.specs.HidingOrder.{Case, case, hide, coefficients_for}
 use Rattle.repair.specs.KeptWorlds.{AreServedBefore, IsRepaired, shown_count}
 use Rattle.repair.proofs.Flags.{free_may, permitted_more, within_hide, fewer_shown}
 use Rattle.repair.proofs.Growing.{served_more}
 use Rattle.repair.proofs.Order.{asked_inside}
-use Rattle.repair.proofs.Repairing.{cheapest_inside, breaking_says, cannot_by, justified_by, one_repaired}
+use Rattle.repair.proofs.Repairing.{cheapest_inside, breaking_says, justified_by, one_repaired}
 use Rattle.repair.proofs.serving.hide_one.Goals as goal
 
 pub subject_of-subject-requires-clause-asked : goal.subject_of-subject-requires-clause-asked
@@ -17,7 +22,7 @@ repair-requires c = omega (arith, c.args.task.now.fits.one_each, c.requires.read
 
 pub returns-in-None-clause-ok : goal.returns-in-None-clause-ok
 returns-in-None-clause-ok c =
-    cannot_by (case c.args.task.now.system.now c.args.task.now.cells.now) c.args.progress.now.hidden.flags c.args.place c.args.asked c.args.multipliers c.args.task.now.fits.one_each c.requires.ready.each c.requires.ready.permitted c.requires.stopped c.in-None.ensures.none
+    record { place = c.args.place; stopped = c.requires.stopped; none_breaks = c.in-None.ensures.none }
 
 pub returns-in_ok-repair-in-Some-clause-ready : goal.returns-in_ok-repair-in-Some-clause-ready
 returns-in_ok-repair-in-Some-clause-ready c =
@@ -40,9 +45,17 @@ returns-in_ok-repair-in-Some-clause-repaired c =
     let flags : List Bool = c.args.progress.now.hidden.flags in
     let repair : Refuted = record { subject = c.in-Some.subject; cell = c.args.asked.0; side = c.args.asked.1; multipliers = c.args.multipliers } in
     let both = justified_by task c.args.task.now.prices.now flags c.args.place c.args.asked c.args.multipliers c.in-Some.subject repair refl c.requires.stopped c.in-Some.ensures.cheapest in
-    subst (λ (f : List Bool). IsRepaired task c.args.task.now.prices.now planned f c.repair.new.self.repairs c.args.place) (sym c.in_ok-repair-in-Some.ensures.ok_flags)
-    (subst (λ (r : List Refuted). IsRepaired task c.args.task.now.prices.now planned (hide flags c.in-Some.subject) r c.args.place) (sym c.in_ok-repair-in-Some.ensures.ok_repairs)
-    (one_repaired task c.args.task.now.prices.now planned flags c.args.progress.now.repairs c.args.place repair both.0 both.1 c.requires.stopped.stands before))
+    let repairs : List Refuted = c.args.progress.now.repairs in
+    let worlds : List World = c.args.progress.now.worlds in
+    let asked : List (ℕ × Side) = asked_of 0 c.args.task.now.cells.now in
+    record {
+      is_repaired = subst (λ (f : List Bool). IsRepaired task c.args.task.now.prices.now planned f c.repair.new.self.repairs c.args.place) (sym c.in_ok-repair-in-Some.ensures.ok_flags)
+          (subst (λ (r : List Refuted). IsRepaired task c.args.task.now.prices.now planned (hide flags c.in-Some.subject) r c.args.place) (sym c.in_ok-repair-in-Some.ensures.ok_repairs)
+          (one_repaired task c.args.task.now.prices.now planned flags repairs c.args.place repair both.0 both.1 c.requires.stopped.stands before.is_repaired));
+      answers = subst (λ (r : List Refuted). AreAnswers task (IsOfFirst planned r) asked c.repair.new.self.worlds) (sym c.in_ok-repair-in-Some.ensures.ok_repairs)
+          (subst (AreAnswers task (IsOfFirst planned (repairs ++ repair ∷ [])) asked) (sym c.in_ok-repair-in-Some.ensures.worlds)
+          (answers_wider task (IsOfFirst planned repairs) (IsOfFirst planned (repairs ++ repair ∷ [])) asked worlds (first_more planned repairs repair) before.answers));
+    }
 
 pub returns-in_ok-repair-in-Some-clause-ok : goal.returns-in_ok-repair-in-Some-clause-ok
 returns-in_ok-repair-in-Some-clause-ok c =

@@ -1,14 +1,15 @@
-use Rattle.std.proofs.Common.{◌≡◌, ◌∙◌, ℕ, List, ap, sym, subst, length, arith}
+use Rattle.std.proofs.Common.{◌≡◌, ◌+◌, ◌∙◌, ℕ, List, ap, sym, subst, length, arith}
 use Rattle.std.proofs.lemmas.Result.{err_from_is_err_and}
 use Rattle.sdc_base.specs.declared.side.Side.{Side}
 use Rattle.worlds.specs.ProtectFaults.{asked_of}
-use Rattle.repair.specs.HidingOrder.{Case, case, hide, ProtectsBefore}
-use Rattle.repair.proofs.Growing.{served_length}
+use Rattle.repair.specs.HidingOrder.{Case, case, ProtectsBefore}
+use Rattle.repair.specs.CellTrials.{ProtectsBeforeOr}
+use Rattle.repair.proofs.AtHand.{kept_length}
 use Rattle.repair.proofs.trial.first_refused.Goals as goal
 
 pub refusal_of-requires-clause-count : goal.refusal_of-requires-clause-count
 refusal_of-requires-clause-count c =
-    served_length (case c.args.task.now.system.now c.args.task.now.cells.now) (hide c.args.hidden.now.flags c.args.cell) (asked_of 0 c.args.task.now.cells.now) c.args.worlds.now c.requires.served
+    kept_length (case c.args.task.now.system.now c.args.task.now.cells.now) (asked_of 0 c.args.task.now.cells.now) c.args.worlds.now c.requires.kept
     ∙ ap (λ (l : List (ℕ × Side)). length l) (sym c.args.task.now.fits.in_order)
 
 pub returns-in_err-need-clause-err : goal.returns-in_err-need-clause-err
@@ -21,3 +22,15 @@ returns-clause-ok c =
     let task : Case = case c.args.task.now.system.now c.args.task.now.cells.now in
     let last : c.places.place ≡ length c.args.task.now.questions.now = omega (arith, c.places-test.false, c.places.auto.place-end) in
     subst (ProtectsBefore task c.args.hidden.now.flags) last c.places.invariant.before
+
+pub returns-in-Some-clause-answers : goal.returns-in-Some-clause-answers
+returns-in-Some-clause-answers c = λ larger now before. c.in_ok-need.ensures.answers larger now (c.places.invariant.answers larger now before)
+
+pub places-preserved : goal.places-preserved
+places-preserved c =
+    let task : Case = case c.args.task.now.system.now c.args.task.now.cells.now in
+    record {
+      before = subst (ProtectsBeforeOr task c.args.hidden.now.flags c.args.cell (c.places.place + 1)) c.in_default.is c.in_ok-need.ensures.ok;
+      answers = λ larger now before. c.in_ok-need.ensures.answers larger now (c.places.invariant.answers larger now before);
+      spares = c.in_ok-need.ensures.spares;
+    }

@@ -1,9 +1,14 @@
-use Rattle.repair.specs.HidingOrder.{case, hide, ProtectsBefore}
-use Rattle.repair.specs.CellTrials.{AreSpare}
+use Rattle.repair.specs.HidingOrder.{case, ProtectsBefore}
+use Rattle.repair.specs.CellTrials.{AreSpare, AreTrialAnswers}
+use Rattle.repair.specs.OnTheWay.{IsOfTrial}
+use Rattle.std.proofs.Common.{◌+◌, List, Bool}
 use Rattle.repair.proofs.trial.first_refused.Given as goal
 
 abbrev pub invariant-places : goal.invariant-places
 invariant-places l = record {
   before : ProtectsBefore (case l.task.system.now l.task.cells.now) l.hidden.flags l.place;
-  spares : AreSpare (case l.task.system.now l.task.cells.now) (hide l.hidden.flags l.cell) l.spares.items;
+  answers : (larger : List Bool) → IsOfTrial (case l.task.system.now l.task.cells.now) larger (l.cell + 1) l.hidden.flags l.hidden.flags
+      → AreTrialAnswers (case l.task.system.now l.task.cells.now) larger (l.cell + 1) l.hidden.flags l.fn.spares.items
+      → AreTrialAnswers (case l.task.system.now l.task.cells.now) larger (l.cell + 1) l.hidden.flags l.spares.items;
+  spares : AreSpare (case l.task.system.now l.task.cells.now) l.spares.items;
 }

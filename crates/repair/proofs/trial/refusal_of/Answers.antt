@@ -1,4 +1,4 @@
-use Rattle.std.proofs.Common.{◌≡◌, ◌<◌, ◌∙◌, ℕ, refl, sym, subst, length, nat_lt, true, List, Bool, Some, slice_get, get_or, arith}
+use Rattle.std.proofs.Common.{◌≡◌, ◌<◌, ◌+◌, ◌∙◌, ◌||◌, ℕ, refl, sym, subst, length, nat_lt, true, List, Bool, Some, slice_get, get_or, arith}
 use Rattle.std.proofs.lemmas.Option.{slice_get_read}
 use Rattle.std.proofs.lemmas.Result.{err_from_is_err_and}
 use Rattle.sdc_base.specs.declared.side.Side.{Side}
@@ -6,31 +6,35 @@ use Rattle.sdc_base.specs.declared.side.Side.TheVariants.{Above}
 use Rattle.sdc_base.specs.declared.cell.Kind.TheVariants.{Primary}
 use Rattle.sdc_base.specs.HiddenSets.{is_hidden}
 use Rattle.worlds.specs.ProtectFaults.{asked_of}
+use Rattle.worlds.specs.RefutationFaults.{IsGivenRefutation}
+use Rattle.std.specs.List.{list_any}
 use Rattle.interval_audit.specs.declared.answer.Answer.TheVariants.{Reaches, Stops}
 use Rattle.interval_audit.specs.Answers.{IsTrueAnswer, IsAnswerOf, ReachesTarget, StopsShort}
-use Rattle.repair.specs.LevelQuestions.{IsCausing}
-use Rattle.repair.specs.HidingOrder.{Case, case, IsOfKind, hide, StandsAt}
+use Rattle.repair.specs.LevelQuestions.{IsCausing, IsGiven}
+use Rattle.repair.specs.HidingOrder.{Case, case, IsOfKind, StandsAt}
 use Rattle.repair.specs.KeptWorlds.{IsServing}
-use Rattle.repair.specs.CellTrials.{AreSpare}
-use Rattle.repair.proofs.AtHand.{unmoved, still_serving, served_at, serving_more, protects_at_hand, protects_next, spare_kept}
-use Rattle.repair.proofs.Flags.{within_hide}
+use Rattle.repair.specs.CellTrials.{fits, serves_beside, IsKept, AreSpare, AreTrialAnswers}
+use Rattle.repair.specs.OnTheWay.{IsOfTrial}
+use Rattle.repair.proofs.OnTheWay.{given_by, trials_more}
+use Rattle.repair.proofs.AtHand.{fitting_serves, kept_at, protects_at_hand, protects_next, first_refuted, spare_kept}
 use Rattle.repair.proofs.Growing.{serving_protects}
 use Rattle.repair.proofs.Order.{asked_primary}
 use Rattle.repair.proofs.Refuting.{stopping_refutes}
 use Rattle.repair.proofs.Repairing.{cause_of, serving_by, stands_there}
 use Rattle.repair.proofs.trial.refusal_of.Goals as goal
 
-pub returns-then-not-is_moved-clause-ok : goal.returns-then-not-is_moved-clause-ok
-returns-then-not-is_moved-clause-ok c =
+pub returns-then-fits-clause-ok : goal.returns-then-fits-clause-ok
+returns-then-fits-clause-ok c =
     let task : Case = case c.args.task.now.system.now c.args.task.now.cells.now in
     let flags : List Bool = c.args.hidden.now.flags in
     let asked : ℕ × Side = get_or c.args.task.now.questions.now c.args.place (0, Above) in
     let stands : StandsAt c.args.task.now.cells.now asked c.args.place = stands_there c.args.task.now.cells.now c.args.task.now.questions.now c.args.place (0, Above) c.args.task.now.fits.in_order c.requires.place in
     let within : c.args.place < length c.args.worlds.now = omega (arith, c.requires.place, c.requires.count) in
     let kept : slice_get c.args.worlds.now c.args.place ≡ Some c.index-worlds-place.result = slice_get_read c.args.worlds.now (length c.args.worlds.now) c.args.place c.index-worlds-place.result refl within c.index-worlds-place.is in
-    let serving : IsServing task (hide flags c.args.cell) asked c.index-worlds-place.result = served_at task (hide flags c.args.cell) (asked_of 0 c.args.task.now.cells.now) c.args.worlds.now c.args.place asked c.index-worlds-place.result stands kept c.requires.served in
-    let own : IsServing task flags asked c.index-worlds-place.result = still_serving task flags c.args.cell asked c.index-worlds-place.result (unmoved c.args.cell c.index-worlds-place.result.moves (sym c.is_moved.ensures ∙ c.if-not-is_moved.true)) serving in
-    protects_next task flags c.args.place asked stands (serving_protects task flags asked c.index-worlds-place.result own) c.requires.before
+    let own : IsKept task asked c.index-worlds-place.result = kept_at task (asked_of 0 c.args.task.now.cells.now) c.args.worlds.now c.args.place asked c.index-worlds-place.result stands kept c.requires.kept in
+    let fit : fits flags c.index-worlds-place.result ≡ true = subst (λ (f : List Bool). fits f c.index-worlds-place.result ≡ true) c.as_slice-flags.ensures (sym c.fits.ensures ∙ c.if-fits.true) in
+    let serving : IsServing task flags asked c.index-worlds-place.result = fitting_serves task flags asked c.index-worlds-place.result fit own in
+    protects_next task flags c.args.place asked stands (serving_protects task flags asked c.index-worlds-place.result serving) c.requires.before
 
 pub is_at_hand-requires : goal.is_at_hand-requires
 is_at_hand-requires c = record {
@@ -45,9 +49,10 @@ returns-then-is_at_hand-clause-ok c =
     let asked : ℕ × Side = get_or c.args.task.now.questions.now c.args.place (0, Above) in
     let stands : StandsAt c.args.task.now.cells.now asked c.args.place = stands_there c.args.task.now.cells.now c.args.task.now.questions.now c.args.place (0, Above) c.args.task.now.fits.in_order c.requires.place in
     let is : IsOfKind c.args.task.now.cells.now asked.0 Primary = asked_primary c.args.task.now.cells.now c.args.place asked stands in
-    let spares : AreSpare task (hide flags c.args.cell) c.as_slice.result.now = subst (AreSpare task (hide flags c.args.cell)) (sym c.as_slice.ensures.value) c.requires.spares in
+    let spares : AreSpare task c.as_slice.result.now = subst (AreSpare task) (sym c.as_slice.ensures.value) c.requires.spares in
+    let test = subst (λ (f : List Bool). (list_any (serves_beside is.cell asked f) c.args.worlds.now || list_any (λ spare. serves_beside is.cell asked f spare.world) c.as_slice.result.now) ≡ true) c.as_slice-flags.ensures (sym (c.is_at_hand.ensures is.cell is.found) ∙ c.if-is_at_hand.true) in
     protects_next task flags c.args.place asked stands
-    (protects_at_hand task flags c.args.cell asked is.cell (asked_of 0 c.args.task.now.cells.now) c.args.worlds.now c.as_slice.result.now is.found c.requires.served spares (sym (c.is_at_hand.ensures is.cell is.found) ∙ c.if-is_at_hand.true)) c.requires.before
+    (protects_at_hand task flags asked is.cell (asked_of 0 c.args.task.now.cells.now) c.args.worlds.now c.as_slice.result.now is.found c.requires.kept spares test) c.requires.before
 
 pub level_question-question-requires-clause-primary : goal.level_question-question-requires-clause-primary
 level_question-question-requires-clause-primary c =
@@ -86,12 +91,25 @@ returns-in-Reaches-clause-spares c =
     let stands : StandsAt c.args.task.now.cells.now asked c.args.place = stands_there c.args.task.now.cells.now c.args.task.now.questions.now c.args.place (0, Above) c.args.task.now.fits.in_order c.requires.place in
     let reaching : ReachesTarget c.args.task.now.system.now c.args.task.now.cells.now flags c.level_question-question.result c.in-Reaches.world =
     subst (IsTrueAnswer c.args.task.now.system.now c.args.task.now.cells.now flags c.level_question-question.result) c.in-Reaches.is c.in_ok-answer.ensures.right in
+    let serving : IsServing task flags asked c.in-Reaches.world = serving_by task flags c.args.place asked c.level_question-question.result c.in-Reaches.world stands c.level_question-question.ensures reaching in
+    subst (AreSpare task) (sym c.in-Ok.ensures.ok)
+    (spare_kept task c.args.spares.now.items (record { place = c.args.place; world = c.in-Reaches.world }) (nat_lt (length c.args.spares.now.items) (length c.args.task.now.questions.now)) (record { asked = asked; stands = stands; kept = (flags, serving) }) c.requires.spares)
+
+pub returns-in-Reaches-clause-answers : goal.returns-in-Reaches-clause-answers
+returns-in-Reaches-clause-answers c =
+    λ larger now before.
+    let task : Case = case c.args.task.now.system.now c.args.task.now.cells.now in
+    let flags : List Bool = c.args.hidden.now.flags in
+    let asked : ℕ × Side = get_or c.args.task.now.questions.now c.args.place (0, Above) in
+    let stands : StandsAt c.args.task.now.cells.now asked c.args.place = stands_there c.args.task.now.cells.now c.args.task.now.questions.now c.args.place (0, Above) c.args.task.now.fits.in_order c.requires.place in
+    let reaching : ReachesTarget c.args.task.now.system.now c.args.task.now.cells.now flags c.level_question-question.result c.in-Reaches.world =
+    subst (IsTrueAnswer c.args.task.now.system.now c.args.task.now.cells.now flags c.level_question-question.result) c.in-Reaches.is c.in_ok-answer.ensures.right in
     let read : IsAnswerOf c.args.task.now.system.now c.args.task.now.cells.now flags c.level_question-question.result (Reaches c.in-Reaches.world) =
     subst (IsAnswerOf c.args.task.now.system.now c.args.task.now.cells.now flags c.level_question-question.result) c.in-Reaches.is c.in_ok-answer.ensures.read in
-    let serving : IsServing task flags asked c.in-Reaches.world = serving_by task flags c.args.place asked c.level_question-question.result c.in-Reaches.world c.requires.permitted stands c.level_question-question.ensures reaching read in
-    let more : IsServing task (hide flags c.args.cell) asked c.in-Reaches.world = serving_more task flags (hide flags c.args.cell) asked c.in-Reaches.world (within_hide flags c.args.cell c.requires.inside) serving in
-    subst (AreSpare task (hide flags c.args.cell)) (sym c.in-Ok.ensures.ok)
-    (spare_kept task (hide flags c.args.cell) c.args.spares.now.items (record { place = c.args.place; world = c.in-Reaches.world }) (nat_lt (length c.args.spares.now.items) (length c.args.task.now.questions.now)) (record { asked = asked; stands = stands; serving = more }) c.requires.spares)
+    let given : IsGiven (IsOfTrial task larger (c.args.cell + 1) flags) task.system task.cells asked c.in-Reaches.world =
+    given_by task (IsOfTrial task larger (c.args.cell + 1) flags) flags asked c.level_question-question.result c.in-Reaches.world now c.level_question-question.ensures reaching read in
+    subst (AreTrialAnswers task larger (c.args.cell + 1) flags) (sym c.in-Ok.ensures.ok)
+    (trials_more task larger (c.args.cell + 1) flags c.args.spares.now.items (record { place = c.args.place; world = c.in-Reaches.world }) (nat_lt (length c.args.spares.now.items) (length c.args.task.now.questions.now)) (record { asked = asked; stands = stands; given = given }) before)
 
 pub returns-in-Reaches-clause-ok : goal.returns-in-Reaches-clause-ok
 returns-in-Reaches-clause-ok c =
@@ -101,9 +119,7 @@ returns-in-Reaches-clause-ok c =
     let stands : StandsAt c.args.task.now.cells.now asked c.args.place = stands_there c.args.task.now.cells.now c.args.task.now.questions.now c.args.place (0, Above) c.args.task.now.fits.in_order c.requires.place in
     let reaching : ReachesTarget c.args.task.now.system.now c.args.task.now.cells.now flags c.level_question-question.result c.in-Reaches.world =
     subst (IsTrueAnswer c.args.task.now.system.now c.args.task.now.cells.now flags c.level_question-question.result) c.in-Reaches.is c.in_ok-answer.ensures.right in
-    let read : IsAnswerOf c.args.task.now.system.now c.args.task.now.cells.now flags c.level_question-question.result (Reaches c.in-Reaches.world) =
-    subst (IsAnswerOf c.args.task.now.system.now c.args.task.now.cells.now flags c.level_question-question.result) c.in-Reaches.is c.in_ok-answer.ensures.read in
-    let serving : IsServing task flags asked c.in-Reaches.world = serving_by task flags c.args.place asked c.level_question-question.result c.in-Reaches.world c.requires.permitted stands c.level_question-question.ensures reaching read in
+    let serving : IsServing task flags asked c.in-Reaches.world = serving_by task flags c.args.place asked c.level_question-question.result c.in-Reaches.world stands c.level_question-question.ensures reaching in
     protects_next task flags c.args.place asked stands (serving_protects task flags asked c.in-Reaches.world serving) c.requires.before
 
 pub returns-clause-ok : goal.returns-clause-ok
@@ -114,14 +130,13 @@ returns-clause-ok c =
     let does : StopsShort c.args.task.now.system.now c.args.task.now.cells.now flags c.level_question-question.result c.in-Stops.best c.in-Stops.world c.in-Stops.multipliers =
     subst (IsTrueAnswer c.args.task.now.system.now c.args.task.now.cells.now flags c.level_question-question.result) c.in-Stops.is c.in_ok-answer.ensures.right in
     let read : IsAnswerOf c.args.task.now.system.now c.args.task.now.cells.now flags c.level_question-question.result (Stops c.in-Stops.best c.in-Stops.world c.in-Stops.multipliers) =
-    subst (IsAnswerOf c.args.task.now.system.now c.args.task.now.cells.now flags c.level_question-question.result) c.in-Stops.is c.in_ok-answer.ensures.read in (
+    subst (IsAnswerOf c.args.task.now.system.now c.args.task.now.cells.now flags c.level_question-question.result) c.in-Stops.is c.in_ok-answer.ensures.read in
+    let refutes : IsGivenRefutation c.args.task.now.system.now c.args.task.now.cells.now flags asked.0 asked.1 c.in-Stops.multipliers = stopping_refutes c.args.task.now.system.now c.args.task.now.cells.now flags asked c.level_question-question.result c.in-Stops.best c.in-Stops.world c.in-Stops.multipliers c.level_question-question.ensures does in (
       refl,
       record {
         cell_primary = asked_primary c.args.task.now.cells.now c.args.place asked stands;
-        place = c.args.place;
-        stands = stands;
-        before = c.requires.before;
-        refutes = stopping_refutes c.args.task.now.system.now c.args.task.now.cells.now flags asked c.level_question-question.result c.in-Stops.best c.in-Stops.world c.in-Stops.multipliers c.level_question-question.ensures does;
-        gives = record { question = c.level_question-question.result; best = c.in-Stops.best; world = c.in-Stops.world; is_asked = c.level_question-question.ensures; is_read = read };
+        first = first_refuted (case c.args.task.now.system.now c.args.task.now.cells.now) flags c.args.place asked c.in-Stops.multipliers c.args.task.now.fits.one_each stands c.requires.before refutes;
+        refutes = refutes;
+        gives = record { question = c.level_question-question.result; best = c.in-Stops.best; world = c.in-Stops.world; is_asked = c.level_question-question.ensures; is_right = does; is_read = read };
       },
     )

@@ -1,0 +1,64 @@
+use Rattle.std.proofs.Common.{◌≡◌, ◌==◌, ◌∙◌, [], false, ℕ, List, Bool, length, ap, sym, subst, arith, refl}
+use Rattle.std.proofs.lemmas.List.Elements.{All-nil}
+use Rattle.worlds.specs.declared.refuted.Refuted.{Refuted}
+use Rattle.worlds.specs.ProtectFaults.{asked_of}
+use Rattle.repair.specs.HidingOrder.{Case, case, hide_subjects}
+use Rattle.repair.specs.CellTrials.{AreSpare, IsSpare, IsTrialAnswer, AreTrialAnswers, AnswerTrials, AnswerOnWay, IsTried}
+use Rattle.repair.specs.OnTheWay.{IsOfFirst, AreAnswers}
+use Rattle.repair.proofs.OnTheWay.{answers_first}
+use Rattle.repair.proofs.AtHand.{kept_by}
+use Rattle.repair.proofs.Growing.{served_protect}
+use Rattle.repair.proofs.Tries.{none_tried, some_shown, end_stop, tries_stop, on_err_from}
+use Rattle.repair.proofs.trying.try_all.Goals as goal
+
+pub cells-init : goal.cells-init
+cells-init c =
+    let task : Case = case c.args.task.now.system.now c.args.task.now.cells.now in
+    let flags : List Bool = c.args.progress.now.hidden.flags in
+    record {
+      each = c.requires.each;
+      permitted = c.requires.permitted;
+      repairs = refl;
+      worlds = refl;
+      kept = kept_by task flags (asked_of 0 c.args.task.now.cells.now) c.args.progress.now.worlds c.requires.served;
+      spares = subst (AreSpare task) (sym c.requires.no_spares) (All-nil (IsSpare task));
+      tried = record {
+        are_tried = subst (λ (ns : List Refuted). IsTried task flags 0 flags ns c.args.tried.now.shown) (sym c.requires.no_needs)
+            (subst (λ (l : List ℕ). IsTried task flags 0 flags [] l) (sym c.requires.none_shown)
+            (none_tried task flags (served_protect task flags (asked_of 0 c.args.task.now.cells.now) c.args.progress.now.worlds c.requires.served)));
+        answers = subst (AreTrialAnswers task flags 0 flags) (sym c.requires.no_spares) (All-nil (IsTrialAnswer task flags 0 flags));
+      };
+    }
+
+pub returns-clause-err : goal.returns-clause-err
+returns-clause-err c =
+    let task : Case = case c.args.task.now.system.now c.args.task.now.cells.now in
+    let larger : List Bool = c.args.progress.now.hidden.flags in
+    let flags : List Bool = c.cells.progress.hidden.flags in
+    let shown : List ℕ = c.cells.tried.shown in
+    let none : (length shown == 0) ≡ false = ap (λ (l : List ℕ). length l == 0) (sym c.as_slice.ensures) ∙ sym c.is_empty.ensures ∙ c.if-is_empty.false in
+    let last : c.cells.number ≡ length c.args.task.now.cells.now = omega (arith, c.cells-test.false, c.cells.auto.number-end) in
+    let all : IsTried task larger (length c.args.task.now.cells.now) flags c.cells.tried.needs shown = subst (λ n. IsTried task larger n flags c.cells.tried.needs shown) last c.cells.invariant.tried.are_tried in
+    on_err_from c.renew_all.result (λ fault has. tries_stop task larger c.args.task.now.limit fault shown
+    (end_stop task larger flags c.cells.tried.needs shown c.args.task.now.limit fault c.args.task.now.fits.one_each (some_shown shown none) has all)) c.renew_all.ensures.err
+
+pub returns-then-is_empty-clause-answers : goal.returns-then-is_empty-clause-answers
+returns-then-is_empty-clause-answers c =
+    λ planned hidden_is are.
+    let task : Case = case c.args.task.now.system.now c.args.task.now.cells.now in
+    let repairs : List Refuted = c.args.progress.now.repairs in
+    answers_first task planned repairs c.cells.progress.hidden.flags c.cells.progress.worlds (subst (AreAnswers task (IsOfFirst planned repairs) (asked_of 0 c.args.task.now.cells.now)) (sym c.cells.invariant.worlds) are)
+
+pub returns-clause-answers : goal.returns-clause-answers
+returns-clause-answers c =
+    λ planned hidden_is are.
+    let task : Case = case c.args.task.now.system.now c.args.task.now.cells.now in
+    let repairs : List Refuted = c.args.progress.now.repairs in
+    let flags : List Bool = c.cells.progress.hidden.flags in
+    let worlds : AnswerOnWay c.args.task.now planned repairs flags c.cells.progress.worlds =
+    answers_first task planned repairs flags c.cells.progress.worlds (subst (AreAnswers task (IsOfFirst planned repairs) (asked_of 0 c.args.task.now.cells.now)) (sym c.cells.invariant.worlds) are) in
+    let last : c.cells.number ≡ length c.args.task.now.cells.now = omega (arith, c.cells-test.false, c.cells.auto.number-end) in
+    let spares : AnswerTrials c.args.task.now planned repairs flags c.cells.tried.spares.items =
+    subst (λ n. AreTrialAnswers task (hide_subjects planned repairs) n flags c.cells.tried.spares.items) last
+    (subst (λ (l : List Bool). AreTrialAnswers task l c.cells.number flags c.cells.tried.spares.items) hidden_is c.cells.invariant.tried.answers) in
+    c.renew_all.ensures.answers planned repairs worlds spares
