@@ -1,7 +1,7 @@
 ghost use Rattle.std.specs.Prelude.{◌≡◌, Err};
 ghost use Rattle.sdc_base.specs.WhereTold.{WhereTold};
-ghost use Rattle.office_io.specs.Shelves.{HasOnlyRead};
-ghost use Rattle.job_inputs.specs.Reading.{HasCause, HasComeTo};
+ghost use Rattle.job_inputs.specs.ReadFiles.{output_limit};
+ghost use Rattle.job_inputs.specs.Reading.{HasCause, HasComeTo, HasOnlyLooked};
 ghost use Rattle.job_inputs.specs.declared.stop.InputStop.{InputStop as AnyStop};
 ghost use Rattle.job_check.specs.Answers.{AnswersRelease};
 ghost use Rattle.job_check.specs.Reading.{ComesTo};
@@ -36,7 +36,9 @@ pub fn check_release<S: Shelf>(alloc: Global, shelf: &mut S, name: &Text) -> Res
     // Where the shelf failed at a file, it is one to which the check came with no fault before it.
     ensures came_to { WhereTold (S.state shelf.old).files (λ fs. (e : AnyStop) → result ≡ Err (CheckStop.Inputs e)
         → HasComeTo {X = Unit {0}} (ComesTo fs name.now) (Err e) fs (S.state shelf.new)) }
-    ensures only_read { HasOnlyRead (S.state shelf.old) (S.state shelf.new) }
+
+    // The shelf was only looked at: its files stay, and no file was read without end.
+    ensures shelf { HasOnlyLooked output_limit (S.state shelf.old) (S.state shelf.new) }
     ensures cause { (e : AnyStop) → result ≡ Err (CheckStop.Inputs e)
         → HasCause {X = Unit {0}} (Err e) (S.state shelf.old) (S.state shelf.new) }
 {

@@ -1,5 +1,6 @@
 ghost use Rattle.job_check.specs.Reading.{AreReleased, ComesTo, IsReadyRelease};
 ghost use Rattle.job_check.specs.ReleaseFiles.{released_of};
+ghost use Rattle.job_inputs.specs.ReadFiles.{output_limit};
 ghost use Rattle.job_inputs.specs.Reading.{HasLookedAt};
 
 use certificate::Certificate;
@@ -25,7 +26,7 @@ pub(crate) fn read_release<S: Shelf>(
     name: &Text,
 ) -> Result<ReadRelease, InputStop>
     ensures { HasLookedAt (λ fs answer. AreReleased answer (released_of fs name.now)) (λ fs. ComesTo fs name.now)
-        IsReadyRelease result (S.state shelf.old) (S.state shelf.new) }
+        IsReadyRelease output_limit result (S.state shelf.old) (S.state shelf.new) }
 {
     let job = read_settled(alloc, shelf, name, Purpose::Release)?;
     let certificate = read_certificate_file(alloc, shelf, &job.described.job.certificate)?;

@@ -1,5 +1,5 @@
 -- What stops one look at a file stops the reading of which it is a part.
-use Rattle.std.proofs.Common.{◌≡◌, ℕ, Bool, true, false, List, Result, Ok, Err, IsErrOf, refl, ap, arith, subst, ◌∙◌}
+use Rattle.std.proofs.Common.{◌≡◌, ℕ, Bool, true, false, List, Result, Ok, Err, IsErrOf, refl, ap, arith, subst, ◌≤◌, ◌+◌, ◌∙◌}
 use Rattle.sdc_base.specs.Answers.{Fails, Gives}
 use Rattle.sdc_base.specs.Steps.{refuse}
 use Rattle.sdc_base.specs.WhereTold.{WhereTold}
@@ -7,7 +7,7 @@ use Rattle.code_trees.specs.declared.tree_fault.TreeFault.TheVariants as tree
 use Rattle.office_io.proofs.Shelves.{only-read-on}
 use Rattle.office_io.specs.Files.{Files}
 use Rattle.office_io.specs.Shelves.{ShelfState, HasOnlyRead}
-use Rattle.job_inputs.specs.Reading.{stop_of, stopped_for, HasCause, HasComeTo, IsReadFrom}
+use Rattle.job_inputs.specs.Reading.{stop_of, stopped_for, HasCause, HasComeTo, HasOnlyLooked, IsReadFrom}
 use Rattle.job_inputs.specs.Refusals.{refused_for, IsForContents}
 use Rattle.job_inputs.specs.declared.file_ref.FileRef.{FileRef}
 use Rattle.job_inputs.specs.declared.faults.Fault.{Fault}
@@ -17,16 +17,44 @@ use Rattle.job_inputs.specs.declared.refusal.Refusal.TheVariants as refusal
 use Rattle.job_inputs.specs.declared.stop.InputStop.{InputStop}
 use Rattle.job_inputs.specs.declared.stop.InputStop.TheVariants as stop
 
+-- ---- looks one after another
+
+-- nothing was looked for yet
+pub nothing-looked : (most : ℕ) (state : ShelfState) → HasOnlyLooked most state state
+nothing-looked most state = record {
+  only_read = record { files = refl; faults = omega arith; faults_end = λ below. below; absences = omega arith; absences_end = λ below. below };
+  no_more = omega arith;
+  few_reads = omega arith;
+}
+
+-- a look after another
+pub look-on : (most : ℕ) (old mid new : ShelfState) → HasOnlyLooked most old mid → HasOnlyLooked most mid new → HasOnlyLooked most old new
+look-on most old mid new first then = record {
+  only_read = only-read-on old mid new first.only_read then.only_read;
+  no_more = omega (arith, first.no_more, then.no_more);
+  few_reads = omega (arith, first.few_reads, then.few_reads);
+}
+
+-- a look at files that may be longer
+pub longer-look : (most more : ℕ) (old new : ShelfState) → most ≤ more → HasOnlyLooked most old new → HasOnlyLooked more old new
+longer-look most more old new at_most look = record { only_read = look.only_read; no_more = omega (arith, at_most, look.no_more); few_reads = omega (arith, at_most, look.few_reads) }
+
+-- of a file that was begun no more was taken than its limit and a byte
+pub file-looked : (most : ℕ) (old new : ShelfState) → HasOnlyRead old new → new.taken ≤ most + 1 → new.reads ≤ most + 1 → HasOnlyLooked most old new
+file-looked most old new read taken reads = record { only_read = read; no_more = omega (arith, taken); few_reads = omega (arith, reads) }
+
+-- ---- stops
+
 -- an error is the same error of another answer
 pub err-as : {X Y : Type 0} (e s : InputStop) → IsErrOf {T = Y} (Err e) s → IsErrOf {T = X} (Err e) s
 err-as e s is = let same : e ≡ s = cc in ap Err same
 
 -- the cause of a stop is one after earlier reads too
-pub cause-on : {X Y : Type 0} (e : InputStop) (old mid new : ShelfState) → HasOnlyRead old mid → HasCause {X = X} (Err e) mid new → HasCause {X = Y} (Err e) old new
+pub cause-on : {X Y : Type 0} {most : ℕ} (e : InputStop) (old mid new : ShelfState) → HasOnlyLooked most old mid → HasCause {X = X} (Err e) mid new → HasCause {X = Y} (Err e) old new
 cause-on e old mid new first cause = record {
-  absent = λ f is. omega (arith, first.absences, cause.absent f (err-as e _ is));
+  absent = λ f is. omega (arith, first.only_read.absences, cause.absent f (err-as e _ is));
   too_long = λ f is. cause.too_long f (err-as e _ is);
-  read_fault = λ f is. omega (arith, first.faults, cause.read_fault f (err-as e _ is));
+  read_fault = λ f is. omega (arith, first.only_read.faults, cause.read_fault f (err-as e _ is));
   tree = λ f is. cause.tree f (err-as e _ is);
 }
 
@@ -76,63 +104,59 @@ contents-come (refusal.Refused g) whole files new = λ f is. absurd cc
 contents-come refusal.Memory whole files new = λ f is. absurd cc
 
 -- a look that stops, after others that did not, stops the whole
-pub look-stops : {X X' Y Y' : Type 0} {P : X → Type 0} {P' : X' → Type 0} (view : X → Y) (view' : X' → Y') (part : Files → Result Y Fault) (whole : Files → Result Y' Fault) (comes comes' : Files → FileRef → List ℕ → Type 0)
-    (e : InputStop) (old mid new : ShelfState) → HasOnlyRead old mid → IsReadFrom view part comes P (Err e) mid new
+pub look-stops : {X X' Y Y' : Type 0} {P : X → Type 0} {P' : X' → Type 0} {most : ℕ} (view : X → Y) (view' : X' → Y') (part : Files → Result Y Fault) (whole : Files → Result Y' Fault) (comes comes' : Files → FileRef → List ℕ → Type 0)
+    (e : InputStop) (old mid new : ShelfState) → HasOnlyLooked most old mid → IsReadFrom view part comes P most (Err e) mid new
     → WhereTold old.files (λ fs. Fails (stopped_for e) (part fs) → Fails (stopped_for e) (whole fs))
     → WhereTold old.files (λ fs. (f : FileRef) (held : List ℕ) → comes fs f held → comes' fs f held)
-    → IsReadFrom view' whole comes' P' (Err e) old new
+    → IsReadFrom view' whole comes' P' most (Err e) old new
 look-stops view view' part whole comes comes' e old mid new first look fails wider = record {
-  told = λ fs told. fails fs told (look.told fs (first.files ∙ told));
-  came_to = λ fs told. come-on e (comes fs) (comes' fs) fs new (wider fs told) (look.came_to fs (first.files ∙ told));
-  only_read = only-read-on old mid new first look.only_read;
+  told = λ fs told. fails fs told (look.told fs (first.only_read.files ∙ told));
+  came_to = λ fs told. come-on e (comes fs) (comes' fs) fs new (wider fs told) (look.came_to fs (first.only_read.files ∙ told));
+  shelf = look-on _ old mid new first look.shelf;
   cause = cause-on e old mid new first look.cause;
   sound = tt;
 }
 
 -- contents that are refused stop the whole
-pub contents-stop : {X' Y' : Type 0} {P' : X' → Type 0} (view' : X' → Y') (whole : Files → Result Y' Fault) (comes' : Files → FileRef → List ℕ → Type 0) (r : Refusal) (old new : ShelfState)
-    → HasOnlyRead old new → IsForContents r → WhereTold old.files (λ fs. Fails (refused_for r) (whole fs)) → IsReadFrom view' whole comes' P' (Err (stop_of r)) old new
+pub contents-stop : {X' Y' : Type 0} {P' : X' → Type 0} {most : ℕ} (view' : X' → Y') (whole : Files → Result Y' Fault) (comes' : Files → FileRef → List ℕ → Type 0) (r : Refusal) (old new : ShelfState)
+    → HasOnlyLooked most old new → IsForContents r → WhereTold old.files (λ fs. Fails (refused_for r) (whole fs)) → IsReadFrom view' whole comes' P' most (Err (stop_of r)) old new
 contents-stop view' whole comes' r old new first contents fails = record {
   told = λ fs told. stop-fails r (whole fs) (fails fs told);
   came_to = λ fs told. contents-come r (comes' fs) fs new;
-  only_read = first;
+  shelf = first;
   cause = contents-cause r old new contents;
   sound = tt;
 }
 
--- nothing was read yet
-pub only-read-nothing : (state : ShelfState) → HasOnlyRead state state
-only-read-nothing state = record { files = refl; faults = omega arith; faults_end = λ below. below; absences = omega arith; absences_end = λ below. below }
-
 -- looks that succeed are a look that succeeds
-pub look-ends : {X' Y' : Type 0} {P' : X' → Type 0} (view' : X' → Y') (whole : Files → Result Y' Fault) (comes' : Files → FileRef → List ℕ → Type 0) (x : X') (old mid : ShelfState) {new : ShelfState} → HasOnlyRead old mid → HasOnlyRead mid new
-    → WhereTold old.files (λ fs. whole fs ≡ Ok (view' x)) → P' x → IsReadFrom view' whole comes' P' (Ok x) old new
+pub look-ends : {X' Y' : Type 0} {P' : X' → Type 0} {most : ℕ} (view' : X' → Y') (whole : Files → Result Y' Fault) (comes' : Files → FileRef → List ℕ → Type 0) (x : X') (old mid : ShelfState) {new : ShelfState} → HasOnlyLooked most old mid → HasOnlyLooked most mid new
+    → WhereTold old.files (λ fs. whole fs ≡ Ok (view' x)) → P' x → IsReadFrom view' whole comes' P' most (Ok x) old new
 look-ends view' whole comes' x old mid {new} first then is good = record {
   told = is;
   came_to = λ fs told f stops. absurd cc;
-  only_read = only-read-on old mid new first then;
+  shelf = look-on _ old mid new first then;
   cause = record { absent = λ f stops. absurd cc; too_long = λ f stops. absurd cc; read_fault = λ f stops. absurd cc; tree = λ f stops. absurd cc };
   sound = good;
 }
 
 -- an answer to a look is one to a wider look of the same meaning
-pub read-wider : {X Y : Type 0} {P : X → Type 0} (view : X → Y) (part whole : Files → Result Y Fault) (comes comes' : Files → FileRef → List ℕ → Type 0) (result : Result X InputStop) (old new : ShelfState)
+pub read-wider : {X Y : Type 0} {P : X → Type 0} {most : ℕ} (view : X → Y) (part whole : Files → Result Y Fault) (comes comes' : Files → FileRef → List ℕ → Type 0) (result : Result X InputStop) (old new : ShelfState)
     → ((fs : Files) → part fs ≡ whole fs) → ((fs : Files) (f : FileRef) (held : List ℕ) → comes fs f held → comes' fs f held)
-    → IsReadFrom view part comes P result old new → IsReadFrom view whole comes' P result old new
+    → IsReadFrom view part comes P most result old new → IsReadFrom view whole comes' P most result old new
 read-wider {X} {Y} {P} view part whole comes comes' result old new same wider look = record {
   told = λ fs told. subst (λ (m : Result Y Fault). Gives stopped_for view result m) (same fs) (look.told fs told);
   came_to = λ fs told f is. let came = look.came_to fs told f is in (came.0, wider fs f came.0 came.1, came.2);
-  only_read = look.only_read;
+  shelf = look.shelf;
   cause = look.cause;
   sound = look.sound;
 }
 
 -- memory was wanting after some reads
-pub memory-stops : {X' Y' : Type 0} {P' : X' → Type 0} (view' : X' → Y') (whole : Files → Result Y' Fault) (comes' : Files → FileRef → List ℕ → Type 0) (old new : ShelfState) → HasOnlyRead old new → IsReadFrom view' whole comes' P' (Err stop.Memory) old new
+pub memory-stops : {X' Y' : Type 0} {P' : X' → Type 0} {most : ℕ} (view' : X' → Y') (whole : Files → Result Y' Fault) (comes' : Files → FileRef → List ℕ → Type 0) (old new : ShelfState) → HasOnlyLooked most old new → IsReadFrom view' whole comes' P' most (Err stop.Memory) old new
 memory-stops view' whole comes' old new first = record {
   told = λ fs told. tt;
   came_to = λ fs told f is. absurd cc;
-  only_read = first;
+  shelf = first;
   cause = record { absent = λ f is. absurd cc; too_long = λ f is. absurd cc; read_fault = λ f is. absurd cc; tree = λ f is. absurd cc };
   sound = tt;
 }

@@ -1,6 +1,6 @@
 -- What it is to read inputs from a shelf: what is told, to which file it comes, what the shelf does, and the cause of
 -- each refusal (own).
-use Rattle.std.specs.Prelude.{◌≡◌, ◌≢◌, ℕ, ◌+◌, List, Option, None, Some, Result, Err, IsErrOf, IfOk, []}
+use Rattle.std.specs.Prelude.{◌≡◌, ◌≢◌, ℕ, ◌+◌, ◌≤◌, max, List, Option, None, Some, Result, Err, IsErrOf, IfOk, []}
 use Rattle.sdc_base.specs.Answers.{Gives}
 use Rattle.sdc_base.specs.Counts.{HasRisen}
 use Rattle.sdc_base.specs.WhereTold.{WhereTold}
@@ -44,22 +44,30 @@ HasComeTo comes result files new =
     (f : FileRef) → IsErrOf result (stop.ReadFault f)
     → (held : List ℕ) × comes f held × (new.last ≡ held_name files held)
 
--- The answer to a look at files of a shelf: as far as they are told, it is what they give, and reading came to a file
--- at which the shelf fails. The shelf was only read, each refusal has its cause, and what was read is sound.
+-- The shelf was only read from, and no more than was wanted: of the file that was looked for last, where one was, at
+-- most so many bytes and one more were taken, by at most as many reads.
+pub record HasOnlyLooked (most : ℕ) (old new : ShelfState) : Type 0 where
+  pub only_read : HasOnlyRead old new
+  pub no_more : new.taken ≤ max old.taken (most + 1)
+  pub few_reads : new.reads ≤ max old.reads (most + 1)
+
+-- The answer to a look at files of a shelf, each of at most so many bytes: as far as they are told, it is what they
+-- give, and reading came to a file at which the shelf fails. The shelf was only looked at, each refusal has its cause,
+-- and what was read is sound.
 pub record HasLookedAt {X : Type 0} (gives : Files → Result X InputStop → Type 0)
-    (comes : Files → FileRef → List ℕ → Type 0) (is_sound : X → Type 0) (result : Result X InputStop)
+    (comes : Files → FileRef → List ℕ → Type 0) (is_sound : X → Type 0) (most : ℕ) (result : Result X InputStop)
     (old new : ShelfState) : Type 0 where
   pub told : WhereTold old.files (λ fs. gives fs result)
   pub came_to : WhereTold old.files (λ fs. HasComeTo (comes fs) result fs new)
-  pub only_read : HasOnlyRead old new
+  pub shelf : HasOnlyLooked most old new
   pub cause : HasCause result old new
   pub sound : IfOk result is_sound
 
 -- such a look at what files hold: it gives what they mean, or their first fault
 abbrev pub IsReadFrom : {X Y : Type 0} → (X → Y) → (Files → Result Y Fault) → (Files → FileRef → List ℕ → Type 0)
-    → (X → Type 0) → Result X InputStop → ShelfState → ShelfState → Type 0
-IsReadFrom view meant comes is_sound result old new =
-    HasLookedAt (λ fs answer. Gives stopped_for view answer (meant fs)) comes is_sound result old new
+    → (X → Type 0) → ℕ → Result X InputStop → ShelfState → ShelfState → Type 0
+IsReadFrom view meant comes is_sound most result old new =
+    HasLookedAt (λ fs answer. Gives stopped_for view answer (meant fs)) comes is_sound most result old new
 
 -- a value is sound by what its type says of every value, and nothing more is wanted of it
 abbrev pub IsSoundByItsType : {X : Type 0} → X → Type 0

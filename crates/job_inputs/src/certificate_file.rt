@@ -4,6 +4,7 @@ ghost use Rattle.certificate.specs.Certificates.{certificate_of};
 ghost use Rattle.job_inputs.specs.CertificateFile.{certificate_fault, certificate_in, IsSoundCertificate};
 ghost use Rattle.job_inputs.specs.CertificateFile as spec;
 ghost use Rattle.job_inputs.specs.Looks.{IsFile};
+ghost use Rattle.job_inputs.specs.ReadFiles.{output_limit};
 ghost use Rattle.job_inputs.specs.Reading.{IsReadFrom};
 ghost use Rattle.job_inputs.specs.Refusals.{IsReadAs};
 
@@ -32,7 +33,7 @@ pub fn read_certificate_file<S: Shelf>(
     name: &Text,
 ) -> Result<Certificate, InputStop>
     ensures { IsReadFrom (λ certificate. certificate) (λ fs. certificate_in fs name.now)
-        (λ fs. IsFile FileRef.Certificate name.now) IsSoundCertificate result (S.state shelf.old)
+        (λ fs. IsFile FileRef.Certificate name.now) IsSoundCertificate output_limit result (S.state shelf.old)
         (S.state shelf.new) }
 {
     let bytes = load(alloc, shelf, name, FileRef::Certificate)?;

@@ -5,6 +5,7 @@ ghost use Rattle.hierarchy.specs.Lead.{lead_of};
 ghost use Rattle.job_inputs.specs.CodeSources.{codes_in, listed_tree, tree_in, listed_codes};
 ghost use Rattle.job_inputs.specs.ListedCodes.{AreListed};
 ghost use Rattle.job_inputs.specs.Looks.{IsCodeListOf, IsFile};
+ghost use Rattle.job_inputs.specs.ReadFiles.{limit};
 ghost use Rattle.job_inputs.specs.Reading.{IsReadFrom, IsSoundByItsType};
 ghost use Rattle.job_inputs.specs.Refusals as spec;
 ghost use Rattle.job_inputs.specs.Refusals.{IsReadAs};
@@ -29,7 +30,7 @@ pub(crate) fn read_list<S: Shelf>(
     variable: &Variable,
 ) -> Result<Vec<Text>, InputStop>
     ensures { IsReadFrom (λ codes. codes.items) (λ fs. listed_codes fs place variable.now)
-        (λ fs. IsCodeListOf place variable.now) (λ codes. AreListed variable.now.total codes.items) result
+        (λ fs. IsCodeListOf place variable.now) (λ codes. AreListed variable.now.total codes.items) limit result
         (S.state shelf.old) (S.state shelf.new) }
 {
     match &variable.codes {
@@ -48,7 +49,7 @@ fn load_list<S: Shelf>(
     name: &Text,
 ) -> Result<Vec<Text>, InputStop>
     ensures { IsReadFrom (λ codes. codes.items) (λ fs. codes_in fs place total.now (Some name.now))
-        (λ fs. IsFile (FileRef.CodeList place) name.now) (λ codes. AreListed total.now codes.items) result
+        (λ fs. IsFile (FileRef.CodeList place) name.now) (λ codes. AreListed total.now codes.items) limit result
         (S.state shelf.old) (S.state shelf.new) }
 {
     let file = FileRef::CodeList(place);
@@ -84,7 +85,7 @@ pub(crate) fn read_tree<S: Shelf>(
     requires lead { 0 < length lead.now }
     requires missing { length variable.now.missing ≤ 2 }
     ensures { IsReadFrom (λ tree. tree) (λ fs. listed_tree fs place variable.now name.now lead.now)
-        (λ fs. IsFile (FileRef.Hierarchy place) name.now) IsSoundByItsType result (S.state shelf.old)
+        (λ fs. IsFile (FileRef.Hierarchy place) name.now) IsSoundByItsType limit result (S.state shelf.old)
         (S.state shelf.new) }
 {
     let file = FileRef::Hierarchy(place);

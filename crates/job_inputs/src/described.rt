@@ -5,7 +5,7 @@ ghost use Rattle.rda_meta.specs.Metadata.{meta_of};
 ghost use Rattle.job_lang.specs.Binding.{bound_of};
 ghost use Rattle.job_lang.specs.JobLimits.{IsJob};
 ghost use Rattle.job_inputs.specs.Inputs.{described_of, job_for};
-ghost use Rattle.job_inputs.specs.ReadFiles.{job_fault, meta_fault};
+ghost use Rattle.job_inputs.specs.ReadFiles.{job_fault, limit, meta_fault};
 ghost use Rattle.job_inputs.specs.Looks.{ComesFirstTo};
 ghost use Rattle.job_inputs.specs.Reading.{IsReadFrom};
 ghost use Rattle.job_inputs.specs.SoundJobs.{IsSound, IsBoundTo};
@@ -44,7 +44,7 @@ pub(crate) fn read_described<S: Shelf>(
     purpose: Purpose,
 ) -> Result<DescribedJob, InputStop>
     ensures { IsReadFrom (λ read. read) (λ fs. described_of purpose fs name.now)
-        (λ fs. ComesFirstTo purpose fs name.now) IsSound result (S.state shelf.old) (S.state shelf.new) }
+        (λ fs. ComesFirstTo purpose fs name.now) IsSound limit result (S.state shelf.old) (S.state shelf.new) }
 {
     let bytes = load(alloc, shelf, name, FileRef::Job)?;
     let job = job_in(alloc, bytes.as_slice(), purpose)?;

@@ -5,6 +5,7 @@ ghost use Rattle.job_inputs.specs.CodeSources.{source_of, field_of, spanning_var
 ghost use Rattle.job_inputs.specs.ListedCodes.{AreListed};
 ghost use Rattle.job_inputs.specs.Looks.{IsHierarchyOf, FieldComesTo, FieldsComeTo};
 ghost use Rattle.job_inputs.specs.PlacedFields.{IsPlacedField, AreFieldsOf};
+ghost use Rattle.job_inputs.specs.ReadFiles.{limit};
 ghost use Rattle.job_inputs.specs.Reading.{IsReadFrom};
 ghost use Rattle.job_inputs.specs.SoundJobs.{IsSound};
 
@@ -28,7 +29,7 @@ pub(crate) fn read_fields<S: Shelf>(
 ) -> Result<Items<Field>, InputStop>
     requires { IsSound described.now }
     ensures { IsReadFrom (λ fields. fields) (λ fs. spanning_fields fs described.now)
-        (λ fs. FieldsComeTo fs (spanning_variables described.now)) (AreFieldsOf described.now) result
+        (λ fs. FieldsComeTo fs (spanning_variables described.now)) (AreFieldsOf described.now) limit result
         (S.state shelf.old) (S.state shelf.new) }
 {
     let variables = described.meta.variables.as_slice();
@@ -59,7 +60,7 @@ fn read_field<S: Shelf>(
 ) -> Result<Field, InputStop>
     requires { IsVariable variable.now }
     ensures { IsReadFrom (λ field. field) (λ fs. field_of fs place variable.now)
-        (λ fs. FieldComesTo fs place variable.now) IsPlacedField result (S.state shelf.old) (S.state shelf.new) }
+        (λ fs. FieldComesTo fs place variable.now) IsPlacedField limit result (S.state shelf.old) (S.state shelf.new) }
 {
     let codes = read_list(alloc, shelf, place, variable)?;
     let source = read_source(alloc, shelf, place, variable, codes)?;
@@ -82,7 +83,7 @@ fn read_source<S: Shelf>(
     requires variable { IsVariable variable.now }
     requires listed { AreListed variable.now.total codes.items }
     ensures { IsReadFrom (λ source. source) (λ fs. source_in fs place variable.now codes.items)
-        (λ fs. IsHierarchyOf place variable.now.shape) IsSource result (S.state shelf.old) (S.state shelf.new) }
+        (λ fs. IsHierarchyOf place variable.now.shape) IsSource limit result (S.state shelf.old) (S.state shelf.new) }
 {
     match &variable.shape {
         Shape::Flat => Ok(Source::Flat {

@@ -1,5 +1,6 @@
 ghost use Rattle.job_inputs.specs.Inputs.{inputs_of};
 ghost use Rattle.job_inputs.specs.Looks.{ComesTo};
+ghost use Rattle.job_inputs.specs.ReadFiles.{limit};
 ghost use Rattle.job_inputs.specs.Reading.{IsReadFrom};
 ghost use Rattle.job_inputs.specs.SoundJobs.{AreSound};
 
@@ -34,7 +35,7 @@ pub(crate) fn read_inputs<S: Shelf>(
     purpose: Purpose,
 ) -> Result<Inputs, InputStop>
     ensures { IsReadFrom (λ read. read) (λ fs. inputs_of purpose fs name.now) (λ fs. ComesTo purpose fs name.now)
-        AreSound result (S.state shelf.old) (S.state shelf.new) }
+        AreSound limit result (S.state shelf.old) (S.state shelf.new) }
 {
     let described = read_described(alloc, shelf, name, purpose)?;
     let fields = read_fields(alloc, shelf, &described)?;

@@ -35,7 +35,7 @@ pub(crate) fn load<S: Shelf>(
     file: FileRef,
 ) -> Result<Vec<u8>, InputStop>
     ensures { IsReadFrom (λ bytes. bytes.items) (λ fs. bytes_of_file fs name.now file)
-        (λ fs. IsFile file name.now) (λ bytes. length bytes.items ≤ limit_of file) result (S.state shelf.old)
+        (λ fs. IsFile file name.now) (λ bytes. length bytes.items ≤ limit_of file) (limit_of file) result (S.state shelf.old)
         (S.state shelf.new) }
 {
     match read_all(alloc, shelf, name, limit_for(file)) {

@@ -1,4 +1,4 @@
-ghost use Rattle.std.specs.Prelude.{◌≡◌, ◌≤◌, ◌++◌, [], IfOk, IfErr, IsErrOf, OnOk, List, length, ℕ};
+ghost use Rattle.std.specs.Prelude.{◌≡◌, ◌≤◌, ◌+◌, ◌++◌, [], IfOk, IfErr, IsErrOf, OnOk, List, length, ℕ};
 ghost use Rattle.std.specs.List.{AllByRecursion};
 ghost use Rattle.sdc_base.specs.Answers.{Gives, Fails};
 ghost use Rattle.sdc_base.specs.Steps.{map_fault};
@@ -39,7 +39,7 @@ pub(crate) fn read_records<S: Shelf>(
 ) -> Result<Records, InputStop>
     requires { IsLayout layout }
     ensures { IsReadFrom (λ records. records) (λ fs. look_at_records fs name.now layout)
-        (λ fs. IsFile FileRef.Microdata name.now) (AreRecordsOf layout) result (S.state shelf.old)
+        (λ fs. IsFile FileRef.Microdata name.now) (AreRecordsOf layout) limit result (S.state shelf.old)
         (S.state shelf.new) }
 {
     let mut reader = Reader::new(alloc, layout)?;
@@ -66,9 +66,14 @@ fn begin<S: Shelf>(shelf: &mut S, name: &Text) -> Result<(), InputStop>
     }
 }
 
-// Feeds a reader with all bytes of the chosen file, of which none is taken yet.
+// Feeds a reader with all bytes of the chosen file, of which none is taken yet. Every read but the last takes a byte, so
+// none is made behind the file's end.
 fn feed_all<S: Shelf>(shelf: &mut S, reader: &mut Reader) -> Result<(), InputStop>
-    requires { (S.state shelf.old).taken ≡ 0 }
+    requires none_taken { (S.state shelf.old).taken ≡ 0 }
+    requires none_read { (S.state shelf.old).reads ≡ 0 }
+    ensures no_more { (S.state shelf.new).taken ≤ limit + 1 }
+    ensures few_reads { (S.state shelf.new).reads ≤ limit + 1 }
+    ensures each_takes { (S.state shelf.new).reads ≤ (S.state shelf.new).taken + 1 }
     ensures reads_all { OnOk result (BeforeReading (S.state shelf.old) reader.old
         (λ layout bytes. HasRead reader.new layout bytes × (length bytes ≤ limit))) }
     ensures reads_front { OnOk result ((layout : AnyLayout) → HasRead reader.old layout []

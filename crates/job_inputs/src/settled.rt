@@ -9,6 +9,7 @@ ghost use Rattle.job_inputs.specs.SettledJobs.{settled_of, IsReadyJob, IsSettled
 ghost use Rattle.job_inputs.specs.SettledJobs as spec;
 ghost use Rattle.job_inputs.specs.SoundJobs.{AreSound};
 ghost use Rattle.job_inputs.specs.declared.inputs.Inputs.{Inputs as AnyInputs};
+ghost use Rattle.job_inputs.specs.ReadFiles.{limit};
 ghost use Rattle.job_inputs.specs.Reading.{HasLookedAt};
 
 use crate::counted::{CountedJob, count_records};
@@ -53,7 +54,7 @@ pub fn read_settled<S: Shelf>(
     purpose: Purpose,
 ) -> Result<SettledJob, InputStop>
     ensures looked { HasLookedAt (λ fs answer. AreSettled answer (settled_of purpose fs name.now))
-        (λ fs. ComesTo purpose fs name.now) IsReadyJob result (S.state shelf.old) (S.state shelf.new) }
+        (λ fs. ComesTo purpose fs name.now) IsReadyJob limit result (S.state shelf.old) (S.state shelf.new) }
     // Of a shelf that tells nothing too.
     ensures settled { IfOk result (λ job. (settled : SettledInputs) × IsSettledOf settled job × AreSound settled.inputs) }
 {

@@ -34,7 +34,7 @@ pub(crate) fn read_priors<S: Shelf>(
         (λ fs answer. (inputs : AnyInputs) → IsCountedOf inputs counted.now
         → Gives stopped_for (λ priors. priors) answer (priors_of fs inputs))
         (λ fs f held. (inputs : AnyInputs) → IsCountedOf inputs counted.now → ComesToStatements fs inputs f held)
-        (ArePriors counted.now.book.marks) result (S.state shelf.old) (S.state shelf.new) }
+        (ArePriors counted.now.book.marks) limit result (S.state shelf.old) (S.state shelf.new) }
 {
     let mut priors = blank_priors(alloc, counted.book.cells())?;
     let tables = counted.described.job.tables.as_slice();
@@ -56,7 +56,7 @@ fn add_file<S: Shelf>(
     requires { CanState counted.now t priors.old.items }
     ensures { HasLookedAt (StatesFile counted.now t priors.old.items priors.new.items)
         (λ fs. IsPriorFileOf t counted.now.described.job.priors)
-        (λ fine. ArePriors counted.now.book.marks priors.new.items) result (S.state shelf.old) (S.state shelf.new) }
+        (λ fine. ArePriors counted.now.book.marks priors.new.items) limit result (S.state shelf.old) (S.state shelf.new) }
 {
     let Some(line) = prior_line(counted.described.job.priors.as_slice(), t) else {
         return Ok(());

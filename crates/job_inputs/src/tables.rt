@@ -1,5 +1,6 @@
 ghost use Rattle.std.specs.Prelude.{◌≡◌, IfOk, length, map};
 ghost use Rattle.job_lang.specs.JobLimits.{IsJob};
+ghost use Rattle.job_inputs.specs.ReadFiles.{output_limit};
 ghost use Rattle.job_inputs.specs.Reading.{IsReadFrom};
 ghost use Rattle.job_inputs.specs.Tables.{names_of, tables_of, ComesToTables};
 
@@ -51,7 +52,7 @@ pub fn read_tables<S: Shelf>(
 ) -> Result<Items<Text>, InputStop>
     requires { IsJob job.now }
     ensures { IsReadFrom (λ tables. tables) (λ fs. tables_of fs job.now) (λ fs. ComesToTables fs job.now)
-        (λ tables. length tables ≡ length job.now.outputs) result
+        (λ tables. length tables ≡ length job.now.outputs) output_limit result
         (S.state shelf.old) (S.state shelf.new) }
 {
     let mut tables = Items::empty(alloc);

@@ -8,6 +8,7 @@ use Rattle.office_io.specs.Shelves.{ShelfState}
 use Rattle.interval_audit.specs.declared.answer.AskFault.{AskFault}
 use Rattle.interval_audit.specs.declared.answer.AskFault.TheVariants as ask
 use Rattle.interval_audit.specs.WalkLimits.{HasNoWalk}
+use Rattle.cell_intervals.specs.Laws.{SizeIsLarge}
 use Rattle.cell_intervals.specs.IntervalFaults.{IsFaultOf}
 use Rattle.linked_tables.specs.BookCells.{IsBook}
 use Rattle.relations.specs.Holding.{IsSystemOf}
@@ -95,27 +96,30 @@ table_comes_to e comes files new = λ why is. (let same : table_stop e ≡ stop.
 -- ---- questions without an answer
 
 -- a question without an answer stops the run
-pub question_stops : (job : SettledJob) (system : System) (flags : List Bool) (e : AskFault) → IsBook job.book → IsSystemOf job.book system → IsFaultOf system job.cells flags job.described.job.steps e → ((signs : List Bool) → AreSigns system.relations signs → HasNoWalk e) → ComesFromSet job flags (Err (question_stop e))
-question_stops job system flags ask.Memory is_book is fault signed = tt
-question_stops job system flags (ask.Work walk) is_book is fault signed = record {
+pub question_stops : (job : SettledJob) (system : System) (flags : List Bool) (e : AskFault) → IsBook job.book → IsSystemOf job.book system → IsFaultOf system job.cells flags job.described.job.steps e → SizeIsLarge → ((signs : List Bool) → AreSigns system.relations signs → HasNoWalk e) → ComesFromSet job flags (Err (question_stop e))
+question_stops job system flags ask.Memory is_book is fault size signed = tt
+question_stops job system flags (ask.Work walk) is_book is fault size signed = record {
   system = system;
   system_is = is;
   not_memory = λ same. absurd cc;
   fault = fault;
+  large = λ cell at. size system job.cells flags job.described.job.steps cell (ask.Work walk) (λ same. absurd cc) at;
   signed = λ shape. (let signs = one_or_two_way_has_signs job.book system shape is_book is in signed signs.0 signs.1);
 }
-question_stops job system flags (ask.Wide walk place) is_book is fault signed = record {
+question_stops job system flags (ask.Wide walk place) is_book is fault size signed = record {
   system = system;
   system_is = is;
   not_memory = λ same. absurd cc;
   fault = fault;
+  large = λ cell at. size system job.cells flags job.described.job.steps cell (ask.Wide walk place) (λ same. absurd cc) at;
   signed = λ shape. (let signs = one_or_two_way_has_signs job.book system shape is_book is in signed signs.0 signs.1);
 }
-question_stops job system flags (ask.Size question hidden) is_book is fault signed = record {
+question_stops job system flags (ask.Size question hidden) is_book is fault size signed = record {
   system = system;
   system_is = is;
   not_memory = λ same. absurd cc;
   fault = fault;
+  large = λ cell at. size system job.cells flags job.described.job.steps cell (ask.Size question hidden) (λ same. absurd cc) at;
   signed = λ shape. tt;
 }
 

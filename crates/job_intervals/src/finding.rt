@@ -1,6 +1,7 @@
 ghost use Rattle.std.specs.Prelude.{◌≡◌, length};
 ghost use Rattle.sdc_base.specs.WhereTold.{WhereTold};
-ghost use Rattle.office_io.specs.Shelves.{HasOnlyRead};
+ghost use Rattle.job_inputs.specs.ReadFiles.{output_limit};
+ghost use Rattle.job_inputs.specs.Reading.{HasOnlyLooked};
 ghost use Rattle.job_intervals.specs.Finding.{AnswersIntervals, ComesFromSet, IsFound};
 ghost use Rattle.job_intervals.specs.TablesOnShelf.{shelved_of, ComesTo, IsReadyShelved};
 ghost use Rattle.job_intervals.specs.Stops.{HasCause, HasComeTo};
@@ -9,7 +10,7 @@ use crate::interval_file::IntervalFile;
 use crate::shelved::{ShelvedJob, read_shelved};
 use crate::showing::hidden_in;
 use crate::stop::IntervalStop;
-use cell_intervals::{interval_text, intervals_of};
+use cell_intervals::{interval_text, intervals_of, size_is_large};
 use office_io::Shelf;
 use relations::relations_of;
 use sdc_base::{Hidden, Text};
@@ -54,7 +55,9 @@ pub fn find_intervals<S: Shelf>(
     // Where the shelf fails at a file, the run came to it and nothing before it has a fault.
     ensures came_to { WhereTold (S.state shelf.old).files
         (λ fs. HasComeTo (ComesTo fs name.now out.now) result fs (S.state shelf.new)) }
-    ensures only_read { HasOnlyRead (S.state shelf.old) (S.state shelf.new) }
+
+    // The shelf was only looked at: its files stay, and no file was read without end.
+    ensures shelf { HasOnlyLooked output_limit (S.state shelf.old) (S.state shelf.new) }
 
     // That a file is absent or too long and a fault of the shelf have their cause, whatever the shelf tells.
     ensures cause { HasCause result (S.state shelf.old) (S.state shelf.new) }
@@ -77,6 +80,8 @@ fn file_for(
     let job = &shelved.job;
     // for the proof: what holds of every book
     let _known = job.book.cells();
+    // for the proof: a component is too large exactly where it has too many hidden cells
+    size_is_large();
     let system = relations_of(alloc, &job.book)?;
     let steps = job.described.job.steps;
     let intervals = intervals_of(alloc, &system, job.cells.as_slice(), hidden, steps)?;

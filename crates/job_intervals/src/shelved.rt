@@ -1,7 +1,7 @@
 ghost use Rattle.std.specs.Prelude.{IfOk};
 ghost use Rattle.sdc_base.specs.WhereTold.{WhereTold};
-ghost use Rattle.office_io.specs.Shelves.{HasOnlyRead};
-ghost use Rattle.job_inputs.specs.Reading.{HasCause, HasComeTo};
+ghost use Rattle.job_inputs.specs.ReadFiles.{output_limit};
+ghost use Rattle.job_inputs.specs.Reading.{HasCause, HasComeTo, HasOnlyLooked};
 ghost use Rattle.job_inputs.specs.SoundJobs.{AreSound};
 ghost use Rattle.job_intervals.specs.TablesOnShelf.{shelved_of, AreShelved, ComesTo, IsReadyShelved, IsShelvedOf, ShelvedTables as Tables};
 
@@ -35,7 +35,7 @@ pub(crate) fn read_shelved<S: Shelf>(
     ensures ready { IfOk result IsReadyShelved }
     ensures came_to { WhereTold (S.state shelf.old).files
         (λ fs. HasComeTo (ComesTo fs name.now out.now) result fs (S.state shelf.new)) }
-    ensures only_read { HasOnlyRead (S.state shelf.old) (S.state shelf.new) }
+    ensures shelf { HasOnlyLooked output_limit (S.state shelf.old) (S.state shelf.new) }
     ensures cause { HasCause result (S.state shelf.old) (S.state shelf.new) }
 {
     let job = read_settled(alloc, shelf, name, Purpose::Intervals)?;

@@ -1,10 +1,14 @@
-use Rattle.std.proofs.Common.{◌∙◌}
+use Rattle.std.proofs.Common.{arith, ◌≤◌, ◌∙◌}
 use Rattle.std.proofs.lemmas.Result.{err_from_is_err_and}
-use Rattle.office_io.proofs.Shelves.{only-read-on}
-use Rattle.job_inputs.proofs.Causes.{come-on, cause-as, cause-on}
+use Rattle.job_inputs.proofs.Causes.{come-on, cause-as, cause-on, look-on, longer-look}
+use Rattle.job_inputs.specs.ReadFiles.{limit, output_limit}
 use Rattle.job_inputs.specs.Reading.{stopped_for}
 use Rattle.job_check.proofs.ReleaseReading.{settled-fails, no-certificate, no-tables, all-read, inputs-come, certificate-comes, tables-come}
 use Rattle.job_check.proofs.reading.read_release.Goals as goal
+
+-- an input is no longer than what was put may be
+at_most : limit ≤ output_limit
+at_most = omega arith
 
 pub returns-in_err-job : goal.returns-in_err-job
 returns-in_err-job g c =
@@ -14,7 +18,7 @@ returns-in_err-job g c =
     rw (p.1, p.2) (record {
       told = λ fs told. settled-fails fs c.args.name.now _ (look.told fs told);
       came_to = λ fs told. come-on e _ _ fs (g.S.Shelf.state c.read_settled.new.shelf) (λ f held comes. inputs-come fs c.args.name.now f held comes) (look.came_to fs told);
-      only_read = look.only_read;
+      shelf = longer-look limit output_limit _ _ at_most look.shelf;
       cause = cause-as e _ _ look.cause;
       sound = tt;
     })
@@ -26,12 +30,12 @@ returns-in_err-certificate g c =
     let first = c.in_ok-job.ensures.looked in
     let look = c.in_err-certificate.ensures in
     rw (p.1, p.2) (record {
-      told = λ fs told. no-certificate fs c.args.name.now c.in_ok-job.job (stopped_for e) (first.told fs told) (look.told fs (first.only_read.files ∙ told));
+      told = λ fs told. no-certificate fs c.args.name.now c.in_ok-job.job (stopped_for e) (first.told fs told) (look.told fs (first.shelf.only_read.files ∙ told));
       came_to = λ fs told.
           come-on e _ _ fs (g.S.Shelf.state c.read_certificate_file.new.shelf) (λ f held comes. certificate-comes fs c.args.name.now c.in_ok-job.job f held (first.told fs told) comes)
-          (look.came_to fs (first.only_read.files ∙ told));
-      only_read = only-read-on _ _ _ first.only_read look.only_read;
-      cause = cause-on e _ _ _ first.only_read look.cause;
+          (look.came_to fs (first.shelf.only_read.files ∙ told));
+      shelf = look-on _ _ _ _ (longer-look limit output_limit _ _ at_most first.shelf) look.shelf;
+      cause = cause-on e _ _ _ first.shelf look.cause;
       sound = tt;
     })
 
@@ -41,15 +45,15 @@ returns-in_err-tables g c =
     let e = c.in_err-tables.field-0.0 in
     let first = c.in_ok-job.ensures.looked in
     let then = c.in_ok-certificate.ensures in
-    let before = only-read-on _ _ _ first.only_read then.only_read in
+    let before = look-on _ _ _ _ (longer-look limit output_limit _ _ at_most first.shelf) then.shelf in
     let look = c.in_err-tables.ensures in
     rw (p.1, p.2) (record {
-      told = λ fs told. no-tables fs c.args.name.now c.in_ok-job.job c.in_ok-certificate.certificate (stopped_for e) (first.told fs told) (then.told fs (first.only_read.files ∙ told)) (look.told fs (before.files ∙ told));
+      told = λ fs told. no-tables fs c.args.name.now c.in_ok-job.job c.in_ok-certificate.certificate (stopped_for e) (first.told fs told) (then.told fs (first.shelf.only_read.files ∙ told)) (look.told fs (before.only_read.files ∙ told));
       came_to = λ fs told.
           come-on e _ _ fs (g.S.Shelf.state c.read_tables.new.shelf)
-          (λ f held comes. tables-come fs c.args.name.now c.in_ok-job.job c.in_ok-certificate.certificate f held (first.told fs told) (then.told fs (first.only_read.files ∙ told)) comes)
-          (look.came_to fs (before.files ∙ told));
-      only_read = only-read-on _ _ _ before look.only_read;
+          (λ f held comes. tables-come fs c.args.name.now c.in_ok-job.job c.in_ok-certificate.certificate f held (first.told fs told) (then.told fs (first.shelf.only_read.files ∙ told)) comes)
+          (look.came_to fs (before.only_read.files ∙ told));
+      shelf = look-on _ _ _ _ before look.shelf;
       cause = cause-on e _ _ _ before look.cause;
       sound = tt;
     })
@@ -59,13 +63,13 @@ returns g c =
     let first = c.in_ok-job.ensures.looked in
     let then = c.in_ok-certificate.ensures in
     let last = c.in_ok-tables.ensures in
-    let before = only-read-on _ _ _ first.only_read then.only_read in
+    let before = look-on _ _ _ _ (longer-look limit output_limit _ _ at_most first.shelf) then.shelf in
     record {
       told = λ fs told.
-          all-read fs c.args.name.now (record { job = c.in_ok-job.job; certificate = c.in_ok-certificate.certificate; tables = c.in_ok-tables.tables }) (first.told fs told) (then.told fs (first.only_read.files ∙ told))
-          (last.told fs (before.files ∙ told));
+          all-read fs c.args.name.now (record { job = c.in_ok-job.job; certificate = c.in_ok-certificate.certificate; tables = c.in_ok-tables.tables }) (first.told fs told) (then.told fs (first.shelf.only_read.files ∙ told))
+          (last.told fs (before.only_read.files ∙ told));
       came_to = λ fs told f is. absurd cc;
-      only_read = only-read-on _ _ _ before last.only_read;
+      shelf = look-on _ _ _ _ before last.shelf;
       cause = record { absent = λ f is. absurd cc; too_long = λ f is. absurd cc; read_fault = λ f is. absurd cc; tree = λ f is. absurd cc };
       sound = record { job = first.sound; each = last.sound };
     }

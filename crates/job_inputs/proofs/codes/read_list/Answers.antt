@@ -1,5 +1,5 @@
 use Rattle.std.proofs.Common.{Ok, ap, sym, ◌∙◌}
-use Rattle.job_inputs.proofs.Causes.{look-ends, only-read-nothing, read-wider}
+use Rattle.job_inputs.proofs.Causes.{look-ends, nothing-looked, read-wider}
 use Rattle.job_inputs.proofs.Coming.{list-comes}
 use Rattle.job_inputs.proofs.Listing.{none_listed, unlisted-is}
 use Rattle.job_inputs.specs.CodeSources.{codes_in}
@@ -16,6 +16,6 @@ returns-in-Some g c =
 pub returns-in-None : goal.returns-in-None
 returns-in-None g c =
     let v = c.args.variable.now in
-    look-ends _ _ _ _ _ _ (only-read-nothing _) (only-read-nothing _)
+    look-ends _ _ _ _ _ _ (nothing-looked _ _) (nothing-looked _ _)
     (λ fs told. unlisted-is fs c.args.place v.total v.codes c.in-None.is ∙ ap Ok (sym c.new.ensures.items))
     (none_listed v.total c.new.result.items c.new.ensures.items)

@@ -11,8 +11,7 @@ use Rattle.job_inputs.specs.Layouts.{variables_at}
 use Rattle.job_inputs.specs.Looks.{FieldsComeTo}
 use Rattle.job_inputs.specs.PlacedFields.{IsPlacedField}
 use Rattle.job_inputs.specs.Reading.{stopped_for}
-use Rattle.office_io.proofs.Shelves.{only-read-on}
-use Rattle.job_inputs.proofs.Causes.{look-stops, only-read-nothing}
+use Rattle.job_inputs.proofs.Causes.{look-stops, nothing-looked, look-on}
 use Rattle.job_inputs.proofs.FieldSteps.{known, fields-none, fields-more, fields-stop, fields-come, all-more, one-longer}
 use Rattle.job_inputs.proofs.fields.read_fields.Goals as goal
 
@@ -21,7 +20,7 @@ places-init g c = record {
   told = λ fs told. fields-none fs c.as_slice-variables.result.now c.as_slice-place-items.result.now c.empty-fields.result c.empty-fields.ensures;
   placed = subst (λ (fields : List Field). AllByRecursion IsPlacedField fields) (sym c.empty-fields.ensures) tt;
   count = ap length c.empty-fields.ensures;
-  only_read = only-read-nothing _;
+  shelf = nothing-looked _ _;
 }
 
 pub variable_at-variable-requires : goal.variable_at-variable-requires
@@ -43,7 +42,7 @@ returns-in_err-field g c =
     let places = c.as_slice-place-items.result.now in
     let v = c.variable_at-variable.result.now in
     rw (p.1, p.2)
-    (look-stops _ _ _ _ _ _ e _ _ _ c.places.invariant.only_read c.in_err-field.ensures
+    (look-stops _ _ _ _ _ _ e _ _ _ c.places.invariant.shelf c.in_err-field.ensures
     (λ fs told fails.
     subst (λ (vs : List Variable). Fails (stopped_for e) (fields_of fs (variables_at vs c.args.described.now.bound.spanning))) c.as_slice-variables.ensures
     (subst (λ (ps : List ℕ). Fails (stopped_for e) (fields_of fs (variables_at variables ps))) c.as_slice-place-items.ensures
@@ -57,8 +56,8 @@ pub places-preserved : goal.places-preserved
 places-preserved g c = record {
   told = λ fs told.
       fields-more fs c.as_slice-variables.result.now c.as_slice-place-items.result.now c.places.place-index c.variable_at-variable.result.now c.places.fields c.in_ok-field.field
-      c.places-test.true c.variable_at-variable.ensures (c.places.invariant.told fs told) (c.in_ok-field.ensures.told fs (c.places.invariant.only_read.files ∙ told)) ∙ ap Ok (sym c.in_ok-push.ensures.ok);
+      c.places-test.true c.variable_at-variable.ensures (c.places.invariant.told fs told) (c.in_ok-field.ensures.told fs (c.places.invariant.shelf.only_read.files ∙ told)) ∙ ap Ok (sym c.in_ok-push.ensures.ok);
   placed = subst (λ (fields : List Field). AllByRecursion IsPlacedField fields) (sym c.in_ok-push.ensures.ok) (all-more IsPlacedField c.places.fields c.in_ok-field.field c.places.invariant.placed c.in_ok-field.ensures.sound);
   count = ap length c.in_ok-push.ensures.ok ∙ one-longer c.places.fields c.in_ok-field.field c.places.place-index c.places.invariant.count;
-  only_read = only-read-on _ _ _ c.places.invariant.only_read c.in_ok-field.ensures.only_read;
+  shelf = look-on _ _ _ _ c.places.invariant.shelf c.in_ok-field.ensures.shelf;
 }

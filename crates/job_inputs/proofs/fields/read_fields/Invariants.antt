@@ -1,10 +1,11 @@
 use Rattle.std.proofs.Common.{◌≡◌, Some, Ok, length, take}
 use Rattle.std.specs.List.{AllByRecursion}
 use Rattle.office_io.specs.Files.{Files}
-use Rattle.office_io.specs.Shelves.{HasOnlyRead}
 use Rattle.job_inputs.specs.CodeSources.{fields_of}
 use Rattle.job_inputs.specs.Layouts.{variables_at}
 use Rattle.job_inputs.specs.PlacedFields.{IsPlacedField}
+use Rattle.job_inputs.specs.ReadFiles.{limit}
+use Rattle.job_inputs.specs.Reading.{HasOnlyLooked}
 use Rattle.job_inputs.proofs.fields.read_fields.Given as goal
 
 abbrev pub invariant-places : goal.invariant-places
@@ -12,5 +13,5 @@ invariant-places g l = record {
   told : (fs : Files) → (g.S.Shelf.state l.fn.shelf).files ≡ Some fs → fields_of fs (variables_at l.variables (take l.place-index l.place-items)) ≡ Ok l.fields;
   placed : AllByRecursion IsPlacedField l.fields;
   count : length l.fields ≡ l.place-index;
-  only_read : HasOnlyRead (g.S.Shelf.state l.fn.shelf) (g.S.Shelf.state l.shelf);
+  shelf : HasOnlyLooked limit (g.S.Shelf.state l.fn.shelf) (g.S.Shelf.state l.shelf);
 }

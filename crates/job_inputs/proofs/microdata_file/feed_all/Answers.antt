@@ -44,6 +44,7 @@ pieces-preserved g c =
     record {
       short = short;
       count = omega (arith, c.in-Ok.ensures.given.taken, c.pieces.invariant.count, short);
+      each_takes = omega (arith, c.in-Ok.ensures.once.reads, c.pieces.invariant.each_takes, c.if-ended.false);
       fed = λ layout bytes left read.
           rw c.in-Ok.ensures.given.rest
           (fed-more layout bytes c.pieces.reader c.feed_piece.new.reader _ c.pieces.taken c.in-Ok.n c.read.new.buffer (c.pieces.invariant.fed layout bytes left read) c.in-Ok.ensures.given.within c.in-Ok.ensures.given.given

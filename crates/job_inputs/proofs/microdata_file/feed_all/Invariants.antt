@@ -10,6 +10,7 @@ abbrev pub invariant-pieces : goal.invariant-pieces
 invariant-pieces g l = record {
   short : l.taken ≤ limit;
   count : (g.S.Shelf.state l.shelf).taken ≡ l.taken;
+  each_takes : (g.S.Shelf.state l.shelf).reads ≤ l.taken;
   fed : (layout : Layout) (bytes : List ℕ) → (g.S.Shelf.state l.fn.shelf).left ≡ Some bytes → HasRead l.fn.reader layout [] → IsFed layout bytes l.reader (g.S.Shelf.state l.shelf).left l.taken;
   some : (layout : Layout) → HasRead l.fn.reader layout [] → (bytes : List ℕ) × HasRead l.reader layout bytes;
   last : (g.S.Shelf.state l.shelf).last ≡ (g.S.Shelf.state l.fn.shelf).last;

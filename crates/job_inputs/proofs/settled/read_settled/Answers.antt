@@ -4,8 +4,7 @@ use Rattle.sdc_base.specs.Answers.{Fails}
 use Rattle.sdc_base.specs.Steps.{map_fault, refuse}
 use Rattle.apriori.specs.Settling.{view_of_cell, settle_of}
 use Rattle.apriori.specs.declared.prior.Prior.{Prior}
-use Rattle.office_io.proofs.Shelves.{only-read-on}
-use Rattle.job_inputs.proofs.Causes.{out-name-cause, come-on, cause-as, cause-on, stop-fails, contents-come, contents-cause}
+use Rattle.job_inputs.proofs.Causes.{out-name-cause, come-on, cause-as, cause-on, stop-fails, contents-come, contents-cause, look-on}
 use Rattle.job_inputs.proofs.Coming.{statements-come}
 use Rattle.job_inputs.proofs.Settling.{inputs-fail, book-fails, priors-fail, cells-fail, outputs-fail, settled-is}
 use Rattle.job_inputs.specs.Cells.{figures, prior_fault}
@@ -23,7 +22,7 @@ returns-in_err-inputs-clause-looked g c =
     rw (p.1, p.2) (record {
       told = λ fs told. inputs-fail c.args.purpose fs c.args.name.now _ (look.told fs told);
       came_to = λ fs told. come-on e _ _ fs (g.S.Shelf.state c.read_inputs.new.shelf) (λ f held comes. comes) (look.came_to fs told);
-      only_read = look.only_read;
+      shelf = look.shelf;
       cause = cause-as e _ _ look.cause;
       sound = tt;
     })
@@ -36,7 +35,7 @@ returns-in_err-counted-clause-looked g c =
     rw (p.1, p.2) (record {
       told = λ fs told. stop-fails r _ (book-fails c.args.purpose fs c.args.name.now c.in_ok-inputs.inputs (refused_for r) (first.told fs told) c.in_err-counted.ensures.told);
       came_to = λ fs told. contents-come r _ fs (g.S.Shelf.state c.read_inputs.new.shelf);
-      only_read = first.only_read;
+      shelf = first.shelf;
       cause = contents-cause r _ _ c.in_err-counted.ensures.contents;
       sound = tt;
     })
@@ -51,15 +50,15 @@ returns-in_err-priors-clause-looked g c =
     let look = c.in_err-priors.ensures in
     rw (p.1, p.2) (record {
       told = λ fs told.
-          priors-fail c.args.purpose fs c.args.name.now inputs _ _ (first.told fs told) c.in_ok-counted.ensures.told (look.told fs (first.only_read.files ∙ told) inputs counted);
+          priors-fail c.args.purpose fs c.args.name.now inputs _ _ (first.told fs told) c.in_ok-counted.ensures.told (look.told fs (first.shelf.only_read.files ∙ told) inputs counted);
       came_to = λ fs told.
           come-on e _ _ fs (g.S.Shelf.state c.read_priors.new.shelf)
           (λ f held comes.
           let came = comes inputs counted in
           statements-come c.args.purpose fs c.args.name.now inputs _ f came.0 held came.1 (first.told fs told) c.in_ok-counted.ensures.told came.2)
-          (look.came_to fs (first.only_read.files ∙ told));
-      only_read = only-read-on _ _ _ first.only_read look.only_read;
-      cause = cause-on e _ _ _ first.only_read look.cause;
+          (look.came_to fs (first.shelf.only_read.files ∙ told));
+      shelf = look-on _ _ _ _ first.shelf look.shelf;
+      cause = cause-on e _ _ _ first.shelf look.cause;
       sound = tt;
     })
 
@@ -75,10 +74,10 @@ returns-in_err-cells-clause-looked g c =
     rw (p.1, p.2) (record {
       told = λ fs told.
           stop-fails r _
-          (cells-fail c.args.purpose fs c.args.name.now inputs _ priors (refused_for r) (first.told fs told) c.in_ok-counted.ensures.told (then.told fs (first.only_read.files ∙ told) inputs counted)
+          (cells-fail c.args.purpose fs c.args.name.now inputs _ priors (refused_for r) (first.told fs told) c.in_ok-counted.ensures.told (then.told fs (first.shelf.only_read.files ∙ told) inputs counted)
           (subst (λ (ps : List Prior). Fails (refused_for r) (map_fault prior_fault (settle_of inputs.described.job.rules (figures inputs) ps))) c.as_slice.ensures (c.in_err-cells.ensures.gives inputs counted)));
       came_to = λ fs told. contents-come r _ fs (g.S.Shelf.state c.read_priors.new.shelf);
-      only_read = only-read-on _ _ _ first.only_read then.only_read;
+      shelf = look-on _ _ _ _ first.shelf then.shelf;
       cause = contents-cause r _ _ c.in_err-cells.ensures.contents;
       sound = tt;
     })
@@ -96,10 +95,10 @@ returns-in_err-check_outputs-clause-looked g c =
     let settled = subst (λ (ps : List Prior). map_fault prior_fault (settle_of inputs.described.job.rules (figures inputs) ps) ≡ Ok (map view_of_cell cells)) c.as_slice.ensures (c.in_ok-cells.ensures.gives inputs counted) in
     rw (p.1, p.2) (record {
       told = λ fs told.
-          outputs-fail c.args.purpose fs c.args.name.now inputs _ priors (map view_of_cell cells) reason (first.told fs told) c.in_ok-counted.ensures.told (then.told fs (first.only_read.files ∙ told) inputs counted) settled
+          outputs-fail c.args.purpose fs c.args.name.now inputs _ priors (map view_of_cell cells) reason (first.told fs told) c.in_ok-counted.ensures.told (then.told fs (first.shelf.only_read.files ∙ told) inputs counted) settled
           (sym (c.in_err-check_outputs.ensures ∙ ap (λ (d : DescribedJob). refuse fault.OutName (overwrites_job c.args.name.now d.job)) counted.described));
       came_to = λ fs told f is. absurd cc;
-      only_read = only-read-on _ _ _ first.only_read then.only_read;
+      shelf = look-on _ _ _ _ first.shelf then.shelf;
       cause = out-name-cause reason (overwrites_job c.args.name.now c.in_ok-counted.counted.described.job) _ _ c.in_err-check_outputs.ensures;
       sound = tt;
     })
@@ -117,11 +116,11 @@ returns-clause-looked g c =
     let settled = subst (λ (ps : List Prior). map_fault prior_fault (settle_of inputs.described.job.rules (figures inputs) ps) ≡ Ok (map view_of_cell cells)) c.as_slice.ensures (c.in_ok-cells.ensures.gives inputs counted) in
     record {
       told = λ fs told.
-          rw (settled-is c.args.purpose fs c.args.name.now inputs _ priors (map view_of_cell cells) (first.told fs told) c.in_ok-counted.ensures.told (then.told fs (first.only_read.files ∙ told) inputs counted) settled
+          rw (settled-is c.args.purpose fs c.args.name.now inputs _ priors (map view_of_cell cells) (first.told fs told) c.in_ok-counted.ensures.told (then.told fs (first.shelf.only_read.files ∙ told) inputs counted) settled
           (sym (c.in_ok-check_outputs.ensures ∙ ap (λ (d : DescribedJob). refuse fault.OutName (overwrites_job c.args.name.now d.job)) counted.described)))
           (record { described = counted.described; book = counted.book; cells = refl; records = counted.records; skipped = counted.skipped });
       came_to = λ fs told f is. absurd cc;
-      only_read = only-read-on _ _ _ first.only_read then.only_read;
+      shelf = look-on _ _ _ _ first.shelf then.shelf;
       cause = record { absent = λ f is. absurd cc; too_long = λ f is. absurd cc; read_fault = λ f is. absurd cc; tree = λ f is. absurd cc };
       sound = record { sound = ready.sound; book = ready.book; one_each = ready.one_each; settled = are.one_each; levels = are.levels; truths = are.truths; fewer_than_2_32 = subst (λ n. n < 2 ^ 32) (sym are.one_each) ready.fewer_than_2_32 };
     }

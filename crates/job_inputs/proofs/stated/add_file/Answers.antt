@@ -15,7 +15,7 @@ returns-in_err-bytes g c =
     rw (p.1, p.2) (record {
       told = λ fs told inputs is. prior-file-stops fs inputs c.args.t (prior_line c.args.t c.args.counted.now.described.job.priors) line _ _ stands (look.told fs told);
       came_to = λ fs told. come-on e _ _ fs (g.S.Shelf.state c.load.new.shelf) (λ f held comes. (line, stands, comes.is_file, comes.is_name)) (look.came_to fs told);
-      only_read = look.only_read;
+      shelf = look.shelf;
       cause = cause-as e _ _ look.cause;
       sound = tt;
     })
@@ -32,7 +32,7 @@ returns-in_err-state g c =
           stop-fails r _
           (prior-contents-stop fs inputs c.args.t (prior_line c.args.t c.args.counted.now.described.job.priors) line c.as_slice-2.result.now _ _ stands (first.told fs told ∙ ap Ok (sym c.as_slice-2.ensures.value)) (c.in_err-state.ensures.told inputs is));
       came_to = λ fs told. contents-come r _ fs (g.S.Shelf.state c.load.new.shelf);
-      only_read = first.only_read;
+      shelf = first.shelf;
       cause = contents-cause r _ _ c.in_err-state.ensures.contents;
       sound = tt;
     })
@@ -47,7 +47,7 @@ returns g c =
           prior-file-is fs inputs c.args.t (prior_line c.args.t c.args.counted.now.described.job.priors) line c.as_slice-2.result.now _ _ stands
           (first.told fs told ∙ ap Ok (sym c.as_slice-2.ensures.value)) (c.in_ok-state.ensures.told inputs is);
       came_to = λ fs told f is. absurd cc;
-      only_read = first.only_read;
+      shelf = first.shelf;
       cause = record { absent = λ f is. absurd cc; too_long = λ f is. absurd cc; read_fault = λ f is. absurd cc; tree = λ f is. absurd cc };
       sound = c.in_ok-state.ensures.fit;
     }

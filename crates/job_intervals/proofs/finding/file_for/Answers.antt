@@ -21,6 +21,7 @@ returns-in_err-intervals c =
     rw (p.1, p.2)
     (question_stops job c.in_ok-system.system flags e c.cells-known.ensures.book (record { cells = c.in_ok-system.ensures.cells; relations = c.in_ok-system.ensures.exact })
     (subst (λ (cells : List Cell). IsFaultOf c.in_ok-system.system cells flags job.described.job.steps e) c.as_slice.ensures c.in_err-intervals.ensures.cause)
+    c.size_is_large.ensures
     c.in_err-intervals.ensures.signed)
 
 pub overflow_cast-cells : goal.overflow_cast-cells
@@ -36,6 +37,7 @@ returns c = record {
   intervals = c.in_ok-intervals.intervals;
   system_is = record { cells = c.in_ok-system.ensures.cells; relations = c.in_ok-system.ensures.exact };
   are = subst (λ (cells : List Cell). AreIntervals c.in_ok-system.system cells c.args.hidden.now.flags c.in_ok-intervals.intervals) c.as_slice.ensures c.in_ok-intervals.ensures.intervals;
+  small = c.in_ok-intervals.ensures.small;
   bytes = c.in_ok-bytes.ensures ∙ ap (λ (intervals : List CellInterval). interval_text intervals) c.as_slice-2.ensures;
   cells = ap (λ (intervals : List CellInterval). length intervals) c.as_slice-3.ensures;
 }

@@ -1,7 +1,8 @@
-use Rattle.std.proofs.Common.{◌≡◌, Ok, refl, subst, ◌∙◌}
+use Rattle.std.proofs.Common.{◌≡◌, ◌≤◌, Ok, arith, refl, subst, ◌∙◌}
 use Rattle.std.proofs.lemmas.Result.{err_from_is_err_and}
 use Rattle.sdc_base.specs.Answers.{Fails}
-use Rattle.job_inputs.proofs.Causes.{come-on, out-name-cause}
+use Rattle.job_inputs.proofs.Causes.{come-on, look-on, longer-look, out-name-cause}
+use Rattle.job_inputs.specs.ReadFiles.{limit, output_limit}
 use Rattle.job_inputs.specs.Reading.{stopped_for}
 use Rattle.job_inputs.specs.SettledJobs.{settled_of, IsSettledOf}
 use Rattle.job_inputs.specs.Tables.{tables_of}
@@ -53,7 +54,7 @@ returns-in_err-tables-clause-told g c =
     rw (p.1, p.2)
     (tables_fail fs c.args.name.now c.args.out.now one.0 (stopped_for e) one.1
     (out_same c.args.name.now c.args.out.now c.in_ok-job.job.described one.0.inputs.described _ c.in_ok-check_out.ensures one.2.described)
-    (subst (λ (d : DescribedJob). Fails (stopped_for e) (tables_of fs d.job)) one.2.described (c.in_err-tables.ensures.told fs (c.in_ok-job.ensures.looked.only_read.files ∙ told))))
+    (subst (λ (d : DescribedJob). Fails (stopped_for e) (tables_of fs d.job)) one.2.described (c.in_err-tables.ensures.told fs (c.in_ok-job.ensures.looked.shelf.only_read.files ∙ told))))
 
 pub returns-in_err-tables-clause-came_to : goal.returns-in_err-tables-clause-came_to
 returns-in_err-tables-clause-came_to g c =
@@ -65,7 +66,7 @@ returns-in_err-tables-clause-came_to g c =
     (λ f held comes.
     table_comes fs c.args.name.now c.args.out.now one.0 c.in_ok-job.job.described f held one.1
     (out_same c.args.name.now c.args.out.now c.in_ok-job.job.described one.0.inputs.described _ c.in_ok-check_out.ensures one.2.described) one.2.described comes)
-    (c.in_err-tables.ensures.came_to fs (c.in_ok-job.ensures.looked.only_read.files ∙ told)))
+    (c.in_err-tables.ensures.came_to fs (c.in_ok-job.ensures.looked.shelf.only_read.files ∙ told)))
 
 -- ---- a job with its tables
 
@@ -73,7 +74,7 @@ pub returns-clause-told : goal.returns-clause-told
 returns-clause-told g c =
     λ fs told.
     let one = ok_and (λ settled. IsSettledOf settled c.in_ok-job.job) (settled_of purpose.Intervals fs c.args.name.now) (c.in_ok-job.ensures.looked.told fs told) in
-    let are = subst (λ (d : DescribedJob). tables_of fs d.job ≡ Ok c.in_ok-tables.tables) one.2.described (c.in_ok-tables.ensures.told fs (c.in_ok-job.ensures.looked.only_read.files ∙ told)) in
+    let are = subst (λ (d : DescribedJob). tables_of fs d.job ≡ Ok c.in_ok-tables.tables) one.2.described (c.in_ok-tables.ensures.told fs (c.in_ok-job.ensures.looked.shelf.only_read.files ∙ told)) in
     rw (shelved_is fs c.args.name.now c.args.out.now one.0 c.in_ok-tables.tables one.1
     (out_same c.args.name.now c.args.out.now c.in_ok-job.job.described one.0.inputs.described _ c.in_ok-check_out.ensures one.2.described) are)
     (record { settled = one.2; tables = refl })
@@ -82,3 +83,21 @@ pub returns-clause-settled : goal.returns-clause-settled
 returns-clause-settled g c =
     let some = c.in_ok-job.ensures.settled in
     (record { settled = some.0; tables = c.in_ok-tables.tables }, record { settled = some.1; tables = refl }, some.2)
+
+-- ---- the shelf
+
+-- an input is no longer than what was put may be
+at_most : limit ≤ output_limit
+at_most = omega arith
+
+pub returns-in_err-job-clause-shelf : goal.returns-in_err-job-clause-shelf
+returns-in_err-job-clause-shelf g c = longer-look limit output_limit _ _ at_most c.in_err-job.ensures.looked.shelf
+
+pub returns-in_err-check_out-clause-shelf : goal.returns-in_err-check_out-clause-shelf
+returns-in_err-check_out-clause-shelf g c = longer-look limit output_limit _ _ at_most c.in_ok-job.ensures.looked.shelf
+
+pub returns-in_err-tables-clause-shelf : goal.returns-in_err-tables-clause-shelf
+returns-in_err-tables-clause-shelf g c = look-on output_limit _ _ _ (longer-look limit output_limit _ _ at_most c.in_ok-job.ensures.looked.shelf) c.in_err-tables.ensures.shelf
+
+pub returns-clause-shelf : goal.returns-clause-shelf
+returns-clause-shelf g c = look-on output_limit _ _ _ (longer-look limit output_limit _ _ at_most c.in_ok-job.ensures.looked.shelf) c.in_ok-tables.ensures.shelf
