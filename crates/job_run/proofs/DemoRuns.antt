@@ -1,6 +1,6 @@
 -- A demonstration, from how its run went on.
-use Rattle.std.proofs.Common.{◌≡◌, ◌≤◌, ℕ, List, Result, Ok, Err, Option, None, Some, IfOk, OnOk, IsOkAnd, refl, sym, subst, arith}
-use Rattle.sdc_base.specs.Counts.{HasRisen, count_after}
+use Rattle.std.proofs.Common.{◌≡◌, ℕ, List, Result, Ok, Err, Option, None, Some, IfOk, IsOkAnd, refl, sym, subst, arith}
+use Rattle.sdc_base.specs.Counts.{HasRisen}
 use Rattle.sdc_base.specs.WhereTold.{WhereTold}
 use Rattle.sdc_base.specs.declared.memory.Memory.{Memory}
 use Rattle.demo_files.specs.DemoFiles.{demo_files, job_name}
@@ -8,11 +8,13 @@ use Rattle.demo_files.specs.SteadyFiles.{shelf_with, empty_tray}
 use Rattle.office_io.specs.Shelves.{ShelfState}
 use Rattle.office_io.specs.Trays.{TrayState}
 use Rattle.worlds.specs.declared.refuted.Refuted.{Refuted}
+use Rattle.job_inputs.specs.ReadFiles.{limit}
+use Rattle.job_inputs.specs.Reading.{HasOnlyLooked}
 use Rattle.job_inputs.specs.SettledJobs.{settled_of}
 use Rattle.job_inputs.specs.declared.purpose.Purpose.TheVariants as purpose
 use Rattle.job_run.specs.Demos.{IsDemoOf, SaysAnswer, SaysStuck}
 use Rattle.job_run.specs.Endings.{IsUndecided}
-use Rattle.job_run.specs.PutReleases.{HasReleased}
+use Rattle.job_run.specs.PutReleases.{HasReleased, PutsOnce}
 use Rattle.job_inputs.specs.Looks.{ComesTo}
 use Rattle.job_run.specs.Reports.{AgreesWith, LeavesTray, HasCause, HasComeTo, report_of}
 use Rattle.job_run.specs.Summaries.{demo_of, stuck_demo}
@@ -64,7 +66,8 @@ says seed records (Err stop.Memory) after tray demo calm still meets cause relea
 pub record WentOn (name : List ℕ) (outcome : Result Release Stop) (old new : ShelfState) (before after : TrayState) : Type 0 where
   pub told : WhereTold old.files (λ fs. AgreesWith (report_of outcome) (settled_of purpose.Release fs name))
   pub left : WhereTold old.files (λ fs. LeavesTray (report_of outcome) (settled_of purpose.Release fs name) before after)
-  pub two_to_nine_puts : OnOk outcome ((count : ℕ) × (2 ≤ count) × (count ≤ 9) × (after.puts ≡ count_after before.puts count))
+  pub put_once : PutsOnce (report_of outcome) before after
+  pub shelf : HasOnlyLooked limit old new
   pub released : WhereTold old.files (λ fs. IfOk outcome (λ release. HasReleased fs name release before after))
   pub cause : HasCause (report_of outcome) old new before after
   pub come : WhereTold old.files (λ fs. HasComeTo (ComesTo purpose.Release fs name) (report_of outcome) fs new)
@@ -75,7 +78,7 @@ from-memory seed records outcome after tray (Ok demo) calm still went is = recor
   answer = report_of outcome;
   after = after;
   tray = tray;
-  run = release-run job_name outcome _ after empty_tray tray went.told went.left went.two_to_nine_puts went.released went.cause went.come;
+  run = release-run job_name outcome _ after empty_tray tray went.told went.left went.put_once went.shelf went.released went.cause went.come;
   says = says seed records outcome after tray demo calm still (went.told (demo_files seed records) refl) went.cause (went.released (demo_files seed records) refl) (sym is);
 }
 from-memory seed records outcome after tray (Err none) calm still went is = tt

@@ -7,7 +7,8 @@ use Rattle.interval_audit.specs.declared.answer.AskFault.TheVariants as ask
 use Rattle.office_io.specs.Files.{Files}
 use Rattle.office_io.specs.Shelves.{ShelfState}
 use Rattle.office_io.specs.Trays.{TrayState, HasPut, HasPutInPart}
-use Rattle.job_inputs.specs.Reading.{stopped_for}
+use Rattle.job_inputs.specs.ReadFiles.{output_limit}
+use Rattle.job_inputs.specs.Reading.{HasOnlyLooked, stopped_for}
 use Rattle.job_inputs.specs.declared.faults.Fault.{Fault}
 use Rattle.job_inputs.specs.declared.file_ref.FileRef.{FileRef}
 use Rattle.job_inputs.specs.declared.file_ref.FileRef.TheVariants as file
@@ -160,8 +161,8 @@ settles report.NoRounding outcome h no_read no_write = absurd h
 
 -- what holds of how it went on holds of a run that finds no intervals
 pub stopped-run : (name out : List ℕ) (e : IntervalStop) (old new : ShelfState) (tray : TrayState) → WhereTold old.files (λ fs. AnswersIntervals (shelved_of fs name out) (Err e))
-    → WhereTold old.files (λ fs. HasFindingComeTo (ComesTo fs name out) (Err e) fs new) → HasFindingCause (Err e) old new → IsIntervalRunOf name out (stop_report e) old new tray tray
-stopped-run name out e old new tray told come cause = record {
+    → WhereTold old.files (λ fs. HasFindingComeTo (ComesTo fs name out) (Err e) fs new) → HasFindingCause (Err e) old new → HasOnlyLooked output_limit old new → IsIntervalRunOf name out (stop_report e) old new tray tray
+stopped-run name out e old new tray told come cause shelf = record {
   answers = stop-answers e;
   told = λ fs held. stop-meets e (shelved_of fs name out) (told fs held);
   left = λ fs held. stop-leaves e (shelved_of fs name out) out tray;
@@ -169,15 +170,16 @@ stopped-run name out e old new tray told come cause = record {
       settles (stop_report e) (shelved_of fs name out) (stop-meets e (shelved_of fs name out) (told fs held)) (λ f is. no_read ((stop-cause e old new tray cause).read_fault f is)) (λ f is. no_write ((stop-cause e old new tray cause).write_fault f is));
   came_to = λ fs held. stop-comes e (ComesTo fs name out) fs new (come fs held);
   one_put = λ n is. absurd (stop-puts-none e n is);
+  shelf = shelf;
 }
 
 -- the same of a run that went on so, and reports it
 pub stopped-run-of : (name out : List ℕ) (r : Result IntervalFile IntervalStop) (e : IntervalStop) (answer : Report) (old new : ShelfState) (tray : TrayState) → r ≡ Err e → answer ≡ stop_report e → WhereTold old.files (λ fs. AnswersIntervals (shelved_of fs name out) r)
-    → WhereTold old.files (λ fs. HasFindingComeTo (ComesTo fs name out) r fs new) → HasFindingCause r old new → IsIntervalRunOf name out answer old new tray tray
-stopped-run-of name out r e answer old new tray is same told come cause =
+    → WhereTold old.files (λ fs. HasFindingComeTo (ComesTo fs name out) r fs new) → HasFindingCause r old new → HasOnlyLooked output_limit old new → IsIntervalRunOf name out answer old new tray tray
+stopped-run-of name out r e answer old new tray is same told come cause shelf =
     subst (λ (a : Report). IsIntervalRunOf name out a old new tray tray) (sym same)
     (stopped-run name out e old new tray (λ fs held. subst (λ (o : Result IntervalFile IntervalStop). AnswersIntervals (shelved_of fs name out) o) is (told fs held))
-    (λ fs held. subst (λ (o : Result IntervalFile IntervalStop). HasFindingComeTo (ComesTo fs name out) o fs new) is (come fs held)) (subst (λ (o : Result IntervalFile IntervalStop). HasFindingCause o old new) is cause))
+    (λ fs held. subst (λ (o : Result IntervalFile IntervalStop). HasFindingComeTo (ComesTo fs name out) o fs new) is (come fs held)) (subst (λ (o : Result IntervalFile IntervalStop). HasFindingCause o old new) is cause) shelf)
 
 pub stopped-cause-of : (r : Result IntervalFile IntervalStop) (e : IntervalStop) (answer : Report) (old new : ShelfState) (tray : TrayState) → r ≡ Err e → answer ≡ stop_report e → HasFindingCause r old new → HasCause answer old new tray tray
 stopped-cause-of r e answer old new tray is same cause =
@@ -200,36 +202,39 @@ part-leaves (Ok shelved) intervals out before after h part = record { intervals 
 part-leaves (Err f) intervals out before after h part = absurd h
 
 -- the file of the intervals was put
-pub put-run : (name out : List ℕ) (intervals : IntervalFile) (old new : ShelfState) (before after : TrayState) → WhereTold old.files (λ fs. AnswersIntervals (shelved_of fs name out) (Ok intervals)) → HasPut out intervals.bytes before after
+pub put-run : (name out : List ℕ) (intervals : IntervalFile) (old new : ShelfState) (before after : TrayState) → WhereTold old.files (λ fs. AnswersIntervals (shelved_of fs name out) (Ok intervals)) → HasPut out intervals.bytes before after → HasOnlyLooked output_limit old new
     → IsIntervalRunOf name out (report.Intervals intervals.cells) old new before after
-put-run name out intervals old new before after told whole = record {
+put-run name out intervals old new before after told whole shelf = record {
   answers = tt;
   told = λ fs held. ok-is (shelved_of fs name out) _ (told fs held);
   left = λ fs held. put-leaves (shelved_of fs name out) intervals out before after (told fs held) whole;
   complete = λ fs held no_read no_write. settles (report.Intervals intervals.cells) (shelved_of fs name out) (ok-is (shelved_of fs name out) _ (told fs held)) (λ f is. absurd cc) (λ f is. absurd cc);
   came_to = λ fs held f is. absurd cc;
   one_put = λ n is. (intervals.bytes, whole);
+  shelf = shelf;
 }
 
 -- it was put in part
-pub part-run : (name out : List ℕ) (intervals : IntervalFile) (old new : ShelfState) (before after : TrayState) → WhereTold old.files (λ fs. AnswersIntervals (shelved_of fs name out) (Ok intervals)) → HasPutInPart out intervals.bytes before after
+pub part-run : (name out : List ℕ) (intervals : IntervalFile) (old new : ShelfState) (before after : TrayState) → WhereTold old.files (λ fs. AnswersIntervals (shelved_of fs name out) (Ok intervals)) → HasPutInPart out intervals.bytes before after → HasOnlyLooked output_limit old new
     → IsIntervalRunOf name out (report.WriteFault file.Out) old new before after
-part-run name out intervals old new before after told part = record {
+part-run name out intervals old new before after told part shelf = record {
   answers = tt;
   told = λ fs held. ok-is (shelved_of fs name out) _ (told fs held);
   left = λ fs held. (refl, part-leaves (shelved_of fs name out) intervals out before after (told fs held) part);
   complete = λ fs held no_read no_write. absurd (no_write part.failed);
   came_to = λ fs held f is. absurd cc;
   one_put = λ n is. absurd cc;
+  shelf = shelf;
 }
 
 -- there was no memory for the put
-pub no-memory-run : (name out : List ℕ) (old new : ShelfState) (tray : TrayState) → IsIntervalRunOf name out report.Memory old new tray tray
-no-memory-run name out old new tray = record {
+pub no-memory-run : (name out : List ℕ) (old new : ShelfState) (tray : TrayState) → HasOnlyLooked output_limit old new → IsIntervalRunOf name out report.Memory old new tray tray
+no-memory-run name out old new tray shelf = record {
   answers = tt;
   told = λ fs held. tt;
   left = λ fs held. refl;
   complete = λ fs held no_read no_write. settles report.Memory (shelved_of fs name out) tt (λ f is. absurd cc) (λ f is. absurd cc);
   came_to = λ fs held f is. absurd cc;
   one_put = λ n is. absurd cc;
+  shelf = shelf;
 }

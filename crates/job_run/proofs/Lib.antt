@@ -7,8 +7,10 @@ pub mod SameSystem
 pub mod JobTruths
 pub mod RoundedJobs
 pub mod ShownLaws
+mod ProtectingTables
 pub mod Outcomes
 pub mod Settling
+pub mod Words
 pub mod ReleaseRuns
 pub mod SecondRuns
 pub mod DemoJobs

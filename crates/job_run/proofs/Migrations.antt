@@ -1,8 +1,7 @@
 -- A certificate that is put again, from how it went on.
-use Rattle.std.proofs.Common.{◌≡◌, ◌≢◌, ◌⊎◌, inl, inr, ℕ, true, false, List, Result, Ok, Err, IsOk, IsOkAnd, refl, ap, sym, subst}
+use Rattle.std.proofs.Common.{◌≡◌, ◌≢◌, inl, inr, ℕ, true, false, List, Result, Ok, Err, refl, ap, sym, subst}
 use Rattle.std.specs.Str.{bytes_eq}
 use Rattle.sdc_base.specs.Answers.{Fails}
-use Rattle.sdc_base.specs.WhereTold.{WhereTold}
 use Rattle.certificate.specs.declared.certificate.Certificate.{Certificate}
 use Rattle.code_trees.specs.declared.tree_fault.TreeFault.TheVariants as tree
 use Rattle.office_io.specs.Files.{Files}
@@ -10,6 +9,7 @@ use Rattle.office_io.specs.Shelves.{ShelfState}
 use Rattle.office_io.specs.Trays.{TrayState}
 use Rattle.job_inputs.specs.CertificateFile.{certificate_in, IsSoundCertificate}
 use Rattle.job_inputs.specs.Looks.{IsFile}
+use Rattle.job_inputs.specs.ReadFiles.{output_limit}
 use Rattle.job_inputs.specs.Reading.{stopped_for, IsReadFrom}
 use Rattle.job_inputs.specs.declared.faults.Fault.{Fault}
 use Rattle.job_inputs.specs.declared.faults.Fault.TheVariants as fault
@@ -17,7 +17,7 @@ use Rattle.job_inputs.specs.declared.file_ref.FileRef.{FileRef}
 use Rattle.job_inputs.specs.declared.file_ref.FileRef.TheVariants as file
 use Rattle.job_inputs.specs.declared.stop.InputStop.{InputStop}
 use Rattle.job_inputs.specs.declared.stop.InputStop.TheVariants as input
-use Rattle.job_inputs.proofs.Causes.{only-read-nothing, read-wider}
+use Rattle.job_inputs.proofs.Causes.{nothing-looked, read-wider}
 use Rattle.job_run.specs.Migrations.{migrating_of, IsPutAgain, IsMigrationAnswer, MeetsMigration, MigrationLeaves, SettlesMigration, ComesTo, IsMigrationOf}
 use Rattle.job_run.specs.Reports.{report_of, HasCause, LeavesAll}
 use Rattle.job_run.specs.Stops.{inputs_stop}
@@ -37,19 +37,19 @@ other-names files old new apart = rw apart refl
 
 -- equal names are refused before the shelf is looked at
 pub names-refused : (old new : List ℕ) (state : ShelfState) → bytes_eq old new ≡ true
-    → IsReadFrom {X = Certificate} (λ certificate. certificate) (λ fs. migrating_of fs old new) (λ fs. ComesTo old new) IsSoundCertificate (Err (input.Refused fault.OutName)) state state
+    → IsReadFrom {X = Certificate} (λ certificate. certificate) (λ fs. migrating_of fs old new) (λ fs. ComesTo old new) IsSoundCertificate output_limit (Err (input.Refused fault.OutName)) state state
 names-refused old new state is = record {
   told = λ fs told. same-names fs old new is;
   came_to = λ fs told f stops. absurd cc;
-  only_read = only-read-nothing state;
+  shelf = nothing-looked output_limit state;
   cause = record { absent = λ f stops. absurd cc; too_long = λ f stops. absurd cc; read_fault = λ f stops. absurd cc; tree = λ f stops. absurd cc };
   sound = tt;
 }
 
 -- with other names the file is looked at
 pub file-read : (old new : List ℕ) (result : Result Certificate InputStop) (before after : ShelfState) → bytes_eq old new ≡ false
-    → IsReadFrom (λ certificate. certificate) (λ fs. certificate_in fs old) (λ fs. IsFile file.Certificate old) IsSoundCertificate result before after
-    → IsReadFrom (λ certificate. certificate) (λ fs. migrating_of fs old new) (λ fs. ComesTo old new) IsSoundCertificate result before after
+    → IsReadFrom (λ certificate. certificate) (λ fs. certificate_in fs old) (λ fs. IsFile file.Certificate old) IsSoundCertificate output_limit result before after
+    → IsReadFrom (λ certificate. certificate) (λ fs. migrating_of fs old new) (λ fs. ComesTo old new) IsSoundCertificate output_limit result before after
 file-read old new result before after apart read =
     read-wider (λ certificate. certificate) (λ fs. certificate_in fs old) (λ fs. migrating_of fs old new) (λ fs. IsFile file.Certificate old) (λ fs. ComesTo old new) result before after
     (λ fs. other-names fs old new apart) (λ fs f held is. record { apart = apart; is_file = is }) read
@@ -97,7 +97,7 @@ settles (report.Undecided why repairs shown) outcome h no_read no_write = absurd
 
 -- what stopped the reading is reported, and nothing is put
 pub stopped-migration : (old new : List ℕ) (e : InputStop) (shelf shelved : ShelfState) (tray : TrayState)
-    → IsReadFrom {X = Certificate} (λ certificate. certificate) (λ fs. migrating_of fs old new) (λ fs. ComesTo old new) IsSoundCertificate (Err e) shelf shelved
+    → IsReadFrom {X = Certificate} (λ certificate. certificate) (λ fs. migrating_of fs old new) (λ fs. ComesTo old new) IsSoundCertificate output_limit (Err e) shelf shelved
     → IsMigrationOf old new (report_of (Err (inputs_stop e))) shelf shelved tray tray
 stopped-migration old new e shelf shelved tray read =
     let cause = inputs-cause e shelf shelved tray read.cause in
@@ -108,6 +108,7 @@ stopped-migration old new e shelf shelved tray read =
       complete = λ fs held no_read no_write. settles (report_of (Err (inputs_stop e))) (migrating_of fs old new) (inputs-meet e (migrating_of fs old new) (read.told fs held)) (λ f is. no_read (cause.read_fault f is)) (λ f is. no_write (cause.write_fault f is));
       came_to = λ fs held. inputs-come e (ComesTo old new) fs shelved (read.came_to fs held);
       one_put = λ is. absurd (inputs-put-none e is);
+      looked = read.shelf;
     }
 
 -- ---- a certificate was read
@@ -194,7 +195,7 @@ put-cause certificate new answer shelf shelved before after h = record {
 
 -- the certificate was put again, in part, or not at all
 pub put-migration : (old new : List ℕ) (certificate : Certificate) (answer : Report) (shelf shelved : ShelfState) (before after : TrayState)
-    → IsReadFrom {X = Certificate} (λ certificate. certificate) (λ fs. migrating_of fs old new) (λ fs. ComesTo old new) IsSoundCertificate (Ok certificate) shelf shelved
+    → IsReadFrom {X = Certificate} (λ certificate. certificate) (λ fs. migrating_of fs old new) (λ fs. ComesTo old new) IsSoundCertificate output_limit (Ok certificate) shelf shelved
     → IsPutAgain certificate new answer before after → IsMigrationOf old new answer shelf shelved before after
 put-migration old new certificate answer shelf shelved before after read h = record {
   answers = put-answers certificate new answer before after h;
@@ -205,4 +206,5 @@ put-migration old new certificate answer shelf shelved before after read h = rec
       (λ f is. no_write ((put-cause certificate new answer shelf shelved before after h).write_fault f is));
   came_to = λ fs held f is. absurd (not-read certificate new answer before after h f is);
   one_put = λ is. (certificate, subst (λ (a : Report). IsPutAgain certificate new a before after) is h);
+  looked = read.shelf;
 }

@@ -13,6 +13,7 @@ use Rattle.job_inputs.specs.declared.stop.InputStop.{InputStop}
 use Rattle.job_inputs.specs.declared.stop.InputStop.TheVariants as input
 use Rattle.code_trees.specs.declared.tree_fault.TreeFault.TheVariants as tree
 use Rattle.job_run.specs.Endings.{IsReleaseOf}
+use Rattle.job_run.specs.PutReleases.{IsSomeRelease, PutsOnce}
 use Rattle.job_run.specs.Puts.{SomeWhole, OneInPart}
 use Rattle.job_run.specs.Reports.{report_of, AgreesWith, LeavesTray, LeavesAll, HasCause, HasComeTo}
 use Rattle.job_run.specs.Stops.{ComesToRelease, inputs_stop, puts_stop}
@@ -47,6 +48,11 @@ pub inputs-leave-all : (e : InputStop) (tray : TrayState) → LeavesAll (report_
 inputs-leave-all (input.Refused f) tray = refl
 inputs-leave-all (input.ReadFault f) tray = refl
 inputs-leave-all input.Memory tray = tt
+
+pub inputs-put-none : (e : InputStop) (tray : TrayState) → PutsOnce (report_of (Err (inputs_stop e))) tray tray
+inputs-put-none (input.Refused f) tray = refl
+inputs-put-none (input.ReadFault f) tray = refl
+inputs-put-none input.Memory tray = inl refl
 
 -- an answer that is none of those with a cause
 no-cause : (answer : Stop) (old new : ShelfState) (before after : TrayState) → ((f : FileRef) → report_of (Err answer) ≡ report.Refused (fault.Absent f) → ⊥)
@@ -106,6 +112,15 @@ stop-leaves-all (stop.ReadFault f) tray = refl
 stop-leaves-all (stop.WriteFault f) tray = tt
 stop-leaves-all stop.Memory tray = tt
 
+pub stop-puts-none : (e : Stop) (settled : SettledInputs) (tray : TrayState) → ComesToRelease settled (Err e) → PutsOnce (report_of (Err e)) tray tray
+stop-puts-none (stop.Refused f) settled tray comes = refl
+stop-puts-none (stop.Cannot cell side multipliers) settled tray comes = refl
+stop-puts-none stop.NoRounding settled tray comes = refl
+stop-puts-none (stop.Undecided why repairs shown) settled tray comes = refl
+stop-puts-none (stop.ReadFault f) settled tray comes = refl
+stop-puts-none (stop.WriteFault f) settled tray comes = absurd comes
+stop-puts-none stop.Memory settled tray comes = inl refl
+
 pub stop-cause : (e : Stop) (settled : SettledInputs) (old new : ShelfState) (tray : TrayState) → ComesToRelease settled (Err e) → HasCause (report_of (Err e)) old new tray tray
 stop-cause (stop.Refused f) settled old new tray comes = absurd comes
 stop-cause (stop.Cannot cell side multipliers) settled old new tray comes = no-cause (stop.Cannot cell side multipliers) old new tray tray (λ f is. absurd cc) (λ f is. absurd cc) (λ f is. absurd cc) (λ f is. absurd cc) (λ f is. absurd cc)
@@ -134,6 +149,11 @@ pub puts-leave : (e : PutStop) (outcome : Result SettledInputs Fault) (settled :
     → ((f : FileRef) → IsErrOf {T = Unit {0}} (Err e) (puts.WriteFault f) → OneInPart r.puts f old new) → (IsErrOf {T = Unit {0}} (Err e) puts.Memory → SomeWhole r.puts old new) → LeavesTray (report_of (Err (puts_stop e))) outcome old new
 puts-leave (puts.WriteFault f) outcome settled r old new is made part whole = rw is (r, made, part f refl)
 puts-leave puts.Memory outcome settled r old new is made part whole = inr (rw is (r, made, whole refl))
+
+pub puts-once : (e : PutStop) (r : Release) (old new : TrayState) → IsSomeRelease r → ((f : FileRef) → IsErrOf {T = Unit {0}} (Err e) (puts.WriteFault f) → OneInPart r.puts f old new) → (IsErrOf {T = Unit {0}} (Err e) puts.Memory → SomeWhole r.puts old new)
+    → PutsOnce (report_of (Err (puts_stop e))) old new
+puts-once (puts.WriteFault f) r old new some part whole = (r, some, part f refl)
+puts-once puts.Memory r old new some part whole = inr (r, some, whole refl)
 
 pub puts-leave-all : (e : PutStop) (old new : TrayState) → LeavesAll (report_of (Err (puts_stop e))) old new
 puts-leave-all (puts.WriteFault f) old new = tt

@@ -47,8 +47,8 @@ put-part puts i p f start old new below is named before none once part = (
     after_all n (Some out) = refl
 
 -- the puts so far, where memory was wanting for the next
-pub some-whole : (puts : List FilePut) (i : ℕ) (start old new : TrayState) → old.files ≡ option_map (λ out. put_all out (take i puts)) start.files → (i ≡ 0 → old ≡ start) → (0 < i → old.puts ≡ count_after start.puts i)
+pub some-whole : (puts : List FilePut) (i : ℕ) (start old new : TrayState) → i < length puts → old.files ≡ option_map (λ out. put_all out (take i puts)) start.files → (i ≡ 0 → old ≡ start) → (0 < i → old.puts ≡ count_after start.puts i)
     → new ≡ old → SomeWhole puts start new
-some-whole puts zero start old new before none once same = inl (same ∙ none refl)
-some-whole puts (suc i) start old new before none once same =
-    inr (suc i, ap (λ (t : TrayState). t.files) same ∙ before, ap (λ (t : TrayState). t.puts) same ∙ once (omega arith))
+some-whole puts zero start old new below before none once same = inl (same ∙ none refl)
+some-whole puts (suc i) start old new below before none once same =
+    inr (suc i, record { not_all = below; files = ap (λ (t : TrayState). t.files) same ∙ before; puts_made = ap (λ (t : TrayState). t.puts) same ∙ once (omega arith) })

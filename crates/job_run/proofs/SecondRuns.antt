@@ -24,12 +24,12 @@ use Rattle.job_run.proofs.Outcomes.{ok-and}
 use Rattle.office_io.proofs.Puts.{put_other}
 
 -- none of the puts is of this name
-abbrev OfOthers : List ℕ → List FilePut → Type 0
+abbrev pub OfOthers : List ℕ → List FilePut → Type 0
 OfOthers other puts = AllByRecursion (λ (p : FilePut). other ≢ p.name) puts
 
 -- ---- puts of other names
 
-all-others : (other : List ℕ) (puts : List FilePut) (out : Files) → OfOthers other puts → put_all out puts other ≡ out other
+pub all-others : (other : List ℕ) (puts : List FilePut) (out : Files) → OfOthers other puts → put_all out puts other ≡ out other
 all-others other [] out apart = refl
 all-others other (p ∷ puts) out apart = all-others other puts (files_after_put out p.name p.bytes) apart.1 ∙ put_other out p.name p.bytes other apart.0
 
@@ -68,11 +68,11 @@ part-others other puts file old new apart part = ap (λ (files : Option Files). 
 
 -- ---- a release puts the files of its job
 
-neither : (a b : Bool) → (a || b) ≡ false → (a ≡ false) × (b ≡ false)
+pub neither : (a b : Bool) → (a || b) ≡ false → (a ≡ false) × (b ≡ false)
 neither true b h = absurd cc
 neither false b h = (refl, h)
 
-apart-name : (name other : List ℕ) → bytes_eq name other ≡ false → other ≢ name
+pub apart-name : (name other : List ℕ) → bytes_eq name other ≡ false → other ≢ name
 apart-name name other h same = let yes : bytes_eq name other ≡ true = (bytes_eq-Decides name other).1 (sym same) in absurd cc
 
 tables-others : (other : List ℕ) (inputs : Inputs) (shown : Name → Option ℤ) (t : ℕ) (lines : List TableLine) (outputs : List OutputLine) → list_any (λ file. bytes_eq file other) (map (λ (o : OutputLine). o.file) outputs) ≡ false

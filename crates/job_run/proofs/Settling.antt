@@ -1,13 +1,16 @@
 -- What a report says in the subject's words.
-use Rattle.std.proofs.Common.{◌≡◌, ◌≢◌, inl, inr, ℕ, List, Result, Ok, Err, refl, ap, sym}
+use Rattle.std.proofs.Common.{◌≡◌, ◌≢◌, inl, inr, ℕ, ◌+◌, List, length, ◌∙◌, Result, Ok, Err, refl, ap, sym, subst}
+use Rattle.sdc_base.specs.Counts.{count_after}
 use Rattle.office_io.specs.Files.{Files}
 use Rattle.office_io.specs.Trays.{TrayState}
 use Rattle.job_inputs.specs.declared.file_ref.FileRef.{FileRef}
 use Rattle.job_inputs.specs.SettledJobs.{SettledInputs, settled_of}
+use Rattle.job_inputs.specs.SoundJobs.{AreSound, IsSound}
+use Rattle.job_inputs.specs.declared.described.DescribedJob.{DescribedJob}
 use Rattle.job_inputs.specs.declared.purpose.Purpose.TheVariants as purpose
 use Rattle.job_run.specs.Endings.{IsReleaseOf}
 use Rattle.job_run.specs.Puts.{AllWhole}
-use Rattle.job_run.specs.PutReleases.{Releases, HasReleased}
+use Rattle.job_run.specs.PutReleases.{Releases, HasReleased, IsSomeRelease}
 use Rattle.job_run.specs.Reports.{AgreesWith, AnswersExactly}
 use Rattle.job_run.specs.declared.put.Release.{Release}
 use Rattle.job_inputs.specs.declared.faults.Fault.{Fault}
@@ -16,12 +19,23 @@ use Rattle.job_run.specs.declared.report.Report.TheVariants as report
 
 -- a release is what its record says
 pub release-is : (files : Files) (name : List ℕ) (settled : SettledInputs) (release : Release) (old new : TrayState) → settled_of purpose.Release files name ≡ Ok settled → IsReleaseOf settled release → AllWhole release.puts old new
-    → HasReleased files name release old new
-release-is files name settled release old new read is whole = record { settled = settled; read = read; is_release = is; put = whole }
+    → (described : DescribedJob) → described ≡ settled.inputs.described → length release.puts ≡ 1 + length described.job.tables → IsSound described → HasReleased files name release old new
+release-is files name settled release old new read is whole described same each sound = record {
+  settled = settled;
+  read = read;
+  sound = subst IsSound same sound;
+  is_release = is;
+  put = whole;
+  one_put_each = whole.puts_made ∙ ap (count_after old.puts) (each ∙ ap (λ (d : DescribedJob). 1 + length d.job.tables) same);
+}
+
+-- a release of inputs within their limits is one of some inputs
+pub some-release : (settled : SettledInputs) (release : Release) → AreSound settled.inputs → IsReleaseOf settled release → (described : DescribedJob) → described ≡ settled.inputs.described → length release.puts ≡ 1 + length described.job.tables → IsSomeRelease release
+some-release settled release sound is described same each = record { settled = settled; sound = sound; is_release = is; one_each = each ∙ ap (λ (d : DescribedJob). 1 + length d.job.tables) same }
 
 -- the same, by its numbers
 pub releases-by : (files : Files) (name : List ℕ) (release : Release) (old new : TrayState) → HasReleased files name release old new → Releases files name release.summary old new
-releases-by files name release old new has = record { settled = has.settled; release = release; read = has.read; is_release = has.is_release; numbers = refl; put = has.put }
+releases-by files name release old new has = record { settled = has.settled; release = release; read = has.read; sound = has.sound; is_release = has.is_release; numbers = refl; put = has.put; one_put_each = has.one_put_each }
 
 -- without a fault of shelf or tray the first fault is the answer, or the run ends, or there is no memory
 pub settles : (answer : Report) (outcome : Result SettledInputs Fault) → AgreesWith answer outcome → ((f : FileRef) → answer ≢ report.ReadFault f) → ((f : FileRef) → answer ≢ report.WriteFault f) → AnswersExactly answer outcome

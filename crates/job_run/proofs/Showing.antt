@@ -99,7 +99,7 @@ table-same inputs book shown t header is =
     ∙ ap (λ (tables : List (List ℕ)). table_text inputs.records.trees (slice_index_or tables t []) header inputs.described.bound.decimals shown) is.tables
 
 -- the text of a table of the book with cells hidden is that of its records
-hidden-shown : (inputs : Inputs) (book : BookView) (flags : List Bool) (t : ℕ) (header : List (List ℕ)) → IsBookOf inputs book → t < length book.tables
+pub hidden-shown : (inputs : Inputs) (book : BookView) (flags : List Bool) (t : ℕ) (header : List (List ℕ)) → IsBookOf inputs book → t < length book.tables
     → table_text book.trees (slice_index_or book.tables t []) header inputs.described.bound.decimals (λ name. option_and_then (open_truth book.marks flags) (number_of book name)) ≡ table_of inputs (shown_in inputs flags) t header
 hidden-shown inputs book flags t header is within =
     let rows = inputs.records.rows in
@@ -112,7 +112,7 @@ hidden-shown inputs book flags t header is within =
     here ∙ table-same inputs book (shown_in inputs flags) t header is
 
 -- the text of a table of the book with these values is that of the inputs
-values-shown : (inputs : Inputs) (book : BookView) (values : List ℤ) (t : ℕ) (header : List (List ℕ)) → IsBookOf inputs book
+pub values-shown : (inputs : Inputs) (book : BookView) (values : List ℤ) (t : ℕ) (header : List (List ℕ)) → IsBookOf inputs book
     → table_text book.trees (slice_index_or book.tables t []) header inputs.described.bound.decimals (λ name. option_and_then (slice_get values) (number_of book name)) ≡ table_of inputs (value_in inputs values) t header
 values-shown inputs book values t header is =
     ap (λ (trees : List Tree). table_text book.trees (slice_index_or book.tables t []) header inputs.described.bound.decimals (λ name. option_and_then (slice_get values) (number_among (cells_of trees book.tables) name))) is.trees

@@ -7,6 +7,8 @@ use Rattle.office_io.specs.Trays.{TrayState}
 use Rattle.job_check.specs.Answers.{IsAcceptedRelease, IsNotAccepted}
 use Rattle.job_check.specs.Reading.{ComesTo}
 use Rattle.job_check.specs.ReleaseFiles.{ReleasedFiles, released_of}
+use Rattle.job_inputs.specs.ReadFiles.{output_limit}
+use Rattle.job_inputs.specs.Reading.{HasOnlyLooked}
 use Rattle.job_inputs.specs.declared.faults.Fault.{Fault}
 use Rattle.job_run.specs.Reports.{HasComeTo}
 use Rattle.job_run.specs.declared.report.Report.{Report}
@@ -44,8 +46,8 @@ abbrev pub SettlesCheck : Report → Result ReleasedFiles Fault → Type 0
 SettlesCheck answer (Ok released) = IsCheckEnd answer
 SettlesCheck answer (Err reason) = (answer ≡ report.Refused reason) ⊎ (answer ≡ report.Memory)
 
--- A check of the job of this name: its answer is what the told files come to, it comes to files in their order, and it
--- puts nothing, whatever the shelf and the tray tell.
+-- A check of the job of this name: its answer is what the told files come to, it comes to files in their order, and
+-- whatever the shelf and the tray tell, it puts nothing, and the shelf was only looked at.
 pub record IsCheckOf (name : List ℕ) (answer : Report) (old new : ShelfState) (before after : TrayState) : Type 0 where
   pub answers : IsCheckAnswer answer
   pub told : WhereTold old.files (λ fs. MeetsCheck answer (released_of fs name))
@@ -53,3 +55,4 @@ pub record IsCheckOf (name : List ℕ) (answer : Report) (old new : ShelfState) 
       → SettlesCheck answer (released_of fs name))
   pub came_to : WhereTold old.files (λ fs. HasComeTo (ComesTo fs name) answer fs new)
   pub untouched : after ≡ before
+  pub shelf : HasOnlyLooked output_limit old new

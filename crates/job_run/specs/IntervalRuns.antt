@@ -6,6 +6,8 @@ use Rattle.interval_audit.specs.declared.answer.AskFault.{AskFault}
 use Rattle.interval_audit.specs.declared.answer.AskFault.TheVariants as ask
 use Rattle.office_io.specs.Shelves.{ShelfState}
 use Rattle.office_io.specs.Trays.{TrayState, HasPut, HasPutInPart}
+use Rattle.job_inputs.specs.ReadFiles.{output_limit}
+use Rattle.job_inputs.specs.Reading.{HasOnlyLooked}
 use Rattle.job_inputs.specs.declared.faults.Fault.{Fault}
 use Rattle.job_inputs.specs.declared.file_ref.FileRef.TheVariants as file
 use Rattle.job_intervals.specs.Finding.{AreRefusedFor, IsFileOf, IsUndecidedFor}
@@ -91,8 +93,8 @@ SettlesIntervals answer (Ok shelved) = IsIntervalEnd answer
 SettlesIntervals answer (Err reason) = (answer ≡ report.Refused reason) ⊎ (answer ≡ report.Memory)
 
 -- A run for the intervals of the job of this name, to be put under the name `out`: its answer is what the told files
--- come to, it comes to files in their order, and where it says that intervals were found, one put was made, whatever
--- the shelf and the tray tell.
+-- come to, it comes to files in their order, and whatever the shelf and the tray tell, one put was made where it says
+-- that intervals were found, and the shelf was only looked at.
 pub record IsIntervalRunOf (name out : List ℕ) (answer : Report) (old new : ShelfState)
     (before after : TrayState) : Type 0 where
   pub answers : IsIntervalAnswer answer
@@ -102,3 +104,4 @@ pub record IsIntervalRunOf (name out : List ℕ) (answer : Report) (old new : Sh
       → SettlesIntervals answer (shelved_of fs name out))
   pub came_to : WhereTold old.files (λ fs. HasComeTo (ComesTo fs name out) answer fs new)
   pub one_put : (cells : ℕ) → answer ≡ report.Intervals cells → (bytes : List ℕ) × HasPut out bytes before after
+  pub shelf : HasOnlyLooked output_limit old new

@@ -2,6 +2,7 @@ pub mod Releases
 pub mod Roundings
 pub mod Laws
 pub mod Protections
+pub mod ProtectionLaws
 pub mod Endings
 pub mod Stops
 pub mod Books

@@ -12,6 +12,8 @@ use Rattle.office_io.specs.Shelves.{ShelfState}
 use Rattle.office_io.specs.Trays.{TrayState, HasPut, HasPutInPart}
 use Rattle.job_inputs.specs.CertificateFile.{certificate_in}
 use Rattle.job_inputs.specs.Looks.{IsFile}
+use Rattle.job_inputs.specs.ReadFiles.{output_limit}
+use Rattle.job_inputs.specs.Reading.{HasOnlyLooked}
 use Rattle.job_inputs.specs.declared.faults.Fault.{Fault}
 use Rattle.job_inputs.specs.declared.faults.Fault.TheVariants as fault
 use Rattle.job_inputs.specs.declared.file_ref.FileRef.{FileRef}
@@ -77,7 +79,8 @@ pub record ComesTo (old new : List ℕ) (f : FileRef) (held : List ℕ) : Type 0
   pub is_file : IsFile file.Certificate old f held
 
 -- The certificate OLD is put again as NEW: the answer is what the told files come to, one file alone is come to, and
--- where it says that the certificate was put, one put was made, whatever the shelf and the tray tell.
+-- whatever the shelf and the tray tell, one put was made where it says that the certificate was put, and the shelf was
+-- only looked at.
 pub record IsMigrationOf (old new : List ℕ) (answer : Report) (shelf shelved : ShelfState)
     (before after : TrayState) : Type 0 where
   pub answers : IsMigrationAnswer answer
@@ -88,3 +91,4 @@ pub record IsMigrationOf (old new : List ℕ) (answer : Report) (shelf shelved :
   pub came_to : WhereTold shelf.files (λ fs. HasComeTo (ComesTo old new) answer fs shelved)
   pub one_put : answer ≡ report.Migrated → (certificate : Certificate)
       × IsPutAgain certificate new report.Migrated before after
+  pub looked : HasOnlyLooked output_limit shelf shelved

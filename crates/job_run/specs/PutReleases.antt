@@ -1,29 +1,63 @@
 -- What a run has put, in the subject's words (own).
-use Rattle.std.specs.Prelude.{◌≡◌, ℕ, List, Ok}
+use Rattle.std.specs.Prelude.{◌≡◌, ◌⊎◌, ℕ, ◌+◌, List, length, Ok}
+use Rattle.sdc_base.specs.Counts.{count_after}
 use Rattle.office_io.specs.Files.{Files}
 use Rattle.office_io.specs.Trays.{TrayState}
 use Rattle.job_inputs.specs.SettledJobs.{SettledInputs, settled_of}
+use Rattle.job_inputs.specs.SoundJobs.{AreSound, IsSound}
 use Rattle.job_inputs.specs.declared.purpose.Purpose.TheVariants as purpose
 use Rattle.job_run.specs.Endings.{IsReleaseOf}
-use Rattle.job_run.specs.Puts.{AllWhole}
+use Rattle.job_run.specs.Puts.{AllWhole, OneInPart, SomeWhole}
 use Rattle.job_run.specs.declared.put.Release.{Release}
+use Rattle.job_run.specs.declared.report.Report.{Report}
+use Rattle.job_run.specs.declared.report.Report.TheVariants as report
 use Rattle.job_run.specs.declared.report.Summary.{Summary}
 
--- The tray holds this release of the told files: it is one of their settled inputs, and each of its files was put once.
+-- a release as it is put: its files in their order, its numbers, and its certificate
+abbrev pub PutRelease : Type 0
+PutRelease = Release
+
+-- ---- of told files
+
+-- The tray holds this release of the told files: it is one of their settled inputs, and each of its files was put once,
+-- the certificate's and one for each table of the job.
 pub record HasReleased (files : Files) (name : List ℕ) (release : Release) (old new : TrayState) : Type 0 where
   pub settled : SettledInputs
   pub read : settled_of purpose.Release files name ≡ Ok settled
+  pub sound : IsSound settled.inputs.described
   pub is_release : IsReleaseOf settled release
   pub put : AllWhole release.puts old new
+  pub one_put_each : new.puts ≡ count_after old.puts (1 + length settled.inputs.described.job.tables)
 
 -- The tray holds a release of the told files, and the folder is as it was but for its certificate and its tables. Where
 -- the job hides, a hidden set protects their settled inputs, as the certificate shows; exactly these cells are hidden,
 -- and every other shows its truth. Where it rounds, every cell of every table shows its value of one rounding. Each
--- file was put once, and the numbers are those of the release.
+-- file was put once, the certificate's and one for each table of the job, and the numbers are those of the release.
 pub record Releases (files : Files) (name : List ℕ) (summary : Summary) (old new : TrayState) : Type 0 where
   pub settled : SettledInputs
   pub release : Release
   pub read : settled_of purpose.Release files name ≡ Ok settled
+  pub sound : IsSound settled.inputs.described
   pub is_release : IsReleaseOf settled release
   pub numbers : summary ≡ release.summary
   pub put : AllWhole release.puts old new
+  pub one_put_each : new.puts ≡ count_after old.puts (1 + length settled.inputs.described.job.tables)
+
+-- ---- whatever shelf and tray tell
+
+-- a release of some inputs within their limits: a file for the certificate, and one for each table of their job
+pub record IsSomeRelease (release : Release) : Type 0 where
+  pub settled : SettledInputs
+  pub sound : AreSound settled.inputs
+  pub is_release : IsReleaseOf settled release
+  pub one_each : length release.puts ≡ 1 + length settled.inputs.described.job.tables
+
+-- What was put: a release with these numbers whole, or a part of one, or nothing. No file was put twice.
+abbrev pub PutsOnce : Report → TrayState → TrayState → Type 0
+PutsOnce (report.Released summary) old new =
+    (release : Release) × IsSomeRelease release × (release.summary ≡ summary) × AllWhole release.puts old new
+PutsOnce (report.WriteFault file) old new =
+    (release : Release) × IsSomeRelease release × OneInPart release.puts file old new
+PutsOnce report.Memory old new =
+    (new ≡ old) ⊎ ((release : Release) × IsSomeRelease release × SomeWhole release.puts old new)
+PutsOnce other old new = new ≡ old

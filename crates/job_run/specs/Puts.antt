@@ -1,10 +1,14 @@
 -- What a tray holds after puts (own).
-use Rattle.std.specs.Prelude.{◌≡◌, ◌⊎◌, ℕ, ◌+◌, List, [], ◌∷◌, length, Some, option_map, slice_get, take}
+use Rattle.std.specs.Prelude.{◌≡◌, ◌⊎◌, ℕ, ◌+◌, ◌<◌, List, [], ◌∷◌, length, Some, option_map, slice_get, take}
 use Rattle.sdc_base.specs.Counts.{count_after}
 use Rattle.office_io.specs.Files.{Files, files_after_put}
 use Rattle.office_io.specs.Trays.{TrayState}
 use Rattle.job_inputs.specs.declared.file_ref.FileRef.{FileRef}
 use Rattle.job_run.specs.declared.put.FilePut.{FilePut}
+
+-- a file that is put: which of a job it is, its name, and its bytes
+abbrev pub Put : Type 0
+Put = FilePut
 
 -- a folder after these puts, one after the other
 abbrev pub put_all : Files → List FilePut → Files
@@ -16,11 +20,15 @@ pub record AllWhole (puts : List FilePut) (old new : TrayState) : Type 0 where
   pub files : new.files ≡ option_map (λ out. put_all out puts) old.files
   pub puts_made : new.puts ≡ count_after old.puts (length puts)
 
--- after some of the puts whole, each of which was counted once, or none
+-- after the first k of the puts whole, which aren't all: each was counted once
+pub record IsFrontWhole (puts : List FilePut) (k : ℕ) (old new : TrayState) : Type 0 where
+  pub not_all : k < length puts
+  pub files : new.files ≡ option_map (λ out. put_all out (take k puts)) old.files
+  pub puts_made : new.puts ≡ count_after old.puts k
+
+-- after some of the puts whole, but not all, or none
 abbrev pub SomeWhole : List FilePut → TrayState → TrayState → Type 0
-SomeWhole puts old new =
-    (new ≡ old) ⊎ ((k : ℕ) × (new.files ≡ option_map (λ out. put_all out (take k puts)) old.files)
-    × (new.puts ≡ count_after old.puts k))
+SomeWhole puts old new = (new ≡ old) ⊎ ((k : ℕ) × IsFrontWhole puts k old new)
 
 -- after k of the puts whole, and the first n bytes of the next, which is that of this file: each was counted once, and
 -- that one too

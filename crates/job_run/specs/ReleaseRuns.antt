@@ -1,13 +1,15 @@
 -- What a run for a release answers, and what it leaves on the tray (own).
-use Rattle.std.specs.Prelude.{◌≡◌, ◌≤◌, ℕ, List}
-use Rattle.sdc_base.specs.Counts.{HasRisen, count_after}
+use Rattle.std.specs.Prelude.{◌≡◌, ℕ, List}
+use Rattle.sdc_base.specs.Counts.{HasRisen}
 use Rattle.sdc_base.specs.WhereTold.{WhereTold}
 use Rattle.office_io.specs.Shelves.{ShelfState}
 use Rattle.office_io.specs.Trays.{TrayState}
 use Rattle.job_inputs.specs.Looks.{ComesTo}
+use Rattle.job_inputs.specs.ReadFiles.{limit}
+use Rattle.job_inputs.specs.Reading.{HasOnlyLooked}
 use Rattle.job_inputs.specs.SettledJobs.{settled_of}
 use Rattle.job_inputs.specs.declared.purpose.Purpose.TheVariants as purpose
-use Rattle.job_run.specs.PutReleases.{Releases}
+use Rattle.job_run.specs.PutReleases.{Releases, PutsOnce}
 use Rattle.job_run.specs.Reports.{IsReleaseAnswer, AgreesWith, LeavesTray, AnswersExactly, HasComeTo}
 use Rattle.job_run.specs.declared.report.Report.{Report}
 use Rattle.job_run.specs.declared.report.Report.TheVariants as report
@@ -16,8 +18,8 @@ use Rattle.job_run.specs.declared.report.Summary.{Summary}
 -- A run for the release of the job of this name. Its answer is what the told files come to, and the tray holds what the
 -- answer says, each put counted once; a release is that of the inputs of the told files; without a fault of the shelf
 -- or the tray, the outcome of the told files is the answer, want of memory aside; and the run comes to files in their
--- order. Whatever the shelf and the tray tell, the answer is one of a run for a release, and a release makes a put for
--- the certificate and one for each table, of which there are one to eight.
+-- order. Whatever the shelf and the tray tell, the answer is one of a run for a release, what was put is a release of
+-- some inputs, whole or in part, no file twice, and the shelf was only looked at.
 pub record IsReleaseRunOf (name : List ℕ) (answer : Report) (old new : ShelfState)
     (before after : TrayState) : Type 0 where
   pub answers : IsReleaseAnswer answer
@@ -28,5 +30,5 @@ pub record IsReleaseRunOf (name : List ℕ) (answer : Report) (old new : ShelfSt
   pub complete : WhereTold old.files (λ fs. ¬ HasRisen old.faults new.faults → ¬ HasRisen before.faults after.faults
       → AnswersExactly answer (settled_of purpose.Release fs name))
   pub came_to : WhereTold old.files (λ fs. HasComeTo (ComesTo purpose.Release fs name) answer fs new)
-  pub two_to_nine_puts : (summary : Summary) → answer ≡ report.Released summary
-      → (count : ℕ) × (2 ≤ count) × (count ≤ 9) × (after.puts ≡ count_after before.puts count)
+  pub put_once : PutsOnce answer before after
+  pub shelf : HasOnlyLooked limit old new

@@ -21,7 +21,7 @@ mod running;
 mod stop;
 
 pub use job_inputs::{Fault, FileRef};
-pub use laws::{rounded_tables_add_up, second_runs_complete};
+pub use laws::{rounded_tables_add_up, second_runs_complete, suppressed_tables_protect};
 pub use printing::report_text;
 pub use report::{DemoSummary, Report, Stuck, Summary};
 pub use running::run;

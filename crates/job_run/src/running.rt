@@ -1,7 +1,9 @@
-ghost use Rattle.std.specs.Prelude.{◌≡◌, ◌≢◌, ◌↔◌, ◌≤◌, ℕ, OnOk, IfOk};
-ghost use Rattle.sdc_base.specs.Counts.{HasRisen, count_after};
+ghost use Rattle.std.specs.Prelude.{◌≡◌, ◌≢◌, ◌↔◌, IfOk};
+ghost use Rattle.sdc_base.specs.Counts.{HasRisen};
 ghost use Rattle.sdc_base.specs.WhereTold.{WhereTold};
 ghost use Rattle.job_inputs.specs.Looks.{ComesTo};
+ghost use Rattle.job_inputs.specs.ReadFiles.{limit};
+ghost use Rattle.job_inputs.specs.Reading.{HasOnlyLooked};
 ghost use Rattle.job_inputs.specs.SettledJobs.{settled_of};
 ghost use Rattle.job_run.specs.Checks.{IsCheckOf};
 ghost use Rattle.job_run.specs.Commands as commands;
@@ -10,7 +12,7 @@ ghost use Rattle.job_run.specs.Demos.{IsDemoRunOf};
 ghost use Rattle.job_run.specs.IntervalRuns.{IsIntervalRunOf};
 ghost use Rattle.job_run.specs.Migrations.{IsMigrationOf};
 ghost use Rattle.job_run.specs.ReleaseRuns.{IsReleaseRunOf};
-ghost use Rattle.job_run.specs.PutReleases.{HasReleased};
+ghost use Rattle.job_run.specs.PutReleases.{HasReleased, PutsOnce};
 ghost use Rattle.job_run.specs.Reports.{AgreesWith, LeavesTray, LeavesAll, AnswersExactly, HasCause, HasComeTo, report_of};
 ghost use Rattle.job_run.specs.declared.report.Summary.{Summary as Numbers};
 
@@ -131,8 +133,8 @@ pub(crate) fn run_job<S: Shelf, T: Tray>(
         (λ fs. LeavesTray (report_of result) (settled_of Purpose.Release fs name.now) (T.state tray.old)
         (T.state tray.new)) }
     ensures untouched { LeavesAll (report_of result) (T.state tray.old) (T.state tray.new) }
-    ensures two_to_nine_puts { OnOk result ((count : ℕ) × (2 ≤ count) × (count ≤ 9)
-        × ((T.state tray.new).puts ≡ count_after (T.state tray.old).puts count)) }
+    ensures put_once { PutsOnce (report_of result) (T.state tray.old) (T.state tray.new) }
+    ensures shelf { HasOnlyLooked limit (S.state shelf.old) (S.state shelf.new) }
     ensures released { WhereTold (S.state shelf.old).files
         (λ fs. IfOk result (λ release. HasReleased fs name.now release (T.state tray.old) (T.state tray.new))) }
     ensures cause { HasCause (report_of result) (S.state shelf.old) (S.state shelf.new) (T.state tray.old)

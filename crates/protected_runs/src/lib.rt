@@ -2,6 +2,8 @@
 #![tactic(auto)]
 
 #[cfg(test)]
+mod accepted_tests;
+#[cfg(test)]
 mod migration_tests;
 #[cfg(test)]
 mod protected_tests;

@@ -5,7 +5,7 @@ use std::test::Fail;
 use worked_runs::{
     BY_INDUSTRY, FIRMS, FIRMS_CERTIFICATE, FIRMS_SAID, FIRMS_TABLE, MARGINS, ONE_TABLE,
     ONE_VARIABLE, SEVEN_RECORDS, SURVEY, THIRTEEN_RECORDS, THREE_VARIABLES, TWO_WAY, TWO_WAY_SAID,
-    WHOLE_FILES, run_alone,
+    WHOLE_FILES, run_alone, run_either_way, without_end,
 };
 
 const BOUNDED: &str = "a1,b2,b,48,52\n";
@@ -17,6 +17,10 @@ const INNER: &str =
 // And where one of them is bounded, so that margins are hidden in its place.
 const OUTER: &str =
     "argus certificate 2\nmethod MOD\ncells 9\nrelations 6\nhidden 3 4 6 7\nstep 1 0,0 4 3,4,6,7\nneed 3 4 above 1 4:1\nneed 6 4 above 1 2:1 5:-1\nneed 7 4 above 1 2:1\nworld 4 above 1 3:6 4:6 6:-6 7:-6\nworld 4 below 1 3:-6 4:-6 6:6 7:6\nend\nA,B,V\nTotal,Total,140\nTotal,b1,50\nTotal,b2,90\na1,Total,x\na1,b1,x\na1,b2,50\na2,Total,x\na2,b1,x\na2,b2,40\n";
+
+// What is said and put where one of two codes is primary and the other is hidden for it.
+const TWO_HIDDEN: &str =
+    "0 released: 6 records, 0 skipped, 0 passed over, 3 cells, 1 primary, 2 hidden\nargus certificate 2\nmethod MOD\ncells 3\nrelations 1\nhidden 1 2\nstep 1 0 1 1,2\nneed 2 1 above 1 0:1\nworld 1 above 1 1:9 2:-9\nworld 1 below 1 1:-9 2:9\nend\nA,V\nTotal,120\na,x\nb,x\n";
 
 // By what the office states: what is said of the two-way table and what is put. How many steps a question may take has no
 // effect on it.
@@ -48,6 +52,40 @@ fn two_way_tables(rt: HostRuntime) -> Result<(), Fail> {
         let got = run_alone(alloc, &files, WHOLE_FILES, 0)?;
         assert_eq!(rt; got.as_str(), want);
     }
+    Ok(())
+}
+
+// The thirteen records without the end of the last line, and with one byte less: the last of them is too short.
+#[test]
+fn records_without_their_end(rt: HostRuntime) -> Result<(), Fail> {
+    let alloc = rt.alloc();
+    let inner = format!(in alloc; "{TWO_WAY_SAID}{INNER}")?;
+    let rows = [(1, inner.as_str()), (2, "2 refused: record 13: Short\n")];
+    for (bytes, want) in rows {
+        let files = [
+            ("r.job", TWO_WAY),
+            ("m.rda", THREE_VARIABLES),
+            ("m.asc", without_end(THIRTEEN_RECORDS, bytes)),
+            ("p.hst", MARGINS),
+        ];
+        let got = run_either_way(alloc, &files)?;
+        assert_eq!(rt; got.as_str(), want);
+    }
+    Ok(())
+}
+
+// The seven records without the third: the first code has two, so it is primary, and the second is hidden for it.
+#[test]
+fn code_of_two_records(rt: HostRuntime) -> Result<(), Fail> {
+    let alloc = rt.alloc();
+    let records = SEVEN_RECORDS.replace(alloc, "a 30\n", "")?;
+    let files = [
+        ("r.job", ONE_TABLE),
+        ("m.rda", ONE_VARIABLE),
+        ("m.asc", records.as_str()),
+    ];
+    let got = run_either_way(alloc, &files)?;
+    assert_eq!(rt; got.as_str(), TWO_HIDDEN);
     Ok(())
 }
 
@@ -137,6 +175,39 @@ fn records_of_four_levels(alloc: Global) -> Result<String, Memory> {
         records.push_str(line.as_str())?;
     }
     Ok(records)
+}
+
+// So many codes of four digits, each on a line with this behind it.
+fn codes_with(alloc: Global, count: u32, end: &str) -> Result<String, Memory> {
+    let mut lines = String::new(alloc);
+    for code in 1..=count {
+        let line = format!(in alloc; "{code:04}{end}\n")?;
+        lines.push_str(line.as_str())?;
+    }
+    Ok(lines)
+}
+
+// 4,001 codes of a list, each with a record of 10: all of them are hidden, one more than may hang together.
+#[test]
+fn too_many_codes_of_a_list(rt: HostRuntime) -> Result<(), Fail> {
+    let alloc = rt.alloc();
+    let codes = codes_with(alloc, 4001, ",")?;
+    let records = codes_with(alloc, 4001, " 10")?;
+    let files = [
+        ("r.job", ONE_TABLE),
+        (
+            "m.rda",
+            "A 1 4\n<RECODEABLE>\n<CODELIST> \"a.cdl\"\nV 5 3\n<NUMERIC>\n",
+        ),
+        ("a.cdl", codes.as_str()),
+        ("m.asc", records.as_str()),
+    ];
+    let got = run_alone(alloc, &files, WHOLE_FILES, 0)?;
+    assert_eq!(rt;
+        got.as_str(),
+        "4 undecided: size, cell 1 above, 4001 hidden\n"
+    );
+    Ok(())
 }
 
 // 5,000 codes of four levels, all of which a rule names that wants 1,000 records: 5,000 hidden cells hang together, more

@@ -197,6 +197,37 @@ fn refusals_of_linked_tables(rt: HostRuntime) -> Result<(), Fail> {
     Ok(())
 }
 
+// Forty codes of two digits, a line each.
+fn forty_codes(alloc: Global) -> Result<String, Memory> {
+    let mut codes = String::new(alloc);
+    for code in 10_u32..50 {
+        let line = format!(in alloc; "{code},\n")?;
+        codes.push_str(line.as_str())?;
+    }
+    Ok(codes)
+}
+
+// Three variables with the forty codes of a list: the table by two of them has 1,681 cells, and that by all three has
+// more than a job may have.
+#[test]
+fn too_many_cells(rt: HostRuntime) -> Result<(), Fail> {
+    let alloc = rt.alloc();
+    let job = LINKED.replace(alloc, "\"A\"\"C\"", "\"A\"\"B\"\"C\"")?;
+    let codes = forty_codes(alloc)?;
+    let files = [
+        ("r.job", job.as_str()),
+        (
+            "m.rda",
+            "A 1 2\n<CODELIST> \"a.cdl\"\nB 3 2\n<CODELIST> \"a.cdl\"\nC 5 2\n<CODELIST> \"a.cdl\"\nV 7 3\n<NUMERIC>\n",
+        ),
+        ("a.cdl", codes.as_str()),
+        ("m.asc", THIRTEEN_RECORDS),
+    ];
+    let got = run_alone(alloc, &files, WHOLE_FILES, 0)?;
+    assert_eq!(rt; got.as_str(), "2 refused: table 2: TooManyCells\n");
+    Ok(())
+}
+
 // What each file of a job is called in reports, in the order in which they are read.
 const NAMES: [&str; 6] = [
     "job",

@@ -5,3 +5,6 @@ pub mod Speaking
 pub mod OneJudgement
 pub mod RoundedTexts
 pub mod RoundedAccepted
+pub mod JobsRead
+pub mod SameInputs
+pub mod RunsAccepted

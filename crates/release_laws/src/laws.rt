@@ -1,7 +1,10 @@
-//! Laws of the judgement of releases, each the contract of a function with an empty body.
+//! Laws of the judgement of releases, each the contract of a function that does nothing.
 
 ghost use Rattle.release_laws.specs.RoundingLaws.{RoundedAreReadBack, RoundingIsAccepted, WrittenRoundingIsAccepted};
+ghost use Rattle.release_laws.specs.RunLaws.{PutsAreAccepted, RunsAreAccepted};
 ghost use Rattle.release_laws.specs.Laws.{InputsAreJudgedInOneWay, ProtectionIsAccepted, WrittenIsAccepted};
+
+use job_lang::names_apart;
 
 /// The certificate of a protection has no fault with the tables that hide its set; nor has that of a job's protection
 /// for the case of the job's inputs.
@@ -24,3 +27,14 @@ pub fn rounded_is_accepted()
     ensures rounding { RoundingIsAccepted }
     ensures written { WrittenRoundingIsAccepted }
 {}
+
+/// What a run of a job puts, a check of the job accepts, or there is no memory: where it finds the same inputs, and so where
+/// it finds the run's own files, among them what the run put.
+pub fn runs_are_accepted()
+    ensures inputs { RunsAreAccepted }
+    ensures files { PutsAreAccepted }
+{
+    names_apart();
+    written_is_accepted();
+    rounded_is_accepted();
+}

@@ -12,5 +12,5 @@ pub use jobs::{
 };
 pub use runs::{
     Pieces, WHOLE_FILES, bytes_on, job_with, rounding_job, run_alone, run_either_way, run_over,
-    run_words, status_and_text, without_end,
+    run_then_check, run_words, status_and_text, without_end,
 };

@@ -25,15 +25,14 @@ const FILES: &str = "<OPENMICRODATA> \"m.asc\"\n<OPENMETADATA> \"m.rda\"\n<SPECI
 const BEHIND: &str =
     "|\"V\"\n<SAFETYRULE> FREQ(3,30)\n<WRITETABLE> (1,\"t.csv\")\n<CERTIFICATE> \"t.cert\"\n";
 
-// A shelf of these files, that gives pieces of so many bytes and one of whose calls fails.
-fn shelf_of(alloc: Global, given: &[(&str, &str)], pieces: Pieces) -> Result<MemoryShelf, Memory> {
+// These files, each its name and its bytes.
+fn files_of(alloc: Global, given: &[(&str, &str)]) -> Result<Vec<(Text, Vec<u8>)>, Memory> {
     let mut files = Vec::new(alloc);
     for (name, bytes) in given {
         let bytes = Vec::from_slice(alloc, bytes.as_bytes())?;
         files.push((Text::from_slice(alloc, name.as_bytes())?, bytes))?;
     }
-    let failing = vec![in alloc; pieces.failing]?;
-    Ok(MemoryShelf::new(files, failing, pieces.bytes.max(1)))
+    Ok(files)
 }
 
 /// The status and the text of a report.
@@ -63,12 +62,24 @@ pub fn run_words(
     pieces: Pieces,
     tray: &mut MemoryTray,
 ) -> Result<String, Memory> {
+    let files = files_of(alloc, files)?;
+    let failing = vec![in alloc; pieces.failing]?;
+    let mut shelf = MemoryShelf::new(files, failing, pieces.bytes.max(1));
+    run_on(alloc, words, &mut shelf, tray)
+}
+
+// What a run of these words over this shelf says, and then what the tray holds.
+fn run_on(
+    alloc: Global,
+    words: &[&str],
+    shelf: &mut MemoryShelf,
+    tray: &mut MemoryTray,
+) -> Result<String, Memory> {
     let mut given: Vec<Text> = Vec::new(alloc);
     for word in words {
         given.push(Text::from_slice(alloc, word.as_bytes())?)?;
     }
-    let mut shelf = shelf_of(alloc, files, pieces)?;
-    let report = run(alloc, given.as_slice(), &mut shelf, tray);
+    let report = run(alloc, given.as_slice(), shelf, tray);
     let said = status_and_text(alloc, &report)?;
     let held = bytes_on(alloc, tray)?;
     Ok(format!(in alloc; "{said}{held}")?)
@@ -104,6 +115,24 @@ pub fn run_either_way(alloc: Global, files: &[(&str, &str)]) -> Result<String, M
 pub fn run_over(alloc: Global, words: &[&str], files: &[(&str, &str)]) -> Result<String, Memory> {
     let mut tray = MemoryTray::new(alloc, Vec::new(alloc));
     run_words(alloc, words, files, WHOLE_FILES, &mut tray)
+}
+
+/// What a check of the job `r.job` says of what its own run puts, over a shelf that holds the run's tray beside the same
+/// files.
+pub fn run_then_check(alloc: Global, files: &[(&str, &str)]) -> Result<String, Memory> {
+    let mut tray = MemoryTray::new(alloc, Vec::new(alloc));
+    run_words(alloc, &["run", "r.job"], files, WHOLE_FILES, &mut tray)?;
+    let mut held = files_of(alloc, files)?;
+    for name in ["t.cert", "t.csv", "u.csv"] {
+        let put = Text::from_slice(alloc, name.as_bytes())?;
+        if let Some(bytes) = tray.file(&put) {
+            let bytes = Vec::from_slice(alloc, bytes)?;
+            held.push((put, bytes))?;
+        }
+    }
+    let mut shelf = MemoryShelf::new(held, Vec::new(alloc), 4096);
+    let mut beside = MemoryTray::new(alloc, Vec::new(alloc));
+    run_on(alloc, &["check", "r.job"], &mut shelf, &mut beside)
 }
 
 /// A job that has one table by these variables, and these lines of its method.

@@ -12,7 +12,7 @@ returns-in-Err-Inputs-clause-check g c =
     let is : c.check_release.result ≡ Err (check.Inputs c.in-Err-Inputs.stop) = c.in-Err-Inputs.is ∙ ap Err c.in-Err-Inputs.field-0-is in
     let same : check_report c.check_release.result ≡ c.report.result = ap check_report is ∙ sym (c.report.ensures ∙ ap (λ (s : Stop). report_of (Err s)) c.from.ensures) in
     subst (λ (answer : Report). IsCheckOf c.args.name.now answer (g.S.Shelf.state c.args.shelf.now) (g.S.Shelf.state c.check_release.new.shelf) (g.T.Tray.state c.args.tray.now) (g.T.Tray.state c.args.tray.now)) same
-    (check-run c.args.name.now c.check_release.result _ _ _ c.check_release.ensures.told c.check_release.ensures.came_to c.check_release.ensures.cause)
+    (check-run c.args.name.now c.check_release.result _ _ _ c.check_release.ensures.told c.check_release.ensures.came_to c.check_release.ensures.cause c.check_release.ensures.shelf)
 
 pub returns-in-Err-Inputs-clause-cause : goal.returns-in-Err-Inputs-clause-cause
 returns-in-Err-Inputs-clause-cause g c =

@@ -7,7 +7,7 @@ use Rattle.job_run.proofs.interval_run.put_intervals.Goals as goal
 pub returns-in-Err-Inputs-clause-intervals : goal.returns-in-Err-Inputs-clause-intervals
 returns-in-Err-Inputs-clause-intervals g c =
     stopped-run-of c.args.name.now c.args.out.now c.find_intervals.result _ c.report.result _ _ _ (c.in-Err-Inputs.is ∙ ap Err c.in-Err-Inputs.field-0-is) (c.report.ensures ∙ ap (λ (s : Stop). report_of (Err s)) c.from.ensures)
-    c.find_intervals.ensures.told c.find_intervals.ensures.came_to c.find_intervals.ensures.cause
+    c.find_intervals.ensures.told c.find_intervals.ensures.came_to c.find_intervals.ensures.cause c.find_intervals.ensures.shelf
 
 pub returns-in-Err-Inputs-clause-cause : goal.returns-in-Err-Inputs-clause-cause
 returns-in-Err-Inputs-clause-cause g c =
@@ -16,4 +16,4 @@ returns-in-Err-Inputs-clause-cause g c =
 pub returns-clause-intervals : goal.returns-clause-intervals
 returns-clause-intervals g c =
     stopped-run-of c.args.name.now c.args.out.now c.find_intervals.result _ c.question_report.result _ _ _ (c.in-Err-Undecided.is ∙ ap Err c.in-Err-Undecided.field-0-is) c.question_report.ensures c.find_intervals.ensures.told c.find_intervals.ensures.came_to
-    c.find_intervals.ensures.cause
+    c.find_intervals.ensures.cause c.find_intervals.ensures.shelf

@@ -23,4 +23,4 @@ pub returns-in_err-put_file-clause-memory : goal.returns-in_err-put_file-clause-
 returns-in_err-put_file-clause-memory g c =
     λ is.
     let p = err_from_is_err_and c.from_residual.result c.from_residual.ensures.1 in
-    some-whole c.args.puts.now c.loop-next.next-index _ _ _ c.loop-next.invariant.done c.loop-next.invariant.none c.loop-next.invariant.once (c.in_err-put_file.ensures.memory (ap Err (sym p.2) ∙ sym p.1 ∙ is))
+    some-whole c.args.puts.now c.loop-next.next-index _ _ _ c.loop-next-test.true c.loop-next.invariant.done c.loop-next.invariant.none c.loop-next.invariant.once (c.in_err-put_file.ensures.memory (ap Err (sym p.2) ∙ sym p.1 ∙ is))

@@ -6,8 +6,8 @@ use Rattle.job_inputs.specs.declared.file_ref.FileRef.{FileRef}
 use Rattle.job_run.specs.Puts.{AllWhole, OneInPart, SomeWhole}
 use Rattle.job_run.specs.declared.put.FilePut.{FilePut}
 use Rattle.job_run.specs.declared.puts.PutStop.TheVariants as stop
-use Rattle.job_run.proofs.Outcomes.{ok-and, inputs-meet, inputs-leave, inputs-leave-all, inputs-cause, inputs-come, stop-meets, stop-leaves, stop-leaves-all, stop-cause, stop-come, puts-meet, puts-leave, puts-leave-all, puts-cause, puts-come, released-cause}
-use Rattle.job_run.proofs.Settling.{release-is}
+use Rattle.job_run.proofs.Outcomes.{ok-and, inputs-meet, inputs-leave, inputs-leave-all, inputs-cause, inputs-come, inputs-put-none, stop-meets, stop-leaves, stop-leaves-all, stop-cause, stop-come, stop-puts-none, puts-meet, puts-leave, puts-leave-all, puts-cause, puts-come, puts-once, released-cause}
+use Rattle.job_run.proofs.Settling.{release-is, some-release}
 use Rattle.job_run.proofs.running.run_job.Goals as goal
 
 -- ---- what stopped the inputs
@@ -39,6 +39,11 @@ returns-in_err-settled-clause-came_to g c =
     λ fs told.
     let p = err_from_is_err_and c.from_residual.result c.from_residual.ensures.1 in
     rw (p.1, p.2) (inputs-come c.in_err-settled.field-0.0 _ fs (g.S.Shelf.state c.read_settled.new.shelf) (c.in_err-settled.ensures.looked.came_to fs told))
+
+pub returns-in_err-settled-clause-put_once : goal.returns-in_err-settled-clause-put_once
+returns-in_err-settled-clause-put_once g c =
+    let p = err_from_is_err_and c.from_residual.result c.from_residual.ensures.1 in
+    rw (p.1, p.2) (inputs-put-none c.in_err-settled.field-0.0 _)
 
 -- ---- the release
 
@@ -82,6 +87,12 @@ returns-in_err-release-clause-came_to g c =
     let some = c.in_ok-settled.ensures.settled in
     rw (p.1, p.2) (stop-come c.in_err-release.field-0.0 some.0 _ fs (g.S.Shelf.state c.read_settled.new.shelf) (c.in_err-release.ensures.comes some.0 some.1))
 
+pub returns-in_err-release-clause-put_once : goal.returns-in_err-release-clause-put_once
+returns-in_err-release-clause-put_once g c =
+    let p = err_from_is_err_and c.from_residual-in_err-release.result c.from_residual-in_err-release.ensures.1 in
+    let some = c.in_ok-settled.ensures.settled in
+    rw (p.1, p.2) (stop-puts-none c.in_err-release.field-0.0 some.0 _ (c.in_err-release.ensures.comes some.0 some.1))
+
 -- ---- the puts
 
 pub put_files-requires : goal.put_files-requires
@@ -123,6 +134,16 @@ returns-in_err-put_files-clause-came_to g c =
     let p = err_from_is_err_and c.from_residual-in_err-put_files.result c.from_residual-in_err-put_files.ensures.1 in
     rw (p.1, p.2) (puts-come c.in_err-put_files.field-0.0 _ fs (g.S.Shelf.state c.read_settled.new.shelf))
 
+pub returns-in_err-put_files-clause-put_once : goal.returns-in_err-put_files-clause-put_once
+returns-in_err-put_files-clause-put_once g c =
+    let p = err_from_is_err_and c.from_residual-in_err-put_files.result c.from_residual-in_err-put_files.ensures.1 in
+    let some = c.in_ok-settled.ensures.settled in
+    rw (p.1, p.2)
+    (puts-once c.in_err-put_files.field-0.0 c.in_ok-release.release _ _
+    (some-release some.0 c.in_ok-release.release some.2 (c.in_ok-release.ensures.comes some.0 some.1) c.in_ok-settled.settled.described some.1.described c.in_ok-release.ensures.one_more_than_tables)
+    (subst (λ (puts : List FilePut). (f : FileRef) → IsErrOf {T = Unit {0}} (Err c.in_err-put_files.field-0.0) (stop.WriteFault f) → OneInPart puts f (g.T.Tray.state c.args.tray.now) (g.T.Tray.state c.put_files.new.tray)) c.as_slice.ensures c.in_err-put_files.ensures.part)
+    (subst (λ (puts : List FilePut). IsErrOf {T = Unit {0}} (Err c.in_err-put_files.field-0.0) stop.Memory → SomeWhole puts (g.T.Tray.state c.args.tray.now) (g.T.Tray.state c.put_files.new.tray)) c.as_slice.ensures c.in_err-put_files.ensures.memory))
+
 -- ---- a release
 
 pub returns-clause-told : goal.returns-clause-told
@@ -134,16 +155,13 @@ returns-clause-told g c =
 pub returns-clause-left : goal.returns-clause-left
 returns-clause-left g c = λ fs told. tt
 
-pub returns-clause-two_to_nine_puts : goal.returns-clause-two_to_nine_puts
-returns-clause-two_to_nine_puts g c =
-    let puts = c.in_ok-release.release.puts in
-    let job = c.in_ok-settled.ensures.looked.sound.sound.job in
-    let many : length puts ≡ 1 + length c.in_ok-settled.settled.described.job.tables = c.in_ok-release.ensures.one_more_than_tables in
-    let whole = subst (λ (puts : List FilePut). AllWhole puts (g.T.Tray.state c.args.tray.now) (g.T.Tray.state c.put_files.new.tray)) c.as_slice.ensures c.in_ok-put_files.ensures.has_put_all in (
-      length puts,
-      omega (arith, many, job.tables.has_table),
-      omega (arith, many, job.at_most_8_tables),
-      whole.puts_made,
+pub returns-clause-put_once : goal.returns-clause-put_once
+returns-clause-put_once g c =
+    let some = c.in_ok-settled.ensures.settled in (
+      c.in_ok-release.release,
+      some-release some.0 c.in_ok-release.release some.2 (c.in_ok-release.ensures.comes some.0 some.1) c.in_ok-settled.settled.described some.1.described c.in_ok-release.ensures.one_more_than_tables,
+      refl,
+      subst (λ (puts : List FilePut). AllWhole puts (g.T.Tray.state c.args.tray.now) (g.T.Tray.state c.put_files.new.tray)) c.as_slice.ensures c.in_ok-put_files.ensures.has_put_all,
     )
 
 pub returns-clause-released : goal.returns-clause-released
@@ -152,7 +170,7 @@ returns-clause-released g c =
     let read = ok-and (λ s. IsSettledOf s c.in_ok-settled.settled) (settled_of purpose.Release fs c.args.name.now) (c.in_ok-settled.ensures.looked.told fs told) in
     let whole = subst (λ (puts : List FilePut). AllWhole puts (g.T.Tray.state c.args.tray.now) (g.T.Tray.state c.put_files.new.tray)) c.as_slice.ensures c.in_ok-put_files.ensures.has_put_all in
     release-is fs c.args.name.now read.0 c.in_ok-release.release _ _ read.1
-    (c.in_ok-release.ensures.comes read.0 read.2) whole
+    (c.in_ok-release.ensures.comes read.0 read.2) whole c.in_ok-settled.settled.described read.2.described c.in_ok-release.ensures.one_more_than_tables c.in_ok-settled.ensures.looked.sound.sound
 
 pub returns-clause-cause : goal.returns-clause-cause
 returns-clause-cause g c = released-cause c.in_ok-release.release.summary _ _ _ _

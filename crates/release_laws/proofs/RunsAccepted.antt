@@ -1,0 +1,330 @@
+-- What a run has put is accepted by a check that finds it beside the same inputs.
+use Rattle.std.proofs.Common.{◌≡◌, ◌≢◌, ◌⊎◌, inl, inr, ℕ, suc, ◌+◌, ◌<◌, ◌≤◌, Bool, true, false, if◌then◌else◌, nat_lt, List, [], ◌∷◌, length, map, slice_get, Option, None, Some, option_map, Result, Ok, Err, ℤ, refl, ap, sym, subst, ◌∙◌, arith}
+use Rattle.std.proofs.lemmas.Bool.Decides.{nat_tests}
+use Rattle.std.specs.Prelude.{slice_index_or}
+use Rattle.std.specs.List.{AllByRecursion, IsDistinct}
+use Rattle.std.specs.Option.{option_and_then}
+use Rattle.std.specs.Str.{bytes_eq}
+use Rattle.std.proofs.lemmas.Map.Keys.{IsDistinct-head, IsDistinct-tail}
+use Rattle.std.proofs.lemmas.Slice.Eq.{bytes_eq-Decides}
+use Rattle.sdc_base.specs.Records.{Name}
+use Rattle.sdc_base.specs.Roundings.{IsRounding}
+use Rattle.sdc_base.specs.Steps.{map_fault}
+use Rattle.sdc_base.specs.TableText.{table_text}
+use Rattle.sdc_base.specs.declared.method.Method.{Method}
+use Rattle.sdc_base.specs.declared.method.Method.TheVariants as method
+use Rattle.certificate.specs.Certificates.{certificate_of}
+use Rattle.certificate.specs.Texts.{text_of}
+use Rattle.certificate.specs.declared.certificate.Certificate.{Certificate}
+use Rattle.cert_check.specs.Cases.{IsCase}
+use Rattle.cert_check.specs.FirstFault.{first_fault}
+use Rattle.cert_check.specs.Methods.{rounds_cells}
+use Rattle.cert_check.specs.declared.case.Case.{Case}
+use Rattle.cert_check.specs.declared.faults.CheckFault.{CheckFault}
+use Rattle.job_lang.specs.FileLaws.{PutsAreNotNamed, PutsAreNotRead, PutsDiffer, puts_of as names_put}
+use Rattle.job_lang.specs.declared.job.Job.{Job}
+use Rattle.job_lang.specs.declared.job.OutputLine.{OutputLine}
+use Rattle.job_lang.specs.declared.job.TableLine.{TableLine}
+use Rattle.linked_tables.specs.BookViews.{BookView}
+use Rattle.linked_tables.specs.BookCells.{number_of}
+use Rattle.office_io.specs.Files.{Files, files_after_put}
+use Rattle.release_writer.specs.ReadingLaws.{AreTexts}
+use Rattle.release_writer.specs.ShownCells.{open_truth}
+use Rattle.job_inputs.proofs.CertificateFiles.{certificate-is}
+use Rattle.job_inputs.specs.CertificateFile.{certificate_in, certificate_fault}
+use Rattle.job_inputs.specs.ReadFiles.{bytes_of_file, limit_of, output_limit, whole_file}
+use Rattle.job_inputs.specs.SettledJobs.{SettledInputs, settled_of}
+use Rattle.job_inputs.specs.SoundJobs.{IsSound}
+use Rattle.job_inputs.specs.TabulatedBooks.{IsBookOf}
+use Rattle.job_inputs.specs.Tables.{names_of, tables_of, tables_from as bytes_from}
+use Rattle.job_inputs.specs.declared.described.DescribedJob.{DescribedJob}
+use Rattle.job_inputs.specs.declared.faults.Fault.{Fault}
+use Rattle.job_inputs.specs.declared.file_ref.FileRef.{FileRef}
+use Rattle.job_inputs.specs.declared.file_ref.FileRef.TheVariants as file
+use Rattle.job_inputs.specs.declared.inputs.Inputs.{Inputs}
+use Rattle.job_inputs.specs.declared.purpose.Purpose.TheVariants as purpose
+use Rattle.job_check.specs.Cases.{base_of as case_base, IsCaseOf}
+use Rattle.job_check.specs.ReleaseFiles.{ReleasedFiles, released_of}
+use Rattle.job_run.proofs.SameBook.{still-book}
+use Rattle.job_run.proofs.SecondRuns.{OfOthers, all-others}
+use Rattle.job_run.proofs.Showing.{hidden-shown, values-shown}
+use Rattle.job_run.proofs.TableSteps.{as-many}
+use Rattle.job_run.specs.Checks.{MeetsCheck, SettlesCheck}
+use Rattle.job_run.specs.Endings.{IsReleaseBy}
+use Rattle.job_run.specs.Protections.{IsSuppressedRelease}
+use Rattle.job_run.specs.Puts.{Put, put_all}
+use Rattle.job_run.specs.Releases.{puts_of, shown_in, table_of, tables_from, value_in}
+use Rattle.job_run.specs.Roundings.{base_in_units, base_of, rounded_certificate, truths_in, IsRoundedRelease}
+use Rattle.job_run.specs.PutReleases.{PutRelease}
+use Rattle.job_run.specs.declared.report.Report.{Report}
+use Rattle.job_run.specs.declared.report.Report.TheVariants as report
+use Rattle.release_laws.proofs.JobsRead.{described-read, inputs-read, job-read}
+use Rattle.release_laws.proofs.SameInputs.{settled-same}
+use Rattle.release_laws.specs.Laws.{WrittenIsAccepted}
+use Rattle.release_laws.specs.RoundingLaws.{WrittenRoundingIsAccepted}
+use Rattle.release_laws.specs.RunLaws.{IsShort, PutsAreAccepted, RunsAreAccepted}
+
+-- ---- the files of puts
+
+-- each put stands under its name
+abbrev AreHeld : Files → List Put → Type 0
+AreHeld files puts = AllByRecursion (λ (p : Put). files p.name ≡ Some p.bytes) puts
+
+-- no put is too long
+abbrev AreShort : List Put → Type 0
+AreShort puts = AllByRecursion (λ (p : Put). length p.bytes ≤ output_limit) puts
+
+-- the names of puts
+abbrev names : List Put → List (List ℕ)
+names puts = map (λ (p : Put). p.name) puts
+
+put-self : (files : Files) (name bytes : List ℕ) → files_after_put files name bytes name ≡ Some bytes
+put-self files name bytes = ap (λ (same : Bool). if same then Some bytes else files name) ((bytes_eq-Decides name name).1 refl)
+
+apart-names : (one other : List ℕ) → bytes_eq one other ≡ false → one ≢ other
+apart-names one other apart same = let yes : bytes_eq one other ≡ true = (bytes_eq-Decides one other).1 same in absurd cc
+
+apart-from : (name : List ℕ) (puts : List Put) → AllByRecursion (λ (other : List ℕ). bytes_eq name other ≡ false) (names puts) → OfOthers name puts
+apart-from name [] all = tt
+apart-from name (p ∷ puts) all = (apart-names name p.name all.0, apart-from name puts all.1)
+
+-- after puts of different names each stands under its name
+all-held : (puts : List Put) (out : Files) → IsDistinct bytes_eq (names puts) → AreHeld (put_all out puts) puts
+all-held [] out apart = tt
+all-held (p ∷ puts) out apart = (
+  all-others p.name puts (files_after_put out p.name p.bytes) (apart-from p.name puts (IsDistinct-head bytes_eq p.name (names puts) apart)) ∙ put-self out p.name p.bytes,
+  all-held puts (files_after_put out p.name p.bytes) (IsDistinct-tail bytes_eq p.name (names puts) apart),
+)
+
+-- where other files agree with these under the names, they hold the puts too
+held-too : (puts : List Put) (out held : Files) → AllByRecursion (λ (name : List ℕ). held name ≡ out name) (names puts) → AreHeld out puts → AreHeld held puts
+held-too [] out held same are = tt
+held-too (p ∷ puts) out held same are = (same.0 ∙ are.0, held-too puts out held same.1 are.1)
+
+are-short : (puts : List Put) (out : Files) → AllByRecursion (λ (name : List ℕ). IsShort (out name)) (names puts) → AreHeld out puts → AreShort puts
+are-short [] out short are = tt
+are-short (p ∷ puts) out short are = (subst IsShort are.0 short.0, are-short puts out short.1 are.1)
+
+-- a file of at most so many bytes is read whole
+fits : (f : FileRef) (bytes : List ℕ) → length bytes ≤ limit_of f → whole_file f (Some bytes) ≡ Ok bytes
+fits f bytes short = let no : nat_lt (limit_of f) (length bytes) ≡ false = grind (arith, nat_tests, short) in rw no refl
+
+read-whole : (f : FileRef) (files : Files) (name bytes : List ℕ) → files name ≡ Some bytes → length bytes ≤ limit_of f → bytes_of_file files name f ≡ Ok bytes
+read-whole f files name bytes is short = ap (whole_file f) is ∙ fits f bytes short
+
+-- ---- what a release puts
+
+table-names : (inputs : Inputs) (shown : Name → Option ℤ) (t : ℕ) (lines : List TableLine) (outputs : List OutputLine) → length outputs ≡ length lines
+    → names (tables_from inputs shown t lines outputs) ≡ map (λ (o : OutputLine). o.file) outputs
+table-names inputs shown t [] [] many = refl
+table-names inputs shown t [] (output ∷ outputs) many = absurd (omega (arith, many))
+table-names inputs shown t (line ∷ lines) [] many = absurd (omega (arith, many))
+table-names inputs shown t (line ∷ lines) (output ∷ outputs) many = ap (λ (rest : List (List ℕ)). output.file ∷ rest) (table-names inputs shown (t + 1) lines outputs (omega (arith, many)))
+
+release-names : (inputs : Inputs) (shown : Name → Option ℤ) (certificate : Certificate) → length inputs.described.job.outputs ≡ length inputs.described.job.tables
+    → names_put inputs.described.job ≡ names (puts_of inputs shown certificate)
+release-names inputs shown certificate many = ap (λ (rest : List (List ℕ)). inputs.described.job.certificate ∷ rest) (sym (table-names inputs shown 0 inputs.described.job.tables inputs.described.job.outputs many))
+
+-- the bytes of tables that stand under the names of outputs
+tables-read : (files : Files) (inputs : Inputs) (shown : Name → Option ℤ) (t : ℕ) (lines : List TableLine) (outputs : List OutputLine) → length outputs ≡ length lines → AreHeld files (tables_from inputs shown t lines outputs)
+    → AreShort (tables_from inputs shown t lines outputs) → bytes_from files t outputs ≡ Ok (map (λ (p : Put). p.bytes) (tables_from inputs shown t lines outputs))
+unfolding bytes_from
+tables-read files inputs shown t [] [] many are short = refl
+tables-read files inputs shown t [] (output ∷ outputs) many are short = absurd (omega (arith, many))
+tables-read files inputs shown t (line ∷ lines) [] many are short = absurd (omega (arith, many))
+tables-read files inputs shown t (line ∷ lines) (output ∷ outputs) many are short =
+    rw (read-whole (file.Table t) files output.file (table_of inputs shown t (names_of line)) are.0 short.0, tables-read files inputs shown (t + 1) lines outputs (omega (arith, many)) are.1 short.1) refl
+
+-- the bytes of the tables of a release
+abbrev table_bytes : Inputs → (Name → Option ℤ) → List (List ℕ)
+table_bytes inputs shown = map (λ (p : Put). p.bytes) (tables_from inputs shown 0 inputs.described.job.tables inputs.described.job.outputs)
+
+-- a release that stands under the names of its job is read
+release-read : (files : Files) (name : List ℕ) (settled : SettledInputs) (shown : Name → Option ℤ) (certificate : Certificate) → settled_of purpose.Release files name ≡ Ok settled
+    → length settled.inputs.described.job.outputs ≡ length settled.inputs.described.job.tables → certificate_of (text_of certificate) ≡ Ok certificate → AreHeld files (puts_of settled.inputs shown certificate)
+    → AreShort (puts_of settled.inputs shown certificate) → released_of files name ≡ Ok (record { settled = settled; certificate = certificate; tables = table_bytes settled.inputs shown })
+unfolding released_of
+release-read files name settled shown certificate read many back are short =
+    let job : Job = settled.inputs.described.job in
+    let signed : certificate_in files job.certificate ≡ Ok certificate =
+    certificate-is files job.certificate (text_of certificate) certificate (read-whole file.Certificate files job.certificate (text_of certificate) are.0 short.0) (ap (map_fault certificate_fault) back) in
+    let put : tables_of files job ≡ Ok (table_bytes settled.inputs shown) = tables-read files settled.inputs shown 0 job.tables job.outputs many are.1 short.1 in
+    rw (read, signed, put) refl
+
+-- ---- the texts of its tables
+
+-- the text of a table of the book is that of the inputs
+abbrev ShowsSame : Inputs → BookView → (Name → Option ℤ) → (ℕ → Option ℤ) → Type 0
+ShowsSame inputs book shown by =
+    (t : ℕ) (header : List (List ℕ)) → t < length book.tables
+    → table_text book.trees (slice_index_or book.tables t []) header inputs.described.bound.decimals (λ name. option_and_then by (number_of book name)) ≡ table_of inputs shown t header
+
+-- those from table t on
+texts-from : (inputs : Inputs) (book : BookView) (shown : Name → Option ℤ) (by : ℕ → Option ℤ) (t : ℕ) (rest : List (List ℕ)) (lines : List TableLine) (outputs : List OutputLine) → ShowsSame inputs book shown by
+    → length rest ≡ length lines → length outputs ≡ length lines → t + length rest ≤ length book.tables → ((k : ℕ) → k < length rest → slice_index_or book.tables (t + k) [] ≡ slice_index_or rest k [])
+    → AreTexts book inputs.described.bound.decimals by rest (map names_of lines) (map (λ (p : Put). p.bytes) (tables_from inputs shown t lines outputs))
+texts-from inputs book shown by t [] [] [] same many each within at = tt
+texts-from inputs book shown by t [] [] (output ∷ outputs) same many each within at = absurd (omega (arith, each))
+texts-from inputs book shown by t [] (line ∷ lines) outputs same many each within at = absurd (omega (arith, many))
+texts-from inputs book shown by t (table ∷ rest) [] outputs same many each within at = absurd (omega (arith, many))
+texts-from inputs book shown by t (table ∷ rest) (line ∷ lines) [] same many each within at = absurd (omega (arith, each))
+texts-from inputs book shown by t (table ∷ rest) (line ∷ lines) (output ∷ outputs) same many each within at =
+    let here : t + 0 ≡ t = omega arith in
+    let first : slice_index_or book.tables t [] ≡ table = ap (λ (k : ℕ). slice_index_or book.tables k []) (sym here) ∙ at 0 (omega arith) in (
+      sym (same t (names_of line) (omega (arith, within))) ∙ ap (λ (one : List ℕ). table_text book.trees one (names_of line) inputs.described.bound.decimals (λ name. option_and_then by (number_of book name))) first,
+      texts-from inputs book shown by (t + 1) rest lines outputs same (omega (arith, many)) (omega (arith, each)) (omega (arith, within))
+          (λ k inside. (let next : t + suc k ≡ t + 1 + k = omega arith in ap (λ (n : ℕ). slice_index_or book.tables n []) (sym next) ∙ at (suc k) (omega (arith, inside)))),
+    )
+
+-- a case's tables are the texts that its release puts
+case-texts : (settled : SettledInputs) (case : Case) (shown : Name → Option ℤ) (by : ℕ → Option ℤ) → IsSound settled.inputs.described → IsCaseOf settled case → ShowsSame settled.inputs case.book.now shown by
+    → AreTexts case.book.now case.decimals by case.book.now.tables case.names.now (table_bytes settled.inputs shown)
+case-texts settled case shown by sound is same =
+    let inputs : Inputs = settled.inputs in
+    let book : BookView = case.book.now in
+    let tables : book.tables ≡ inputs.described.bound.tables = is.book.tables ∙ is.job_is.book.tables in
+    let many : length book.tables ≡ length inputs.described.job.tables = ap length tables ∙ as-many inputs.described.bound.tables inputs.described.job.tables sound.bound.tables in
+    let decimals : inputs.described.bound.decimals ≡ case.decimals = sym (is.decimals ∙ ap (λ (d : DescribedJob). d.bound.decimals) is.job_is.described) in
+    let named : map names_of inputs.described.job.tables ≡ case.names.now = sym (is.names ∙ ap (λ (d : DescribedJob). map names_of d.job.tables) is.job_is.described) in
+    let texts = texts-from inputs book shown by 0 book.tables inputs.described.job.tables inputs.described.job.outputs same many sound.job.outputs (omega arith) (λ k inside. (let first : 0 + k ≡ k = omega arith in ap (λ (n : ℕ). slice_index_or book.tables n []) first)) in
+    subst (λ (all : List (List (List ℕ))). AreTexts book case.decimals by book.tables all (table_bytes inputs shown)) named
+    (subst (λ (n : ℕ). AreTexts book n by book.tables (map names_of inputs.described.job.tables) (table_bytes inputs shown)) decimals texts)
+
+-- ---- methods
+
+hides-so : (one : Method) (decimals : ℕ) → base_in_units one decimals ≡ None → rounds_cells one ≡ false
+hides-so (method.Rnd base) decimals is = absurd cc
+hides-so (method.Gh passes) decimals is = refl
+hides-so method.Modular decimals is = refl
+
+rounds-so : (one : Method) (decimals : ℕ) (base : ℤ) → base_in_units one decimals ≡ Some base → (rounds_cells one ≡ true) × (case_base one decimals ≡ base)
+rounds-so (method.Rnd whole) decimals base is = (refl, cc)
+rounds-so (method.Gh passes) decimals base is = absurd cc
+rounds-so method.Modular decimals base is = absurd cc
+
+-- the method of a case is that of the inputs
+case-method : (settled : SettledInputs) (case : Case) → IsCaseOf settled case → settled.inputs.described.job.method ≡ case.method
+case-method settled case is = sym (is.method ∙ ap (λ (d : DescribedJob). d.job.method) is.job_is.described)
+
+-- ---- a release has no fault
+
+-- the released files have no fault for any case of theirs
+abbrev HasNoFault : ReleasedFiles → Type 0
+HasNoFault released = (case : Case) → IsCaseOf released.settled case → IsCase case released.tables → first_fault case released.tables released.certificate ≡ Ok tt
+
+hidden-passes : WrittenIsAccepted → (settled : SettledInputs) (release : PutRelease) (is : IsSuppressedRelease settled release) → IsSound settled.inputs.described
+    → HasNoFault (record { settled = settled; certificate = is.certificate; tables = table_bytes settled.inputs (shown_in settled.inputs is.hidden_set.hidden.flags) })
+hidden-passes written settled release is sound = λ case is_case fit.
+    let inputs : Inputs = settled.inputs in
+    let flags : List Bool = is.hidden_set.hidden.flags in
+    let book : IsBookOf inputs case.book.now = still-book inputs is_case.job.book case.book.now is_case.book is_case.job_is.book in
+    written settled is.protects.job is.protects.system _ is.hidden_set is.certificate case (table_bytes inputs (shown_in inputs flags)) is.protects.job_is is.protects.system_is is.protects.comes_to is_case fit
+    (subst (λ (m : Method). rounds_cells m ≡ false) (case-method settled case is_case) (hides-so inputs.described.job.method inputs.described.bound.decimals is.protects.hides))
+    (case-texts settled case (shown_in inputs flags) (open_truth case.book.now.marks flags) sound is_case (λ t header within. hidden-shown inputs case.book.now flags t header book within))
+
+rounding-passes : WrittenRoundingIsAccepted → (settled : SettledInputs) (base : ℤ) (release : PutRelease) (is : IsRoundedRelease settled base release) → base_of settled.inputs.described ≡ Some base → IsSound settled.inputs.described
+    → HasNoFault (record { settled = settled; certificate = rounded_certificate settled.inputs; tables = table_bytes settled.inputs (value_in settled.inputs is.values) })
+rounding-passes written settled base release is rounds sound = λ case is_case fit.
+    let inputs : Inputs = settled.inputs in
+    let d : DescribedJob = inputs.described in
+    let method : rounds_cells d.job.method ≡ true = (rounds-so d.job.method d.bound.decimals base rounds).0 in
+    let units : base ≡ case.base = sym (is_case.base ∙ ap (λ (one : DescribedJob). case_base one.job.method one.bound.decimals) is_case.job_is.described ∙ (rounds-so d.job.method d.bound.decimals base rounds).1) in
+    let book : IsBookOf inputs case.book.now = still-book inputs is_case.job.book case.book.now is_case.book is_case.job_is.book in
+    written settled is.rounding.system_is.0 is.rounding.system is.values case (table_bytes inputs (value_in inputs is.values)) sound is.rounding.system_is.1 is.rounding.system_is.2
+    (subst (λ (b : ℤ). IsRounding is.rounding.system (truths_in settled.inputs) b is.values) units is.rounding.rounding) is_case fit
+    (subst (λ (m : Method). rounds_cells m ≡ true) (case-method settled case is_case) method)
+    (case-texts settled case (value_in inputs is.values) (slice_get is.values) sound is_case (λ t header within. values-shown inputs case.book.now is.values t header book))
+
+-- ---- a release that stands under its names
+
+-- what is read there has no fault
+record IsReadSo (files : Files) (name : List ℕ) : Type 0 where
+  released : ReleasedFiles
+  is : released_of files name ≡ Ok released
+  passes : HasNoFault released
+
+-- the puts of a release under their names, none too long, beside its inputs
+record StandsBeside (files out : Files) (name : List ℕ) (settled : SettledInputs) : Type 0 where
+  read : settled_of purpose.Release files name ≡ Ok settled
+  sound : IsSound settled.inputs.described
+  differ : IsDistinct bytes_eq (names_put settled.inputs.described.job)
+  puts : AllByRecursion (λ (put : List ℕ). files put ≡ out put) (names_put settled.inputs.described.job)
+  short : AllByRecursion (λ (put : List ℕ). IsShort (out put)) (names_put settled.inputs.described.job)
+
+stands : (files out before : Files) (name : List ℕ) (settled : SettledInputs) (shown : Name → Option ℤ) (certificate : Certificate) → StandsBeside files out name settled → out ≡ put_all before (puts_of settled.inputs shown certificate)
+    → AreHeld files (puts_of settled.inputs shown certificate) × AreShort (puts_of settled.inputs shown certificate)
+stands files out before name settled shown certificate s made =
+    let puts : List Put = puts_of settled.inputs shown certificate in
+    let called = release-names settled.inputs shown certificate s.sound.job.outputs in
+    let whole : AreHeld out puts = subst (λ (o : Files). AreHeld o puts) (sym made) (all-held puts before (subst (λ (all : List (List ℕ)). IsDistinct bytes_eq all) called s.differ)) in (
+      held-too puts out files (subst (λ (all : List (List ℕ)). AllByRecursion (λ (put : List ℕ). files put ≡ out put) all) called s.puts) whole,
+      are-short puts out (subst (λ (all : List (List ℕ)). AllByRecursion (λ (put : List ℕ). IsShort (out put)) all) called s.short) whole,
+    )
+
+read-so : WrittenIsAccepted → WrittenRoundingIsAccepted → (files out before : Files) (name : List ℕ) (settled : SettledInputs) (release : PutRelease) (base : Option ℤ) → base_of settled.inputs.described ≡ base → IsReleaseBy base settled release
+    → StandsBeside files out name settled → out ≡ put_all before release.puts → IsReadSo files name
+read-so written rounded files out before name settled release None rounds is s made =
+    let shown : Name → Option ℤ = shown_in settled.inputs is.hidden_set.hidden.flags in
+    let both = stands files out before name settled shown is.certificate s (made ∙ ap (put_all before) is.puts) in
+    record {
+      released = record { settled = settled; certificate = is.certificate; tables = table_bytes settled.inputs shown };
+      is = release-read files name settled shown is.certificate s.read s.sound.job.outputs is.read_back both.0 both.1;
+      passes = hidden-passes written settled release is s.sound;
+    }
+read-so written rounded files out before name settled release (Some base) rounds is s made =
+    let shown : Name → Option ℤ = value_in settled.inputs is.values in
+    let both = stands files out before name settled shown (rounded_certificate settled.inputs) s (made ∙ ap (put_all before) is.puts) in
+    record {
+      released = record { settled = settled; certificate = rounded_certificate settled.inputs; tables = table_bytes settled.inputs shown };
+      is = release-read files name settled shown (rounded_certificate settled.inputs) s.read s.sound.job.outputs is.read_back both.0 both.1;
+      passes = rounding-passes rounded settled base release is rounds s.sound;
+    }
+
+-- ---- a check of it
+
+conclude : (answer : Report) (released : ReleasedFiles) → MeetsCheck answer (Ok released) → SettlesCheck answer (Ok released) → HasNoFault released → (answer ≡ report.Accepted) ⊎ (answer ≡ report.Memory)
+conclude report.Accepted released meets ends passes = inl refl
+conclude report.Memory released meets ends passes = inr refl
+conclude (report.NotAccepted why) released meets ends passes =
+    let both : ◌≡◌ {A = Result (Unit {0}) CheckFault} (Err why) (Ok tt) = sym meets.first ∙ passes meets.case meets.is_case meets.fits in absurd cc
+conclude (report.Refused reason) released meets ends passes = absurd ends
+conclude (report.ReadFault f) released meets ends passes = absurd ends
+conclude (report.Released s) released meets ends passes = absurd meets
+conclude (report.Intervals n) released meets ends passes = absurd meets
+conclude (report.Demo demo) released meets ends passes = absurd meets
+conclude report.Migrated released meets ends passes = absurd meets
+conclude report.Usage released meets ends passes = absurd meets
+conclude (report.Cannot cell side multipliers) released meets ends passes = absurd meets
+conclude report.NoRounding released meets ends passes = absurd meets
+conclude (report.Undecided why repairs shown) released meets ends passes = absurd meets
+conclude (report.WriteFault f) released meets ends passes = absurd meets
+
+some-before : (o : Option Files) (out : Files) (puts : List Put) → option_map (λ files. put_all files puts) o ≡ Some out → (before : Files) × (out ≡ put_all before puts)
+some-before None out puts h = absurd cc
+some-before (Some before) out puts h = (before, let same : put_all before puts ≡ out = cc in sym same)
+
+ok-same : {A F : Type 0} {a b : A} → ◌≡◌ {A = Result A F} (Ok a) (Ok b) → a ≡ b
+ok-same {A} {F} {a} {b} is = let same : a ≡ b = cc in same
+
+pub runs-are-accepted : PutsDiffer → WrittenIsAccepted → WrittenRoundingIsAccepted → RunsAreAccepted
+runs-are-accepted differ written rounded files out held name summary answer runs hold =
+    let told = runs.run.released files runs.run_files summary refl in
+    let settled : SettledInputs = told.settled in
+    let same : hold.settled ≡ settled = ok-same (sym hold.read ∙ told.read) in
+    let stated = job-read files name settled.inputs.described (described-read files name settled.inputs (inputs-read files name settled told.read)) in
+    let before = some-before runs.before.files out told.release.puts (sym told.put.files ∙ runs.put) in
+    let read = read-so written rounded held out before.0 name settled told.release (base_of settled.inputs.described) refl told.is_release
+    (record {
+      read = hold.same_inputs ∙ ap Ok same;
+      sound = told.sound;
+      differ = differ stated.0 settled.inputs.described.job stated.1;
+      puts = subst (λ (s : SettledInputs). AllByRecursion (λ (put : List ℕ). held put ≡ out put) (names_put s.inputs.described.job)) same hold.puts;
+      short = subst (λ (s : SettledInputs). AllByRecursion (λ (put : List ℕ). IsShort (out put)) (names_put s.inputs.described.job)) same hold.short;
+    }) before.1 in
+    conclude answer read.released (subst (λ (o : Result ReleasedFiles Fault). MeetsCheck answer o) read.is (runs.check.told held runs.check_files))
+    (subst (λ (o : Result ReleasedFiles Fault). SettlesCheck answer o) read.is (runs.check.complete held runs.check_files runs.no_fault)) read.passes
+
+pub puts-are-accepted : PutsAreNotRead → PutsAreNotNamed → RunsAreAccepted → PutsAreAccepted
+puts-are-accepted not_read not_named accepted files out held name summary answer runs hold =
+    accepted files out held name summary answer runs
+    (record { settled = hold.settled; read = hold.read; same_inputs = settled-same not_read not_named files held name hold.settled hold.read hold.others; puts = hold.puts; short = hold.short })
