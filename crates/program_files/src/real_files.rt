@@ -40,14 +40,16 @@ const MOST: usize = 64;
 #[derive(Drop)]
 pub struct RealFiles<'a, R> {
     rt: &'a R,
+    program: &'a str,
     opened: RefCell<ArrayVec<FileMark, MOST>>,
 }
 
 impl<'a, R: Files + Eprint> RealFiles<'a, R> {
-    /// None was opened so far.
-    pub fn new(rt: &'a R) -> Self {
+    /// None was opened so far. The program's name begins what is said of a file on standard error.
+    pub fn new(rt: &'a R, program: &'a str) -> Self {
         RealFiles {
             rt,
+            program,
             opened: RefCell::new(ArrayVec::new()),
         }
     }
@@ -86,8 +88,9 @@ impl<'a, R: Files + Eprint> RealFiles<'a, R> {
 
     /// Says on standard error, in one line, why a file of this name wasn't read or put.
     pub fn tell(&self, name: &[u8], why: &Error) {
+        let program = self.program;
         let name = Shown(name);
-        let _ = eprintln!(self.rt; "argus: {name}: {why}");
+        let _ = eprintln!(self.rt; "{program}: {name}: {why}");
     }
 
     // Refuses a file that may not be written to.
@@ -206,7 +209,7 @@ mod tests {
     fn no_opened_file_is_written_to(rt: HostRuntime) -> Result<(), Fail> {
         let folder = TestFolder::make(&rt, "opened")?;
         make_names(&rt, &folder)?;
-        let files = RealFiles::new(&rt);
+        let files = RealFiles::new(&rt, "argus");
         let mut shelf = FileShelf::new(&files);
         let mut tray = FolderTray::new(&files);
         assert!(rt; read_all(rt.alloc(), &mut shelf, &folder.name(&rt, "way/link")?, 9).is_ok());

@@ -79,7 +79,7 @@ mod tests {
             ("table", "replaced", None, "replaced"),
         ];
         for (file, bytes, fault, held) in rows {
-            let files = RealFiles::new(&rt);
+            let files = RealFiles::new(&rt, "argus");
             let mut tray = FolderTray::new(&files);
             let put = tray.put(&folder.name(&rt, file)?, bytes.as_bytes());
             assert_eq!(rt; put.err(), fault, "{file}");
@@ -89,7 +89,7 @@ mod tests {
         }
         assert!(rt; fs::read(&rt, folder.path(&rt, "other")?.as_str())?.is_empty());
         let stray = Text::new(vec![in rt.alloc(); 255u8]?);
-        let files = RealFiles::new(&rt);
+        let files = RealFiles::new(&rt, "argus");
         let mut tray = FolderTray::new(&files);
         assert_eq!(rt; tray.put(&stray, b"x").err(), Some(PutFault::Failed));
         assert_eq!(rt; tray.faults, 1);

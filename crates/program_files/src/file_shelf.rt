@@ -146,7 +146,7 @@ mod tests {
             ("long\0", Some(FileFault::Failed), 2, 2, 0),
             ("long", None, 2, 2, 9_000),
         ];
-        let files = RealFiles::new(&rt);
+        let files = RealFiles::new(&rt, "argus");
         let mut shelf = FileShelf::new(&files);
         for (file, fault, faults, absences, taken) in rows {
             match read_all(alloc, &mut shelf, &folder.name(&rt, file)?, 9_000) {

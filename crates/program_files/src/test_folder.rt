@@ -11,7 +11,7 @@ pub struct TestFolder {
 impl TestFolder {
     pub fn make(rt: &HostRuntime, word: &str) -> Result<TestFolder, Fail> {
         let number = process::id(rt.process());
-        let path = format!(in rt.alloc(); "/tmp/argus_prog_test_{word}_{number}")?;
+        let path = format!(in rt.alloc(); "/tmp/program_files_test_{word}_{number}")?;
         fs::create_dir(rt, path.as_str())?;
         Ok(TestFolder { path })
     }

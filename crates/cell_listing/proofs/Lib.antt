@@ -1,0 +1,11 @@
+pub mod Levels
+pub mod UnsignedAmounts
+pub mod SpacedWords
+pub mod TablesHaving
+pub mod Naming
+pub mod Alike
+pub mod Numbered
+pub mod Codes
+pub mod ListingReads
+pub mod LawsOfCells
+pub mod LawsOfJobs

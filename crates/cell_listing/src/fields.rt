@@ -1,0 +1,182 @@
+ghost use Rattle.std.specs.Prelude.{◌≡◌, ◌≤◌, ◌<◌, ◌∷◌, [], length, IfOk, All, map, slice_index_or, Some, slice_get};
+ghost use Rattle.sdc_base.specs.RuleLevels.{figures_of_facts, keep_of};
+ghost use Rattle.sdc_base.specs.Truths.{IsTruth};
+ghost use Rattle.sdc_base.specs.TableText.{codes_of_place};
+ghost use Rattle.sdc_base.specs.Trees.{code_in};
+ghost use Rattle.apriori.specs.Settling.{view_of_cell};
+ghost use Rattle.job_inputs.specs.SoundJobs.{IsSound};
+ghost use Rattle.cell_listing.specs.Givens.{listed_as, IsGiven};
+ghost use Rattle.cell_listing.specs.Columns as spec;
+
+use crate::amounts::{amount_text, bound_text, figure_fields, number_text, price_by};
+use crate::reasons::{kind_word, reasons};
+use crate::tables_having::tables_having;
+use crate::words::{add_all, add_word, spaced};
+use job_inputs::DescribedJob;
+use linked_tables::Book;
+use rda_meta::Variable;
+use sdc_base::{Cell, CellFacts, Items, Memory, Place, Text};
+use std::alloc::Global;
+
+/// A cell of a job: its number, its name, its facts, and what it is to its protection.
+#[derive(Clone, Copy)]
+pub(crate) struct Given<'a> {
+    pub number: u32,
+    pub name: &'a [u32],
+    pub facts: &'a CellFacts,
+    pub cell: &'a Cell,
+}
+
+/// The names of the columns of a job's listing.
+pub(crate) fn column_names(alloc: Global, described: &DescribedJob) -> Result<Items<Text>, Memory>
+    ensures at_least_two { IfOk result (λ names. 1 < length names) }
+    ensures names { IfOk result (λ names. names ≡ spec.column_names described.now) }
+{
+    let mut names = place_names(alloc)?;
+    add_all(&mut names, variable_names(alloc, described)?)?;
+    add_all(&mut names, figure_names(alloc)?)?;
+    add_all(&mut names, standing_names(alloc)?)?;
+    Ok(names)
+}
+
+// The columns before the variables.
+fn place_names(alloc: Global) -> Result<Items<Text>, Memory>
+    ensures { IfOk result (λ names. names ≡ spec.place_names) }
+{
+    let mut names = Items::empty(alloc);
+    add_word(alloc, &mut names, b"cell")?;
+    add_word(alloc, &mut names, b"tables")?;
+    Ok(names)
+}
+
+// The columns of what the records make of a cell.
+fn figure_names(alloc: Global) -> Result<Items<Text>, Memory>
+    ensures { IfOk result (λ names. names ≡ spec.figure_names) }
+{
+    let mut names = Items::empty(alloc);
+    add_word(alloc, &mut names, b"value")?;
+    add_word(alloc, &mut names, b"records")?;
+    add_word(alloc, &mut names, b"largest")?;
+    add_word(alloc, &mut names, b"second")?;
+    Ok(names)
+}
+
+// The columns of what a cell is to its protection.
+fn standing_names(alloc: Global) -> Result<Items<Text>, Memory>
+    ensures { IfOk result (λ names. names ≡ spec.standing_names) }
+{
+    let mut names = Items::empty(alloc);
+    add_word(alloc, &mut names, b"status")?;
+    add_word(alloc, &mut names, b"rules")?;
+    add_word(alloc, &mut names, b"up")?;
+    add_word(alloc, &mut names, b"down")?;
+    add_word(alloc, &mut names, b"price")?;
+    add_word(alloc, &mut names, b"low")?;
+    add_word(alloc, &mut names, b"high")?;
+    Ok(names)
+}
+
+// The names of the variables that span a job's tables.
+fn variable_names(alloc: Global, described: &DescribedJob) -> Result<Items<Text>, Memory>
+    ensures { IfOk result (λ names. names ≡ spec.variable_names described.now) }
+{
+    let variables = described.meta.variables.as_slice();
+    let mut names = Items::empty(alloc);
+    'places: for place in described.bound.spanning.as_slice() {
+        names.push(name_in(alloc, variables, *place)?)?;
+    }
+    Ok(names)
+}
+
+// The name of the variable at a place of the metadata.
+fn name_in(alloc: Global, variables: &[Variable], place: u32) -> Result<Text, Memory>
+    ensures { IfOk result (λ name. name ≡ spec.name_in variables.now place) }
+{
+    match variables.get(place as usize) {
+        Some(variable) => variable.name.copy(alloc),
+        None => Ok(Text::new(Vec::new(alloc))),
+    }
+}
+
+/// All that stands in the line of a cell.
+pub(crate) fn cell_fields(
+    alloc: Global,
+    described: &DescribedJob,
+    book: &Book,
+    given: &Given<'_>,
+) -> Result<Items<Text>, Memory>
+    requires sound { IsSound described.now }
+    requires given { IsGiven described.now given.now }
+    ensures at_least_two { IfOk result (λ fields. 1 < length fields) }
+    ensures fields { IfOk result (λ fields. fields
+        ≡ spec.cell_fields described.now book.now.trees (listed_as given.now)) }
+{
+    let decimals = described.bound.decimals;
+    let mut fields = place_fields(alloc, described.bound.tables.as_slice(), given)?;
+    add_all(&mut fields, code_fields(alloc, book, given.name)?)?;
+    add_all(&mut fields, figure_fields(alloc, given.facts, decimals)?)?;
+    add_all(&mut fields, standing_fields(alloc, described, given)?)?;
+    Ok(fields)
+}
+
+// The number of a cell, and those of the tables that have it.
+fn place_fields(alloc: Global, tables: &[Place], given: &Given<'_>) -> Result<Items<Text>, Memory>
+    ensures { IfOk result (λ fields. fields ≡ spec.place_fields tables.now (listed_as given.now)) }
+{
+    let having = tables_having(alloc, tables, given.name)?;
+    let mut fields = Items::empty(alloc);
+    fields.push(number_text(alloc, u64::from(given.number))?)?;
+    fields.push(spaced(alloc, having.as_slice())?)?;
+    Ok(fields)
+}
+
+// The codes of a cell's name, one for each variable.
+fn code_fields(alloc: Global, book: &Book, name: &[u32]) -> Result<Items<Text>, Memory>
+    ensures { IfOk result (λ fields. fields ≡ codes_of_place book.now.trees name.now) }
+{
+    let mut fields = Items::empty(alloc);
+    'variables: for variable in 0..book.variables() {
+        let Some(code) = name.get(variable as usize) else {
+            return Ok(fields);
+        };
+        add_word(alloc, &mut fields, code_at(book, variable, *code))?;
+    }
+    Ok(fields)
+}
+
+// A code of a variable, and nothing where it has no such code, as the definition reads it.
+fn code_at(book: &Book, variable: u32, code: u32) -> &[u8]
+    ensures { result.now ≡ code_in (slice_index_or book.now.trees variable []) code }
+{
+    match book.code(variable, code) {
+        Some(bytes) => bytes,
+        None => &[],
+    }
+}
+
+// What a cell is to its protection.
+#[tactic(auto, using(crate::proofs::Levels::up_enough, crate::proofs::Levels::down_enough, crate::proofs::Levels::low_enough, crate::proofs::Levels::high_enough))]
+fn standing_fields(
+    alloc: Global,
+    described: &DescribedJob,
+    given: &Given<'_>,
+) -> Result<Items<Text>, Memory>
+    requires sound { IsSound described.now }
+    requires given { IsGiven described.now given.now }
+    ensures { IfOk result (λ fields. fields ≡ spec.standing_fields described.now (listed_as given.now)) }
+{
+    let Given { facts, cell, .. } = *given;
+    let decimals = described.bound.decimals;
+    let job = &described.job;
+    let why = reasons(alloc, job.rules.list.as_slice(), cell.kind, facts)?;
+    let price = price_by(job.cost, cell.price, facts);
+    let mut fields = Items::empty(alloc);
+    add_word(alloc, &mut fields, kind_word(cell.kind))?;
+    fields.push(spaced(alloc, why.as_slice())?)?;
+    fields.push(amount_text(alloc, cell.up, decimals)?)?;
+    fields.push(amount_text(alloc, cell.down, decimals)?)?;
+    fields.push(number_text(alloc, price)?)?;
+    fields.push(amount_text(alloc, cell.low, decimals)?)?;
+    fields.push(bound_text(alloc, cell.high, decimals)?)?;
+    Ok(fields)
+}

@@ -1,0 +1,22 @@
+//! Laws of listings, each the contract of a function with an empty body.
+
+ghost use Rattle.cell_listing.specs.Laws.{UnnamedAreDeclared, NamedAreDeclared, PricesAreCosts, PrimaryAreCounted, ShownAreValues};
+
+/// A cell with `u` is declared unsafe; one that a rule names though it isn't primary is declared safe.
+pub fn reasons_are_true()
+    ensures unnamed { UnnamedAreDeclared }
+    ensures named { NamedAreDeclared }
+{}
+
+/// A price is the one by which hiding is planned.
+#[tactic(auto, using(crate::proofs::LawsOfCells::prices_are_costs))]
+pub fn prices_are_costs()
+    ensures { PricesAreCosts }
+{}
+
+/// A listing has as many primary cells as the report of a release counts, and where a release shows a cell, it shows
+/// the value in its line.
+pub fn listings_are_of_releases()
+    ensures primary { PrimaryAreCounted }
+    ensures values { ShownAreValues }
+{}

@@ -1,0 +1,83 @@
+ghost use Rattle.std.specs.Prelude.{◌≡◌, Err};
+ghost use Rattle.std.specs.Process.{exit_status};
+ghost use Rattle.cell_listing.specs.declared.calls.ListStop.{ListStop as AnyStop};
+ghost use Rattle.job_run.specs.ReportText.{status_of};
+ghost use Rattle.job_run.specs.declared.report.Report.TheVariants as report;
+ghost use Rattle.cells_prog.specs.Endings.{report_for};
+ghost use Rattle.cells_prog.specs.Endings as spec;
+
+use cell_listing::ListStop;
+use job_inputs::InputStop;
+use job_run::{FileRef, Report, report_text};
+use std::alloc::Global;
+use std::process::ExitCode;
+
+const USAGE: &[u8] = b"usage: cells JOB\n";
+
+/// Writes a listing, or the usage line, to standard output, or says on standard error why there is no listing, and gives
+/// the status with which the program ends: 0 for a listing, and else argus's status for what went wrong.
+///
+/// A listing that can't be written whole is a fault in writing. Whether a line was printed changes no status.
+pub fn ended_by<R: Print + Eprint>(
+    rt: &R,
+    alloc: Global,
+    answer: Result<Vec<u8>, ListStop>,
+) -> ExitCode
+    ensures { (stop : AnyStop) → answer ≡ Err stop → exit_status result ≡ status_of (report_for stop) }
+{
+    match answer {
+        Ok(bytes) => written_by(rt, alloc, bytes.as_slice()),
+        Err(stop) => stopped_by(rt, alloc, stop),
+    }
+}
+
+/// The status where there was no memory for the words: that of want of memory in a listing.
+pub fn without_words() -> ExitCode
+    ensures { exit_status result ≡ status_of report.Memory }
+{
+    ExitCode::from(Report::Memory.status())
+}
+
+// Writes a listing.
+fn written_by<R: Print + Eprint>(rt: &R, alloc: Global, bytes: &[u8]) -> ExitCode {
+    match rt.write_all(bytes) {
+        Ok(()) => ExitCode::SUCCESS,
+        Err(_) => said_by(rt, alloc, &Report::WriteFault(FileRef::Out)),
+    }
+}
+
+// Says why there is no listing.
+fn stopped_by<R: Print + Eprint>(rt: &R, alloc: Global, stop: ListStop) -> ExitCode
+    ensures { exit_status result ≡ status_of (report_for stop) }
+{
+    match stop {
+        ListStop::Usage => {
+            let _ = rt.write_all(USAGE);
+            ExitCode::from(Report::Usage.status())
+        }
+        ListStop::Inputs(input) => said_by(rt, alloc, &report_of(input)),
+    }
+}
+
+// Says a report, in argus's words.
+fn said_by<R: Eprint>(rt: &R, alloc: Global, report: &Report) -> ExitCode
+    ensures { exit_status result ≡ status_of report.now }
+{
+    if let Ok(line) = report_text(alloc, report) {
+        if let Ok(text) = str::from_utf8(line.as_slice()) {
+            let _ = eprint!(rt; "{text}");
+        }
+    }
+    ExitCode::from(report.status())
+}
+
+// What stopped the inputs, as a report of a run.
+fn report_of(stop: InputStop) -> Report
+    ensures { result ≡ spec.report_of stop }
+{
+    match stop {
+        InputStop::Refused(fault) => Report::Refused(fault),
+        InputStop::ReadFault(file) => Report::ReadFault(file),
+        InputStop::Memory => Report::Memory,
+    }
+}

@@ -1,0 +1,19 @@
+//! The program `cells`: it writes the listing of the cells of a job to standard output, and ends with a status.
+#![tactic(auto)]
+
+mod answer;
+
+use crate::answer::{ended_by, without_words};
+use cell_listing::list_cells;
+use program_files::{FileShelf, RealFiles, words_of};
+use std::process::ExitCode;
+
+fn main(rt: HostRuntime) -> ExitCode {
+    let Ok(words) = words_of(&rt, rt.alloc()) else {
+        return without_words();
+    };
+    let files = RealFiles::new(&rt, "cells");
+    let mut shelf = FileShelf::new(&files);
+    let answer = list_cells(rt.alloc(), words.as_slice(), &mut shelf);
+    ended_by(&rt, rt.alloc(), answer)
+}
