@@ -60,14 +60,14 @@ fn fill(book: &mut Book, emptied: bool) {
 }
 
 // A book of the thirteen records.
-fn book_of(alloc: Global, emptied: bool) -> Result<Book, Fail> {
+pub(crate) fn book_of(alloc: Global, emptied: bool) -> Result<Book, Fail> {
     let mut book = empty_book(alloc)?;
     fill(&mut book, emptied);
     Ok(book)
 }
 
 // `FREQ(3,30)` and `MAN(20)`.
-fn frequency_rule() -> Rules
+pub(crate) fn frequency_rule() -> Rules
     ensures { AreInRange result }
 {
     Rules {
@@ -78,7 +78,7 @@ fn frequency_rule() -> Rules
 }
 
 // Whether all marks have what the rules look at.
-fn are_ready(marks: &[Mark], rules: &Rules) -> bool
+pub(crate) fn are_ready(marks: &[Mark], rules: &Rules) -> bool
     requires { AreInRange rules.now }
     ensures { result ≡ true → All (IsReadyFor rules.now) marks.now }
 {
@@ -103,7 +103,7 @@ fn is_ready(mark: &Mark, rules: &Rules) -> bool
 }
 
 // Adds a file to the priors, where it may be added: the table, the line and the kind of its first fault.
-fn added(
+pub(crate) fn added(
     alloc: Global,
     book: &Book,
     priors: &mut Vec<Prior>,

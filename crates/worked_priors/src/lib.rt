@@ -3,3 +3,5 @@
 
 #[cfg(test)]
 mod apriori_tests;
+#[cfg(test)]
+mod settled_tests;
