@@ -85,8 +85,8 @@ class Survey:
         return found
 
 
-def level(values):
-    """The upper level by FREQ(3,30) and P(10), where one of them names the cell."""
+def level(values, percent=10):
+    """The upper level by FREQ(3,30) and P(percent), where one of them names the cell."""
     total = sum(values)
     largest = sorted(values, reverse=True)
     first = largest[0] if largest else 0
@@ -94,8 +94,8 @@ def level(values):
     found = []
     if 1 <= len(values) < 3:
         found.append(max(1, -(-30 * total // 100)))
-    if 100 * rest < 10 * first:
-        found.append(max(1, -(-(10 * first - 100 * rest) // 100)))
+    if 100 * rest < percent * first:
+        found.append(max(1, -(-(percent * first - 100 * rest) // 100)))
     return max(found) if found else None
 
 
