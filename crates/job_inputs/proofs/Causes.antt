@@ -82,6 +82,7 @@ contents-cause (refusal.Refused (fault.Row number why)) old new h = record { abs
 contents-cause (refusal.Refused (fault.Cells t)) old new h = record { absent = λ f is. absurd cc; too_long = λ f is. absurd cc; read_fault = λ f is. absurd cc; tree = λ f is. absurd cc }
 contents-cause (refusal.Refused (fault.Prior t line why)) old new h = record { absent = λ f is. absurd cc; too_long = λ f is. absurd cc; read_fault = λ f is. absurd cc; tree = λ f is. absurd cc }
 contents-cause (refusal.Refused (fault.Certificate line why)) old new h = record { absent = λ f is. absurd cc; too_long = λ f is. absurd cc; read_fault = λ f is. absurd cc; tree = λ f is. absurd cc }
+contents-cause (refusal.Refused (fault.Contributors line why)) old new h = record { absent = λ f is. absurd cc; too_long = λ f is. absurd cc; read_fault = λ f is. absurd cc; tree = λ f is. absurd cc }
 contents-cause (refusal.Refused fault.OutName) old new h = record { absent = λ f is. absurd cc; too_long = λ f is. absurd cc; read_fault = λ f is. absurd cc; tree = λ f is. absurd cc }
 contents-cause refusal.Memory old new h = record { absent = λ f is. absurd cc; too_long = λ f is. absurd cc; read_fault = λ f is. absurd cc; tree = λ f is. absurd cc }
 

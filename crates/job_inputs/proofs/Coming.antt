@@ -45,6 +45,7 @@ first-comes purpose files name (file.Hierarchy at) held h = absurd h
 first-comes purpose files name file.Microdata held h = absurd h
 first-comes purpose files name (file.Apriori t) held h = absurd h
 first-comes purpose files name file.Certificate held h = absurd h
+first-comes purpose files name file.Contributors held h = absurd h
 first-comes purpose files name (file.Table t) held h = absurd h
 first-comes purpose files name file.Out held h = absurd h
 
@@ -56,6 +57,7 @@ fields-come-to purpose files name described (file.Hierarchy at) held read h = (d
 fields-come-to purpose files name described file.Microdata held read h = absurd h.comes
 fields-come-to purpose files name described (file.Apriori t) held read h = absurd h.comes
 fields-come-to purpose files name described file.Certificate held read h = absurd h.comes
+fields-come-to purpose files name described file.Contributors held read h = absurd h.comes
 fields-come-to purpose files name described (file.Table t) held read h = absurd h.comes
 fields-come-to purpose files name described file.Out held read h = absurd h.comes
 

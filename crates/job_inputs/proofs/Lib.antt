@@ -1,4 +1,5 @@
 pub mod Refusing
+pub mod Units
 pub mod Causes
 pub mod Sounding
 pub mod Describing
@@ -15,4 +16,5 @@ pub mod Stating
 pub mod Truths
 pub mod Settling
 pub mod CertificateFiles
+pub mod ContributorsFiles
 pub mod Shelving

@@ -1,11 +1,13 @@
 -- What holds of a job's book and numbers once its records are counted (own).
-use Rattle.std.specs.Prelude.{◌≡◌, ◌<◌, ◌^◌, length, ℕ, List, Result}
+use Rattle.std.specs.Prelude.{◌≡◌, ◌<◌, ◌≤◌, ◌^◌, length, ℕ, List, Result}
 use Rattle.linked_tables.specs.BookCells.{cells}
 use Rattle.job_inputs.specs.SoundJobs.{IsSound}
 use Rattle.job_inputs.specs.TabulatedBooks.{IsBookOf, IsReadyFor}
 use Rattle.job_inputs.specs.declared.counted.CountedJob.{CountedJob}
 use Rattle.job_inputs.specs.declared.inputs.Inputs.{Inputs}
 use Rattle.sdc_base.specs.Answers.{Gives}
+use Rattle.sdc_base.specs.RuleLevels.{keep_of}
+use Rattle.tabulate.specs.TabulatedMarks.{AreTabulated}
 use Rattle.office_io.specs.Files.{Files}
 use Rattle.apriori.specs.Priors.{ArePriors}
 use Rattle.apriori.specs.declared.prior.Prior.{Prior}
@@ -13,17 +15,21 @@ use Rattle.job_inputs.specs.PriorStatements.{prior_line, with_file}
 use Rattle.job_inputs.specs.Reading.{stopped_for}
 use Rattle.job_inputs.specs.declared.stop.InputStop.{InputStop}
 
--- the job, its book with its records, and how many records there are and were skipped are those of the inputs
+-- the job, its book with its records, these records, and how many were skipped are those of the inputs
 pub record IsCountedOf (inputs : Inputs) (counted : CountedJob) : Type 0 where
   pub described : counted.described ≡ inputs.described
   pub book : IsBookOf inputs counted.book
-  pub records : counted.records ≡ length inputs.records.rows
+  pub rows : counted.rows ≡ inputs.records.rows
   pub skipped : counted.skipped ≡ inputs.records.skipped
 
--- the job is within its limits, and its book has a mark for each cell and is ready for what a release wants of it
+-- the job is within its limits, its book has a mark for each cell and is ready for what a release wants of it, and the
+-- marks tell of the records, which are at most a million
 pub record IsReady (counted : CountedJob) : Type 0 where
   pub sound : IsSound counted.described
   pub book : IsReadyFor counted.described counted.book
+  pub told : AreTabulated counted.book counted.rows (keep_of counted.described.job.rules.list)
+      counted.described.bound.scale
+  pub at_most_1000000 : length counted.rows ≤ 1000000
   pub one_each : length counted.book.marks ≡ length (cells counted.book)
   pub fewer_than_2_32 : length counted.book.marks < 2 ^ 32
 

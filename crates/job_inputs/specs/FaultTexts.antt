@@ -87,7 +87,7 @@ prior_text prior.OutsideTruth = codes "OutsideTruth"
 prior_text prior.Twice = codes "Twice"
 prior_text prior.ProtectedPrimary = codes "ProtectedPrimary"
 
--- a kind of fault of a certificate
+-- a kind of fault of a certificate, or of a contributors' file
 abbrev pub certificate_text : CertWhy → List ℕ
 certificate_text certificate.Version = codes "Version"
 certificate_text certificate.Shape = codes "Shape"
@@ -107,5 +107,7 @@ fault_text (fault.Cells t) = codes "table " ++ (decimal (t + 1) ++ codes ": TooM
 fault_text (fault.Prior t line why) = codes "apriori table "
     ++ (decimal (t + 1) ++ (codes " line " ++ (decimal line ++ (codes ": " ++ prior_text why))))
 fault_text (fault.Certificate line why) = codes "certificate line "
+    ++ (decimal line ++ (codes ": " ++ certificate_text why))
+fault_text (fault.Contributors line why) = codes "contributors line "
     ++ (decimal line ++ (codes ": " ++ certificate_text why))
 fault_text fault.OutName = codes "out: OutName"

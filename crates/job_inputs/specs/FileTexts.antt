@@ -12,5 +12,6 @@ file_text (file.Hierarchy place) = codes "hierarchy " ++ decimal (place + 1)
 file_text file.Microdata = codes "microdata"
 file_text (file.Apriori t) = codes "apriori table " ++ decimal (t + 1)
 file_text file.Certificate = codes "certificate"
+file_text file.Contributors = codes "contributors"
 file_text (file.Table t) = codes "table " ++ decimal (t + 1)
 file_text file.Out = codes "out"

@@ -1,6 +1,7 @@
 pub mod FileTexts
 pub mod FaultTexts
 pub mod Purposes
+pub mod Bases
 pub mod Layouts
 pub mod ReadFiles
 pub mod CodeSources
@@ -19,3 +20,4 @@ pub mod SettledJobs
 pub mod Tables
 pub mod Laws
 pub mod CertificateFile
+pub mod ContributorsFile

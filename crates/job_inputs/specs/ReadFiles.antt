@@ -13,13 +13,14 @@ use Rattle.job_inputs.specs.declared.faults.Fault.TheVariants as fault
 abbrev pub limit : ℕ
 limit = 2 ^ 28
 
--- the greatest certificate or table that was put, in bytes
+-- the greatest file that was put, in bytes
 abbrev pub output_limit : ℕ
 output_limit = 2 ^ 60
 
 -- the greatest file of each kind, in bytes
 abbrev pub limit_of : FileRef → ℕ
 limit_of file.Certificate = output_limit
+limit_of file.Contributors = output_limit
 limit_of (file.Table t) = output_limit
 limit_of other = limit
 

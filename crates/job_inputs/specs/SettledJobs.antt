@@ -1,17 +1,21 @@
 -- The inputs of a job with its cells settled, or the first fault of all (own).
-use Rattle.std.specs.Prelude.{◌≡◌, ◌<◌, ◌^◌, ◌||◌, ℕ, Bool, List, length, map, Result, Ok, Err, IsOkAnd, All}
+use Rattle.std.specs.Prelude.{◌≡◌, ◌<◌, ◌^◌, ◌||◌, ◌≤◌, ℕ, Bool, false, List, Option, length, map, Result, Ok, Err, IsOkAnd, All}
 use Rattle.std.specs.List.{list_any}
+use Rattle.std.specs.Option.{option_map_or}
 use Rattle.std.specs.Str.{bytes_eq}
 use Rattle.sdc_base.specs.Answers.{Fails}
 use Rattle.sdc_base.specs.Steps.{◌>>=◌, map_fault, refuse}
 use Rattle.apriori.specs.Settling.{SettledCell, view_of_cell, settle_of}
 use Rattle.apriori.specs.CellLevels.{HasLevelsInRange}
 use Rattle.apriori.specs.declared.prior.Prior.{Prior}
+use Rattle.sdc_base.specs.RuleLevels.{keep_of}
 use Rattle.sdc_base.specs.declared.cell.Cell.{Cell}
+use Rattle.tabulate.specs.TabulatedMarks.{AreTabulated}
 use Rattle.linked_tables.specs.declared.mark.Mark.{Mark}
 use Rattle.linked_tables.specs.BookCells.{cells as cells_in}
 use Rattle.linked_tables.specs.Tables.{book_of}
 use Rattle.job_lang.specs.declared.job.Job.{Job}
+use Rattle.job_lang.specs.declared.job.OutputLine.{OutputLine}
 use Rattle.office_io.specs.Files.{Files}
 use Rattle.job_inputs.specs.Cells.{figures, cells_fault, prior_fault}
 use Rattle.job_inputs.specs.Inputs.{inputs_of}
@@ -32,9 +36,15 @@ pub record SettledInputs : Type 0 where
   pub priors : List Prior
   pub cells : List SettledCell
 
--- the certificate or an output has the name of the job's file
+-- the contributors' file, where there is one, has this name
+abbrev pub is_contributors_file : List ℕ → Option OutputLine → Bool
+is_contributors_file name contributors = option_map_or (λ output. bytes_eq output.file name) contributors false
+
+-- the certificate, the contributors' file or an output has the name of the job's file
 abbrev pub overwrites_job : List ℕ → Job → Bool
-overwrites_job name job = bytes_eq job.certificate name || list_any (λ output. bytes_eq output.file name) job.outputs
+overwrites_job name job =
+    bytes_eq job.certificate name || is_contributors_file name job.contributors
+    || list_any (λ output. bytes_eq output.file name) job.outputs
 
 -- what each cell is to its protection, or the first primary cell that is to be always shown
 abbrev pub settled_cells : Inputs → List Prior → Result (List SettledCell) Fault
@@ -52,12 +62,13 @@ settled_of purpose files name = do
   fine ← refuse fault.OutName (overwrites_job name inputs.described.job)
   Ok (record { inputs = inputs; priors = priors; cells = cells })
 
--- the job, its book with its records, its cells, and how many records there are and were skipped are those of the
--- inputs
+-- the job, its book with its records, its cells, its records, how many there are and how many were skipped are those of
+-- the inputs
 pub record IsSettledOf (settled : SettledInputs) (job : SettledJob) : Type 0 where
   pub described : job.described ≡ settled.inputs.described
   pub book : IsBookOf settled.inputs job.book
   pub cells : map view_of_cell job.cells ≡ settled.cells
+  pub rows : job.rows ≡ settled.inputs.records.rows
   pub records : job.records ≡ length settled.inputs.records.rows
   pub skipped : job.skipped ≡ settled.inputs.records.skipped
 
@@ -67,10 +78,12 @@ AreSettled (Ok job) meant = IsOkAnd meant (λ settled. IsSettledOf settled job)
 AreSettled (Err stop) meant = Fails (stopped_for stop) meant
 
 -- The job is within its limits, and its book has a mark and a settled cell for each cell, with the same truths, and is
--- ready for what a release wants of it.
+-- ready for what a release wants of it; the marks tell of the job's records, which are at most a million.
 pub record IsReadyJob (job : SettledJob) : Type 0 where
   pub sound : IsSound job.described
   pub book : IsReadyFor job.described job.book
+  pub told : AreTabulated job.book job.rows (keep_of job.described.job.rules.list) job.described.bound.scale
+  pub at_most_1000000 : length job.rows ≤ 1000000
   pub one_each : length job.book.marks ≡ length (cells_in job.book)
   pub settled : length job.cells ≡ length job.book.marks
   pub levels : All HasLevelsInRange job.cells

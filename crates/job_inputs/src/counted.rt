@@ -11,14 +11,15 @@ use crate::inputs::Inputs;
 use crate::refusal::Refusal;
 use linked_tables::Book;
 use microdata::Records;
+use sdc_base::{Items, Row};
 use std::alloc::Global;
 
-/// A job with its book, whose cells have their records, and with how many records there are and were skipped.
+/// A job with its book, whose cells have their records, with these records, and with how many were skipped.
 #[derive(Drop)]
 pub(crate) struct CountedJob {
     pub described: DescribedJob,
     pub book: Book,
-    pub records: u64,
+    pub rows: Items<Row>,
     pub skipped: u64,
 }
 
@@ -39,11 +40,10 @@ pub(crate) fn count_records(alloc: Global, inputs: Inputs) -> Result<CountedJob,
     } = records;
     let book = linked_book(alloc, &described, trees)?;
     let book = book_with_records(book, &described, rows.as_slice());
-    let records = rows.as_slice().len() as u64;
     Ok(CountedJob {
         described,
         book,
-        records,
+        rows,
         skipped,
     })
 }

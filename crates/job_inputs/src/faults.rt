@@ -12,12 +12,13 @@ use std::fmt::Display;
 /// What is wrong with the files of a job: the first fault in the order job, metadata, the job's variables in the
 /// metadata, for each spanning variable in the order of the metadata its code list and then its hierarchy, the
 /// microdata, the number of cells, the a priori files by table, primary cells that are to be always shown, an output
-/// that has the name of an input, and then, where they are read, the certificate and the tables that were put.
+/// that has the name of an input, and then, where they are read, the certificate, the contributors' file and the tables
+/// that were put.
 #[derive(Clone, Copy, Debug, PartialEq, Eq)]
 pub enum Fault {
     /// The file isn't there.
     Absent(FileRef),
-    /// The file has too many bytes: an input more than 268,435,456, a certificate or a table more than `2^60`.
+    /// The file has too many bytes: an input more than 268,435,456, and one that was put more than `2^60`.
     TooLong(FileRef),
     /// A line of the job, from 1, or the job as a whole, 0; also where the metadata lack what it names.
     Job {
@@ -47,6 +48,11 @@ pub enum Fault {
     },
     /// A line of the certificate, from 1.
     Certificate {
+        line: u64,
+        why: CertWhy,
+    },
+    /// A line of the contributors' file, from 1.
+    Contributors {
         line: u64,
         why: CertWhy,
     },
@@ -92,6 +98,10 @@ impl Display for Fault {
             Fault::Certificate { line, why } => {
                 let kind = certificate_kind(*why);
                 write!(f, "certificate line {line}: {kind}")
+            }
+            Fault::Contributors { line, why } => {
+                let kind = certificate_kind(*why);
+                write!(f, "contributors line {line}: {kind}")
             }
             Fault::OutName => write!(f, "out: OutName"),
         }

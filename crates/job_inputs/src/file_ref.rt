@@ -12,6 +12,7 @@ pub enum FileRef {
     Microdata,
     Apriori(u32),
     Certificate,
+    Contributors,
     Table(u32),
     Out,
 }
@@ -40,6 +41,7 @@ impl Display for FileRef {
                 write!(f, "apriori table {number}")
             }
             FileRef::Certificate => write!(f, "certificate"),
+            FileRef::Contributors => write!(f, "contributors"),
             FileRef::Table(table) => {
                 let number = u64::from(*table) + 1;
                 write!(f, "table {number}")

@@ -106,7 +106,7 @@ pub(crate) fn prior_kind(why: PriorWhy) -> &'static str
     }
 }
 
-/// A kind of fault of a certificate, as it is printed.
+/// A kind of fault of a certificate, or of a contributors' file, as it is printed.
 pub(crate) fn certificate_kind(why: CertWhy) -> &'static str
     ensures { result.now ≡ certificate_text why }
 {

@@ -13,7 +13,7 @@ use std::alloc::Global;
 /// The greatest input file, in bytes.
 pub(crate) const LIMIT: u64 = 268_435_456;
 
-/// The greatest certificate or table that was put, in bytes: 2^60.
+/// The greatest file that was put, in bytes: 2^60.
 const OUTPUT_LIMIT: u64 = 1_152_921_504_606_846_976;
 
 // The greatest file of its kind, in bytes.
@@ -22,6 +22,7 @@ fn limit_for(file: FileRef) -> u64
 {
     match file {
         FileRef::Certificate => OUTPUT_LIMIT,
+        FileRef::Contributors => OUTPUT_LIMIT,
         FileRef::Table(_) => OUTPUT_LIMIT,
         _ => LIMIT,
     }

@@ -10,14 +10,20 @@ pub enum Purpose {
     Release,
     /// For the intervals of its hidden cells: the job must have a method that hides cells.
     Intervals,
+    /// For the audit of its rounded release: the job must round.
+    Audit,
 }
 
-/// Whether a job's method leaves nothing of what its inputs are read for: rounding hides no cells.
+/// Whether a job's method leaves nothing of what its inputs are read for: rounding hides no cells, and only rounding has
+/// a rounded release.
 pub(crate) fn is_unfit(purpose: Purpose, method: Method) -> bool
     ensures { result ≡ spec.is_unfit purpose method }
 {
     match (purpose, method) {
         (Purpose::Intervals, Method::Rnd(_)) => true,
-        _ => false,
+        (Purpose::Intervals, _) => false,
+        (Purpose::Audit, Method::Rnd(_)) => false,
+        (Purpose::Audit, _) => true,
+        (Purpose::Release, _) => false,
     }
 }

@@ -23,16 +23,17 @@ use crate::stop::InputStop;
 use apriori::{Prior, settle};
 use linked_tables::Book;
 use office_io::Shelf;
-use sdc_base::{Cell, Items, Text};
+use sdc_base::{Cell, Items, Row, Text};
 use std::alloc::Global;
 
 /// A job with its metadata, the book of its tables with the records in the cells, what each cell is to its protection,
-/// and how many records there are and were skipped.
+/// the records, how many there are and how many were skipped.
 #[derive(Drop)]
 pub struct SettledJob {
     pub described: DescribedJob,
     pub book: Book,
     pub cells: Items<Cell>,
+    pub rows: Items<Row>,
     pub records: u64,
     pub skipped: u64,
 }
@@ -41,7 +42,7 @@ pub struct SettledJob {
 ///
 /// The job, its metadata, the code lists and hierarchies of its spanning variables and its microdata are looked at in
 /// this order, then the number of cells, the a priori files by table, the cells with what is stated of them, and then
-/// whether the certificate or an output would take the job's own name; the first fault is the answer. Where intervals
+/// whether the certificate, the contributors' file or an output would take the job's own name; the first fault is the answer. Where intervals
 /// are asked for, a job that rounds is refused as soon as it is read. The microdata are read in pieces, every other
 /// file whole. Where the shelf fails at a file, the answer is `ReadFault` with the file; want of memory is `Memory`.
 ///
@@ -63,11 +64,13 @@ pub fn read_settled<S: Shelf>(
     let priors = read_priors(alloc, shelf, &counted)?;
     let cells = settled_cells(alloc, &counted, priors.as_slice())?;
     check_outputs(name, &counted.described.job)?;
+    let records = counted.rows.as_slice().len() as u64;
     Ok(SettledJob {
         described: counted.described,
         book: counted.book,
         cells,
-        records: counted.records,
+        rows: counted.rows,
+        records,
         skipped: counted.skipped,
     })
 }

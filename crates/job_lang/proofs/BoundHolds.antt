@@ -13,7 +13,7 @@ use Rattle.job_lang.specs.declared.job.Job.{Job}
 use Rattle.job_lang.specs.declared.job.OutputLine.{OutputLine}
 use Rattle.job_lang.specs.declared.job.TableLine.{TableLine}
 use Rattle.job_lang.specs.Binding.{places_from, spanning_of, variable_place, spanning_place, table_places, response_of, places_of}
-use Rattle.job_lang.specs.BindingFaults.{is_named, is_absent, is_numeric_named, is_numeric, table_fault, weight_fault, is_spanning, file_fault, earlier_fault, tables_fault, outputs_fault, earliest_fault}
+use Rattle.job_lang.specs.BindingFaults.{is_named, is_absent, is_numeric_named, is_numeric, table_fault, weight_fault, is_spanning, file_fault, earlier_fault, tables_fault, outputs_fault, contributors_fault, earliest_fault}
 use Rattle.job_lang.specs.JobLimits.{HasNoTwice, AreTables}
 use Rattle.job_lang.specs.BoundLimits.{AreVariables, AreAscending, IsNumericAt, IsBound}
 use Rattle.job_lang.proofs.PlacesFit.{or_left, or_right, turned, spanning_few, response_few, weight_few}
@@ -45,19 +45,32 @@ outputs_none tables variables first (o ∷ outputs) h =
     let both = earlier_none first o.line (file_fault tables variables o.file) rest.0 in
     (both.0, (both.1, rest.1))
 
+-- a contributors' file, where there is one, has no fault
+abbrev pub IsFreeOfFault : List TableLine → List Variable → Option OutputLine → Type 0
+IsFreeOfFault tables variables None = Unit {0}
+IsFreeOfFault tables variables (Some o) = file_fault tables variables o.file ≡ None
+
+contributors_none : (tables : List TableLine) (variables : List Variable) (first : Option (ℕ × JobWhy)) (contributors : Option OutputLine) → contributors_fault tables variables first contributors ≡ None
+    → (first ≡ None) × IsFreeOfFault tables variables contributors
+contributors_none tables variables first None h = (h, tt)
+contributors_none tables variables first (Some o) h = earlier_none first o.line (file_fault tables variables o.file) h
+
 -- no line has a fault
 pub record IsClean (job : Job) (variables : List Variable) : Type 0 where
   pub tables : AllByRecursion (λ t. table_fault variables t ≡ None) job.tables
   pub rules : weight_fault variables job.rules ≡ None
   pub outputs : AllByRecursion (λ o. file_fault job.tables variables o.file ≡ None) job.outputs
   pub certificate : file_fault job.tables variables job.certificate ≡ None
+  pub contributors : IsFreeOfFault job.tables variables job.contributors
 
 pub clean : (job : Job) (variables : List Variable) → earliest_fault job variables ≡ None → IsClean job variables
 clean job variables h =
-    let last = earlier_none (outputs_fault job.tables variables (earlier_fault (tables_fault variables job.tables) job.rules_line (weight_fault variables job.rules)) job.outputs) job.certificate_line (file_fault job.tables variables job.certificate) h in
+    let before = outputs_fault job.tables variables (earlier_fault (tables_fault variables job.tables) job.rules_line (weight_fault variables job.rules)) job.outputs in
+    let whole = contributors_none job.tables variables (earlier_fault before job.certificate_line (file_fault job.tables variables job.certificate)) job.contributors h in
+    let last = earlier_none before job.certificate_line (file_fault job.tables variables job.certificate) whole.0 in
     let puts = outputs_none job.tables variables (earlier_fault (tables_fault variables job.tables) job.rules_line (weight_fault variables job.rules)) job.outputs last.0 in
     let rules = earlier_none (tables_fault variables job.tables) job.rules_line (weight_fault variables job.rules) puts.0 in
-    record { tables = (tables_none variables None job.tables rules.0).1; rules = rules.1; outputs = puts.1; certificate = last.1 }
+    record { tables = (tables_none variables None job.tables rules.0).1; rules = rules.1; outputs = puts.1; certificate = last.1; contributors = whole.1 }
 
 four : (x y z : JobWhy) (a b c d : Bool) → ◌≡◌ {A = Option JobWhy} (cond (a || b) (Some x) (cond c (Some y) (cond (not d) (Some z) None))) None → (a ≡ false) × (b ≡ false) × (c ≡ false) × (d ≡ true)
 four x y z true b c d h = absurd cc

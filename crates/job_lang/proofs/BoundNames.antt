@@ -1,14 +1,12 @@
 -- The places of a bound job are those of the variables that the job names.
-use Rattle.std.proofs.Common.{◌≡◌, ℕ, List, [], ◌∷◌, map, Option, None, Some, refl, ap, sym, ◌∙◌, subst}
+use Rattle.std.proofs.Common.{◌≡◌, ℕ, List, [], ◌∷◌, map, Option, None, ap, ◌∙◌, subst}
 use Rattle.std.proofs.lemmas.Slice.Eq.{bytes_eq-Decides}
-use Rattle.std.specs.Prelude.{unwrap_or, slice_get, Ok}
+use Rattle.std.specs.Prelude.{unwrap_or, slice_get}
 use Rattle.std.specs.List.{AllByRecursion, list_any}
 use Rattle.sdc_base.proofs.StepLemmas.{bind_ok}
 use Rattle.rda_meta.specs.declared.meta.Variable.{Variable}
-use Rattle.job_lang.specs.declared.faults.JobWhy.{JobWhy}
 use Rattle.job_lang.specs.declared.job.TableLine.{TableLine}
 use Rattle.job_lang.specs.declared.bound.Bound.{Bound}
-use Rattle.job_lang.specs.JobLimits.{AreTables}
 use Rattle.job_lang.specs.Binding.{bound_of, places_of, response_of, spanning_of, spanning_place, table_places, unless_fault, variable_place}
 use Rattle.job_lang.specs.BindingFaults.{earliest_fault, is_named, table_fault}
 use Rattle.job_lang.specs.BoundNames.{AreNamedAt, BoundAsNamed, HaveNamesAt, IsNamedAt, PlacesHaveNames}

@@ -16,7 +16,7 @@ use Rattle.job_lang.specs.declared.faults.JobWhy.{JobWhy}
 use Rattle.job_lang.specs.declared.faults.JobWhy.TheVariants.{BadValue, UnknownCommand, Twice, TooMany, OtherResponse}
 use Rattle.job_lang.specs.declared.job.TableLine.{TableLine}
 use Rattle.job_lang.specs.declared.statement.Keyword.{Keyword}
-use Rattle.job_lang.specs.declared.statement.Keyword.TheVariants.{OpenMicrodata, OpenMetadata, SpecifyTable, SafetyRule, ReadMicrodata, Apriori, Cost, Steps, Nodes, Suppress, WriteTable, Certificate}
+use Rattle.job_lang.specs.declared.statement.Keyword.TheVariants.{OpenMicrodata, OpenMetadata, SpecifyTable, SafetyRule, ReadMicrodata, Apriori, Cost, Steps, Nodes, Suppress, WriteTable, Certificate, Contributors}
 use Rattle.job_lang.specs.declared.statement.Instruction.{Instruction}
 use Rattle.job_lang.specs.declared.statement.Instruction.TheVariants as said
 use Rattle.job_lang.specs.declared.statement.Draft.{Draft}
@@ -112,6 +112,7 @@ argument_known Nodes text = then_known IsSaid (work_argument text) _ (λ nodes h
 argument_known Suppress text = then_known IsSaid (method_argument text) _ (λ method h. known IsMethod (method_argument text) method (method_known text) h)
 argument_known WriteTable text = output_known text
 argument_known Certificate text = then_known IsSaid (only_file text) _ (λ name h. tt)
+argument_known Contributors text = then_known IsSaid (only_file text) _ (λ name h. tt)
 
 -- ---- lines
 

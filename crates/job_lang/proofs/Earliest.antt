@@ -12,8 +12,8 @@ use Rattle.job_lang.specs.declared.job.Job.{Job}
 use Rattle.job_lang.specs.declared.job.OutputLine.{OutputLine}
 use Rattle.job_lang.specs.declared.job.TableLine.{TableLine}
 use Rattle.job_lang.specs.Binding.{unless_fault, bound_of}
-use Rattle.job_lang.specs.BindingFaults.{is_numeric, table_fault, weight_fault, file_fault, earlier_fault, earliest_fault}
-use Rattle.job_lang.specs.BindingOrder.{looked_at, IsBehind, IsNotBefore, IsEarliest, GivesEarliest, lacks_variable, has_numeric, IsFirstKind, GivesFirstKind}
+use Rattle.job_lang.specs.BindingFaults.{is_numeric, table_fault, weight_fault, file_fault, earlier_fault, contributors_fault, earliest_fault}
+use Rattle.job_lang.specs.BindingOrder.{contributors_at, looked_at, IsBehind, IsNotBefore, IsEarliest, GivesEarliest, lacks_variable, has_numeric, IsFirstKind, GivesFirstKind}
 
 -- a line with the fault that it has
 abbrev Looked : Type 0
@@ -110,11 +110,15 @@ both_lists : (first : Option (ℕ × JobWhy)) (xs ys : List Looked) → earliest
 both_lists first [] ys = refl
 both_lists first (x ∷ xs) ys = both_lists (earlier_fault first x.0 x.1) xs ys
 
+of_contributors : (job : Job) (variables : List Variable) (first : Option (ℕ × JobWhy)) (contributors : Option OutputLine) → earliest first (contributors_at job variables contributors) ≡ contributors_fault job.tables variables first contributors
+of_contributors job variables first None = refl
+of_contributors job variables first (Some o) = refl
+
 by_lines : (job : Job) (variables : List Variable) → earliest_fault job variables ≡ earliest None (looked_at job variables)
 by_lines job variables =
     let tables : List Looked = map (λ t. (t.line, table_fault variables t)) job.tables in
     let outputs : List Looked = map (λ o. (o.line, file_fault job.tables variables o.file)) job.outputs in
-    let last : List Looked = (job.certificate_line, file_fault job.tables variables job.certificate) ∷ [] in
+    let last : List Looked = (job.certificate_line, file_fault job.tables variables job.certificate) ∷ contributors_at job variables job.contributors in
     let rules : Looked = (job.rules_line, weight_fault variables job.rules) in
     let step : Option (ℕ × JobWhy) → Looked → Option (ℕ × JobWhy) = λ first l. earlier_fault first l.0 l.1 in
     let of_tables : earliest None tables ≡ fold (λ first t. earlier_fault first t.line (table_fault variables t)) None job.tables = fold-map step (λ (t : TableLine). (t.line, table_fault variables t)) None job.tables in
@@ -125,6 +129,7 @@ by_lines job variables =
     ∙ ap (λ (first : Option (ℕ × JobWhy)). earliest first (rules ∷ outputs ++ last)) of_tables
     ∙ both_lists _ (rules ∷ outputs) last
     ∙ ap (λ (first : Option (ℕ × JobWhy)). earliest first last) (of_outputs _)
+    ∙ of_contributors job variables _ job.contributors
     )
 
 refused : (fault : Option (ℕ × JobWhy)) (bound : Bound) (line : ℕ) (why : JobWhy) → ◌≡◌ {A = Result Bound (ℕ × JobWhy)} (unless_fault fault >>= λ fine. Ok bound) (Err (line, why)) → fault ≡ Some (line, why)

@@ -7,7 +7,7 @@ use Rattle.sdc_base.specs.Lines.{lines}
 use Rattle.sdc_base.specs.Steps.{◌>>=◌, refuse}
 use Rattle.sdc_base.proofs.StepLemmas.{bind_err, bind_ok}
 use Rattle.job_lang.specs.declared.faults.JobWhy.{JobWhy}
-use Rattle.job_lang.specs.declared.faults.JobWhy.TheVariants.{NoSuchTable, SameName, Missing}
+use Rattle.job_lang.specs.declared.faults.JobWhy.TheVariants.{BadValue, NoSuchTable, SameName, Missing}
 use Rattle.job_lang.specs.declared.faults.Command.{Command}
 use Rattle.job_lang.specs.declared.faults.Command.TheVariants as command
 use Rattle.job_lang.specs.declared.job.OutputLine.{OutputLine}
@@ -19,8 +19,9 @@ use Rattle.job_lang.specs.Statements.{text_says, lines_say, empty_draft}
 use Rattle.job_lang.specs.ClosingLooks.{said_by, file_line, rules_line, method_of, output_said}
 use Rattle.job_lang.specs.MissingCommands.{needed_value, output_of_table, outputs_from}
 use Rattle.job_lang.specs.FilesApart.{is_astray, no_stray, puts_shared_file, no_same_name}
+use Rattle.job_lang.specs.RoundedContributors.{unless_line, no_rounded_contributors}
 use Rattle.job_lang.specs.Jobs.{job_made, closed_job, job_of}
-use Rattle.job_lang.specs.Laws.{IsLineFault, lacks_output, lacks_command, must_have, IsFirstStray, IsFirstMeeting, IsFirstLack}
+use Rattle.job_lang.specs.Laws.{IsLineFault, lacks_output, lacks_command, must_have, rounds, has_unfit_line, IsUnfitLine, IsFirstStray, IsFirstMeeting, IsFirstLack}
 use Rattle.job_lang.proofs.Known.{not_refused}
 
 -- ---- lines
@@ -45,12 +46,32 @@ line_fault behind d (text ∷ texts) line why h =
           (zero, d, text, omega (arith, at), refl, refl, rw at (said ∙ ap Err same))
     ] refl h
 
--- ---- numbers of tables and names
-
 pair_of : (line at : ℕ) (why fault : JobWhy) → ◌≡◌ {A = Result (Unit {0}) (ℕ × JobWhy)} (Err (at, fault)) (Err (line, why)) → (line ≡ at) × (why ≡ fault)
 pair_of line at why fault h =
     let pair : ◌≡◌ {A = ℕ × JobWhy} (line, why) (at, fault) = cc in
     (ap (λ (p : ℕ × JobWhy). p.0) pair, ap (λ (p : ℕ × JobWhy). p.1) pair)
+
+-- ---- the contributors' file of a job that rounds
+
+unfit_by : (draft : Draft) (r : Bool) (o : Option Statement) (line : ℕ) (why : JobWhy) → rounds draft ≡ r → said_by keyword.Contributors draft.said ≡ o → unless_line r o ≡ Err (line, why) → IsUnfitLine draft line why
+unfit_by draft true (Some s) line why rounding found h = let both = pair_of line s.line why BadValue h in (s, rounding, found, both.0, both.1)
+unfit_by draft true None line why rounding found h = absurd cc
+unfit_by draft false o line why rounding found h = absurd cc
+
+unfit_fault : (draft : Draft) (line : ℕ) (why : JobWhy) → no_rounded_contributors draft.said ≡ Err (line, why) → IsUnfitLine draft line why
+unfolding no_rounded_contributors
+unfit_fault draft line why h = unfit_by draft (rounds draft) (said_by keyword.Contributors draft.said) line why refl refl h
+
+fit_by : (draft : Draft) (r : Bool) (o : Option Statement) (t : Unit {0}) → rounds draft ≡ r → said_by keyword.Contributors draft.said ≡ o → unless_line r o ≡ Ok t → has_unfit_line draft ≡ false
+fit_by draft true (Some s) t rounding found h = absurd cc
+fit_by draft true None t rounding found h = rw (rounding, found) refl
+fit_by draft false o t rounding found h = rw rounding refl
+
+all_fit : (draft : Draft) (t : Unit {0}) → no_rounded_contributors draft.said ≡ Ok t → has_unfit_line draft ≡ false
+unfolding no_rounded_contributors
+all_fit draft t h = fit_by draft (rounds draft) (said_by keyword.Contributors draft.said) t refl refl h
+
+-- ---- numbers of tables and names
 
 stray_fault : (count : ℕ) (said : List Statement) (line : ℕ) (why : JobWhy) → no_stray count said ≡ Err (line, why) → (s : Statement) × (find (λ s. is_astray count s.said) said ≡ Some s) × (line ≡ s.line) × (why ≡ NoSuchTable)
 unfolding no_stray
@@ -171,27 +192,36 @@ first_lack draft line why h =
           ]
     ]
 
+-- the fault of the closing looks at what lines say
+abbrev IsClosing : Draft → ℕ → JobWhy → Type 0
+IsClosing draft line why = IsUnfitLine draft line why ⊎ IsFirstStray draft line why ⊎ IsFirstMeeting draft line why ⊎ IsFirstLack draft line why
+
+closing : (draft : Draft) (line : ℕ) (why : JobWhy) → closed_job draft ≡ Err (line, why) → IsClosing draft line why
+unfolding closed_job
+closing draft line why h =
+    elim (bind_err (no_rounded_contributors draft.said) _ (line, why) h) as (λ _. IsClosing draft line why) [
+      | inl failed ↦ inl (unfit_fault draft line why failed)
+      | inr (fit, is_fit, h) ↦
+          let f = all_fit draft fit is_fit in
+          elim (bind_err (no_stray (length draft.tables) draft.said) _ (line, why) h) as (λ _. IsClosing draft line why) [
+            | inl failed ↦ let s = stray_fault (length draft.tables) draft.said line why failed in inr (inl (s.0, f, s.1, s.2, s.3))
+            | inr (placed, is_placed, h) ↦
+                let a = no_strays (length draft.tables) draft.said placed is_placed in
+                elim (bind_err (no_same_name draft.said draft.said) _ (line, why) h) as (λ _. IsClosing draft line why) [
+                  | inl failed ↦ let m = shared_fault draft.said draft.said line why failed in inr (inr (inl (m.0, f, a, m.1, m.2, m.3)))
+                  | inr (apart, is_apart, h) ↦
+                      let b = no_shared_file draft.said draft.said apart is_apart in
+                      let l = first_lack draft line why h in
+                      inr (inr (inr (l.0, f, a, b, l.1, l.2, l.3)))
+                ]
+          ]
+    ]
+
 pub in_order : (bytes : List ℕ) (line : ℕ) (why : JobWhy) → job_of bytes ≡ Err (line, why)
-    → IsLineFault (lines bytes) line why ⊎ ((draft : Draft) × (lines_say 0 empty_draft (lines bytes) ≡ Ok draft) × (IsFirstStray draft line why ⊎ IsFirstMeeting draft line why ⊎ IsFirstLack draft line why))
-unfolding job_of closed_job
+    → IsLineFault (lines bytes) line why ⊎ ((draft : Draft) × (lines_say 0 empty_draft (lines bytes) ≡ Ok draft) × (IsUnfitLine draft line why ⊎ IsFirstStray draft line why ⊎ IsFirstMeeting draft line why ⊎ IsFirstLack draft line why))
+unfolding job_of
 in_order bytes line why h =
     elim (bind_err (lines_say 0 empty_draft (lines bytes)) _ (line, why) h) [
       | inl failed ↦ inl (let f = line_fault 0 empty_draft (lines bytes) line why failed in (f.0, f.1, f.2, omega (arith, f.3), f.4, f.5, f.6))
-      | inr (draft, said, h) ↦
-          inr (
-            draft,
-            said,
-            elim (bind_err (no_stray (length draft.tables) draft.said) _ (line, why) h) as (λ _. IsFirstStray draft line why ⊎ IsFirstMeeting draft line why ⊎ IsFirstLack draft line why) [
-              | inl failed ↦ inl (stray_fault (length draft.tables) draft.said line why failed)
-              | inr (placed, is_placed, h) ↦
-                  let a = no_strays (length draft.tables) draft.said placed is_placed in
-                  elim (bind_err (no_same_name draft.said draft.said) _ (line, why) h) as (λ _. IsFirstStray draft line why ⊎ IsFirstMeeting draft line why ⊎ IsFirstLack draft line why) [
-                    | inl failed ↦ let m = shared_fault draft.said draft.said line why failed in inr (inl (m.0, a, m.1, m.2, m.3))
-                    | inr (apart, is_apart, h) ↦
-                        let b = no_shared_file draft.said draft.said apart is_apart in
-                        let l = first_lack draft line why h in
-                        inr (inr (l.0, a, b, l.1, l.2, l.3))
-                  ]
-            ],
-          )
+      | inr (draft, said, h) ↦ inr (draft, said, closing draft line why h)
     ]

@@ -8,6 +8,7 @@ use Rattle.sdc_base.specs.Steps.{refuse}
 use Rattle.sdc_base.specs.Tokens.{is_number}
 use Rattle.std.specs.Str.Parse.{digits_value}
 use Rattle.sdc_base.specs.declared.method.Method.{Method}
+use Rattle.sdc_base.specs.declared.method.Method.TheVariants.{Gh, Modular, Rnd}
 use Rattle.job_lang.specs.declared.faults.JobWhy.TheVariants.{Missing, NoSuchTable}
 use Rattle.job_lang.specs.declared.faults.Command.TheVariants as command
 use Rattle.job_lang.specs.declared.job.PriorLine.{PriorLine}
@@ -22,8 +23,9 @@ use Rattle.job_lang.specs.Statements.{is_by, lines_say, empty_draft}
 use Rattle.job_lang.specs.ClosingLooks.{said_by, file_line, rules_from, rules_line, method_from, method_of, work_from, work_of, usual_steps, usual_nodes, table_place, prior_in, priors_in}
 use Rattle.job_lang.specs.MissingCommands.{needed_value, output_of_table, outputs_from}
 use Rattle.job_lang.specs.FilesApart.{is_no_table, is_astray, no_stray, no_same_name}
+use Rattle.job_lang.specs.RoundedContributors.{is_rounding, unless_line, no_rounded_contributors}
 use Rattle.job_lang.specs.Jobs.{job_made, closed_job, job_of}
-use Rattle.job_lang.specs.JobLimits.{AreInRange, IsMethod, IsWork, IsJob}
+use Rattle.job_lang.specs.JobLimits.{AreInRange, IsMethod, IsWork, CanHaveContributors, IsJob}
 use Rattle.job_lang.proofs.Known.{then_known, known, not_refused, was_some}
 use Rattle.job_lang.proofs.DraftHolds.{IsSaid, IsDraft, lines_known}
 
@@ -115,9 +117,20 @@ priors_known count (s ∷ rest) t few h =
 some_tables : (n : ℕ) → (n == 0) ≡ false → 0 < n
 some_tables n h = grind arith
 
-made_known : (draft : Draft) → IsDraft draft → AllByRecursion (λ (p : PriorLine). p.table < length draft.tables) (priors_in draft.said) → IfOk (job_made draft) IsJob
+-- a job that rounds names no contributors' file
+fits_by : (method : Method) (o : Option Statement) (t : Unit {0}) → unless_line (is_rounding (Some method)) o ≡ Ok t → CanHaveContributors method (file_line o)
+fits_by (Rnd base) None t h = tt
+fits_by (Rnd base) (Some s) t h = absurd cc
+fits_by (Gh n) o t h = tt
+fits_by Modular o t h = tt
+
+contributors_fit : (all : List Statement) (method : Method) (t : Unit {0}) → no_rounded_contributors all ≡ Ok t → method_of (said_by keyword.Suppress all) ≡ Some method → CanHaveContributors method (file_line (said_by keyword.Contributors all))
+unfolding no_rounded_contributors
+contributors_fit all method t h is = fits_by method (said_by keyword.Contributors all) t (subst (λ (m : Option Method). unless_line (is_rounding m) (said_by keyword.Contributors all) ≡ Ok t) is h)
+
+made_known : (draft : Draft) (t : Unit {0}) → IsDraft draft → no_rounded_contributors draft.said ≡ Ok t → AllByRecursion (λ (p : PriorLine). p.table < length draft.tables) (priors_in draft.said) → IfOk (job_made draft) IsJob
 unfolding job_made
-made_known draft is placed =
+made_known draft t is fit placed =
     then_known IsJob (needed_value command.OpenMicrodata (file_line (said_by keyword.OpenMicrodata draft.said))) _ (λ micro h.
     then_known IsJob (needed_value command.OpenMetadata (file_line (said_by keyword.OpenMetadata draft.said))) _ (λ meta h1.
     then_known IsJob (refuse (0, Missing command.SpecifyTable) (length draft.tables == 0)) _ (λ some h2.
@@ -140,13 +153,15 @@ made_known draft is placed =
       method = method_of_known (said_by keyword.Suppress draft.said) method (by_known keyword.Suppress draft.said is.said) (was_some (0, Missing command.Suppress) (method_of (said_by keyword.Suppress draft.said)) method h4);
       steps = work_of_known usual_steps (said_by keyword.Steps draft.said) (by_known keyword.Steps draft.said is.said) (omega arith, omega arith);
       nodes = work_of_known usual_nodes (said_by keyword.Nodes draft.said) (by_known keyword.Nodes draft.said is.said) (omega arith, omega arith);
+      contributors = contributors_fit draft.said method t fit (was_some (0, Missing command.Suppress) (method_of (said_by keyword.Suppress draft.said)) method h4);
     })))))))
 
 pub closed_known : (draft : Draft) → IsDraft draft → IfOk (closed_job draft) IsJob
 unfolding closed_job
 closed_known draft is =
+    then_known IsJob (no_rounded_contributors draft.said) _ (λ fit g.
     then_known IsJob (no_stray (length draft.tables) draft.said) _ (λ placed h.
-    then_known IsJob (no_same_name draft.said draft.said) _ (λ apart h1. made_known draft is (priors_known (length draft.tables) draft.said placed is.few h)))
+    then_known IsJob (no_same_name draft.said draft.said) _ (λ apart h1. made_known draft fit is g (priors_known (length draft.tables) draft.said placed is.few h))))
 
 pub job_known : (bytes : List ℕ) → IfOk (job_of bytes) IsJob
 unfolding job_of

@@ -16,6 +16,7 @@ use Rattle.job_lang.specs.Statements.{lines_say, empty_draft}
 use Rattle.job_lang.specs.ClosingLooks.{said_by, file_line, rules_line, method_of, cost_of, work_of, usual_steps, usual_nodes, priors_in}
 use Rattle.job_lang.specs.MissingCommands.{needed_value, outputs_from}
 use Rattle.job_lang.specs.FilesApart.{no_stray, no_same_name}
+use Rattle.job_lang.specs.RoundedContributors.{no_rounded_contributors}
 use Rattle.job_lang.specs.Jobs.{job_made, closed_job, job_of}
 use Rattle.job_lang.proofs.Known.{was_some, same_value}
 
@@ -35,6 +36,7 @@ job_with draft micro meta rules method outputs certificate = record {
   outputs = outputs;
   certificate = certificate.file;
   certificate_line = certificate.line;
+  contributors = file_line (said_by keyword.Contributors draft.said);
 }
 
 pub record IsMade (draft : Draft) (job : Job) : Type 0 where
@@ -83,6 +85,7 @@ made draft job h =
 pub record IsRead (bytes : List ℕ) (job : Job) : Type 0 where
   pub draft : Draft
   pub says : lines_say 0 empty_draft (lines bytes) ≡ Ok draft
+  pub fit : no_rounded_contributors draft.said ≡ Ok tt
   pub placed : no_stray (length draft.tables) draft.said ≡ Ok tt
   pub apart : no_same_name draft.said draft.said ≡ Ok tt
   pub is_made : IsMade draft job
@@ -91,6 +94,7 @@ pub read : (bytes : List ℕ) (job : Job) → job_of bytes ≡ Ok job → IsRead
 unfolding job_of closed_job
 read bytes job h =
     let a = bind_ok (lines_say 0 empty_draft (lines bytes)) _ job h in
-    let b = bind_ok (no_stray (length a.0.tables) a.0.said) _ job a.2 in
+    let e = bind_ok (no_rounded_contributors a.0.said) _ job a.2 in
+    let b = bind_ok (no_stray (length a.0.tables) a.0.said) _ job e.2 in
     let d = bind_ok (no_same_name a.0.said a.0.said) _ job b.2 in
-    record { draft = a.0; says = a.1; placed = b.1; apart = d.1; is_made = made a.0 job d.2 }
+    record { draft = a.0; says = a.1; fit = e.1; placed = b.1; apart = d.1; is_made = made a.0 job d.2 }

@@ -30,7 +30,7 @@ use Rattle.job_lang.specs.Arguments.{argument_of}
 use Rattle.job_lang.specs.Statements.{command_of, is_by, is_again, is_past_room, is_other_response, with_table, with_statement, with_said, is_passed_over, command_line, text_says, lines_say, empty_draft}
 use Rattle.job_lang.specs.ClosingLooks.{said_by, output_said, file_said, file_line, rules_from, rules_line, method_from, method_of, cost_of, work_of, work_from, usual_steps, usual_nodes}
 use Rattle.job_lang.specs.MissingCommands.{output_of_table, outputs_from}
-use Rattle.job_lang.specs.Meaning.{line_says, said_at, statements_of_line, stated_in, table_in, tables_among, other_in, others_among, others_in, by_command, IsStatedOnce, IsStatedOrElse, IsMeant, JobsAreMeant}
+use Rattle.job_lang.specs.Meaning.{line_says, said_at, statements_of_line, stated_in, table_in, tables_among, other_in, others_among, others_in, by_command, contributors_stated, IsStatedOnce, IsStatedOrElse, IsMeant, JobsAreMeant}
 use Rattle.job_lang.proofs.Known.{not_refused, was_some, same_value}
 use Rattle.job_lang.proofs.Made.{IsMade, read, job_with}
 
@@ -232,6 +232,10 @@ certificate_is line (said.Certificate file) o by h =
     ap (λ (o : OutputLine). Line o.line (said.Certificate o.file)) is
 certificate_is line one o by h = absurd cc
 
+contributors_is : (line : ℕ) (one : Instruction) → is_by keyword.Contributors one ≡ true → Line line one ∷ [] ≡ contributors_stated (file_line (Some (Line line one)))
+contributors_is line (said.Contributors file) by = refl
+contributors_is line one by = absurd cc
+
 rules_is : (line : ℕ) (one : Instruction) (r : RulesLine) → is_by keyword.SafetyRule one ≡ true → rules_from line one ≡ Some r → Line line one ≡ Line r.line (said.Safety r.rules)
 rules_is line (said.Safety rules) r by h =
     let is : ◌≡◌ {A = RulesLine} (record { line = line; rules = rules }) r = cc in
@@ -287,6 +291,13 @@ cost_once all single =
       | Some s ↦ λ found. let a = once keyword.Cost all s found single refl in inl (s.line, a.0 ∙ ap (λ (s : Statement). s ∷ []) (cost_is s.line s.said a.1))
     ] refl
 
+contributors_once : (all : List Statement) → AreSingle all → by_command keyword.Contributors all ≡ contributors_stated (file_line (said_by keyword.Contributors all))
+contributors_once all single =
+    elim (said_by keyword.Contributors all) as (λ f. said_by keyword.Contributors all ≡ f → by_command keyword.Contributors all ≡ contributors_stated (file_line f)) [
+      | None ↦ λ found. absent (λ s. is_by keyword.Contributors s.said) all found
+      | Some s ↦ λ found. let a = once keyword.Contributors all s found single refl in a.0 ∙ contributors_is s.line s.said a.1
+    ] refl
+
 steps_once : (usual : ℕ) (all : List Statement) → AreSingle all → IsStatedOrElse keyword.Steps all (said.Steps (work_of usual (said_by keyword.Steps all))) (work_of usual (said_by keyword.Steps all) ≡ usual)
 steps_once usual all single =
     elim (said_by keyword.Steps all) as (λ f. said_by keyword.Steps all ≡ f → IsStatedOrElse keyword.Steps all (said.Steps (work_of usual f)) (work_of usual f ≡ usual)) [
@@ -333,6 +344,7 @@ made_meant bytes draft job tables others single is =
       rules = rules_once all is.rules single (ap (λ (said : List Statement). rules_line (said_by keyword.SafetyRule said)) (sym others) ∙ is.is_rules);
       method = method_once all is.method single (ap (λ (said : List Statement). method_of (said_by keyword.Suppress said)) (sym others) ∙ is.is_method);
       certificate = file_once keyword.Certificate (λ file. said.Certificate file) all is.certificate single refl (λ line one by h. certificate_is line one is.certificate by h) (at None keyword.Certificate is.certificate is.is_certificate);
+      contributors = contributors_once all single;
       cost = cost_once all single;
       steps = steps_once usual_steps all single;
       nodes = nodes_once usual_nodes all single;

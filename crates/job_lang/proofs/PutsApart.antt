@@ -1,5 +1,5 @@
 -- Names of files that are put differ from one another.
-use Rattle.std.proofs.Common.{◌≡◌, ℕ, zero, suc, ◌+◌, ◌<◌, ◌≤◌, Bool, true, false, cond, List, [], ◌∷◌, length, map, None, Some, Ok, refl, sym, subst, arith}
+use Rattle.std.proofs.Common.{◌≡◌, ℕ, zero, suc, ◌+◌, ◌<◌, ◌≤◌, Bool, true, false, cond, List, [], ◌∷◌, ◌++◌, length, map, Option, None, Some, Ok, refl, sym, subst, arith}
 use Rattle.std.specs.Prelude.{find, nat_lt, nat_le, ◌||◌, ◌&&◌, option_map}
 use Rattle.std.specs.Option.{is_some}
 use Rattle.std.specs.List.{list_any, count_by, AllByRecursion, IsDistinct}
@@ -20,10 +20,10 @@ use Rattle.job_lang.specs.declared.statement.Instruction.{Instruction}
 use Rattle.job_lang.specs.declared.statement.Instruction.TheVariants as said
 use Rattle.job_lang.specs.declared.statement.Statement.{Statement}
 use Rattle.job_lang.specs.Statements.{is_by}
-use Rattle.job_lang.specs.ClosingLooks.{is_output_at, output_said, file_said, file_line}
+use Rattle.job_lang.specs.ClosingLooks.{said_by, is_output_at, output_said, file_said, file_line}
 use Rattle.job_lang.specs.MissingCommands.{output_of_table, outputs_from}
 use Rattle.job_lang.specs.FilesApart.{puts, is_read_file, is_shared, puts_shared_file}
-use Rattle.job_lang.specs.FileLaws.{puts_of, PutsDiffer}
+use Rattle.job_lang.specs.FileLaws.{contributors_named, puts_of, PutsDiffer}
 use Rattle.job_lang.proofs.Known.{was_some}
 use Rattle.job_lang.proofs.FirstFault.{no_shared_file}
 use Rattle.job_lang.proofs.NamesApart.{AreApart, all_apart, found}
@@ -89,6 +89,13 @@ put_by_certificate all (said.Certificate name) line o by apart h =
     subst (λ (o : OutputLine). (puts o.file (said.Certificate name) ≡ true) × (is_shared o.file all ≡ false)) is (nat_list_eq_equiv.refl name, apart)
 put_by_certificate all one line o by apart h = absurd cc
 
+put_by_contributors : (all : List Statement) (one : Instruction) (line : ℕ) (o : OutputLine) → is_by keyword.Contributors one ≡ true → puts_shared_file all one ≡ false
+    → option_map (λ (file : List ℕ). record { line = line; file = file }) (file_said one) ≡ Some o → (puts o.file one ≡ true) × (is_shared o.file all ≡ false)
+put_by_contributors all (said.Contributors name) line o by apart h =
+    let is : ◌≡◌ {A = OutputLine} (record { line = line; file = name }) o = cc in
+    subst (λ (o : OutputLine). (puts o.file (said.Contributors name) ≡ true) × (is_shared o.file all ≡ false)) is (nat_list_eq_equiv.refl name, apart)
+put_by_contributors all one line o by apart h = absurd cc
+
 put_by : (all : List Statement) (test : Statement → Bool) → AreApart all all
     → ((s : Statement) (o : OutputLine) → test s ≡ true → puts_shared_file all s.said ≡ false → option_map (λ (file : List ℕ). record { line = s.line; file = file }) (file_said s.said) ≡ Some o → (puts o.file s.said ≡ true) × (is_shared o.file all ≡ false))
     → (o : OutputLine) → file_line (find test all) ≡ Some o → IsPutBy all test o
@@ -118,7 +125,7 @@ two_names all t u a b first second apart =
       | false ↦ λ differ. refl
     ] refl
 
--- ---- outputs of tables and the certificate
+-- ---- outputs of tables, the certificate and the contributors' file
 
 -- each output is that of its table
 abbrev AreOutputs : List Statement → ℕ → List OutputLine → Type 0
@@ -146,6 +153,14 @@ no_output : (q : ℕ) (one : Instruction) → is_by keyword.Certificate one ≡ 
 no_output q (said.Output number file) h = absurd cc
 no_output q one h = refl
 
+extra_no_output : (q : ℕ) (one : Instruction) → is_by keyword.Contributors one ≡ true → is_output_at q one ≡ false
+extra_no_output q (said.Output number file) h = absurd cc
+extra_no_output q one h = refl
+
+no_extra : (one : Instruction) → is_by keyword.Certificate one ≡ true → is_by keyword.Contributors one ≡ false
+no_extra (said.Certificate file) h = refl
+no_extra one h = absurd cc
+
 from_others : (all : List Statement) (t : Statement → Bool) (a : OutputLine) (place : ℕ) (outputs : List OutputLine) → IsPutBy all t a → AreOutputs all place outputs
     → ((q : ℕ) (s : Statement) → place ≤ q → t s ≡ true → is_output_at q s.said ≡ false) → AllByRecursion (λ file. bytes_eq a.file file ≡ false) (map (λ o. o.file) outputs)
 from_others all t a place [] put are apart = tt
@@ -162,6 +177,18 @@ outputs_differ all place (o ∷ outputs) are = (
   outputs_differ all (place + 1) outputs are.1,
 )
 
+-- the certificate, the contributors' file where there is one, and the outputs
+all_differ : (all : List Statement) (certificate : OutputLine) (contributors : Option OutputLine) (outputs : List OutputLine) → IsPutBy all (λ s. is_by keyword.Certificate s.said) certificate
+    → ((o : OutputLine) → contributors ≡ Some o → IsPutBy all (λ s. is_by keyword.Contributors s.said) o) → AreOutputs all 0 outputs → AllByRecursion (λ file. bytes_eq certificate.file file ≡ false) (map (λ o. o.file) outputs)
+    → IsDistinct bytes_eq (certificate.file ∷ contributors_named contributors ++ map (λ o. o.file) outputs)
+all_differ all certificate None outputs put extra are first = IsDistinct-cons bytes_eq certificate.file (map (λ o. o.file) outputs) first (outputs_differ all 0 outputs are)
+all_differ all certificate (Some o) outputs put extra are first =
+    let own = extra o refl in
+    let names : List (List ℕ) = map (λ o. o.file) outputs in
+    let apart = two_names all (λ s. is_by keyword.Certificate s.said) (λ s. is_by keyword.Contributors s.said) certificate o put own (λ s by. no_extra s.said by) in
+    let behind = from_others all (λ s. is_by keyword.Contributors s.said) o 0 outputs own are (λ q s above by. extra_no_output q s.said by) in
+    IsDistinct-cons bytes_eq certificate.file (o.file ∷ names) (apart, first) (IsDistinct-cons bytes_eq o.file names behind (outputs_differ all 0 outputs are))
+
 pub differ : PutsDiffer
 differ bytes job h =
     let is = read bytes job h in
@@ -170,5 +197,7 @@ differ bytes job h =
     let outputs = are_outputs all (length is.draft.tables) 0 is.is_made.outputs apart is.is_made.are_outputs in
     let certificate = put_by all (λ s. is_by keyword.Certificate s.said) apart (λ s o by free g. put_by_certificate all s.said s.line o by free g) is.is_made.certificate is.is_made.is_certificate in
     let first = from_others all (λ s. is_by keyword.Certificate s.said) is.is_made.certificate 0 is.is_made.outputs certificate outputs (λ q s above by. no_output q s.said by) in
+    let contributors : (o : OutputLine) → file_line (said_by keyword.Contributors all) ≡ Some o → IsPutBy all (λ s. is_by keyword.Contributors s.said) o =
+    λ o found. put_by all (λ s. is_by keyword.Contributors s.said) apart (λ s o by free g. put_by_contributors all s.said s.line o by free g) o found in
     subst (λ (job : Job). IsDistinct bytes_eq (puts_of job)) is.is_made.whole
-    (IsDistinct-cons bytes_eq is.is_made.certificate.file (map (λ o. o.file) is.is_made.outputs) first (outputs_differ all 0 is.is_made.outputs outputs))
+    (all_differ all is.is_made.certificate (file_line (said_by keyword.Contributors all)) is.is_made.outputs certificate contributors outputs first)

@@ -1,5 +1,5 @@
 -- What the lines of a canonical text say.
-use Rattle.std.proofs.Common.{◌≡◌, ℕ, suc, ◌+◌, ◌<◌, ◌≤◌, ◌==◌, Bool, false, List, [], ◌∷◌, ◌++◌, length, map, Result, Ok, refl, ap, sym, ◌∙◌, arith, append_assoc}
+use Rattle.std.proofs.Common.{◌≡◌, ℕ, suc, ◌+◌, ◌<◌, ◌≤◌, ◌==◌, Bool, false, List, [], ◌∷◌, ◌++◌, length, map, Option, None, Some, Result, Ok, refl, ap, sym, ◌∙◌, arith, append_assoc}
 use Rattle.std.specs.List.{AllByRecursion, IsDistinct, list_any}
 use Rattle.std.specs.Str.{bytes_eq}
 use Rattle.std.proofs.lemmas.List.{append-nil}
@@ -22,7 +22,7 @@ use Rattle.job_lang.specs.Faults.{at_line}
 use Rattle.job_lang.specs.Keywords.{same_keyword}
 use Rattle.job_lang.specs.Statements.{is_by, is_prior_of, is_output_of, is_again, is_past_room, is_other_response, with_table, with_statement, with_said, text_says, lines_say, empty_draft}
 use Rattle.job_lang.specs.Spelling.{table_number, said_line}
-use Rattle.job_lang.specs.JobText.{table_said, prior_said, outputs_said, job_says, tables_from}
+use Rattle.job_lang.specs.JobText.{table_said, prior_said, outputs_said, contributors_said, job_says, tables_from}
 use Rattle.job_lang.specs.WritableJobs.{IsSpellable}
 use Rattle.job_lang.proofs.SpelledArguments.{number_is}
 use Rattle.job_lang.proofs.SpelledLines.{line_read, line_trimmed}
@@ -198,11 +198,23 @@ cost_line job = 5 + length job.tables + length job.priors
 abbrev pub outputs_line : Job → ℕ
 outputs_line job = 9 + length job.tables + length job.priors
 
+-- the line of the contributors' file
+abbrev pub contributors_line : Job → ℕ
+contributors_line job = 10 + length job.tables + length job.priors + length job.outputs
+
+-- the contributors' file, where there is one, in this line
+abbrev pub contributors_in : ℕ → Option OutputLine → List Statement
+contributors_in line None = []
+contributors_in line (Some output) = record { line = line; said = said.Contributors output.file } ∷ []
+
+-- the certificate and the contributors' file
+abbrev pub last_of : Job → List Statement
+last_of job = record { line = outputs_line job + length job.outputs; said = said.Certificate job.certificate } ∷ contributors_in (contributors_line job) job.contributors
+
 -- all statements of a job's canonical text
 abbrev pub statements_of : Job → List Statement
 statements_of job =
-    front_of job ++ (priors_stated (5 + length job.tables) job.priors ++ (middle_of (cost_line job) job ++ (outputs_stated (outputs_line job) 0 job.outputs
-    ++ record { line = outputs_line job + length job.outputs; said = said.Certificate job.certificate } ∷ [])))
+    front_of job ++ (priors_stated (5 + length job.tables) job.priors ++ (middle_of (cost_line job) job ++ (outputs_stated (outputs_line job) 0 job.outputs ++ last_of job)))
 
 first_two : (job : Job) (rest : List Instruction) → says 0 empty_draft (said.Microdata job.micro ∷ said.Metadata job.meta ∷ rest)
     ≡ says 2 (drafted [] (record { line = 1; said = said.Microdata job.micro } ∷ record { line = 2; said = said.Metadata job.meta } ∷ [])) rest
@@ -238,6 +250,17 @@ method_as line draft job = refl
 certificate_as : (line : ℕ) (draft : Draft) (job : Job) → with_said line draft (said.Certificate job.certificate) ≡ with_statement line draft (said.Certificate job.certificate)
 unfolding with_said
 certificate_as line draft job = refl
+
+contributors_as : (line : ℕ) (draft : Draft) (file : List ℕ) → with_said line draft (said.Contributors file) ≡ with_statement line draft (said.Contributors file)
+unfolding with_said
+contributors_as line draft file = refl
+
+contributors_say : (before line : ℕ) (tables : List TableLine) (all : List Statement) (contributors : Option OutputLine) → before + 1 ≡ line → IsUnsaid keyword.Contributors all
+    → says before (drafted tables all) (contributors_said contributors) ≡ Ok (drafted tables (all ++ contributors_in line contributors))
+contributors_say before line tables all None is none = ap (λ (ss : List Statement). Ok (drafted tables ss)) (sym (append-nil all))
+contributors_say before line tables all (Some o) is none =
+    let s : Statement = record { line = line; said = said.Contributors o.file } in
+    step before line (drafted tables all) (drafted tables (all ++ s ∷ [])) (said.Contributors o.file) [] is (single_taken line tables all (said.Contributors o.file) (contributors_as line (drafted tables all) o.file) none)
 
 -- four statements that stand once
 middle_say : (before line : ℕ) (job : Job) (tables : List TableLine) (all : List Statement) (rest : List Instruction) → before + 1 ≡ line
@@ -275,7 +298,7 @@ text_says_all job fits few once outputs =
     let middle = middle_of (cost_line job) job in
     let before = front ++ priors in
     let whole = before ++ middle in
-    let last : List Instruction = said.Certificate job.certificate ∷ [] in
+    let last : List Instruction = said.Certificate job.certificate ∷ contributors_said job.contributors in
     let r3 : List Instruction = outputs_said 0 job.outputs ++ last in
     let r2 : List Instruction = said.Cost job.cost ∷ said.Steps job.steps ∷ said.Nodes job.nodes ∷ said.Suppress job.method ∷ r3 in
     let r1 : List Instruction = said.Safety job.rules ∷ said.Read ∷ (map prior_said job.priors ++ r2) in
@@ -285,6 +308,8 @@ text_says_all job fits few once outputs =
     let line_b : 4 + n + m + 1 ≡ cost_line job = omega arith in
     let line_c : cost_line job + 1 + 1 + 1 + 1 ≡ outputs_line job = omega arith in
     let line_d : cost_line job + 1 + 1 + 1 + length job.outputs + 1 ≡ outputs_line job + length job.outputs = omega arith in
+    let line_e : outputs_line job + length job.outputs + 1 ≡ contributors_line job = omega arith in
+    let extra = contributors_in (contributors_line job) job.contributors in
     let none : HasNone 0 whole = λ q above small.
     let number = table_number q in
     rw (list_any-append (λ s. is_output_of number s.said) before middle, list_any-append (λ s. is_output_of number s.said) front priors, priors_no_output (5 + n) number job.priors) refl in
@@ -298,10 +323,12 @@ text_says_all job fits few once outputs =
     (front_unsaid keyword.Nodes job (5 + n) refl refl refl refl refl) (front_unsaid keyword.Suppress job (5 + n) refl refl refl refl refl)
     ∙ outputs_say (cost_line job + 1 + 1 + 1) 0 t whole job.outputs last (omega (arith, outputs)) none
     ∙ ap (λ (line : ℕ). says (cost_line job + 1 + 1 + 1 + length job.outputs) (drafted t (whole ++ outputs_stated line 0 job.outputs)) last) line_c
-    ∙ step (cost_line job + 1 + 1 + 1 + length job.outputs) (outputs_line job + length job.outputs) (drafted t (whole ++ done)) (drafted t ((whole ++ done) ++ z ∷ [])) (said.Certificate job.certificate) [] line_d
+    ∙ step (cost_line job + 1 + 1 + 1 + length job.outputs) (outputs_line job + length job.outputs) (drafted t (whole ++ done)) (drafted t ((whole ++ done) ++ z ∷ [])) (said.Certificate job.certificate) (contributors_said job.contributors) line_d
     (single_taken (outputs_line job + length job.outputs) t (whole ++ done) (said.Certificate job.certificate) (certificate_as (outputs_line job + length job.outputs) (drafted t (whole ++ done)) job)
     (unsaid_both keyword.Certificate whole done (unsaid_both keyword.Certificate before middle (front_unsaid keyword.Certificate job (5 + n) refl refl refl refl refl) refl) (outputs_unsaid keyword.Certificate (outputs_line job) 0 job.outputs refl)))
-    ∙ ap (λ (ss : List Statement). Ok (drafted t ss)) (regrouped front priors middle done (z ∷ []))
+    ∙ contributors_say (outputs_line job + length job.outputs) (contributors_line job) t ((whole ++ done) ++ z ∷ []) job.contributors line_e
+    (unsaid_both keyword.Contributors (whole ++ done) (z ∷ []) (unsaid_both keyword.Contributors whole done (unsaid_both keyword.Contributors before middle (front_unsaid keyword.Contributors job (5 + n) refl refl refl refl refl) refl) (outputs_unsaid keyword.Contributors (outputs_line job) 0 job.outputs refl)) refl)
+    ∙ ap (λ (ss : List Statement). Ok (drafted t ss)) (append_assoc (whole ++ done) (z ∷ []) extra ∙ regrouped front priors middle done (z ∷ extra))
   where
     new : (priors : List PriorLine) → AllByRecursion (λ p. p.table < 8) priors → AreNew (front_of job) priors
     new [] all = tt

@@ -1,5 +1,5 @@
 -- A job of its canonical text.
-use Rattle.std.proofs.Common.{◌≡◌, ◌≢◌, ℕ, suc, ◌+◌, ◌<◌, ◌≤◌, ◌==◌, ◌||◌, Bool, true, false, cond, List, [], ◌∷◌, ◌++◌, length, map, None, Some, Ok, Err, refl, ap, sym, ◌∙◌, subst, arith, append_assoc, nat_lt, nat_le}
+use Rattle.std.proofs.Common.{◌≡◌, ◌≢◌, ℕ, suc, ◌+◌, ◌<◌, ◌≤◌, ◌==◌, ◌||◌, Bool, true, false, cond, List, [], ◌∷◌, ◌++◌, length, map, Option, None, Some, Ok, Err, refl, ap, sym, ◌∙◌, subst, arith, append_assoc, nat_lt, nat_le}
 use Rattle.std.specs.Prelude.{◌&&◌, find}
 use Rattle.std.specs.Option.{is_some}
 use Rattle.std.specs.List.{AllByRecursion, IsDistinct, list_any, count_by}
@@ -14,6 +14,7 @@ use Rattle.std.proofs.lemmas.Slice.Eq.{bytes_eq-Decides}
 use Rattle.cost_rule.specs.declared.kind.CostKind.{CostKind}
 use Rattle.sdc_base.specs.Tokens.{number_in}
 use Rattle.sdc_base.specs.declared.method.Method.{Method}
+use Rattle.sdc_base.specs.declared.method.Method.TheVariants.{Gh, Modular, Rnd}
 use Rattle.job_lang.specs.declared.faults.JobWhy.TheVariants.{NoSuchTable, SameName}
 use Rattle.job_lang.specs.declared.job.Job.{Job}
 use Rattle.job_lang.specs.declared.job.OutputLine.{OutputLine}
@@ -30,13 +31,15 @@ use Rattle.job_lang.specs.Statements.{is_by}
 use Rattle.job_lang.specs.ClosingLooks.{said_by, is_output_at, output_said, file_line, rules_line, method_of, cost_of, work_of, usual_steps, usual_nodes, table_place, priors_in}
 use Rattle.job_lang.specs.MissingCommands.{outputs_from}
 use Rattle.job_lang.specs.FilesApart.{is_no_table, is_astray, no_stray, puts, is_read_file, is_shared, puts_shared_file, no_same_name}
+use Rattle.job_lang.specs.RoundedContributors.{is_rounding, unless_line, no_rounded_contributors}
+use Rattle.job_lang.specs.JobLimits.{CanHaveContributors}
 use Rattle.job_lang.specs.Jobs.{job_made, closed_job}
-use Rattle.job_lang.specs.FileLaws.{puts_of, reads_of}
+use Rattle.job_lang.specs.FileLaws.{contributors_named, puts_of, reads_of}
 use Rattle.job_lang.specs.Spelling.{table_number}
-use Rattle.job_lang.specs.JobText.{prior_said, tables_from, priors_from, outputs_at, in_text}
+use Rattle.job_lang.specs.JobText.{prior_said, tables_from, priors_from, outputs_at, output_at, in_text}
 use Rattle.job_lang.proofs.Made.{job_with}
 use Rattle.job_lang.proofs.Spelled.{number_spelled}
-use Rattle.job_lang.proofs.SpelledDraft.{any_last, priors_stated, outputs_stated, front_of, middle_of, cost_line, outputs_line, statements_of, drafted}
+use Rattle.job_lang.proofs.SpelledDraft.{any_last, priors_stated, outputs_stated, front_of, middle_of, cost_line, outputs_line, contributors_line, contributors_in, last_of, statements_of, drafted}
 
 -- ---- look-ups
 
@@ -64,7 +67,7 @@ priors_at place line (prior ∷ priors) = priors_at place (line + 1) priors
 
 -- what stands behind the a priori files
 abbrev behind_priors : Job → List Statement
-behind_priors job = middle_of (cost_line job) job ++ (outputs_stated (outputs_line job) 0 job.outputs ++ record { line = outputs_line job + length job.outputs; said = said.Certificate job.certificate } ∷ [])
+behind_priors job = middle_of (cost_line job) job ++ (outputs_stated (outputs_line job) 0 job.outputs ++ last_of job)
 
 cost_found : (job : Job) → cost_of (said_by keyword.Cost (statements_of job)) ≡ job.cost
 cost_found job = ap cost_of (find_past (λ s. is_by keyword.Cost s.said) (priors_stated (5 + length job.tables) job.priors) (behind_priors job) (priors_by keyword.Cost (5 + length job.tables) job.priors refl))
@@ -80,9 +83,34 @@ method_found job = ap method_of (find_past (λ s. is_by keyword.Suppress s.said)
 
 certificate_found : (job : Job) → file_line (said_by keyword.Certificate (statements_of job)) ≡ Some (record { line = outputs_line job + length job.outputs; file = job.certificate })
 certificate_found job =
-    let z : Statement = record { line = outputs_line job + length job.outputs; said = said.Certificate job.certificate } in
     ap file_line (find_past (λ s. is_by keyword.Certificate s.said) (priors_stated (5 + length job.tables) job.priors) (behind_priors job) (priors_by keyword.Certificate (5 + length job.tables) job.priors refl))
-    ∙ ap file_line (find_past (λ s. is_by keyword.Certificate s.said) (outputs_stated (outputs_line job) 0 job.outputs) (z ∷ []) (outputs_by keyword.Certificate (outputs_line job) 0 job.outputs refl))
+    ∙ ap file_line (find_past (λ s. is_by keyword.Certificate s.said) (outputs_stated (outputs_line job) 0 job.outputs) (last_of job) (outputs_by keyword.Certificate (outputs_line job) 0 job.outputs refl))
+
+-- the statement of the contributors' file, where there is one
+contributors_stated : (job : Job) → said_by keyword.Contributors (statements_of job) ≡ find (λ s. is_by keyword.Contributors s.said) (contributors_in (contributors_line job) job.contributors)
+contributors_stated job =
+    find_past (λ s. is_by keyword.Contributors s.said) (priors_stated (5 + length job.tables) job.priors) (behind_priors job) (priors_by keyword.Contributors (5 + length job.tables) job.priors refl)
+    ∙ find_past (λ s. is_by keyword.Contributors s.said) (outputs_stated (outputs_line job) 0 job.outputs) (last_of job) (outputs_by keyword.Contributors (outputs_line job) 0 job.outputs refl)
+
+contributors_again : (line : ℕ) (contributors : Option OutputLine) → file_line (find (λ s. is_by keyword.Contributors s.said) (contributors_in line contributors)) ≡ output_at line contributors
+contributors_again line None = refl
+contributors_again line (Some o) = refl
+
+contributors_found : (job : Job) → file_line (said_by keyword.Contributors (statements_of job)) ≡ output_at (contributors_line job) job.contributors
+contributors_found job = ap file_line (contributors_stated job) ∙ contributors_again (contributors_line job) job.contributors
+
+fit : (method : Method) (line : ℕ) (contributors : Option OutputLine) → CanHaveContributors method contributors → unless_line (is_rounding (Some method)) (find (λ s. is_by keyword.Contributors s.said) (contributors_in line contributors)) ≡ Ok tt
+fit (Rnd base) line None can = refl
+fit (Rnd base) line (Some o) can = absurd can
+fit (Gh n) line contributors can = refl
+fit Modular line contributors can = refl
+
+all_fit : (job : Job) → CanHaveContributors job.method job.contributors → no_rounded_contributors (statements_of job) ≡ Ok tt
+unfolding no_rounded_contributors
+all_fit job can =
+    ap (λ (m : Option Method). unless_line (is_rounding m) (said_by keyword.Contributors (statements_of job))) (method_found job)
+    ∙ ap (λ (o : Option Statement). unless_line (is_rounding (Some job.method)) o) (contributors_stated job)
+    ∙ fit job.method (contributors_line job) job.contributors can
 
 -- ---- a priori files
 
@@ -99,11 +127,14 @@ no_priors : (line place : ℕ) (outputs : List OutputLine) (rest : List Statemen
 no_priors line place [] rest = refl
 no_priors line place (output ∷ outputs) rest = no_priors (line + 1) (place + 1) outputs rest
 
+none_last : (line : ℕ) (contributors : Option OutputLine) → priors_in (contributors_in line contributors) ≡ []
+none_last line None = refl
+none_last line (Some o) = refl
+
 priors_found : (job : Job) → AllByRecursion (λ p. p.table < 8) job.priors → priors_in (statements_of job) ≡ priors_from (5 + length job.tables) job.priors
 priors_found job few =
-    let z : Statement = record { line = outputs_line job + length job.outputs; said = said.Certificate job.certificate } in
     priors_both (5 + length job.tables) job.priors (behind_priors job) few
-    ∙ ap (λ (ps : List PriorLine). priors_from (5 + length job.tables) job.priors ++ ps) (no_priors (outputs_line job) 0 job.outputs (z ∷ []))
+    ∙ ap (λ (ps : List PriorLine). priors_from (5 + length job.tables) job.priors ++ ps) (no_priors (outputs_line job) 0 job.outputs (last_of job) ∙ none_last (contributors_line job) job.contributors)
     ∙ append-nil (priors_from (5 + length job.tables) job.priors)
 
 -- ---- outputs
@@ -141,14 +172,13 @@ are_found all front line place (output ∷ outputs) rest is few none =
 
 outputs_found : (job : Job) → length job.outputs ≤ 8 → outputs_from (length job.outputs) 0 (statements_of job) ≡ Ok (outputs_at (outputs_line job) job.outputs)
 outputs_found job few =
-    let z : Statement = record { line = outputs_line job + length job.outputs; said = said.Certificate job.certificate } in
     let priors = priors_stated (5 + length job.tables) job.priors in
     let middle = middle_of (cost_line job) job in
-    let tail = outputs_stated (outputs_line job) 0 job.outputs ++ z ∷ [] in
+    let tail = outputs_stated (outputs_line job) 0 job.outputs ++ last_of job in
     let none : (q : ℕ) → 0 ≤ q → q < 8 → list_any (λ s. is_output_at q s.said) ((front_of job ++ priors) ++ middle) ≡ false =
     λ q above small. rw (list_any-append (λ s. is_output_at q s.said) (front_of job ++ priors) middle, list_any-append (λ s. is_output_at q s.said) (front_of job) priors, priors_at q (5 + length job.tables) job.priors) refl in
     outputs_again (statements_of job) (outputs_line job) 0 job.outputs
-    (are_found (statements_of job) ((front_of job ++ priors) ++ middle) (outputs_line job) 0 job.outputs (z ∷ []) (sym (append_assoc (front_of job ++ priors) middle tail ∙ append_assoc (front_of job) priors (middle ++ tail))) (omega (arith, few)) none)
+    (are_found (statements_of job) ((front_of job ++ priors) ++ middle) (outputs_line job) 0 job.outputs (last_of job) (sym (append_assoc (front_of job ++ priors) middle tail ∙ append_assoc (front_of job) priors (middle ++ tail))) (omega (arith, few)) none)
 
 -- ---- numbers of tables
 
@@ -171,12 +201,16 @@ outputs_placed : (count line place : ℕ) (outputs : List OutputLine) → count 
 outputs_placed count line place [] few all = refl
 outputs_placed count line place (output ∷ outputs) few all = rw (is_table count place (omega (arith, all)) few, outputs_placed count (line + 1) (place + 1) outputs few (omega (arith, all))) refl
 
+contributors_placed : (count line : ℕ) (contributors : Option OutputLine) → list_any (λ s. is_astray count s.said) (contributors_in line contributors) ≡ false
+contributors_placed count line None = refl
+contributors_placed count line (Some o) = refl
+
 all_placed : (count : ℕ) (job : Job) → count ≤ 8 → AllByRecursion (λ p. p.table < count) job.priors → length job.outputs ≤ count → no_stray count (statements_of job) ≡ Ok tt
 all_placed count job few priors outputs =
-    let z : Statement = record { line = outputs_line job + length job.outputs; said = said.Certificate job.certificate } in
     placed count (statements_of job)
     (any_past (λ s. is_astray count s.said) (priors_stated (5 + length job.tables) job.priors) (behind_priors job) (priors_placed count (5 + length job.tables) job.priors few priors)
-    ∙ any_past (λ s. is_astray count s.said) (outputs_stated (outputs_line job) 0 job.outputs) (z ∷ []) (outputs_placed count (outputs_line job) 0 job.outputs few (omega (arith, outputs))))
+    ∙ any_past (λ s. is_astray count s.said) (outputs_stated (outputs_line job) 0 job.outputs) (last_of job) (outputs_placed count (outputs_line job) 0 job.outputs few (omega (arith, outputs)))
+    ∙ contributors_placed count (contributors_line job) job.contributors)
 
 -- ---- names of files
 
@@ -236,19 +270,27 @@ outputs_put name line place (output ∷ outputs) =
     ∙ ap (λ (n : ℕ). cond (bytes_eq output.file name) 1 0 + n) (outputs_put name (line + 1) (place + 1) outputs)
     ∙ sym (more_named name output.file (map (λ o. o.file) outputs))
 
+contributors_put : (name : List ℕ) (line : ℕ) (contributors : Option OutputLine) → count_by (λ s. puts name s.said) (contributors_in line contributors) ≡ named name (contributors_named contributors)
+contributors_put name line None = refl
+contributors_put name line (Some o) = refl
+
 puts_counted : (name : List ℕ) (job : Job) → count_by (λ s. puts name s.said) (statements_of job) ≡ named name (puts_of job)
 puts_counted name job =
-    let z : Statement = record { line = outputs_line job + length job.outputs; said = said.Certificate job.certificate } in
     let priors = priors_stated (5 + length job.tables) job.priors in
     let outputs = outputs_stated (outputs_line job) 0 job.outputs in
     let a = sum_by-append (weight name) priors (behind_priors job) in
     let b = priors_put_none name (5 + length job.tables) job.priors in
-    let d = sum_by-append (weight name) outputs (z ∷ []) in
+    let d = sum_by-append (weight name) outputs (last_of job) in
     let e = outputs_put name (outputs_line job) 0 job.outputs in
-    let f = more_named name job.certificate (map (λ o. o.file) job.outputs) in
-    let middle : count_by (λ s. puts name s.said) (behind_priors job) ≡ count_by (λ s. puts name s.said) (outputs ++ z ∷ []) = refl in
-    let last : count_by (λ s. puts name s.said) (z ∷ []) ≡ cond (bytes_eq job.certificate name) 1 0 = omega arith in
-    omega (arith, a, b, d, e, f, middle, last)
+    let names : List (List ℕ) = map (λ o. o.file) job.outputs in
+    let f = more_named name job.certificate (contributors_named job.contributors ++ names) in
+    let g = sum_by-append (λ (other : List ℕ). cond (bytes_eq other name) 1 0) (contributors_named job.contributors) names in
+    let extra = contributors_in (contributors_line job) job.contributors in
+    let h = contributors_put name (contributors_line job) job.contributors in
+    let z : Statement = record { line = outputs_line job + length job.outputs; said = said.Certificate job.certificate } in
+    let i = sum_by-cons (weight name) z extra in
+    let middle : count_by (λ s. puts name s.said) (behind_priors job) ≡ count_by (λ s. puts name s.said) (outputs ++ last_of job) = refl in
+    omega (arith, a, b, d, e, f, g, h, i, middle)
 
 priors_unread : (name : List ℕ) (line : ℕ) (priors : List PriorLine) → AllByRecursion (λ read. name ≢ read) (map (λ p. p.file) priors) → list_any (λ s. is_read_file name s.said) (priors_stated line priors) ≡ false
 priors_unread name line [] all = refl
@@ -258,12 +300,16 @@ outputs_unread : (name : List ℕ) (line place : ℕ) (outputs : List OutputLine
 outputs_unread name line place [] = refl
 outputs_unread name line place (output ∷ outputs) = outputs_unread name (line + 1) (place + 1) outputs
 
+contributors_unread : (name : List ℕ) (line : ℕ) (contributors : Option OutputLine) → list_any (λ s. is_read_file name s.said) (contributors_in line contributors) ≡ false
+contributors_unread name line None = refl
+contributors_unread name line (Some o) = refl
+
 all_unread : (name : List ℕ) (job : Job) → AllByRecursion (λ read. name ≢ read) (reads_of job) → list_any (λ s. is_read_file name s.said) (statements_of job) ≡ false
 all_unread name job all =
-    let z : Statement = record { line = outputs_line job + length job.outputs; said = said.Certificate job.certificate } in
     let rest : list_any (λ s. is_read_file name s.said) (priors_stated (5 + length job.tables) job.priors ++ behind_priors job) ≡ false =
     any_past (λ s. is_read_file name s.said) (priors_stated (5 + length job.tables) job.priors) (behind_priors job) (priors_unread name (5 + length job.tables) job.priors all.1.1)
-    ∙ any_past (λ s. is_read_file name s.said) (outputs_stated (outputs_line job) 0 job.outputs) (z ∷ []) (outputs_unread name (outputs_line job) 0 job.outputs) in
+    ∙ any_past (λ s. is_read_file name s.said) (outputs_stated (outputs_line job) 0 job.outputs) (last_of job) (outputs_unread name (outputs_line job) 0 job.outputs)
+    ∙ contributors_unread name (contributors_line job) job.contributors in
     rw (differs name job.micro all.0, differs name job.meta all.1.0) rest
 
 alone : (n : ℕ) (b : Bool) → n ≤ 1 → b ≡ false → (nat_lt 1 n || b) ≡ false
@@ -284,14 +330,29 @@ outputs_apart : (job : Job) (line place : ℕ) (outputs : List OutputLine) → I
 outputs_apart job line place [] distinct all = refl
 outputs_apart job line place (output ∷ outputs) distinct all = rw (unshared output.file job distinct all.0, outputs_apart job (line + 1) (place + 1) outputs distinct all.1) refl
 
+contributors_apart : (job : Job) (line : ℕ) (contributors : Option OutputLine) → IsDistinct bytes_eq (puts_of job) → AllByRecursion (λ put. AllByRecursion (λ read. put ≢ read) (reads_of job)) (contributors_named contributors)
+    → list_any (λ s. puts_shared_file (statements_of job) s.said) (contributors_in line contributors) ≡ false
+contributors_apart job line None distinct all = refl
+contributors_apart job line (Some o) distinct all = rw (unshared o.file job distinct all.0) refl
+
+pub front_of_all : {A : Type 0} (P : A → Type 0) (xs ys : List A) → AllByRecursion P (xs ++ ys) → AllByRecursion P xs
+front_of_all P [] ys all = tt
+front_of_all P (x ∷ xs) ys all = (all.0, front_of_all P xs ys all.1)
+
+pub back_of_all : {A : Type 0} (P : A → Type 0) (xs ys : List A) → AllByRecursion P (xs ++ ys) → AllByRecursion P ys
+back_of_all P [] ys all = all
+back_of_all P (x ∷ xs) ys all = back_of_all P xs ys all.1
+
 all_apart : (job : Job) → IsDistinct bytes_eq (puts_of job) → AllByRecursion (λ put. AllByRecursion (λ read. put ≢ read) (reads_of job)) (puts_of job) → no_same_name (statements_of job) (statements_of job) ≡ Ok tt
 all_apart job distinct all =
-    let z : Statement = record { line = outputs_line job + length job.outputs; said = said.Certificate job.certificate } in
     let test : Statement → Bool = λ s. puts_shared_file (statements_of job) s.said in
-    let last : list_any test (z ∷ []) ≡ false = rw (unshared job.certificate job distinct all.0) refl in
+    let kept : List ℕ → Type 0 = λ put. AllByRecursion (λ read. put ≢ read) (reads_of job) in
+    let names : List (List ℕ) = map (λ o. o.file) job.outputs in
+    let extra = contributors_apart job (contributors_line job) job.contributors distinct (front_of_all kept (contributors_named job.contributors) names all.1) in
+    let last : list_any test (last_of job) ≡ false = rw (unshared job.certificate job distinct all.0) extra in
     apart (statements_of job) (statements_of job)
     (any_past test (priors_stated (5 + length job.tables) job.priors) (behind_priors job) (priors_share_none (statements_of job) (5 + length job.tables) job.priors)
-    ∙ any_past test (outputs_stated (outputs_line job) 0 job.outputs) (z ∷ []) (outputs_apart job (outputs_line job) 0 job.outputs distinct all.1)
+    ∙ any_past test (outputs_stated (outputs_line job) 0 job.outputs) (last_of job) (outputs_apart job (outputs_line job) 0 job.outputs distinct (back_of_all kept (contributors_named job.contributors) names all.1))
     ∙ last)
 
 -- ---- the job
@@ -321,16 +382,17 @@ made_again job some few outputs priors =
     made_from draft (record { line = 1; file = job.micro }) (record { line = 2; file = job.meta }) (record { line = outputs_line job + length job.outputs; file = job.certificate })
     (record { line = 3 + length job.tables; rules = job.rules }) job.method (outputs_at (outputs_line job) job.outputs)
     refl refl (some_tables (length (tables_from 3 job.tables)) (omega (arith, some, counted))) refl (method_found job) found (certificate_found job)
-    ∙ ap (λ (ps : List PriorLine). Ok (record whole { priors = ps; cost = cost_of (said_by keyword.Cost (statements_of job)); steps = work_of usual_steps (said_by keyword.Steps (statements_of job)); nodes = work_of usual_nodes (said_by keyword.Nodes (statements_of job)) })) (priors_found job priors)
-    ∙ ap (λ (cost : CostKind). Ok (record whole { cost = cost; steps = work_of usual_steps (said_by keyword.Steps (statements_of job)); nodes = work_of usual_nodes (said_by keyword.Nodes (statements_of job)) })) (cost_found job)
-    ∙ ap (λ (steps : ℕ). Ok (record whole { steps = steps; nodes = work_of usual_nodes (said_by keyword.Nodes (statements_of job)) })) (steps_found job)
-    ∙ ap (λ (nodes : ℕ). Ok (record whole { nodes = nodes })) (nodes_found job)
+    ∙ ap (λ (ps : List PriorLine). Ok (record whole { contributors = file_line (said_by keyword.Contributors (statements_of job)); priors = ps; cost = cost_of (said_by keyword.Cost (statements_of job)); steps = work_of usual_steps (said_by keyword.Steps (statements_of job)); nodes = work_of usual_nodes (said_by keyword.Nodes (statements_of job)) })) (priors_found job priors)
+    ∙ ap (λ (cost : CostKind). Ok (record whole { contributors = file_line (said_by keyword.Contributors (statements_of job)); cost = cost; steps = work_of usual_steps (said_by keyword.Steps (statements_of job)); nodes = work_of usual_nodes (said_by keyword.Nodes (statements_of job)) })) (cost_found job)
+    ∙ ap (λ (steps : ℕ). Ok (record whole { contributors = file_line (said_by keyword.Contributors (statements_of job)); steps = steps; nodes = work_of usual_nodes (said_by keyword.Nodes (statements_of job)) })) (steps_found job)
+    ∙ ap (λ (nodes : ℕ). Ok (record whole { contributors = file_line (said_by keyword.Contributors (statements_of job)); nodes = nodes })) (nodes_found job)
+    ∙ ap (λ (contributors : Option OutputLine). Ok (record whole { contributors = contributors })) (contributors_found job)
 
 pub closed_again : (job : Job) → 0 < length job.tables → length job.tables ≤ 8 → length job.outputs ≡ length job.tables → AllByRecursion (λ p. p.table < length job.tables) job.priors → AllByRecursion (λ p. p.table < 8) job.priors
-    → IsDistinct bytes_eq (puts_of job) → AllByRecursion (λ put. AllByRecursion (λ read. put ≢ read) (reads_of job)) (puts_of job)
+    → CanHaveContributors job.method job.contributors → IsDistinct bytes_eq (puts_of job) → AllByRecursion (λ put. AllByRecursion (λ read. put ≢ read) (reads_of job)) (puts_of job)
     → closed_job (drafted (tables_from 3 job.tables) (statements_of job)) ≡ Ok (in_text job)
 unfolding closed_job
-closed_again job some few outputs within priors distinct all =
+closed_again job some few outputs within priors can distinct all =
     let counted = tables_counted 3 job.tables in
     let fine : no_stray (length (tables_from 3 job.tables)) (statements_of job) ≡ Ok tt = ap (λ (n : ℕ). no_stray n (statements_of job)) counted ∙ all_placed (length job.tables) job few within (omega (arith, outputs)) in
-    rw (fine, all_apart job distinct all) (made_again job some few outputs priors)
+    rw (all_fit job can, fine, all_apart job distinct all) (made_again job some few outputs priors)

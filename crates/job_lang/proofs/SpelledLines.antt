@@ -22,7 +22,7 @@ use Rattle.job_lang.specs.declared.rule_clauses.RuleClause.{RuleClause}
 use Rattle.job_lang.specs.declared.rule_clauses.RuleClause.TheVariants.{Named, Man, Weights}
 use Rattle.job_lang.specs.declared.statement.Draft.{Draft}
 use Rattle.job_lang.specs.declared.statement.Keyword.{Keyword}
-use Rattle.job_lang.specs.declared.statement.Keyword.TheVariants.{OpenMicrodata, OpenMetadata, SpecifyTable, SafetyRule, ReadMicrodata, Apriori, Cost, Steps, Nodes, Suppress, WriteTable, Certificate}
+use Rattle.job_lang.specs.declared.statement.Keyword.TheVariants.{OpenMicrodata, OpenMetadata, SpecifyTable, SafetyRule, ReadMicrodata, Apriori, Cost, Steps, Nodes, Suppress, WriteTable, Certificate, Contributors}
 use Rattle.job_lang.specs.declared.statement.Instruction.{Instruction}
 use Rattle.job_lang.specs.declared.statement.Instruction.TheVariants as said
 use Rattle.job_lang.specs.Keywords.{keyword_of, word_in}
@@ -64,6 +64,7 @@ argument_read (said.Suppress method) h = rw (method_read method h) refl
 argument_read (said.Output number file) h =
     subst (λ (number : List ℕ). argument_of WriteTable (argument_text (said.Output number file)) ≡ Ok (said.Output number file)) (sym h.2) (output_read h.0 file h.1 h.3)
 argument_read (said.Certificate name) h = rw (only_file_read name h) refl
+argument_read (said.Contributors name) h = rw (only_file_read name h) refl
 
 word_read : (word : Keyword) (text : List ℕ) (line : ℕ) (draft : Draft) → text_says line draft (60 ∷ word_of word ++ 62 ∷ text) ≡ (argument_of word text >>= λ one. with_said line draft one)
 unfolding text_says command_line word_in keyword_of
@@ -79,6 +80,7 @@ word_read Nodes text line draft = refl
 word_read Suppress text line draft = refl
 word_read WriteTable text line draft = refl
 word_read Certificate text line draft = refl
+word_read Contributors text line draft = refl
 
 -- a line that was spelled says what it is the line of
 pub line_read : (one : Instruction) (line : ℕ) (draft : Draft) → IsSpellable one → text_says line draft (said_line one) ≡ with_said line draft one
@@ -98,6 +100,7 @@ word_says Nodes text = refl
 word_says Suppress text = refl
 word_says WriteTable text = refl
 word_says Certificate text = refl
+word_says Contributors text = refl
 
 -- ---- ends of lines
 
@@ -151,6 +154,7 @@ argument_ended (said.Nodes nodes) h = ended_behind (62 ∷ 32 ∷ []) (decimal n
 argument_ended (said.Suppress method) h = ended_behind (62 ∷ 32 ∷ []) (method_text method) (method_ended method h)
 argument_ended (said.Output number file) h = ended_behind (62 ∷ 32 ∷ 40 ∷ number) (44 ∷ in_quotes file ++ 41 ∷ []) (ended_behind (44 ∷ in_quotes file) (41 ∷ []) (ended_with 41 refl refl))
 argument_ended (said.Certificate name) h = named_end name
+argument_ended (said.Contributors name) h = named_end name
 
 line_ended : (one : Instruction) → IsSpellable one → IsEnded (said_line one)
 line_ended one h = ended_behind (60 ∷ word_of (command_of one)) (62 ∷ argument_text one) (argument_ended one h)
@@ -255,6 +259,7 @@ argument_free (said.Output number file) h =
     let digits : HasNoFeed number = subst HasNoFeed (sym h.2) (number_free h.0 h.1) in
     past number (44 ∷ in_quotes file ++ 41 ∷ []) digits ∙ quoted_free file (41 ∷ []) (file_free file h.3)
 argument_free (said.Certificate name) h = alone_free name (file_free name h)
+argument_free (said.Contributors name) h = alone_free name (file_free name h)
 
 word_free : (word : Keyword) (text : List ℕ) → list_any is_line_feed (60 ∷ word_of word ++ 62 ∷ text) ≡ list_any is_line_feed text
 word_free OpenMicrodata text = refl
@@ -269,6 +274,7 @@ word_free Nodes text = refl
 word_free Suppress text = refl
 word_free WriteTable text = refl
 word_free Certificate text = refl
+word_free Contributors text = refl
 
 pub line_line : (one : Instruction) → IsSpellable one → IsLine (said_line one)
 line_line one h = record {

@@ -1,5 +1,5 @@
 -- The canonical text of a job is read as that job.
-use Rattle.std.proofs.Common.{◌≡◌, ℕ, ◌+◌, ◌<◌, ◌≤◌, List, [], ◌∷◌, ◌++◌, length, map, Ok, refl, ap, ◌∙◌, arith, true}
+use Rattle.std.proofs.Common.{◌≡◌, ℕ, ◌+◌, ◌<◌, ◌≤◌, List, [], ◌∷◌, ◌++◌, length, map, Option, None, Some, Ok, refl, ap, ◌∙◌, arith, true}
 use Rattle.std.specs.List.{AllByRecursion}
 use Rattle.plain_text.specs.Laws.{AreReadAgain}
 use Rattle.sdc_base.specs.Lines.{IsLine}
@@ -14,27 +14,19 @@ use Rattle.job_lang.specs.declared.statement.Instruction.TheVariants as said
 use Rattle.job_lang.specs.Statements.{lines_say, empty_draft}
 use Rattle.job_lang.specs.JobLimits.{HasNoTwice, HasVariables}
 use Rattle.job_lang.specs.Jobs.{closed_job, job_of}
-use Rattle.job_lang.specs.FileLaws.{puts_of, reads_of}
+use Rattle.job_lang.specs.FileLaws.{contributors_named, puts_of, reads_of}
 use Rattle.job_lang.specs.Binding.{response_of}
 use Rattle.job_lang.specs.Spelling.{said_line}
-use Rattle.job_lang.specs.JobText.{table_said, prior_said, outputs_said, job_says, job_text, in_text}
+use Rattle.job_lang.specs.JobText.{table_said, prior_said, outputs_said, contributors_said, job_says, job_text, in_text}
 use Rattle.job_lang.specs.WritableJobs.{HasQuotable, HasSeparator, IsSpellable, IsWritable}
 use Rattle.job_lang.proofs.SpelledLines.{line_line}
 use Rattle.job_lang.proofs.SpelledDraft.{lines_are, text_says_all}
-use Rattle.job_lang.proofs.SpelledJob.{closed_again}
+use Rattle.job_lang.proofs.SpelledJob.{front_of_all, back_of_all, closed_again}
 use Rattle.job_lang.proofs.TableRoom.{fit}
 
 pub all_both : {A : Type 0} (P : A → Type 0) (xs ys : List A) → AllByRecursion P xs → AllByRecursion P ys → AllByRecursion P (xs ++ ys)
 all_both P [] ys a b = b
 all_both P (x ∷ xs) ys a b = (a.0, all_both P xs ys a.1 b)
-
-front_of_all : {A : Type 0} (P : A → Type 0) (xs ys : List A) → AllByRecursion P (xs ++ ys) → AllByRecursion P xs
-front_of_all P [] ys all = tt
-front_of_all P (x ∷ xs) ys all = (all.0, front_of_all P xs ys all.1)
-
-back_of_all : {A : Type 0} (P : A → Type 0) (xs ys : List A) → AllByRecursion P (xs ++ ys) → AllByRecursion P ys
-back_of_all P [] ys all = all
-back_of_all P (x ∷ xs) ys all = back_of_all P xs ys all.1
 
 all_below : (count : ℕ) (priors : List PriorLine) → count ≤ 8 → AllByRecursion (λ p. p.table < count) priors → AllByRecursion (λ p. p.table < 8) priors
 all_below count [] few all = tt
@@ -56,14 +48,20 @@ outputs_spellable : (place : ℕ) (outputs : List OutputLine) → place + length
 outputs_spellable place [] few files = tt
 outputs_spellable place (o ∷ outputs) few files = ((place, omega (arith, few), refl, files.0), outputs_spellable (place + 1) outputs (omega (arith, few)) files.1)
 
+contributors_spellable : (contributors : Option OutputLine) → AllByRecursion IsNamed (contributors_named contributors) → AllByRecursion IsSpellable (contributors_said contributors)
+contributors_spellable None files = tt
+contributors_spellable (Some o) files = (files.0, tt)
+
 all_spellable : (job : Job) → IsWritable job → AllByRecursion IsSpellable (job_says job)
 all_spellable job h =
     let read = front_of_all IsNamed (reads_of job) (puts_of job) h.files in
     let put = back_of_all IsNamed (reads_of job) (puts_of job) h.files in
     let tables = tables_spellable job.tables h.limits.variables h.limits.tables.once h.names in
     let priors = priors_spellable job.priors (all_below (length job.tables) job.priors h.limits.at_most_8_tables h.limits.priors) h.separators read.1.1 in
-    let outputs = outputs_spellable 0 job.outputs (omega (arith, h.limits.outputs, h.limits.at_most_8_tables)) put.1 in
-    let last : AllByRecursion IsSpellable (said.Certificate job.certificate ∷ []) = (put.0, tt) in (
+    let names : List (List ℕ) = map (λ o. o.file) job.outputs in
+    let outputs = outputs_spellable 0 job.outputs (omega (arith, h.limits.outputs, h.limits.at_most_8_tables)) (back_of_all IsNamed (contributors_named job.contributors) names put.1) in
+    let extra = contributors_spellable job.contributors (front_of_all IsNamed (contributors_named job.contributors) names put.1) in
+    let last : AllByRecursion IsSpellable (said.Certificate job.certificate ∷ contributors_said job.contributors) = (put.0, extra) in (
       read.0,
       (
         read.1.0,
@@ -92,7 +90,7 @@ text_read law job h =
     let fits = fit (response_of job.tables) [] job.tables (omega (arith, h.limits.at_most_8_tables)) h.limits.tables.variables tt h.limits.tables.response in
     ap (λ (ts : List (List ℕ)). lines_say 0 empty_draft ts >>= closed_job) (law (map said_line (job_says job)) (lines_fine (job_says job) can))
     ∙ ap (λ r. r >>= closed_job) (lines_are 0 empty_draft (job_says job) can ∙ text_says_all job fits few h.priors (omega (arith, h.limits.outputs, h.limits.at_most_8_tables)))
-    ∙ closed_again job h.limits.tables.has_table h.limits.at_most_8_tables h.limits.outputs h.limits.priors few h.puts h.apart
+    ∙ closed_again job h.limits.tables.has_table h.limits.at_most_8_tables h.limits.outputs h.limits.priors few h.limits.contributors h.puts h.apart
 
 pub round_trip : AreReadAgain → (job : Job) → IsWritable job → in_text job ≡ job → job_of (job_text job) ≡ Ok job
 round_trip law job h same = text_read law job h ∙ ap (λ (j : Job). Ok j) same

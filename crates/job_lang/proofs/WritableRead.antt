@@ -22,19 +22,20 @@ use Rattle.job_lang.specs.declared.job.OutputLine.{OutputLine}
 use Rattle.job_lang.specs.declared.job.PriorLine.{PriorLine}
 use Rattle.job_lang.specs.declared.looked_up.RulesLine.{RulesLine}
 use Rattle.job_lang.specs.declared.statement.Draft.{Draft}
+use Rattle.job_lang.specs.declared.statement.Keyword.TheVariants as keyword
 use Rattle.job_lang.specs.declared.statement.Instruction.{Instruction}
 use Rattle.job_lang.specs.declared.statement.Instruction.TheVariants as said
 use Rattle.job_lang.specs.declared.statement.Statement.{Statement}
 use Rattle.job_lang.specs.Faults.{at_line}
 use Rattle.job_lang.specs.Keywords.{keyword_of, word_in}
 use Rattle.job_lang.specs.Arguments.{argument_of}
-use Rattle.job_lang.specs.Statements.{is_prior_of, is_again, is_past_room, is_other_response, with_table, with_statement, with_said, is_passed_over, command_line, text_says, lines_say, empty_draft}
+use Rattle.job_lang.specs.Statements.{is_by, is_prior_of, is_again, is_past_room, is_other_response, with_table, with_statement, with_said, is_passed_over, command_line, text_says, lines_say, empty_draft}
 use Rattle.job_lang.specs.ClosingLooks.{file_said, file_line, rules_from, rules_line, output_said, table_place, prior_in, priors_in}
 use Rattle.job_lang.specs.MissingCommands.{output_of_table, outputs_from}
 use Rattle.job_lang.specs.FilesApart.{is_no_table, is_astray}
 use Rattle.job_lang.specs.JobLimits.{IsJob}
 use Rattle.job_lang.specs.Jobs.{job_of}
-use Rattle.job_lang.specs.FileLaws.{puts_of, reads_of}
+use Rattle.job_lang.specs.FileLaws.{contributors_named, puts_of, reads_of}
 use Rattle.job_lang.specs.Spelling.{table_number}
 use Rattle.job_lang.specs.WritableJobs.{HasEachOnce, HasQuotable, HasSeparator, IsWritable, JobsAreWritable}
 use Rattle.job_lang.proofs.FirstFault.{no_strays}
@@ -152,11 +153,19 @@ file_named : (one : Instruction) (line : ℕ) (o : OutputLine) → IsWritten one
 file_named (said.Microdata name) line o w h = let is : ◌≡◌ {A = OutputLine} (record { line = line; file = name }) o = cc in subst (λ (o : OutputLine). IsNamed o.file) is w
 file_named (said.Metadata name) line o w h = let is : ◌≡◌ {A = OutputLine} (record { line = line; file = name }) o = cc in subst (λ (o : OutputLine). IsNamed o.file) is w
 file_named (said.Certificate name) line o w h = let is : ◌≡◌ {A = OutputLine} (record { line = line; file = name }) o = cc in subst (λ (o : OutputLine). IsNamed o.file) is w
+file_named (said.Contributors name) line o w h = let is : ◌≡◌ {A = OutputLine} (record { line = line; file = name }) o = cc in subst (λ (o : OutputLine). IsNamed o.file) is w
 file_named (said.Output number name) line o w h = let is : ◌≡◌ {A = OutputLine} (record { line = line; file = name }) o = cc in subst (λ (o : OutputLine). IsNamed o.file) is w.0
 file_named one line o w h = absurd cc
 
 line_named : (all : List Statement) (test : Statement → Bool) (o : OutputLine) → AllByRecursion (λ s. IsWritten s.said) all → file_line (find test all) ≡ Some o → IsNamed o.file
 line_named all test o written h = line_of (λ s. IsWritten s.said) all test (λ o. IsNamed o.file) written (λ s o by w g. file_named s.said s.line o w g) o h
+
+extra_named : (all : List Statement) (test : Statement → Bool) → AllByRecursion (λ s. IsWritten s.said) all → AllByRecursion IsNamed (contributors_named (file_line (find test all)))
+extra_named all test written =
+    elim (file_line (find test all)) as (λ f. file_line (find test all) ≡ f → AllByRecursion IsNamed (contributors_named f)) [
+      | None ↦ λ is. tt
+      | Some o ↦ λ is. (line_named all test o written is, tt)
+    ] refl
 
 outputs_named : (all : List Statement) (count place : ℕ) (outputs : List OutputLine) → AllByRecursion (λ s. IsWritten s.said) all → outputs_from count place all ≡ Ok outputs → AllByRecursion IsNamed (map (λ o. o.file) outputs)
 unfolding outputs_from
@@ -278,6 +287,7 @@ writable bytes job h =
     let meta = line_named draft.said _ made.meta written.said made.is_meta in
     let certificate = line_named draft.said _ made.certificate written.said made.is_certificate in
     let outputs = outputs_named draft.said (length draft.tables) 0 made.outputs written.said made.are_outputs in
+    let extra = extra_named draft.said (λ s. is_by keyword.Contributors s.said) written.said in
     let priors = priors_files draft.said written.said in
     subst IsWritable made.whole (record {
       limits = subst IsJob back limits;
@@ -285,7 +295,7 @@ writable bytes job h =
       names = written.tables;
       separators = priors_separators draft.said written.said;
       priors = priors_once (length draft.tables) draft.said few written.other written.said placed;
-      files = all_both IsNamed (reads_of j) (puts_of j) (micro, (meta, priors)) (certificate, outputs);
+      files = all_both IsNamed (reads_of j) (puts_of j) (micro, (meta, priors)) (certificate, all_both IsNamed (contributors_named j.contributors) (map (λ o. o.file) made.outputs) extra outputs);
       puts = subst (λ (job : Job). IsDistinct bytes_eq (puts_of job)) back (differ bytes job h);
       apart = subst (λ (job : Job). AllByRecursion (λ put. AllByRecursion (λ read. put ≢ read) (reads_of job)) (puts_of job)) back (not_read bytes job h);
     })

@@ -14,7 +14,7 @@ use Rattle.job_lang.specs.declared.faults.JobWhy.TheVariants.{BadLine, BadValue}
 use Rattle.job_lang.specs.declared.rule_clauses.RuleClause.{RuleClause}
 use Rattle.job_lang.specs.declared.rule_clauses.RuleClause.TheVariants.{Named, Man, Weights}
 use Rattle.job_lang.specs.declared.statement.Keyword.{Keyword}
-use Rattle.job_lang.specs.declared.statement.Keyword.TheVariants.{OpenMicrodata, OpenMetadata, SpecifyTable, SafetyRule, ReadMicrodata, Apriori, Cost, Steps, Nodes, Suppress, WriteTable, Certificate}
+use Rattle.job_lang.specs.declared.statement.Keyword.TheVariants.{OpenMicrodata, OpenMetadata, SpecifyTable, SafetyRule, ReadMicrodata, Apriori, Cost, Steps, Nodes, Suppress, WriteTable, Certificate, Contributors}
 use Rattle.job_lang.specs.declared.statement.Instruction.{Instruction}
 use Rattle.job_lang.specs.declared.statement.Instruction.TheVariants as said
 use Rattle.job_lang.specs.Keywords.{word_in}
@@ -139,6 +139,7 @@ IsWritten (said.Safety rules) = HasEachOnce rules.list
 IsWritten (said.Prior file number separator) = IsNamed file × IsDigits number × (may_separate separator ≡ true) × (is_line_feed separator ≡ false)
 IsWritten (said.Output number file) = IsNamed file × IsDigits number
 IsWritten (said.Certificate name) = IsNamed name
+IsWritten (said.Contributors name) = IsNamed name
 IsWritten one = Unit {0}
 
 -- a file's name, and the text behind it without LF
@@ -281,6 +282,7 @@ argument_written Nodes text h = then_known IsWritten (work_argument text) _ (λ 
 argument_written Suppress text h = then_known IsWritten (method_argument text) _ (λ method g. tt)
 argument_written WriteTable text h = output_written text h
 argument_written Certificate text h = then_known IsWritten (only_file text) _ (λ name g. known IsNamed (only_file text) name (only_written text h) g)
+argument_written Contributors text h = then_known IsWritten (only_file text) _ (λ name g. known IsNamed (only_file text) name (only_written text h) g)
 
 -- a command's argument has no LF where the line has none
 abbrev IsArgument : (List ℕ × List ℕ) → Type 0

@@ -11,7 +11,7 @@ use Rattle.sdc_base.specs.Tokens.{is_quote, is_file_name}
 use Rattle.job_lang.specs.declared.faults.JobWhy.{JobWhy}
 use Rattle.job_lang.specs.declared.faults.JobWhy.TheVariants.{BadValue}
 use Rattle.job_lang.specs.declared.statement.Keyword.{Keyword}
-use Rattle.job_lang.specs.declared.statement.Keyword.TheVariants.{OpenMicrodata, OpenMetadata, SpecifyTable, SafetyRule, ReadMicrodata, Apriori, Cost, Steps, Nodes, Suppress, WriteTable, Certificate}
+use Rattle.job_lang.specs.declared.statement.Keyword.TheVariants.{OpenMicrodata, OpenMetadata, SpecifyTable, SafetyRule, ReadMicrodata, Apriori, Cost, Steps, Nodes, Suppress, WriteTable, Certificate, Contributors}
 use Rattle.job_lang.specs.declared.statement.Instruction.{Instruction}
 use Rattle.job_lang.specs.declared.statement.Instruction.TheVariants as said
 use Rattle.job_lang.specs.LineTokens.{behind_mark, quoted_at, run_of, behind_run, number_at, digits_at, end_of_tokens, closing_token}
@@ -105,3 +105,4 @@ argument_of Nodes text = work_argument text >>= λ nodes. Ok (said.Nodes nodes)
 argument_of Suppress text = method_argument text >>= λ method. Ok (said.Suppress method)
 argument_of WriteTable text = output_argument text
 argument_of Certificate text = only_file text >>= λ name. Ok (said.Certificate name)
+argument_of Contributors text = only_file text >>= λ name. Ok (said.Contributors name)

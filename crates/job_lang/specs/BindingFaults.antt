@@ -80,10 +80,18 @@ abbrev pub outputs_fault : List TableLine → List Variable → Option (ℕ × J
 outputs_fault tables variables first outputs =
     fold (λ first o. earlier_fault first o.line (file_fault tables variables o.file)) first outputs
 
--- the earliest fault of a job's lines: tables, rules, outputs and certificate
+-- the earliest fault of a contributors' file, where there is one, and of what was looked at before
+abbrev pub contributors_fault : List TableLine → List Variable → Option (ℕ × JobWhy) → Option OutputLine
+    → Option (ℕ × JobWhy)
+contributors_fault tables variables first None = first
+contributors_fault tables variables first (Some o) = earlier_fault first o.line (file_fault tables variables o.file)
+
+-- the earliest fault of a job's lines: tables, rules, outputs, certificate and contributors' file
 abbrev pub earliest_fault : Job → List Variable → Option (ℕ × JobWhy)
 earliest_fault job variables =
-    earlier_fault (outputs_fault job.tables variables
+    contributors_fault job.tables variables
+    (earlier_fault (outputs_fault job.tables variables
     (earlier_fault (tables_fault variables job.tables) job.rules_line (weight_fault variables job.rules))
     job.outputs)
-    job.certificate_line (file_fault job.tables variables job.certificate)
+    job.certificate_line (file_fault job.tables variables job.certificate))
+    job.contributors

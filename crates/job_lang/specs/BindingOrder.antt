@@ -6,9 +6,15 @@ use Rattle.rda_meta.specs.declared.meta.Variable.{Variable}
 use Rattle.job_lang.specs.declared.faults.JobWhy.{JobWhy}
 use Rattle.job_lang.specs.declared.faults.JobWhy.TheVariants.{NoSuchVariable, NotSpanning, NotNumeric}
 use Rattle.job_lang.specs.declared.job.Job.{Job}
+use Rattle.job_lang.specs.declared.job.OutputLine.{OutputLine}
 use Rattle.job_lang.specs.declared.job.TableLine.{TableLine}
 use Rattle.job_lang.specs.Binding.{bound_of}
 use Rattle.job_lang.specs.BindingFaults.{is_absent, is_numeric, table_fault, weight_fault, file_fault}
+
+-- the line of a contributors' file, where there is one, with the fault that it has
+abbrev pub contributors_at : Job → List Variable → Option OutputLine → List (ℕ × Option JobWhy)
+contributors_at job variables None = []
+contributors_at job variables (Some o) = (o.line, file_fault job.tables variables o.file) ∷ []
 
 -- the lines of a job at which binding looks, each with the fault that it has
 abbrev pub looked_at : Job → List Variable → List (ℕ × Option JobWhy)
@@ -16,7 +22,8 @@ looked_at job variables =
     map (λ t. (t.line, table_fault variables t)) job.tables
     ++ ((job.rules_line, weight_fault variables job.rules)
     ∷ map (λ o. (o.line, file_fault job.tables variables o.file)) job.outputs
-    ++ (job.certificate_line, file_fault job.tables variables job.certificate) ∷ [])
+    ++ (job.certificate_line, file_fault job.tables variables job.certificate)
+    ∷ contributors_at job variables job.contributors)
 
 -- a line has no fault, or stands behind this one
 abbrev pub IsBehind : ℕ → ℕ → Option JobWhy → Type 0

@@ -32,6 +32,7 @@ abbrev pub file_said : Instruction → Option (List ℕ)
 file_said (said.Microdata file) = Some file
 file_said (said.Metadata file) = Some file
 file_said (said.Certificate file) = Some file
+file_said (said.Contributors file) = Some file
 file_said (said.Output number file) = Some file
 file_said one = None
 

@@ -1,5 +1,5 @@
 -- Laws of the names of files: what a job puts is neither read nor put twice (own).
-use Rattle.std.specs.Prelude.{◌≡◌, ◌≢◌, ℕ, ◌+◌, if◌then◌else◌, List, [], ◌∷◌, ◌++◌, map, Option, None, Some, Ok}
+use Rattle.std.specs.Prelude.{◌≡◌, ◌≢◌, ℕ, if◌then◌else◌, List, [], ◌∷◌, ◌++◌, map, Option, None, Some, Ok}
 use Rattle.std.specs.List.{AllByRecursion, IsDistinct}
 use Rattle.std.specs.Str.{bytes_eq}
 use Rattle.rda_meta.specs.declared.meta.Meta.{Meta}
@@ -7,6 +7,7 @@ use Rattle.rda_meta.specs.declared.meta.Shape.{Shape}
 use Rattle.rda_meta.specs.declared.meta.Shape.TheVariants as shape
 use Rattle.rda_meta.specs.declared.meta.Variable.{Variable}
 use Rattle.job_lang.specs.declared.job.Job.{Job}
+use Rattle.job_lang.specs.declared.job.OutputLine.{OutputLine}
 use Rattle.job_lang.specs.declared.job.TableLine.{TableLine}
 use Rattle.job_lang.specs.declared.bound.Bound.{Bound}
 use Rattle.job_lang.specs.Jobs.{job_of}
@@ -29,9 +30,14 @@ files_of tables [] = []
 files_of tables (v ∷ variables) = (if is_spanning tables v.name then codes_named v.codes ++ tree_named v.shape else [])
     ++ files_of tables variables
 
+-- the contributors' file, where there is one
+abbrev pub contributors_named : Option OutputLine → List (List ℕ)
+contributors_named None = []
+contributors_named (Some output) = output.file ∷ []
+
 -- the files that a job puts
 abbrev pub puts_of : Job → List (List ℕ)
-puts_of job = job.certificate ∷ map (λ o. o.file) job.outputs
+puts_of job = job.certificate ∷ contributors_named job.contributors ++ map (λ o. o.file) job.outputs
 
 -- the files that a job names to be read
 abbrev pub reads_of : Job → List (List ℕ)

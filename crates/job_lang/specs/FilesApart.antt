@@ -33,6 +33,7 @@ no_stray count (s ∷ rest) = if is_astray count s.said then Err (s.line, NoSuch
 abbrev pub puts : List ℕ → Instruction → Bool
 puts name (said.Output number file) = bytes_eq file name
 puts name (said.Certificate file) = bytes_eq file name
+puts name (said.Contributors file) = bytes_eq file name
 puts name one = false
 
 -- a file of this name is read
@@ -50,6 +51,7 @@ is_shared name all = nat_lt 1 (count_by (λ s. puts name s.said) all) || list_an
 abbrev pub puts_shared_file : List Statement → Instruction → Bool
 puts_shared_file all (said.Output number file) = is_shared file all
 puts_shared_file all (said.Certificate file) = is_shared file all
+puts_shared_file all (said.Contributors file) = is_shared file all
 puts_shared_file all one = false
 
 -- the first line that puts such a file is a fault

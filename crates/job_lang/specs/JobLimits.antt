@@ -1,5 +1,5 @@
 -- What holds of a job that is read: the limits of its tables, rules and numbers (own).
-use Rattle.std.specs.Prelude.{◌≡◌, ℕ, ◌<◌, ◌≤◌, ◌^◌, List, length, pos, ◌≤ℤ◌}
+use Rattle.std.specs.Prelude.{◌≡◌, ℕ, ◌<◌, ◌≤◌, ◌^◌, List, length, pos, ◌≤ℤ◌, Option, Some}
 use Rattle.std.specs.List.{AllByRecursion, IsDistinct}
 use Rattle.std.specs.Set.{distinct_count}
 use Rattle.std.specs.Str.{bytes_eq}
@@ -9,6 +9,7 @@ use Rattle.sdc_base.specs.declared.rule.Rule.{Rule}
 use Rattle.sdc_base.specs.declared.rule.Rule.TheVariants.{Freq, Nk, Percent, Pq, Zero}
 use Rattle.sdc_base.specs.declared.rule.Rules.{Rules}
 use Rattle.job_lang.specs.declared.job.Job.{Job}
+use Rattle.job_lang.specs.declared.job.OutputLine.{OutputLine}
 use Rattle.job_lang.specs.declared.job.TableLine.{TableLine}
 use Rattle.job_lang.specs.Statements.{names_in}
 use Rattle.job_lang.specs.Binding.{response_of}
@@ -54,6 +55,11 @@ IsMethod (Rnd base) = (pos 1 ≤ℤ base) × (base ≤ℤ pos 1000000000)
 abbrev pub IsWork : ℕ → Type 0
 IsWork n = (1 ≤ n) × (n ≤ 10 ^ 12)
 
+-- a job that rounds has no contributors' file
+abbrev pub CanHaveContributors : Method → Option OutputLine → Type 0
+CanHaveContributors (Rnd base) (Some output) = ⊥
+CanHaveContributors method contributors = Unit {0}
+
 -- a job within all limits
 pub record IsJob (job : Job) : Type 0 where
   pub tables : AreTables job.tables
@@ -65,3 +71,4 @@ pub record IsJob (job : Job) : Type 0 where
   pub method : IsMethod job.method
   pub steps : IsWork job.steps
   pub nodes : IsWork job.nodes
+  pub contributors : CanHaveContributors job.method job.contributors

@@ -1,5 +1,5 @@
 -- The canonical text of a job: a line for each command, in the order of the table of commands (own).
-use Rattle.std.specs.Prelude.{ℕ, ◌+◌, List, [], ◌∷◌, ◌++◌, length, map}
+use Rattle.std.specs.Prelude.{ℕ, ◌+◌, List, [], ◌∷◌, ◌++◌, length, map, Option, None, Some, option_map}
 use Rattle.sdc_base.specs.Lines.{text_of_lines}
 use Rattle.job_lang.specs.declared.job.Job.{Job}
 use Rattle.job_lang.specs.declared.job.OutputLine.{OutputLine}
@@ -24,6 +24,11 @@ abbrev pub outputs_said : ℕ → List OutputLine → List Instruction
 outputs_said place [] = []
 outputs_said place (output ∷ outputs) = said.Output (table_number place) output.file ∷ outputs_said (place + 1) outputs
 
+-- the contributors' file, where there is one
+abbrev pub contributors_said : Option OutputLine → List Instruction
+contributors_said None = []
+contributors_said (Some output) = said.Contributors output.file ∷ []
+
 -- all that a job says
 abbrev pub job_says : Job → List Instruction
 job_says job =
@@ -31,7 +36,7 @@ job_says job =
     ++ (said.Safety job.rules ∷ said.Read ∷ map prior_said job.priors
     ++ (said.Cost job.cost ∷ said.Steps job.steps ∷ said.Nodes job.nodes ∷ said.Suppress job.method
     ∷ outputs_said 0 job.outputs
-    ++ said.Certificate job.certificate ∷ []))
+    ++ said.Certificate job.certificate ∷ contributors_said job.contributors))
 
 -- the canonical text of a job: its lines, each ended by LF
 abbrev pub job_text : Job → List ℕ
@@ -54,6 +59,10 @@ abbrev pub outputs_at : ℕ → List OutputLine → List OutputLine
 outputs_at line [] = []
 outputs_at line (output ∷ outputs) = record output { line = line } ∷ outputs_at (line + 1) outputs
 
+-- an output in this line, where there is one
+abbrev pub output_at : ℕ → Option OutputLine → Option OutputLine
+output_at line output = option_map (λ (one : OutputLine). record one { line = line }) output
+
 -- the same job with the lines of its canonical text
 abbrev pub in_text : Job → Job
 in_text job = record job {
@@ -62,4 +71,5 @@ in_text job = record job {
   priors = priors_from (5 + length job.tables) job.priors;
   outputs = outputs_at (9 + length job.tables + length job.priors) job.outputs;
   certificate_line = 9 + length job.tables + length job.priors + length job.outputs;
+  contributors = output_at (10 + length job.tables + length job.priors + length job.outputs) job.contributors;
 }

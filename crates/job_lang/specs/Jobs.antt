@@ -12,6 +12,7 @@ use Rattle.job_lang.specs.Statements.{lines_say, empty_draft}
 use Rattle.job_lang.specs.ClosingLooks.{said_by, file_line, rules_line, method_of, cost_of, work_of, usual_steps, usual_nodes, priors_in}
 use Rattle.job_lang.specs.MissingCommands.{needed_value, outputs_from}
 use Rattle.job_lang.specs.FilesApart.{no_stray, no_same_name}
+use Rattle.job_lang.specs.RoundedContributors.{no_rounded_contributors}
 
 -- The job of all that was said: each command that must be there, in the order of the table, and the others with their
 -- defaults.
@@ -38,11 +39,13 @@ job_made draft = do
     outputs = outputs;
     certificate = certificate.file;
     certificate_line = certificate.line;
+    contributors = file_line (said_by keyword.Contributors draft.said);
   })
 
 -- the closing looks at what the lines say, and the job
 unfoldable pub closed_job : Draft → Result Job (ℕ × JobWhy)
 closed_job draft = do
+  fit ← no_rounded_contributors draft.said
   placed ← no_stray (length draft.tables) draft.said
   apart ← no_same_name draft.said draft.said
   job_made draft

@@ -1,5 +1,5 @@
 -- What the lines of a text say, each by itself, and what a job then has of them (own).
-use Rattle.std.specs.Prelude.{◌≡◌, ◌⊎◌, ◌<◌, ℕ, ◌+◌, if◌then◌else◌, List, [], ◌∷◌, ◌++◌, filter, length, slice_get, Result, Ok, Err}
+use Rattle.std.specs.Prelude.{◌≡◌, ◌⊎◌, ◌<◌, ℕ, ◌+◌, if◌then◌else◌, List, [], ◌∷◌, ◌++◌, filter, length, slice_get, Option, None, Some, Result, Ok, Err}
 use Rattle.cost_rule.specs.declared.kind.CostKind.TheVariants.{Value}
 use Rattle.sdc_base.specs.Blanks.{trim}
 use Rattle.sdc_base.specs.Lines.{lines}
@@ -7,6 +7,7 @@ use Rattle.sdc_base.specs.Steps.{◌>>=◌, or_fault}
 use Rattle.job_lang.specs.declared.faults.JobWhy.{JobWhy}
 use Rattle.job_lang.specs.declared.faults.JobWhy.TheVariants.{UnknownCommand}
 use Rattle.job_lang.specs.declared.job.Job.{Job}
+use Rattle.job_lang.specs.declared.job.OutputLine.{OutputLine}
 use Rattle.job_lang.specs.declared.job.TableLine.{TableLine}
 use Rattle.job_lang.specs.declared.statement.Keyword.{Keyword}
 use Rattle.job_lang.specs.declared.statement.Keyword.TheVariants as keyword
@@ -76,6 +77,11 @@ IsStatedOnce word all one = (line : ℕ) × (by_command word all ≡ record { li
 abbrev pub IsStatedOrElse : Keyword → List Statement → Instruction → Type 0 → Type 0
 IsStatedOrElse word all one Usual = IsStatedOnce word all one ⊎ ((by_command word all ≡ []) × Usual)
 
+-- a contributors' file with its line, where there is one
+abbrev pub contributors_stated : Option OutputLine → List Statement
+contributors_stated None = []
+contributors_stated (Some output) = record { line = output.line; said = said.Contributors output.file } ∷ []
+
 -- A job has its tables in the order of their lines. Each other part is what exactly one line states, or the default
 -- where no line states it; the a priori files are those of all lines; and each table's output is that of the first line
 -- with its number.
@@ -88,6 +94,7 @@ pub record IsMeant (bytes : List ℕ) (job : Job) : Type 0 where
   pub method : IsStatedOnce keyword.Suppress (others_in bytes) (said.Suppress job.method)
   pub certificate : by_command keyword.Certificate (others_in bytes)
       ≡ record { line = job.certificate_line; said = said.Certificate job.certificate } ∷ []
+  pub contributors : by_command keyword.Contributors (others_in bytes) ≡ contributors_stated job.contributors
   pub cost : IsStatedOrElse keyword.Cost (others_in bytes) (said.Cost job.cost) (job.cost ≡ Value)
   pub steps : IsStatedOrElse keyword.Steps (others_in bytes) (said.Steps job.steps) (job.steps ≡ 100000)
   pub nodes : IsStatedOrElse keyword.Nodes (others_in bytes) (said.Nodes job.nodes) (job.nodes ≡ 1000000)

@@ -28,6 +28,7 @@ flat_job = record {
   outputs = record { line = 7; file = codes "t.csv" } ∷ [];
   certificate = codes "t.cert";
   certificate_line = 8;
+  contributors = None;
 }
 
 -- the eight lines of that job
@@ -56,6 +57,7 @@ full_job = record {
   outputs = record { line = 12; file = codes "ab.csv" } ∷ record { line = 13; file = codes "b.csv" } ∷ [];
   certificate = codes "t.cert";
   certificate_line = 14;
+  contributors = Some (record { line = 15; file = codes "g.txt" });
 }
 
 -- the canonical text of that job
@@ -68,7 +70,8 @@ FullText =
     ∷ codes "<SAFETYRULE> FREQ(3,30)|NK(1,75)|P(10)|MAN(0)|WGT(1)" ∷ codes "<READMICRODATA>"
     ∷ codes "<APRIORI> \"p.hst\",2,\";\"" ∷ codes "<COST> FREQ" ∷ codes "<STEPS> 50"
     ∷ codes "<NODES> 7" ∷ codes "<SUPPRESS> GH(2)" ∷ codes "<WRITETABLE> (1,\"ab.csv\")"
-    ∷ codes "<WRITETABLE> (2,\"b.csv\")" ∷ codes "<CERTIFICATE> \"t.cert\"" ∷ [])
+    ∷ codes "<WRITETABLE> (2,\"b.csv\")" ∷ codes "<CERTIFICATE> \"t.cert\""
+    ∷ codes "<CONTRIBUTORS> \"g.txt\"" ∷ [])
 
 -- its lines are those of that text
 abbrev pub FullLines : Type 0
@@ -81,6 +84,13 @@ NameBeforeMissing =
     codes "<OPENMICRODATA> \"m.asc\"" ∷ codes "// a comment" ∷ []
     ∷ codes "<specifytable> \"A\" | \"V\" | \"V\" | \"\" |" ∷ codes "<WRITETABLE> ( 01 , \"m.asc\" )" ∷ []))
     ≡ Err (5, why.SameName)
+
+-- The contributors' file of a job that rounds is given at its line, before the number of no table above it.
+abbrev pub RoundedContributorsFirst : Type 0
+RoundedContributorsFirst =
+    job_of (text_of_lines (
+    codes "<WRITETABLE> (1,\"t.csv\")" ∷ codes "<CONTRIBUTORS> \"g.txt\"" ∷ codes "<SUPPRESS> RND(5)" ∷ []))
+    ≡ Err (2, why.BadValue)
 
 -- a variable of the metadata of that job
 abbrev pub variable : List ℕ → Bool → ℕ → Option (List ℕ) → Variable

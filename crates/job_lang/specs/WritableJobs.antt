@@ -67,6 +67,7 @@ IsSpellable (said.Suppress method) = IsMethod method
 IsSpellable (said.Output number file) = (place : ℕ) × (place < 8) × (number ≡ table_number place)
     × (is_file_name file ≡ true)
 IsSpellable (said.Certificate name) = is_file_name name ≡ true
+IsSpellable (said.Contributors name) = is_file_name name ≡ true
 
 -- A line of the canonical text is read as what it is the line of, without blanks at its ends, LF in it or CR at its
 -- end.

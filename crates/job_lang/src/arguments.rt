@@ -42,6 +42,7 @@ pub(crate) fn argument_of(
         Keyword::Suppress => Ok(Instruction::Suppress(method_argument(text)?)),
         Keyword::WriteTable => output_argument(alloc, text),
         Keyword::Certificate => Ok(Instruction::Certificate(only_file(alloc, text)?)),
+        Keyword::Contributors => Ok(Instruction::Contributors(only_file(alloc, text)?)),
     }
 }
 

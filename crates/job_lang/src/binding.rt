@@ -22,8 +22,8 @@ use std::alloc::Global;
 /// The variables of a job as places in the metadata, or the earliest line with a fault and what is wrong with it.
 ///
 /// A table's line is looked at for `NoSuchVariable`, `NotSpanning` and `NotNumeric`, each over all its variables and
-/// the response; the line of the rules for `NoWeight`; the lines of outputs and certificate for `SameName`, where the
-/// metadata name that file for a variable that spans a table. Names are compared byte for byte. The rules are argus's
+/// the response; the line of the rules for `NoWeight`; the lines of outputs, certificate and contributors' file for
+/// `SameName`, where the metadata name that file for a variable that spans a table. Names are compared byte for byte. The rules are argus's
 /// own.
 ///
 /// The caller sees to it that the job has a table, all of one response, each of distinct variables and of at most 8 in

@@ -202,6 +202,25 @@ fn outputs_fault(
     first
 }
 
+// The earliest fault of a contributors' file, where there is one, and of what was looked at before.
+fn contributors_fault(
+    tables: &[TableLine],
+    variables: &[Variable],
+    before: Option<(u32, JobWhy)>,
+    contributors: &Option<OutputLine>,
+) -> Option<(u32, JobWhy)>
+    ensures { result ≡ spec.contributors_fault tables.now variables.now before contributors.now }
+{
+    match contributors {
+        Some(output) => earlier_fault(
+            before,
+            output.line,
+            file_fault(tables, variables, &output.file),
+        ),
+        None => before,
+    }
+}
+
 /// The earliest fault of a job's lines.
 pub(crate) fn earliest_fault(job: &Job, variables: &[Variable]) -> Option<(u32, JobWhy)>
     ensures { result ≡ spec.earliest_fault job.now variables.now }
@@ -211,5 +230,6 @@ pub(crate) fn earliest_fault(job: &Job, variables: &[Variable]) -> Option<(u32, 
     let first = earlier_fault(first, job.rules_line, weight_fault(variables, &job.rules));
     let first = outputs_fault(tables, variables, first, job.outputs.as_slice());
     let last = file_fault(tables, variables, &job.certificate);
-    earlier_fault(first, job.certificate_line, last)
+    let first = earlier_fault(first, job.certificate_line, last);
+    contributors_fault(tables, variables, first, &job.contributors)
 }

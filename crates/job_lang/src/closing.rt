@@ -3,11 +3,13 @@ ghost use Rattle.std.specs.List.{list_any, count_by};
 ghost use Rattle.sdc_base.specs.Answers.{Gives};
 ghost use Rattle.job_lang.specs.Faults.{fault_of};
 ghost use Rattle.job_lang.specs.FilesApart as spec;
+ghost use Rattle.job_lang.specs.RoundedContributors as rounded_contributors;
 
 use crate::faults::{JobError, JobWhy};
-use crate::statement::{Instruction, Statement};
+use crate::looked_up::{method_of, said_by};
+use crate::statement::{Instruction, Keyword, Statement};
 use plain_text::number_in;
-use sdc_base::Text;
+use sdc_base::{Method, Text};
 
 // The fault of a statement's line.
 fn at(statement: &Statement, why: JobWhy) -> JobError
@@ -17,6 +19,31 @@ fn at(statement: &Statement, why: JobWhy) -> JobError
         line: statement.line,
         why,
     }
+}
+
+// Whether a method is given, and it rounds.
+fn is_rounding(method: Option<Method>) -> bool
+    ensures { result ≡ rounded_contributors.is_rounding method }
+{
+    match method {
+        Some(Method::Rnd(_)) => true,
+        _ => false,
+    }
+}
+
+/// The line of a contributors' file is a fault of a job that rounds.
+#[tactic(auto, unfolding(crate::specs::RoundedContributors::no_rounded_contributors))]
+pub(crate) fn no_rounded_contributors(said: &[Statement]) -> Result<(), JobError>
+    ensures { Gives fault_of (λ fine. fine) result (rounded_contributors.no_rounded_contributors said.now) }
+{
+    let rounds = is_rounding(method_of(said_by(Keyword::Suppress, said)));
+    let Some(statement) = said_by(Keyword::Contributors, said) else {
+        return Ok(());
+    };
+    if rounds {
+        return Err(at(statement, JobWhy::BadValue));
+    }
+    Ok(())
 }
 
 // Whether no table has this number.
@@ -60,6 +87,7 @@ fn puts(name: &Text, said: &Instruction) -> bool
     match said {
         Instruction::Output { file, .. } => file.equals(name),
         Instruction::Certificate(file) => file.equals(name),
+        Instruction::Contributors(file) => file.equals(name),
         _ => false,
     }
 }
@@ -107,6 +135,7 @@ fn puts_shared_file(all: &[Statement], said: &Instruction) -> bool
     match said {
         Instruction::Output { file, .. } => is_shared(file, all),
         Instruction::Certificate(file) => is_shared(file, all),
+        Instruction::Contributors(file) => is_shared(file, all),
         _ => false,
     }
 }

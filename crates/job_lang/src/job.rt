@@ -30,6 +30,8 @@ pub struct Job {
     pub certificate: Text,
     /// The line of the certificate, from 1.
     pub certificate_line: u32,
+    /// The file of the extra cells against contributors, where they are wanted; a job that rounds has none.
+    pub contributors: Option<OutputLine>,
 }
 
 /// A table as a line of the job specifies it.

@@ -56,6 +56,9 @@ pub(crate) fn keyword_of(word: &[u8]) -> Option<Keyword>
     if spells(word, b"CERTIFICATE") {
         return Some(Keyword::Certificate);
     }
+    if spells(word, b"CONTRIBUTORS") {
+        return Some(Keyword::Contributors);
+    }
     None
 }
 

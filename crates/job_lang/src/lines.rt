@@ -193,6 +193,7 @@ fn command_of(said: &Instruction) -> Keyword
         Instruction::Suppress(_) => Keyword::Suppress,
         Instruction::Output { .. } => Keyword::WriteTable,
         Instruction::Certificate(_) => Keyword::Certificate,
+        Instruction::Contributors(_) => Keyword::Contributors,
     }
 }
 

@@ -65,6 +65,7 @@ fn file_said(said: &Instruction) -> Option<&Text>
         Instruction::Microdata(file) => Some(file),
         Instruction::Metadata(file) => Some(file),
         Instruction::Certificate(file) => Some(file),
+        Instruction::Contributors(file) => Some(file),
         Instruction::Output { file, .. } => Some(file),
         _ => None,
     }

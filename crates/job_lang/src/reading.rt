@@ -7,7 +7,7 @@ ghost use Rattle.job_lang.specs.Jobs.{job_of};
 ghost use Rattle.job_lang.specs.Jobs as jobs;
 ghost use Rattle.job_lang.specs.JobLimits.{IsJob};
 
-use crate::closing::{no_same_name, no_stray};
+use crate::closing::{no_rounded_contributors, no_same_name, no_stray};
 use crate::faults::{Command, JobError, JobWhy};
 use crate::job::{Job, OutputLine};
 use crate::lines::read_lines;
@@ -26,10 +26,11 @@ const USUAL_NODES: u64 = 1_000_000;
 /// The job that the bytes of a file state, or the line of the first fault and what is wrong with it.
 ///
 /// Lines are looked at in their order, and each for `BadLine`, `UnknownCommand`, `BadValue`, `Twice`, `TooMany` and
-/// `OtherResponse`. Where no line has a fault there follow `NoSuchTable` and `SameName`, each at the first line that
-/// has it, and at line 0 `Missing` with the first command that lacks, in the order of `Command`. Nothing is kept of a
-/// job with a fault. The words are those of tau-ARGUS's batch files, but for `COST`, `STEPS`, `NODES` and
-/// `CERTIFICATE`; the exact form, the ranges and the order of the faults are argus's own.
+/// `OtherResponse`. Where no line has a fault there follow, of a job that rounds, `BadValue` at its line of a
+/// contributors' file, then `NoSuchTable` and `SameName`, each at the first line that has it, and at line 0 `Missing`
+/// with the first command that lacks, in the order of `Command`. Nothing is kept of a job with a fault. The words are
+/// those of tau-ARGUS's batch files, but for `COST`, `STEPS`, `NODES`, `CERTIFICATE` and `CONTRIBUTORS`; the exact form,
+/// the ranges and the order of the faults are argus's own.
 ///
 /// The caller sees to it that there are fewer than `2^32` bytes, so that a line's number fits. Want of memory aside,
 /// the answer is the definition's.
@@ -52,6 +53,7 @@ fn closed_job(alloc: Global, draft: Draft) -> Result<Job, JobError>
     requires { length draft.tables ≤ 8 }
     ensures { Gives fault_of (λ job. job) result (jobs.closed_job draft) }
 {
+    no_rounded_contributors(draft.said.as_slice())?;
     no_stray(draft.tables.as_slice().len(), draft.said.as_slice())?;
     no_same_name(draft.said.as_slice())?;
     job_made(alloc, draft)
@@ -122,6 +124,7 @@ fn job_made(alloc: Global, draft: Draft) -> Result<Job, JobError>
     let Some(certificate) = file_line(alloc, said_by(Keyword::Certificate, said))? else {
         return Err(missing_command(Command::Certificate));
     };
+    let contributors = file_line(alloc, said_by(Keyword::Contributors, said))?;
     let priors = priors_in(alloc, said)?;
     let cost = cost_of(said_by(Keyword::Cost, said));
     let steps = work_of(USUAL_STEPS, said_by(Keyword::Steps, said));
@@ -140,5 +143,6 @@ fn job_made(alloc: Global, draft: Draft) -> Result<Job, JobError>
         outputs,
         certificate: certificate.file,
         certificate_line: certificate.line,
+        contributors,
     })
 }

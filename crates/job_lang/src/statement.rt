@@ -17,6 +17,7 @@ pub(crate) enum Keyword {
     Suppress,
     WriteTable,
     Certificate,
+    Contributors,
 }
 
 /// What a line of a job says. The number of a table is kept by its digits, without zeros in front, since it may be of
@@ -45,6 +46,7 @@ pub(crate) enum Instruction {
         file: Text,
     },
     Certificate(Text),
+    Contributors(Text),
 }
 
 /// What a line of a job says, with the line's number.

@@ -1,4 +1,4 @@
-use job_lang::{Command, JobError, JobWhy, bind, metadata_fit, read_job};
+use job_lang::{Command, JobError, JobWhy, OutputLine, bind, metadata_fit, read_job};
 use rda_meta::read_meta;
 use std::alloc::Global;
 use std::rt::HostRuntime;
@@ -198,6 +198,20 @@ fn a_ninth_line(rt: HostRuntime) -> Result<(), Fail> {
         ("<SUPPRESS> RND(0)", Err((9, BadValue))),
         ("<SUPPRESS> OPT(1)", Err((9, BadValue))),
         ("<CERTIFICATE> \"c\"", Err((9, Twice))),
+        ("<CONTRIBUTORS> \"g\"", Ok((1, 1))),
+        ("<contributors>\"g\" ", Ok((1, 1))),
+        ("<CONTRIBUTORS>", Err((9, BadValue))),
+        ("<CONTRIBUTORS> g", Err((9, BadValue))),
+        ("<CONTRIBUTORS> \"\"", Err((9, BadValue))),
+        ("<CONTRIBUTORS> \"g\" \"h\"", Err((9, BadValue))),
+        ("<CONTRIBUTOR> \"g\"", Err((9, UnknownCommand))),
+        (
+            "<CONTRIBUTORS> \"g\"\n<CONTRIBUTORS> \"g\"",
+            Err((10, Twice)),
+        ),
+        ("<CONTRIBUTORS> \"m.asc\"", Err((9, SameName))),
+        ("<CONTRIBUTORS> \"t.csv\"", Err((7, SameName))),
+        ("<CONTRIBUTORS> \"t.cert\"", Err((8, SameName))),
         ("<WRITETABLE> (01,\"u\")", Err((9, Twice))),
         ("<WRITETABLE> (2,\"u\")", Err((9, NoSuchTable))),
         ("<WRITETABLE> (0,\"u\")", Err((9, NoSuchTable))),
@@ -245,6 +259,71 @@ fn a_ninth_line(rt: HostRuntime) -> Result<(), Fail> {
     Ok(())
 }
 
+// The line of a job's contributors' file, where the job names `g.txt`; or the line of its first fault and what is wrong
+// with it. Nothing where memory wants or the file has another name.
+fn contributors_of(alloc: Global, text: &[u8]) -> Option<Result<Option<u32>, (u32, JobWhy)>> {
+    if text.len() > 10000 {
+        return None;
+    }
+    match read_job(alloc, text) {
+        Ok(job) => named_line(&job.contributors).map(Ok),
+        Err(JobError::At { line, why }) => Some(Err((line, why))),
+        Err(JobError::Memory) => None,
+    }
+}
+
+// The line of the contributors' file, where there is one; nothing where it has another name than `g.txt`.
+fn named_line(contributors: &Option<OutputLine>) -> Option<Option<u32>> {
+    match contributors {
+        None => Some(None),
+        Some(output) => {
+            if output.file.as_slice() == b"g.txt".as_slice() {
+                Some(Some(output.line))
+            } else {
+                None
+            }
+        }
+    }
+}
+
+#[test]
+fn contributors_by_method(rt: HostRuntime) -> Result<(), Fail> {
+    use JobWhy::{BadValue, NoSuchTable, UnknownCommand};
+    let rows = [
+        ("MOD()", "", Ok(None)),
+        ("MOD()", "<CONTRIBUTORS> \"g.txt\"", Ok(Some(9))),
+        ("GH(1)", "\n <contributors>\"g.txt\"", Ok(Some(10))),
+        (
+            "MOD()",
+            "<CONTRIBUTORS> \"g.txt\"\n<WRITETABLE> (2,\"u\")",
+            Err((10, NoSuchTable)),
+        ),
+        ("RND(5)", "", Ok(None)),
+        ("RND(5)", "<CONTRIBUTORS> \"g.txt\"", Err((9, BadValue))),
+        // before the number of no table on a line above it, and before its own name meets another
+        (
+            "RND(5)",
+            "<WRITETABLE> (2,\"u\")\n<CONTRIBUTORS> \"g.txt\"",
+            Err((10, BadValue)),
+        ),
+        ("RND(5)", "<CONTRIBUTORS> \"m.asc\"", Err((9, BadValue))),
+        // behind the fault of a line below it
+        (
+            "RND(5)",
+            "<CONTRIBUTORS> \"g.txt\"\n<RECODE> \"A\"",
+            Err((10, UnknownCommand)),
+        ),
+    ];
+    for (method, lines, expected) in &rows {
+        let text = format!(in rt.alloc();
+            "<OPENMICRODATA> \"m.asc\"\n<OPENMETADATA> \"m.rda\"\n<SPECIFYTABLE> \"A\"|\"V\"\n<SAFETYRULE> FREQ(3,30)\n<READMICRODATA>\n<SUPPRESS> {method}\n<WRITETABLE> (1,\"t.csv\")\n<CERTIFICATE> \"t.cert\"\n{lines}\n"
+        )?;
+        let found = contributors_of(rt.alloc(), text.as_bytes());
+        assert_eq!(rt; found, Some(*expected));
+    }
+    Ok(())
+}
+
 // The places of a bound job: how many variables span its tables, the response, the digits of a unit and the scale; or
 // the line of the first fault and what is wrong with it.
 type Places = Result<(usize, u32, u8, u32), (u32, JobWhy)>;
@@ -278,6 +357,8 @@ fn jobs_bound_to_metadata(rt: HostRuntime) {
     use JobWhy::{NoSuchVariable, NoWeight, NotNumeric, NotSpanning, SameName};
     let flat =
         "<OPENMICRODATA> \"m.asc\"\n<OPENMETADATA> \"m.rda\"\n<SPECIFYTABLE> \"A\"|\"V\"\n<SAFETYRULE> FREQ(3,30)\n<SUPPRESS> MOD()\n<WRITETABLE> (1,\"t.csv\")\n<CERTIFICATE> \"t.cert\"\n";
+    let guarded =
+        "<CONTRIBUTORS> \"g.txt\"\n<OPENMICRODATA> \"m.asc\"\n<OPENMETADATA> \"m.rda\"\n<SPECIFYTABLE> \"A\"|\"V\"\n<SAFETYRULE> FREQ(3,30)\n<SUPPRESS> MOD()\n<WRITETABLE> (1,\"t.csv\")\n<CERTIFICATE> \"t.cert\"\n";
     let weighted =
         "<WRITETABLE> (1,\"t.csv\")\n<SAFETYRULE> P(10)|WGT(1)\n<OPENMICRODATA> \"m.asc\"\n<OPENMETADATA> \"m.rda\"\n<SPECIFYTABLE> \"B\"\"A\"|\"V\"\n<SUPPRESS> MOD()\n<CERTIFICATE> \"t.cert\"\n";
     let rows = [
@@ -309,6 +390,21 @@ fn jobs_bound_to_metadata(rt: HostRuntime) {
             flat,
             "A 1 1\nB 1 1\n<CODELIST> t.csv\nV 2 3\n<NUMERIC>\n<CODELIST> t.csv\n",
             Ok((1, 2, 0, 1)),
+        ),
+        (
+            guarded,
+            "A 1 1\n<CODELIST> c.txt\nV 2 3\n<NUMERIC>\n<CODELIST> g.txt\n",
+            Ok((1, 1, 0, 1)),
+        ),
+        (
+            guarded,
+            "A 1 1\n<CODELIST> g.txt\nV 2 3\n<NUMERIC>\n",
+            Err((1, SameName)),
+        ),
+        (
+            guarded,
+            "A 1 1\n<HIERCODELIST> g.txt\nV 2 3\n",
+            Err((1, SameName)),
         ),
         (
             weighted,

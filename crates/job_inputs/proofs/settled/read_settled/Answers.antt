@@ -1,4 +1,4 @@
-use Rattle.std.proofs.Common.{◌≡◌, ◌<◌, ◌^◌, Ok, map, refl, ap, sym, subst, ◌∙◌, List}
+use Rattle.std.proofs.Common.{◌≡◌, ◌<◌, ◌^◌, Ok, map, refl, ap, sym, subst, ◌∙◌, List, length}
 use Rattle.std.proofs.lemmas.Result.{err_from_is_err_and}
 use Rattle.sdc_base.specs.Answers.{Fails}
 use Rattle.sdc_base.specs.Steps.{map_fault, refuse}
@@ -105,6 +105,7 @@ returns-in_err-check_outputs-clause-looked g c =
 
 pub returns-clause-looked : goal.returns-clause-looked
 returns-clause-looked g c =
+    let records = ap length c.as_slice-2.ensures ∙ ap length c.in_ok-counted.ensures.sound.0.rows in
     let inputs = c.in_ok-inputs.inputs in
     let counted = c.in_ok-counted.ensures.sound.0 in
     let ready = c.in_ok-counted.ensures.sound.1 in
@@ -118,15 +119,16 @@ returns-clause-looked g c =
       told = λ fs told.
           rw (settled-is c.args.purpose fs c.args.name.now inputs _ priors (map view_of_cell cells) (first.told fs told) c.in_ok-counted.ensures.told (then.told fs (first.shelf.only_read.files ∙ told) inputs counted) settled
           (sym (c.in_ok-check_outputs.ensures ∙ ap (λ (d : DescribedJob). refuse fault.OutName (overwrites_job c.args.name.now d.job)) counted.described)))
-          (record { described = counted.described; book = counted.book; cells = refl; records = counted.records; skipped = counted.skipped });
+          (record { described = counted.described; book = counted.book; cells = refl; rows = counted.rows; records = records; skipped = counted.skipped });
       came_to = λ fs told f is. absurd cc;
       shelf = look-on _ _ _ _ first.shelf then.shelf;
       cause = record { absent = λ f is. absurd cc; too_long = λ f is. absurd cc; read_fault = λ f is. absurd cc; tree = λ f is. absurd cc };
-      sound = record { sound = ready.sound; book = ready.book; one_each = ready.one_each; settled = are.one_each; levels = are.levels; truths = are.truths; fewer_than_2_32 = subst (λ n. n < 2 ^ 32) (sym are.one_each) ready.fewer_than_2_32 };
+      sound = record { sound = ready.sound; book = ready.book; told = ready.told; at_most_1000000 = ready.at_most_1000000; one_each = ready.one_each; settled = are.one_each; levels = are.levels; truths = are.truths; fewer_than_2_32 = subst (λ n. n < 2 ^ 32) (sym are.one_each) ready.fewer_than_2_32 };
     }
 
 pub returns-clause-settled : goal.returns-clause-settled
 returns-clause-settled g c =
+    let records = ap length c.as_slice-2.ensures ∙ ap length c.in_ok-counted.ensures.sound.0.rows in
     let counted = c.in_ok-counted.ensures.sound.0 in
     let settled : SettledInputs = record { inputs = c.in_ok-inputs.inputs; priors = c.in_ok-priors.priors; cells = map view_of_cell c.in_ok-cells.cells } in
-    (settled, record { described = counted.described; book = counted.book; cells = refl; records = counted.records; skipped = counted.skipped }, c.in_ok-inputs.ensures.sound)
+    (settled, record { described = counted.described; book = counted.book; cells = refl; rows = counted.rows; records = records; skipped = counted.skipped }, c.in_ok-inputs.ensures.sound)

@@ -1,0 +1,11 @@
+-- The base to which a job rounds (zero-restricted controlled rounding; that it counts whole numbers of the response:
+-- own).
+use Rattle.std.specs.Prelude.{ℕ, ◌^◌, ℤ, pos, ◌*ℤ◌}
+use Rattle.sdc_base.specs.declared.method.Method.{Method}
+use Rattle.sdc_base.specs.declared.method.Method.TheVariants as method
+
+-- the base to which a method rounds, in units of so many decimals; 1 where it doesn't round
+abbrev pub base_of : Method → ℕ → ℤ
+base_of (method.Rnd base) decimals = base *ℤ pos (10 ^ decimals)
+base_of (method.Gh passes) decimals = pos 1
+base_of method.Modular decimals = pos 1
