@@ -1,5 +1,5 @@
 -- Which faults come with which components.
-use Rattle.std.proofs.Common.{◌≡◌, ◌≤◌, ℕ, Bool, List, length, inl, inr, arith, refl, ap, subst}
+use Rattle.std.proofs.Common.{◌≡◌, ◌≢◌, ◌↔◌, ◌≤◌, ℕ, Bool, List, length, inl, inr, arith, refl, ap, subst}
 use Rattle.sdc_base.specs.declared.cell.Cell.{Cell}
 use Rattle.sdc_base.specs.declared.side.Side.{Side}
 use Rattle.sdc_base.specs.declared.system.System.{System}
@@ -11,7 +11,7 @@ use Rattle.interval_audit.specs.declared.question.Question.{Question}
 use Rattle.interval_audit.specs.Ends.{IsEndCause, IsEndQuestion, IsIntervalCause}
 use Rattle.interval_audit.specs.Groups.{Group, IsComponentOf, members, most_members}
 use Rattle.cell_intervals.specs.IntervalFaults.{HasSmallComponent}
-use Rattle.cell_intervals.specs.Laws.{SizeIsLarge}
+use Rattle.cell_intervals.specs.Laws.{IsSize, SizeIsLarge}
 use Rattle.interval_audit.proofs.SameGroups.{groups_alike}
 
 -- a component of at most so many cells, of the cell that a question asks about
@@ -35,11 +35,15 @@ either : (system : System) (cells : List Cell) (flags : List Bool) (limit cell :
 either system cells flags limit cell why P each (inl below) = each _ below
 either system cells flags limit cell why P each (inr above) = each _ above.3
 
+-- the fault of a cell's questions is that its component is too large exactly where it is
+pub cause_is_large : (system : System) (cells : List Cell) (flags : List Bool) (limit cell : ℕ) (why : AskFault) → why ≢ fault.Memory → IsIntervalCause system cells flags cell limit why → IsSize why ↔ (¬ HasSmallComponent system flags cell)
+cause_is_large system cells flags limit cell (fault.Work walk) some cause =
+    ((λ is. absurd is), (λ large. large (either system cells flags limit cell (fault.Work walk) (HasSmallComponent system flags cell) (λ side own. work_small system cells flags cell side limit walk own) cause)))
+cause_is_large system cells flags limit cell (fault.Wide walk place) some cause =
+    ((λ is. absurd is), (λ large. large (either system cells flags limit cell (fault.Wide walk place) (HasSmallComponent system flags cell) (λ side own. wide_small system cells flags cell side limit walk place own) cause)))
+cause_is_large system cells flags limit cell (fault.Size asked hidden) some cause =
+    ((λ is small. either system cells flags limit cell (fault.Size asked hidden) ⊥ (λ side own. size_large system cells flags cell side limit asked hidden own small) cause), (λ large. tt))
+cause_is_large system cells flags limit cell fault.Memory some cause = absurd (some refl)
+
 pub size_is_large : SizeIsLarge
-size_is_large system cells flags limit cell (fault.Work walk) some at =
-    ((λ is. absurd is), (λ large. large (either system cells flags limit cell (fault.Work walk) (HasSmallComponent system flags cell) (λ side cause. work_small system cells flags cell side limit walk cause) at.cause)))
-size_is_large system cells flags limit cell (fault.Wide walk place) some at =
-    ((λ is. absurd is), (λ large. large (either system cells flags limit cell (fault.Wide walk place) (HasSmallComponent system flags cell) (λ side cause. wide_small system cells flags cell side limit walk place cause) at.cause)))
-size_is_large system cells flags limit cell (fault.Size asked hidden) some at =
-    ((λ is small. either system cells flags limit cell (fault.Size asked hidden) ⊥ (λ side cause. size_large system cells flags cell side limit asked hidden cause small) at.cause), (λ large. tt))
-size_is_large system cells flags limit cell fault.Memory some at = absurd (some refl)
+size_is_large system cells flags limit cell why some at = cause_is_large system cells flags limit cell why some at.cause

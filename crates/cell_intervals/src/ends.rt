@@ -12,8 +12,14 @@ use crate::ratio::{Ratio, lowest_terms_of, minus, plus};
 use interval_audit::{Answer, TwoEnds};
 use sdc_base::{Cell, Hidden, Side, System};
 
-/// The interval of a hidden cell whose two questions have these answers.
-pub(crate) fn interval_from(
+/// The interval of a hidden cell whose two questions have these answers ([`interval_audit::interval`]).
+///
+/// There are a cell and a flag for each cell of the system, the cell is hidden, and no truth is above 10^29 units. It
+/// takes no memory, and divides once for each end.
+///
+/// The interval is the feasibility interval in Hundepool et al., Statistical Disclosure Control, chapter on magnitude
+/// tables.
+pub fn interval_from(
     system: &System,
     cells: &[Cell],
     hidden: &Hidden,

@@ -9,7 +9,7 @@ ghost use Rattle.cell_intervals.specs.Intervals.{AreIntervals, HasWholeEnds, IsI
 
 use crate::ends::interval_from;
 use crate::interval::CellInterval;
-use interval_audit::{AskFault, interval};
+use interval_audit::{AskFault, SignedSystem, signed_interval};
 use sdc_base::{Cell, Hidden, Items, System};
 use std::alloc::Global;
 
@@ -26,7 +26,7 @@ use std::alloc::Global;
 /// `Wide` where its walk stops short, which never happens where the system has signs. Want of memory may come at any
 /// time. What is lent stays as it was.
 ///
-/// It costs as much as two questions for each hidden cell.
+/// The signs are looked for once. It costs as much as two questions for each hidden cell.
 ///
 /// The interval is the feasibility interval in Hundepool et al., Statistical Disclosure Control, chapter on magnitude
 /// tables; that an end is open from 2^110 on is own.
@@ -49,10 +49,11 @@ pub fn intervals_of(
     ensures signed { (signs : List Bool) → AreSigns system.now.relations signs
         → IfErr result (λ fault. HasNoWalk fault) }
 {
+    let signed = SignedSystem::of(alloc, system)?;
     let mut intervals = Items::empty(alloc);
     'cells: for cell in 0..system.cells {
         if hidden.flags.as_slice()[cell as usize] {
-            let one = interval_of(alloc, system, cells, hidden, cell, limit)?;
+            let one = interval_of(alloc, &signed, cells, hidden, cell, limit)?;
             intervals.push(one)?;
         }
     }
@@ -62,7 +63,7 @@ pub fn intervals_of(
 // The interval of a hidden cell.
 fn interval_of(
     alloc: Global,
-    system: &System,
+    system: &SignedSystem<'_>,
     cells: &[Cell],
     hidden: &Hidden,
     cell: u32,
@@ -81,6 +82,6 @@ fn interval_of(
     ensures signed { (signs : List Bool) → AreSigns system.now.relations signs
         → IfErr result (λ fault. HasNoWalk fault) }
 {
-    let ends = interval(alloc, system, cells, hidden, cell, limit)?;
-    Ok(interval_from(system, cells, hidden, cell, &ends))
+    let ends = signed_interval(alloc, system, cells, hidden, cell, limit)?;
+    Ok(interval_from(system.system(), cells, hidden, cell, &ends))
 }

@@ -9,8 +9,9 @@ mod laws;
 mod ratio;
 mod texts;
 
+pub use ends::interval_from;
 pub use interval::{CellInterval, UpperEnd};
 pub use intervals::intervals_of;
 pub use laws::{file_is_one, size_is_large};
 pub use ratio::Ratio;
-pub use texts::interval_text;
+pub use texts::{interval_text, ratio_text};

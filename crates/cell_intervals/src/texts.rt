@@ -54,8 +54,10 @@ fn upper_text(alloc: Global, high: UpperEnd) -> Result<String, Memory>
     }
 }
 
-// A fraction in digits.
-fn ratio_text(alloc: Global, value: Ratio) -> Result<String, Memory>
+/// A fraction in digits: a whole number, or what is divided, a slash and what it is divided by.
+///
+/// `Memory` is the only refusal. The spelling is argus's own.
+pub fn ratio_text(alloc: Global, value: Ratio) -> Result<String, Memory>
     ensures { IfOk result (λ text. string_bytes text ≡ spec.ratio_text value) }
 {
     let num = value.num;

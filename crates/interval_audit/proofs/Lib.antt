@@ -31,4 +31,5 @@ mod ProblemSizes
 mod OneAnswer
 mod WholeAnswers
 mod WholeEnds
+mod EndCauses
 mod WalkAnswers

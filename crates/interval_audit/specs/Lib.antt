@@ -14,5 +14,6 @@ pub mod Answers
 pub mod Causes
 pub mod WalkLimits
 pub mod FlowQuestions
+pub mod SignedSystems
 pub mod Inquiries
 pub mod Ends

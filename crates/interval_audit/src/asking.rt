@@ -16,8 +16,9 @@ use crate::group::{list_of, members_of};
 use crate::inquiry::Inquiry;
 use crate::problem::problem_over;
 use crate::question::Question;
+use crate::signed_system::SignedSystem;
 use flow_worlds::{FlowAnswer, flow};
-use sdc_base::{Cell, Fraction, Hidden, Memory, System, components, rows_of, signs};
+use sdc_base::{Cell, Fraction, Hidden, Memory, System, components, rows_of};
 use std::alloc::Global;
 use tableau::{Step, Tableau};
 
@@ -52,7 +53,8 @@ const MOST_MEMBERS: usize = 4000;
 ///
 /// It goes three times through all relations and their parts, for the signs, for the components and for the arcs of the
 /// cells or the relations of each component. From there on it costs what `flow` does, or goes only through the relations
-/// of the asked cell's component: it makes the problem and at most so many steps.
+/// of the asked cell's component: it makes the problem and at most so many steps. Whoever asks more than one question of
+/// a system looks for its signs once ([`SignedSystem::ask`]).
 ///
 /// The question is that of the feasibility interval in Hundepool et al., Statistical Disclosure Control, chapter on
 /// magnitude tables; the order of the steps is own.
@@ -80,14 +82,12 @@ pub fn ask(
     ensures signed { (signs : List Bool) → AreSigns system.now.relations signs
         → IfErr result (λ fault. HasNoWalk fault) }
 {
-    let Some(signs) = signs(alloc, system)? else {
-        return ask_walk(alloc, system, cells, hidden, question, limit);
-    };
-    ask_flow(alloc, system, cells, hidden, signs.as_slice(), question)
+    let signed = SignedSystem::of(alloc, system)?;
+    signed.ask(alloc, cells, hidden, question, limit)
 }
 
-// The answer of a question to a system with signs.
-fn ask_flow(
+/// The answer of a question to a system with signs.
+pub(crate) fn ask_flow(
     alloc: Global,
     system: &System,
     cells: &[Cell],
@@ -155,8 +155,8 @@ fn whole_answer(answer: FlowAnswer) -> Answer
     }
 }
 
-// The answer of a question by a walk on its problem.
-fn ask_walk(
+/// The answer of a question by a walk on its problem.
+pub(crate) fn ask_walk(
     alloc: Global,
     system: &System,
     cells: &[Cell],

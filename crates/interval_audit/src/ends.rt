@@ -11,8 +11,8 @@ ghost use Rattle.interval_audit.specs.WalkLimits.{HasNoWalk};
 ghost use Rattle.interval_audit.specs.Ends.{IsEndQuestion, IsTrueEnd, IsEndAnswer, IsWholeEnd, IsEndCause, IsIntervalCause};
 
 use crate::answer::{Answer, AskFault};
-use crate::asking::ask;
 use crate::question::Question;
+use crate::signed_system::SignedSystem;
 use sdc_base::{Cell, Hidden, Side, System};
 use std::alloc::Global;
 
@@ -57,6 +57,35 @@ pub fn interval(
     ensures signed { (signs : List Bool) → AreSigns system.now.relations signs
         → IfErr result (λ fault. HasNoWalk fault) }
 {
+    let signed = SignedSystem::of(alloc, system)?;
+    signed_interval(alloc, &signed, cells, hidden, cell, limit)
+}
+
+/// What [`interval`] answers for a cell of a system whose signs are known, under the same conditions and with the same
+/// refusals.
+pub fn signed_interval(
+    alloc: Global,
+    system: &SignedSystem<'_>,
+    cells: &[Cell],
+    hidden: &Hidden,
+    cell: u32,
+    limit: u64,
+) -> Result<TwoEnds, AskFault>
+    requires ground { IsGround system.now cells.now hidden.now.flags }
+    requires hidden { is_hidden hidden.now.flags cell ≡ true }
+    requires limit { 1 ≤ limit }
+    ensures below { IfOk result (λ ends. IsTrueEnd system.now cells.now hidden.now.flags cell Below ends.below) }
+    ensures above { IfOk result (λ ends. IsTrueEnd system.now cells.now hidden.now.flags cell Above ends.above) }
+    ensures below_read { IfOk result (λ ends. IsEndAnswer system.now cells.now hidden.now.flags cell Below ends.below) }
+    ensures above_read { IfOk result (λ ends. IsEndAnswer system.now cells.now hidden.now.flags cell Above ends.above) }
+    ensures below_whole { (signs : List Bool) → AreSigns system.now.relations signs
+        → IfOk result (λ ends. IsWholeEnd system.now cells.now hidden.now.flags cell Below ends.below) }
+    ensures above_whole { (signs : List Bool) → AreSigns system.now.relations signs
+        → IfOk result (λ ends. IsWholeEnd system.now cells.now hidden.now.flags cell Above ends.above) }
+    ensures cause { IfErr result (λ fault. IsIntervalCause system.now cells.now hidden.now.flags cell limit fault) }
+    ensures signed { (signs : List Bool) → AreSigns system.now.relations signs
+        → IfErr result (λ fault. HasNoWalk fault) }
+{
     let below = end_of(alloc, system, cells, hidden, cell, Side::Below, limit)?;
     let above = end_of(alloc, system, cells, hidden, cell, Side::Above, limit)?;
     Ok(TwoEnds { below, above })
@@ -65,7 +94,7 @@ pub fn interval(
 // How far a hidden cell can lie to a side.
 fn end_of(
     alloc: Global,
-    system: &System,
+    system: &SignedSystem<'_>,
     cells: &[Cell],
     hidden: &Hidden,
     cell: u32,
@@ -84,7 +113,7 @@ fn end_of(
         → IfErr result (λ fault. HasNoWalk fault) }
 {
     let question = end_question(cell, side);
-    ask(alloc, system, cells, hidden, question, limit)
+    system.ask(alloc, cells, hidden, question, limit)
 }
 
 // The question how far a cell lies to a side.

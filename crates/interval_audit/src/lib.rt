@@ -15,11 +15,13 @@ mod problem;
 mod question;
 mod readings;
 mod rows;
+mod signed_system;
 mod terms;
 
 pub use answer::{Answer, AskFault, Walk, WidePlace};
 pub use asking::ask;
-pub use ends::{TwoEnds, interval};
+pub use ends::{TwoEnds, interval, signed_interval};
 pub use laws::{answer_is_one, question_laws};
 pub use problem::problem_of;
 pub use question::Question;
+pub use signed_system::SignedSystem;

@@ -1,4 +1,23 @@
+use Rattle.std.proofs.Common.{subst, sym}
+use Rattle.sdc_base.specs.declared.side.Side.TheVariants.{Above, Below}
+use Rattle.sdc_base.specs.declared.system.System.{System}
+use Rattle.interval_audit.specs.Ends.{IsTrueEnd, IsWholeEnd}
+use Rattle.cell_intervals.specs.Intervals.{HasWholeEnds, IsIntervalOf}
 use Rattle.cell_intervals.proofs.intervals.interval_of.Goals as goal
 
+pub interval_from-requires-clause-below : goal.interval_from-requires-clause-below
+interval_from-requires-clause-below c =
+    subst (λ (own : System). IsTrueEnd own c.args.cells.now c.args.hidden.now.flags c.args.cell Below c.in_ok-ends.ends.below) (sym c.system.ensures) c.in_ok-ends.ensures.below
+
+pub interval_from-requires-clause-above : goal.interval_from-requires-clause-above
+interval_from-requires-clause-above c =
+    subst (λ (own : System). IsTrueEnd own c.args.cells.now c.args.hidden.now.flags c.args.cell Above c.in_ok-ends.ends.above) (sym c.system.ensures) c.in_ok-ends.ensures.above
+
+pub returns-clause-right : goal.returns-clause-right
+returns-clause-right c =
+    subst (λ (own : System). IsIntervalOf own c.args.cells.now c.args.hidden.now.flags c.interval_from.result) c.system.ensures c.interval_from.ensures.interval
+
 pub returns-clause-whole : goal.returns-clause-whole
-returns-clause-whole c = λ signs are. c.interval_from.ensures.whole (c.in_ok-ends.ensures.below_whole signs are) (c.in_ok-ends.ensures.above_whole signs are)
+returns-clause-whole c = λ signs are.
+    subst (λ (own : System). IsWholeEnd own c.args.cells.now c.args.hidden.now.flags c.args.cell Below c.in_ok-ends.ends.below → IsWholeEnd own c.args.cells.now c.args.hidden.now.flags c.args.cell Above c.in_ok-ends.ends.above → HasWholeEnds own c.args.cells.now c.args.hidden.now.flags c.interval_from.result) c.system.ensures c.interval_from.ensures.whole
+    (c.in_ok-ends.ensures.below_whole signs are) (c.in_ok-ends.ensures.above_whole signs are)

@@ -3,7 +3,10 @@ use Rattle.std.specs.List.{range_with_len}
 use Rattle.std.proofs.lemmas.List.Elements.{All-push}
 use Rattle.std.proofs.lemmas.Result.{err_from_is_err_and}
 use Rattle.sdc_base.specs.HiddenSets.{is_hidden}
+use Rattle.sdc_base.specs.Signs.{AreSigns}
+use Rattle.sdc_base.specs.declared.system.System.{System}
 use Rattle.sdc_base.proofs.Connecting.{hidden-inside}
+use Rattle.interval_audit.specs.Ends.{IsIntervalCause}
 use Rattle.cell_intervals.specs.declared.interval.CellInterval.{CellInterval}
 use Rattle.cell_intervals.specs.IntervalFaults.{HasBothEnds}
 use Rattle.cell_intervals.specs.Intervals.{HasWholeEnds, IsIntervalOf, hidden_cells}
@@ -25,13 +28,17 @@ cells-preserved c =
           let one : CellInterval = w.in_ok-one.one in
           let hidden : is_hidden flags cell ≡ true = subst (λ (bs : List Bool). slice_index_or bs cell false ≡ true) c.as_slice.ensures w.if-as_slice-cell.true in
           let grown : c.if-as_slice-cell.intervals ≡ c.cells.intervals ++ one ∷ [] = w.intervals-is ∙ w.in_ok-push.ensures.ok in
+          let right : IsIntervalOf system cells flags one = subst (λ (own : System). IsIntervalOf own cells flags one) c.in_ok-signed.ensures w.in_ok-one.ensures.right in
+          let whole : (signs : List Bool) → AreSigns system.relations signs → HasWholeEnds system cells flags one =
+          subst (λ (own : System). (signs : List Bool) → AreSigns own.relations signs → HasWholeEnds own cells flags one) c.in_ok-signed.ensures w.in_ok-one.ensures.whole in
+          let ended : HasBothEnds system cells flags cell = subst (λ (own : System). HasBothEnds own cells flags cell) c.in_ok-signed.ensures w.in_ok-one.ensures.ended in
           record {
             numbers =
                 ap (λ (numbers : List ℕ). numbers ++ rest) (numbers_more c.cells.intervals one cell c.if-as_slice-cell.intervals grown w.in_ok-one.ensures.number)
                 ∙ next_hidden flags system.cells (map (λ (interval : CellInterval). interval.cell) c.cells.intervals) (hidden_cells flags) cell c.cells-test.true hidden c.cells.invariant.numbers;
-            each = subst (All P) (sym grown) (All-push P c.cells.intervals one c.cells.invariant.each w.in_ok-one.ensures.right);
-            whole = λ signs are. subst (All Whole) (sym grown) (All-push Whole c.cells.intervals one (c.cells.invariant.whole signs are) (w.in_ok-one.ensures.whole signs are));
-            ended = below_next (HasBothEnds system cells flags) flags cell c.cells.invariant.ended (λ _. w.in_ok-one.ensures.ended);
+            each = subst (All P) (sym grown) (All-push P c.cells.intervals one c.cells.invariant.each right);
+            whole = λ signs are. subst (All Whole) (sym grown) (All-push Whole c.cells.intervals one (c.cells.invariant.whole signs are) (whole signs are));
+            ended = below_next (HasBothEnds system cells flags) flags cell c.cells.invariant.ended (λ _. ended);
           }
       | else-as_slice-cell w ↦
           let shown : is_hidden flags cell ≡ false = subst (λ (bs : List Bool). slice_index_or bs cell false ≡ false) c.as_slice.ensures w.if-as_slice-cell.false in
@@ -50,8 +57,10 @@ pub returns-in_err-one-clause-cause : goal.returns-in_err-one-clause-cause
 returns-in_err-one-clause-cause c =
     let flags = c.args.hidden.now.flags in
     let hidden : is_hidden flags c.cells.cell ≡ true = subst (λ (bs : List Bool). slice_index_or bs c.cells.cell false ≡ true) c.as_slice.ensures c.if-as_slice-cell.true in
-    let p = err_from_is_err_and c.from_residual.result c.from_residual.ensures.1 in
-    rw (p.1, p.2) (fault_at c.args.system.now c.args.cells.now flags c.args.limit c.cells.cell c.in_err-one.field-0.0 hidden c.cells.invariant.ended c.in_err-one.ensures.cause)
+    let cause : IsIntervalCause c.args.system.now c.args.cells.now flags c.cells.cell c.args.limit c.in_err-one.field-0.0 =
+    subst (λ (own : System). IsIntervalCause own c.args.cells.now flags c.cells.cell c.args.limit c.in_err-one.field-0.0) c.in_ok-signed.ensures c.in_err-one.ensures.cause in
+    let p = err_from_is_err_and c.from_residual-in_err-one.result c.from_residual-in_err-one.ensures.1 in
+    rw (p.1, p.2) (fault_at c.args.system.now c.args.cells.now flags c.args.limit c.cells.cell c.in_err-one.field-0.0 hidden c.cells.invariant.ended cause)
 
 pub returns-clause-small : goal.returns-clause-small
 returns-clause-small c = λ cell hidden.
