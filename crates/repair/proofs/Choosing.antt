@@ -1,5 +1,5 @@
 -- The cheapest cell, found one after another.
-use Rattle.std.proofs.Common.{◌≡◌, ℕ, ◌+◌, ◌<◌, ◌≤◌, inl, inr, Bool, true, false, List, length, Option, None, Some, nat_lt, get_or, slice_get, slice_index, arith, refl, ap, sym, ◌∙◌, if◌then◌else◌, below_more}
+use Rattle.std.proofs.Common.{◌≡◌, ℕ, ◌+◌, ◌<◌, ◌≤◌, inl, inr, Bool, true, false, List, length, Option, None, Some, IfNone, nat_lt, get_or, slice_get, slice_index, arith, refl, ap, sym, ◌∙◌, if◌then◌else◌, below_more}
 use Rattle.std.specs.Option.{option_map_or}
 use Rattle.std.proofs.lemmas.Bool.Decides.{nat_tests}
 use Rattle.std.proofs.lemmas.Option.{slice_get_read, slice_get_past}
@@ -105,3 +105,9 @@ cheapest_same cells prices flags counts other one same is =
       breaking = sym (own one) ∙ is.breaking;
       first = λ k breaking. is.first k (own k ∙ breaking);
     }
+
+-- counts that are the same, of sets that are the same, leave no cell where the others leave none
+pub none_same : (cells : List Cell) (flags more : List Bool) (counts other : Numbers) (found : Option ℕ) → flags ≡ more → ((n : ℕ) → counts n ≡ other n) → IfNone found ((n : ℕ) → breaks_at cells flags counts n ≡ false) → IfNone found ((n : ℕ) → breaks_at cells more other n ≡ false)
+none_same cells flags more counts other (Some one) same each none = tt
+none_same cells flags more counts other None same each none =
+    λ n. ap (λ k. option_map_or (breaks (is_hidden more n) k) (slice_get cells n) false) (sym (each n)) ∙ ap (λ (f : List Bool). breaks_at cells f counts n) (sym same) ∙ none n

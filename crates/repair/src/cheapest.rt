@@ -29,10 +29,11 @@ pub(crate) fn subject_of(
     ensures cheapest { IfSome result (λ number. IsCheapest task.now.cells.now task.now.prices.now hidden.now.flags
         (coefficients_for task.now.system.now asked multipliers.now) number) }
 {
+    let system = task.system.system();
     // for the proof: read, so that it is known to be a number of 32 bits
-    let _cells = task.system.cells;
+    let _cells = system.cells;
     match check_refutation(
-        task.system,
+        system,
         task.cells,
         hidden,
         asked.0,

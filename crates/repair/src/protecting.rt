@@ -23,6 +23,8 @@ use crate::task::Task;
 use crate::trying::{Findings, try_all};
 use crate::verdict::Verdict;
 use cost_rule::{CostRule, TellsCosts};
+use guessed_worlds::WorldSearch;
+use interval_audit::SignedSystem;
 use linked_tables::Mark;
 use sdc_base::{Cell, Hidden, Items, System, Trail};
 use std::alloc::Global;
@@ -37,7 +39,8 @@ use worlds::{Protected, Refuted};
 /// protects the cell to that side: the verdict is `Cannot`, with the multipliers that stopped this question.
 ///
 /// Then each hidden free cell is tried as shown, in ascending order. The questions are gone through in their order, and
-/// one is asked, with the cell shown, where no world at hand reaches its level without moving a cell that is shown.
+/// one is asked, with the cell shown, where no world at hand reaches its level without moving a cell that is shown, nor
+/// is such a world guessed.
 /// Where all are reached the cell is shown from then on. Else it stays hidden, and the first refutation is kept as its
 /// need: every question before that of the need is protected with the cell shown.
 ///
@@ -59,10 +62,10 @@ use worlds::{Protected, Refuted};
 /// Where the system has signs ([`sdc_base::signs`]), neither `Work` nor `Wide` comes, and each denominator is 1.
 ///
 /// The rule is asked once for each cell without a price. There is a question for each primary cell and side and for
-/// each repair; for each hidden free cell one for each question that no world at hand serves with it shown; and at last
-/// at most one for each question. A repair goes once through the cells and the parts of the relations that have a
-/// multiplier; a trial once through the moves of all kept worlds, and for each question whose kept world moves a cell
-/// that is shown through those of the worlds at hand.
+/// each repair; for each hidden free cell one for each question that no world at hand and no guess serves with it
+/// shown; and at last at most one for each question. A repair goes once through the cells and the parts of the
+/// relations that have a multiplier; a trial once through the moves of all kept worlds, and for each question whose
+/// kept world moves a cell that is shown through those of the worlds at hand.
 ///
 /// Repairs and needs are this project's own; the questions are those of the feasibility interval in Hundepool et al.,
 /// Statistical Disclosure Control, chapter on magnitude tables.
@@ -106,8 +109,11 @@ pub fn protect<'a, F: TellsCosts>(
     let Ok(mut scratch) = Vec::from_elem(alloc, 0, cells.len()) else {
         return Err(out_of_memory(alloc));
     };
+    let Ok(signed) = SignedSystem::of(alloc, system) else {
+        return Err(out_of_memory(alloc));
+    };
     let task = Task {
-        system,
+        system: &signed,
         cells,
         prices: &prices,
         questions: &questions,
@@ -173,6 +179,7 @@ fn narrowed_question<'a>(
         needs: Items::empty(alloc),
         shown: Items::empty(alloc),
         spares: Vec::new(alloc),
+        search: WorldSearch::new(alloc, task.system.system(), task.cells, &progress.hidden),
     };
     let outcome = try_all(alloc, task, &mut progress, &mut tried);
     if let Err(fault) = outcome {
@@ -196,7 +203,7 @@ fn verdict_of<'a>(
         → IsVerdict (case_of task.now) task.now.prices.now planned result }
 {
     match Protected::new(
-        task.system,
+        task.system.system(),
         task.cells,
         progress.hidden,
         progress.worlds,

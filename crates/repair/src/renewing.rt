@@ -11,7 +11,7 @@ ghost use Rattle.repair.specs.CellTrials as spec;
 use crate::serving::level_question;
 use crate::task::Task;
 use crate::trial::{Spare, fits};
-use interval_audit::{Answer, AskFault, ask};
+use interval_audit::{Answer, AskFault};
 use sdc_base::{Hidden, Items};
 use std::alloc::Global;
 use worlds::World;
@@ -109,7 +109,9 @@ fn renew(
         return Ok(());
     }
     let question = level_question(task.cells, task.questions[place]);
-    let answer = ask(alloc, task.system, task.cells, hidden, question, task.limit)?;
+    let answer = task
+        .system
+        .ask(alloc, task.cells, hidden, question, task.limit)?;
     match answer {
         Answer::Reaches(world) => {
             worlds.set(place, world);

@@ -11,7 +11,7 @@ ghost use Rattle.repair.specs.QuestionSteps.{IsReadyForRepair, IsRepairedUpTo, S
 use crate::cheapest::subject_of;
 use crate::progress::Progress;
 use crate::task::Task;
-use interval_audit::{Answer, AskFault, Question, ask};
+use interval_audit::{Answer, AskFault, Question};
 use sdc_base::{Cell, Memory, Side};
 use std::alloc::Global;
 use worlds::{Multipliers, Refuted};
@@ -110,14 +110,9 @@ fn ask_once(
 {
     let asked = task.questions[place];
     let question = level_question(task.cells, asked);
-    let answer = ask(
-        alloc,
-        task.system,
-        task.cells,
-        &progress.hidden,
-        question,
-        task.limit,
-    )?;
+    let answer = task
+        .system
+        .ask(alloc, task.cells, &progress.hidden, question, task.limit)?;
     match answer {
         Answer::Reaches(world) => match progress.keep(world) {
             Ok(()) => Ok(Step::Served),

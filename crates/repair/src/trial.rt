@@ -1,6 +1,7 @@
-ghost use Rattle.std.specs.Prelude.{◌≡◌, ◌||◌, ◌<◌, ◌+◌, ◌++◌, ◌∷◌, [], List, Bool, Some, slice_get, length, nat_lt, if◌then◌else◌, IfOk, IfErr, OnOk, OnErr};
+ghost use Rattle.std.specs.Prelude.{◌≡◌, ◌||◌, ◌<◌, ◌+◌, ◌++◌, ◌∷◌, [], List, Bool, Some, slice_get, length, nat_lt, if◌then◌else◌, IfOk, IfErr, OnOk, OnErr, IsTrue};
 ghost use Rattle.std.specs.List.{list_any};
 ghost use Rattle.sdc_base.specs.HiddenSets.{is_hidden, IsPermitted};
+ghost use Rattle.sdc_base.specs.Worlds.{Protects};
 ghost use Rattle.sdc_base.specs.declared.cell.Cell.{Cell as AnyCell};
 ghost use Rattle.sdc_base.specs.declared.cell.Kind.TheVariants.{Primary as PrimaryKind};
 ghost use Rattle.worlds.specs.ProtectFaults.{asked_of};
@@ -13,7 +14,8 @@ ghost use Rattle.repair.specs.CellTrials as spec;
 
 use crate::serving::level_question;
 use crate::task::Task;
-use interval_audit::{Answer, AskFault, ask};
+use guessed_worlds::WorldSearch;
+use interval_audit::{Answer, AskFault};
 use sdc_base::{Cell, Hidden, Memory, Side};
 use std::alloc::Global;
 use worlds::{Refuted, World, reaches};
@@ -26,7 +28,7 @@ pub(crate) struct Spare {
 }
 
 // The first question, with its multipliers, that no world serves with a cell shown, if there is one. Only what no world
-// at hand serves is asked, and the answers are kept as spares.
+// at hand and no guess serves is asked, and the answers are kept as spares.
 pub(crate) fn first_refused(
     alloc: Global,
     task: &Task<'_, '_>,
@@ -34,6 +36,7 @@ pub(crate) fn first_refused(
     hidden: &Hidden,
     worlds: &[World],
     spares: &mut Vec<Spare>,
+    search: &mut WorldSearch,
 ) -> Result<Option<Refuted>, AskFault>
     requires each { length hidden.now.flags ≡ task.now.system.now.cells }
     requires permitted { IsPermitted task.now.cells.now hidden.now.flags }
@@ -49,7 +52,7 @@ pub(crate) fn first_refused(
     ensures err { IfErr result (λ fault. HasFault (case_of task.now) hidden.now.flags task.now.limit fault) }
 {
     'places: for place in 0..task.questions.len() {
-        let need = refusal_of(alloc, task, place, cell, hidden, worlds, spares)?;
+        let need = refusal_of(alloc, task, place, cell, hidden, worlds, spares, search)?;
         if let Some(need) = need {
             return Ok(Some(need));
         }
@@ -66,6 +69,7 @@ fn refusal_of(
     hidden: &Hidden,
     worlds: &[World],
     spares: &mut Vec<Spare>,
+    search: &mut WorldSearch,
 ) -> Result<Option<Refuted>, AskFault>
     requires place { place < length task.now.questions.now }
     requires each { length hidden.now.flags ≡ task.now.system.now.cells }
@@ -90,8 +94,13 @@ fn refusal_of(
     if is_at_hand(task.cells, asked, flags, worlds, spares.as_slice()) {
         return Ok(None);
     }
+    if is_guessed(alloc, task, hidden, asked, search) {
+        return Ok(None);
+    }
     let question = level_question(task.cells, asked);
-    let answer = ask(alloc, task.system, task.cells, hidden, question, task.limit)?;
+    let answer = task
+        .system
+        .ask(alloc, task.cells, hidden, question, task.limit)?;
     match answer {
         Answer::Reaches(world) => {
             let Ok(()) = keep_spare(spares, Spare { place, world }, task.questions.len()) else {
@@ -106,6 +115,23 @@ fn refusal_of(
             multipliers,
         })),
     }
+}
+
+// Whether a guess serves a question with hidden cells alone.
+fn is_guessed(
+    alloc: Global,
+    task: &Task<'_, '_>,
+    hidden: &Hidden,
+    asked: (u32, Side),
+    search: &mut WorldSearch,
+) -> bool
+    requires each { length hidden.now.flags ≡ task.now.system.now.cells }
+    requires primary { IsOfKind task.now.cells.now asked.0 PrimaryKind }
+    ensures { IsTrue result → Protects task.now.system.now task.now.cells.now hidden.now.flags asked.0 asked.1 }
+{
+    let system = task.system.system();
+    let world = search.world_for(alloc, system, task.cells, hidden, asked);
+    world.is_some()
 }
 
 // Whether a world at hand, one that is kept or a spare one, takes a cell to its level to a side with hidden cells alone.

@@ -12,6 +12,7 @@ use crate::progress::Progress;
 use crate::renewing::{drop_unfit, renew_all};
 use crate::task::Task;
 use crate::trial::{Spare, first_refused};
+use guessed_worlds::WorldSearch;
 use interval_audit::AskFault;
 use sdc_base::Items;
 use std::alloc::Global;
@@ -26,6 +27,8 @@ pub(crate) struct Findings {
     pub(crate) shown: Items<u32>,
     /// Worlds at hand beside the kept ones, at most as many as there are questions; none moves a cell that is shown.
     pub(crate) spares: Vec<Spare>,
+    /// A search for worlds for the hidden set and those within it.
+    pub(crate) search: WorldSearch,
 }
 
 // Tries each hidden free cell as shown, in ascending order; where cells are shown, each question then gets an answer of
@@ -58,7 +61,7 @@ pub(crate) fn try_all(
         tried.new.shown) }
 {
     // for the proof: read, so that it is known to be a number of 32 bits
-    let _cells = task.system.cells;
+    let _cells = task.system.system().cells;
     'cells: for number in 0..task.cells.len() {
         try_next(alloc, task, number as u32, progress, tried)?;
     }
@@ -143,6 +146,7 @@ fn try_one(
         &progress.hidden,
         progress.worlds.as_slice(),
         &mut tried.spares,
+        &mut tried.search,
     )?;
     match found {
         None => {

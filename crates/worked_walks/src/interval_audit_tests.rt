@@ -1,7 +1,9 @@
 ghost use Rattle.std.specs.Prelude.{◌<◌, true};
 
 use crate::cases::{Case, case_of, ring_of_three, two_by_two};
-use interval_audit::{Answer, AskFault, Question, TwoEnds, ask, interval, problem_of};
+use interval_audit::{
+    Answer, AskFault, Question, SignedSystem, TwoEnds, ask, interval, problem_of, signed_interval,
+};
 use sdc_base::{Side, components};
 use std::alloc::Global;
 use std::rt::HostRuntime;
@@ -411,5 +413,163 @@ fn component_is_too_large(rt: HostRuntime) -> Result<(), Fail> {
     let alloc = rt.alloc();
     assert!(&rt; parts_are_too_many(alloc, 4001)?);
     assert!(&rt; parts_reach(alloc, 4000)?);
+    Ok(())
+}
+
+// The answer of a question to a system whose signs are known; none where the case can't be asked so.
+fn signed_answer_of(
+    alloc: Global,
+    signed: &SignedSystem<'_>,
+    case: &Case,
+    question: Question,
+    limit: u64,
+) -> Option<Result<Answer, AskFault>> {
+    let size = signed.system().cells as usize;
+    let flags = case.hidden.flags.as_slice();
+    if case.cells.len() != size || flags.len() != size || question.cell as usize >= size {
+        return None;
+    }
+    if !flags[question.cell as usize] || limit < 1 {
+        return None;
+    }
+    Some(signed.ask(alloc, &case.cells, &case.hidden, question, limit))
+}
+
+// The two ends for a cell of a system whose signs are known, with a limit of 100; none where the case can't be asked
+// so, or there are none.
+fn signed_ends_of(
+    alloc: Global,
+    signed: &SignedSystem<'_>,
+    case: &Case,
+    cell: u32,
+) -> Option<TwoEnds> {
+    let size = signed.system().cells as usize;
+    let flags = case.hidden.flags.as_slice();
+    if case.cells.len() != size || flags.len() != size || cell as usize >= size {
+        return None;
+    }
+    if !flags[cell as usize] {
+        return None;
+    }
+    match signed_interval(alloc, signed, &case.cells, &case.hidden, cell, 100) {
+        Ok(ends) => Some(ends),
+        Err(_) => None,
+    }
+}
+
+// Whether two worlds are the same, move by move.
+fn are_same_worlds(one: &World, other: &World) -> bool {
+    let moves = other.moves.as_slice();
+    if one.den != other.den || one.moves.as_slice().len() != moves.len() {
+        return false;
+    }
+    for (place, own) in one.moves.as_slice().iter().enumerate() {
+        if place >= moves.len() || (own.cell, own.by) != (moves[place].cell, moves[place].by) {
+            return false;
+        }
+    }
+    true
+}
+
+// Whether two answers are the same.
+fn are_same(one: &Answer, other: &Answer) -> bool {
+    match one {
+        Answer::Reaches(world) => {
+            matches!(other, Answer::Reaches(beside) if are_same_worlds(world, beside))
+        }
+        Answer::Stops {
+            best,
+            world,
+            multipliers,
+        } => {
+            let Answer::Stops {
+                best: value,
+                world: beside,
+                multipliers: others,
+            } = other
+            else {
+                return false;
+            };
+            (best.num, best.den) == (value.num, value.den)
+                && are_same_worlds(world, beside)
+                && has_multipliers(multipliers, others.den, others.by_relation.as_slice())
+        }
+    }
+}
+
+// Whether the questions on a cell to a side have the same answers where the signs are known before.
+fn is_answered_alike(
+    alloc: Global,
+    signed: &SignedSystem<'_>,
+    case: &Case,
+    cell: u32,
+    side: Side,
+) -> bool {
+    for target in [0, 1, 6, 1000] {
+        let Some(Ok(one)) = answer_of(alloc, case, cell, side, target, 100) else {
+            return false;
+        };
+        let question = Question { cell, side, target };
+        let Some(Ok(other)) = signed_answer_of(alloc, signed, case, question, 100) else {
+            return false;
+        };
+        if !are_same(&one, &other) {
+            return false;
+        }
+    }
+    true
+}
+
+// Whether the two ends for a cell are the same where the signs are known before.
+fn has_ends_alike(alloc: Global, signed: &SignedSystem<'_>, case: &Case, cell: u32) -> bool {
+    let Some(ends) = ends_of(alloc, case, cell) else {
+        return false;
+    };
+    let Some(others) = signed_ends_of(alloc, signed, case, cell) else {
+        return false;
+    };
+    are_same(&ends.below, &others.below) && are_same(&ends.above, &others.above)
+}
+
+// A table of two by two has signs, so that its answers are those of flows; the ring has none, and its questions are
+// walks, one of which is cut off.
+#[test]
+fn signs_are_found_once(rt: HostRuntime) -> Result<(), Fail> {
+    let alloc = rt.alloc();
+    let Some(table) = two_by_two(alloc, (5, 45, Some(60)), &[4, 5, 7, 8])? else {
+        assert!(&rt; false);
+        return Ok(());
+    };
+    let Some(ring) = ring_of_three(alloc)? else {
+        assert!(&rt; false);
+        return Ok(());
+    };
+    for (case, cell) in [(&table, 4), (&ring, 3)] {
+        let signed = SignedSystem::of(alloc, &case.system)?;
+        assert_eq!(&rt; signed.system().cells, case.system.cells);
+        assert!(&rt; is_answered_alike(alloc, &signed, case, cell, Side::Above));
+        assert!(&rt; is_answered_alike(alloc, &signed, case, cell, Side::Below));
+        assert!(&rt; has_ends_alike(alloc, &signed, case, cell));
+    }
+    Ok(())
+}
+
+#[test]
+fn walk_is_cut_off_where_signs_are_known(rt: HostRuntime) -> Result<(), Fail> {
+    let alloc = rt.alloc();
+    let Some(case) = ring_of_three(alloc)? else {
+        assert!(&rt; false);
+        return Ok(());
+    };
+    let signed = SignedSystem::of(alloc, &case.system)?;
+    let question = Question {
+        cell: 3,
+        side: Side::Below,
+        target: 6,
+    };
+    let answer = signed_answer_of(alloc, &signed, &case, question, 1);
+    assert!(&rt;
+        matches!(&answer, Some(Err(AskFault::Work(walk))) if walk.tableau.improved() == 1)
+    );
     Ok(())
 }

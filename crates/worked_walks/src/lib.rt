@@ -1,4 +1,4 @@
-//! Worlds, questions, intervals and roundings of small systems, called on worked rows, as tests alone.
+//! Worlds, guesses, questions, intervals and roundings of small systems, called on worked rows, as tests alone.
 #![tactic(auto)]
 
 #[cfg(test)]
@@ -8,7 +8,11 @@ mod cell_intervals_tests;
 #[cfg(test)]
 mod flow_worlds_tests;
 #[cfg(test)]
+mod guessed_worlds_tests;
+#[cfg(test)]
 mod interval_audit_tests;
+#[cfg(test)]
+mod rounding_audit_tests;
 #[cfg(test)]
 mod rounding_tests;
 #[cfg(test)]

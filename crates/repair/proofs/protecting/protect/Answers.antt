@@ -1,7 +1,13 @@
-use Rattle.std.proofs.Common.{◌∙◌, List, Bool, ℕ, length, ap, sym, subst}
+use Rattle.std.proofs.Common.{◌∙◌, IfErr, IfOk, List, Bool, ℕ, length, ap, sym, subst}
 use Rattle.sdc_base.specs.HiddenSets.{IsPermitted}
 use Rattle.sdc_base.specs.Trails.{corners_of}
+use Rattle.sdc_base.specs.declared.system.System.{System}
 use Rattle.repair.specs.HidingOrder.{case, planned_set}
+use Rattle.repair.specs.KeptWorlds.{IsTask}
+use Rattle.repair.specs.Stops.{StopsAsTold}
+use Rattle.repair.specs.Verdicts.{IsVerdict}
+use Rattle.repair.specs.declared.stopped.Stopped.{Stopped}
+use Rattle.repair.specs.declared.verdict.Verdict.{Verdict}
 use Rattle.repair.proofs.Wholeness.{where_whole, where_whole_stop}
 use Rattle.repair.proofs.Concluding.{where_ok, cannot_where}
 use Rattle.repair.proofs.Corners.{length-prices}
@@ -10,20 +16,20 @@ use Rattle.repair.proofs.protecting.protect.Goals as goal
 
 pub invariant_of-task : goal.invariant_of-task
 invariant_of-task g c = record {
-  fits = record {
+  fits = subst (λ (own : System). IsTask own c.args.cells.now c.deref.result.now c.deref-2.result.now c.args.limit) (sym c.in-Ok-of.ensures) (record {
     one_each = c.requires.cells;
     priced = ap (λ (l : List ℕ). length l) (c.deref.ensures.value ∙ c.in-Ok.ensures) ∙ length-prices c.args.rule.now c.args.cells.now c.args.marks.now c.requires.marks ∙ c.requires.cells;
     modest = c.requires.modest;
     in_order = c.deref-2.ensures.value ∙ c.in-Ok-questions_of.ensures;
     some_steps = c.requires.limit;
-  };
+  });
 }
 
 pub settle-requires-clause-each : goal.settle-requires-clause-each
 settle-requires-clause-each g c =
     ap (λ (l : List Bool). length l) c.in-Ok-planned_hidden.ensures
     ∙ ap (λ steps. length (planned_set c.args.cells.now (corners_of steps))) c.as_slice.ensures
-    ∙ planned_length c.args.cells.now (corners_of c.args.trail.now.steps) ∙ c.requires.cells
+    ∙ planned_length c.args.cells.now (corners_of c.args.trail.now.steps) ∙ c.requires.cells ∙ ap (λ (own : System). own.cells) (sym c.in-Ok-of.ensures)
 
 pub settle-requires-clause-permitted : goal.settle-requires-clause-permitted
 settle-requires-clause-permitted g c =
@@ -32,12 +38,12 @@ settle-requires-clause-permitted g c =
 
 pub returns-clause-cannot : goal.returns-clause-cannot
 returns-clause-cannot g c =
-    where_ok c.settle.result c.settle.ensures.verdict (λ verdict is. cannot_where (case c.args.system.now c.args.cells.now) c.deref.result.now c.in-Ok-planned_hidden.hidden.flags verdict is)
+    where_ok c.settle.result (subst (λ (own : System). IfOk c.settle.result (λ (verdict : Verdict). IsVerdict (case own c.args.cells.now) c.deref.result.now c.in-Ok-planned_hidden.hidden.flags verdict)) c.in-Ok-of.ensures c.settle.ensures.verdict) (λ verdict is. cannot_where (case c.args.system.now c.args.cells.now) c.deref.result.now c.in-Ok-planned_hidden.hidden.flags verdict is)
 
 pub returns-clause-whole : goal.returns-clause-whole
 returns-clause-whole g c =
-    where_whole (case c.args.system.now c.args.cells.now) c.deref.result.now c.in-Ok-planned_hidden.hidden.flags c.settle.result c.settle.ensures.verdict
+    where_whole (case c.args.system.now c.args.cells.now) c.deref.result.now c.in-Ok-planned_hidden.hidden.flags c.settle.result (subst (λ (own : System). IfOk c.settle.result (λ (verdict : Verdict). IsVerdict (case own c.args.cells.now) c.deref.result.now c.in-Ok-planned_hidden.hidden.flags verdict)) c.in-Ok-of.ensures c.settle.ensures.verdict)
 
 pub returns-clause-whole_stop : goal.returns-clause-whole_stop
 returns-clause-whole_stop g c =
-    where_whole_stop (case c.args.system.now c.args.cells.now) c.deref.result.now c.in-Ok-planned_hidden.hidden.flags c.args.limit c.settle.result c.settle.ensures.stopped
+    where_whole_stop (case c.args.system.now c.args.cells.now) c.deref.result.now c.in-Ok-planned_hidden.hidden.flags c.args.limit c.settle.result (subst (λ (own : System). IfErr c.settle.result (λ (stopped : Stopped). StopsAsTold (case own c.args.cells.now) c.deref.result.now c.in-Ok-planned_hidden.hidden.flags c.args.limit stopped)) c.in-Ok-of.ensures c.settle.ensures.stopped)

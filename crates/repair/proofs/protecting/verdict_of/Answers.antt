@@ -1,6 +1,7 @@
-use Rattle.std.proofs.Common.{◌≡◌, ◌∙◌, Ok, Err, sym, subst}
-use Rattle.worlds.specs.Protection.{Protection}
-use Rattle.worlds.specs.ProtectFaults.{protect_fault}
+use Rattle.std.proofs.Common.{◌≡◌, ◌∙◌, Ok, Err, ap, sym, subst}
+use Rattle.sdc_base.specs.declared.system.System.{System}
+use Rattle.worlds.specs.Protection.{Protection, protection}
+use Rattle.worlds.specs.ProtectFaults.{protect_fault, IsProtecting}
 use Rattle.repair.specs.HidingOrder.{Case, case, hide_subjects}
 use Rattle.repair.specs.Verdicts.{AreNeeds}
 use Rattle.repair.proofs.Passing.{served_pass}
@@ -11,12 +12,16 @@ pub unreachable-requires : goal.unreachable-requires
 unreachable-requires c =
     let task : Case = case c.args.task.now.system.now c.args.task.now.cells.now in
     let ok : protect_fault c.args.task.now.system.now c.args.task.now.cells.now c.args.progress.hidden.flags c.args.progress.worlds ≡ Ok tt = served_pass task c.args.progress.hidden.flags c.args.progress.worlds c.args.task.now.fits.one_each c.requires.permitted c.requires.served in
-    let bad : Err c.in-Err.field-0 ≡ Ok tt = sym c.in-Err.ensures.err ∙ ok in
+    let bad : Err c.in-Err.field-0 ≡ Ok tt = sym c.in-Err.ensures.err ∙ ap (λ (own : System). protect_fault own c.args.task.now.cells.now c.args.progress.hidden.flags c.args.progress.worlds) c.system.ensures ∙ ok in
     cc
 
 pub returns : goal.returns
 returns c =
     λ planned narrowed.
     let task : Case = case c.args.task.now.system.now c.args.task.now.cells.now in
-    let made = protected_by task c.args.task.now.prices.now planned c.args.progress.hidden c.args.progress.worlds c.args.progress.repairs c.in-Ok.protected c.in-Ok.ensures.value c.args.task.now.fits.one_each c.requires.each c.in-Ok.ensures.protecting c.requires.served narrowed.answers narrowed.are_repairs narrowed.within in
-    (made, subst (λ (p : Protection). AreNeeds task p.hidden.flags (hide_subjects planned c.args.progress.repairs) c.args.needs) (sym c.in-Ok.ensures.value) narrowed.are_needs)
+    let value : c.in-Ok.protected ≡ protection c.args.task.now.system.now c.args.task.now.cells.now c.args.progress.hidden c.args.progress.worlds =
+    subst (λ (own : System). c.in-Ok.protected ≡ protection own c.args.task.now.cells.now c.args.progress.hidden c.args.progress.worlds) c.system.ensures c.in-Ok.ensures.value in
+    let protecting : IsProtecting c.args.task.now.system.now c.args.task.now.cells.now c.args.progress.hidden.flags =
+    subst (λ (own : System). IsProtecting own c.args.task.now.cells.now c.args.progress.hidden.flags) c.system.ensures c.in-Ok.ensures.protecting in
+    let made = protected_by task c.args.task.now.prices.now planned c.args.progress.hidden c.args.progress.worlds c.args.progress.repairs c.in-Ok.protected value c.args.task.now.fits.one_each c.requires.each protecting c.requires.served narrowed.answers narrowed.are_repairs narrowed.within in
+    (made, subst (λ (p : Protection). AreNeeds task p.hidden.flags (hide_subjects planned c.args.progress.repairs) c.args.needs) (sym value) narrowed.are_needs)
