@@ -133,6 +133,7 @@ cannot_all c soles first Is all left attack thinned out within m is = record {
   before = before_all c soles first (full_set c.cells) Is all left thinned is.place out within is.before;
   refutes = is.refutes;
   unguarded = is.unguarded;
+  whole = is.whole;
 }
 
 -- what guards against all guards against those that are left

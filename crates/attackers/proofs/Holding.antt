@@ -1,9 +1,10 @@
 -- Guards that hold against attacks.
-use Rattle.std.proofs.Common.{◌≡◌, ℕ, zero, suc, ◌+◌, ◌<◌, ◌||◌, Bool, true, false, List, [], ◌∷◌, ◌++◌, length, take, filter, get_or, slice_get, if◌then◌else◌, All, Option, Some, Result, Ok, Err, IfOk, IfErr, ap, sym, ◌∙◌, subst, arith}
+use Rattle.std.proofs.Common.{◌≡◌, ℕ, zero, suc, ◌+◌, ◌<◌, ◌||◌, pos, Bool, true, false, List, [], ◌∷◌, ◌++◌, length, take, filter, get_or, slice_get, if◌then◌else◌, All, Option, Some, Result, Ok, Err, IfOk, IfErr, ap, sym, ◌∙◌, subst, arith}
 use Rattle.std.specs.List.{list_any}
 use Rattle.std.proofs.lemmas.List.{take_more}
 use Rattle.std.proofs.lemmas.List.Elements.{All-nil, All-head, All-tail, All-cons, All-append}
 use Rattle.std.proofs.lemmas.Option.{slice_get_within, get_or_from_slice_get}
+use Rattle.sdc_base.specs.Signs.{AreSigns}
 use Rattle.sdc_base.specs.declared.cell.Kind.TheVariants.{Primary}
 use Rattle.worlds.specs.WorldFaults.{IsGivenWorld}
 use Rattle.certificate.specs.declared.certificate.WorldLine.{WorldLine}
@@ -13,6 +14,7 @@ use Rattle.repair.proofs.Growing.{given_more}
 use Rattle.attackers.specs.declared.attack.Attack.{Attack}
 use Rattle.attackers.specs.KnownCells.{IsAttack, Guards, GuardsAll, GuardsBefore, serves, is_served}
 use Rattle.attackers.specs.Sieges.{HoldGuards}
+use Rattle.attackers.specs.WholeGuards.{IsWholeGuard}
 use Rattle.attackers.proofs.Knowing.{serving_guards}
 
 -- ---- some of a list
@@ -87,6 +89,7 @@ held_more c soles flags more attacks guards within held = record {
   are_worlds = λ k d inside. given_more c.system c.cells flags more _ within (held.are_worlds k d inside);
   are_lines = held.are_lines;
   served = held.served;
+  whole = held.whole;
 }
 
 take_one : {X : Type 0} (xs : List X) (place : ℕ) (x : X) → slice_get xs place ≡ Some x → take (place + 1) xs ≡ take place xs ++ x ∷ []
@@ -100,22 +103,24 @@ held_next c soles flags attacks place attack guards stands is held = record {
   served = subst (λ (l : List Attack). All (λ (a : Attack). is_served c.cells soles a guards ≡ true) l) (sym (take_one attacks place attack stands))
       (All-append (λ (a : Attack). is_served c.cells soles a guards ≡ true) (take place attacks) (attack ∷ []) held.served
       (All-cons (λ (a : Attack). is_served c.cells soles a guards ≡ true) attack [] is (All-nil (λ (a : Attack). is_served c.cells soles a guards ≡ true))));
+  whole = held.whole;
 }
 
 -- they hold with one guard more
-pub held_with : (c : Case) (soles : List (Option ℕ)) (flags : List Bool) (attacks : List Attack) (guards : List WorldLine) (line : WorldLine) → IsGivenWorld c.system c.cells flags line.world → IsOfKind c.cells line.cell Primary → HoldGuards c soles flags attacks guards → HoldGuards c soles flags attacks (guards ++ line ∷ [])
-held_with c soles flags attacks guards line is primary held = record {
+pub held_with : (c : Case) (soles : List (Option ℕ)) (flags : List Bool) (attacks : List Attack) (guards : List WorldLine) (line : WorldLine) → IsGivenWorld c.system c.cells flags line.world → IsOfKind c.cells line.cell Primary → ((signs : List Bool) → AreSigns c.system.relations signs → line.world.den ≡ pos 1) → HoldGuards c soles flags attacks guards → HoldGuards c soles flags attacks (guards ++ line ∷ [])
+held_with c soles flags attacks guards line is primary unit held = record {
   are_worlds = All-append (λ (l : WorldLine). IsGivenWorld c.system c.cells flags l.world) guards (line ∷ []) held.are_worlds (All-cons (λ (l : WorldLine). IsGivenWorld c.system c.cells flags l.world) line [] is (All-nil (λ (l : WorldLine). IsGivenWorld c.system c.cells flags l.world)));
   are_lines = All-append (λ (l : WorldLine). IsOfKind c.cells l.cell Primary) guards (line ∷ []) held.are_lines (All-cons (λ (l : WorldLine). IsOfKind c.cells l.cell Primary) line [] primary (All-nil (λ (l : WorldLine). IsOfKind c.cells l.cell Primary)));
   served = λ k d within. any_left (λ (l : WorldLine). serves c.cells soles (get_or attacks k d) l.world) guards (line ∷ []) (held.served k d within);
+  whole = λ signs are. All-append IsWholeGuard guards (line ∷ []) (held.whole signs are) (All-cons IsWholeGuard line [] (unit signs are) (All-nil IsWholeGuard));
 }
 
 -- and against one attack more, where it is the one that serves
-pub held_by_new : (c : Case) (soles : List (Option ℕ)) (flags : List Bool) (attacks : List Attack) (place : ℕ) (attack : Attack) (guards : List WorldLine) (line : WorldLine) → slice_get attacks place ≡ Some attack → IsGivenWorld c.system c.cells flags line.world → IsOfKind c.cells line.cell Primary → serves c.cells soles attack line.world ≡ true → HoldGuards c soles flags (take place attacks) guards → HoldGuards c soles flags (take (place + 1) attacks) (guards ++ line ∷ [])
-held_by_new c soles flags attacks place attack guards line stands is primary does held =
+pub held_by_new : (c : Case) (soles : List (Option ℕ)) (flags : List Bool) (attacks : List Attack) (place : ℕ) (attack : Attack) (guards : List WorldLine) (line : WorldLine) → slice_get attacks place ≡ Some attack → IsGivenWorld c.system c.cells flags line.world → IsOfKind c.cells line.cell Primary → serves c.cells soles attack line.world ≡ true → ((signs : List Bool) → AreSigns c.system.relations signs → line.world.den ≡ pos 1) → HoldGuards c soles flags (take place attacks) guards → HoldGuards c soles flags (take (place + 1) attacks) (guards ++ line ∷ [])
+held_by_new c soles flags attacks place attack guards line stands is primary does unit held =
     held_next c soles flags attacks place attack (guards ++ line ∷ []) stands
     (any_right (λ (l : WorldLine). serves c.cells soles attack l.world) guards (line ∷ []) (any_one (λ (l : WorldLine). serves c.cells soles attack l.world) line does))
-    (held_with c soles flags (take place attacks) guards line is primary held)
+    (held_with c soles flags (take place attacks) guards line is primary unit held)
 
 -- ---- answers
 

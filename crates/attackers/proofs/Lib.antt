@@ -6,7 +6,6 @@ pub mod Knowing
 pub mod Thinning
 pub mod Holding
 pub mod Resisting
-pub mod Choices
 pub mod Tries
 pub mod Listed
 pub mod AllAttacks
@@ -15,4 +14,5 @@ pub mod Halting
 pub mod GuardOrder
 pub mod Concluding
 pub mod Saying
+pub mod Wholeness
 pub mod EachAttack

@@ -40,6 +40,7 @@ pub answer_is : (c : Case) (soles : List (Option ℕ)) (flags : List Bool) (atta
 answer_is c soles flags attack question (Reaches world) is right read = (
   given_more c.system c.cells (without_known soles attack.row flags) flags world (without_within soles attack.row flags) right.is_world,
   world_serves c soles flags attack world right.is_world (reaching_test c.system c.cells (without_known soles attack.row flags) (target_of attack) question world is right),
+  λ signs are. read.3.whole signs are,
 )
 answer_is c soles flags attack question (Stops best world m) is right read = (
   stopping_refutes c.system c.cells (without_known soles attack.row flags) (target_of attack) question best world m is right,
@@ -169,6 +170,7 @@ cannot_by c soles attacks flags place attack m one_each each permitted on is non
       before = all_guards_more c soles flags (full_set c.cells) (take place attacks) (in_full c.cells flags long permitted) is.before;
       refutes = full;
       unguarded = no_world c.system c.cells (without_known soles attack.row (full_set c.cells)) attack.cell attack.side m one_each inside full;
+      whole = λ signs are. (is.gives.is_read.3.whole signs are).1;
     }
 
 -- ---- questions with a fault

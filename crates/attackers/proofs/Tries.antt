@@ -27,6 +27,7 @@ use Rattle.attackers.specs.declared.siege.Siege.{Siege}
 use Rattle.attackers.specs.KnownCells.{without_known, IsAttack, Guards, GuardsAll, is_served}
 use Rattle.attackers.specs.Extras.{attack_of, subjects_of}
 use Rattle.attackers.specs.Sieges.{case_of, HoldGuards}
+use Rattle.attackers.specs.WholeGuards.{IsWholeGuard}
 use Rattle.attackers.specs.Dropping.{stays, renewed_guards, is_beside, cells_beside, IsNeedFor, IsNeedBelow, IsTried, IsTryStop, TriesStopFor, HasFault}
 use Rattle.attackers.proofs.AskedCells.{attack_says, attack_at}
 use Rattle.attackers.proofs.Holding.{held_guards}
@@ -51,6 +52,7 @@ none_renewed c soles attacks flags cell guards news none held =
           (λ line is stay. still_world c flags cell line.world (unmoved cell line.world.moves (not_true (list_any (λ one. one.cell == cell) line.world.moves) stay)) is) held.are_worlds;
       are_lines = All-passing (λ (line : WorldLine). IsOfKind c.cells line.cell Primary) (λ (line : WorldLine). IsOfKind c.cells line.cell Primary) (stays cell) guards (λ line is stay. is) held.are_lines;
       served = All-nil (λ (attack : Attack). is_served c.cells soles attack (filter (stays cell) guards) ≡ true);
+      whole = λ signs are. All-passing IsWholeGuard IsWholeGuard (stays cell) guards (λ line is stay. is) (held.whole signs are);
     })
 
 -- ---- parts of lists

@@ -6,6 +6,7 @@ use Rattle.interval_audit.specs.declared.answer.AskFault.{AskFault}
 use Rattle.interval_audit.specs.declared.answer.AskFault.TheVariants.{Work, Wide, Size, Memory}
 use Rattle.certificate.specs.declared.certificate.WorldLine.{WorldLine}
 use Rattle.repair.specs.HidingOrder.{Case, show_all}
+use Rattle.repair.specs.LevelQuestions.{AreGiven}
 use Rattle.repair.specs.Needs.{set_when_tried}
 use Rattle.repair.specs.Stops.{Ascend}
 use Rattle.attackers.specs.declared.attack.Attack.{Attack}
@@ -15,7 +16,7 @@ use Rattle.attackers.specs.declared.siege.Siege.{Siege}
 use Rattle.attackers.specs.declared.trial.Trial.{Trial}
 use Rattle.attackers.specs.declared.trial.Trial.TheVariants.{Renewed, Refused}
 use Rattle.attackers.specs.declared.trying.Findings.{Findings}
-use Rattle.attackers.specs.KnownCells.{GuardsAll}
+use Rattle.attackers.specs.KnownCells.{without_known, target_of, GuardsAll}
 use Rattle.attackers.specs.Extras.{attack_of, subjects_of, Unguards}
 use Rattle.attackers.specs.Sieges.{case_of, HoldGuards, IsAsked}
 
@@ -35,12 +36,15 @@ is_beside first flags cell = is_hidden flags cell && not (is_hidden first cell)
 abbrev pub cells_beside : List Bool → List Bool → ℕ → List ℕ
 cells_beside first flags n = filter (is_beside first flags) (range_with_len 0 n)
 
--- multipliers refute that a hidden set guards against one of these attacks, the one that a need names
+-- multipliers refute that a hidden set guards against one of these attacks, the one that a need names, as its question
+-- is answered
 pub record IsNeedFor (c : Case) (soles : List (Option ℕ)) (attacks : List Attack) (flags : List Bool) (need : ExtraNeed)
     : Type 0 where
   pub place : ℕ
   pub stands : slice_get attacks place ≡ Some (attack_of need)
   pub refutes : Unguards c soles flags (attack_of need) need.multipliers
+  pub gives : AreGiven c.system c.cells (without_known soles need.row flags) (target_of (attack_of need))
+      need.multipliers
 
 -- what one attack comes to while a cell is tried: guards hold against one attack more, or multipliers refute it
 abbrev pub IsRenewal : Siege → List Bool → ℕ → List WorldLine → ℕ → List WorldLine → Option ExtraNeed → Type 0

@@ -3,6 +3,7 @@ pub mod KnownCells
 pub mod AttackOrder
 pub mod Extras
 pub mod SiegeParts
+pub mod WholeGuards
 pub mod Sieges
 pub mod Dropping
 pub mod ExtraFaults

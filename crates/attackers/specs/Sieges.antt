@@ -1,7 +1,8 @@
 -- How far guarding against attacks has come (own).
-use Rattle.std.specs.Prelude.{◌≡◌, ℕ, ℤ, ◌+◌, ◌<◌, Bool, true, List, length, take, slice_get, All, Option, None, Some}
+use Rattle.std.specs.Prelude.{◌≡◌, ℕ, ℤ, ◌+◌, ◌<◌, pos, Bool, true, List, length, take, slice_get, All, Option, None, Some}
 use Rattle.sdc_base.specs.declared.cell.Kind.TheVariants.{Primary}
 use Rattle.sdc_base.specs.HiddenSets.{IsPermitted, full_set}
+use Rattle.sdc_base.specs.Signs.{AreSigns}
 use Rattle.worlds.specs.declared.multipliers.Multipliers.{Multipliers}
 use Rattle.worlds.specs.WorldFaults.{IsGivenWorld}
 use Rattle.interval_audit.specs.declared.answer.Answer.{Answer}
@@ -20,18 +21,20 @@ use Rattle.attackers.specs.declared.serving.Step.{Step}
 use Rattle.attackers.specs.declared.serving.Step.TheVariants.{Served, Extended, Cannot}
 use Rattle.attackers.specs.KnownCells.{without_known, target_of, Guards, GuardsBefore, serves, is_served}
 use Rattle.attackers.specs.Extras.{hide_cells, subjects_of, Unguards, IsInTurn, EachExtra, LastIsNotBehind}
+use Rattle.attackers.specs.WholeGuards.{IsWholeGuard}
 
 -- what is to be guarded
 abbrev pub case_of : Siege → Case
 case_of siege = case siege.system.now siege.cells.now
 
 -- Guards hold against attacks: their worlds are ones for the hidden set, they stand for primary cells, and against each
--- attack some of them serves.
+-- attack some of them serves; where the relations have signs they are in whole units.
 pub record HoldGuards (c : Case) (soles : List (Option ℕ)) (flags : List Bool) (attacks : List Attack)
     (guards : List WorldLine) : Type 0 where
   pub are_worlds : All (λ line. IsGivenWorld c.system c.cells flags line.world) guards
   pub are_lines : All (λ line. IsOfKind c.cells line.cell Primary) guards
   pub served : All (λ attack. is_served c.cells soles attack guards ≡ true) attacks
+  pub whole : (signs : List Bool) → AreSigns c.system.relations signs → All IsWholeGuard guards
 
 -- Guarding is ready for a question: the hidden set is permitted, and there are a flag of it and a number of the scratch
 -- for each cell of the system.
@@ -64,11 +67,12 @@ abbrev pub StaysExtended : Siege → ℕ → Progress → Progress → Type 0
 StaysExtended siege place before after =
     (first : List Bool) → IsExtendedUpTo siege place first before → IsExtendedUpTo siege place first after
 
--- what asking about an attack comes to: a world for the hidden set that serves against it, or multipliers that refute it,
--- as its question is answered
+-- what asking about an attack comes to: a world for the hidden set that serves against it, in whole units where the
+-- relations have signs; or multipliers that refute it, as its question is answered
 abbrev pub IsAnswerAgainst : Case → List (Option ℕ) → List Bool → Attack → Answer → Type 0
 IsAnswerAgainst c soles flags attack (Reaches world) =
     IsGivenWorld c.system c.cells flags world × (serves c.cells soles attack world ≡ true)
+    × ((signs : List Bool) → AreSigns c.system.relations signs → world.den ≡ pos 1)
 IsAnswerAgainst c soles flags attack (Stops best world multipliers) = Unguards c soles flags attack multipliers
     × AreGiven c.system c.cells (without_known soles attack.row flags) (target_of attack) multipliers
 
@@ -80,8 +84,8 @@ pub record IsRefutedAt (c : Case) (soles : List (Option ℕ)) (attacks : List At
   pub refutes : Unguards c soles flags attack multipliers
   pub gives : AreGiven c.system c.cells (without_known soles attack.row flags) (target_of attack) multipliers
 
--- No hidden set guards against an attack: multipliers refute it for the full set without what the contributor knows; and
--- the full set guards against all that stand before it.
+-- No hidden set guards against an attack: multipliers refute it for the full set without what the contributor knows,
+-- in whole units where the relations have signs; and the full set guards against all that stand before it.
 pub record IsCannot (c : Case) (soles : List (Option ℕ)) (attacks : List Attack) (attack : Attack)
     (multipliers : Multipliers) : Type 0 where
   pub place : ℕ
@@ -89,6 +93,7 @@ pub record IsCannot (c : Case) (soles : List (Option ℕ)) (attacks : List Attac
   pub before : GuardsBefore c soles (full_set c.cells) attacks place
   pub refutes : Unguards c soles (full_set c.cells) attack multipliers
   pub unguarded : ¬ Guards c soles (full_set c.cells) attack
+  pub whole : (signs : List Bool) → AreSigns c.system.relations signs → multipliers.den ≡ pos 1
 
 -- the same of what was found
 abbrev pub IsImpossible : Siege → Impossible → Type 0

@@ -10,7 +10,7 @@ ghost use Rattle.attackers.specs.Sieges.{case_of, IsAnswerAgainst};
 use crate::attack::Attack;
 use crate::known::{with_known, without_known};
 use crate::siege::Siege;
-use interval_audit::{Answer, AskFault, ask};
+use interval_audit::{Answer, AskFault};
 use repair::{find_cheapest, level_question};
 use sdc_base::Memory;
 use std::alloc::Global;
@@ -32,14 +32,9 @@ pub(crate) fn ask_against(
 {
     let left = without_known(alloc, siege.soles, attack.row, flags)?;
     let question = level_question(siege.cells, (attack.cell, attack.side));
-    ask(
-        alloc,
-        siege.system,
-        siege.cells,
-        &left,
-        question,
-        siege.limit,
-    )
+    siege
+        .system
+        .ask(alloc, siege.cells, &left, question, siege.limit)
 }
 
 /// The cheapest cell that would break the refutation of an attack, of those that the contributor doesn't know.
@@ -63,12 +58,13 @@ pub(crate) fn subject_against(
         (known.with_known siege.now.soles.now attack.row flags.now)
         (coefficients_for siege.now.system.now (target_of attack) multipliers.now))) }
 {
+    let system = siege.system.system();
     // for the proof: read, so that it is known to be a number of 32 bits
-    let _cells = siege.system.cells;
+    let _cells = system.cells;
     let left = without_known(alloc, siege.soles, attack.row, flags)?;
     let closed = with_known(alloc, siege.soles, attack.row, flags)?;
     match check_refutation(
-        siege.system,
+        system,
         siege.cells,
         &left,
         attack.cell,

@@ -1,5 +1,6 @@
-ghost use Rattle.std.specs.Prelude.{◌≡◌, ◌↔◌, ◌≤◌, IsTrue, length, All, IfOk, IfErr};
+ghost use Rattle.std.specs.Prelude.{◌≡◌, ◌↔◌, ◌≤◌, IsTrue, List, Bool, length, All, IfOk, IfErr};
 ghost use Rattle.sdc_base.specs.HiddenSets.{full_set, IsPermitted};
+ghost use Rattle.sdc_base.specs.Signs.{AreSigns};
 ghost use Rattle.cost_rule.specs.Costs.{AreCosted};
 ghost use Rattle.worlds.specs.ProtectFaults.{asked_of};
 ghost use Rattle.repair.specs.HidingOrder.{case, prices_of};
@@ -10,6 +11,7 @@ ghost use Rattle.attackers.specs.Sieges.{case_of, HoldGuards, IsExtendedUpTo};
 ghost use Rattle.attackers.specs.GuardStops.{StopsAsTold};
 ghost use Rattle.attackers.specs.Guarding.{IsGuarded, is_cannot};
 ghost use Rattle.attackers.specs.Narrowing.{IsOutcome};
+ghost use Rattle.attackers.specs.WholeGuards.{IsWholeGuarded, IsWholeGuardStop};
 
 use crate::collecting::extra_of;
 use crate::extra::{GuardStop, Guarded};
@@ -20,6 +22,7 @@ use crate::siege::Siege;
 use crate::stopping::{out_of_memory, stop_with};
 use crate::trying::{Findings, try_all};
 use cost_rule::{CostRule, TellsCosts};
+use interval_audit::SignedSystem;
 use linked_tables::Mark;
 use repair::{list_prices, questions_of};
 use sdc_base::{Cell, Hidden, Items, Side, System};
@@ -52,6 +55,9 @@ use worlds::Protected;
 /// dropped, of which the last was being tried; under `Memory` both lists are empty, and the row is 0. What was lent
 /// stays as it was.
 ///
+/// Where the relations have signs everything is in whole units: all denominators are 1, and no question stops short but
+/// for its size or want of memory.
+///
 /// The rule is asked once for each cell without a price. For each contributor, primary cell and side it takes one look
 /// at the protection's world, and only where that one doesn't serve one at the worlds at hand, and where none of them
 /// does, a question. A trial goes once through those for which the protection's world doesn't serve.
@@ -83,6 +89,10 @@ pub fn guard<F: TellsCosts>(
     ensures stopped { IfErr result (StopsAsTold (case system.now cells.now) soles.now
         (prices_of rule.now cells.now marks.now) (order.attacks_of cells.now soles.now) protected.now.hidden.flags
         limit) }
+    ensures whole { (signs : List Bool) → AreSigns system.now.relations signs
+        → IfOk result IsWholeGuarded }
+    ensures whole_stop { (signs : List Bool) → AreSigns system.now.relations signs
+        → IfErr result IsWholeGuardStop }
 {
     let Ok(prices) = list_prices(alloc, cells, marks, rule) else {
         return Err(out_of_memory(alloc));
@@ -111,6 +121,10 @@ fn guard_by(
         protected.now.worlds) }
     ensures stopped { IfErr result (StopsAsTold (case system.now cells.now) soles.now prices.now
         (order.attacks_of cells.now soles.now) protected.now.hidden.flags limit) }
+    ensures whole { (signs : List Bool) → AreSigns system.now.relations signs
+        → IfOk result IsWholeGuarded }
+    ensures whole_stop { (signs : List Bool) → AreSigns system.now.relations signs
+        → IfErr result IsWholeGuardStop }
 {
     // for the proof: read, so that it is known to be a number of 32 bits
     let _cells = system.cells;
@@ -120,8 +134,11 @@ fn guard_by(
     let Ok(attacks) = unserved_attacks(alloc, cells, soles, &asked, protected.worlds()) else {
         return Err(out_of_memory(alloc));
     };
+    let Ok(signed) = SignedSystem::of(alloc, system) else {
+        return Err(out_of_memory(alloc));
+    };
     let siege = Siege {
-        system,
+        system: &signed,
         cells,
         soles,
         prices,
@@ -148,6 +165,10 @@ fn resist_beside(
         protected.now.worlds) }
     ensures stopped { IfErr result (StopsAsTold (case_of siege.now) siege.now.soles.now siege.now.prices.now
         (order.attacks_of siege.now.cells.now siege.now.soles.now) protected.now.hidden.flags siege.now.limit) }
+    ensures whole { (signs : List Bool) → AreSigns siege.now.system.now.relations signs
+        → IfOk result IsWholeGuarded }
+    ensures whole_stop { (signs : List Bool) → AreSigns siege.now.system.now.relations signs
+        → IfErr result IsWholeGuardStop }
 {
     // for the proof: read, so that they are known to have no fault
     let _worlds = protected.worlds();

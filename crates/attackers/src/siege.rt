@@ -1,13 +1,14 @@
 ghost use Rattle.attackers.specs.SiegeParts.{IsSiege};
 
 use crate::attack::Attack;
-use sdc_base::{Cell, System};
+use interval_audit::SignedSystem;
+use sdc_base::Cell;
 
 /// What is to be guarded: a system with its cells, which contributor alone makes up which, what it costs to hide each
 /// cell, the attacks that are asked about in their order, and how many steps each question may take.
 #[derive(Drop)]
 pub(crate) struct Siege<'a> {
-    pub(crate) system: &'a System,
+    pub(crate) system: &'a SignedSystem<'a>,
     pub(crate) cells: &'a [Cell],
     pub(crate) soles: &'a [Option<u32>],
     pub(crate) prices: &'a [u64],

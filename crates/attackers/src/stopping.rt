@@ -1,5 +1,6 @@
 ghost use Rattle.std.specs.Prelude.{◌≡◌, []};
 ghost use Rattle.attackers.specs.GuardStops.{list_with_fault, row_with_fault};
+ghost use Rattle.attackers.specs.WholeGuards.{IsWholeGuardStop};
 
 use crate::extra::{Against, GuardStop};
 use crate::serving::Halt;
@@ -40,6 +41,7 @@ pub(crate) fn out_of_memory(alloc: Global) -> GuardStop
     ensures row { result.against.row ≡ 0 }
     ensures extras { result.against.extras ≡ [] }
     ensures dropped { result.against.dropped ≡ [] }
+    ensures whole { IsWholeGuardStop result }
 {
     GuardStop {
         fault: AskFault::Memory,

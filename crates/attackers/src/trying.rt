@@ -49,7 +49,7 @@ pub(crate) fn try_all(
         halt.row found.new.dropped) }
 {
     // for the proof: read, so that it is known to be a number of 32 bits
-    let _cells = siege.system.cells;
+    let _cells = siege.system.system().cells;
     'cells: for number in 0..siege.cells.len() {
         try_next(alloc, siege, first, number as u32, progress, found)?;
     }

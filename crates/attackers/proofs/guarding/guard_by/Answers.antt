@@ -1,16 +1,42 @@
-use Rattle.std.proofs.Common.{◌∙◌, List, All, sym, subst}
+use Rattle.std.proofs.Common.{◌∙◌, IfErr, IfOk, List, All, sym, subst}
+use Rattle.sdc_base.specs.Signs.{AreSigns}
+use Rattle.sdc_base.specs.declared.system.System.{System}
+use Rattle.repair.specs.HidingOrder.{case}
 use Rattle.attackers.specs.declared.attack.Attack.{Attack}
+use Rattle.attackers.specs.AttackOrder as order
+use Rattle.attackers.specs.GuardStops.{StopsAsTold}
+use Rattle.attackers.specs.Guarding.{IsGuarded}
 use Rattle.attackers.specs.KnownCells.{IsAttack}
+use Rattle.attackers.specs.SiegeParts.{IsSiege}
 use Rattle.attackers.proofs.AllAttacks.{unserved_are}
 use Rattle.attackers.proofs.guarding.guard_by.Goals as goal
 
 pub invariant_of-siege : goal.invariant_of-siege
 invariant_of-siege c = record {
-  fits = record {
+  fits = subst (λ (own : System). IsSiege own c.args.cells.now c.args.soles.now c.args.prices.now c.deref-2.result.now c.args.limit) (sym c.in-Ok-of.ensures) (record {
     one_each = c.requires.cells;
     priced = c.requires.prices;
     modest = c.requires.modest;
     are_attacks = subst (λ (l : List Attack). All (IsAttack c.args.cells.now c.args.soles.now) l) (sym (c.deref-2.ensures.value ∙ c.in-Ok-unserved_attacks.ensures)) (unserved_are c.args.cells.now c.args.soles.now c.worlds.result.now);
     some_steps = c.requires.limit;
-  };
+  });
 }
+
+pub resist_beside-requires-clause-of_system : goal.resist_beside-requires-clause-of_system
+resist_beside-requires-clause-of_system c = c.requires.of_system ∙ sym c.in-Ok-of.ensures
+
+pub returns-clause-guarded : goal.returns-clause-guarded
+returns-clause-guarded c =
+    subst (λ (own : System). IfOk c.resist_beside.result (IsGuarded (case own c.args.cells.now) c.args.soles.now c.args.protected.now.hidden.flags c.args.protected.now.worlds)) c.in-Ok-of.ensures c.resist_beside.ensures.guarded
+
+pub returns-clause-stopped : goal.returns-clause-stopped
+returns-clause-stopped c =
+    subst (λ (own : System). IfErr c.resist_beside.result (StopsAsTold (case own c.args.cells.now) c.args.soles.now c.args.prices.now (order.attacks_of c.args.cells.now c.args.soles.now) c.args.protected.now.hidden.flags c.args.limit)) c.in-Ok-of.ensures c.resist_beside.ensures.stopped
+
+pub returns-clause-whole : goal.returns-clause-whole
+returns-clause-whole c = λ signs are.
+    c.resist_beside.ensures.whole signs (subst (λ (own : System). AreSigns own.relations signs) (sym c.in-Ok-of.ensures) are)
+
+pub returns-clause-whole_stop : goal.returns-clause-whole_stop
+returns-clause-whole_stop c = λ signs are.
+    c.resist_beside.ensures.whole_stop signs (subst (λ (own : System). AreSigns own.relations signs) (sym c.in-Ok-of.ensures) are)

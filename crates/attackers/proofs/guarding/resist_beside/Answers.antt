@@ -10,6 +10,7 @@ use Rattle.attackers.specs.Sieges.{case_of}
 use Rattle.attackers.proofs.Concluding.{guarded, stopped}
 use Rattle.attackers.proofs.GuardOrder.{ProtectedSays, protected_says}
 use Rattle.attackers.proofs.Holding.{err_where}
+use Rattle.attackers.proofs.Wholeness.{outcome_whole, told_whole}
 use Rattle.repair.proofs.Concluding.{where_ok}
 use Rattle.attackers.proofs.guarding.resist_beside.Goals as goal
 
@@ -45,3 +46,12 @@ returns-clause-stopped c =
     err_where c.resist.result c.resist.ensures.stopped (λ stop is.
     stopped siege first c.args.protected.now.worlds stop says c.requires.left
     (subst (λ (h : Hidden). StopsAsTold (case_of siege) siege.soles.now siege.prices.now siege.attacks.now h.flags siege.limit stop) c.hidden.ensures.hidden is))
+
+pub returns-clause-whole : goal.returns-clause-whole
+returns-clause-whole c = λ signs are.
+    where_ok c.resist.result c.resist.ensures.guarded (λ found is. outcome_whole c.args.siege.now c.hidden.result.now.flags signs found are is)
+
+pub returns-clause-whole_stop : goal.returns-clause-whole_stop
+returns-clause-whole_stop c = λ signs are.
+    let siege = c.args.siege.now in
+    err_where c.resist.result c.resist.ensures.stopped (λ stop is. told_whole (case_of siege) siege.soles.now siege.prices.now siege.attacks.now c.hidden.result.now.flags signs siege.limit stop are is)

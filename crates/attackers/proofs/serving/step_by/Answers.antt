@@ -15,7 +15,7 @@ returns-in-Reaches-clause-ok c =
     let is : IsAnswerAgainst (case_of siege) siege.soles.now flags c.args.attack (Reaches c.in-Reaches.world) = subst (IsAnswerAgainst (case_of siege) siege.soles.now flags c.args.attack) c.in-Reaches.is c.requires.answered in
     subst (λ (f : List Bool). HoldGuards (case_of siege) siege.soles.now f (take (c.args.place + 1) siege.attacks.now) c.keep.new.self.guards) (sym c.in_ok-keep-in-Reaches.ensures.flags)
     (subst (λ (g : List WorldLine). HoldGuards (case_of siege) siege.soles.now flags (take (c.args.place + 1) siege.attacks.now) g) (sym c.in_ok-keep-in-Reaches.ensures.ok)
-    (held_by_new (case_of siege) siege.soles.now flags siege.attacks.now c.args.place c.args.attack c.args.progress.now.guards _ c.requires.stands is.0 (attack_says siege.cells.now siege.soles.now c.args.attack on).primary is.1 c.requires.held))
+    (held_by_new (case_of siege) siege.soles.now flags siege.attacks.now c.args.place c.args.attack c.args.progress.now.guards _ c.requires.stands is.0 (attack_says siege.cells.now siege.soles.now c.args.attack on).primary is.1 is.2 c.requires.held))
 
 pub extend-requires-clause-refuted : goal.extend-requires-clause-refuted
 extend-requires-clause-refuted c =

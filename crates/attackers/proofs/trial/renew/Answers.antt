@@ -58,4 +58,4 @@ returns-in-Ok-clause-ok c =
     let same : renewed_guards c.args.cell c.args.guards.now c.args.news.now ++ line ∷ [] ≡ renewed_guards c.args.cell c.args.guards.now c.push.new.self =
     append_assoc (filter (stays c.args.cell) c.args.guards.now) c.args.news.now (line ∷ []) ∙ ap (λ (l : List WorldLine). filter (stays c.args.cell) c.args.guards.now ++ l) (sym pushed) in
     subst (λ (g : List WorldLine). HoldGuards (case_of siege) siege.soles.now flags (take (c.args.place + 1) siege.attacks.now) g) same
-    (held_by_new (case_of siege) siege.soles.now flags siege.attacks.now c.args.place attack (renewed_guards c.args.cell c.args.guards.now c.args.news.now) line c.attack_at-attack.ensures.stands is.0 (attack_says siege.cells.now siege.soles.now attack c.attack_at-attack.ensures.is_attack).primary is.1 c.requires.holds)
+    (held_by_new (case_of siege) siege.soles.now flags siege.attacks.now c.args.place attack (renewed_guards c.args.cell c.args.guards.now c.args.news.now) line c.attack_at-attack.ensures.stands is.0 (attack_says siege.cells.now siege.soles.now attack c.attack_at-attack.ensures.is_attack).primary is.1 is.2 c.requires.holds)

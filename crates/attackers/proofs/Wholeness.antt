@@ -1,0 +1,73 @@
+-- Guards and stops in whole units.
+use Rattle.std.proofs.Common.{◌≡◌, ℕ, List, [], ◌∷◌, Bool, All, Option, sym, subst, pos, length}
+use Rattle.std.proofs.lemmas.List.Elements.{All-nil, All-cons, All-weaker}
+use Rattle.sdc_base.specs.declared.cell.Cell.{Cell}
+use Rattle.sdc_base.specs.declared.side.Side.{Side}
+use Rattle.sdc_base.specs.declared.system.System.{System}
+use Rattle.sdc_base.specs.Signs.{AreSigns}
+use Rattle.worlds.specs.ProtectFaults.{asked_of}
+use Rattle.worlds.specs.declared.multipliers.Multipliers.{Multipliers}
+use Rattle.interval_audit.specs.declared.answer.AskFault.{AskFault}
+use Rattle.interval_audit.specs.declared.answer.AskFault.TheVariants.{Work, Wide, Size, Memory}
+use Rattle.interval_audit.specs.WalkLimits.{HasNoWalk}
+use Rattle.certificate.specs.declared.extra.ExtraNeed.{ExtraNeed}
+use Rattle.repair.specs.HidingOrder.{Case, hide}
+use Rattle.repair.specs.LevelQuestions.{AreGiven, HasCause}
+use Rattle.attackers.specs.declared.attack.Attack.{Attack}
+use Rattle.attackers.specs.declared.extra.Guarded.{Guarded}
+use Rattle.attackers.specs.declared.extra.Guarded.TheVariants as guards
+use Rattle.attackers.specs.declared.extra.GuardStop.{GuardStop}
+use Rattle.attackers.specs.declared.siege.Siege.{Siege}
+use Rattle.attackers.specs.Dropping.{IsNeedBelow}
+use Rattle.attackers.specs.Extras.{IsInTurn, EachExtra}
+use Rattle.attackers.specs.GuardStops.{IsGuardStop, StopsFor, StopsAsTold}
+use Rattle.attackers.specs.Narrowing.{IsOutcome}
+use Rattle.attackers.specs.Sieges.{case_of}
+use Rattle.attackers.specs.WholeGuards.{IsWholeGuard, IsWholeNeed, IsWholeGuarded, IsWholeGuardStop}
+use Rattle.attackers.proofs.GuardOrder.{All-in_order}
+
+given_whole : (system : System) (cells : List Cell) (flags signs : List Bool) (asked : ℕ × Side) (multipliers : Multipliers) → AreSigns system.relations signs → AreGiven system cells flags asked multipliers → multipliers.den ≡ pos 1
+given_whole system cells flags signs asked multipliers are given = (given.is_read.3.whole signs are).1
+
+needs_whole : (c : Case) (soles : List (Option ℕ)) (attacks : List Attack) (flags larger signs : List Bool) (n : ℕ) (needs : List ExtraNeed) → AreSigns c.system.relations signs → All (IsNeedBelow c soles attacks flags larger n) needs → All IsWholeNeed needs
+needs_whole c soles attacks flags larger signs n needs are all =
+    All-weaker (IsNeedBelow c soles attacks flags larger n) IsWholeNeed
+    (λ (need : ExtraNeed) is. given_whole c.system c.cells _ signs (need.cell, need.side) need.multipliers are is.refuted.gives) needs all
+
+-- where the relations have signs what guarding against a list of attacks comes to is in whole units
+pub outcome_whole : (siege : Siege) (first signs : List Bool) (found : Guarded) → AreSigns (case_of siege).system.relations signs → IsOutcome siege first found → IsWholeGuarded found
+outcome_whole siege first signs (guards.Guards extra) are is = (
+  subst (All IsWholeGuard) (sym is.guards_are) (All-in_order IsWholeGuard (asked_of 0 siege.cells.now) is.guards (is.tried.holds.whole signs are)),
+  needs_whole (case_of siege) siege.soles.now siege.attacks.now is.flags is.larger signs (length siege.cells.now) extra.needs are is.tried.are_needs,
+)
+outcome_whole siege first signs (guards.CannotAgainst row cell side m) are is = is.whole signs are
+
+extras_whole : (c : Case) (soles : List (Option ℕ)) (prices : List ℕ) (attacks : List Attack) (flags signs : List Bool) (extras : List ExtraNeed) → AreSigns c.system.relations signs → EachExtra (IsInTurn c soles prices attacks) flags extras → All IsWholeNeed extras
+extras_whole c soles prices attacks flags signs [] are each = All-nil IsWholeNeed
+extras_whole c soles prices attacks flags signs (extra ∷ extras) are each =
+    All-cons IsWholeNeed extra extras
+    (given_whole c.system c.cells _ signs (extra.cell, extra.side) extra.multipliers are each.0.gives)
+    (extras_whole c soles prices attacks (hide flags extra.subject) signs extras are each.1)
+
+cause_whole : (system : System) (cells : List Cell) (flags signs : List Bool) (asked : ℕ × Side) (limit : ℕ) (fault : AskFault) → AreSigns system.relations signs → HasCause system cells flags asked limit fault → HasNoWalk fault
+cause_whole system cells flags signs asked limit (Work walk) are is = absurd (is.cause.3 signs are)
+cause_whole system cells flags signs asked limit (Wide walk place) are is = absurd (is.cause.3 signs are)
+cause_whole system cells flags signs asked limit (Size question hidden) are is = tt
+cause_whole system cells flags signs asked limit Memory are is = tt
+
+stop_whole : (c : Case) (soles : List (Option ℕ)) (prices : List ℕ) (attacks : List Attack) (first signs : List Bool) (limit : ℕ) (fault : AskFault) (row : ℕ) (extras : List ExtraNeed) (dropped : List ℕ) → AreSigns c.system.relations signs → IsGuardStop c soles prices attacks first limit fault row extras dropped → HasNoWalk fault × All IsWholeNeed extras
+stop_whole c soles prices attacks first signs limit fault row extras dropped are is = (
+  cause_whole c.system c.cells _ signs (is.asked.attack.cell, is.asked.attack.side) limit fault are is.asked.cause,
+  extras_whole c soles prices attacks first signs extras are is.each,
+)
+
+stops_whole : (c : Case) (soles : List (Option ℕ)) (prices : List ℕ) (attacks : List Attack) (first signs : List Bool) (limit : ℕ) (fault : AskFault) (row : ℕ) (extras : List ExtraNeed) (dropped : List ℕ) → AreSigns c.system.relations signs → StopsFor c soles prices attacks first limit fault row extras dropped → HasNoWalk fault × All IsWholeNeed extras
+stops_whole c soles prices attacks first signs limit (Work walk) row extras dropped are is = stop_whole c soles prices attacks first signs limit (Work walk) row extras dropped are is
+stops_whole c soles prices attacks first signs limit (Wide walk place) row extras dropped are is = stop_whole c soles prices attacks first signs limit (Wide walk place) row extras dropped are is
+stops_whole c soles prices attacks first signs limit (Size question hidden) row extras dropped are is = stop_whole c soles prices attacks first signs limit (Size question hidden) row extras dropped are is
+stops_whole c soles prices attacks first signs limit Memory row extras dropped are is = (tt, subst (All IsWholeNeed) (sym is.1) (All-nil IsWholeNeed))
+
+-- where the relations have signs a stop has no walk, and its extra cells' reasons are in whole units
+pub told_whole : (c : Case) (soles : List (Option ℕ)) (prices : List ℕ) (attacks : List Attack) (first signs : List Bool) (limit : ℕ) (stop : GuardStop) → AreSigns c.system.relations signs → StopsAsTold c soles prices attacks first limit stop → IsWholeGuardStop stop
+told_whole c soles prices attacks first signs limit stop are is =
+    stops_whole c soles prices attacks first signs limit stop.fault stop.against.row stop.against.extras stop.against.dropped are is

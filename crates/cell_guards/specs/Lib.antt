@@ -1,0 +1,4 @@
+pub mod ShownAgain
+pub mod Guards
+pub mod WholeOutcomes
+pub mod GuardParts
