@@ -1,8 +1,5 @@
-pub mod Overwriting
-pub mod Coming
+pub mod Counting
 pub mod Stopping
-pub mod Naming
-pub mod Readying
 pub mod Answering
 pub mod ReadingAlike
 pub mod OneFile

@@ -24,7 +24,7 @@ use Rattle.job_inputs.specs.SettledJobs.{SettledInputs, IsSettledOf}
 use Rattle.job_inputs.specs.declared.settled.SettledJob.{SettledJob}
 use Rattle.job_intervals.proofs.ReadingAlike.{tables_are_read_alike}
 use Rattle.job_intervals.specs.Finding.{IsFileOf}
-use Rattle.job_intervals.specs.TablesOnShelf.{ShelvedTables}
+use Rattle.shelved_tables.specs.TablesOnShelf.{ShelvedTables}
 use Rattle.job_intervals.specs.ShownTables.{flags_in}
 use Rattle.job_intervals.specs.declared.interval_file.IntervalFile.{IntervalFile}
 

@@ -24,7 +24,7 @@ use Rattle.job_inputs.specs.declared.settled.SettledJob.{SettledJob}
 use Rattle.job_inputs.specs.declared.stop.InputStop.{InputStop}
 use Rattle.job_inputs.specs.declared.stop.InputStop.TheVariants as input
 use Rattle.job_intervals.specs.Finding.{AnswersIntervals, ComesFromSet, IsFound}
-use Rattle.job_intervals.specs.TablesOnShelf.{ShelvedTables}
+use Rattle.shelved_tables.specs.TablesOnShelf.{ShelvedTables}
 use Rattle.job_intervals.specs.Stops.{memory_stop, table_stop, question_stop, HasCause, HasComeTo}
 use Rattle.job_intervals.specs.declared.interval_file.IntervalFile.{IntervalFile}
 use Rattle.job_intervals.specs.declared.stop.IntervalStop.{IntervalStop}

@@ -3,7 +3,7 @@ use Rattle.std.specs.Prelude.{◌≡◌, ℕ, List}
 use Rattle.job_inputs.specs.SettledJobs.{SettledInputs, IsSettledOf}
 use Rattle.job_inputs.specs.declared.settled.SettledJob.{SettledJob}
 use Rattle.job_intervals.specs.Finding.{IsFileOf}
-use Rattle.job_intervals.specs.TablesOnShelf.{ShelvedTables}
+use Rattle.shelved_tables.specs.TablesOnShelf.{ShelvedTables}
 use Rattle.job_intervals.specs.ShownTables.{flags_in}
 use Rattle.job_intervals.specs.declared.interval_file.IntervalFile.{IntervalFile}
 

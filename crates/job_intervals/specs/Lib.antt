@@ -1,5 +1,3 @@
-pub mod OutNames
-pub mod TablesOnShelf
 pub mod ShownTables
 pub mod Stops
 pub mod Finding

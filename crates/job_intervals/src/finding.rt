@@ -3,17 +3,18 @@ ghost use Rattle.sdc_base.specs.WhereTold.{WhereTold};
 ghost use Rattle.job_inputs.specs.ReadFiles.{output_limit};
 ghost use Rattle.job_inputs.specs.Reading.{HasOnlyLooked};
 ghost use Rattle.job_intervals.specs.Finding.{AnswersIntervals, ComesFromSet, IsFound};
-ghost use Rattle.job_intervals.specs.TablesOnShelf.{shelved_of, ComesTo, IsReadyShelved};
+ghost use Rattle.shelved_tables.specs.TablesOnShelf.{shelved_of, ComesTo, IsReadyShelved};
 ghost use Rattle.job_intervals.specs.Stops.{HasCause, HasComeTo};
 
 use crate::interval_file::IntervalFile;
-use crate::shelved::{ShelvedJob, read_shelved};
 use crate::showing::hidden_in;
 use crate::stop::IntervalStop;
 use cell_intervals::{interval_text, intervals_of, size_is_large};
+use job_inputs::Purpose;
 use office_io::Shelf;
 use relations::relations_of;
 use sdc_base::{Hidden, Text};
+use shelved_tables::{ShelvedJob, read_shelved};
 use std::alloc::Global;
 
 /// The file of intervals of the cells that the tables of a job hide, to be put under the name `out`: for each such
@@ -62,7 +63,7 @@ pub fn find_intervals<S: Shelf>(
     // That a file is absent or too long and a fault of the shelf have their cause, whatever the shelf tells.
     ensures cause { HasCause result (S.state shelf.old) (S.state shelf.new) }
 {
-    let shelved = read_shelved(alloc, shelf, name, out)?;
+    let shelved = read_shelved(alloc, shelf, name, out, Purpose::Intervals)?;
     let hidden = hidden_in(alloc, &shelved)?;
     file_for(alloc, &shelved, &hidden)
 }

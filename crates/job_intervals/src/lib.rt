@@ -5,8 +5,6 @@
 mod finding;
 mod interval_file;
 mod laws;
-mod out_name;
-mod shelved;
 mod showing;
 mod stop;
 

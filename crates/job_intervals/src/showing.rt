@@ -2,14 +2,14 @@ ghost use Rattle.std.specs.Prelude.{◌≡◌, ◌<◌, ◌^◌, IfOk, length};
 ghost use Rattle.sdc_base.specs.Answers.{Gives};
 ghost use Rattle.worlds.specs.ProtectFaults.{fixed_hidden};
 ghost use Rattle.cert_check.specs.FirstFault.{fault_of};
-ghost use Rattle.job_intervals.specs.TablesOnShelf.{IsReadyShelved};
+ghost use Rattle.shelved_tables.specs.TablesOnShelf.{IsReadyShelved};
 ghost use Rattle.job_intervals.specs.ShownTables.{fixed_fault, flags_in, lines_read};
 
-use crate::shelved::ShelvedJob;
 use cert_check::CheckFault;
 use job_inputs::table_names;
 use release_writer::{hidden_of, hidden_sets_are_read_back};
 use sdc_base::{Cell, Hidden};
+use shelved_tables::ShelvedJob;
 use std::alloc::Global;
 
 /// The cells that the tables of a job hide, or the first fault of the tables: the first line that the texts of no

@@ -5,7 +5,8 @@ use Rattle.cell_intervals.specs.IntervalFaults.{IsFaultOf}
 use Rattle.cell_intervals.specs.IntervalTexts.{interval_text}
 use Rattle.cell_intervals.specs.Intervals.{AreIntervals}
 use Rattle.cell_intervals.specs.declared.interval.CellInterval.{CellInterval}
-use Rattle.job_intervals.proofs.Readying.{truths_within, few_intervals}
+use Rattle.job_intervals.proofs.Counting.{few_intervals}
+use Rattle.shelved_tables.proofs.Readying.{truths_within}
 use Rattle.job_intervals.proofs.Stopping.{question_stops}
 use Rattle.job_intervals.proofs.finding.file_for.Goals as goal
 

@@ -1,9 +1,9 @@
 use Rattle.std.proofs.Common.{Ok, refl}
 use Rattle.std.proofs.lemmas.Result.{err_from_is_err_and}
 use Rattle.job_intervals.proofs.Answering.{refused_for, set_comes, set_found}
-use Rattle.job_intervals.proofs.Coming.{ok_and}
+use Rattle.shelved_tables.proofs.Coming.{ok_and}
 use Rattle.job_intervals.proofs.Stopping.{table_stops, table_found, table_cause, table_comes_to, set_cause, set_comes_to}
-use Rattle.job_intervals.specs.TablesOnShelf.{shelved_of, IsShelvedOf}
+use Rattle.shelved_tables.specs.TablesOnShelf.{shelved_of, IsShelvedOf}
 use Rattle.job_intervals.specs.ShownTables.{flags_in}
 use Rattle.job_intervals.proofs.finding.find_intervals.Goals as goal
 

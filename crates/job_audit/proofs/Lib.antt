@@ -1,0 +1,3 @@
+pub mod Stopping
+pub mod Answering
+pub mod Counting

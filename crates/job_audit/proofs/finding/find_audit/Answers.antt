@@ -1,0 +1,60 @@
+use Rattle.std.proofs.Common.{List, Ok, refl, subst, ℤ}
+use Rattle.std.proofs.lemmas.Result.{err_from_is_err_and}
+use Rattle.job_audit.proofs.Answering.{refused_for, values_come, values_found}
+use Rattle.shelved_tables.proofs.Coming.{ok_and}
+use Rattle.job_audit.proofs.Stopping.{table_stops, table_found, table_cause, table_comes_to, values_cause, values_come_to}
+use Rattle.shelved_tables.specs.TablesOnShelf.{shelved_for, IsShelvedOf}
+use Rattle.job_audit.specs.Finding.{ComesFromValues}
+use Rattle.job_audit.specs.ShownValues.{values_read}
+use Rattle.job_inputs.specs.declared.purpose.Purpose.TheVariants.{Audit}
+use Rattle.job_audit.proofs.finding.find_audit.Goals as goal
+
+-- ---- the tables
+
+pub returns-in_err-values-clause-told : goal.returns-in_err-values-clause-told
+returns-in_err-values-clause-told g c =
+    λ fs told.
+    let p = err_from_is_err_and c.from_residual-in_err-values.result c.from_residual-in_err-values.ensures.1 in
+    let shelved = c.in_ok-shelved.shelved in
+    let meant = shelved_for Audit fs c.args.name.now c.args.out.now in
+    let one = ok_and (λ it. IsShelvedOf it shelved) meant (c.in_ok-shelved.ensures.told fs told) in
+    rw (p.1, p.2) (table_stops (values_read shelved.job shelved.tables) meant c.in_err-values.field-0.0 c.in_err-values.ensures.exact (λ why first. refused_for meant one.0 shelved why one.1 one.2 first))
+
+pub returns-in_err-values-clause-found : goal.returns-in_err-values-clause-found
+returns-in_err-values-clause-found g c =
+    let p = err_from_is_err_and c.from_residual-in_err-values.result c.from_residual-in_err-values.ensures.1 in
+    let shelved = c.in_ok-shelved.shelved in
+    let some = c.in_ok-shelved.ensures.settled in
+    rw (p.1, p.2) (table_found (values_read shelved.job shelved.tables) c.in_err-values.field-0.0 c.in_err-values.ensures.exact (λ why first. (some.0, some.2, refused_for (Ok some.0) some.0 shelved why refl some.1 first)))
+
+pub returns-in_err-values-clause-came_to : goal.returns-in_err-values-clause-came_to
+returns-in_err-values-clause-came_to g c =
+    λ fs told.
+    let p = err_from_is_err_and c.from_residual-in_err-values.result c.from_residual-in_err-values.ensures.1 in
+    rw (p.1, p.2) (table_comes_to c.in_err-values.field-0.0 _ fs (g.S.Shelf.state c.read_shelved.new.shelf))
+
+pub returns-in_err-values-clause-cause : goal.returns-in_err-values-clause-cause
+returns-in_err-values-clause-cause g c =
+    let p = err_from_is_err_and c.from_residual-in_err-values.result c.from_residual-in_err-values.ensures.1 in
+    rw (p.1, p.2) (table_cause c.in_err-values.field-0.0 (g.S.Shelf.state c.args.shelf.now) (g.S.Shelf.state c.read_shelved.new.shelf))
+
+-- ---- the numbers
+
+pub returns-clause-told : goal.returns-clause-told
+returns-clause-told g c =
+    λ fs told.
+    let shelved = c.in_ok-shelved.shelved in
+    let meant = shelved_for Audit fs c.args.name.now c.args.out.now in
+    let one = ok_and (λ it. IsShelvedOf it shelved) meant (c.in_ok-shelved.ensures.told fs told) in
+    values_come meant one.0 shelved c.in_ok-values.values c.file_for.result one.1 one.2 c.in_ok-values.ensures.exact (subst (λ (values : List ℤ). ComesFromValues c.in_ok-shelved.shelved.job values c.file_for.result) c.as_slice.ensures c.file_for.ensures)
+
+pub returns-clause-found : goal.returns-clause-found
+returns-clause-found g c =
+    let some = c.in_ok-shelved.ensures.settled in
+    values_found some.0 c.in_ok-shelved.shelved c.in_ok-values.values c.file_for.result some.2 some.1 c.in_ok-values.ensures.exact (subst (λ (values : List ℤ). ComesFromValues c.in_ok-shelved.shelved.job values c.file_for.result) c.as_slice.ensures c.file_for.ensures)
+
+pub returns-clause-came_to : goal.returns-clause-came_to
+returns-clause-came_to g c = λ fs told. values_come_to c.in_ok-shelved.shelved.job c.in_ok-values.values c.file_for.result _ fs (g.S.Shelf.state c.read_shelved.new.shelf) (subst (λ (values : List ℤ). ComesFromValues c.in_ok-shelved.shelved.job values c.file_for.result) c.as_slice.ensures c.file_for.ensures)
+
+pub returns-clause-cause : goal.returns-clause-cause
+returns-clause-cause g c = values_cause c.in_ok-shelved.shelved.job c.in_ok-values.values c.file_for.result (g.S.Shelf.state c.args.shelf.now) (g.S.Shelf.state c.read_shelved.new.shelf) (subst (λ (values : List ℤ). ComesFromValues c.in_ok-shelved.shelved.job values c.file_for.result) c.as_slice.ensures c.file_for.ensures)

@@ -1,0 +1,3 @@
+pub mod ShownValues
+pub mod Stops
+pub mod Finding

@@ -1,0 +1,55 @@
+-- Why there is no audit of a job, and the cause of it on the shelf (own).
+use Rattle.std.specs.Prelude.{◌≡◌, ℕ, List, Result, Err}
+use Rattle.office_io.specs.Files.{Files}
+use Rattle.office_io.specs.Shelves.{ShelfState}
+use Rattle.interval_audit.specs.declared.answer.AskFault.{AskFault}
+use Rattle.interval_audit.specs.declared.answer.AskFault.TheVariants as ask
+use Rattle.cert_check.specs.declared.faults.CheckFault.{CheckFault}
+use Rattle.cert_check.specs.declared.faults.CheckFault.TheVariants as check
+use Rattle.rounding_audit.specs.declared.audit_fault.AuditFault.{AuditFault}
+use Rattle.rounding_audit.specs.declared.audit_fault.AuditFault.TheVariants as audit
+use Rattle.rounding_audit.specs.declared.reader_fault.ReaderFault.{ReaderFault}
+use Rattle.rounding_audit.specs.declared.reader_fault.ReaderFault.TheVariants as reader
+use Rattle.job_inputs.specs.Reading.{HasCause as HasInputCause, HasComeTo as HasInputComeTo}
+use Rattle.job_inputs.specs.declared.file_ref.FileRef.{FileRef}
+use Rattle.job_inputs.specs.declared.stop.InputStop.{InputStop}
+use Rattle.job_inputs.specs.declared.stop.InputStop.TheVariants as input
+use Rattle.job_audit.specs.declared.audit_file.AuditFile.{AuditFile}
+use Rattle.job_audit.specs.declared.stop.AuditStop.{AuditStop}
+use Rattle.job_audit.specs.declared.stop.AuditStop.TheVariants as stop
+
+-- want of memory
+abbrev pub memory_stop : AuditStop
+memory_stop = stop.Inputs input.Memory
+
+-- a fault of the tables as a stop; want of memory is that of the inputs
+abbrev pub table_stop : CheckFault → AuditStop
+table_stop check.Memory = memory_stop
+table_stop why = stop.NotAccepted why
+
+-- values that aren't those of a rounded release as a stop; want of memory is that of the inputs
+abbrev pub reader_stop : ReaderFault → AuditStop
+reader_stop (reader.Rounded cell) = stop.NotAccepted (check.Rounded cell)
+reader_stop (reader.Relation number) = stop.NotAccepted (check.Relation number)
+reader_stop reader.Memory = memory_stop
+
+-- a question without an answer as a stop; want of memory is that of the inputs
+abbrev pub question_stop : AskFault → AuditStop
+question_stop ask.Memory = memory_stop
+question_stop why = stop.Undecided why
+
+-- a fault of the audit as a stop
+abbrev pub audit_stop : AuditFault → AuditStop
+audit_stop (audit.Reader why) = reader_stop why
+audit_stop (audit.Question why) = question_stop why
+audit_stop audit.Memory = memory_stop
+
+-- where inputs, the name of the file to be put or the tables' files are refused, that has its cause on the shelf
+abbrev pub HasCause : Result AuditFile AuditStop → ShelfState → ShelfState → Type 0
+HasCause result old new =
+    (why : InputStop) → result ≡ Err (stop.Inputs why) → HasInputCause {X = AuditFile} (Err why) old new
+
+-- where the shelf fails at a file, it is one that the run came to by its name, and was the last one looked for
+abbrev pub HasComeTo : (FileRef → List ℕ → Type 0) → Result AuditFile AuditStop → Files → ShelfState → Type 0
+HasComeTo comes result files new =
+    (why : InputStop) → result ≡ Err (stop.Inputs why) → HasInputComeTo {X = AuditFile} comes (Err why) files new

@@ -1,0 +1,12 @@
+//! What the rounded tables that were put for a job protect: the job's inputs and its tables are read, and the file of
+//! the audit is made.
+#![tactic(auto)]
+
+mod audit_file;
+mod finding;
+mod showing;
+mod stop;
+
+pub use audit_file::AuditFile;
+pub use finding::find_audit;
+pub use stop::AuditStop;

@@ -1,0 +1,9 @@
+pub mod Adjacent
+pub mod Parts
+pub mod Bounds
+pub mod Listing
+pub mod ReaderWorlds
+pub mod Amounts
+pub mod Ending
+pub mod Primaries
+pub mod Joining

@@ -1,0 +1,17 @@
+use Rattle.std.proofs.Common.{◌≡◌, ◌++◌, ◌-◌, ◌<◌, All, Bool, List, ℕ, true, filter, map}
+use Rattle.std.specs.List.{range_with_len}
+use Rattle.sdc_base.specs.Kinds.{is_primary_at}
+use Rattle.sdc_base.specs.Signs.{AreSigns}
+use Rattle.cell_intervals.specs.IntervalFaults.{HasBothEnds}
+use Rattle.rounding_audit.specs.Audits.{HasWholeEnds, IsAuditedCell, primary_cells}
+use Rattle.rounding_audit.specs.Readers.{all_hidden}
+use Rattle.rounding_audit.specs.declared.audited.AuditedCell.{AuditedCell}
+use Rattle.rounding_audit.proofs.auditing.audit_cells.Given as goal
+
+abbrev pub invariant-cells : goal.invariant-cells
+invariant-cells l = record {
+  numbers : map (λ (one : AuditedCell). one.cell) l.audited ++ filter (is_primary_at l.reader.cells.now) (range_with_len l.number (l.reader.system.now.cells - l.number)) ≡ primary_cells l.reader.cells.now;
+  each : All (IsAuditedCell l.reader.system.now l.reader.cells.now l.reader.values.now l.reader.base) l.audited;
+  whole : (signs : List Bool) → AreSigns l.reader.system.now.relations signs → All HasWholeEnds l.audited;
+  ended : (other : ℕ) → other < l.number → is_primary_at l.reader.cells.now other ≡ true → HasBothEnds l.reader.system.now l.reader.known.now (all_hidden l.reader.system.now.cells) other;
+}

@@ -1,0 +1,4 @@
+pub mod Overwriting
+pub mod Coming
+pub mod Naming
+pub mod Readying

@@ -1,0 +1,2 @@
+pub mod OutNames
+pub mod TablesOnShelf
