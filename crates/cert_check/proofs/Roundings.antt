@@ -7,7 +7,7 @@ use Rattle.std.specs.Int.RustNames.{int_rem}
 use Rattle.std.proofs.lemmas.Int.{ints, quot-rem}
 use Rattle.std.proofs.lemmas.Bool.Decides.{Decides-int_eq}
 use Rattle.std.proofs.lemmas.List.Elements.{All-nil, All-cons}
-use Rattle.sdc_base.specs.Steps.{◌>>=◌, map_fault}
+use Rattle.sdc_base.specs.Steps.{map_fault}
 use Rattle.sdc_base.proofs.StepLemmas.{bind_ok}
 use Rattle.sdc_base.specs.Answers.{Fails}
 use Rattle.sdc_base.specs.declared.cell.Cell.{Cell}

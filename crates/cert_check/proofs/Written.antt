@@ -1,5 +1,5 @@
 -- What a protection wrote has no fault.
-use Rattle.std.proofs.Common.{◌≡◌, ◌≢◌, ℕ, zero, suc, ◌+◌, ◌<◌, ◌≤◌, ◌==◌, ◌&&◌, nat_lt, not, Bool, true, false, cond, List, [], ◌∷◌, ◌++◌, filter, fold, replicate, length, map, All, Option, None, Some, Result, Ok, Err, slice_get, ℤ, pos, refl, ap, sym, ◌∙◌, subst, arith, if◌then◌else◌}
+use Rattle.std.proofs.Common.{◌≡◌, ◌≢◌, ℕ, suc, ◌+◌, ◌<◌, ◌==◌, ◌&&◌, nat_lt, not, Bool, true, false, cond, List, [], ◌∷◌, ◌++◌, filter, fold, replicate, length, map, All, None, Some, Result, Ok, slice_get, ℤ, pos, refl, ap, sym, ◌∙◌, subst, arith, if◌then◌else◌}
 use Rattle.std.specs.List.{list_all, range_with_len}
 use Rattle.std.specs.Option.{option_map_or}
 use Rattle.std.specs.Ordering.{int_eq}
@@ -8,13 +8,12 @@ use Rattle.std.proofs.lemmas.List.{append_assoc, length-append}
 use Rattle.std.proofs.lemmas.List.Elements.{All-head, All-tail}
 use Rattle.std.proofs.lemmas.Option.{slice_get_within}
 use Rattle.std.proofs.Math.Seq.{set-append_seam}
-use Rattle.sdc_base.specs.HiddenSets.{is_hidden, IsPermitted}
+use Rattle.sdc_base.specs.HiddenSets.{is_hidden}
 use Rattle.sdc_base.specs.Kinds.{is_free}
 use Rattle.sdc_base.specs.Steps.{◌>>=◌, refuse, map_fault}
-use Rattle.sdc_base.proofs.StepLemmas.{bind_ok}
 use Rattle.sdc_base.specs.declared.cell.Cell.{Cell}
 use Rattle.sdc_base.specs.declared.cell.Kind.{Kind}
-use Rattle.sdc_base.specs.declared.cell.Kind.TheVariants.{Primary, Free, Fixed}
+use Rattle.sdc_base.specs.declared.cell.Kind.TheVariants.{Primary, Free}
 use Rattle.sdc_base.specs.declared.side.Side.{Side}
 use Rattle.sdc_base.specs.declared.side.Side.TheVariants.{Above, Below}
 use Rattle.sdc_base.specs.declared.system.System.{System}
@@ -25,23 +24,21 @@ use Rattle.linked_tables.specs.BookViews.{BookView}
 use Rattle.release_writer.specs.ReadingLaws.{AreTexts}
 use Rattle.release_writer.specs.ShownCells.{open_truth}
 use Rattle.worlds.specs.declared.refuted.Refuted.{Refuted}
-use Rattle.worlds.specs.declared.world.World.{World}
-use Rattle.worlds.specs.WorldFaults.{refuse_at, world_fault}
-use Rattle.worlds.specs.ProtectFaults.{line_number, primary_shown, fixed_hidden, asked_of, is_reaching}
-use Rattle.worlds.specs.RefutationFaults.{refutation_fault, IsGivenRefutation}
+use Rattle.worlds.specs.WorldFaults.{world_fault}
+use Rattle.worlds.specs.ProtectFaults.{line_number, is_reaching}
+use Rattle.worlds.specs.RefutationFaults.{refutation_fault}
 use Rattle.worlds.proofs.TrueTests.{both_true}
-use Rattle.worlds.proofs.WorldLaws.{then_ok, passes, passes_none, none_refused, world_law}
+use Rattle.worlds.proofs.WorldLaws.{then_ok, passes, passes_none, world_law}
 use Rattle.worlds.proofs.RefutationLaws.{refutation_law}
 use Rattle.certificate.specs.declared.certificate.WorldLine.{WorldLine}
-use Rattle.repair.specs.HidingOrder.{Case, IsOfKind, IsSubset, hide, show, coefficients_for}
+use Rattle.repair.specs.HidingOrder.{Case, IsOfKind, hide, show, coefficients_for}
 use Rattle.repair.specs.KeptWorlds.{IsServing, AreServed}
 use Rattle.repair.specs.Repairs.{cell_and_side, IsJustified, EachRepair}
-use Rattle.repair.specs.Needs.{others_hidden, IsNeed}
+use Rattle.repair.specs.Needs.{IsNeed}
 use Rattle.cert_check.specs.declared.faults.CheckFault.{CheckFault}
 use Rattle.cert_check.specs.declared.faults.CheckFault.TheVariants as fault
 use Rattle.cert_check.specs.Counts.{is_cell_number, names_cells, stands_for_cell}
 use Rattle.cert_check.specs.FirstDifference.{first_difference, same_numbers}
-use Rattle.cert_check.specs.HiddenSet.{hidden_set}
 use Rattle.cert_check.specs.Methods.{same_method}
 use Rattle.cert_check.specs.NeedList.{need_fault, each_need_fault}
 use Rattle.cert_check.specs.OutsidePlan.{first_outside}

@@ -30,10 +30,9 @@ use Rattle.repair.proofs.Passing.{served_pass}
 use Rattle.cert_check.specs.declared.case.Case.{Case}
 use Rattle.cert_check.specs.declared.faults.CheckFault.{CheckFault}
 use Rattle.cert_check.specs.declared.faults.CheckFault.TheVariants as fault
-use Rattle.cert_check.specs.Cases.{IsCase}
 use Rattle.cert_check.specs.Counts.{is_cell_number, names_cells, stands_for_cell, counts_fit, counts_fault}
 use Rattle.cert_check.specs.FirstDifference.{first_difference}
-use Rattle.cert_check.specs.FirstFault.{open_set, hiding_fault, suppressed_fault, first_fault}
+use Rattle.cert_check.specs.FirstFault.{open_set, hiding_fault, suppressed_fault}
 use Rattle.cert_check.specs.HiddenSet.{hidden_set, permitted_fault}
 use Rattle.cert_check.specs.Methods.{same_method, rounds_cells, lists_nothing, method_fault}
 use Rattle.cert_check.specs.NeedList.{each_need_fault, needs_fault}

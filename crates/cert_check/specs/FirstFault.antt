@@ -50,14 +50,20 @@ hiding_fault case flags c =
     c.repairs >>= λ _.
     outside_fault (open_set case c) flags
 
+-- the first fault of what a certificate shows of this hidden set: of what hides cells, then of the worlds, then of the
+-- needs
+abbrev pub shown_fault : Case → List Bool → Certificate → Result (Unit {0}) CheckFault
+shown_fault case flags c =
+    hiding_fault case flags c >>= λ _.
+    worlds_fault case.system.now case.cells.now flags c.worlds >>= λ _.
+    needs_fault case.system.now case.cells.now flags c.needs
+
 -- the first fault of a suppressed release, for this hidden set
 abbrev pub suppressed_fault : Case → List (List ℕ) → List Bool → Certificate → Result (Unit {0}) CheckFault
 suppressed_fault case release flags c =
     permitted_fault case.cells.now flags >>= λ _.
     tables_fault case.book.now flags case.decimals 0 case.book.now.tables case.names.now release >>= λ _.
-    hiding_fault case flags c >>= λ _.
-    worlds_fault case.system.now case.cells.now flags c.worlds >>= λ _.
-    needs_fault case.system.now case.cells.now flags c.needs
+    shown_fault case flags c
 
 -- the first fault of a certificate for a case and a release
 abbrev pub first_fault : Case → List (List ℕ) → Certificate → Result (Unit {0}) CheckFault

@@ -11,6 +11,7 @@ pub mod NeedList
 pub mod RoundedRelease
 pub mod Cases
 pub mod FirstFault
+pub mod OwnTexts
 pub mod Acceptance
 pub mod LineLaws
 pub mod RoundingLaws

@@ -1,4 +1,4 @@
-ghost use Rattle.std.specs.Prelude.{◌≡◌, ◌<◌, true, false, length, All, Ok};
+ghost use Rattle.std.specs.Prelude.{◌≡◌, ◌<◌, true, false, length, All, Ok, OnOk};
 ghost use Rattle.sdc_base.specs.Trails.{corners_of};
 ghost use Rattle.sdc_base.specs.Answers.{Gives};
 ghost use Rattle.sdc_base.specs.Grounds.{IsGround};
@@ -6,7 +6,7 @@ ghost use Rattle.cert_check.specs.Cases.{IsCase};
 ghost use Rattle.cert_check.specs.Counts.{counts_fit};
 ghost use Rattle.cert_check.specs.Methods.{rounds_cells};
 ghost use Rattle.cert_check.specs.Acceptance.{IsAccepted, IsOfCase, IsRoundedRelease};
-ghost use Rattle.cert_check.specs.FirstFault.{fault_of, first_fault, suppressed_fault, hiding_fault};
+ghost use Rattle.cert_check.specs.FirstFault.{fault_of, first_fault, suppressed_fault, shown_fault, hiding_fault};
 
 use crate::case::Case;
 use crate::counting::check_counts;
@@ -100,6 +100,25 @@ fn check_suppressed(
     let _cells = case.system.cells;
     check_permitted(case.cells, hidden.flags.as_slice())?;
     check_release(alloc, case.book, hidden, case.names, case.decimals, release)?;
+    check_shown(alloc, case, hidden, certificate)
+}
+
+/// The first fault of what a certificate shows of its hidden set: of what hides cells, of the worlds, of the needs. The
+/// hidden set is as before.
+pub(crate) fn check_shown(
+    alloc: Global,
+    case: &Case<'_>,
+    hidden: &mut Hidden,
+    certificate: &Certificate,
+) -> Result<(), CheckFault>
+    requires ground { IsGround case.now.system.now case.now.cells.now hidden.old.flags }
+    requires corners { All (λ corner. corner < length case.now.cells.now) (corners_of case.now.trail.now.steps) }
+    requires counted { counts_fit case.now.system.now certificate.now ≡ true }
+    ensures exact { Gives fault_of (λ u. u) result (shown_fault case.now hidden.old.flags certificate.now) }
+    ensures hidden { OnOk result (hidden.new.flags ≡ hidden.old.flags) }
+{
+    // for the proof: read, so that it is known to be a number of 32 bits.
+    let _cells = case.system.cells;
     let mut scratch = Vec::from_elem(alloc, 0, case.cells.len())?;
     check_hiding(alloc, case, hidden, certificate, &mut scratch)?;
     let worlds = certificate.worlds.as_slice();

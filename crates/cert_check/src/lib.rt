@@ -3,6 +3,7 @@
 
 mod accepting;
 mod case;
+mod certifying;
 mod counting;
 mod faults;
 mod hiding;
@@ -19,5 +20,7 @@ mod steps;
 
 pub use accepting::accept;
 pub use case::Case;
+pub use certifying::accept_certificate;
 pub use faults::CheckFault;
 pub use laws::{lines_differ, protected_is_accepted, rounding_is_judged};
+pub use release::check_tables;

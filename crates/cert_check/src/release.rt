@@ -1,16 +1,41 @@
-ghost use Rattle.std.specs.Prelude.{◌≡◌, ◌≤◌, ◌<◌, ◌+◌, ◌^◌, ◌==◌, false, slice_get, [], length, slice_index_or};
+ghost use Rattle.std.specs.Prelude.{◌≡◌, ◌≤◌, ◌<◌, ◌+◌, ◌^◌, ◌==◌, false, slice_get, [], length, slice_index_or, Ok};
 ghost use Rattle.std.specs.Option.{option_map_or};
 ghost use Rattle.sdc_base.specs.Answers.{Gives};
+ghost use Rattle.release_writer.specs.ReadingLaws.{AreTexts};
 ghost use Rattle.release_writer.specs.Sheets.{HaveNames, HasTruthsFromZero};
+ghost use Rattle.release_writer.specs.ShownCells.{open_truth};
+ghost use Rattle.cert_check.specs.Cases.{IsCase};
 ghost use Rattle.cert_check.specs.FirstFault.{fault_of};
+ghost use Rattle.cert_check.specs.OwnTexts.{release_fault};
 ghost use Rattle.cert_check.specs.ReleaseLines as spec;
 
+use crate::case::Case;
 use crate::faults::CheckFault;
 use crate::numbering::number_of;
 use linked_tables::Book;
 use release_writer::{Shown, table_bytes};
 use sdc_base::{Hidden, Items, Text};
 use std::alloc::Global;
+
+/// Whether the tables of a release hide exactly the cells of a set: the first line, table by table, that isn't as they
+/// say, if there is one.
+///
+/// The case is as for [`accept`](crate::accept), and the set has a flag for each cell. Any bytes may be given. A missing
+/// and a further line differ too. Want of memory is `Memory`. It writes each table once, and compares it byte by byte.
+pub fn check_tables(
+    alloc: Global,
+    case: &Case<'_>,
+    hidden: &Hidden,
+    release: &[Text],
+) -> Result<(), CheckFault>
+    requires is_case { IsCase case.now release.now }
+    requires flags { length hidden.now.flags ≡ case.now.system.now.cells }
+    ensures exact { Gives fault_of (λ u. u) result (release_fault case.now hidden.now.flags release.now) }
+    ensures texts { result ≡ Ok tt → AreTexts case.now.book.now case.now.decimals
+        (open_truth case.now.book.now.marks hidden.now.flags) case.now.book.now.tables case.now.names.now release.now }
+{
+    check_release(alloc, case.book, hidden, case.names, case.decimals, release)
+}
 
 /// Refuses tables that aren't the texts of a hidden set.
 pub(crate) fn check_release(

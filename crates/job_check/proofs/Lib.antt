@@ -1,4 +1,6 @@
+pub mod ContributorsRead
 pub mod ReleaseReading
 pub mod Judgements
 pub mod CaseParts
-pub mod Units
+pub mod SameRecords
+pub mod GuardedParts

@@ -1,7 +1,9 @@
 -- What stops the reading of a release, and to which file it comes.
-use Rattle.std.proofs.Common.{◌≡◌, ℕ, List, Option, Result, Ok, Err, IsOkAnd, refl, ap, ◌∙◌, subst}
+use Rattle.std.proofs.Common.{◌≡◌, ℕ, List, Option, None, Some, Result, Ok, Err, IsOkAnd, refl, ap, ◌∙◌, subst}
 use Rattle.sdc_base.specs.Answers.{Fails}
 use Rattle.certificate.specs.declared.certificate.Certificate.{Certificate}
+use Rattle.certificate.specs.declared.extra.Extra.{Extra}
+use Rattle.job_lang.specs.declared.job.OutputLine.{OutputLine}
 use Rattle.office_io.specs.Files.{Files}
 use Rattle.job_inputs.proofs.Refusing.{fails-on}
 use Rattle.job_inputs.specs.CertificateFile.{certificate_in}
@@ -14,8 +16,9 @@ use Rattle.job_inputs.specs.declared.file_ref.FileRef.{FileRef}
 use Rattle.job_inputs.specs.declared.file_ref.FileRef.TheVariants as file
 use Rattle.job_inputs.specs.declared.purpose.Purpose.TheVariants as purpose
 use Rattle.job_inputs.specs.declared.settled.SettledJob.{SettledJob}
+use Rattle.job_check.specs.Contributors.{extra_for, IsContributorsFile}
 use Rattle.job_check.specs.Reading.{IsReleasedOf, ComesTo}
-use Rattle.job_check.specs.ReleaseFiles.{released_of}
+use Rattle.job_check.specs.ReleaseFiles.{released_of, released_with}
 use Rattle.job_check.specs.declared.reading.ReadRelease.{ReadRelease}
 
 -- a value that has a property, where there is one
@@ -34,15 +37,20 @@ certificate-fails : (files : Files) (name : List ℕ) (settled : SettledInputs) 
 unfolding released_of
 certificate-fails files name settled o read h = rw read (fails-on o (certificate_in files settled.inputs.described.job.certificate) _ h)
 
-tables-fail : (files : Files) (name : List ℕ) (settled : SettledInputs) (certificate : Certificate) (o : Option Fault) → settled_of purpose.Release files name ≡ Ok settled → certificate_in files settled.inputs.described.job.certificate ≡ Ok certificate
-    → Fails o (tables_of files settled.inputs.described.job) → Fails o (released_of files name)
+extra-fails : (files : Files) (name : List ℕ) (settled : SettledInputs) (certificate : Certificate) (o : Option Fault) → settled_of purpose.Release files name ≡ Ok settled → certificate_in files settled.inputs.described.job.certificate ≡ Ok certificate
+    → Fails o (extra_for files settled.inputs.described.job.contributors) → Fails o (released_of files name)
 unfolding released_of
-tables-fail files name settled certificate o read signed h = rw (read, signed) (fails-on o (tables_of files settled.inputs.described.job) _ h)
+extra-fails files name settled certificate o read signed h = rw (read, signed) (fails-on o (extra_for files settled.inputs.described.job.contributors) _ h)
 
-released-is : (files : Files) (name : List ℕ) (settled : SettledInputs) (certificate : Certificate) (tables : List (List ℕ)) → settled_of purpose.Release files name ≡ Ok settled → certificate_in files settled.inputs.described.job.certificate ≡ Ok certificate
-    → tables_of files settled.inputs.described.job ≡ Ok tables → released_of files name ≡ Ok (record { settled = settled; certificate = certificate; tables = tables })
+tables-fail : (files : Files) (name : List ℕ) (settled : SettledInputs) (certificate : Certificate) (extra : Option Extra) (o : Option Fault) → settled_of purpose.Release files name ≡ Ok settled → certificate_in files settled.inputs.described.job.certificate ≡ Ok certificate
+    → extra_for files settled.inputs.described.job.contributors ≡ Ok extra → Fails o (tables_of files settled.inputs.described.job) → Fails o (released_of files name)
 unfolding released_of
-released-is files name settled certificate tables read signed put = rw (read, signed, put) refl
+tables-fail files name settled certificate extra o read signed beside h = rw (read, signed, beside) (fails-on o (tables_of files settled.inputs.described.job) _ h)
+
+released-is : (files : Files) (name : List ℕ) (settled : SettledInputs) (certificate : Certificate) (extra : Option Extra) (tables : List (List ℕ)) → settled_of purpose.Release files name ≡ Ok settled → certificate_in files settled.inputs.described.job.certificate ≡ Ok certificate
+    → extra_for files settled.inputs.described.job.contributors ≡ Ok extra → tables_of files settled.inputs.described.job ≡ Ok tables → released_of files name ≡ Ok (released_with settled certificate extra tables)
+unfolding released_of
+released-is files name settled certificate extra tables read signed beside put = rw (read, signed, beside, put) refl
 
 -- ---- the same, for the job that was read
 
@@ -64,21 +72,30 @@ no-certificate files name job o was h =
     let it = inputs-of files name job was in
     certificate-fails files name it.settled o it.read (subst (λ (d : DescribedJob). Fails o (certificate_in files d.job.certificate)) it.is.described h)
 
--- and what stops a table
-pub no-tables : (files : Files) (name : List ℕ) (job : SettledJob) (certificate : Certificate) (o : Option Fault) → WasSettled files name job → certificate_in files job.described.job.certificate ≡ Ok certificate → Fails o (tables_of files job.described.job)
-    → Fails o (released_of files name)
-no-tables files name job certificate o was signed h =
+-- what stops the contributors' file
+pub no-extra : (files : Files) (name : List ℕ) (job : SettledJob) (certificate : Certificate) (o : Option Fault) → WasSettled files name job → certificate_in files job.described.job.certificate ≡ Ok certificate
+    → Fails o (extra_for files job.described.job.contributors) → Fails o (released_of files name)
+no-extra files name job certificate o was signed h =
     let it = inputs-of files name job was in
-    tables-fail files name it.settled certificate o it.read (subst (λ (d : DescribedJob). certificate_in files d.job.certificate ≡ Ok certificate) it.is.described signed) (subst (λ (d : DescribedJob). Fails o (tables_of files d.job)) it.is.described h)
+    extra-fails files name it.settled certificate o it.read (subst (λ (d : DescribedJob). certificate_in files d.job.certificate ≡ Ok certificate) it.is.described signed)
+    (subst (λ (d : DescribedJob). Fails o (extra_for files d.job.contributors)) it.is.described h)
 
--- job, certificate and tables are all that there is
-pub all-read : (files : Files) (name : List ℕ) (read : ReadRelease) → WasSettled files name read.job → certificate_in files read.job.described.job.certificate ≡ Ok read.certificate → tables_of files read.job.described.job ≡ Ok read.tables
-    → IsOkAnd (released_of files name) (λ released. IsReleasedOf released read)
-all-read files name read was signed put =
+-- and what stops a table
+pub no-tables : (files : Files) (name : List ℕ) (job : SettledJob) (certificate : Certificate) (extra : Option Extra) (o : Option Fault) → WasSettled files name job → certificate_in files job.described.job.certificate ≡ Ok certificate
+    → extra_for files job.described.job.contributors ≡ Ok extra → Fails o (tables_of files job.described.job) → Fails o (released_of files name)
+no-tables files name job certificate extra o was signed beside h =
+    let it = inputs-of files name job was in
+    tables-fail files name it.settled certificate extra o it.read (subst (λ (d : DescribedJob). certificate_in files d.job.certificate ≡ Ok certificate) it.is.described signed)
+    (subst (λ (d : DescribedJob). extra_for files d.job.contributors ≡ Ok extra) it.is.described beside) (subst (λ (d : DescribedJob). Fails o (tables_of files d.job)) it.is.described h)
+
+-- job, certificate, extra cells and tables are all that there is
+pub all-read : (files : Files) (name : List ℕ) (read : ReadRelease) → WasSettled files name read.job → certificate_in files read.job.described.job.certificate ≡ Ok read.certificate → extra_for files read.job.described.job.contributors ≡ Ok read.extra
+    → tables_of files read.job.described.job ≡ Ok read.tables → IsOkAnd (released_of files name) (λ released. IsReleasedOf released read)
+all-read files name read was signed beside put =
     let it = inputs-of files name read.job was in
-    rw (released-is files name it.settled read.certificate read.tables it.read (subst (λ (d : DescribedJob). certificate_in files d.job.certificate ≡ Ok read.certificate) it.is.described signed)
-    (subst (λ (d : DescribedJob). tables_of files d.job ≡ Ok read.tables) it.is.described put))
-    (record { settled = it.is; certificate = refl; tables = refl })
+    rw (released-is files name it.settled read.certificate read.extra read.tables it.read (subst (λ (d : DescribedJob). certificate_in files d.job.certificate ≡ Ok read.certificate) it.is.described signed)
+    (subst (λ (d : DescribedJob). extra_for files d.job.contributors ≡ Ok read.extra) it.is.described beside) (subst (λ (d : DescribedJob). tables_of files d.job ≡ Ok read.tables) it.is.described put))
+    (record { settled = it.is; certificate = refl; extra = refl; tables = refl })
 
 -- ---- to which file it comes
 
@@ -90,6 +107,7 @@ inputs-come files name (file.Hierarchy at) held h = h
 inputs-come files name file.Microdata held h = h
 inputs-come files name (file.Apriori t) held h = h
 inputs-come files name file.Certificate held h = absurd h
+inputs-come files name file.Contributors held h = absurd h
 inputs-come files name (file.Table t) held h = absurd h
 inputs-come files name file.Out held h = absurd h
 
@@ -98,9 +116,22 @@ certificate-comes files name job f held was comes =
     let it = inputs-of files name job was in
     rw comes.is_file (it.settled, it.read, comes.is_name ∙ ap (λ (d : DescribedJob). d.job.certificate) it.is.described)
 
-pub tables-come : (files : Files) (name : List ℕ) (job : SettledJob) (certificate : Certificate) (f : FileRef) (held : List ℕ) → WasSettled files name job → certificate_in files job.described.job.certificate ≡ Ok certificate
-    → ComesToTables files job.described.job f held → ComesTo files name f held
-tables-come files name job certificate f held was signed comes =
+by-line : (line : Option OutputLine) (f : FileRef) (held : List ℕ) → IsContributorsFile line f held → (f ≡ file.Contributors) × IsContributorsFile line file.Contributors held
+by-line None f held comes = absurd comes
+by-line (Some line) f held comes = (comes.is_file, record { is_file = refl; is_name = comes.is_name })
+
+pub contributors-come : (files : Files) (name : List ℕ) (job : SettledJob) (certificate : Certificate) (f : FileRef) (held : List ℕ) → WasSettled files name job → certificate_in files job.described.job.certificate ≡ Ok certificate
+    → IsContributorsFile job.described.job.contributors f held → ComesTo files name f held
+contributors-come files name job certificate f held was signed comes =
     let it = inputs-of files name job was in
     let here = subst (λ (d : DescribedJob). certificate_in files d.job.certificate ≡ Ok certificate) it.is.described signed in
-    rw comes.1 (it.settled, it.read, rw here refl, subst (λ (d : DescribedJob). TablesComeTo files d.job comes.0 held) it.is.described comes.2)
+    let own = by-line job.described.job.contributors f held comes in
+    rw own.0 (it.settled, it.read, rw here refl, subst (λ (d : DescribedJob). IsContributorsFile d.job.contributors file.Contributors held) it.is.described own.1)
+
+pub tables-come : (files : Files) (name : List ℕ) (job : SettledJob) (certificate : Certificate) (extra : Option Extra) (f : FileRef) (held : List ℕ) → WasSettled files name job → certificate_in files job.described.job.certificate ≡ Ok certificate
+    → extra_for files job.described.job.contributors ≡ Ok extra → ComesToTables files job.described.job f held → ComesTo files name f held
+tables-come files name job certificate extra f held was signed beside comes =
+    let it = inputs-of files name job was in
+    let here = subst (λ (d : DescribedJob). certificate_in files d.job.certificate ≡ Ok certificate) it.is.described signed in
+    let own = subst (λ (d : DescribedJob). extra_for files d.job.contributors ≡ Ok extra) it.is.described beside in
+    rw comes.1 (it.settled, it.read, rw here refl, rw own refl, subst (λ (d : DescribedJob). TablesComeTo files d.job comes.0 held) it.is.described comes.2)

@@ -1,19 +1,25 @@
 -- What a check answers of the files of a job (own).
-use Rattle.std.specs.Prelude.{◌≡◌, ◌≢◌, true, false, Result, Ok, Err, IsOkAnd}
+use Rattle.std.specs.Prelude.{◌≡◌, ◌≢◌, ℕ, true, false, List, Option, None, Some, Result, Ok, Err, IsOkAnd}
 use Rattle.std.specs.Option.{ForSome}
 use Rattle.sdc_base.specs.Answers.{Fails}
+use Rattle.attackers.specs.declared.faults.ExtraFault.{ExtraFault}
+use Rattle.attackers.specs.declared.faults.ExtraFault.TheVariants as extra_fault
 use Rattle.cert_check.specs.Acceptance.{IsAccepted, IsOfCase, IsRoundedRelease}
 use Rattle.cert_check.specs.Cases.{IsCase}
-use Rattle.cert_check.specs.FirstFault.{fault_of, first_fault}
+use Rattle.cert_check.specs.FirstFault.{first_fault}
 use Rattle.cert_check.specs.Methods.{rounds_cells}
 use Rattle.cert_check.specs.declared.case.Case.{Case}
 use Rattle.cert_check.specs.declared.faults.CheckFault.{CheckFault}
 use Rattle.cert_check.specs.declared.faults.CheckFault.TheVariants as fault
+use Rattle.certificate.specs.declared.extra.Extra.{Extra}
 use Rattle.job_inputs.specs.Reading.{stopped_for}
 use Rattle.job_inputs.specs.declared.faults.Fault.{Fault}
 use Rattle.job_inputs.specs.declared.stop.InputStop.TheVariants as input
 use Rattle.job_check.specs.Cases.{IsCaseOf}
+use Rattle.job_check.specs.GuardedReleases.{guarded_fault, flaw_of, AreSolesOf, ShowsGuarding}
 use Rattle.job_check.specs.ReleaseFiles.{ReleasedFiles}
+use Rattle.job_check.specs.declared.flaw.Flaw.{Flaw}
+use Rattle.job_check.specs.declared.flaw.Flaw.TheVariants as flaw
 use Rattle.job_check.specs.declared.stop.CheckStop.{CheckStop}
 use Rattle.job_check.specs.declared.stop.CheckStop.TheVariants as stop
 
@@ -37,19 +43,71 @@ pub record IsNotAccepted (released : ReleasedFiles) (why : CheckFault) : Type 0 
   pub first : first_fault case released.tables released.certificate ≡ Err why
   pub not_memory : why ≢ fault.Memory
 
+-- The release is accepted with its extra cells: for the case of its settled inputs and the records that alone make up
+-- its cells it has no fault. So the certificate shows that its own set protects, the tables hide exactly that set and the
+-- extra cells, each of which is needed, and these guard against every contributor.
+pub record IsAcceptedWithExtra (released : ReleasedFiles) (extra : Extra) : Type 0 where
+  pub case : Case
+  pub is_case : IsCaseOf released.settled case
+  pub fits : IsCase case released.tables
+  pub soles : List (Option ℕ)
+  pub are_soles : AreSolesOf case released.settled.inputs.records.rows soles
+  pub no_fault : guarded_fault case soles released.tables released.certificate extra ≡ Ok tt
+  pub shows : ShowsGuarding case soles released.tables released.certificate extra
+
+-- The release with its extra cells has this fault, the first one; it isn't want of memory.
+pub record IsNotAcceptedWithExtra (released : ReleasedFiles) (extra : Extra) (why : Flaw) : Type 0 where
+  pub case : Case
+  pub is_case : IsCaseOf released.settled case
+  pub fits : IsCase case released.tables
+  pub soles : List (Option ℕ)
+  pub are_soles : AreSolesOf case released.settled.inputs.records.rows soles
+  pub first : guarded_fault case soles released.tables released.certificate extra ≡ Err why
+  pub not_memory : flaw_of why ≡ Some why
+
+-- the release is accepted, with the extra cells of its contributors' file where its job names one
+abbrev pub IsAcceptedWith : Option Extra → ReleasedFiles → Type 0
+IsAcceptedWith None released = IsAcceptedRelease released
+IsAcceptedWith (Some extra) released = IsAcceptedWithExtra released extra
+
+-- the release has this fault, with those extra cells
+abbrev pub IsNotAcceptedWith : Option Extra → ReleasedFiles → Flaw → Type 0
+IsNotAcceptedWith None released (flaw.NotAccepted why) = IsNotAccepted released why
+IsNotAcceptedWith None released other = ⊥
+IsNotAcceptedWith (Some extra) released why = IsNotAcceptedWithExtra released extra why
+
+-- the release is accepted with what its job names
+abbrev pub IsRightRelease : ReleasedFiles → Type 0
+IsRightRelease released = IsAcceptedWith released.extra released
+
+-- the release has this fault
+abbrev pub IsFaultyRelease : Flaw → ReleasedFiles → Type 0
+IsFaultyRelease why released = IsNotAcceptedWith released.extra released why
+
 -- the answer to whether a release is accepted, want of memory aside
-abbrev pub IsJudgedSo : ReleasedFiles → Result (Unit {0}) CheckFault → Type 0
-IsJudgedSo released (Ok fine) = IsAcceptedRelease released
-IsJudgedSo released (Err why) = ForSome (fault_of why) (IsNotAccepted released)
+abbrev pub IsJudgedSo : ReleasedFiles → Result (Unit {0}) Flaw → Type 0
+IsJudgedSo released (Ok fine) = IsRightRelease released
+IsJudgedSo released (Err why) = ForSome (flaw_of why) (λ named. IsFaultyRelease named released)
 
 -- a fault as a stop of the check; want of memory is one of its inputs
 abbrev pub stop_for : CheckFault → CheckStop
 stop_for fault.Memory = stop.Inputs input.Memory
 stop_for other = stop.NotAccepted other
 
+-- a fault of extra cells as a stop of the check
+abbrev pub guard_stop_for : ExtraFault → CheckStop
+guard_stop_for extra_fault.Memory = stop.Inputs input.Memory
+guard_stop_for other = stop.NotGuarded other
+
+-- what is wrong with a release as a stop of the check
+abbrev pub stop_of : Flaw → CheckStop
+stop_of (flaw.NotAccepted why) = stop_for why
+stop_of (flaw.NotGuarded why) = guard_stop_for why
+
 -- The answer of a check of files that come to a release or to a first fault: the release is accepted, or has this
 -- fault, or the files have theirs. Want of memory and faults of the shelf say nothing of them.
 abbrev pub AnswersRelease : Result ReleasedFiles Fault → Result (Unit {0}) CheckStop → Type 0
-AnswersRelease outcome (Ok fine) = IsOkAnd outcome IsAcceptedRelease
-AnswersRelease outcome (Err (stop.NotAccepted why)) = IsOkAnd outcome (λ released. IsNotAccepted released why)
+AnswersRelease outcome (Ok fine) = IsOkAnd outcome IsRightRelease
+AnswersRelease outcome (Err (stop.NotAccepted why)) = IsOkAnd outcome (IsFaultyRelease (flaw.NotAccepted why))
+AnswersRelease outcome (Err (stop.NotGuarded why)) = IsOkAnd outcome (IsFaultyRelease (flaw.NotGuarded why))
 AnswersRelease outcome (Err (stop.Inputs input)) = Fails (stopped_for input) outcome

@@ -1,20 +1,13 @@
 -- What the release of settled inputs is judged by (own).
-use Rattle.std.specs.Prelude.{◌≡◌, ℕ, ◌^◌, map, ℤ, pos, ◌*ℤ◌}
-use Rattle.sdc_base.specs.declared.method.Method.{Method}
-use Rattle.sdc_base.specs.declared.method.Method.TheVariants as method
+use Rattle.std.specs.Prelude.{◌≡◌, map}
 use Rattle.modular_plan.specs.Methods.{passes_of}
 use Rattle.cert_check.specs.declared.case.Case.{Case}
 use Rattle.modular_plan.specs.Plans.{trail_of, IsSameButHidden}
 use Rattle.relations.specs.Holding.{IsSystemOf}
+use Rattle.job_inputs.specs.Bases.{base_of}
 use Rattle.job_inputs.specs.SettledJobs.{SettledInputs, IsSettledOf}
 use Rattle.job_inputs.specs.Tables.{names_of}
 use Rattle.job_inputs.specs.declared.settled.SettledJob.{SettledJob}
-
--- the base to which a method rounds, in units of so many decimals; 1 where it doesn't round
-abbrev pub base_of : Method → ℕ → ℤ
-base_of (method.Rnd base) decimals = base *ℤ pos (10 ^ decimals)
-base_of (method.Gh passes) decimals = pos 1
-base_of method.Modular decimals = pos 1
 
 -- The case of settled inputs: their tables with the truths of their cells, whichever cells are marked as hidden, the
 -- system of the relations between these, the cells, and the trail, the base, the names and the decimals that the job

@@ -1,4 +1,6 @@
+pub mod Contributors
 pub mod ReleaseFiles
 pub mod Cases
 pub mod Reading
+pub mod GuardedReleases
 pub mod Answers

@@ -3,7 +3,8 @@ ghost use Rattle.job_check.specs.ReleaseFiles.{released_of};
 ghost use Rattle.job_inputs.specs.ReadFiles.{output_limit};
 ghost use Rattle.job_inputs.specs.Reading.{HasLookedAt};
 
-use certificate::Certificate;
+use crate::contributors::read_extra_cells;
+use certificate::{Certificate, Extra};
 use job_inputs::{
     InputStop, Purpose, SettledJob, read_certificate_file, read_settled, read_tables,
 };
@@ -11,15 +12,18 @@ use office_io::Shelf;
 use sdc_base::{Items, Text};
 use std::alloc::Global;
 
-/// A job with its settled cells, and the certificate and the tables that stand under its names.
+/// A job with its settled cells, and the certificate, the extra cells where the job names a file of them, and the tables
+/// that stand under its names.
 #[derive(Drop)]
 pub(crate) struct ReadRelease {
     pub job: SettledJob,
     pub certificate: Certificate,
+    pub extra: Option<Extra>,
     pub tables: Items<Text>,
 }
 
-/// The inputs of the job of this name up to its settled cells, then its certificate and its tables, from the shelf.
+/// The inputs of the job of this name up to its settled cells, then its certificate, its extra cells and its tables, from
+/// the shelf.
 pub(crate) fn read_release<S: Shelf>(
     alloc: Global,
     shelf: &mut S,
@@ -30,10 +34,12 @@ pub(crate) fn read_release<S: Shelf>(
 {
     let job = read_settled(alloc, shelf, name, Purpose::Release)?;
     let certificate = read_certificate_file(alloc, shelf, &job.described.job.certificate)?;
+    let extra = read_extra_cells(alloc, shelf, &job.described.job.contributors)?;
     let tables = read_tables(alloc, shelf, &job.described.job)?;
     Ok(ReadRelease {
         job,
         certificate,
+        extra,
         tables,
     })
 }

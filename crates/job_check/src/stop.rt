@@ -1,3 +1,8 @@
+ghost use Rattle.std.specs.Prelude.{◌≡◌};
+ghost use Rattle.job_check.specs.Answers as spec;
+
+use crate::flaw::Flaw;
+use attackers::ExtraFault;
 use cert_check::CheckFault;
 use job_inputs::InputStop;
 
@@ -8,6 +13,8 @@ pub enum CheckStop {
     Inputs(InputStop),
     /// The release with its certificate has this fault, the first one, which is never want of memory.
     NotAccepted(CheckFault),
+    /// The extra cells against contributors have this fault, the first one, which is never want of memory.
+    NotGuarded(ExtraFault),
 }
 
 impl From<InputStop> for CheckStop {
@@ -21,16 +28,36 @@ impl From<InputStop> for CheckStop {
     }
 }
 
-impl From<CheckFault> for CheckStop {
+impl From<Flaw> for CheckStop {
     ghost use Rattle.std.specs.Prelude.{◌≡◌};
-    ghost use Rattle.job_check.specs.Answers.{stop_for};
+    ghost use Rattle.job_check.specs.Answers.{stop_of};
 
-    ghost from_gives = { λ fault e. e ≡ stop_for fault };
+    ghost from_gives = { λ flaw e. e ≡ stop_of flaw };
 
-    fn from(fault: CheckFault) -> Self {
-        match fault {
-            CheckFault::Memory => CheckStop::Inputs(InputStop::Memory),
-            other => CheckStop::NotAccepted(other),
+    fn from(flaw: Flaw) -> Self {
+        match flaw {
+            Flaw::NotAccepted(fault) => stop_for(fault),
+            Flaw::NotGuarded(fault) => guard_stop_for(fault),
         }
+    }
+}
+
+// A fault of a certificate with its tables as a stop; want of memory is one of the inputs.
+fn stop_for(fault: CheckFault) -> CheckStop
+    ensures { result ≡ spec.stop_for fault }
+{
+    match fault {
+        CheckFault::Memory => CheckStop::Inputs(InputStop::Memory),
+        other => CheckStop::NotAccepted(other),
+    }
+}
+
+// A fault of extra cells as a stop; want of memory is one of the inputs.
+fn guard_stop_for(fault: ExtraFault) -> CheckStop
+    ensures { result ≡ spec.guard_stop_for fault }
+{
+    match fault {
+        ExtraFault::Memory => CheckStop::Inputs(InputStop::Memory),
+        other => CheckStop::NotGuarded(other),
     }
 }

@@ -3,7 +3,7 @@ use Rattle.std.proofs.lemmas.Result.{err_from_is_err_and}
 use Rattle.job_inputs.proofs.Causes.{come-on, cause-as, cause-on, look-on, longer-look}
 use Rattle.job_inputs.specs.ReadFiles.{limit, output_limit}
 use Rattle.job_inputs.specs.Reading.{stopped_for}
-use Rattle.job_check.proofs.ReleaseReading.{settled-fails, no-certificate, no-tables, all-read, inputs-come, certificate-comes, tables-come}
+use Rattle.job_check.proofs.ReleaseReading.{settled-fails, no-certificate, no-extra, no-tables, all-read, inputs-come, certificate-comes, contributors-come, tables-come}
 use Rattle.job_check.proofs.reading.read_release.Goals as goal
 
 -- an input is no longer than what was put may be
@@ -39,19 +39,42 @@ returns-in_err-certificate g c =
       sound = tt;
     })
 
+pub returns-in_err-extra : goal.returns-in_err-extra
+returns-in_err-extra g c =
+    let p = err_from_is_err_and c.from_residual-in_err-extra.result c.from_residual-in_err-extra.ensures.1 in
+    let e = c.in_err-extra.field-0.0 in
+    let first = c.in_ok-job.ensures.looked in
+    let then = c.in_ok-certificate.ensures in
+    let before = look-on _ _ _ _ (longer-look limit output_limit _ _ at_most first.shelf) then.shelf in
+    let look = c.in_err-extra.ensures in
+    rw (p.1, p.2) (record {
+      told = λ fs told. no-extra fs c.args.name.now c.in_ok-job.job c.in_ok-certificate.certificate (stopped_for e) (first.told fs told) (then.told fs (first.shelf.only_read.files ∙ told)) (look.told fs (before.only_read.files ∙ told));
+      came_to = λ fs told.
+          come-on e _ _ fs (g.S.Shelf.state c.read_extra_cells.new.shelf)
+          (λ f held comes. contributors-come fs c.args.name.now c.in_ok-job.job c.in_ok-certificate.certificate f held (first.told fs told) (then.told fs (first.shelf.only_read.files ∙ told)) comes)
+          (look.came_to fs (before.only_read.files ∙ told));
+      shelf = look-on _ _ _ _ before look.shelf;
+      cause = cause-on e _ _ _ before look.cause;
+      sound = tt;
+    })
+
 pub returns-in_err-tables : goal.returns-in_err-tables
 returns-in_err-tables g c =
     let p = err_from_is_err_and c.from_residual-in_err-tables.result c.from_residual-in_err-tables.ensures.1 in
     let e = c.in_err-tables.field-0.0 in
     let first = c.in_ok-job.ensures.looked in
     let then = c.in_ok-certificate.ensures in
-    let before = look-on _ _ _ _ (longer-look limit output_limit _ _ at_most first.shelf) then.shelf in
+    let signed = look-on _ _ _ _ (longer-look limit output_limit _ _ at_most first.shelf) then.shelf in
+    let beside = c.in_ok-extra.ensures in
+    let before = look-on _ _ _ _ signed beside.shelf in
     let look = c.in_err-tables.ensures in
     rw (p.1, p.2) (record {
-      told = λ fs told. no-tables fs c.args.name.now c.in_ok-job.job c.in_ok-certificate.certificate (stopped_for e) (first.told fs told) (then.told fs (first.shelf.only_read.files ∙ told)) (look.told fs (before.only_read.files ∙ told));
+      told = λ fs told.
+          no-tables fs c.args.name.now c.in_ok-job.job c.in_ok-certificate.certificate c.in_ok-extra.extra (stopped_for e) (first.told fs told) (then.told fs (first.shelf.only_read.files ∙ told)) (beside.told fs (signed.only_read.files ∙ told))
+          (look.told fs (before.only_read.files ∙ told));
       came_to = λ fs told.
           come-on e _ _ fs (g.S.Shelf.state c.read_tables.new.shelf)
-          (λ f held comes. tables-come fs c.args.name.now c.in_ok-job.job c.in_ok-certificate.certificate f held (first.told fs told) (then.told fs (first.shelf.only_read.files ∙ told)) comes)
+          (λ f held comes. tables-come fs c.args.name.now c.in_ok-job.job c.in_ok-certificate.certificate c.in_ok-extra.extra f held (first.told fs told) (then.told fs (first.shelf.only_read.files ∙ told)) (beside.told fs (signed.only_read.files ∙ told)) comes)
           (look.came_to fs (before.only_read.files ∙ told));
       shelf = look-on _ _ _ _ before look.shelf;
       cause = cause-on e _ _ _ before look.cause;
@@ -62,14 +85,16 @@ pub returns : goal.returns
 returns g c =
     let first = c.in_ok-job.ensures.looked in
     let then = c.in_ok-certificate.ensures in
+    let signed = look-on _ _ _ _ (longer-look limit output_limit _ _ at_most first.shelf) then.shelf in
+    let beside = c.in_ok-extra.ensures in
     let last = c.in_ok-tables.ensures in
-    let before = look-on _ _ _ _ (longer-look limit output_limit _ _ at_most first.shelf) then.shelf in
+    let before = look-on _ _ _ _ signed beside.shelf in
     record {
       told = λ fs told.
-          all-read fs c.args.name.now (record { job = c.in_ok-job.job; certificate = c.in_ok-certificate.certificate; tables = c.in_ok-tables.tables }) (first.told fs told) (then.told fs (first.shelf.only_read.files ∙ told))
-          (last.told fs (before.only_read.files ∙ told));
+          all-read fs c.args.name.now (record { job = c.in_ok-job.job; certificate = c.in_ok-certificate.certificate; extra = c.in_ok-extra.extra; tables = c.in_ok-tables.tables }) (first.told fs told)
+          (then.told fs (first.shelf.only_read.files ∙ told)) (beside.told fs (signed.only_read.files ∙ told)) (last.told fs (before.only_read.files ∙ told));
       came_to = λ fs told f is. absurd cc;
       shelf = look-on _ _ _ _ before last.shelf;
       cause = record { absent = λ f is. absurd cc; too_long = λ f is. absurd cc; read_fault = λ f is. absurd cc; tree = λ f is. absurd cc };
-      sound = record { job = first.sound; each = last.sound };
+      sound = record { job = first.sound; extra = beside.sound; each = last.sound };
     }
