@@ -28,6 +28,7 @@ abbrev pub check_report : Result (Unit {0}) CheckStop → Report
 check_report (Ok fine) = report.Accepted
 check_report (Err (check.Inputs why)) = report_of (Err (inputs_stop why))
 check_report (Err (check.NotAccepted why)) = report.NotAccepted why
+check_report (Err (check.NotGuarded why)) = report.NotGuarded why
 
 inputs-meet-check : (e : InputStop) (outcome : Result ReleasedFiles Fault) → Fails (stopped_for e) outcome → MeetsCheck (report_of (Err (inputs_stop e))) outcome
 inputs-meet-check (input.Refused f) outcome h = h
@@ -38,12 +39,15 @@ meets : (r : Result (Unit {0}) CheckStop) (outcome : Result ReleasedFiles Fault)
 meets (Ok fine) outcome h = h
 meets (Err (check.Inputs why)) outcome h = inputs-meet-check why outcome h
 meets (Err (check.NotAccepted why)) outcome h = h
+meets (Err (check.NotGuarded why)) outcome h = h
 
 settles-check : (answer : Report) (outcome : Result ReleasedFiles Fault) → MeetsCheck answer outcome → ((f : FileRef) → answer ≢ report.ReadFault f) → SettlesCheck answer outcome
 settles-check report.Accepted (Ok released) h no_read = tt
 settles-check report.Accepted (Err f) h no_read = absurd h
 settles-check (report.NotAccepted why) (Ok released) h no_read = tt
 settles-check (report.NotAccepted why) (Err f) h no_read = absurd h
+settles-check (report.NotGuarded why) (Ok released) h no_read = tt
+settles-check (report.NotGuarded why) (Err f) h no_read = absurd h
 settles-check (report.Refused f) (Ok released) h no_read = absurd cc
 settles-check (report.Refused f) (Err g) h no_read = inl (let same : g ≡ f = cc in ap report.Refused (sym same))
 settles-check (report.ReadFault f) outcome h no_read = absurd (no_read f refl)
@@ -51,23 +55,27 @@ settles-check report.Memory (Ok released) h no_read = tt
 settles-check report.Memory (Err f) h no_read = inr refl
 settles-check (report.Released s) outcome h no_read = absurd h
 settles-check (report.Intervals n) outcome h no_read = absurd h
+settles-check (report.Audited n m) outcome h no_read = absurd h
 settles-check (report.Demo demo) outcome h no_read = absurd h
 settles-check report.Migrated outcome h no_read = absurd h
 settles-check report.Usage outcome h no_read = absurd h
 settles-check (report.Cannot cell side multipliers) outcome h no_read = absurd h
 settles-check report.NoRounding outcome h no_read = absurd h
-settles-check (report.Undecided why repairs shown) outcome h no_read = absurd h
+settles-check (report.CannotAgainst row cell side multipliers) outcome h no_read = absurd h
+settles-check (report.Undecided why repairs shown against) outcome h no_read = absurd h
 settles-check (report.WriteFault f) outcome h no_read = absurd h
 
 pub check-cause : (r : Result (Unit {0}) CheckStop) (old new : ShelfState) (tray : TrayState) → ((e : InputStop) → r ≡ Err (check.Inputs e) → HasInputCause {X = Unit {0}} (Err e) old new) → HasCause (check_report r) old new tray tray
 check-cause (Ok fine) old new tray cause = record { absent = λ f is. absurd cc; too_long = λ f is. absurd cc; read_fault = λ f is. absurd cc; write_fault = λ f is. absurd cc; tree = λ f is. absurd cc }
 check-cause (Err (check.Inputs why)) old new tray cause = inputs-cause why old new tray (cause why refl)
 check-cause (Err (check.NotAccepted why)) old new tray cause = record { absent = λ f is. absurd cc; too_long = λ f is. absurd cc; read_fault = λ f is. absurd cc; write_fault = λ f is. absurd cc; tree = λ f is. absurd cc }
+check-cause (Err (check.NotGuarded why)) old new tray cause = record { absent = λ f is. absurd cc; too_long = λ f is. absurd cc; read_fault = λ f is. absurd cc; write_fault = λ f is. absurd cc; tree = λ f is. absurd cc }
 
 check-come : (r : Result (Unit {0}) CheckStop) (comes : FileRef → List ℕ → Type 0) (files : Files) (new : ShelfState) → ((e : InputStop) → r ≡ Err (check.Inputs e) → HasInputComeTo {X = Unit {0}} comes (Err e) files new) → HasComeTo comes (check_report r) files new
 check-come (Ok fine) comes files new come = λ f is. absurd cc
 check-come (Err (check.Inputs why)) comes files new come = inputs-come why comes files new (come why refl)
 check-come (Err (check.NotAccepted why)) comes files new come = λ f is. absurd cc
+check-come (Err (check.NotGuarded why)) comes files new come = λ f is. absurd cc
 
 inputs-answer : (e : InputStop) → IsCheckAnswer (report_of (Err (inputs_stop e)))
 inputs-answer (input.Refused f) = tt
@@ -78,6 +86,7 @@ check-answers : (r : Result (Unit {0}) CheckStop) → IsCheckAnswer (check_repor
 check-answers (Ok fine) = tt
 check-answers (Err (check.Inputs why)) = inputs-answer why
 check-answers (Err (check.NotAccepted why)) = tt
+check-answers (Err (check.NotGuarded why)) = tt
 
 -- what holds of how it went on holds of the check
 pub check-run : (name : List ℕ) (r : Result (Unit {0}) CheckStop) (old new : ShelfState) (tray : TrayState) → WhereTold old.files (λ fs. AnswersRelease (released_of fs name) r)

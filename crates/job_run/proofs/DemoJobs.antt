@@ -19,6 +19,7 @@ use Rattle.job_lang.specs.MethodTexts.{modular_method, method_argument}
 use Rattle.job_lang.specs.Statements.{with_table, with_statement, with_said, command_line, text_says, lines_say}
 use Rattle.job_lang.specs.MissingCommands.{outputs_from}
 use Rattle.job_lang.specs.FilesApart.{no_stray, no_same_name}
+use Rattle.job_lang.specs.RoundedContributors.{no_rounded_contributors}
 use Rattle.apriori.specs.Settling.{settle_of}
 use Rattle.linked_tables.specs.Tables.{book_of}
 use Rattle.rda_meta.specs.Metadata.{meta_of}
@@ -59,10 +60,11 @@ demo_job = record {
   outputs = record { line = 9; file = codes "industry.csv" } ∷ record { line = 10; file = codes "size.csv" } ∷ [];
   certificate = codes "demo.cert";
   certificate_line = 11;
+  contributors = None;
 }
 
 job-is : job_of job_text ≡ Ok demo_job
-unfolding behind_mark quoted_at number_at digits_at end_of_tokens closing_token keyword_of word_in one_number frequency_clause clause_in clauses_in percent_clause rules_in names_up_to quoted_part table_argument file_at only_file output_argument modular_method method_argument cost_of cost_argument argument_of with_table with_statement with_said command_line text_says lines_say no_stray no_same_name outputs_from job_made closed_job job_of
+unfolding behind_mark quoted_at number_at digits_at end_of_tokens closing_token keyword_of word_in one_number frequency_clause clause_in clauses_in percent_clause rules_in names_up_to quoted_part table_argument file_at only_file output_argument modular_method method_argument cost_of cost_argument argument_of with_table with_statement with_said command_line text_says lines_say no_stray no_same_name no_rounded_contributors outputs_from job_made closed_job job_of
 job-is = refl
 
 -- the folder holds that text
@@ -110,11 +112,20 @@ for-release bytes job is =
     let fit = bind_ok (refuse (fault.Job 0 BadValue) (is_unfit purpose.Release read.0.method)) (λ fit. Ok read.0) job read.2 in
     read.1 ∙ ap Ok (ok-is fit.2)
 
--- the files of a demonstration hold its job, and it hides
-pub demo-hides : (seed records : ℕ) (settled : SettledInputs) → settled_of purpose.Release (demo_files seed records) job_name ≡ Ok settled → base_of settled.inputs.described ≡ None
-demo-hides seed records settled is =
+-- the files of a demonstration hold its job
+demo-reads : (seed records : ℕ) (settled : SettledInputs) → settled_of purpose.Release (demo_files seed records) job_name ≡ Ok settled → demo_job ≡ settled.inputs.described.job
+demo-reads seed records settled is =
     let described = settled.inputs.described in
     let read = described-job purpose.Release (demo_files seed records) job_name described (inputs-described purpose.Release (demo_files seed records) job_name settled.inputs (settled-inputs purpose.Release (demo_files seed records) job_name settled is)) in
     let bytes : job_text ≡ read.0 = ok-is (sym (held seed records) ∙ read.1) in
     let job : Ok demo_job ≡ Ok described.job = sym (ap (map_fault job_fault) job-is) ∙ ap (λ (text : List ℕ). map_fault job_fault (job_of text)) bytes ∙ for-release read.0 described.job read.2 in
-    ap (λ (one : Job). base_in_units one.method described.bound.decimals) (sym (ok-is job))
+    ok-is job
+
+-- it names no file for contributors
+pub demo-names-none : (seed records : ℕ) (settled : SettledInputs) → settled_of purpose.Release (demo_files seed records) job_name ≡ Ok settled → settled.inputs.described.job.contributors ≡ None
+demo-names-none seed records settled is = ap (λ (one : Job). one.contributors) (sym (demo-reads seed records settled is))
+
+-- and it hides
+pub demo-hides : (seed records : ℕ) (settled : SettledInputs) → settled_of purpose.Release (demo_files seed records) job_name ≡ Ok settled → base_of settled.inputs.described ≡ None
+demo-hides seed records settled is =
+    ap (λ (one : Job). base_in_units one.method settled.inputs.described.bound.decimals) (sym (demo-reads seed records settled is))

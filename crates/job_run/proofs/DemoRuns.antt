@@ -3,6 +3,7 @@ use Rattle.std.proofs.Common.{◌≡◌, ℕ, List, Result, Ok, Err, Option, Non
 use Rattle.sdc_base.specs.Counts.{HasRisen}
 use Rattle.sdc_base.specs.WhereTold.{WhereTold}
 use Rattle.sdc_base.specs.declared.memory.Memory.{Memory}
+use Rattle.attackers.specs.declared.extra.Against.{Against}
 use Rattle.demo_files.specs.DemoFiles.{demo_files, job_name}
 use Rattle.demo_files.specs.SteadyFiles.{shelf_with, empty_tray}
 use Rattle.office_io.specs.Shelves.{ShelfState}
@@ -14,6 +15,7 @@ use Rattle.job_inputs.specs.SettledJobs.{settled_of}
 use Rattle.job_inputs.specs.declared.purpose.Purpose.TheVariants as purpose
 use Rattle.job_run.specs.Demos.{IsDemoOf, SaysAnswer, SaysStuck}
 use Rattle.job_run.specs.Endings.{IsUndecided}
+use Rattle.job_run.specs.GuardedReleases.{CantBeGuarded}
 use Rattle.job_run.specs.PutReleases.{HasReleased, PutsOnce}
 use Rattle.job_inputs.specs.Looks.{ComesTo}
 use Rattle.job_run.specs.Reports.{AgreesWith, LeavesTray, HasCause, HasComeTo, report_of}
@@ -24,7 +26,7 @@ use Rattle.job_run.specs.declared.report.Stuck.{Stuck}
 use Rattle.job_run.specs.declared.report.Stuck.TheVariants as stuck
 use Rattle.job_run.specs.declared.stop.Stop.{Stop}
 use Rattle.job_run.specs.declared.stop.Stop.TheVariants as stop
-use Rattle.job_run.proofs.DemoJobs.{demo-hides}
+use Rattle.job_run.proofs.DemoJobs.{demo-hides, demo-names-none}
 use Rattle.job_run.proofs.Outcomes.{ok-and}
 use Rattle.job_run.proofs.ReleaseRuns.{release-run}
 
@@ -38,13 +40,13 @@ none-some : {A : Type 0} {a : A} (o : Option A) → o ≡ None → o ≡ Some a 
 none-some o is_none is_some = absurd cc
 
 -- what stopped short of the job of a demonstration is a question
-says-stuck : (seed records : ℕ) (why : Stuck) (repairs : List Refuted) (shown : List ℕ) → IsOkAnd (settled_of purpose.Release (demo_files seed records) job_name) (λ settled. IsUndecided settled why repairs shown)
+says-stuck : (seed records : ℕ) (why : Stuck) (repairs : List Refuted) (shown : List ℕ) (against : Option Against) → IsOkAnd (settled_of purpose.Release (demo_files seed records) job_name) (λ settled. IsUndecided settled why repairs shown against)
     → SaysStuck why repairs shown (stuck_demo why repairs shown)
-says-stuck seed records (stuck.Work walk) repairs shown meets = refl
-says-stuck seed records (stuck.Wide walk place) repairs shown meets = refl
-says-stuck seed records (stuck.Size question hidden) repairs shown meets = refl
-says-stuck seed records (stuck.Nodes nodes) repairs shown meets =
-    let read = ok-and (λ settled. IsUndecided settled (stuck.Nodes nodes) repairs shown) (settled_of purpose.Release (demo_files seed records) job_name) meets in
+says-stuck seed records (stuck.Work walk) repairs shown against meets = refl
+says-stuck seed records (stuck.Wide walk place) repairs shown against meets = refl
+says-stuck seed records (stuck.Size question hidden) repairs shown against meets = refl
+says-stuck seed records (stuck.Nodes nodes) repairs shown against meets =
+    let read = ok-and (λ settled. IsUndecided settled (stuck.Nodes nodes) repairs shown against) (settled_of purpose.Release (demo_files seed records) job_name) meets in
     none-some _ (demo-hides seed records read.0 read.1) read.2.0.rounds
 
 -- it says what its run answered
@@ -56,8 +58,11 @@ says : (seed records : ℕ) (outcome : Result Release Stop) (after : ShelfState)
 says seed records (Ok release) after tray demo calm still meets cause released is = (release, released, refl, sym (ok-is is))
 says seed records (Err (stop.Refused reason)) after tray demo calm still meets cause released is = sym (ok-is is)
 says seed records (Err (stop.Cannot cell side multipliers)) after tray demo calm still meets cause released is = sym (ok-is is)
+says seed records (Err (stop.CannotAgainst row cell side multipliers)) after tray demo calm still meets cause released is =
+    let read = ok-and (λ settled. CantBeGuarded settled row cell side multipliers) (settled_of purpose.Release (demo_files seed records) job_name) meets in
+    absurd (none-some _ (demo-names-none seed records read.0 read.1) read.2.guards.named)
 says seed records (Err stop.NoRounding) after tray demo calm still meets cause released is = sym (ok-is is)
-says seed records (Err (stop.Undecided why repairs shown)) after tray demo calm still meets cause released is = rw (sym (ok-is is)) (says-stuck seed records why repairs shown meets)
+says seed records (Err (stop.Undecided why repairs shown against)) after tray demo calm still meets cause released is = rw (sym (ok-is is)) (says-stuck seed records why repairs shown against meets)
 says seed records (Err (stop.ReadFault file)) after tray demo calm still meets cause released is = absurd (never-rose _ _ refl calm (cause.read_fault file refl))
 says seed records (Err (stop.WriteFault file)) after tray demo calm still meets cause released is = absurd (never-rose _ _ refl still (cause.write_fault file refl))
 says seed records (Err stop.Memory) after tray demo calm still meets cause released is = absurd cc

@@ -15,7 +15,7 @@ use Rattle.job_inputs.specs.declared.file_ref.FileRef.TheVariants as file
 use Rattle.job_inputs.specs.declared.stop.InputStop.{InputStop}
 use Rattle.job_inputs.specs.declared.stop.InputStop.TheVariants as input
 use Rattle.job_intervals.specs.Finding.{AnswersIntervals, IsFileOf, IsUndecidedFor}
-use Rattle.job_intervals.specs.TablesOnShelf.{ShelvedTables, shelved_of, ComesTo}
+use Rattle.shelved_tables.specs.TablesOnShelf.{ShelvedTables, shelved_of, ComesTo}
 use Rattle.job_intervals.specs.Stops.{HasCause as HasFindingCause, HasComeTo as HasFindingComeTo}
 use Rattle.job_intervals.specs.declared.interval_file.IntervalFile.{IntervalFile}
 use Rattle.job_intervals.specs.declared.stop.IntervalStop.{IntervalStop}
@@ -71,7 +71,7 @@ stop-leaves (stop.Inputs why) outcome out tray = inputs-leave why outcome out tr
 stop-leaves (stop.NotAccepted why) outcome out tray = refl
 stop-leaves (stop.Undecided why) outcome out tray = question-leaves why outcome out tray
 
-question-leaves-all : (why : AskFault) (tray : TrayState) → LeavesAll (question_report why) tray tray
+pub question-leaves-all : (why : AskFault) (tray : TrayState) → LeavesAll (question_report why) tray tray
 question-leaves-all (ask.Work walk) tray = refl
 question-leaves-all (ask.Wide walk place) tray = refl
 question-leaves-all (ask.Size question hidden) tray = refl
@@ -82,7 +82,7 @@ stop-leaves-all (stop.Inputs why) tray = inputs-leave-all why tray
 stop-leaves-all (stop.NotAccepted why) tray = refl
 stop-leaves-all (stop.Undecided why) tray = question-leaves-all why tray
 
-question-cause : (why : AskFault) (old new : ShelfState) (tray : TrayState) → HasCause (question_report why) old new tray tray
+pub question-cause : (why : AskFault) (old new : ShelfState) (tray : TrayState) → HasCause (question_report why) old new tray tray
 question-cause (ask.Work walk) old new tray = record { absent = λ f is. absurd cc; too_long = λ f is. absurd cc; read_fault = λ f is. absurd cc; write_fault = λ f is. absurd cc; tree = λ f is. absurd cc }
 question-cause (ask.Wide walk place) old new tray = record { absent = λ f is. absurd cc; too_long = λ f is. absurd cc; read_fault = λ f is. absurd cc; write_fault = λ f is. absurd cc; tree = λ f is. absurd cc }
 question-cause (ask.Size question hidden) old new tray = record { absent = λ f is. absurd cc; too_long = λ f is. absurd cc; read_fault = λ f is. absurd cc; write_fault = λ f is. absurd cc; tree = λ f is. absurd cc }
@@ -93,7 +93,7 @@ stop-cause (stop.Inputs why) old new tray cause = inputs-cause why old new tray 
 stop-cause (stop.NotAccepted why) old new tray cause = record { absent = λ f is. absurd cc; too_long = λ f is. absurd cc; read_fault = λ f is. absurd cc; write_fault = λ f is. absurd cc; tree = λ f is. absurd cc }
 stop-cause (stop.Undecided why) old new tray cause = question-cause why old new tray
 
-question-comes : (why : AskFault) (comes : FileRef → List ℕ → Type 0) (files : Files) (new : ShelfState) → HasComeTo comes (question_report why) files new
+pub question-comes : (why : AskFault) (comes : FileRef → List ℕ → Type 0) (files : Files) (new : ShelfState) → HasComeTo comes (question_report why) files new
 question-comes (ask.Work walk) comes files new = λ f is. absurd cc
 question-comes (ask.Wide walk place) comes files new = λ f is. absurd cc
 question-comes (ask.Size question hidden) comes files new = λ f is. absurd cc
@@ -143,8 +143,8 @@ settles (report.Intervals n) (Ok shelved) h no_read no_write = tt
 settles (report.Intervals n) (Err f) h no_read no_write = absurd cc
 settles (report.NotAccepted why) (Ok shelved) h no_read no_write = tt
 settles (report.NotAccepted why) (Err f) h no_read no_write = absurd h
-settles (report.Undecided why repairs shown) (Ok shelved) h no_read no_write = tt
-settles (report.Undecided why repairs shown) (Err f) h no_read no_write = absurd h
+settles (report.Undecided why repairs shown against) (Ok shelved) h no_read no_write = tt
+settles (report.Undecided why repairs shown against) (Err f) h no_read no_write = absurd h
 settles (report.Refused f) (Ok shelved) h no_read no_write = absurd cc
 settles (report.Refused f) (Err g) h no_read no_write = inl (let same : g ≡ f = cc in ap report.Refused (sym same))
 settles (report.ReadFault f) outcome h no_read no_write = absurd (no_read f refl)
@@ -153,11 +153,14 @@ settles report.Memory (Ok shelved) h no_read no_write = tt
 settles report.Memory (Err f) h no_read no_write = inr refl
 settles report.Accepted outcome h no_read no_write = absurd h
 settles (report.Released s) outcome h no_read no_write = absurd h
+settles (report.Audited primary exposed) outcome h no_read no_write = absurd h
 settles (report.Demo demo) outcome h no_read no_write = absurd h
 settles report.Migrated outcome h no_read no_write = absurd h
 settles report.Usage outcome h no_read no_write = absurd h
 settles (report.Cannot cell side multipliers) outcome h no_read no_write = absurd h
+settles (report.CannotAgainst row cell side multipliers) outcome h no_read no_write = absurd h
 settles report.NoRounding outcome h no_read no_write = absurd h
+settles (report.NotGuarded why) outcome h no_read no_write = absurd h
 
 -- what holds of how it went on holds of a run that finds no intervals
 pub stopped-run : (name out : List ℕ) (e : IntervalStop) (old new : ShelfState) (tray : TrayState) → WhereTold old.files (λ fs. AnswersIntervals (shelved_of fs name out) (Err e))
@@ -187,7 +190,7 @@ stopped-cause-of r e answer old new tray is same cause =
 
 -- ---- intervals were found
 
-ok-is : (outcome : Result ShelvedTables Fault) (P : ShelvedTables → Type 0) → IsOkAnd outcome P → IsOk outcome
+pub ok-is : (outcome : Result ShelvedTables Fault) (P : ShelvedTables → Type 0) → IsOkAnd outcome P → IsOk outcome
 ok-is (Ok shelved) P h = refl
 ok-is (Err f) P h = absurd h
 

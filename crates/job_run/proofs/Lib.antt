@@ -8,6 +8,9 @@ pub mod JobTruths
 pub mod RoundedJobs
 pub mod ShownLaws
 mod ProtectingTables
+pub mod KnownCells
+mod GuardingTables
+pub mod GuardedJobs
 pub mod Outcomes
 pub mod Settling
 pub mod Words
@@ -17,6 +20,7 @@ pub mod DemoJobs
 pub mod DemoRuns
 pub mod CheckRuns
 pub mod IntervalRuns
+pub mod AuditRuns
 mod Migrations
 pub mod PutSteps
 pub mod TermTexts

@@ -88,12 +88,15 @@ settles report.Memory (Err f) h no_read no_write = inr refl
 settles report.Accepted outcome h no_read no_write = absurd h
 settles (report.Released s) outcome h no_read no_write = absurd h
 settles (report.Intervals n) outcome h no_read no_write = absurd h
+settles (report.Audited n m) outcome h no_read no_write = absurd h
 settles (report.Demo demo) outcome h no_read no_write = absurd h
 settles report.Usage outcome h no_read no_write = absurd h
 settles (report.Cannot cell side multipliers) outcome h no_read no_write = absurd h
+settles (report.CannotAgainst row cell side multipliers) outcome h no_read no_write = absurd h
 settles report.NoRounding outcome h no_read no_write = absurd h
 settles (report.NotAccepted why) outcome h no_read no_write = absurd h
-settles (report.Undecided why repairs shown) outcome h no_read no_write = absurd h
+settles (report.NotGuarded why) outcome h no_read no_write = absurd h
+settles (report.Undecided why repairs shown against) outcome h no_read no_write = absurd h
 
 -- what stopped the reading is reported, and nothing is put
 pub stopped-migration : (old new : List ℕ) (e : InputStop) (shelf shelved : ShelfState) (tray : TrayState)
@@ -120,13 +123,16 @@ put-answers certificate new report.Memory before after h = tt
 put-answers certificate new (report.Released s) before after h = absurd h
 put-answers certificate new report.Accepted before after h = absurd h
 put-answers certificate new (report.Intervals n) before after h = absurd h
+put-answers certificate new (report.Audited n m) before after h = absurd h
 put-answers certificate new (report.Demo demo) before after h = absurd h
 put-answers certificate new report.Usage before after h = absurd h
 put-answers certificate new (report.Refused f) before after h = absurd h
 put-answers certificate new (report.Cannot cell side multipliers) before after h = absurd h
+put-answers certificate new (report.CannotAgainst row cell side multipliers) before after h = absurd h
 put-answers certificate new report.NoRounding before after h = absurd h
 put-answers certificate new (report.NotAccepted why) before after h = absurd h
-put-answers certificate new (report.Undecided why repairs shown) before after h = absurd h
+put-answers certificate new (report.NotGuarded why) before after h = absurd h
+put-answers certificate new (report.Undecided why repairs shown against) before after h = absurd h
 put-answers certificate new (report.ReadFault f) before after h = absurd h
 
 put-meets : (certificate : Certificate) (new : List ℕ) (answer : Report) (before after : TrayState) (outcome : Result Certificate Fault) → outcome ≡ Ok certificate → IsPutAgain certificate new answer before after → MeetsMigration answer outcome
@@ -136,13 +142,16 @@ put-meets certificate new report.Memory before after outcome is h = tt
 put-meets certificate new (report.Released s) before after outcome is h = absurd h
 put-meets certificate new report.Accepted before after outcome is h = absurd h
 put-meets certificate new (report.Intervals n) before after outcome is h = absurd h
+put-meets certificate new (report.Audited n m) before after outcome is h = absurd h
 put-meets certificate new (report.Demo demo) before after outcome is h = absurd h
 put-meets certificate new report.Usage before after outcome is h = absurd h
 put-meets certificate new (report.Refused f) before after outcome is h = absurd h
 put-meets certificate new (report.Cannot cell side multipliers) before after outcome is h = absurd h
+put-meets certificate new (report.CannotAgainst row cell side multipliers) before after outcome is h = absurd h
 put-meets certificate new report.NoRounding before after outcome is h = absurd h
 put-meets certificate new (report.NotAccepted why) before after outcome is h = absurd h
-put-meets certificate new (report.Undecided why repairs shown) before after outcome is h = absurd h
+put-meets certificate new (report.NotGuarded why) before after outcome is h = absurd h
+put-meets certificate new (report.Undecided why repairs shown against) before after outcome is h = absurd h
 put-meets certificate new (report.ReadFault f) before after outcome is h = absurd h
 
 put-leaves : (certificate : Certificate) (new : List ℕ) (answer : Report) (before after : TrayState) (outcome : Result Certificate Fault) → outcome ≡ Ok certificate → IsPutAgain certificate new answer before after → MigrationLeaves answer outcome new before after
@@ -152,13 +161,16 @@ put-leaves certificate new report.Memory before after outcome is h = h
 put-leaves certificate new (report.Released s) before after outcome is h = absurd h
 put-leaves certificate new report.Accepted before after outcome is h = absurd h
 put-leaves certificate new (report.Intervals n) before after outcome is h = absurd h
+put-leaves certificate new (report.Audited n m) before after outcome is h = absurd h
 put-leaves certificate new (report.Demo demo) before after outcome is h = absurd h
 put-leaves certificate new report.Usage before after outcome is h = absurd h
 put-leaves certificate new (report.Refused f) before after outcome is h = absurd h
 put-leaves certificate new (report.Cannot cell side multipliers) before after outcome is h = absurd h
+put-leaves certificate new (report.CannotAgainst row cell side multipliers) before after outcome is h = absurd h
 put-leaves certificate new report.NoRounding before after outcome is h = absurd h
 put-leaves certificate new (report.NotAccepted why) before after outcome is h = absurd h
-put-leaves certificate new (report.Undecided why repairs shown) before after outcome is h = absurd h
+put-leaves certificate new (report.NotGuarded why) before after outcome is h = absurd h
+put-leaves certificate new (report.Undecided why repairs shown against) before after outcome is h = absurd h
 put-leaves certificate new (report.ReadFault f) before after outcome is h = absurd h
 
 -- whatever was put, the tray isn't one that had to stay
@@ -169,13 +181,16 @@ put-leaves-all certificate new report.Memory before after h = tt
 put-leaves-all certificate new (report.Released s) before after h = absurd h
 put-leaves-all certificate new report.Accepted before after h = absurd h
 put-leaves-all certificate new (report.Intervals n) before after h = absurd h
+put-leaves-all certificate new (report.Audited n m) before after h = absurd h
 put-leaves-all certificate new (report.Demo demo) before after h = absurd h
 put-leaves-all certificate new report.Usage before after h = absurd h
 put-leaves-all certificate new (report.Refused f) before after h = absurd h
 put-leaves-all certificate new (report.Cannot cell side multipliers) before after h = absurd h
+put-leaves-all certificate new (report.CannotAgainst row cell side multipliers) before after h = absurd h
 put-leaves-all certificate new report.NoRounding before after h = absurd h
 put-leaves-all certificate new (report.NotAccepted why) before after h = absurd h
-put-leaves-all certificate new (report.Undecided why repairs shown) before after h = absurd h
+put-leaves-all certificate new (report.NotGuarded why) before after h = absurd h
+put-leaves-all certificate new (report.Undecided why repairs shown against) before after h = absurd h
 put-leaves-all certificate new (report.ReadFault f) before after h = absurd h
 
 not-read : (certificate : Certificate) (new : List ℕ) (answer : Report) (before after : TrayState) → IsPutAgain certificate new answer before after → (f : FileRef) → answer ≢ report.ReadFault f

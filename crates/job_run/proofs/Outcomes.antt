@@ -88,8 +88,9 @@ inputs-come input.Memory comes files new come = λ f is. absurd cc
 pub stop-meets : (e : Stop) (files : Files) (name : List ℕ) (settled : SettledInputs) → settled_of purpose.Release files name ≡ Ok settled → ComesToRelease settled (Err e) → AgreesWith (report_of (Err e)) (settled_of purpose.Release files name)
 stop-meets (stop.Refused f) files name settled read comes = absurd comes
 stop-meets (stop.Cannot cell side multipliers) files name settled read comes = rw read comes
+stop-meets (stop.CannotAgainst row cell side multipliers) files name settled read comes = rw read comes
 stop-meets stop.NoRounding files name settled read comes = rw read comes
-stop-meets (stop.Undecided why repairs shown) files name settled read comes = rw read comes
+stop-meets (stop.Undecided why repairs shown against) files name settled read comes = rw read comes
 stop-meets (stop.ReadFault f) files name settled read comes = absurd comes
 stop-meets (stop.WriteFault f) files name settled read comes = absurd comes
 stop-meets stop.Memory files name settled read comes = tt
@@ -97,8 +98,9 @@ stop-meets stop.Memory files name settled read comes = tt
 pub stop-leaves : (e : Stop) (settled : SettledInputs) (outcome : Result SettledInputs Fault) (tray : TrayState) → ComesToRelease settled (Err e) → LeavesTray (report_of (Err e)) outcome tray tray
 stop-leaves (stop.Refused f) settled outcome tray comes = absurd comes
 stop-leaves (stop.Cannot cell side multipliers) settled outcome tray comes = tt
+stop-leaves (stop.CannotAgainst row cell side multipliers) settled outcome tray comes = tt
 stop-leaves stop.NoRounding settled outcome tray comes = tt
-stop-leaves (stop.Undecided why repairs shown) settled outcome tray comes = tt
+stop-leaves (stop.Undecided why repairs shown against) settled outcome tray comes = tt
 stop-leaves (stop.ReadFault f) settled outcome tray comes = absurd comes
 stop-leaves (stop.WriteFault f) settled outcome tray comes = absurd comes
 stop-leaves stop.Memory settled outcome tray comes = inl refl
@@ -106,8 +108,9 @@ stop-leaves stop.Memory settled outcome tray comes = inl refl
 pub stop-leaves-all : (e : Stop) (tray : TrayState) → LeavesAll (report_of (Err e)) tray tray
 stop-leaves-all (stop.Refused f) tray = refl
 stop-leaves-all (stop.Cannot cell side multipliers) tray = refl
+stop-leaves-all (stop.CannotAgainst row cell side multipliers) tray = refl
 stop-leaves-all stop.NoRounding tray = refl
-stop-leaves-all (stop.Undecided why repairs shown) tray = refl
+stop-leaves-all (stop.Undecided why repairs shown against) tray = refl
 stop-leaves-all (stop.ReadFault f) tray = refl
 stop-leaves-all (stop.WriteFault f) tray = tt
 stop-leaves-all stop.Memory tray = tt
@@ -115,8 +118,9 @@ stop-leaves-all stop.Memory tray = tt
 pub stop-puts-none : (e : Stop) (settled : SettledInputs) (tray : TrayState) → ComesToRelease settled (Err e) → PutsOnce (report_of (Err e)) tray tray
 stop-puts-none (stop.Refused f) settled tray comes = refl
 stop-puts-none (stop.Cannot cell side multipliers) settled tray comes = refl
+stop-puts-none (stop.CannotAgainst row cell side multipliers) settled tray comes = refl
 stop-puts-none stop.NoRounding settled tray comes = refl
-stop-puts-none (stop.Undecided why repairs shown) settled tray comes = refl
+stop-puts-none (stop.Undecided why repairs shown against) settled tray comes = refl
 stop-puts-none (stop.ReadFault f) settled tray comes = refl
 stop-puts-none (stop.WriteFault f) settled tray comes = absurd comes
 stop-puts-none stop.Memory settled tray comes = inl refl
@@ -124,8 +128,9 @@ stop-puts-none stop.Memory settled tray comes = inl refl
 pub stop-cause : (e : Stop) (settled : SettledInputs) (old new : ShelfState) (tray : TrayState) → ComesToRelease settled (Err e) → HasCause (report_of (Err e)) old new tray tray
 stop-cause (stop.Refused f) settled old new tray comes = absurd comes
 stop-cause (stop.Cannot cell side multipliers) settled old new tray comes = no-cause (stop.Cannot cell side multipliers) old new tray tray (λ f is. absurd cc) (λ f is. absurd cc) (λ f is. absurd cc) (λ f is. absurd cc) (λ f is. absurd cc)
+stop-cause (stop.CannotAgainst row cell side multipliers) settled old new tray comes = no-cause (stop.CannotAgainst row cell side multipliers) old new tray tray (λ f is. absurd cc) (λ f is. absurd cc) (λ f is. absurd cc) (λ f is. absurd cc) (λ f is. absurd cc)
 stop-cause stop.NoRounding settled old new tray comes = no-cause stop.NoRounding old new tray tray (λ f is. absurd cc) (λ f is. absurd cc) (λ f is. absurd cc) (λ f is. absurd cc) (λ f is. absurd cc)
-stop-cause (stop.Undecided why repairs shown) settled old new tray comes = no-cause (stop.Undecided why repairs shown) old new tray tray (λ f is. absurd cc) (λ f is. absurd cc) (λ f is. absurd cc) (λ f is. absurd cc) (λ f is. absurd cc)
+stop-cause (stop.Undecided why repairs shown against) settled old new tray comes = no-cause (stop.Undecided why repairs shown against) old new tray tray (λ f is. absurd cc) (λ f is. absurd cc) (λ f is. absurd cc) (λ f is. absurd cc) (λ f is. absurd cc)
 stop-cause (stop.ReadFault f) settled old new tray comes = absurd comes
 stop-cause (stop.WriteFault f) settled old new tray comes = absurd comes
 stop-cause stop.Memory settled old new tray comes = no-cause stop.Memory old new tray tray (λ f is. absurd cc) (λ f is. absurd cc) (λ f is. absurd cc) (λ f is. absurd cc) (λ f is. absurd cc)
@@ -133,8 +138,9 @@ stop-cause stop.Memory settled old new tray comes = no-cause stop.Memory old new
 pub stop-come : (e : Stop) (settled : SettledInputs) (comes : FileRef → List ℕ → Type 0) (files : Files) (new : ShelfState) → ComesToRelease settled (Err e) → HasComeTo comes (report_of (Err e)) files new
 stop-come (stop.Refused g) settled come files new comes = absurd comes
 stop-come (stop.Cannot cell side multipliers) settled come files new comes = λ f is. absurd cc
+stop-come (stop.CannotAgainst row cell side multipliers) settled come files new comes = λ f is. absurd cc
 stop-come stop.NoRounding settled come files new comes = λ f is. absurd cc
-stop-come (stop.Undecided why repairs shown) settled come files new comes = λ f is. absurd cc
+stop-come (stop.Undecided why repairs shown against) settled come files new comes = λ f is. absurd cc
 stop-come (stop.ReadFault g) settled come files new comes = absurd comes
 stop-come (stop.WriteFault g) settled come files new comes = absurd comes
 stop-come stop.Memory settled come files new comes = λ f is. absurd cc
@@ -177,8 +183,9 @@ pub report-released : (r : Result Release Stop) (s : Summary) (P : Summary → T
 report-released (Ok t) s P e h = let same : t.summary ≡ s = cc in rw (← same) (h t refl)
 report-released (Err (stop.Refused g)) s P e h = absurd cc
 report-released (Err (stop.Cannot cell side multipliers)) s P e h = absurd cc
+report-released (Err (stop.CannotAgainst row cell side multipliers)) s P e h = absurd cc
 report-released (Err stop.NoRounding) s P e h = absurd cc
-report-released (Err (stop.Undecided why repairs shown)) s P e h = absurd cc
+report-released (Err (stop.Undecided why repairs shown against)) s P e h = absurd cc
 report-released (Err (stop.ReadFault g)) s P e h = absurd cc
 report-released (Err (stop.WriteFault g)) s P e h = absurd cc
 report-released (Err stop.Memory) s P e h = absurd cc

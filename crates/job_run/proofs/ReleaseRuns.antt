@@ -22,8 +22,9 @@ release-answers : (r : Result Release Stop) → IsReleaseAnswer (report_of r)
 release-answers (Ok t) = tt
 release-answers (Err (stop.Refused g)) = tt
 release-answers (Err (stop.Cannot cell side multipliers)) = tt
+release-answers (Err (stop.CannotAgainst row cell side multipliers)) = tt
 release-answers (Err stop.NoRounding) = tt
-release-answers (Err (stop.Undecided why repairs shown)) = tt
+release-answers (Err (stop.Undecided why repairs shown against)) = tt
 release-answers (Err (stop.ReadFault g)) = tt
 release-answers (Err (stop.WriteFault g)) = tt
 release-answers (Err stop.Memory) = tt

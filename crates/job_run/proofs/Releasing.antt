@@ -12,7 +12,9 @@ use Rattle.sdc_base.specs.declared.method.Method.{Method}
 use Rattle.sdc_base.specs.declared.trail.PlanStep.{PlanStep}
 use Rattle.apriori.specs.Settling.{SettledCell, view_of_cell}
 use Rattle.sdc_base.specs.declared.system.System.{System}
+use Rattle.attackers.specs.declared.extra.Against.{Against}
 use Rattle.certificate.specs.declared.certificate.Certificate.{Certificate}
+use Rattle.job_lang.specs.declared.job.OutputLine.{OutputLine}
 use Rattle.cell_protection.specs.Certifying.{hidden_numbers}
 use Rattle.cell_protection.specs.Protections.{IsProtectedWith, IsProtectionOf}
 use Rattle.cell_protection.proofs.Wholeness.{protection-whole}
@@ -40,8 +42,8 @@ use Rattle.job_inputs.specs.declared.settled.SettledJob.{SettledJob}
 use Rattle.relations.specs.Holding.{IsSystemOf}
 use Rattle.relations.specs.TableSigns.{HaveSigns, IsOneOrTwoWay}
 use Rattle.relations.proofs.SignedTables.{one_or_two_way_has_signs}
-use Rattle.job_run.specs.Endings.{IsReleaseBy}
-use Rattle.job_run.specs.Protections.{IsProtectionFor, IsSuppressedRelease, StopsShort}
+use Rattle.job_run.specs.Endings.{IsHidingRelease, IsReleaseBy, StopsShort}
+use Rattle.job_run.specs.Protections.{IsProtectionFor, IsSuppressedRelease}
 use Rattle.job_run.specs.Releases.{summary_of}
 use Rattle.job_run.specs.Roundings.{base_of}
 use Rattle.job_run.specs.declared.put.Release.{Release}
@@ -75,16 +77,17 @@ protection-for settled job system protection hides is_job is_book is_system is =
       protection-whole (case system job.cells) (prices_of job.described.job.cost job.cells job.book.marks) job.described.job.method (trail_of job.book job.cells job.described.job.cost (passes_of job.described.job.method)) job.described.job.steps protection signs.0 signs.1 is;
 }
 
-question-comes : (settled : SettledInputs) (fault : AskFault) (repairs : List Refuted) (shown : List ℕ) → StopsShort settled fault repairs shown
-    → ComesToRelease settled (Err (question_stop fault repairs shown))
-question-comes settled (ask.Work walk) repairs shown is = is
-question-comes settled (ask.Wide walk place) repairs shown is = is
-question-comes settled (ask.Size question hidden) repairs shown is = is
-question-comes settled ask.Memory repairs shown is = tt
+-- a question that stopped short stops the run
+pub question-comes : (settled : SettledInputs) (fault : AskFault) (repairs : List Refuted) (shown : List ℕ) (against : Option Against) → StopsShort settled fault repairs shown against
+    → ComesToRelease settled (Err (question_stop fault repairs shown against))
+question-comes settled (ask.Work walk) repairs shown against is = is
+question-comes settled (ask.Wide walk place) repairs shown against is = is
+question-comes settled (ask.Size question hidden) repairs shown against is = is
+question-comes settled ask.Memory repairs shown against is = tt
 
 -- a protection that stopped short stops the run
 pub stopped-comes : (settled : SettledInputs) (stopped : Stopped) → IsProtectionFor settled (protection.Undecided stopped) → ComesToRelease settled (Err (stopped_stop stopped))
-stopped-comes settled stopped is = question-comes settled stopped.fault stopped.repairs stopped.shown is
+stopped-comes settled stopped is = question-comes settled stopped.fault stopped.repairs stopped.shown None is
 
 -- the same, where the cells are read through a slice
 pub outcome-for : (settled : SettledInputs) (job : SettledJob) (system : System) (cells : List Cell) (one other : Protection) → base_of job.described ≡ None → IsSettledOf settled job → IsBook job.book → IsSystemOf job.book system → cells ≡ job.cells → one ≡ other
@@ -160,6 +163,16 @@ with-hidden settled numbers counted hidden is same = ap (λ (s : Summary). recor
 
 -- ---- a suppressed release
 
+-- a job names the file for contributors that its settled inputs name
+pub same-contributors : (settled : SettledInputs) (job : SettledJob) → IsSettledOf settled job → settled.inputs.described.job.contributors ≡ job.described.job.contributors
+same-contributors settled job is = ap (λ (d : DescribedJob). d.job.contributors) (sym is.described)
+
+-- a release of a job that hides, by the file for contributors that it names
+pub hiding-comes : (settled : SettledInputs) (job : SettledJob) (named : Option OutputLine) (release : Release) → base_of job.described ≡ None → job.described.job.contributors ≡ named → IsSettledOf settled job → IsHidingRelease named settled release → ComesToRelease settled (Ok release)
+hiding-comes settled job named release hides is_named is_of is =
+    subst (λ (base : Option ℤ). IsReleaseBy base settled release) (sym (same-base settled job is_of ∙ hides))
+    (subst (λ (line : Option OutputLine). IsHidingRelease line settled release) (sym (same-contributors settled job is_of ∙ is_named)) is)
+
 -- a hidden set that protects makes a suppressed release
-pub suppressed-comes : (settled : SettledInputs) (job : SettledJob) (release : Release) → base_of job.described ≡ None → IsSettledOf settled job → IsSuppressedRelease settled release → ComesToRelease settled (Ok release)
-suppressed-comes settled job release hides is_of is = subst (λ (base : Option ℤ). IsReleaseBy base settled release) (sym (same-base settled job is_of ∙ hides)) is
+pub suppressed-comes : (settled : SettledInputs) (job : SettledJob) (release : Release) → base_of job.described ≡ None → job.described.job.contributors ≡ None → IsSettledOf settled job → IsSuppressedRelease settled release → ComesToRelease settled (Ok release)
+suppressed-comes settled job release hides unnamed is_of is = hiding-comes settled job None release hides unnamed is_of is

@@ -164,7 +164,7 @@ search-comes settled job system base truths round.NoRounding task none limit is_
 search-comes settled job system base truths (round.Nodes nodes) task none limit is_book signed =
     let stops = limit nodes refl in
     let more = other-tables settled job system base truths (round.Nodes nodes) task is_book signed (λ is. absurd cc) in
-    (search-stops settled job system base truths nodes task stops.0 stops.1 more, refl, refl)
+    (search-stops settled job system base truths nodes task stops.0 stops.1 more, refl, refl, refl)
 search-comes settled job system base truths round.Memory task none limit is_book signed = tt
 
 -- ---- the release

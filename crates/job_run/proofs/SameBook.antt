@@ -14,7 +14,9 @@ use Rattle.linked_tables.specs.BookViews.{BookView}
 use Rattle.linked_tables.specs.BookCells.{cells as cells_in}
 use Rattle.linked_tables.specs.declared.mark.Mark.{Mark}
 use Rattle.modular_plan.specs.Plans.{IsSameButHidden}
-use Rattle.tabulate.specs.TabulatedMarks.{TellsOf}
+use Rattle.tabulate.specs.TabulatedMarks.{AreTabulated, TellsOf}
+use Rattle.attackers.specs.Alone.{TellFrequencies}
+use Rattle.sdc_base.specs.Sums.{freq}
 use Rattle.job_lang.specs.declared.job.TableLine.{TableLine}
 use Rattle.job_lang.specs.JobLimits.{HasVariables}
 use Rattle.job_inputs.specs.SoundJobs.{IsSound}
@@ -60,7 +62,7 @@ tells-same trees rows keep scale name mark other same tells = subst (λ (facts :
 tabulated-trees : (trees others : List Tree) (rows : List Row) (keep scale : ℕ) (name : Name) (mark : Mark) → others ≡ trees → TellsOf trees rows keep scale name mark → TellsOf others rows keep scale name mark
 tabulated-trees trees others rows keep scale name mark same = subst (λ (all : List Tree). TellsOf all rows keep scale name mark) (sym same)
 
-same-cells : (old new : BookView) → IsSameButHidden old new → cells_in new ≡ cells_in old
+pub same-cells : (old new : BookView) → IsSameButHidden old new → cells_in new ≡ cells_in old
 same-cells old new same = rw (same.trees, same.tables) refl
 
 same-length : {X Y : Type 0} (f : X → Y) (xs ys : List X) → map f xs ≡ map f ys → length xs ≡ length ys
@@ -94,6 +96,13 @@ still-ready described old new same ready = record {
   costed = over-facts AreCosted old.marks new.marks same.facts ready.costed;
   keeps = over-facts (λ facts. keep_of described.job.rules.list ≤ facts.tops.keep) old.marks new.marks same.facts ready.keeps;
 }
+
+-- and its marks still tell how many records fall in each cell
+pub still-told : (old new : BookView) (rows : List Row) (keep scale : ℕ) → IsSameButHidden old new → AreTabulated old rows keep scale → TellFrequencies new rows
+still-told old new rows keep scale same told = λ cell name mark named at.
+    let before = old-mark old.marks new.marks cell mark same.facts at in
+    let tells = told cell name before.0 (ap (λ (names : List Name). slice_get names cell) (sym (same-cells old new same)) ∙ named) before.1 in
+    ap (λ (facts : CellFacts). facts.freq) before.2 ∙ tells.freq_is ∙ ap (λ (trees : List Tree). freq trees name rows) (sym same.trees)
 
 -- ---- the tables of a job are narrow
 

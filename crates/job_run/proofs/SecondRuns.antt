@@ -1,9 +1,11 @@
 -- A second run completes what the first left in part.
-use Rattle.std.proofs.Common.{◌≡◌, ◌≢◌, ◌∙◌, ℕ, zero, suc, ◌+◌, Bool, true, false, ◌||◌, List, [], ◌∷◌, Option, None, Some, Result, Ok, option_map, map, take, slice_get, refl, ap, sym, subst, ℤ}
+use Rattle.std.proofs.Common.{◌≡◌, ◌≢◌, ◌∙◌, ℕ, zero, suc, ◌+◌, Bool, true, false, ◌||◌, List, [], ◌∷◌, ◌++◌, Option, None, Some, Result, Ok, option_map, map, take, slice_get, refl, ap, sym, subst, ℤ}
 use Rattle.std.specs.List.{AllByRecursion, list_any}
 use Rattle.std.specs.Str.{bytes_eq}
 use Rattle.std.proofs.lemmas.Slice.Eq.{bytes_eq-Decides}
 use Rattle.certificate.specs.declared.certificate.Certificate.{Certificate}
+use Rattle.certificate.specs.declared.extra.Extra.{Extra}
+use Rattle.job_lang.specs.FileLaws.{contributors_named}
 use Rattle.job_lang.specs.declared.job.OutputLine.{OutputLine}
 use Rattle.job_lang.specs.declared.job.TableLine.{TableLine}
 use Rattle.office_io.specs.Files.{Files, files_after_put, told_file}
@@ -13,7 +15,8 @@ use Rattle.job_inputs.specs.declared.file_ref.FileRef.{FileRef}
 use Rattle.job_inputs.specs.declared.inputs.Inputs.{Inputs}
 use Rattle.job_inputs.specs.declared.purpose.Purpose.TheVariants as purpose
 use Rattle.sdc_base.specs.Records.{Name}
-use Rattle.job_run.specs.Endings.{IsReleaseBy}
+use Rattle.job_run.specs.Endings.{IsHidingRelease, IsReleaseBy}
+use Rattle.job_run.specs.GuardedReleases.{guarded_puts}
 use Rattle.job_run.specs.Puts.{put_all, AllWhole, IsInPart, OneInPart}
 use Rattle.job_run.specs.Releases.{tables_from, shown_in, value_in}
 use Rattle.job_run.specs.Roundings.{base_of, rounded_certificate}
@@ -83,13 +86,42 @@ tables-others other inputs shown t (line ∷ lines) (output ∷ outputs) none =
     let both = neither (bytes_eq output.file other) (list_any (λ file. bytes_eq file other) (map (λ (o : OutputLine). o.file) outputs)) none in
     (apart-name output.file other both.0, tables-others other inputs shown (t + 1) lines outputs both.1)
 
+-- a name that is none of these isn't one of the last of them
+none-behind : (test : List ℕ → Bool) (names more : List (List ℕ)) → list_any test (names ++ more) ≡ false → (list_any test names ≡ false) × (list_any test more ≡ false)
+none-behind test [] more none = (refl, none)
+none-behind test (name ∷ names) more none =
+    let both = neither (test name) (list_any test (names ++ more)) none in
+    let rest = none-behind test names more both.1 in
+    (joined (test name) (list_any test names) both.0 rest.0, rest.1)
+  where
+    joined : (a b : Bool) → a ≡ false → b ≡ false → (a || b) ≡ false
+    joined true b is_a is_b = absurd cc
+    joined false b is_a is_b = is_b
+
 puts-others : (other : List ℕ) (inputs : Inputs) (shown : Name → Option ℤ) (certificate : Certificate) → is_put_by inputs.described.job other ≡ false → OfOthers other (Rattle.job_run.specs.Releases.puts_of inputs shown certificate)
 puts-others other inputs shown certificate none =
-    let both = neither (bytes_eq inputs.described.job.certificate other) (list_any (λ file. bytes_eq file other) (map (λ (o : OutputLine). o.file) inputs.described.job.outputs)) none in
-    (apart-name inputs.described.job.certificate other both.0, tables-others other inputs shown 0 inputs.described.job.tables inputs.described.job.outputs both.1)
+    let named = contributors_named inputs.described.job.contributors in
+    let both = neither (bytes_eq inputs.described.job.certificate other) (list_any (λ file. bytes_eq file other) (named ++ map (λ (o : OutputLine). o.file) inputs.described.job.outputs)) none in
+    let tables = none-behind (λ file. bytes_eq file other) named (map (λ (o : OutputLine). o.file) inputs.described.job.outputs) both.1 in
+    (apart-name inputs.described.job.certificate other both.0, tables-others other inputs shown 0 inputs.described.job.tables inputs.described.job.outputs tables.1)
+
+guarded-others : (other : List ℕ) (inputs : Inputs) (line : OutputLine) (shown : Name → Option ℤ) (certificate : Certificate) (extra : Extra) → inputs.described.job.contributors ≡ Some line → is_put_by inputs.described.job other ≡ false
+    → OfOthers other (guarded_puts inputs line.file shown certificate extra)
+guarded-others other inputs line shown certificate extra is_named none =
+    let named = contributors_named inputs.described.job.contributors in
+    let both = neither (bytes_eq inputs.described.job.certificate other) (list_any (λ (file : List ℕ). bytes_eq file other) (named ++ map (λ (o : OutputLine). o.file) inputs.described.job.outputs)) none in
+    let parts = none-behind (λ (file : List ℕ). bytes_eq file other) named (map (λ (o : OutputLine). o.file) inputs.described.job.outputs) both.1 in
+    let own : list_any (λ (file : List ℕ). bytes_eq file other) (line.file ∷ []) ≡ false = subst (λ (c : Option OutputLine). list_any (λ (file : List ℕ). bytes_eq file other) (contributors_named c) ≡ false) is_named parts.0 in
+    let apart = neither (bytes_eq line.file other) false own in
+    (apart-name inputs.described.job.certificate other both.0, (apart-name line.file other apart.0, tables-others other inputs shown 0 inputs.described.job.tables inputs.described.job.outputs parts.1))
+
+hiding-others : (other : List ℕ) (settled : SettledInputs) (release : Release) (named : Option OutputLine) → is_put_by settled.inputs.described.job other ≡ false → IsHidingRelease named settled release → OfOthers other release.puts
+hiding-others other settled release None none is = rw is.puts (puts-others other settled.inputs (shown_in settled.inputs is.hidden_set.hidden.flags) is.certificate none)
+hiding-others other settled release (Some line) none is =
+    rw is.puts (guarded-others other settled.inputs is.guards.line (shown_in settled.inputs is.guarded.hidden.flags) is.certificate is.guarded.extra is.guards.named none)
 
 release-others : (other : List ℕ) (settled : SettledInputs) (release : Release) (base : Option ℤ) → is_put_by settled.inputs.described.job other ≡ false → IsReleaseBy base settled release → OfOthers other release.puts
-release-others other settled release None none is = rw is.puts (puts-others other settled.inputs (shown_in settled.inputs is.hidden_set.hidden.flags) is.certificate none)
+release-others other settled release None none is = hiding-others other settled release settled.inputs.described.job.contributors none is
 release-others other settled release (Some base) none is = rw is.puts (puts-others other settled.inputs (value_in settled.inputs is.values) (rounded_certificate settled.inputs) none)
 
 -- ---- two runs

@@ -25,6 +25,12 @@ pub cannot-appended : (cell side reason : List ℕ)
     ≡ ((codes "cannot protect " ++ ((codes "cell " ++ (cell ++ (codes " " ++ side))) ++ 10 ∷ [])) ++ reason) ++ 10 ∷ []
 cannot-appended cell side reason = simp (append_assoc, cons-front, nil-front)
 
+-- the two lines of a cell that can't be guarded against a contributor, as one text
+pub against-appended : (cell side row reason : List ℕ)
+    → codes "cannot protect cell " ++ (cell ++ (32 ∷ (side ++ (codes " from row " ++ (row ++ (10 ∷ (reason ++ 10 ∷ [])))))))
+    ≡ ((codes "cannot protect " ++ ((codes "cell " ++ (cell ++ (codes " " ++ side))) ++ (codes " from row " ++ (row ++ 10 ∷ [])))) ++ reason) ++ 10 ∷ []
+against-appended cell side row reason = simp (append_assoc, cons-front, nil-front)
+
 -- the line of a demonstration that was released, as one text
 pub demo-appended : (status numbers : List ℕ) → codes "demo: status " ++ (status ++ (44 ∷ (32 ∷ (numbers ++ 10 ∷ [])))) ≡ codes "demo: status " ++ ((status ++ (codes ", " ++ numbers)) ++ 10 ∷ [])
 demo-appended status numbers = simp (append_assoc, cons-front, nil-front)

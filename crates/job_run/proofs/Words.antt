@@ -3,7 +3,7 @@ use Rattle.std.proofs.Common.{◌≡◌, ℕ, Bool, true, false, if◌then◌els
 use Rattle.std.specs.Prelude.{codes}
 use Rattle.std.specs.Str.{bytes_eq}
 use Rattle.std.proofs.lemmas.Slice.Eq.{bytes_eq-Decides}
-use Rattle.job_run.specs.Commands.{run_job, check_job, interval_names, demo_numbers, migration_names, seed_and_records}
+use Rattle.job_run.specs.Commands.{audit_names, run_job, check_job, interval_names, demo_numbers, migration_names, names_behind, seed_and_records}
 
 -- what is given only where a test holds was given, so the test holds
 given-where : {A : Type 0} (test : Bool) (o : Option A) (x : A) → (if test then o else None) ≡ Some x → test ≡ true
@@ -23,24 +23,43 @@ run-no-check (word ∷ (b ∷ own) ∷ []) name x run check =
     one-word word (codes "run") (codes "check") refl (given-where (bytes_eq word (codes "run")) (Some (b ∷ own)) name run) (given-where (bytes_eq word (codes "check")) (Some (b ∷ own)) x check)
 run-no-check (word ∷ (b ∷ own) ∷ more ∷ rest) name x run check = absurd cc
 
-pub intervals-no-demo : (words : List (List ℕ)) (names : List ℕ × List ℕ) (x : ℕ × ℕ) → interval_names words ≡ Some names → demo_numbers words ≡ Some x → ⊥
-intervals-no-demo [] names x intervals demo = absurd cc
-intervals-no-demo (word ∷ []) names x intervals demo = absurd cc
-intervals-no-demo (word ∷ [] ∷ rest) names x intervals demo = absurd cc
-intervals-no-demo (word ∷ (b ∷ own) ∷ []) names x intervals demo = absurd cc
-intervals-no-demo (word ∷ (b ∷ own) ∷ [] ∷ rest) names x intervals demo = absurd cc
-intervals-no-demo (word ∷ (b ∷ own) ∷ (d ∷ out) ∷ []) names x intervals demo =
-    one-word word (codes "intervals") (codes "demo") refl (given-where (bytes_eq word (codes "intervals")) (Some (b ∷ own, d ∷ out)) names intervals)
+-- words that ask for a demonstration have no two names behind another verb
+names-no-demo : (verb : List ℕ) (words : List (List ℕ)) (names : List ℕ × List ℕ) (x : ℕ × ℕ) → bytes_eq verb (codes "demo") ≡ false → names_behind verb words ≡ Some names → demo_numbers words ≡ Some x → ⊥
+names-no-demo verb [] names x apart asked demo = absurd cc
+names-no-demo verb (word ∷ []) names x apart asked demo = absurd cc
+names-no-demo verb (word ∷ [] ∷ rest) names x apart asked demo = absurd cc
+names-no-demo verb (word ∷ (b ∷ own) ∷ []) names x apart asked demo = absurd cc
+names-no-demo verb (word ∷ (b ∷ own) ∷ [] ∷ rest) names x apart asked demo = absurd cc
+names-no-demo verb (word ∷ (b ∷ own) ∷ (d ∷ out) ∷ []) names x apart asked demo =
+    one-word word verb (codes "demo") apart (given-where (bytes_eq word verb) (Some (b ∷ own, d ∷ out)) names asked)
     (given-where (bytes_eq word (codes "demo")) (seed_and_records (b ∷ own) (d ∷ out)) x demo)
-intervals-no-demo (word ∷ (b ∷ own) ∷ (d ∷ out) ∷ more ∷ rest) names x intervals demo = absurd cc
+names-no-demo verb (word ∷ (b ∷ own) ∷ (d ∷ out) ∷ more ∷ rest) names x apart asked demo = absurd cc
+
+-- two names stand behind one verb alone
+names-apart : (one other : List ℕ) (words : List (List ℕ)) (names x : List ℕ × List ℕ) → bytes_eq one other ≡ false → names_behind one words ≡ Some names → names_behind other words ≡ Some x → ⊥
+names-apart one other [] names x apart asked too = absurd cc
+names-apart one other (word ∷ []) names x apart asked too = absurd cc
+names-apart one other (word ∷ [] ∷ rest) names x apart asked too = absurd cc
+names-apart one other (word ∷ (b ∷ own) ∷ []) names x apart asked too = absurd cc
+names-apart one other (word ∷ (b ∷ own) ∷ [] ∷ rest) names x apart asked too = absurd cc
+names-apart one other (word ∷ (b ∷ own) ∷ (d ∷ out) ∷ []) names x apart asked too =
+    one-word word one other apart (given-where (bytes_eq word one) (Some (b ∷ own, d ∷ out)) names asked) (given-where (bytes_eq word other) (Some (b ∷ own, d ∷ out)) x too)
+names-apart one other (word ∷ (b ∷ own) ∷ (d ∷ out) ∷ more ∷ rest) names x apart asked too = absurd cc
+
+pub intervals-no-demo : (words : List (List ℕ)) (names : List ℕ × List ℕ) (x : ℕ × ℕ) → interval_names words ≡ Some names → demo_numbers words ≡ Some x → ⊥
+intervals-no-demo words names x intervals demo = names-no-demo (codes "intervals") words names x refl intervals demo
+
+pub intervals-no-migration : (words : List (List ℕ)) (names x : List ℕ × List ℕ) → interval_names words ≡ Some names → migration_names words ≡ Some x → ⊥
+intervals-no-migration words names x intervals migration = names-apart (codes "intervals") (codes "migrate") words names x refl intervals migration
+
+pub intervals-no-audit : (words : List (List ℕ)) (names x : List ℕ × List ℕ) → interval_names words ≡ Some names → audit_names words ≡ Some x → ⊥
+intervals-no-audit words names x intervals audit = names-apart (codes "intervals") (codes "audit") words names x refl intervals audit
 
 pub demo-no-migration : (words : List (List ℕ)) (numbers : ℕ × ℕ) (x : List ℕ × List ℕ) → demo_numbers words ≡ Some numbers → migration_names words ≡ Some x → ⊥
-demo-no-migration [] numbers x demo migration = absurd cc
-demo-no-migration (word ∷ []) numbers x demo migration = absurd cc
-demo-no-migration (word ∷ [] ∷ rest) numbers x demo migration = absurd cc
-demo-no-migration (word ∷ (b ∷ own) ∷ []) numbers x demo migration = absurd cc
-demo-no-migration (word ∷ (b ∷ own) ∷ [] ∷ rest) numbers x demo migration = absurd cc
-demo-no-migration (word ∷ (b ∷ own) ∷ (d ∷ out) ∷ []) numbers x demo migration =
-    one-word word (codes "demo") (codes "migrate") refl (given-where (bytes_eq word (codes "demo")) (seed_and_records (b ∷ own) (d ∷ out)) numbers demo)
-    (given-where (bytes_eq word (codes "migrate")) (Some (b ∷ own, d ∷ out)) x migration)
-demo-no-migration (word ∷ (b ∷ own) ∷ (d ∷ out) ∷ more ∷ rest) numbers x demo migration = absurd cc
+demo-no-migration words numbers x demo migration = names-no-demo (codes "migrate") words x numbers refl migration demo
+
+pub audit-no-demo : (words : List (List ℕ)) (names : List ℕ × List ℕ) (x : ℕ × ℕ) → audit_names words ≡ Some names → demo_numbers words ≡ Some x → ⊥
+audit-no-demo words names x audit demo = names-no-demo (codes "audit") words names x refl audit demo
+
+pub audit-no-migration : (words : List (List ℕ)) (names x : List ℕ × List ℕ) → audit_names words ≡ Some names → migration_names words ≡ Some x → ⊥
+audit-no-migration words names x audit migration = names-apart (codes "audit") (codes "migrate") words names x refl audit migration

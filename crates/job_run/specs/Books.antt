@@ -1,7 +1,10 @@
 -- What holds of a settled job before it is released, and of its book when its texts are written (own).
-use Rattle.std.specs.Prelude.{Option, ℤ, ℕ, List}
+use Rattle.std.specs.Prelude.{◌≡◌, Option, ℤ, ℕ, Bool, List, length}
 use Rattle.sdc_base.specs.Records.{Name}
+use Rattle.sdc_base.specs.declared.cell.Cell.{Cell}
+use Rattle.sdc_base.specs.declared.rows.Row.{Row}
 use Rattle.linked_tables.specs.BookViews.{BookView}
+use Rattle.modular_plan.specs.Plans.{IsSameButHidden}
 use Rattle.release_writer.specs.ShownCells.{CanBeShown}
 use Rattle.release_writer.specs.declared.shown.Shown.{Shown}
 use Rattle.release_writer.specs.declared.shown.Shown.TheVariants as shown
@@ -16,6 +19,17 @@ use Rattle.job_lang.specs.declared.job.Job.{Job}
 use Rattle.job_lang.specs.declared.job.TableLine.{TableLine}
 use Rattle.job_lang.specs.declared.job.OutputLine.{OutputLine}
 use Rattle.job_run.specs.declared.put.FilePut.{FilePut}
+
+-- the job of these parts, with so many records read and so many skipped
+abbrev pub job_of : DescribedJob → BookView → List Cell → List Row → ℕ → ℕ → SettledJob
+job_of described book cells rows records skipped = record {
+  described = described;
+  book = book;
+  cells = cells;
+  rows = rows;
+  records = records;
+  skipped = skipped;
+}
 
 -- the job is that of settled inputs, and all that was read for these is within its limits
 pub record IsOfInputs (job : SettledJob) : Type 0 where
@@ -46,3 +60,16 @@ pub record IsShownBook (described : DescribedJob) (book : BookView) (shown : Sho
   pub sound : IsSound described
   pub ready : IsReadyFor described book
   pub can : CanBeShown book shown
+
+-- the same, where the cells of a hidden set are hidden
+pub record IsHidingBook (described : DescribedJob) (book : BookView) (flags : List Bool) : Type 0 where
+  pub sound : IsSound described
+  pub ready : IsReadyFor described book
+  pub each_flag : length flags ≡ length book.marks
+
+-- the book is that of a ready job whose cells were planned: cells are hidden in it beside those of the job
+pub record IsPlannedBook (described : DescribedJob) (book : BookView) (cells : List Cell) (rows : List Row)
+    : Type 0 where
+  pub before : BookView
+  pub ready : IsReadyJob (job_of described before cells rows 0 0)
+  pub same : IsSameButHidden before book

@@ -4,9 +4,10 @@ use Rattle.sdc_base.specs.Counts.{HasRisen}
 use Rattle.sdc_base.specs.WhereTold.{WhereTold}
 use Rattle.office_io.specs.Shelves.{ShelfState}
 use Rattle.office_io.specs.Trays.{TrayState}
-use Rattle.job_check.specs.Answers.{IsAcceptedRelease, IsNotAccepted}
+use Rattle.job_check.specs.Answers.{IsRightRelease, IsFaultyRelease}
 use Rattle.job_check.specs.Reading.{ComesTo}
 use Rattle.job_check.specs.ReleaseFiles.{ReleasedFiles, released_of}
+use Rattle.job_check.specs.declared.flaw.Flaw.TheVariants as flaw
 use Rattle.job_inputs.specs.ReadFiles.{output_limit}
 use Rattle.job_inputs.specs.Reading.{HasOnlyLooked}
 use Rattle.job_inputs.specs.declared.faults.Fault.{Fault}
@@ -15,11 +16,12 @@ use Rattle.job_run.specs.declared.report.Report.{Report}
 use Rattle.job_run.specs.declared.report.Report.TheVariants as report
 
 -- What the report says of the told files, which come to a release that is to be judged or to a first fault: it is
--- accepted, or has this fault, or a refusal names the files' first fault. Want of memory and faults of the shelf say
--- nothing of them.
+-- accepted, or has this fault, of its certificate and tables or of its extra cells, or a refusal names the files' first
+-- fault. Want of memory and faults of the shelf say nothing of them.
 abbrev pub MeetsCheck : Report → Result ReleasedFiles Fault → Type 0
-MeetsCheck report.Accepted outcome = IsOkAnd outcome IsAcceptedRelease
-MeetsCheck (report.NotAccepted why) outcome = IsOkAnd outcome (λ released. IsNotAccepted released why)
+MeetsCheck report.Accepted outcome = IsOkAnd outcome IsRightRelease
+MeetsCheck (report.NotAccepted why) outcome = IsOkAnd outcome (IsFaultyRelease (flaw.NotAccepted why))
+MeetsCheck (report.NotGuarded why) outcome = IsOkAnd outcome (IsFaultyRelease (flaw.NotGuarded why))
 MeetsCheck (report.Refused reason) outcome = outcome ≡ Err reason
 MeetsCheck (report.ReadFault file) outcome = Unit {0}
 MeetsCheck report.Memory outcome = Unit {0}
@@ -29,15 +31,18 @@ MeetsCheck other outcome = ⊥
 abbrev pub IsCheckAnswer : Report → Type 0
 IsCheckAnswer report.Accepted = Unit {0}
 IsCheckAnswer (report.NotAccepted why) = Unit {0}
+IsCheckAnswer (report.NotGuarded why) = Unit {0}
 IsCheckAnswer (report.Refused reason) = Unit {0}
 IsCheckAnswer (report.ReadFault file) = Unit {0}
 IsCheckAnswer report.Memory = Unit {0}
 IsCheckAnswer other = ⊥
 
--- what a check of a release ends with: it is accepted, or it isn't, or there is no memory
+-- what a check of a release ends with: it is accepted, or it isn't, or its extra cells don't guard, or there is no
+-- memory
 abbrev pub IsCheckEnd : Report → Type 0
 IsCheckEnd report.Accepted = Unit {0}
 IsCheckEnd (report.NotAccepted why) = Unit {0}
+IsCheckEnd (report.NotGuarded why) = Unit {0}
 IsCheckEnd report.Memory = Unit {0}
 IsCheckEnd other = ⊥
 

@@ -16,17 +16,22 @@ run_job words = job_behind (codes "run") words
 abbrev pub check_job : List (List ℕ) → Option (List ℕ)
 check_job words = job_behind (codes "check") words
 
+-- two names, where the words are this verb and names of one byte or more
+abbrev pub names_behind : List ℕ → List (List ℕ) → Option (List ℕ × List ℕ)
+names_behind verb (word ∷ (b ∷ one) ∷ (d ∷ other) ∷ []) = if bytes_eq word verb then Some (b ∷ one, d ∷ other) else None
+names_behind verb words = None
+
 -- `intervals JOB OUT`: the name of the job, and the name under which the intervals are put
 abbrev pub interval_names : List (List ℕ) → Option (List ℕ × List ℕ)
-interval_names (word ∷ (b ∷ name) ∷ (d ∷ out) ∷ []) = if bytes_eq word (codes "intervals") then Some (b ∷ name, d ∷ out)
-    else None
-interval_names words = None
+interval_names words = names_behind (codes "intervals") words
 
 -- `migrate OLD NEW`: the name of a certificate, and the name under which it is put again
 abbrev pub migration_names : List (List ℕ) → Option (List ℕ × List ℕ)
-migration_names (word ∷ (b ∷ old) ∷ (d ∷ new) ∷ []) = if bytes_eq word (codes "migrate") then Some (b ∷ old, d ∷ new)
-    else None
-migration_names words = None
+migration_names words = names_behind (codes "migrate") words
+
+-- `audit JOB OUT`: the name of the job, and the name under which the audit is put
+abbrev pub audit_names : List (List ℕ) → Option (List ℕ × List ℕ)
+audit_names words = names_behind (codes "audit") words
 
 -- a seed up to 2^64 - 1 and a number of records from 1 to 1,000,000, where two words spell these, without zeros in
 -- front
@@ -46,3 +51,4 @@ pub record AreUsage (words : List (List ℕ)) : Type 0 where
   pub no_intervals : interval_names words ≡ None
   pub no_demo : demo_numbers words ≡ None
   pub no_migration : migration_names words ≡ None
+  pub no_audit : audit_names words ≡ None

@@ -55,7 +55,7 @@ SaysAnswer files (report.Released summary) tray demo = (release : Release)
 SaysAnswer files (report.Refused reason) tray demo = demo ≡ with_status 2
 SaysAnswer files (report.Cannot cell side multipliers) tray demo = demo ≡ with_status 3
 SaysAnswer files report.NoRounding tray demo = demo ≡ with_status 3
-SaysAnswer files (report.Undecided why repairs shown) tray demo = SaysStuck why repairs shown demo
+SaysAnswer files (report.Undecided why repairs shown against) tray demo = SaysStuck why repairs shown demo
 SaysAnswer files other tray demo = ⊥
 
 -- A demonstration of a survey of so many records, drawn from a seed: it says what a run of its job over a shelf and a

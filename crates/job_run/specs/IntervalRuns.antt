@@ -1,5 +1,5 @@
 -- What a run for intervals answers, and what it leaves on the tray (handbook, feasibility interval; own).
-use Rattle.std.specs.Prelude.{◌≡◌, ◌⊎◌, ℕ, List, [], Result, Ok, Err, IsOk, IsOkAnd}
+use Rattle.std.specs.Prelude.{◌≡◌, ◌⊎◌, ℕ, List, [], None, Result, Ok, Err, IsOk, IsOkAnd}
 use Rattle.sdc_base.specs.Counts.{HasRisen}
 use Rattle.sdc_base.specs.WhereTold.{WhereTold}
 use Rattle.interval_audit.specs.declared.answer.AskFault.{AskFault}
@@ -11,7 +11,7 @@ use Rattle.job_inputs.specs.Reading.{HasOnlyLooked}
 use Rattle.job_inputs.specs.declared.faults.Fault.{Fault}
 use Rattle.job_inputs.specs.declared.file_ref.FileRef.TheVariants as file
 use Rattle.job_intervals.specs.Finding.{AreRefusedFor, IsFileOf, IsUndecidedFor}
-use Rattle.job_intervals.specs.TablesOnShelf.{ShelvedTables, shelved_of, ComesTo}
+use Rattle.shelved_tables.specs.TablesOnShelf.{ShelvedTables, shelved_of, ComesTo}
 use Rattle.job_intervals.specs.declared.interval_file.IntervalFile.{IntervalFile}
 use Rattle.job_run.specs.Reports.{HasComeTo}
 use Rattle.job_run.specs.declared.report.Report.{Report}
@@ -20,9 +20,9 @@ use Rattle.job_run.specs.declared.report.Stuck.TheVariants as stuck
 
 -- the report of a question that stopped short: nothing was repaired, and no cell shown again
 abbrev pub question_report : AskFault → Report
-question_report (ask.Work walk) = report.Undecided (stuck.Work walk) [] []
-question_report (ask.Wide walk place) = report.Undecided (stuck.Wide walk place) [] []
-question_report (ask.Size question hidden) = report.Undecided (stuck.Size question hidden) [] []
+question_report (ask.Work walk) = report.Undecided (stuck.Work walk) [] [] None
+question_report (ask.Wide walk place) = report.Undecided (stuck.Wide walk place) [] [] None
+question_report (ask.Size question hidden) = report.Undecided (stuck.Size question hidden) [] [] None
 question_report ask.Memory = report.Memory
 
 -- the first question without an answer is reported so
@@ -35,7 +35,7 @@ pub record IsReportedSo (shelved : ShelvedTables) (answer : Report) : Type 0 whe
 abbrev pub IsIntervalAnswer : Report → Type 0
 IsIntervalAnswer (report.Intervals cells) = Unit {0}
 IsIntervalAnswer (report.NotAccepted why) = Unit {0}
-IsIntervalAnswer (report.Undecided why repairs shown) = Unit {0}
+IsIntervalAnswer (report.Undecided why repairs shown against) = Unit {0}
 IsIntervalAnswer (report.Refused reason) = Unit {0}
 IsIntervalAnswer (report.ReadFault file) = Unit {0}
 IsIntervalAnswer (report.WriteFault file) = Unit {0}
@@ -48,8 +48,8 @@ IsIntervalAnswer other = ⊥
 abbrev pub MeetsIntervals : Report → Result ShelvedTables Fault → Type 0
 MeetsIntervals (report.Intervals cells) outcome = IsOk outcome
 MeetsIntervals (report.NotAccepted why) outcome = IsOkAnd outcome (λ shelved. AreRefusedFor shelved why)
-MeetsIntervals (report.Undecided why repairs shown) outcome = IsOkAnd outcome
-    (λ shelved. IsReportedSo shelved (report.Undecided why repairs shown))
+MeetsIntervals (report.Undecided why repairs shown against) outcome = IsOkAnd outcome
+    (λ shelved. IsReportedSo shelved (report.Undecided why repairs shown against))
 MeetsIntervals (report.Refused reason) outcome = outcome ≡ Err reason
 MeetsIntervals (report.ReadFault file) outcome = Unit {0}
 MeetsIntervals (report.WriteFault file) outcome = IsOk outcome
@@ -83,7 +83,7 @@ IntervalsLeave other outcome out before after = after ≡ before
 abbrev pub IsIntervalEnd : Report → Type 0
 IsIntervalEnd (report.Intervals cells) = Unit {0}
 IsIntervalEnd (report.NotAccepted why) = Unit {0}
-IsIntervalEnd (report.Undecided why repairs shown) = Unit {0}
+IsIntervalEnd (report.Undecided why repairs shown against) = Unit {0}
 IsIntervalEnd report.Memory = Unit {0}
 IsIntervalEnd other = ⊥
 

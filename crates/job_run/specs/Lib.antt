@@ -3,9 +3,12 @@ pub mod Roundings
 pub mod Laws
 pub mod Protections
 pub mod ProtectionLaws
+pub mod GuardedReleases
+pub mod FileCounts
 pub mod Endings
 pub mod Stops
 pub mod Books
+pub mod GuardingLaws
 pub mod Commands
 pub mod Puts
 pub mod Reports
@@ -13,8 +16,10 @@ pub mod PutReleases
 pub mod ReleaseRuns
 pub mod Checks
 pub mod IntervalRuns
+pub mod AuditRuns
 pub mod Migrations
 pub mod CheckTexts
+pub mod GuardTexts
 pub mod Demos
 pub mod Summaries
 pub mod SecondRuns

@@ -1,6 +1,8 @@
 -- What becomes of settled inputs that are to be protected (handbook, secondary suppression; repairs, needs and
 -- certificate: own).
 use Rattle.std.specs.Prelude.{◌≡◌, List, ℕ, length, None, Ok}
+use Rattle.sdc_base.specs.declared.cell.Cell.{Cell}
+use Rattle.sdc_base.specs.declared.rows.Row.{Row}
 use Rattle.sdc_base.specs.declared.system.System.{System}
 use Rattle.certificate.specs.Certificates.{certificate_of}
 use Rattle.certificate.specs.Texts.{text_of}
@@ -11,14 +13,18 @@ use Rattle.modular_plan.specs.Methods.{passes_of}
 use Rattle.cell_protection.specs.declared.protection.Protection.{Protection}
 use Rattle.cell_protection.specs.declared.protection.Protection.TheVariants as protection
 use Rattle.interval_audit.specs.declared.answer.AskFault.{AskFault}
-use Rattle.modular_plan.specs.Plans.{trail_of}
+use Rattle.modular_plan.specs.Plans.{IsSameButHidden, trail_of}
 use Rattle.repair.specs.HidingOrder.{case, prices_of}
 use Rattle.worlds.specs.Protection.{Protection as HiddenSet}
 use Rattle.worlds.specs.declared.refuted.Refuted.{Refuted}
 use Rattle.job_inputs.specs.SettledJobs.{SettledInputs, IsSettledOf}
+use Rattle.job_inputs.specs.declared.described.DescribedJob.{DescribedJob}
 use Rattle.job_inputs.specs.declared.settled.SettledJob.{SettledJob}
+use Rattle.linked_tables.specs.BookCells.{IsBook}
+use Rattle.linked_tables.specs.BookViews.{BookView}
 use Rattle.relations.specs.Holding.{IsSystemOf}
 use Rattle.relations.specs.TableSigns.{IsOneOrTwoWay}
+use Rattle.job_run.specs.Books.{job_of}
 use Rattle.job_run.specs.Releases.{puts_of, shown_in, summary_of}
 use Rattle.job_run.specs.Roundings.{base_of}
 use Rattle.job_run.specs.declared.put.Release.{Release}
@@ -52,6 +58,22 @@ pub record IsSuppressedRelease (settled : SettledInputs) (release : Release) : T
   pub certificate_is : release.certificate ≡ certificate
 
 -- the protection of settled inputs stops short at a question, with these repairs and these cells shown
-abbrev pub StopsShort : SettledInputs → AskFault → List Refuted → List ℕ → Type 0
-StopsShort settled fault repairs shown =
+abbrev pub ProtectionStopsShort : SettledInputs → AskFault → List Refuted → List ℕ → Type 0
+ProtectionStopsShort settled fault repairs shown =
     IsProtectionFor settled (protection.Undecided (record { fault = fault; repairs = repairs; shown = shown }))
+
+-- The job of these parts is that of settled inputs and hides cells, and this hidden set protects them, planned in this
+-- book.
+pub record IsProtectedJob (settled : SettledInputs) (described : DescribedJob) (book : BookView) (cells : List Cell)
+    (rows : List Row) (system : System) (hidden_set : HiddenSet) (certificate : Certificate) : Type 0 where
+  pub before : BookView
+  pub records : ℕ
+  pub skipped : ℕ
+  pub hides : base_of described ≡ None
+  pub is_of : IsSettledOf settled (job_of described before cells rows records skipped)
+  pub is_book : IsBook before
+  pub is_system : IsSystemOf before system
+  pub same : IsSameButHidden before book
+  pub protects : IsProtectionOf (case system cells) (prices_of described.job.cost cells before.marks)
+      described.job.method (trail_of before cells described.job.cost (passes_of described.job.method))
+      described.job.steps (protection.Protected hidden_set certificate)

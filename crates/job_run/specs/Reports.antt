@@ -10,6 +10,7 @@ use Rattle.job_inputs.specs.ReadFiles.{limit_of}
 use Rattle.job_inputs.specs.SettledJobs.{SettledInputs}
 use Rattle.job_inputs.specs.declared.file_ref.FileRef.{FileRef}
 use Rattle.job_run.specs.Endings.{IsReleaseOf, IsUndecided}
+use Rattle.job_run.specs.GuardedReleases.{CantBeGuarded}
 use Rattle.job_run.specs.Protections.{IsProtectionFor}
 use Rattle.job_run.specs.Puts.{SomeWhole, OneInPart}
 use Rattle.job_run.specs.Roundings.{HasNoRounding}
@@ -22,32 +23,38 @@ use Rattle.job_run.specs.declared.stop.Stop.{Stop}
 use Rattle.job_run.specs.declared.stop.Stop.TheVariants as stop
 
 -- What the report says of the told files, which come to settled inputs or to a first fault: a refusal names that fault,
--- and what can't be protected, has no rounding or wasn't decided is so of the settled inputs. Want of memory and faults
+-- and what can't be protected or guarded, has no rounding or wasn't decided is so of the settled inputs. Want of memory and faults
 -- of the shelf say nothing of them.
 abbrev pub AgreesWith : Report → Result SettledInputs Fault → Type 0
 AgreesWith (report.Released summary) outcome = IsOk outcome
 AgreesWith report.Accepted outcome = ⊥
 AgreesWith (report.Intervals cells) outcome = ⊥
+AgreesWith (report.Audited primary exposed) outcome = ⊥
 AgreesWith (report.Demo demo) outcome = ⊥
 AgreesWith report.Migrated outcome = ⊥
 AgreesWith report.Usage outcome = ⊥
 AgreesWith (report.Refused reason) outcome = outcome ≡ Err reason
 AgreesWith (report.Cannot cell side multipliers) outcome = IsOkAnd outcome
     (λ settled. IsProtectionFor settled (protection.Cannot cell side multipliers))
+AgreesWith (report.CannotAgainst row cell side multipliers) outcome = IsOkAnd outcome
+    (λ settled. CantBeGuarded settled row cell side multipliers)
 AgreesWith report.NoRounding outcome = IsOkAnd outcome HasNoRounding
 AgreesWith (report.NotAccepted why) outcome = ⊥
-AgreesWith (report.Undecided why repairs shown) outcome = IsOkAnd outcome
-    (λ settled. IsUndecided settled why repairs shown)
+AgreesWith (report.NotGuarded why) outcome = ⊥
+AgreesWith (report.Undecided why repairs shown against) outcome = IsOkAnd outcome
+    (λ settled. IsUndecided settled why repairs shown against)
 AgreesWith (report.ReadFault file) outcome = Unit {0}
 AgreesWith (report.WriteFault file) outcome = IsOk outcome
 AgreesWith report.Memory outcome = Unit {0}
 
 -- what a run for a release can answer, whatever shelf and tray tell: neither what is said of a check, of intervals, of
--- a demonstration or of a certificate that is put again, nor the usage line
+-- an audit, of a demonstration or of a certificate that is put again, nor the usage line
 abbrev pub IsReleaseAnswer : Report → Type 0
 IsReleaseAnswer report.Accepted = ⊥
 IsReleaseAnswer (report.NotAccepted why) = ⊥
+IsReleaseAnswer (report.NotGuarded why) = ⊥
 IsReleaseAnswer (report.Intervals cells) = ⊥
+IsReleaseAnswer (report.Audited primary exposed) = ⊥
 IsReleaseAnswer (report.Demo demo) = ⊥
 IsReleaseAnswer report.Migrated = ⊥
 IsReleaseAnswer report.Usage = ⊥
@@ -71,9 +78,11 @@ LeavesAll (report.Demo demo) old new = new ≡ old
 LeavesAll report.Usage old new = new ≡ old
 LeavesAll (report.Refused reason) old new = new ≡ old
 LeavesAll (report.Cannot cell side multipliers) old new = new ≡ old
+LeavesAll (report.CannotAgainst row cell side multipliers) old new = new ≡ old
 LeavesAll report.NoRounding old new = new ≡ old
 LeavesAll (report.NotAccepted why) old new = new ≡ old
-LeavesAll (report.Undecided why repairs shown) old new = new ≡ old
+LeavesAll (report.NotGuarded why) old new = new ≡ old
+LeavesAll (report.Undecided why repairs shown against) old new = new ≡ old
 LeavesAll (report.ReadFault file) old new = new ≡ old
 LeavesAll other old new = Unit {0}
 
@@ -92,13 +101,14 @@ abbrev pub HasComeTo : (FileRef → List ℕ → Type 0) → Report → Files �
 HasComeTo comes answer files new =
     (f : FileRef) → answer ≡ report.ReadFault f → (held : List ℕ) × comes f held × (new.last ≡ held_name files held)
 
--- what a run that isn't refused ends with: a release, a cell that can't be protected, that there is no rounding, a
--- question or a search that stopped short, or no memory
+-- what a run that isn't refused ends with: a release, a cell that can't be protected or guarded, that there is no
+-- rounding, a question or a search that stopped short, or no memory
 abbrev pub IsEnd : Report → Type 0
 IsEnd (report.Released summary) = Unit {0}
 IsEnd (report.Cannot cell side multipliers) = Unit {0}
+IsEnd (report.CannotAgainst row cell side multipliers) = Unit {0}
 IsEnd report.NoRounding = Unit {0}
-IsEnd (report.Undecided why repairs shown) = Unit {0}
+IsEnd (report.Undecided why repairs shown against) = Unit {0}
 IsEnd report.Memory = Unit {0}
 IsEnd other = ⊥
 
@@ -112,8 +122,9 @@ abbrev pub report_of : Result Release Stop → Report
 report_of (Ok release) = report.Released release.summary
 report_of (Err (stop.Refused reason)) = report.Refused reason
 report_of (Err (stop.Cannot cell side multipliers)) = report.Cannot cell side multipliers
+report_of (Err (stop.CannotAgainst row cell side multipliers)) = report.CannotAgainst row cell side multipliers
 report_of (Err stop.NoRounding) = report.NoRounding
-report_of (Err (stop.Undecided why repairs shown)) = report.Undecided why repairs shown
+report_of (Err (stop.Undecided why repairs shown against)) = report.Undecided why repairs shown against
 report_of (Err (stop.ReadFault file)) = report.ReadFault file
 report_of (Err (stop.WriteFault file)) = report.WriteFault file
 report_of (Err stop.Memory) = report.Memory

@@ -15,7 +15,7 @@ use Rattle.job_run.specs.PutReleases.{Releases}
 use Rattle.job_run.specs.declared.report.Report.TheVariants as report
 use Rattle.job_run.specs.declared.report.Summary.{Summary}
 
--- the job puts a file of this name: its certificate, or one of its tables
+-- the job puts a file of this name: its certificate, its contributors' file, or one of its tables
 abbrev pub is_put_by : Job → List ℕ → Bool
 is_put_by job name = list_any (λ file. bytes_eq file name) (puts_of job)
 

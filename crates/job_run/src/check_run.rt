@@ -26,5 +26,6 @@ pub(crate) fn check_job<S: Shelf, T: Tray>(
         Ok(()) => Report::Accepted,
         Err(CheckStop::Inputs(stop)) => report(Err(Stop::from(stop))),
         Err(CheckStop::NotAccepted(why)) => Report::NotAccepted(why),
+        Err(CheckStop::NotGuarded(why)) => Report::NotGuarded(why),
     }
 }

@@ -55,8 +55,8 @@ impl Display for CheckKind {
 
 /// Why a world is none, as it is printed.
 #[derive(Clone, Copy)]
-struct WorldKind {
-    why: WorldFault,
+pub(crate) struct WorldKind {
+    pub why: WorldFault,
 }
 
 impl Display for WorldKind {
@@ -78,8 +78,8 @@ impl Display for WorldKind {
 
 /// Why multipliers are no refutation, as it is printed.
 #[derive(Clone, Copy)]
-struct RefutationKind {
-    why: RefutationFault,
+pub(crate) struct RefutationKind {
+    pub why: RefutationFault,
 }
 
 impl Display for RefutationKind {

@@ -21,15 +21,7 @@ pub(crate) fn job_behind<'a>(verb: &[u8], words: &'a [Text]) -> Option<&'a Text>
 pub(crate) fn interval_names(words: &[Text]) -> Option<(&Text, &Text)>
     ensures { option_map (λ names. (names.0.now, names.1.now)) result ≡ commands.interval_names words.now }
 {
-    if words.len() == 3
-        && words[0].as_slice() == b"intervals".as_slice()
-        && !words[1].as_slice().is_empty()
-        && !words[2].as_slice().is_empty()
-    {
-        Some((&words[1], &words[2]))
-    } else {
-        None
-    }
+    names_behind(b"intervals".as_slice(), words)
 }
 
 /// The name of a certificate and the name under which it is put again, where the words are `migrate OLD NEW` with names
@@ -37,8 +29,23 @@ pub(crate) fn interval_names(words: &[Text]) -> Option<(&Text, &Text)>
 pub(crate) fn migration_names(words: &[Text]) -> Option<(&Text, &Text)>
     ensures { option_map (λ names. (names.0.now, names.1.now)) result ≡ commands.migration_names words.now }
 {
+    names_behind(b"migrate".as_slice(), words)
+}
+
+/// The name of a job and the name under which its audit is put, where the words are `audit JOB OUT` with names of one
+/// byte or more.
+pub(crate) fn audit_names(words: &[Text]) -> Option<(&Text, &Text)>
+    ensures { option_map (λ names. (names.0.now, names.1.now)) result ≡ commands.audit_names words.now }
+{
+    names_behind(b"audit".as_slice(), words)
+}
+
+// Two names, where the words are this verb and names of one byte or more.
+fn names_behind<'a>(verb: &[u8], words: &'a [Text]) -> Option<(&'a Text, &'a Text)>
+    ensures { option_map (λ names. (names.0.now, names.1.now)) result ≡ commands.names_behind verb.now words.now }
+{
     if words.len() == 3
-        && words[0].as_slice() == b"migrate".as_slice()
+        && words[0].as_slice() == verb
         && !words[1].as_slice().is_empty()
         && !words[2].as_slice().is_empty()
     {

@@ -48,12 +48,14 @@ fn summarize(outcome: Result<Release, Stop>) -> Result<DemoSummary, Memory>
         }),
         Err(Stop::Refused(_)) => Ok(with_status(2)),
         Err(Stop::Cannot { .. }) => Ok(with_status(3)),
+        Err(Stop::CannotAgainst { .. }) => Ok(with_status(3)),
         Err(Stop::NoRounding) => Ok(with_status(3)),
         Err(
             Stop::Undecided {
                 stuck,
                 repairs,
                 shown,
+                ..
             },
         ) => Ok(with_question(stuck, repairs, shown)),
         Err(Stop::ReadFault(_)) => Ok(with_status(5)),

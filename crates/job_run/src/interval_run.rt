@@ -38,8 +38,8 @@ pub(crate) fn put_intervals<S: Shelf, T: Tray>(
     }
 }
 
-// The report of a question that stopped short: nothing was repaired, and no cell shown again.
-fn question_report(alloc: Global, fault: AskFault) -> Report
+/// The report of a question that stopped short: nothing was repaired, and no cell shown again.
+pub(crate) fn question_report(alloc: Global, fault: AskFault) -> Report
     ensures { result ≡ spec.question_report fault }
 {
     let stuck = match fault {
@@ -52,5 +52,6 @@ fn question_report(alloc: Global, fault: AskFault) -> Report
         stuck,
         repairs: Items::empty(alloc),
         shown: Items::empty(alloc),
+        against: None,
     }
 }

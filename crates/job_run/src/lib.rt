@@ -1,10 +1,14 @@
 //! The top call of argus.
 #![tactic(auto)]
 
+mod audit_run;
 mod check_run;
 mod check_texts;
 mod commands;
 mod demo;
+mod guard_texts;
+mod guarded;
+mod guarded_texts;
 mod interval_run;
 mod laws;
 mod migration;
@@ -21,7 +25,9 @@ mod running;
 mod stop;
 
 pub use job_inputs::{Fault, FileRef};
-pub use laws::{rounded_tables_add_up, second_runs_complete, suppressed_tables_protect};
+pub use laws::{
+    guarded_tables_guard, rounded_tables_add_up, second_runs_complete, suppressed_tables_protect,
+};
 pub use printing::report_text;
 pub use report::{DemoSummary, Report, Stuck, Summary};
 pub use running::run;

@@ -4,6 +4,7 @@ ghost use Rattle.job_run.specs.ReportText as spec;
 ghost use Rattle.job_run.specs.declared.report.Report.TheVariants as AnyReport;
 
 use crate::check_texts::CheckKind;
+use crate::guard_texts::GuardKind;
 use crate::report::{DemoSummary, Report, Stuck, Summary};
 use interval_audit::Question;
 use sdc_base::{Memory, Side, Text};
@@ -13,9 +14,10 @@ use std::fmt::Display;
 use worlds::Multipliers;
 
 impl Report {
-    /// The status with which the program ends: 0 for a release, one that is accepted, intervals, a demonstration and a
-    /// certificate that was put again, 1 for the usage line, 2 for a refusal, 3 for a cell that can't be protected,
-    /// where there is no rounding and for a release that isn't accepted, 4 where a question or the search for a
+    /// The status with which the program ends: 0 for a release, one that is accepted, intervals, an audit, a
+    /// demonstration and a certificate that was put again, 1 for the usage line, 2 for a refusal, 3 for a cell that can't
+    /// be protected or guarded, where there is no rounding, and for a release that isn't accepted or isn't guarded, 4
+    /// where a question or the search for a
     /// rounding stopped short, 5 and 6 for a fault in reading and in writing, 7 for want of memory. The numbers are
     /// argus's own.
     pub fn status(&self) -> u8
@@ -25,13 +27,16 @@ impl Report {
             Report::Released(_) => 0,
             Report::Accepted => 0,
             Report::Intervals(_) => 0,
+            Report::Audited { .. } => 0,
             Report::Demo(_) => 0,
             Report::Migrated => 0,
             Report::Usage => 1,
             Report::Refused(_) => 2,
             Report::Cannot { .. } => 3,
+            Report::CannotAgainst { .. } => 3,
             Report::NoRounding => 3,
             Report::NotAccepted(_) => 3,
+            Report::NotGuarded(_) => 3,
             Report::Undecided { .. } => 4,
             Report::ReadFault(_) => 5,
             Report::WriteFault(_) => 6,
@@ -40,39 +45,65 @@ impl Report {
     }
 }
 
-/// The text of a report: one line, two where a cell can't be protected, each ended by LF. Variables are numbered by
-/// their place in the metadata and tables in the order of the job, both from 1, and cells and relations from 0.
+/// The text of a report: one line, two where a cell can't be protected or guarded, each ended by LF. Variables are
+/// numbered by their place in the metadata, tables in the order of the job and rows in the order of the records, from 1;
+/// cells and relations from 0.
 ///
 /// `Memory` is the only refusal. The cost is that of the lines, and their wording is argus's own.
 pub fn report_text(alloc: Global, report: &Report) -> Result<Text, Memory>
     ensures { IfOk result (λ text. text ≡ spec.report_text report.now) }
 {
-    let line = match report {
+    match report {
         Report::Cannot {
             cell,
             side,
             multipliers,
-        } => return cannot_text(alloc, *cell, *side, multipliers),
-        Report::Released(summary) => format!(in alloc; "released: {summary}\n")?,
-        Report::Accepted => format!(in alloc; "accepted\n")?,
-        Report::Intervals(cells) => format!(in alloc; "intervals: {cells} cells\n")?,
-        Report::Demo(demo) => return demo_text(alloc, demo),
-        Report::Migrated => format!(in alloc; "migrated\n")?,
-        Report::Usage => format!(in alloc;
-            "usage: argus run JOB | check JOB | intervals JOB OUT | demo SEED RECORDS | migrate OLD NEW\n"
-        )?,
-        Report::Refused(fault) => format!(in alloc; "refused: {fault}\n")?,
-        Report::NoRounding => format!(in alloc; "no rounding\n")?,
+        } => cannot_text(alloc, *cell, *side, multipliers),
+        Report::CannotAgainst {
+            row,
+            cell,
+            side,
+            multipliers,
+        } => cannot_against_text(alloc, *row, *cell, *side, multipliers),
+        Report::Released(summary) => Ok(text_of(format!(in alloc; "released: {summary}\n")?)),
+        Report::Accepted => Ok(text_of(format!(in alloc; "accepted\n")?)),
+        Report::Intervals(cells) => Ok(text_of(format!(in alloc; "intervals: {cells} cells\n")?)),
+        Report::Audited { primary, exposed } => audit_text(alloc, *primary, *exposed),
+        Report::Demo(demo) => demo_text(alloc, demo),
+        Report::Migrated => Ok(text_of(format!(in alloc; "migrated\n")?)),
+        Report::Usage => Ok(text_of(format!(in alloc;
+            "usage: argus run JOB | check JOB | intervals JOB OUT | demo SEED RECORDS | migrate OLD NEW | audit JOB OUT\n"
+        )?)),
+        Report::Refused(fault) => Ok(text_of(format!(in alloc; "refused: {fault}\n")?)),
+        Report::NoRounding => Ok(text_of(format!(in alloc; "no rounding\n")?)),
         Report::NotAccepted(why) => {
             let kind = CheckKind { why: *why };
-            format!(in alloc; "not accepted: {kind}\n")?
+            Ok(text_of(format!(in alloc; "not accepted: {kind}\n")?))
         }
-        Report::Undecided { stuck, .. } => format!(in alloc; "undecided: {stuck}\n")?,
-        Report::ReadFault(file) => format!(in alloc; "read fault: {file}\n")?,
-        Report::WriteFault(file) => format!(in alloc; "write fault: {file}\n")?,
-        Report::Memory => format!(in alloc; "memory\n")?,
-    };
-    Ok(Text::new(line.into_bytes()))
+        Report::NotGuarded(why) => {
+            let kind = GuardKind { why: *why };
+            Ok(text_of(format!(in alloc; "not guarded: {kind}\n")?))
+        }
+        Report::Undecided { stuck, .. } => Ok(text_of(format!(in alloc; "undecided: {stuck}\n")?)),
+        Report::ReadFault(file) => Ok(text_of(format!(in alloc; "read fault: {file}\n")?)),
+        Report::WriteFault(file) => Ok(text_of(format!(in alloc; "write fault: {file}\n")?)),
+        Report::Memory => Ok(text_of(format!(in alloc; "memory\n")?)),
+    }
+}
+
+// A line that was written, as a text.
+fn text_of(line: String) -> Text
+    ensures { result ≡ line.bytes.items }
+{
+    Text::new(line.into_bytes())
+}
+
+// The line of an audit: its primary cells, and those of them that are exposed.
+fn audit_text(alloc: Global, primary: u32, exposed: u32) -> Result<Text, Memory>
+    ensures { IfOk result (λ text. text ≡ spec.report_line (AnyReport.Audited primary exposed) ++ 10 ∷ []) }
+{
+    let line = format!(in alloc; "audited: {primary} primary, {exposed} exposed\n")?;
+    Ok(text_of(line))
 }
 
 // The line of a demonstration: its status, and the numbers of its release.
@@ -101,6 +132,26 @@ fn cannot_text(
     let word = side.word();
     let reason = multipliers_text(alloc, multipliers)?;
     let text = format!(in alloc; "cannot protect cell {cell} {word}\n{reason}\n")?;
+    Ok(Text::new(text.into_bytes()))
+}
+
+// The lines of a cell that can't be guarded to a side against a contributor, with the multipliers that show it.
+fn cannot_against_text(
+    alloc: Global,
+    row: u32,
+    cell: u32,
+    side: Side,
+    multipliers: &Multipliers,
+) -> Result<Text, Memory>
+    ensures { IfOk result (λ text. text
+        ≡ spec.report_line (AnyReport.CannotAgainst row cell side multipliers.now) ++ 10 ∷ []) }
+{
+    let word = side.word();
+    let number = u64::from(row) + 1;
+    let reason = multipliers_text(alloc, multipliers)?;
+    let text = format!(in alloc;
+        "cannot protect cell {cell} {word} from row {number}\n{reason}\n"
+    )?;
     Ok(Text::new(text.into_bytes()))
 }
 

@@ -1,34 +1,50 @@
-ghost use Rattle.std.specs.Prelude.{◌≡◌, ◌+◌, ◌≤◌, None, IfOk, length};
+ghost use Rattle.std.specs.Prelude.{◌≡◌, ◌+◌, ◌≤◌, ◌<◌, ◌^◌, ℕ, List, All, None, Ok, IfOk, length};
+ghost use Rattle.sdc_base.specs.declared.rows.Row.{Row as AnyRow};
+ghost use Rattle.apriori.specs.CellLevels.{HasLevelsInRange};
+ghost use Rattle.certificate.specs.Certificates.{certificate_of};
+ghost use Rattle.certificate.specs.Spelling.{IsSpellable};
+ghost use Rattle.certificate.specs.Texts.{text_of};
+ghost use Rattle.linked_tables.specs.BookCells.{cells as cells_in};
 ghost use Rattle.job_lang.specs.JobLimits.{IsMethod};
 ghost use Rattle.job_inputs.specs.SettledJobs.{IsSettledOf, SettledInputs};
-ghost use Rattle.job_run.specs.Books.{CanBeReleased};
+ghost use Rattle.job_inputs.specs.SoundJobs.{IsSound};
+ghost use Rattle.job_inputs.specs.TabulatedBooks.{IsBookOf, IsReadyFor};
+ghost use Rattle.job_inputs.specs.declared.inputs.Inputs.{Inputs as AnyInputs};
+ghost use Rattle.job_run.specs.Books.{CanBeReleased, IsHidingBook};
+ghost use Rattle.job_run.specs.FileCounts.{file_count};
+ghost use Rattle.job_run.specs.Releases.{puts_of, shown_in, summary_of};
 ghost use Rattle.job_run.specs.Roundings as roundings;
 ghost use Rattle.job_run.specs.Stops.{ComesToRelease};
 
+use crate::guarded::guarded_release;
 use crate::numbers::numbers_of;
 use crate::put::Release;
 use crate::release_texts::puts_for;
+use crate::report::Summary;
 use crate::rounded::rounded_release;
 use crate::stop::Stop;
 use cell_protection::{Protection, protect_cells};
-use job_check::base_in_units;
-use job_inputs::SettledJob;
+use certificate::Certificate;
+use job_inputs::{DescribedJob, SettledJob, base_in_units};
+use linked_tables::Book;
 use relations::relations_of;
 use release_writer::Shown;
-use sdc_base::Method;
+use sdc_base::{Cell, Memory, Method};
 use std::alloc::Global;
+use worlds::Protected;
 
-/// The release of a job's settled cells, by its method: the cells are protected or rounded, and the certificate and the
-/// tables are made, with the numbers of the release. Else why there is none: a cell that can't be protected, that there
-/// is no rounding, a question or a search that stopped short, or want of memory.
+/// The release of a job's settled cells, by its method: the cells are protected or rounded, and guarded where the job
+/// names a file for contributors; and the certificate, that file and the tables are made, with the numbers of the
+/// release. Else why there is none: a cell that can't be protected or guarded, that there is no rounding, a question or
+/// a search that stopped short, or want of memory.
 pub(crate) fn release_for(alloc: Global, job: SettledJob) -> Result<Release, Stop>
     requires { CanBeReleased job }
     ensures comes { (settled : SettledInputs) → IsSettledOf settled job → ComesToRelease settled result }
-    ensures one_more_than_tables { IfOk result (λ release. length release.puts ≡ 1 + length job.described.job.tables) }
+    ensures each_file { IfOk result (λ release. length release.puts ≡ file_count job.described.job) }
 {
     match base_of(job.described.job.method, job.described.bound.decimals) {
         Some(base) => rounded_release(alloc, job, base),
-        None => suppressed_release(alloc, job),
+        None => hiding_release(alloc, job),
     }
 }
 
@@ -45,28 +61,76 @@ fn base_of(method: Method, decimals: u8) -> Option<i128>
     }
 }
 
-// The release of a job that hides cells.
-fn suppressed_release(alloc: Global, job: SettledJob) -> Result<Release, Stop>
+// The release of a job that hides cells: guarded against contributors, where it names a file for them.
+fn hiding_release(alloc: Global, job: SettledJob) -> Result<Release, Stop>
     requires can { CanBeReleased job }
     requires hides { roundings.base_of job.described ≡ None }
     ensures comes { (settled : SettledInputs) → IsSettledOf settled job → ComesToRelease settled result }
+    ensures each_file { IfOk result (λ release. length release.puts ≡ file_count job.described.job) }
+{
+    match &job.described.job.contributors {
+        Some(line) => {
+            let name = line.file.copy(alloc)?;
+            guarded_release(alloc, job, name)
+        }
+        None => suppressed_release(alloc, job),
+    }
+}
+
+// The release of a job that hides cells and names no file for contributors.
+fn suppressed_release(alloc: Global, job: SettledJob) -> Result<Release, Stop>
+    requires can { CanBeReleased job }
+    requires hides { roundings.base_of job.described ≡ None }
+    requires unnamed { job.described.job.contributors ≡ None }
+    ensures comes { (settled : SettledInputs) → IsSettledOf settled job → ComesToRelease settled result }
     ensures one_more_than_tables { IfOk result (λ release. length release.puts ≡ 1 + length job.described.job.tables) }
 {
-    let mut summary = numbers_of(&job);
+    let summary = numbers_of(&job);
     let SettledJob {
         described,
         mut book,
         cells,
         ..
     } = job;
+    suppress_parts(alloc, &described, &mut book, cells.as_slice(), summary)
+}
+
+// The same, with the parts of the job, and with its numbers as they are while no cell is hidden.
+fn suppress_parts(
+    alloc: Global,
+    described: &DescribedJob,
+    book: &mut Book,
+    cells: &[Cell],
+    summary: Summary,
+) -> Result<Release, Stop>
+    requires sound { IsSound described.now }
+    requires book { IsReadyFor described.now book.old }
+    requires one_each { length book.old.marks ≡ length (cells_in book.old) }
+    requires settled { length cells.now ≡ length book.old.marks }
+    requires levels { All HasLevelsInRange cells.now }
+    requires fewer_than_2_32 { length cells.now < 2 ^ 32 }
+    requires hides { roundings.base_of described.now ≡ None }
+    requires unnamed { described.now.job.contributors ≡ None }
+    ensures comes { (rows : List AnyRow) → (records skipped : ℕ) → (settled : SettledInputs)
+        → IsSettledOf settled (record {
+          described = described.now;
+          book = book.old;
+          cells = cells.now;
+          rows = rows;
+          records = records;
+          skipped = skipped;
+        }) → summary ≡ summary_of settled 0 → ComesToRelease settled result }
+    ensures one_more_than_tables { IfOk result
+        (λ release. length release.puts ≡ 1 + length described.now.job.tables) }
+{
     // for the proof: what holds of every book
     let _known = book.cells();
-    let system = relations_of(alloc, &book)?;
+    let system = relations_of(alloc, book)?;
     let protection = protect_cells(
         alloc,
-        &mut book,
+        book,
         &system,
-        cells.as_slice(),
+        cells,
         described.job.method,
         described.job.cost,
         described.job.steps,
@@ -76,14 +140,8 @@ fn suppressed_release(alloc: Global, job: SettledJob) -> Result<Release, Stop>
             protected,
             certificate,
         } => {
-            let shown = Shown::Hidden(protected.hidden());
-            let puts = puts_for(alloc, &described, &book, shown, &certificate)?;
-            summary.hidden = certificate.hidden.as_slice().len() as u32;
-            Ok(Release {
-                puts,
-                summary,
-                certificate,
-            })
+            let release = hidden_release(alloc, described, book, &protected, certificate, summary)?;
+            Ok(release)
         }
         Protection::Cannot {
             cell,
@@ -96,4 +154,35 @@ fn suppressed_release(alloc: Global, job: SettledJob) -> Result<Release, Stop>
         }),
         Protection::Undecided(stopped) => Err(Stop::from(stopped)),
     }
+}
+
+// The release whose tables hide the cells of a set, with its certificate.
+fn hidden_release(
+    alloc: Global,
+    described: &DescribedJob,
+    book: &Book,
+    protected: &Protected<'_>,
+    certificate: Certificate,
+    summary: Summary,
+) -> Result<Release, Memory>
+    requires shown { IsHidingBook described.now book.now protected.now.hidden.flags }
+    requires text { IsSpellable certificate }
+    requires few { length certificate.hidden < 2 ^ 32 }
+    ensures puts { IfOk result (λ release. (inputs : AnyInputs) → inputs.described ≡ described.now
+        → IsBookOf inputs book.now
+        → release.puts ≡ puts_of inputs (shown_in inputs protected.now.hidden.flags) certificate) }
+    ensures each { IfOk result (λ release. length release.puts ≡ 1 + length described.now.job.tables) }
+    ensures read_back { IfOk result (λ release. certificate_of (text_of certificate) ≡ Ok certificate) }
+    ensures numbers { IfOk result
+        (λ release. release.summary ≡ record summary { hidden = length certificate.hidden }) }
+    ensures certificate { IfOk result (λ release. release.certificate ≡ certificate) }
+{
+    let shown = Shown::Hidden(protected.hidden());
+    let puts = puts_for(alloc, described, book, shown, &certificate)?;
+    let hidden = certificate.hidden.as_slice().len() as u32;
+    Ok(Release {
+        puts,
+        summary: Summary { hidden, ..summary },
+        certificate,
+    })
 }

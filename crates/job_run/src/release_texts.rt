@@ -38,8 +38,8 @@ pub(crate) fn puts_for(
     Ok(puts)
 }
 
-// The certificate.
-fn certificate_put(
+/// The put of a certificate.
+pub(crate) fn certificate_put(
     alloc: Global,
     described: &DescribedJob,
     certificate: &Certificate,
@@ -60,8 +60,8 @@ fn certificate_put(
     })
 }
 
-// Adds the tables in the order of the job.
-fn add_tables(
+/// Adds the tables in the order of the job.
+pub(crate) fn add_tables(
     alloc: Global,
     described: &DescribedJob,
     book: &Book,

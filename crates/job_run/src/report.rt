@@ -1,3 +1,4 @@
+use attackers::{Against, ExtraFault};
 use cert_check::CheckFault;
 use certificate::Certificate;
 use interval_audit::{Question, Walk, WidePlace};
@@ -19,7 +20,7 @@ pub struct Summary {
     pub cells: u32,
     /// Primary cells.
     pub primary: u32,
-    /// Hidden cells, the primary ones with them; 0 where the job rounds.
+    /// Hidden cells, the primary and the extra ones with them; 0 where the job rounds.
     pub hidden: u32,
 }
 
@@ -55,17 +56,23 @@ pub enum Stuck {
 /// What a run of the words comes to.
 #[derive(Drop)]
 pub enum Report {
-    /// The certificate and the tables were put.
+    /// The certificate and the tables were put, and the contributors' file where the job names one.
     Released(Summary),
     /// The certificate and the tables that stand under the job's names are a release of it.
     Accepted,
     /// The intervals of so many hidden cells were put.
     Intervals(u32),
+    /// The audit of a rounded release was put: it has so many primary cells, of which so many are exposed, that is, not
+    /// covered on some side.
+    Audited {
+        primary: u32,
+        exposed: u32,
+    },
     /// What came of a demonstration.
     Demo(DemoSummary),
     /// A certificate was put again, in the second version of its text.
     Migrated,
-    /// The words are none of the five forms.
+    /// The words are none of the six forms.
     Usage,
     /// The inputs have this fault, and nothing was put.
     Refused(Fault),
@@ -76,17 +83,33 @@ pub enum Report {
         side: Side,
         multipliers: Multipliers,
     },
+    /// The job names a file for contributors, and a hidden set protects every primary cell, but none guards this cell to
+    /// this side against the contributor at this row, the first such row, cell and side: the multipliers refute it with
+    /// all cells hidden that may be but those that the contributor knows. Rows are numbered from 0 among those that
+    /// weren't skipped. Nothing was put.
+    CannotAgainst {
+        row: u32,
+        cell: u32,
+        side: Side,
+        multipliers: Multipliers,
+    },
     /// The job rounds, and no numbers at all are a rounding of its truths to its base. Nothing was put.
     NoRounding,
-    /// The certificate and the tables that stand under the job's names have this fault; for intervals, the tables do.
-    /// Never want of memory. Nothing was put.
+    /// The certificate and the tables that stand under the job's names have this fault; for intervals and an audit,
+    /// the tables do. Never want of memory. Nothing was put.
     NotAccepted(CheckFault),
+    /// The certificate and the tables that stand under the job's names are a release of it, but the file of its
+    /// contributors has this fault. Never want of memory. Nothing was put.
+    NotGuarded(ExtraFault),
     /// A question stopped short, after these repairs and with these cells shown again, ascending, of which the last was
-    /// being tried; or the search for a rounding did, and both lists are empty. Nothing was put.
+    /// being tried; or the search for a rounding did, and both lists are empty. Where it is a question against a
+    /// contributor, the repairs and the shown cells are all those of the hidden set that is to be guarded. Nothing was
+    /// put.
     Undecided {
         stuck: Stuck,
         repairs: Items<Refuted>,
         shown: Items<u32>,
+        against: Option<Against>,
     },
     /// The shelf failed at this file, and nothing was put.
     ReadFault(FileRef),

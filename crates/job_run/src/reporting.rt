@@ -23,17 +23,32 @@ pub(crate) fn report(outcome: Result<Release, Stop>) -> Report
             side,
             multipliers,
         },
+        Err(
+            Stop::CannotAgainst {
+                row,
+                cell,
+                side,
+                multipliers,
+            },
+        ) => Report::CannotAgainst {
+            row,
+            cell,
+            side,
+            multipliers,
+        },
         Err(Stop::NoRounding) => Report::NoRounding,
         Err(
             Stop::Undecided {
                 stuck,
                 repairs,
                 shown,
+                against,
             },
         ) => Report::Undecided {
             stuck,
             repairs,
             shown,
+            against,
         },
         Err(Stop::ReadFault(file)) => Report::ReadFault(file),
         Err(Stop::WriteFault(file)) => Report::WriteFault(file),

@@ -25,26 +25,31 @@ pub(crate) fn rounded_release(alloc: Global, job: SettledJob, base: i128) -> Res
     ensures comes { (settled : SettledInputs) → IsSettledOf settled job → ComesToRelease settled result }
     ensures one_more_than_tables { IfOk result (λ release. length release.puts ≡ 1 + length job.described.job.tables) }
 {
-    let summary = numbers_of(&job);
-    let SettledJob {
-        described,
-        book,
-        cells,
-        ..
-    } = job;
+    round_job(alloc, &job, base)
+}
+
+// The same, of a job that is lent.
+fn round_job(alloc: Global, job: &SettledJob, base: i128) -> Result<Release, Stop>
+    requires can { CanBeReleased job.now }
+    requires rounds { roundings.base_of job.now.described ≡ Some base }
+    ensures comes { (settled : SettledInputs) → IsSettledOf settled job.now → ComesToRelease settled result }
+    ensures one_more_than_tables { IfOk result
+        (λ release. length release.puts ≡ 1 + length job.now.described.job.tables) }
+{
+    let summary = numbers_of(job);
     // for the proof: what holds of every book
-    let _known = book.cells();
-    let system = relations_of(alloc, &book)?;
-    let truths = truths_of(alloc, cells.as_slice())?;
-    let nodes = described.job.nodes;
+    let _known = job.book.cells();
+    let system = relations_of(alloc, &job.book)?;
+    let truths = truths_of(alloc, job.cells.as_slice())?;
+    let nodes = job.described.job.nodes;
     let rounding = match round(alloc, &system, truths.as_slice(), base, nodes) {
         Ok(rounding) => rounding,
         Err(fault) => return Err(search_stop(alloc, fault)),
     };
     let values = rounding.values();
     let shown = Shown::Rounded(values);
-    let certificate = empty_certificate(alloc, described.job.method, &system);
-    let puts = puts_for(alloc, &described, &book, shown, &certificate)?;
+    let certificate = empty_certificate(alloc, job.described.job.method, &system);
+    let puts = puts_for(alloc, &job.described, &job.book, shown, &certificate)?;
     Ok(Release {
         puts,
         summary,

@@ -5,6 +5,7 @@ ghost use Rattle.job_inputs.specs.Looks.{ComesTo};
 ghost use Rattle.job_inputs.specs.ReadFiles.{limit};
 ghost use Rattle.job_inputs.specs.Reading.{HasOnlyLooked};
 ghost use Rattle.job_inputs.specs.SettledJobs.{settled_of};
+ghost use Rattle.job_run.specs.AuditRuns.{IsAuditRunOf};
 ghost use Rattle.job_run.specs.Checks.{IsCheckOf};
 ghost use Rattle.job_run.specs.Commands as commands;
 ghost use Rattle.job_run.specs.Commands.{AreUsage};
@@ -16,8 +17,9 @@ ghost use Rattle.job_run.specs.PutReleases.{HasReleased, PutsOnce};
 ghost use Rattle.job_run.specs.Reports.{AgreesWith, LeavesTray, LeavesAll, AnswersExactly, HasCause, HasComeTo, report_of};
 ghost use Rattle.job_run.specs.declared.report.Summary.{Summary as Numbers};
 
+use crate::audit_run::put_audit;
 use crate::check_run::check_job;
-use crate::commands::{demo_numbers, interval_names, job_behind, migration_names};
+use crate::commands::{audit_names, demo_numbers, interval_names, job_behind, migration_names};
 use crate::demo::run_demo;
 use crate::interval_run::put_intervals;
 use crate::migration::migrate;
@@ -33,22 +35,25 @@ use sdc_base::Text;
 use std::alloc::Global;
 
 /// Does what the words say: `run JOB` puts a release of a job, `check JOB` says whether the release that stands under
-/// the job's names is one, `intervals JOB OUT` puts what a reader of its tables can find out of each hidden cell, `demo
-/// SEED RECORDS` protects a made survey of so many records, 1 to 1,000,000, drawn from a seed, and `migrate OLD NEW`
-/// puts the certificate OLD again as NEW, in the second version of its text.
+/// the job's names is one, `intervals JOB OUT` puts what a reader of its tables can find out of each hidden cell, `audit
+/// JOB OUT` puts what a reader of its rounded tables can find out of each primary cell, `demo SEED RECORDS` protects a
+/// made survey of so many records, 1 to 1,000,000, drawn from a seed, and `migrate OLD NEW` puts the certificate OLD
+/// again as NEW, in the second version of its text.
 ///
 /// Of a job its metadata, the code lists and hierarchies of its spanning variables and its microdata are looked at in
 /// this order, then the number of cells, the a priori files by table, the cells with what is stated of them, and
-/// whether a put would take the name of an input; for `check` then the certificate, and for `check` and `intervals` the
-/// tables. The first fault is the answer. `intervals` refuses a job that rounds as soon as it is read. The microdata
-/// are read in pieces, every other file whole. All that is put is made before the first put.
+/// whether a put would take the name of an input; for `check` then the certificate, and for `check`, `intervals` and
+/// `audit` the tables. The first fault is the answer. `intervals` refuses a job that rounds as soon as it is read, and
+/// `audit` one that doesn't. The microdata are read in pieces, every other file whole. All that is put is made before the first put.
 ///
-/// A job that hides comes to a release, to a cell that can't be protected, or to a question that stopped short. A job
-/// that rounds comes to a release, to no rounding, or to a search that stopped short; its primary cells are counted and
-/// not hidden.
+/// A job that hides comes to a release, to a cell that can't be protected, or to a question that stopped short; where it
+/// names a file for contributors, its hidden set is also guarded against each record's contributor that alone makes up
+/// a cell, or a cell can't be guarded. The certificate is put first, then that file, then the tables, which hide the
+/// extra cells too. A job that rounds comes to a release, to no rounding, or to a search that stopped short; its
+/// primary cells are counted and not hidden.
 ///
 /// Other words are answered with the usage line. Usage, a refusal and a fault of the shelf leave the tray as it was,
-/// and so does each answer without a release, intervals or a certificate that was put again. After a fault of the tray
+/// and so does each answer without a release, intervals, an audit or a certificate that was put again. After a fault of the tray
 /// the files put before the one that failed stand whole, and of that one its first bytes may be there; after want of
 /// memory some of the files may have been put whole. No file is put twice, and `check` puts nothing. `demo` makes its
 /// files in memory, runs its job there in the same way, and says what came of it; it looks neither at the shelf nor at
@@ -77,6 +82,11 @@ pub fn run<S: Shelf, T: Tray>(alloc: Global, words: &[Text], shelf: &mut S, tray
         (λ names. IsIntervalRunOf names.0 names.1 result (S.state shelf.old) (S.state shelf.new) (T.state tray.old)
         (T.state tray.new)) }
 
+    // What `audit JOB OUT` answers of told files, what it puts, and to which files it comes.
+    ensures audit { WhereTold (commands.audit_names words.now)
+        (λ names. IsAuditRunOf names.0 names.1 result (S.state shelf.old) (S.state shelf.new) (T.state tray.old)
+        (T.state tray.new)) }
+
     // What `demo SEED RECORDS` answers, whatever the shelf and the tray tell.
     ensures demo { WhereTold (commands.demo_numbers words.now)
         (λ numbers. IsDemoRunOf numbers.0 numbers.1 result (S.state shelf.old) (S.state shelf.new) (T.state tray.old)
@@ -100,6 +110,9 @@ pub fn run<S: Shelf, T: Tray>(alloc: Global, words: &[Text], shelf: &mut S, tray
     }
     if let Some((name, out)) = interval_names(words) {
         return put_intervals(alloc, name, out, shelf, tray);
+    }
+    if let Some((name, out)) = audit_names(words) {
+        return put_audit(alloc, name, out, shelf, tray);
     }
     if let Some((seed, records)) = demo_numbers(words) {
         return run_demo(alloc, seed, records);

@@ -3,6 +3,8 @@ ghost use Rattle.job_run.specs.Stops as spec;
 
 use crate::puts::PutStop;
 use crate::report::Stuck;
+use attackers::Against;
+use cell_guards::Unguarded;
 use interval_audit::AskFault;
 use job_inputs::{Fault, FileRef, InputStop};
 use repair::Stopped;
@@ -20,11 +22,18 @@ pub(crate) enum Stop {
         side: Side,
         multipliers: Multipliers,
     },
+    CannotAgainst {
+        row: u32,
+        cell: u32,
+        side: Side,
+        multipliers: Multipliers,
+    },
     NoRounding,
     Undecided {
         stuck: Stuck,
         repairs: Items<Refuted>,
         shown: Items<u32>,
+        against: Option<Against>,
     },
     ReadFault(FileRef),
     WriteFault(FileRef),
@@ -75,21 +84,31 @@ impl From<Stopped> for Stop {
     ghost from_gives = { λ stopped e. e ≡ stopped_stop stopped };
 
     fn from(stopped: Stopped) -> Self {
-        let Stopped {
-            fault,
-            repairs,
-            shown,
-        } = stopped;
-        let stuck = match fault {
-            AskFault::Work(walk) => Stuck::Work(walk),
-            AskFault::Wide(walk, place) => Stuck::Wide(walk, place),
-            AskFault::Size { question, hidden } => Stuck::Size { question, hidden },
-            AskFault::Memory => return Stop::Memory,
-        };
-        Stop::Undecided {
-            stuck,
-            repairs,
-            shown,
+        question_stop(stopped, None)
+    }
+}
+
+impl From<Unguarded> for Stop {
+    ghost use Rattle.std.specs.Prelude.{◌≡◌};
+    ghost use Rattle.job_run.specs.Stops.{unguarded_stop};
+
+    ghost from_gives = { λ reason e. e ≡ unguarded_stop reason };
+
+    fn from(reason: Unguarded) -> Self {
+        match reason {
+            Unguarded::CannotAgainst {
+                row,
+                cell,
+                side,
+                multipliers,
+            } => Stop::CannotAgainst {
+                row,
+                cell,
+                side,
+                multipliers,
+            },
+            Unguarded::Undecided { stopped, against } => question_stop(stopped, Some(against)),
+            Unguarded::Memory => Stop::Memory,
         }
     }
 }
@@ -118,7 +137,31 @@ pub(crate) fn search_stop(alloc: Global, fault: RoundFault) -> Stop
             stuck: Stuck::Nodes(nodes),
             repairs: Items::empty(alloc),
             shown: Items::empty(alloc),
+            against: None,
         },
         RoundFault::Memory => Stop::Memory,
+    }
+}
+
+// What stops a run where a question stopped short, and against whom it is.
+fn question_stop(stopped: Stopped, against: Option<Against>) -> Stop
+    ensures { result ≡ spec.question_stop stopped.fault stopped.repairs stopped.shown against }
+{
+    let Stopped {
+        fault,
+        repairs,
+        shown,
+    } = stopped;
+    let stuck = match fault {
+        AskFault::Work(walk) => Stuck::Work(walk),
+        AskFault::Wide(walk, place) => Stuck::Wide(walk, place),
+        AskFault::Size { question, hidden } => Stuck::Size { question, hidden },
+        AskFault::Memory => return Stop::Memory,
+    };
+    Stop::Undecided {
+        stuck,
+        repairs,
+        shown,
+        against,
     }
 }

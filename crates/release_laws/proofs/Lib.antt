@@ -3,6 +3,8 @@ pub mod OneText
 pub mod OneTrail
 pub mod Speaking
 pub mod OneJudgement
+pub mod OneSoles
+pub mod GuardedAccepted
 pub mod RoundedTexts
 pub mod RoundedAccepted
 pub mod JobsRead

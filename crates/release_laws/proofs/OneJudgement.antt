@@ -24,6 +24,8 @@ use Rattle.cert_check.specs.WorldList.{worlds_fault}
 use Rattle.cert_check.specs.declared.case.Case.{Case}
 use Rattle.cert_check.specs.declared.faults.CheckFault.{CheckFault}
 use Rattle.modular_plan.specs.Plans.{trail_of}
+use Rattle.relations.specs.Holding.{IsSystemOf}
+use Rattle.worlds.specs.Protection.{Protection as HiddenSet}
 use Rattle.release_writer.specs.ReleaseReading.{LinePlace, rounded_read}
 use Rattle.sdc_base.specs.Trails.{corners_of}
 use Rattle.repair.specs.HidingOrder.{case as protected_case, hide_subjects, planned_set}
@@ -35,7 +37,8 @@ use Rattle.release_laws.proofs.OneText.{AreAlike, rounded-same, tables-same}
 use Rattle.release_laws.proofs.OneTrail.{same-system, same-trail}
 use Rattle.release_laws.proofs.SameValues.{same-cells}
 use Rattle.release_laws.proofs.Speaking.{protection-is-accepted}
-use Rattle.job_check.specs.Cases.{base_of, IsCaseOf}
+use Rattle.job_check.specs.Cases.{IsCaseOf}
+use Rattle.job_inputs.specs.Bases.{base_of}
 use Rattle.release_laws.specs.Laws.{InputsAreJudgedInOneWay, WrittenIsAccepted}
 
 -- the first fault of a suppressed release, by what it rests on
@@ -62,15 +65,15 @@ by-parts : (case : Case) (tables : List (List ℕ)) (c : Certificate)
 by-parts case tables c = refl
 
 -- what a first fault rests on is the same
-record RestAlike (one other : Case) : Type 0 where
-  system : one.system.now ≡ other.system.now
-  cells : one.cells.now ≡ other.cells.now
-  steps : one.trail.now.steps ≡ other.trail.now.steps
-  method : one.method ≡ other.method
-  base : one.base ≡ other.base
-  names : one.names.now ≡ other.names.now
-  decimals : one.decimals ≡ other.decimals
-  book : AreAlike one.book.now other.book.now
+pub record RestAlike (one other : Case) : Type 0 where
+  pub system : one.system.now ≡ other.system.now
+  pub cells : one.cells.now ≡ other.cells.now
+  pub steps : one.trail.now.steps ≡ other.trail.now.steps
+  pub method : one.method ≡ other.method
+  pub base : one.base ≡ other.base
+  pub names : one.names.now ≡ other.names.now
+  pub decimals : one.decimals ≡ other.decimals
+  pub book : AreAlike one.book.now other.book.now
 
 values-alike : (one other : Case) (tables : List (List ℕ)) → RestAlike one other → rounded_read one.book.now one.names.now one.decimals tables ≡ rounded_read other.book.now other.names.now other.decimals tables
 values-alike one other tables alike =
@@ -78,7 +81,7 @@ values-alike one other tables alike =
     ∙ ap (λ (decimals : ℕ). rounded_read one.book.now other.names.now decimals tables) alike.decimals
     ∙ rounded-same one.book.now other.book.now other.names.now other.decimals tables alike.book
 
-texts-alike : (one other : Case) (tables : List (List ℕ)) (flags : List Bool) → RestAlike one other
+pub texts-alike : (one other : Case) (tables : List (List ℕ)) (flags : List Bool) → RestAlike one other
     → tables_fault one.book.now flags one.decimals 0 one.book.now.tables one.names.now tables ≡ tables_fault other.book.now flags other.decimals 0 other.book.now.tables other.names.now tables
 texts-alike one other tables flags alike =
     ap (λ (names : List (List (List ℕ))). tables_fault one.book.now flags one.decimals 0 one.book.now.tables names tables) alike.names
@@ -87,7 +90,7 @@ texts-alike one other tables flags alike =
     ∙ tables-same one.book.now other.book.now flags other.decimals 0 other.book.now.tables other.names.now tables alike.book
 
 -- so the first fault is
-judged-alike : (one other : Case) (tables : List (List ℕ)) (c : Certificate) → RestAlike one other → first_fault one tables c ≡ first_fault other tables c
+pub judged-alike : (one other : Case) (tables : List (List ℕ)) (c : Certificate) → RestAlike one other → first_fault one tables c ≡ first_fault other tables c
 judged-alike one other tables c alike =
     let values : Result (List ℤ) LinePlace = rounded_read one.book.now one.names.now one.decimals tables in
     let texts : List Bool → Result (Unit {0}) CheckFault = λ flags. tables_fault one.book.now flags one.decimals 0 one.book.now.tables one.names.now tables in
@@ -106,10 +109,10 @@ judged-alike one other tables c alike =
 -- ---- cases of the same settled inputs
 
 -- the cells of settled inputs are those of each job that has these inputs
-one-cells : (settled : SettledInputs) (one other : SettledJob) → IsSettledOf settled one → IsSettledOf settled other → one.cells ≡ other.cells
+pub one-cells : (settled : SettledInputs) (one other : SettledJob) → IsSettledOf settled one → IsSettledOf settled other → one.cells ≡ other.cells
 one-cells settled one other is are = same-cells one.cells other.cells (is.cells ∙ sym are.cells)
 
-one-described : (settled : SettledInputs) (one other : SettledJob) → IsSettledOf settled one → IsSettledOf settled other → one.described ≡ other.described
+pub one-described : (settled : SettledInputs) (one other : SettledJob) → IsSettledOf settled one → IsSettledOf settled other → one.described ≡ other.described
 one-described settled one other is are = is.described ∙ sym are.described
 
 -- so is the trail
@@ -120,7 +123,7 @@ one-trail settled one other is are =
     ∙ ap (λ (cells : List Cell). trail_of one.book cells other.described.job.cost (passes_of other.described.job.method)) (one-cells settled one other is are)
     ∙ same-trail settled.inputs one.book other.book other.cells other.described.job.cost (passes_of other.described.job.method) is.book are.book
 
-rest-alike : (settled : SettledInputs) (one other : Case) (tables : List (List ℕ)) → IsCaseOf settled one → IsCaseOf settled other → IsCase one tables → IsCase other tables → RestAlike one other
+pub rest-alike : (settled : SettledInputs) (one other : Case) (tables : List (List ℕ)) → IsCaseOf settled one → IsCaseOf settled other → IsCase one tables → IsCase other tables → RestAlike one other
 rest-alike settled one other tables is are fits fit =
     let described = one-described settled is.job are.job is.job_is are.job_is in
     let cells = one-cells settled is.job are.job is.job_is are.job_is in
@@ -145,21 +148,28 @@ rest-alike settled one other tables is are fits fit =
 pub judged-in-one-way : InputsAreJudgedInOneWay
 judged-in-one-way settled one other tables certificate is are fits fit = judged-alike one other tables certificate (rest-alike settled one other tables is are fits fit)
 
+-- the relations of a job are those of the case of its inputs
+pub one-system : (settled : SettledInputs) (job : SettledJob) (system : System) (case : Case) → IsSettledOf settled job → IsSystemOf job.book system → IsCaseOf settled case → system ≡ case.system.now
+one-system settled job system case job_is system_is is =
+    same-system job.book is.job.book system case.system.now (job_is.book.trees ∙ sym is.job_is.book.trees) (job_is.book.tables ∙ sym is.job_is.book.tables) system_is is.system
+
 -- ---- what a run has put
 
 -- a protection of a job's cells is one of the case of its inputs
-pub written-is-accepted : WrittenIsAccepted
-written-is-accepted settled job system prices protected certificate case tables job_is system_is protects is fits hides texts =
+pub of-case : (settled : SettledInputs) (job : SettledJob) (system : System) (prices : List ℕ) (protected : HiddenSet) (certificate : Certificate) (case : Case) → IsSettledOf settled job → IsSystemOf job.book system
+    → IsProtectedWith (protected_case system job.cells) prices job.described.job.method (trail_of job.book job.cells job.described.job.cost (passes_of job.described.job.method)) protected certificate → IsCaseOf settled case
+    → IsProtectedWith (protected_case case.system.now case.cells.now) prices case.method case.trail.now.steps protected certificate
+of-case settled job system prices protected certificate case job_is system_is protects is =
     let cells : job.cells ≡ case.cells.now = one-cells settled job is.job job_is is.job_is ∙ sym is.cells in
-    let trees : job.book.trees ≡ is.job.book.trees = job_is.book.trees ∙ sym is.job_is.book.trees in
-    let all : job.book.tables ≡ is.job.book.tables = job_is.book.tables ∙ sym is.job_is.book.tables in
-    let relations : system ≡ case.system.now = same-system job.book is.job.book system case.system.now trees all system_is is.system in
+    let relations : system ≡ case.system.now = one-system settled job system case job_is system_is is in
     let steps : List PlanStep = trail_of job.book job.cells job.described.job.cost (passes_of job.described.job.method) in
     let trail : steps ≡ case.trail.now.steps = one-trail settled job is.job job_is is.job_is ∙ sym is.trail in
     let method : job.described.job.method ≡ case.method = ap (λ (d : DescribedJob). d.job.method) (one-described settled job is.job job_is is.job_is) ∙ sym is.method in
-    protection-is-accepted case tables prices protected certificate fits hides
-    (subst (λ (s : System). IsProtectedWith (protected_case s case.cells.now) prices case.method case.trail.now.steps protected certificate) relations
+    subst (λ (s : System). IsProtectedWith (protected_case s case.cells.now) prices case.method case.trail.now.steps protected certificate) relations
     (subst (λ (cs : List Cell). IsProtectedWith (protected_case system cs) prices case.method case.trail.now.steps protected certificate) cells
     (subst (λ (m : Method). IsProtectedWith (protected_case system job.cells) prices m case.trail.now.steps protected certificate) method
-    (subst (λ (all : List PlanStep). IsProtectedWith (protected_case system job.cells) prices job.described.job.method all protected certificate) trail protects))))
-    texts
+    (subst (λ (all : List PlanStep). IsProtectedWith (protected_case system job.cells) prices job.described.job.method all protected certificate) trail protects)))
+
+pub written-is-accepted : WrittenIsAccepted
+written-is-accepted settled job system prices protected certificate case tables job_is system_is protects is fits hides texts =
+    protection-is-accepted case tables prices protected certificate fits hides (of-case settled job system prices protected certificate case job_is system_is protects is) texts

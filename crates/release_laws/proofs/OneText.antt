@@ -15,6 +15,7 @@ use Rattle.release_writer.specs.LineChoices.{Template, rest_behind, value_there}
 use Rattle.release_writer.specs.ShownCells.{open_truth}
 use Rattle.worlds.specs.ProtectFaults.{line_number}
 use Rattle.worlds.specs.WorldFaults.{refuse_at}
+use Rattle.cert_check.specs.OwnTexts.{hiding_texts}
 use Rattle.cert_check.specs.ReleaseLines.{differing_line, hiding_text, tables_fault}
 use Rattle.cert_check.specs.declared.faults.CheckFault.{CheckFault}
 use Rattle.cert_check.specs.declared.faults.CheckFault.TheVariants as fault
@@ -40,6 +41,13 @@ text-same : (one other : BookView) (flags : List Bool) (decimals : ℕ) (table :
 text-same one other flags decimals table names alike =
     ap (λ (shown : ℕ → Option ℤ). table_text one.trees table names decimals (λ name. option_and_then shown (number_of one name))) (shown-same one.marks other.marks flags alike.truths)
     ∙ ap₂ (λ (trees : List Tree) (tables : List (List ℕ)). table_text trees table names decimals (λ name. option_and_then (open_truth other.marks flags) (number_of (record { trees = trees; tables = tables; marks = other.marks }) name))) alike.trees alike.tables
+
+-- so are the texts of a hidden set
+pub texts-same : (one other : BookView) (flags : List Bool) (decimals : ℕ) (tables : List (List ℕ)) (names : List (List (List ℕ))) → AreAlike one other → hiding_texts one flags decimals tables names ≡ hiding_texts other flags decimals tables names
+texts-same one other flags decimals [] names alike = refl
+texts-same one other flags decimals (table ∷ tables) [] alike = refl
+texts-same one other flags decimals (table ∷ tables) (own ∷ names) alike =
+    ap₂ (λ (text : List ℕ) (rest : List (List ℕ)). text ∷ rest) (text-same one other flags decimals table own alike) (texts-same one other flags decimals tables names alike)
 
 pub tables-same : (one other : BookView) (flags : List Bool) (decimals t : ℕ) (tables : List (List ℕ)) (names : List (List (List ℕ))) (files : List (List ℕ)) → AreAlike one other
     → tables_fault one flags decimals t tables names files ≡ tables_fault other flags decimals t tables names files

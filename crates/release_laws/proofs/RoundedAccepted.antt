@@ -44,8 +44,8 @@ use Rattle.job_inputs.specs.declared.inputs.Inputs.{Inputs}
 use Rattle.job_check.proofs.CaseParts.{by-facts, length-map}
 use Rattle.release_laws.proofs.OneTrail.{same-system}
 use Rattle.release_laws.proofs.RoundedTexts.{rounded-are-read-back}
-use Rattle.job_check.proofs.Units.{in-units}
-use Rattle.job_check.specs.Cases.{base_of}
+use Rattle.job_inputs.proofs.Units.{in-units}
+use Rattle.job_inputs.specs.Bases.{base_of}
 use Rattle.release_laws.specs.RoundingLaws.{RoundingIsAccepted, WrittenRoundingIsAccepted}
 
 -- ---- a certificate without lists

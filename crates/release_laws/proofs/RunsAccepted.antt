@@ -1,5 +1,5 @@
 -- What a run has put is accepted by a check that finds it beside the same inputs.
-use Rattle.std.proofs.Common.{◌≡◌, ◌≢◌, ◌⊎◌, inl, inr, ℕ, suc, ◌+◌, ◌<◌, ◌≤◌, Bool, true, false, if◌then◌else◌, nat_lt, List, [], ◌∷◌, length, map, slice_get, Option, None, Some, option_map, Result, Ok, Err, ℤ, refl, ap, sym, subst, ◌∙◌, arith}
+use Rattle.std.proofs.Common.{◌≡◌, ◌≢◌, ◌⊎◌, inl, inr, ℕ, suc, ◌+◌, ◌<◌, ◌≤◌, Bool, true, false, if◌then◌else◌, nat_lt, List, [], ◌∷◌, ◌++◌, length, map, slice_get, Option, None, Some, option_map, Result, Ok, Err, ℤ, refl, ap, sym, subst, ◌∙◌, arith}
 use Rattle.std.proofs.lemmas.Bool.Decides.{nat_tests}
 use Rattle.std.specs.Prelude.{slice_index_or}
 use Rattle.std.specs.List.{AllByRecursion, IsDistinct}
@@ -16,22 +16,28 @@ use Rattle.sdc_base.specs.declared.method.Method.TheVariants as method
 use Rattle.certificate.specs.Certificates.{certificate_of}
 use Rattle.certificate.specs.Texts.{text_of}
 use Rattle.certificate.specs.declared.certificate.Certificate.{Certificate}
+use Rattle.certificate.specs.declared.extra.Extra.{Extra}
+use Rattle.certificate.specs.ExtraReadings.{extra_of}
+use Rattle.certificate.specs.ExtraTexts.{extra_text}
 use Rattle.cert_check.specs.Cases.{IsCase}
 use Rattle.cert_check.specs.FirstFault.{first_fault}
 use Rattle.cert_check.specs.Methods.{rounds_cells}
 use Rattle.cert_check.specs.declared.case.Case.{Case}
 use Rattle.cert_check.specs.declared.faults.CheckFault.{CheckFault}
-use Rattle.job_lang.specs.FileLaws.{PutsAreNotNamed, PutsAreNotRead, PutsDiffer, puts_of as names_put}
+use Rattle.job_lang.specs.FileLaws.{PutsAreNotNamed, PutsAreNotRead, PutsDiffer, contributors_named, puts_of as names_put}
+use Rattle.job_lang.specs.JobLimits.{CanHaveContributors}
 use Rattle.job_lang.specs.declared.job.Job.{Job}
 use Rattle.job_lang.specs.declared.job.OutputLine.{OutputLine}
 use Rattle.job_lang.specs.declared.job.TableLine.{TableLine}
 use Rattle.linked_tables.specs.BookViews.{BookView}
 use Rattle.linked_tables.specs.BookCells.{number_of}
 use Rattle.office_io.specs.Files.{Files, files_after_put}
+use Rattle.attackers.specs.Extras.{hide_cells}
 use Rattle.release_writer.specs.ReadingLaws.{AreTexts}
 use Rattle.release_writer.specs.ShownCells.{open_truth}
 use Rattle.job_inputs.proofs.CertificateFiles.{certificate-is}
 use Rattle.job_inputs.specs.CertificateFile.{certificate_in, certificate_fault}
+use Rattle.job_inputs.specs.ContributorsFile.{extra_in}
 use Rattle.job_inputs.specs.ReadFiles.{bytes_of_file, limit_of, output_limit, whole_file}
 use Rattle.job_inputs.specs.SettledJobs.{SettledInputs, settled_of}
 use Rattle.job_inputs.specs.SoundJobs.{IsSound}
@@ -43,14 +49,21 @@ use Rattle.job_inputs.specs.declared.file_ref.FileRef.{FileRef}
 use Rattle.job_inputs.specs.declared.file_ref.FileRef.TheVariants as file
 use Rattle.job_inputs.specs.declared.inputs.Inputs.{Inputs}
 use Rattle.job_inputs.specs.declared.purpose.Purpose.TheVariants as purpose
-use Rattle.job_check.specs.Cases.{base_of as case_base, IsCaseOf}
-use Rattle.job_check.specs.ReleaseFiles.{ReleasedFiles, released_of}
+use Rattle.job_check.specs.Cases.{IsCaseOf}
+use Rattle.job_inputs.specs.Bases.{base_of as case_base}
+use Rattle.job_check.specs.Answers.{IsNotAcceptedWith}
+use Rattle.job_check.specs.Contributors.{extra_for}
+use Rattle.job_check.specs.GuardedReleases.{guarded_fault, AreSolesOf}
+use Rattle.job_check.specs.ReleaseFiles.{ReleasedFiles, released_of, released_with}
+use Rattle.job_check.specs.declared.flaw.Flaw.{Flaw}
+use Rattle.job_check.specs.declared.flaw.Flaw.TheVariants as flaw
 use Rattle.job_run.proofs.SameBook.{still-book}
 use Rattle.job_run.proofs.SecondRuns.{OfOthers, all-others}
 use Rattle.job_run.proofs.Showing.{hidden-shown, values-shown}
 use Rattle.job_run.proofs.TableSteps.{as-many}
 use Rattle.job_run.specs.Checks.{MeetsCheck, SettlesCheck}
-use Rattle.job_run.specs.Endings.{IsReleaseBy}
+use Rattle.job_run.specs.Endings.{IsHidingRelease, IsReleaseBy}
+use Rattle.job_run.specs.GuardedReleases.{IsGuardedRelease, guarded_puts}
 use Rattle.job_run.specs.Protections.{IsSuppressedRelease}
 use Rattle.job_run.specs.Puts.{Put, put_all}
 use Rattle.job_run.specs.Releases.{puts_of, shown_in, table_of, tables_from, value_in}
@@ -60,7 +73,7 @@ use Rattle.job_run.specs.declared.report.Report.{Report}
 use Rattle.job_run.specs.declared.report.Report.TheVariants as report
 use Rattle.release_laws.proofs.JobsRead.{described-read, inputs-read, job-read}
 use Rattle.release_laws.proofs.SameInputs.{settled-same}
-use Rattle.release_laws.specs.Laws.{WrittenIsAccepted}
+use Rattle.release_laws.specs.Laws.{GuardedIsAccepted, WrittenIsAccepted}
 use Rattle.release_laws.specs.RoundingLaws.{WrittenRoundingIsAccepted}
 use Rattle.release_laws.specs.RunLaws.{IsShort, PutsAreAccepted, RunsAreAccepted}
 
@@ -121,9 +134,18 @@ table-names inputs shown t [] (output ∷ outputs) many = absurd (omega (arith, 
 table-names inputs shown t (line ∷ lines) [] many = absurd (omega (arith, many))
 table-names inputs shown t (line ∷ lines) (output ∷ outputs) many = ap (λ (rest : List (List ℕ)). output.file ∷ rest) (table-names inputs shown (t + 1) lines outputs (omega (arith, many)))
 
-release-names : (inputs : Inputs) (shown : Name → Option ℤ) (certificate : Certificate) → length inputs.described.job.outputs ≡ length inputs.described.job.tables
+-- the names that a job puts are those of its certificate, of its contributors' file, and of its tables
+plain-names : (inputs : Inputs) (shown : Name → Option ℤ) (certificate : Certificate) → length inputs.described.job.outputs ≡ length inputs.described.job.tables → inputs.described.job.contributors ≡ None
     → names_put inputs.described.job ≡ names (puts_of inputs shown certificate)
-release-names inputs shown certificate many = ap (λ (rest : List (List ℕ)). inputs.described.job.certificate ∷ rest) (sym (table-names inputs shown 0 inputs.described.job.tables inputs.described.job.outputs many))
+plain-names inputs shown certificate many none =
+    ap (λ (line : Option OutputLine). inputs.described.job.certificate ∷ contributors_named line ++ map (λ (o : OutputLine). o.file) inputs.described.job.outputs) none
+    ∙ ap (λ (rest : List (List ℕ)). inputs.described.job.certificate ∷ rest) (sym (table-names inputs shown 0 inputs.described.job.tables inputs.described.job.outputs many))
+
+guarded-names : (inputs : Inputs) (line : OutputLine) (shown : Name → Option ℤ) (certificate : Certificate) (extra : Extra) → length inputs.described.job.outputs ≡ length inputs.described.job.tables → inputs.described.job.contributors ≡ Some line
+    → names_put inputs.described.job ≡ names (guarded_puts inputs line.file shown certificate extra)
+guarded-names inputs line shown certificate extra many some =
+    ap (λ (o : Option OutputLine). inputs.described.job.certificate ∷ contributors_named o ++ map (λ (o : OutputLine). o.file) inputs.described.job.outputs) some
+    ∙ ap (λ (rest : List (List ℕ)). inputs.described.job.certificate ∷ line.file ∷ rest) (sym (table-names inputs shown 0 inputs.described.job.tables inputs.described.job.outputs many))
 
 -- the bytes of tables that stand under the names of outputs
 tables-read : (files : Files) (inputs : Inputs) (shown : Name → Option ℤ) (t : ℕ) (lines : List TableLine) (outputs : List OutputLine) → length outputs ≡ length lines → AreHeld files (tables_from inputs shown t lines outputs)
@@ -140,16 +162,36 @@ abbrev table_bytes : Inputs → (Name → Option ℤ) → List (List ℕ)
 table_bytes inputs shown = map (λ (p : Put). p.bytes) (tables_from inputs shown 0 inputs.described.job.tables inputs.described.job.outputs)
 
 -- a release that stands under the names of its job is read
-release-read : (files : Files) (name : List ℕ) (settled : SettledInputs) (shown : Name → Option ℤ) (certificate : Certificate) → settled_of purpose.Release files name ≡ Ok settled
-    → length settled.inputs.described.job.outputs ≡ length settled.inputs.described.job.tables → certificate_of (text_of certificate) ≡ Ok certificate → AreHeld files (puts_of settled.inputs shown certificate)
-    → AreShort (puts_of settled.inputs shown certificate) → released_of files name ≡ Ok (record { settled = settled; certificate = certificate; tables = table_bytes settled.inputs shown })
+plain-read : (files : Files) (name : List ℕ) (settled : SettledInputs) (shown : Name → Option ℤ) (certificate : Certificate) → settled_of purpose.Release files name ≡ Ok settled
+    → length settled.inputs.described.job.outputs ≡ length settled.inputs.described.job.tables → settled.inputs.described.job.contributors ≡ None → certificate_of (text_of certificate) ≡ Ok certificate
+    → AreHeld files (puts_of settled.inputs shown certificate) → AreShort (puts_of settled.inputs shown certificate)
+    → released_of files name ≡ Ok (released_with settled certificate None (table_bytes settled.inputs shown))
 unfolding released_of
-release-read files name settled shown certificate read many back are short =
+plain-read files name settled shown certificate read many none back are short =
     let job : Job = settled.inputs.described.job in
     let signed : certificate_in files job.certificate ≡ Ok certificate =
     certificate-is files job.certificate (text_of certificate) certificate (read-whole file.Certificate files job.certificate (text_of certificate) are.0 short.0) (ap (map_fault certificate_fault) back) in
+    let beside : extra_for files job.contributors ≡ Ok None = ap (extra_for files) none in
     let put : tables_of files job ≡ Ok (table_bytes settled.inputs shown) = tables-read files settled.inputs shown 0 job.tables job.outputs many are.1 short.1 in
-    rw (read, signed, put) refl
+    rw (read, signed, beside, put) refl
+
+extra-is : (files : Files) (name : List ℕ) (extra : Extra) → bytes_of_file files name file.Contributors ≡ Ok (extra_text extra) → extra_of (extra_text extra) ≡ Ok extra → extra_in files name ≡ Ok extra
+unfolding extra_in
+extra-is files name extra read back = rw (read, back) refl
+
+guarded-read : (files : Files) (name : List ℕ) (settled : SettledInputs) (line : OutputLine) (shown : Name → Option ℤ) (certificate : Certificate) (extra : Extra) → settled_of purpose.Release files name ≡ Ok settled
+    → length settled.inputs.described.job.outputs ≡ length settled.inputs.described.job.tables → settled.inputs.described.job.contributors ≡ Some line → certificate_of (text_of certificate) ≡ Ok certificate → extra_of (extra_text extra) ≡ Ok extra
+    → AreHeld files (guarded_puts settled.inputs line.file shown certificate extra) → AreShort (guarded_puts settled.inputs line.file shown certificate extra)
+    → released_of files name ≡ Ok (released_with settled certificate (Some extra) (table_bytes settled.inputs shown))
+unfolding released_of
+guarded-read files name settled line shown certificate extra read many some back again are short =
+    let job : Job = settled.inputs.described.job in
+    let signed : certificate_in files job.certificate ≡ Ok certificate =
+    certificate-is files job.certificate (text_of certificate) certificate (read-whole file.Certificate files job.certificate (text_of certificate) are.0 short.0) (ap (map_fault certificate_fault) back) in
+    let own : extra_in files line.file ≡ Ok extra = extra-is files line.file extra (read-whole file.Contributors files line.file (extra_text extra) are.1.0 short.1.0) again in
+    let beside : extra_for files job.contributors ≡ Ok (Some extra) = ap (extra_for files) some ∙ rw own refl in
+    let put : tables_of files job ≡ Ok (table_bytes settled.inputs shown) = tables-read files settled.inputs shown 0 job.tables job.outputs many are.1.1 short.1.1 in
+    rw (read, signed, beside, put) refl
 
 -- ---- the texts of its tables
 
@@ -208,12 +250,18 @@ case-method settled case is = sym (is.method ∙ ap (λ (d : DescribedJob). d.jo
 
 -- ---- a release has no fault
 
--- the released files have no fault for any case of theirs
+-- the released files have no fault for any case of theirs, with their extra cells where there are some
+abbrev PassesWith : Option Extra → ReleasedFiles → Type 0
+PassesWith None released = (case : Case) → IsCaseOf released.settled case → IsCase case released.tables → first_fault case released.tables released.certificate ≡ Ok tt
+PassesWith (Some extra) released =
+    (case : Case) (soles : List (Option ℕ)) → IsCaseOf released.settled case → IsCase case released.tables → AreSolesOf case released.settled.inputs.records.rows soles
+    → guarded_fault case soles released.tables released.certificate extra ≡ Ok tt
+
 abbrev HasNoFault : ReleasedFiles → Type 0
-HasNoFault released = (case : Case) → IsCaseOf released.settled case → IsCase case released.tables → first_fault case released.tables released.certificate ≡ Ok tt
+HasNoFault released = PassesWith released.extra released
 
 hidden-passes : WrittenIsAccepted → (settled : SettledInputs) (release : PutRelease) (is : IsSuppressedRelease settled release) → IsSound settled.inputs.described
-    → HasNoFault (record { settled = settled; certificate = is.certificate; tables = table_bytes settled.inputs (shown_in settled.inputs is.hidden_set.hidden.flags) })
+    → HasNoFault (released_with settled is.certificate None (table_bytes settled.inputs (shown_in settled.inputs is.hidden_set.hidden.flags)))
 hidden-passes written settled release is sound = λ case is_case fit.
     let inputs : Inputs = settled.inputs in
     let flags : List Bool = is.hidden_set.hidden.flags in
@@ -222,8 +270,33 @@ hidden-passes written settled release is sound = λ case is_case fit.
     (subst (λ (m : Method). rounds_cells m ≡ false) (case-method settled case is_case) (hides-so inputs.described.job.method inputs.described.bound.decimals is.protects.hides))
     (case-texts settled case (shown_in inputs flags) (open_truth case.book.now.marks flags) sound is_case (λ t header within. hidden-shown inputs case.book.now flags t header book within))
 
+guarded-passes : GuardedIsAccepted → (settled : SettledInputs) (release : PutRelease) (is : IsGuardedRelease settled release) → IsSound settled.inputs.described
+    → HasNoFault (released_with settled is.certificate (Some is.guarded.extra) (table_bytes settled.inputs (shown_in settled.inputs is.guarded.hidden.flags)))
+guarded-passes guarded settled release is sound = λ case soles is_case fit are.
+    let inputs : Inputs = settled.inputs in
+    let flags : List Bool = is.guarded.hidden.flags in
+    let protects = is.guards.protects in
+    let guards = is.guards.guards in
+    let larger : flags ≡ hide_cells is.hidden_set.hidden.flags is.guarded.extra.cells = guards.comes_to.flags_are in
+    let book : IsBookOf inputs case.book.now = still-book inputs is_case.job.book case.book.now is_case.book is_case.job_is.book in
+    let texts = case-texts settled case (shown_in inputs flags) (open_truth case.book.now.marks flags) sound is_case (λ t header within. hidden-shown inputs case.book.now flags t header book within) in
+    guarded settled _ is.hidden_set is.certificate is.guarded.extra case soles (table_bytes inputs (shown_in inputs flags))
+    (record {
+      job = protects.job;
+      system = protects.system;
+      job_is = protects.job_is;
+      system_is = protects.system_is;
+      protects = protects.comes_to;
+      soles = guards.soles;
+      one_each = guards.one_each;
+      are_soles = guards.are_soles;
+      no_fault = guards.comes_to.accepted;
+    })
+    is_case fit (subst (λ (m : Method). rounds_cells m ≡ false) (case-method settled case is_case) (hides-so inputs.described.job.method inputs.described.bound.decimals protects.hides)) are
+    (subst (λ (set : List Bool). AreTexts case.book.now case.decimals (open_truth case.book.now.marks set) case.book.now.tables case.names.now (table_bytes inputs (shown_in inputs flags))) larger texts)
+
 rounding-passes : WrittenRoundingIsAccepted → (settled : SettledInputs) (base : ℤ) (release : PutRelease) (is : IsRoundedRelease settled base release) → base_of settled.inputs.described ≡ Some base → IsSound settled.inputs.described
-    → HasNoFault (record { settled = settled; certificate = rounded_certificate settled.inputs; tables = table_bytes settled.inputs (value_in settled.inputs is.values) })
+    → HasNoFault (released_with settled (rounded_certificate settled.inputs) None (table_bytes settled.inputs (value_in settled.inputs is.values)))
 rounding-passes written settled base release is rounds sound = λ case is_case fit.
     let inputs : Inputs = settled.inputs in
     let d : DescribedJob = inputs.described in
@@ -251,52 +324,79 @@ record StandsBeside (files out : Files) (name : List ℕ) (settled : SettledInpu
   puts : AllByRecursion (λ (put : List ℕ). files put ≡ out put) (names_put settled.inputs.described.job)
   short : AllByRecursion (λ (put : List ℕ). IsShort (out put)) (names_put settled.inputs.described.job)
 
-stands : (files out before : Files) (name : List ℕ) (settled : SettledInputs) (shown : Name → Option ℤ) (certificate : Certificate) → StandsBeside files out name settled → out ≡ put_all before (puts_of settled.inputs shown certificate)
-    → AreHeld files (puts_of settled.inputs shown certificate) × AreShort (puts_of settled.inputs shown certificate)
-stands files out before name settled shown certificate s made =
-    let puts : List Put = puts_of settled.inputs shown certificate in
-    let called = release-names settled.inputs shown certificate s.sound.job.outputs in
+stands : (files out before : Files) (name : List ℕ) (settled : SettledInputs) (puts : List Put) → names_put settled.inputs.described.job ≡ names puts → StandsBeside files out name settled → out ≡ put_all before puts → AreHeld files puts × AreShort puts
+stands files out before name settled puts called s made =
     let whole : AreHeld out puts = subst (λ (o : Files). AreHeld o puts) (sym made) (all-held puts before (subst (λ (all : List (List ℕ)). IsDistinct bytes_eq all) called s.differ)) in (
       held-too puts out files (subst (λ (all : List (List ℕ)). AllByRecursion (λ (put : List ℕ). files put ≡ out put) all) called s.puts) whole,
       are-short puts out (subst (λ (all : List (List ℕ)). AllByRecursion (λ (put : List ℕ). IsShort (out put)) all) called s.short) whole,
     )
 
-read-so : WrittenIsAccepted → WrittenRoundingIsAccepted → (files out before : Files) (name : List ℕ) (settled : SettledInputs) (release : PutRelease) (base : Option ℤ) → base_of settled.inputs.described ≡ base → IsReleaseBy base settled release
+-- a job that rounds names no contributors' file
+no-file-to-round : (one : Method) (decimals : ℕ) (base : ℤ) (line : Option OutputLine) → base_in_units one decimals ≡ Some base → CanHaveContributors one line → line ≡ None
+no-file-to-round one decimals base None rounds can = refl
+no-file-to-round (method.Rnd whole) decimals base (Some line) rounds can = absurd can
+no-file-to-round (method.Gh passes) decimals base (Some line) rounds can = absurd cc
+no-file-to-round method.Modular decimals base (Some line) rounds can = absurd cc
+
+hidden-so : WrittenIsAccepted → GuardedIsAccepted → (files out before : Files) (name : List ℕ) (settled : SettledInputs) (release : PutRelease) (line : Option OutputLine) → settled.inputs.described.job.contributors ≡ line → IsHidingRelease line settled release
     → StandsBeside files out name settled → out ≡ put_all before release.puts → IsReadSo files name
-read-so written rounded files out before name settled release None rounds is s made =
+hidden-so written guarded files out before name settled release None named is s made =
     let shown : Name → Option ℤ = shown_in settled.inputs is.hidden_set.hidden.flags in
-    let both = stands files out before name settled shown is.certificate s (made ∙ ap (put_all before) is.puts) in
+    let both = stands files out before name settled (puts_of settled.inputs shown is.certificate) (plain-names settled.inputs shown is.certificate s.sound.job.outputs named) s (made ∙ ap (put_all before) is.puts) in
     record {
-      released = record { settled = settled; certificate = is.certificate; tables = table_bytes settled.inputs shown };
-      is = release-read files name settled shown is.certificate s.read s.sound.job.outputs is.read_back both.0 both.1;
+      released = released_with settled is.certificate None (table_bytes settled.inputs shown);
+      is = plain-read files name settled shown is.certificate s.read s.sound.job.outputs named is.read_back both.0 both.1;
       passes = hidden-passes written settled release is s.sound;
     }
-read-so written rounded files out before name settled release (Some base) rounds is s made =
-    let shown : Name → Option ℤ = value_in settled.inputs is.values in
-    let both = stands files out before name settled shown (rounded_certificate settled.inputs) s (made ∙ ap (put_all before) is.puts) in
+hidden-so written guarded files out before name settled release (Some line) named is s made =
+    let shown : Name → Option ℤ = shown_in settled.inputs is.guarded.hidden.flags in
+    let own : OutputLine = is.guards.line in
+    let both = stands files out before name settled (guarded_puts settled.inputs own.file shown is.certificate is.guarded.extra) (guarded-names settled.inputs own shown is.certificate is.guarded.extra s.sound.job.outputs is.guards.named) s (made ∙ ap (put_all before) is.puts) in
     record {
-      released = record { settled = settled; certificate = rounded_certificate settled.inputs; tables = table_bytes settled.inputs shown };
-      is = release-read files name settled shown (rounded_certificate settled.inputs) s.read s.sound.job.outputs is.read_back both.0 both.1;
+      released = released_with settled is.certificate (Some is.guarded.extra) (table_bytes settled.inputs shown);
+      is = guarded-read files name settled own shown is.certificate is.guarded.extra s.read s.sound.job.outputs is.guards.named is.read_back is.extra_read_back both.0 both.1;
+      passes = guarded-passes guarded settled release is s.sound;
+    }
+
+read-so : WrittenIsAccepted → GuardedIsAccepted → WrittenRoundingIsAccepted → (files out before : Files) (name : List ℕ) (settled : SettledInputs) (release : PutRelease) (base : Option ℤ) → base_of settled.inputs.described ≡ base → IsReleaseBy base settled release
+    → StandsBeside files out name settled → out ≡ put_all before release.puts → IsReadSo files name
+read-so written guarded rounded files out before name settled release None rounds is s made = hidden-so written guarded files out before name settled release settled.inputs.described.job.contributors refl is s made
+read-so written guarded rounded files out before name settled release (Some base) rounds is s made =
+    let shown : Name → Option ℤ = value_in settled.inputs is.values in
+    let d : DescribedJob = settled.inputs.described in
+    let none : d.job.contributors ≡ None = no-file-to-round d.job.method d.bound.decimals base d.job.contributors rounds s.sound.job.contributors in
+    let both = stands files out before name settled (puts_of settled.inputs shown (rounded_certificate settled.inputs)) (plain-names settled.inputs shown (rounded_certificate settled.inputs) s.sound.job.outputs none) s (made ∙ ap (put_all before) is.puts) in
+    record {
+      released = released_with settled (rounded_certificate settled.inputs) None (table_bytes settled.inputs shown);
+      is = plain-read files name settled shown (rounded_certificate settled.inputs) s.read s.sound.job.outputs none is.read_back both.0 both.1;
       passes = rounding-passes rounded settled base release is rounds s.sound;
     }
 
 -- ---- a check of it
 
+-- no fault is none
+passes-no-flaw : (extra : Option Extra) (released : ReleasedFiles) (why : Flaw) → IsNotAcceptedWith extra released why → PassesWith extra released → ⊥
+passes-no-flaw None released (flaw.NotAccepted why) is passes = let both : ◌≡◌ {A = Result (Unit {0}) CheckFault} (Err why) (Ok tt) = sym is.first ∙ passes is.case is.is_case is.fits in absurd cc
+passes-no-flaw None released (flaw.NotGuarded why) is passes = is
+passes-no-flaw (Some extra) released why is passes = let both : ◌≡◌ {A = Result (Unit {0}) Flaw} (Err why) (Ok tt) = sym is.first ∙ passes is.case is.soles is.is_case is.fits is.are_soles in absurd cc
+
 conclude : (answer : Report) (released : ReleasedFiles) → MeetsCheck answer (Ok released) → SettlesCheck answer (Ok released) → HasNoFault released → (answer ≡ report.Accepted) ⊎ (answer ≡ report.Memory)
 conclude report.Accepted released meets ends passes = inl refl
 conclude report.Memory released meets ends passes = inr refl
-conclude (report.NotAccepted why) released meets ends passes =
-    let both : ◌≡◌ {A = Result (Unit {0}) CheckFault} (Err why) (Ok tt) = sym meets.first ∙ passes meets.case meets.is_case meets.fits in absurd cc
+conclude (report.NotAccepted why) released meets ends passes = absurd (passes-no-flaw released.extra released (flaw.NotAccepted why) meets passes)
+conclude (report.NotGuarded why) released meets ends passes = absurd (passes-no-flaw released.extra released (flaw.NotGuarded why) meets passes)
 conclude (report.Refused reason) released meets ends passes = absurd ends
 conclude (report.ReadFault f) released meets ends passes = absurd ends
 conclude (report.Released s) released meets ends passes = absurd meets
 conclude (report.Intervals n) released meets ends passes = absurd meets
+conclude (report.Audited n m) released meets ends passes = absurd meets
 conclude (report.Demo demo) released meets ends passes = absurd meets
 conclude report.Migrated released meets ends passes = absurd meets
 conclude report.Usage released meets ends passes = absurd meets
 conclude (report.Cannot cell side multipliers) released meets ends passes = absurd meets
 conclude report.NoRounding released meets ends passes = absurd meets
-conclude (report.Undecided why repairs shown) released meets ends passes = absurd meets
+conclude (report.CannotAgainst row cell side multipliers) released meets ends passes = absurd meets
+conclude (report.Undecided why repairs shown against) released meets ends passes = absurd meets
 conclude (report.WriteFault f) released meets ends passes = absurd meets
 
 some-before : (o : Option Files) (out : Files) (puts : List Put) → option_map (λ files. put_all files puts) o ≡ Some out → (before : Files) × (out ≡ put_all before puts)
@@ -306,14 +406,14 @@ some-before (Some before) out puts h = (before, let same : put_all before puts �
 ok-same : {A F : Type 0} {a b : A} → ◌≡◌ {A = Result A F} (Ok a) (Ok b) → a ≡ b
 ok-same {A} {F} {a} {b} is = let same : a ≡ b = cc in same
 
-pub runs-are-accepted : PutsDiffer → WrittenIsAccepted → WrittenRoundingIsAccepted → RunsAreAccepted
-runs-are-accepted differ written rounded files out held name summary answer runs hold =
+pub runs-are-accepted : PutsDiffer → WrittenIsAccepted → GuardedIsAccepted → WrittenRoundingIsAccepted → RunsAreAccepted
+runs-are-accepted differ written guarded rounded files out held name summary answer runs hold =
     let told = runs.run.released files runs.run_files summary refl in
     let settled : SettledInputs = told.settled in
     let same : hold.settled ≡ settled = ok-same (sym hold.read ∙ told.read) in
     let stated = job-read files name settled.inputs.described (described-read files name settled.inputs (inputs-read files name settled told.read)) in
     let before = some-before runs.before.files out told.release.puts (sym told.put.files ∙ runs.put) in
-    let read = read-so written rounded held out before.0 name settled told.release (base_of settled.inputs.described) refl told.is_release
+    let read = read-so written guarded rounded held out before.0 name settled told.release (base_of settled.inputs.described) refl told.is_release
     (record {
       read = hold.same_inputs ∙ ap Ok same;
       sound = told.sound;

@@ -8,7 +8,7 @@ use Rattle.sdc_base.specs.Steps.{◌>>=◌, map_fault, refuse}
 use Rattle.apriori.specs.declared.prior.Prior.{Prior}
 use Rattle.job_lang.specs.Binding.{bound_of, places_from, places_of}
 use Rattle.job_lang.specs.BindingFaults.{is_spanning}
-use Rattle.job_lang.specs.FileLaws.{PutsAreNotRead, PutsAreNotNamed, codes_named, files_of, reads_of, tree_named, puts_of as names_put}
+use Rattle.job_lang.specs.FileLaws.{PutsAreNotRead, PutsAreNotNamed, codes_named, files_of, reads_of, tree_named, contributors_named, puts_of as names_put}
 use Rattle.job_lang.specs.declared.bound.Bound.{Bound}
 use Rattle.job_lang.specs.declared.job.Job.{Job}
 use Rattle.job_lang.specs.declared.job.OutputLine.{OutputLine}
@@ -30,7 +30,7 @@ use Rattle.job_inputs.specs.Inputs.{described_of, inputs_of, job_for, look_at_re
 use Rattle.job_inputs.specs.Layouts.{layout_of, variables_at}
 use Rattle.job_inputs.specs.PriorStatements.{prior_line, priors_of, with_bytes, with_file, with_files}
 use Rattle.job_inputs.specs.ReadFiles.{bytes_of_file, job_fault, meta_fault, whole_file}
-use Rattle.job_inputs.specs.SettledJobs.{SettledInputs, overwrites_job, settled_cells, settled_of}
+use Rattle.job_inputs.specs.SettledJobs.{SettledInputs, is_contributors_file, overwrites_job, settled_cells, settled_of}
 use Rattle.job_inputs.specs.declared.described.DescribedJob.{DescribedJob}
 use Rattle.job_inputs.specs.declared.faults.Fault.{Fault}
 use Rattle.job_inputs.specs.declared.faults.Fault.TheVariants as fault
@@ -177,12 +177,19 @@ outputs-unput (output ∷ outputs) name none =
     let both = neither (bytes_eq output.file name) (list_any (λ (o : OutputLine). bytes_eq o.file name) outputs) none in
     ((λ same. apart-name output.file name both.0 (sym same)), outputs-unput outputs name both.1)
 
+-- nor has the contributors' file, where there is one
+contributors-unput : (line : Option OutputLine) (name : List ℕ) (others : List (List ℕ)) → is_contributors_file name line ≡ false → NoneIs others name → NoneIs (contributors_named line ++ others) name
+contributors-unput None name others none rest = rest
+contributors-unput (Some output) name others none rest = ((λ same. apart-name output.file name none (sym same)), rest)
+
 -- a job that would not overwrite its own file puts none of its name
 name-unput : (job : Job) (name : List ℕ) → refuse {F = Fault} fault.OutName (overwrites_job name job) ≡ Ok tt → NoneIs (names_put job) name
 name-unput job name fine =
+    let outputs : Bool = list_any (λ (o : OutputLine). bytes_eq o.file name) job.outputs in
     let none = kept (overwrites_job name job) fine in
-    let both = neither (bytes_eq job.certificate name) (list_any (λ (o : OutputLine). bytes_eq o.file name) job.outputs) none in
-    ((λ same. apart-name job.certificate name both.0 (sym same)), outputs-unput job.outputs name both.1)
+    let first = neither (bytes_eq job.certificate name || is_contributors_file name job.contributors) outputs none in
+    let both = neither (bytes_eq job.certificate name) (is_contributors_file name job.contributors) first.0 in
+    ((λ same. apart-name job.certificate name both.0 (sym same)), contributors-unput job.contributors name (map (λ (o : OutputLine). o.file) job.outputs) both.1 (outputs-unput job.outputs name first.1))
   where
     kept : (wrong : Bool) → refuse {F = Fault} fault.OutName wrong ≡ Ok tt → wrong ≡ false
     kept true h = absurd cc

@@ -50,7 +50,7 @@ lines-show c flags (one ∷ asked) [] are = absurd are
 lines-show c flags (one ∷ asked) (world ∷ worlds) are = ap (λ (rest : List World). world ∷ rest) (lines-show c flags asked worlds are.1)
 
 -- the certificate of a protection speaks of its hidden set
-speaks : (case : Case) (tables : List (List ℕ)) (prices : List ℕ) (protected : HiddenSet) (certificate : Certificate) → IsCase case tables
+pub speaks : (case : Case) (tables : List (List ℕ)) (prices : List ℕ) (protected : HiddenSet) (certificate : Certificate) → IsCase case tables
     → IsProtectedWith (protected_case case.system.now case.cells.now) prices case.method case.trail.now.steps protected certificate → SpeaksOf case protected certificate
 speaks case tables prices protected certificate fits is =
     let made : Certificate = certificate_made case.method case.system.now case.cells.now protected case.trail.now.steps certificate.repairs certificate.needs in

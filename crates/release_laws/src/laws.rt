@@ -2,7 +2,7 @@
 
 ghost use Rattle.release_laws.specs.RoundingLaws.{RoundedAreReadBack, RoundingIsAccepted, WrittenRoundingIsAccepted};
 ghost use Rattle.release_laws.specs.RunLaws.{PutsAreAccepted, RunsAreAccepted};
-ghost use Rattle.release_laws.specs.Laws.{InputsAreJudgedInOneWay, ProtectionIsAccepted, WrittenIsAccepted};
+ghost use Rattle.release_laws.specs.Laws.{GuardedIsAccepted, GuardsAreJudgedInOneWay, InputsAreJudgedInOneWay, ProtectionIsAccepted, WrittenIsAccepted};
 
 use job_lang::names_apart;
 
@@ -17,6 +17,13 @@ pub fn written_is_accepted()
 /// them, the certificate and the tables alone.
 pub fn inputs_are_judged_in_one_way()
     ensures { InputsAreJudgedInOneWay }
+{}
+
+/// A release with the extra cells of a guarded protection has no fault, with the tables that hide both; and whether one is
+/// accepted, and for which fault it isn't, rests on the inputs, the certificate, the extra cells and the tables alone.
+pub fn guarded_is_accepted()
+    ensures written { GuardedIsAccepted }
+    ensures one_way { GuardsAreJudgedInOneWay }
 {}
 
 /// Texts that were written for numbers are read as these numbers; so the certificate of a rounding, which lists
@@ -36,5 +43,6 @@ pub fn runs_are_accepted()
 {
     names_apart();
     written_is_accepted();
+    guarded_is_accepted();
     rounded_is_accepted();
 }

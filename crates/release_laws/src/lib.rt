@@ -5,5 +5,6 @@
 mod laws;
 
 pub use laws::{
-    inputs_are_judged_in_one_way, rounded_is_accepted, runs_are_accepted, written_is_accepted,
+    guarded_is_accepted, inputs_are_judged_in_one_way, rounded_is_accepted, runs_are_accepted,
+    written_is_accepted,
 };

@@ -3,6 +3,7 @@ use Rattle.std.proofs.lemmas.Result.{err_from_is_err_and}
 use Rattle.job_inputs.specs.SettledJobs.{IsSettledOf, settled_of}
 use Rattle.job_inputs.specs.declared.purpose.Purpose.TheVariants as purpose
 use Rattle.job_inputs.specs.declared.file_ref.FileRef.{FileRef}
+use Rattle.job_run.specs.FileCounts.{file_count}
 use Rattle.job_run.specs.Puts.{AllWhole, OneInPart, SomeWhole}
 use Rattle.job_run.specs.declared.put.FilePut.{FilePut}
 use Rattle.job_run.specs.declared.puts.PutStop.TheVariants as stop
@@ -97,7 +98,7 @@ returns-in_err-release-clause-put_once g c =
 
 pub put_files-requires : goal.put_files-requires
 put_files-requires g c =
-    let many : length c.in_ok-release.release.puts ≡ 1 + length c.in_ok-settled.settled.described.job.tables = c.in_ok-release.ensures.one_more_than_tables in
+    let many : length c.in_ok-release.release.puts ≡ file_count c.in_ok-settled.settled.described.job = c.in_ok-release.ensures.each_file in
     subst (λ (puts : List FilePut). 0 < length puts) (sym c.as_slice.ensures) (omega (arith, many))
 
 pub returns-in_err-put_files-clause-told : goal.returns-in_err-put_files-clause-told
@@ -140,7 +141,7 @@ returns-in_err-put_files-clause-put_once g c =
     let some = c.in_ok-settled.ensures.settled in
     rw (p.1, p.2)
     (puts-once c.in_err-put_files.field-0.0 c.in_ok-release.release _ _
-    (some-release some.0 c.in_ok-release.release some.2 (c.in_ok-release.ensures.comes some.0 some.1) c.in_ok-settled.settled.described some.1.described c.in_ok-release.ensures.one_more_than_tables)
+    (some-release some.0 c.in_ok-release.release some.2 (c.in_ok-release.ensures.comes some.0 some.1) c.in_ok-settled.settled.described some.1.described c.in_ok-release.ensures.each_file)
     (subst (λ (puts : List FilePut). (f : FileRef) → IsErrOf {T = Unit {0}} (Err c.in_err-put_files.field-0.0) (stop.WriteFault f) → OneInPart puts f (g.T.Tray.state c.args.tray.now) (g.T.Tray.state c.put_files.new.tray)) c.as_slice.ensures c.in_err-put_files.ensures.part)
     (subst (λ (puts : List FilePut). IsErrOf {T = Unit {0}} (Err c.in_err-put_files.field-0.0) stop.Memory → SomeWhole puts (g.T.Tray.state c.args.tray.now) (g.T.Tray.state c.put_files.new.tray)) c.as_slice.ensures c.in_err-put_files.ensures.memory))
 
@@ -159,7 +160,7 @@ pub returns-clause-put_once : goal.returns-clause-put_once
 returns-clause-put_once g c =
     let some = c.in_ok-settled.ensures.settled in (
       c.in_ok-release.release,
-      some-release some.0 c.in_ok-release.release some.2 (c.in_ok-release.ensures.comes some.0 some.1) c.in_ok-settled.settled.described some.1.described c.in_ok-release.ensures.one_more_than_tables,
+      some-release some.0 c.in_ok-release.release some.2 (c.in_ok-release.ensures.comes some.0 some.1) c.in_ok-settled.settled.described some.1.described c.in_ok-release.ensures.each_file,
       refl,
       subst (λ (puts : List FilePut). AllWhole puts (g.T.Tray.state c.args.tray.now) (g.T.Tray.state c.put_files.new.tray)) c.as_slice.ensures c.in_ok-put_files.ensures.has_put_all,
     )
@@ -170,7 +171,7 @@ returns-clause-released g c =
     let read = ok-and (λ s. IsSettledOf s c.in_ok-settled.settled) (settled_of purpose.Release fs c.args.name.now) (c.in_ok-settled.ensures.looked.told fs told) in
     let whole = subst (λ (puts : List FilePut). AllWhole puts (g.T.Tray.state c.args.tray.now) (g.T.Tray.state c.put_files.new.tray)) c.as_slice.ensures c.in_ok-put_files.ensures.has_put_all in
     release-is fs c.args.name.now read.0 c.in_ok-release.release _ _ read.1
-    (c.in_ok-release.ensures.comes read.0 read.2) whole c.in_ok-settled.settled.described read.2.described c.in_ok-release.ensures.one_more_than_tables c.in_ok-settled.ensures.looked.sound.sound
+    (c.in_ok-release.ensures.comes read.0 read.2) whole c.in_ok-settled.settled.described read.2.described c.in_ok-release.ensures.each_file c.in_ok-settled.ensures.looked.sound.sound
 
 pub returns-clause-cause : goal.returns-clause-cause
 returns-clause-cause g c = released-cause c.in_ok-release.release.summary _ _ _ _

@@ -1,0 +1,164 @@
+ghost use Rattle.std.specs.Prelude.{◌≡◌, ◌<◌, ◌^◌, ℕ, None, Some, option_map, IfOk, length};
+ghost use Rattle.certificate.specs.Spelling.{IsSpellable};
+ghost use Rattle.cell_guards.specs.Guards.{IsCertified};
+ghost use Rattle.job_inputs.specs.SettledJobs.{IsReadyJob, IsSettledOf, SettledInputs};
+ghost use Rattle.job_run.specs.Books.{CanBeReleased, IsPlannedBook, job_of};
+ghost use Rattle.job_run.specs.FileCounts.{file_count};
+ghost use Rattle.job_run.specs.GuardedReleases as releases;
+ghost use Rattle.job_run.specs.Protections.{IsProtectedJob};
+ghost use Rattle.job_run.specs.Releases.{summary_of};
+ghost use Rattle.job_run.specs.Roundings as roundings;
+ghost use Rattle.job_run.specs.Stops.{ComesToRelease};
+ghost use Rattle.repair.specs.HidingOrder.{case};
+
+use crate::guarded_texts::guarded_puts;
+use crate::numbers::numbers_of;
+use crate::put::Release;
+use crate::report::Summary;
+use crate::stop::Stop;
+use cell_guards::guard_cells;
+use cell_protection::{Protection, protect_cells};
+use certificate::Certificate;
+use job_inputs::{DescribedJob, SettledJob};
+use linked_tables::Book;
+use relations::relations_of;
+use sdc_base::{Cell, Row, System, Text};
+use std::alloc::Global;
+use worlds::Protected;
+
+/// The release of a job that hides cells and guards them against contributors, whose file has this name.
+pub(crate) fn guarded_release(alloc: Global, job: SettledJob, name: Text) -> Result<Release, Stop>
+    requires can { CanBeReleased job }
+    requires hides { roundings.base_of job.described ≡ None }
+    requires named { option_map (λ line. line.file) job.described.job.contributors ≡ Some name }
+    ensures comes { (settled : SettledInputs) → IsSettledOf settled job → ComesToRelease settled result }
+    ensures each_file { IfOk result (λ release. length release.puts ≡ file_count job.described.job) }
+{
+    let summary = numbers_of(&job);
+    let SettledJob {
+        described,
+        mut book,
+        cells,
+        rows,
+        ..
+    } = job;
+    guard_parts(
+        alloc,
+        &described,
+        &mut book,
+        cells.as_slice(),
+        rows.as_slice(),
+        name,
+        summary,
+    )
+}
+
+// The same, with the parts of the job, and with its numbers as they are while no cell is hidden.
+fn guard_parts(
+    alloc: Global,
+    described: &DescribedJob,
+    book: &mut Book,
+    cells: &[Cell],
+    rows: &[Row],
+    name: Text,
+    summary: Summary,
+) -> Result<Release, Stop>
+    requires ready { IsReadyJob (job_of described.now book.old cells.now rows.now 0 0) }
+    requires hides { roundings.base_of described.now ≡ None }
+    requires named { option_map (λ line. line.file) described.now.job.contributors ≡ Some name }
+    ensures comes { (records skipped : ℕ) → (settled : SettledInputs)
+        → IsSettledOf settled (job_of described.now book.old cells.now rows.now records skipped)
+        → summary ≡ summary_of settled 0 → ComesToRelease settled result }
+    ensures each_file { IfOk result (λ release. length release.puts ≡ file_count described.now.job) }
+{
+    // for the proof: what holds of every book
+    let _known = book.cells();
+    let system = relations_of(alloc, book)?;
+    let protection = protect_cells(
+        alloc,
+        book,
+        &system,
+        cells,
+        described.job.method,
+        described.job.cost,
+        described.job.steps,
+    )?;
+    match protection {
+        Protection::Protected {
+            protected,
+            certificate,
+        } => guard_protected(
+            alloc,
+            described,
+            book,
+            cells,
+            rows,
+            name,
+            &system,
+            &protected,
+            certificate,
+            summary,
+        ),
+        Protection::Cannot {
+            cell,
+            side,
+            multipliers,
+        } => Err(Stop::Cannot {
+            cell,
+            side,
+            multipliers,
+        }),
+        Protection::Undecided(stopped) => Err(Stop::from(stopped)),
+    }
+}
+
+// The same, where a hidden set protects the cells.
+fn guard_protected(
+    alloc: Global,
+    described: &DescribedJob,
+    book: &Book,
+    cells: &[Cell],
+    rows: &[Row],
+    name: Text,
+    system: &System,
+    protected: &Protected<'_>,
+    certificate: Certificate,
+    summary: Summary,
+) -> Result<Release, Stop>
+    requires planned { IsPlannedBook described.now book.now cells.now rows.now }
+    requires one_each { length cells.now ≡ system.now.cells }
+    requires certified { IsCertified (case system.now cells.now) protected.now certificate }
+    requires text { IsSpellable certificate }
+    requires named { option_map (λ line. line.file) described.now.job.contributors ≡ Some name }
+    ensures comes { (settled : SettledInputs)
+        → IsProtectedJob settled described.now book.now cells.now rows.now system.now protected.now certificate
+        → summary ≡ summary_of settled 0 → ComesToRelease settled result }
+    ensures each_file { IfOk result (λ release. length release.puts ≡ file_count described.now.job) }
+{
+    let guarded = guard_cells(
+        alloc,
+        book,
+        rows,
+        system,
+        cells,
+        described.job.cost,
+        protected,
+        certificate,
+        described.job.steps,
+    )?;
+    let puts = guarded_puts(alloc, described, book, name, &guarded)?;
+    let hidden = count_hidden(guarded.hidden.flags.as_slice());
+    Ok(Release {
+        puts,
+        summary: Summary { hidden, ..summary },
+        certificate: guarded.certificate,
+    })
+}
+
+// How many cells a set hides.
+fn count_hidden(flags: &[bool]) -> u32
+    requires { length flags.now < 2 ^ 32 }
+    ensures { result ≡ releases.count_hidden flags.now }
+{
+    flags.iter().filter(|flag| **flag).count() as u32
+}
