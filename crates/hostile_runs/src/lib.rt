@@ -2,6 +2,8 @@
 #![tactic(auto)]
 
 #[cfg(test)]
+mod contributors_tests;
+#[cfg(test)]
 mod damage_tests;
 #[cfg(test)]
 mod fault_tests;

@@ -1,9 +1,9 @@
 use std::rt::HostRuntime;
 use std::test::Fail;
 use worked_runs::{
-    BY_INDUSTRY, FIRMS, FOUR_CERTIFICATE, FOUR_RECORDS, FOUR_SAID, FOUR_TABLE, MARGINS, SURVEY,
-    THIRTEEN_RECORDS, THREE_VARIABLES, TWO_VARIABLES, TWO_WAY, rounding_job, run_over,
-    run_then_check,
+    BY_INDUSTRY, FIRMS, FOUR_CERTIFICATE, FOUR_RECORDS, FOUR_SAID, FOUR_TABLE, MARGINS,
+    ONE_VARIABLE, SURVEY, THIRTEEN_RECORDS, THREE_VARIABLES, TWO_VARIABLES, TWO_WAY, job_with,
+    rounding_job, run_over, run_then_check,
 };
 
 // A second table by the first variable and another.
@@ -38,6 +38,42 @@ fn runs_that_are_accepted(rt: HostRuntime) -> Result<(), Fail> {
             ("m.asc", microdata),
             ("p.hst", statements),
         ];
+        let got = run_then_check(alloc, &files)?;
+        assert_eq!(rt; got.as_str(), "0 accepted\n");
+    }
+    Ok(())
+}
+
+// A table by regions of two levels and industries, and one by the regions and sizes, with a file for contributors.
+const REGIONS: &str =
+    "<OPENMICRODATA> \"m.asc\"\n<OPENMETADATA> \"m.rda\"\n<SPECIFYTABLE> \"Region\"\"Industry\"|\"Turnover\"\n<SPECIFYTABLE> \"Region\"\"Size\"|\"Turnover\"\n<SAFETYRULE> FREQ(2,30)\n<SUPPRESS> MOD()\n<WRITETABLE> (1,\"t.csv\")\n<WRITETABLE> (2,\"u.csv\")\n<CERTIFICATE> \"t.cert\"\n<CONTRIBUTORS> \"t.con\"\n";
+
+// Their metadata.
+const TWO_LEVELS: &str =
+    "Region 1 2\n<RECODEABLE>\n<HIERARCHICAL>\n<HIERLEVELS> 1 1\nIndustry 3 1\n<RECODEABLE>\nSize 4 1\n<RECODEABLE>\nTurnover 5 3\n<NUMERIC>\n";
+
+// In region N1 each of two firms stands alone in its industry and in its size class, so each knows a cell of both tables,
+// and the total of N1 would tell it those of the other. With that total hidden too, in both tables, N2 takes up what N1
+// gives: each other cell of N2 has two firms, and 100.
+const TWO_ALONE: &str =
+    "N1A1 40\nN1B2 30\nN2A1 50\nN2A2 50\nN2B1 50\nN2B2 50\nS1A1 50\nS1A2 50\nS1B1 50\nS1B2 50\n";
+
+// The same of jobs with a file for contributors: one code each of two firms, and two linked tables over levels.
+#[test]
+fn guarded_runs_that_are_accepted(rt: HostRuntime) -> Result<(), Fail> {
+    let alloc = rt.alloc();
+    let one = job_with(
+        alloc,
+        "<CERTIFICATE>",
+        "<CONTRIBUTORS> \"t.con\"\n<CERTIFICATE>",
+    )?;
+    let alone = "a 40\nb 30\nc 10\nc 10\nc 10\nd 20\nd 10\nd 10\nd 10\n";
+    let rows = [
+        (one.as_str(), ONE_VARIABLE, alone),
+        (REGIONS, TWO_LEVELS, TWO_ALONE),
+    ];
+    for (job, metadata, microdata) in rows {
+        let files = [("r.job", job), ("m.rda", metadata), ("m.asc", microdata)];
         let got = run_then_check(alloc, &files)?;
         assert_eq!(rt; got.as_str(), "0 accepted\n");
     }

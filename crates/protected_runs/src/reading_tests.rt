@@ -103,18 +103,23 @@ fn altered_tables(rt: HostRuntime) -> Result<(), Fail> {
     Ok(())
 }
 
-// The intervals aren't put over the job, one of its files or its table.
+// The intervals aren't put over the job, one of its files, its table or its contributors' file.
 #[test]
 fn names_of_intervals(rt: HostRuntime) -> Result<(), Fail> {
+    let job = TWO_WAY.replace(
+        rt.alloc(),
+        "<CERTIFICATE>",
+        "<CONTRIBUTORS> \"g.txt\"\n<CERTIFICATE>",
+    )?;
     let files = [
-        ("r.job", TWO_WAY),
+        ("r.job", job.as_str()),
         ("m.rda", THREE_VARIABLES),
         ("m.asc", THIRTEEN_RECORDS),
         ("p.hst", MARGINS),
         ("t.cert", ""),
         ("t.csv", TWO_WAY_TABLE),
     ];
-    for out in ["r.job", "p.hst", "t.csv"] {
+    for out in ["r.job", "p.hst", "t.csv", "g.txt"] {
         let got = run_over(rt.alloc(), &["intervals", "r.job", out], &files)?;
         assert_eq!(rt; got.as_str(), "2 refused: out: OutName\n");
     }

@@ -151,6 +151,18 @@ fn refusals_of_other_jobs(rt: HostRuntime) -> Result<(), Fail> {
             "out: OutName",
         ),
         ("t.csv", "r.job", SEVEN_RECORDS, "out: OutName"),
+        (
+            "<CERTIFICATE>",
+            "<CONTRIBUTORS> \"r.job\"\n<CERTIFICATE>",
+            SEVEN_RECORDS,
+            "out: OutName",
+        ),
+        (
+            "<CERTIFICATE>",
+            "<CONTRIBUTORS> \"t.csv\"\n<CERTIFICATE>",
+            "",
+            "job line 7: SameName",
+        ),
         ("<SUPPRESS>", PRIOR_TOO, "a\n", "record 1: Short"),
         (
             "<SUPPRESS>",

@@ -22,7 +22,7 @@ pub const THIRTEEN_RECORDS: &str =
 
 /// What is said of words that ask for nothing.
 pub const USAGE: &str =
-    "1 usage: argus run JOB | check JOB | intervals JOB OUT | demo SEED RECORDS | migrate OLD NEW\n";
+    "1 usage: argus run JOB | check JOB | intervals JOB OUT | demo SEED RECORDS | migrate OLD NEW | audit JOB OUT\n";
 
 /// A job of a two-way table, with an a priori file.
 pub const TWO_WAY: &str =

@@ -43,10 +43,10 @@ pub fn status_and_text(alloc: Global, report: &Report) -> Result<String, Memory>
     Ok(format!(in alloc; "{status} {line}")?)
 }
 
-/// The bytes that the tray holds for the certificate, the two tables and the intervals.
+/// The bytes that the tray holds for the certificate, the contributors' file, the two tables and the intervals.
 pub fn bytes_on(alloc: Global, tray: &MemoryTray) -> Result<String, Memory> {
     let mut held = String::new(alloc);
-    for name in ["t.cert", "t.csv", "u.csv", "out.csv"] {
+    for name in ["t.cert", "t.con", "t.csv", "u.csv", "out.csv"] {
         let name = Text::from_slice(alloc, name.as_bytes())?;
         let bytes = tray.file(&name).unwrap_or(b"");
         held.push_str(str::from_utf8(bytes).unwrap_or("no text"))?;
@@ -75,14 +75,30 @@ fn run_on(
     shelf: &mut MemoryShelf,
     tray: &mut MemoryTray,
 ) -> Result<String, Memory> {
-    let mut given: Vec<Text> = Vec::new(alloc);
-    for word in words {
-        given.push(Text::from_slice(alloc, word.as_bytes())?)?;
-    }
-    let report = run(alloc, given.as_slice(), shelf, tray);
-    let said = status_and_text(alloc, &report)?;
+    let words = texts_of(alloc, words)?;
+    let said = said_of_run(alloc, words.as_slice(), shelf, tray)?;
     let held = bytes_on(alloc, tray)?;
     Ok(format!(in alloc; "{said}{held}")?)
+}
+
+// These words as texts.
+fn texts_of(alloc: Global, words: &[&str]) -> Result<Vec<Text>, Memory> {
+    let mut texts = Vec::new(alloc);
+    for word in words {
+        texts.push(Text::from_slice(alloc, word.as_bytes())?)?;
+    }
+    Ok(texts)
+}
+
+// The status and the text of a run of these words.
+fn said_of_run(
+    alloc: Global,
+    words: &[Text],
+    shelf: &mut MemoryShelf,
+    tray: &mut MemoryTray,
+) -> Result<String, Memory> {
+    let report = run(alloc, words, shelf, tray);
+    status_and_text(alloc, &report)
 }
 
 /// What the job `r.job` says and leaves on an empty tray, one of whose puts fails.
@@ -122,17 +138,44 @@ pub fn run_over(alloc: Global, words: &[&str], files: &[(&str, &str)]) -> Result
 pub fn run_then_check(alloc: Global, files: &[(&str, &str)]) -> Result<String, Memory> {
     let mut tray = MemoryTray::new(alloc, Vec::new(alloc));
     run_words(alloc, &["run", "r.job"], files, WHOLE_FILES, &mut tray)?;
+    let held = files_beside(alloc, files, &tray)?;
+    check_over(alloc, held)
+}
+
+// These files, and beside them what a run of `r.job` put on this tray.
+fn files_beside(
+    alloc: Global,
+    files: &[(&str, &str)],
+    tray: &MemoryTray,
+) -> Result<Vec<(Text, Vec<u8>)>, Memory> {
     let mut held = files_of(alloc, files)?;
-    for name in ["t.cert", "t.csv", "u.csv"] {
-        let put = Text::from_slice(alloc, name.as_bytes())?;
-        if let Some(bytes) = tray.file(&put) {
-            let bytes = Vec::from_slice(alloc, bytes)?;
-            held.push((put, bytes))?;
-        }
+    for name in ["t.cert", "t.con", "t.csv", "u.csv"] {
+        add_put(alloc, name, tray, &mut held)?;
     }
+    Ok(held)
+}
+
+// Adds the file of this name, where the tray holds one.
+fn add_put(
+    alloc: Global,
+    name: &str,
+    tray: &MemoryTray,
+    held: &mut Vec<(Text, Vec<u8>)>,
+) -> Result<(), Memory> {
+    let name = Text::from_slice(alloc, name.as_bytes())?;
+    let Some(bytes) = tray.file(&name) else {
+        return Ok(());
+    };
+    let bytes = Vec::from_slice(alloc, bytes)?;
+    held.push((name, bytes))?;
+    Ok(())
+}
+
+// What a check of `r.job` over these files says, and then what it puts on an empty tray.
+fn check_over(alloc: Global, held: Vec<(Text, Vec<u8>)>) -> Result<String, Memory> {
     let mut shelf = MemoryShelf::new(held, Vec::new(alloc), 4096);
-    let mut beside = MemoryTray::new(alloc, Vec::new(alloc));
-    run_on(alloc, &["check", "r.job"], &mut shelf, &mut beside)
+    let mut tray = MemoryTray::new(alloc, Vec::new(alloc));
+    run_on(alloc, &["check", "r.job"], &mut shelf, &mut tray)
 }
 
 /// A job that has one table by these variables, and these lines of its method.
