@@ -31,7 +31,7 @@ def read(path):
 
 def files_of_tree():
     names = subprocess.run(["git", "-C", TOP, "ls-files", "--cached", "--others", "--exclude-standard"], capture_output=True, text=True, check=True).stdout
-    return [name for name in names.split("\n") if name]
+    return [name for name in names.split("\n") if name and os.path.exists(os.path.join(TOP, name))]
 
 
 FILES = files_of_tree()
