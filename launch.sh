@@ -7,7 +7,9 @@
 #
 # ARGUS_JOBS says how many crates are proved at one time, where it is set. ARGUS_ANY_KIT=1 takes whatever kit is there.
 
-kit='rattle-kit-13f logic dac8208d650f15bf'
+# Kits differ in their commands; what is proved depends on their logic alone.
+kit='rattle-kit-13b'
+logic='logic dac8208d650f15bf'
 # What the proof of a crate takes at most, in kilobytes, as a rule.
 each=2500000
 
@@ -25,10 +27,15 @@ said=$top/out/build.said
 # The one line that says what to do where the kit isn't there or is another.
 check_kit() {
     command -v rt >/dev/null ||
-        fail "the command rt isn't on the path: put the folder bin of ${kit%% *} there (PATH=KIT/bin:\$PATH), and call again"
+        fail "the command rt isn't on the path: put the folder bin of $kit there (PATH=KIT/bin:\$PATH), and call again"
     found=$(rt version 2>/dev/null) || found='a kit that tells no version'
-    [ "$found" = "$kit" ] || [ "${ARGUS_ANY_KIT:-}" = 1 ] ||
-        fail "rt is of $found, and this is proved with $kit: put that kit's bin first on the path, or set ARGUS_ANY_KIT=1"
+    case $found in
+    *" $logic") ;;
+    *)
+        [ "${ARGUS_ANY_KIT:-}" = 1 ] ||
+            fail "rt is of $found, and this is proved with $kit ($logic): put that kit's bin first on the path, or set ARGUS_ANY_KIT=1"
+        ;;
+    esac
 }
 
 # The first number of a file, where it begins with one.
