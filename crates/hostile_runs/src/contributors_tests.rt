@@ -26,8 +26,13 @@ fn checked(alloc: Global, contributors: &str) -> Result<String, Memory> {
         "<CERTIFICATE>",
         "<CONTRIBUTORS> \"t.con\"\n<CERTIFICATE>",
     )?;
+    checked_job(alloc, job.as_str(), contributors)
+}
+
+// The same of this job.
+fn checked_job<'x>(alloc: Global, job: &'x str, contributors: &'x str) -> Result<String, Memory> {
     let files = [
-        ("r.job", job.as_str()),
+        ("r.job", job),
         ("m.rda", ONE_VARIABLE),
         ("m.asc", RECORDS),
         ("t.cert", CERTIFICATE),

@@ -30,8 +30,18 @@ fn audit_of<'x>(
     out: &'x str,
 ) -> Result<String, Memory> {
     let job = format!(in alloc; "{HEAD}{method}{TAIL}")?;
+    audit_over(alloc, job.as_str(), table, out)
+}
+
+// The same of this job.
+fn audit_over<'x>(
+    alloc: Global,
+    job: &'x str,
+    table: &'x str,
+    out: &'x str,
+) -> Result<String, Memory> {
     let files = [
-        ("r.job", job.as_str()),
+        ("r.job", job),
         ("m.rda", TWO_VARIABLES),
         ("m.asc", FOUR_RECORDS),
         ("t.csv", table),
@@ -110,8 +120,18 @@ fn audit_of_three<'x>(
     table: &'x str,
 ) -> Result<String, Memory> {
     let job = format!(in alloc; "{THREE_CODES}{method}{TAIL}")?;
+    audit_beside(alloc, job.as_str(), statements, table)
+}
+
+// The same of this job.
+fn audit_beside<'x>(
+    alloc: Global,
+    job: &'x str,
+    statements: &'x str,
+    table: &'x str,
+) -> Result<String, Memory> {
     let files = [
-        ("r.job", job.as_str()),
+        ("r.job", job),
         ("m.rda", ONE_VARIABLE),
         ("m.asc", "a 11\na 12\nb 15\nb 16\nb 16\nc 30\n"),
         ("p.hst", statements),

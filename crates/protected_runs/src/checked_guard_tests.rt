@@ -27,15 +27,26 @@ const LARGER_TABLE: &str = "A,V\nTotal,150\na,x\nb,x\nc,x\nd,50\n";
 const SMALLER_TABLE: &str = "A,V\nTotal,150\na,x\nb,x\nc,30\nd,50\n";
 
 // What a check says of the job over this certificate, this contributors' file and this table.
-fn checked(
+fn checked<'x>(
     alloc: Global,
-    certificate: &str,
-    contributors: &str,
-    table: &str,
+    certificate: &'x str,
+    contributors: &'x str,
+    table: &'x str,
 ) -> Result<String, Memory> {
     let job = format!(in alloc; "{ONE_TABLE}{GUARDED}")?;
+    checked_job(alloc, job.as_str(), certificate, contributors, table)
+}
+
+// The same of this job.
+fn checked_job<'x>(
+    alloc: Global,
+    job: &'x str,
+    certificate: &'x str,
+    contributors: &'x str,
+    table: &'x str,
+) -> Result<String, Memory> {
     let files = [
-        ("r.job", job.as_str()),
+        ("r.job", job),
         ("m.rda", ONE_VARIABLE),
         ("m.asc", LONE_RECORDS),
         ("t.cert", certificate),
@@ -46,9 +57,9 @@ fn checked(
 }
 
 // What it says of this contributors' file, given without its first and its last line, beside a table.
-fn guarded_by(alloc: Global, lines: &str, table: &str) -> Result<String, Memory> {
+fn guarded_by<'x>(alloc: Global, lines: &'x str, table: &'x str) -> Result<String, Memory> {
     let contributors = format!(in alloc; "argus contributors 1\n{lines}end\n")?;
-    checked(alloc, LONE_CERTIFICATE, &contributors, table)
+    checked(alloc, LONE_CERTIFICATE, contributors.as_str(), table)
 }
 
 // The files of two lone contributors are accepted, and not without the last guard, or the first.
