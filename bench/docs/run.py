@@ -162,8 +162,18 @@ def outputs_of(command):
     if words[:1] == ["awk"]:
         return awk(command)
     if words[:1] == ["../../cells"]:
-        return [""] if ">" in command else bytes_of(words[1].replace(".job", ".cells"))
+        return listing(command)
     return None
+
+
+def listing(command):
+    """The listing of a job's cells in each example, with the release where that is asked for, or what awk prints of it."""
+    asked, _, further = command.partition(" | ")
+    words = asked.split()
+    name = words[1].replace(".job", ".released" if "--released" in words else ".cells")
+    if further:
+        return awk(f"cat {name} | {further}")
+    return [""] if ">" in asked else bytes_of(name)
 
 
 def awk(command):

@@ -9,3 +9,8 @@ pub mod Codes
 pub mod ListingReads
 pub mod LawsOfCells
 pub mod LawsOfJobs
+pub mod Flagged
+pub mod HiddenRows
+pub mod ShownRows
+pub mod ReleaseReads
+pub mod Asking

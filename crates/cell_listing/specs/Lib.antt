@@ -5,3 +5,10 @@ pub mod Givens
 pub mod Listings
 pub mod Calls
 pub mod Laws
+pub mod Outcomes
+pub mod Flags
+pub mod ReleasedListings
+pub mod ReleasedCells
+pub mod Releases
+pub mod Runs
+pub mod Asked

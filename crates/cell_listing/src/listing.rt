@@ -66,8 +66,8 @@ fn write_cells(alloc: Global, writer: &mut Writer<Vec<u8>>, job: &SettledJob) ->
     Ok(())
 }
 
-// All that stands in the line of the cell with this number.
-fn fields_at(alloc: Global, job: &SettledJob, number: u32) -> Result<Items<Text>, Memory>
+/// All that stands in the line of the cell with this number.
+pub(crate) fn fields_at(alloc: Global, job: &SettledJob, number: u32) -> Result<Items<Text>, Memory>
     requires ready { IsReadyJob job.now }
     ensures at_least_two { IfOk result (λ fields. 1 < length fields) }
     ensures fields { IfOk result (AreFieldsAt job.now number) }

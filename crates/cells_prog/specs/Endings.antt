@@ -1,6 +1,8 @@
 -- What is said where there is no listing: a report of argus (own).
-use Rattle.cell_listing.specs.declared.calls.ListStop.{ListStop}
-use Rattle.cell_listing.specs.declared.calls.ListStop.TheVariants as stop
+use Rattle.cell_listing.specs.declared.asked.AskStop.{AskStop}
+use Rattle.cell_listing.specs.declared.asked.AskStop.TheVariants as stop
+use Rattle.job_check.specs.declared.stop.CheckStop.{CheckStop}
+use Rattle.job_check.specs.declared.stop.CheckStop.TheVariants as check
 use Rattle.job_inputs.specs.declared.stop.InputStop.{InputStop}
 use Rattle.job_inputs.specs.declared.stop.InputStop.TheVariants as input
 use Rattle.job_run.specs.declared.report.Report.{Report}
@@ -12,7 +14,13 @@ report_of (input.Refused fault) = report.Refused fault
 report_of (input.ReadFault file) = report.ReadFault file
 report_of input.Memory = report.Memory
 
--- why there is no listing, as a report has it; words that name no job are a usage
-abbrev pub report_for : ListStop → Report
+-- why a check accepts nothing, as the report of that check has it
+abbrev pub checked_report : CheckStop → Report
+checked_report (check.Inputs input) = report_of input
+checked_report (check.NotAccepted why) = report.NotAccepted why
+checked_report (check.NotGuarded why) = report.NotGuarded why
+
+-- why there is no listing, as a report has it; words that ask for none are a usage
+abbrev pub report_for : AskStop → Report
 report_for stop.Usage = report.Usage
-report_for (stop.Inputs input) = report_of input
+report_for (stop.Stopped why) = checked_report why

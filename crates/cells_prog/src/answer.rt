@@ -1,18 +1,19 @@
 ghost use Rattle.std.specs.Prelude.{◌≡◌, Err};
 ghost use Rattle.std.specs.Process.{exit_status};
-ghost use Rattle.cell_listing.specs.declared.calls.ListStop.{ListStop as AnyStop};
+ghost use Rattle.cell_listing.specs.declared.asked.AskStop.{AskStop as AnyStop};
 ghost use Rattle.job_run.specs.ReportText.{status_of};
 ghost use Rattle.job_run.specs.declared.report.Report.TheVariants as report;
 ghost use Rattle.cells_prog.specs.Endings.{report_for};
 ghost use Rattle.cells_prog.specs.Endings as spec;
 
-use cell_listing::ListStop;
+use cell_listing::AskStop;
+use job_check::CheckStop;
 use job_inputs::InputStop;
 use job_run::{FileRef, Report, report_text};
 use std::alloc::Global;
 use std::process::ExitCode;
 
-const USAGE: &[u8] = b"usage: cells JOB\n";
+const USAGE: &[u8] = b"usage: cells JOB | cells JOB --released\n";
 
 /// Writes a listing, or the usage line, to standard output, or says on standard error why there is no listing, and gives
 /// the status with which the program ends: 0 for a listing, and else argus's status for what went wrong.
@@ -21,7 +22,7 @@ const USAGE: &[u8] = b"usage: cells JOB\n";
 pub fn ended_by<R: Print + Eprint>(
     rt: &R,
     alloc: Global,
-    answer: Result<Vec<u8>, ListStop>,
+    answer: Result<Vec<u8>, AskStop>,
 ) -> ExitCode
     ensures { (stop : AnyStop) → answer ≡ Err stop → exit_status result ≡ status_of (report_for stop) }
 {
@@ -47,15 +48,15 @@ fn written_by<R: Print + Eprint>(rt: &R, alloc: Global, bytes: &[u8]) -> ExitCod
 }
 
 // Says why there is no listing.
-fn stopped_by<R: Print + Eprint>(rt: &R, alloc: Global, stop: ListStop) -> ExitCode
+fn stopped_by<R: Print + Eprint>(rt: &R, alloc: Global, stop: AskStop) -> ExitCode
     ensures { exit_status result ≡ status_of (report_for stop) }
 {
     match stop {
-        ListStop::Usage => {
+        AskStop::Usage => {
             let _ = rt.write_all(USAGE);
             ExitCode::from(Report::Usage.status())
         }
-        ListStop::Inputs(input) => said_by(rt, alloc, &report_of(input)),
+        AskStop::Stopped(check) => said_by(rt, alloc, &checked_report(check)),
     }
 }
 
@@ -69,6 +70,17 @@ fn said_by<R: Eprint>(rt: &R, alloc: Global, report: &Report) -> ExitCode
         }
     }
     ExitCode::from(report.status())
+}
+
+// Why a check accepts nothing, as a report of a run.
+fn checked_report(stop: CheckStop) -> Report
+    ensures { result ≡ spec.checked_report stop }
+{
+    match stop {
+        CheckStop::Inputs(input) => report_of(input),
+        CheckStop::NotAccepted(why) => Report::NotAccepted(why),
+        CheckStop::NotGuarded(why) => Report::NotGuarded(why),
+    }
 }
 
 // What stopped the inputs, as a report of a run.

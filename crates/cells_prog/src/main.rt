@@ -1,10 +1,11 @@
-//! The program `cells`: it writes the listing of the cells of a job to standard output, and ends with a status.
+//! The program `cells`: it writes the listing of the cells of a job, or of its release, to standard output, and ends
+//! with a status.
 #![tactic(auto)]
 
 mod answer;
 
 use crate::answer::{ended_by, without_words};
-use cell_listing::list_cells;
+use cell_listing::list_asked;
 use program_files::{FileShelf, RealFiles, words_of};
 use std::process::ExitCode;
 
@@ -14,6 +15,6 @@ fn main(rt: HostRuntime) -> ExitCode {
     };
     let files = RealFiles::new(&rt, "cells");
     let mut shelf = FileShelf::new(&files);
-    let answer = list_cells(rt.alloc(), words.as_slice(), &mut shelf);
+    let answer = list_asked(rt.alloc(), words.as_slice(), &mut shelf);
     ended_by(&rt, rt.alloc(), answer)
 }

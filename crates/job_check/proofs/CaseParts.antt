@@ -71,7 +71,7 @@ as-many tables lines same = sym (length-map (λ (places : List ℕ). length plac
 tables-are : (job : SettledJob) (book : BookView) → IsReadyJob job → IsSameButHidden job.book book → book.tables ≡ job.described.bound.tables
 tables-are job book ready hidden = hidden.tables ∙ ready.book.tables
 
-have-names : (job : SettledJob) (book : BookView) (names : List (List (List ℕ))) → IsReadyJob job → IsSameButHidden job.book book → names ≡ map names_of job.described.job.tables → HaveNames names book.tables
+pub have-names : (job : SettledJob) (book : BookView) (names : List (List (List ℕ))) → IsReadyJob job → IsSameButHidden job.book book → names ≡ map names_of job.described.job.tables → HaveNames names book.tables
 have-names job book names ready hidden are =
     let tables : List (List ℕ) = job.described.bound.tables in
     let lines : List TableLine = job.described.job.tables in
@@ -82,7 +82,7 @@ have-names job book names ready hidden are =
     })
 
 -- there are the bytes of each table
-each-table : (read : ReadRelease) (book : BookView) (tables : List (List ℕ)) → IsReadyRelease read → IsSameButHidden read.job.book book → tables ≡ read.tables → length tables ≡ length book.tables
+pub each-table : (read : ReadRelease) (book : BookView) (tables : List (List ℕ)) → IsReadyRelease read → IsSameButHidden read.job.book book → tables ≡ read.tables → length tables ≡ length book.tables
 each-table read book tables ready hidden same =
     ap length same
     ∙ ready.each

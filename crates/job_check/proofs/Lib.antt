@@ -2,5 +2,6 @@ pub mod ContributorsRead
 pub mod ReleaseReading
 pub mod Judgements
 pub mod CaseParts
-pub mod SameRecords
 pub mod GuardedParts
+pub mod SameBook
+pub mod Accepting

@@ -4,3 +4,4 @@ pub mod Cases
 pub mod Reading
 pub mod GuardedReleases
 pub mod Answers
+pub mod Accepted

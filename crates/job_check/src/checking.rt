@@ -1,14 +1,15 @@
-ghost use Rattle.std.specs.Prelude.{◌≡◌, Err};
+ghost use Rattle.std.specs.Prelude.{◌≡◌, Err, IfOk};
 ghost use Rattle.sdc_base.specs.WhereTold.{WhereTold};
 ghost use Rattle.job_inputs.specs.ReadFiles.{output_limit};
 ghost use Rattle.job_inputs.specs.Reading.{HasCause, HasComeTo, HasOnlyLooked};
 ghost use Rattle.job_inputs.specs.declared.stop.InputStop.{InputStop as AnyStop};
+ghost use Rattle.job_check.specs.Accepted.{AnswersAccepted, IsAcceptedRead};
 ghost use Rattle.job_check.specs.Answers.{AnswersRelease};
 ghost use Rattle.job_check.specs.Reading.{ComesTo};
 ghost use Rattle.job_check.specs.ReleaseFiles.{released_of};
 
 use crate::judging::judge;
-use crate::reading::read_release;
+use crate::reading::{ReadRelease, read_release};
 use crate::stop::CheckStop;
 use office_io::Shelf;
 use sdc_base::Text;
@@ -49,7 +50,36 @@ pub fn check_release<S: Shelf>(alloc: Global, shelf: &mut S, name: &Text) -> Res
     ensures cause { (e : AnyStop) → result ≡ Err (CheckStop.Inputs e)
         → HasCause {X = Unit {0}} (Err e) (S.state shelf.old) (S.state shelf.new) }
 {
+    let _read = accepted_release(alloc, shelf, name)?;
+    Ok(())
+}
+
+/// The release of a job as [`check_release`] accepts it: the job with its settled cells, and the certificate, the extra
+/// cells and the tables that stand under its names.
+///
+/// It reads, judges and refuses as `check_release` does, at the same cost. The marks of the book may say that other
+/// cells are hidden than those of the release; all else of the job is what
+/// [`read_settled`](job_inputs::read_settled) gives. The order is argus's own.
+pub fn accepted_release<S: Shelf>(
+    alloc: Global,
+    shelf: &mut S,
+    name: &Text,
+) -> Result<ReadRelease, CheckStop>
+    // The answer is what the told files come to.
+    ensures told { WhereTold (S.state shelf.old).files (λ fs. AnswersAccepted (released_of fs name.now) result) }
+
+    // Where the shelf failed at a file, it is one to which the check came with no fault before it.
+    ensures came_to { WhereTold (S.state shelf.old).files (λ fs. (e : AnyStop) → result ≡ Err (CheckStop.Inputs e)
+        → HasComeTo {X = Unit {0}} (ComesTo fs name.now) (Err e) fs (S.state shelf.new)) }
+
+    // The shelf was only looked at: its files stay, and no file was read without end.
+    ensures shelf { HasOnlyLooked output_limit (S.state shelf.old) (S.state shelf.new) }
+    ensures cause { (e : AnyStop) → result ≡ Err (CheckStop.Inputs e)
+        → HasCause {X = Unit {0}} (Err e) (S.state shelf.old) (S.state shelf.new) }
+    // Of a shelf that tells nothing too.
+    ensures accepted { IfOk result IsAcceptedRead }
+{
     let mut read = read_release(alloc, shelf, name)?;
     judge(alloc, &mut read)?;
-    Ok(())
+    Ok(read)
 }

@@ -1,8 +1,9 @@
-ghost use Rattle.std.specs.Prelude.{◌≡◌, ◌<◌, ◌^◌, false, length, IfSome};
+ghost use Rattle.std.specs.Prelude.{◌≡◌, ◌<◌, ◌^◌, false, length, IfSome, OnOk};
 ghost use Rattle.attackers.specs.Alone.{TellFrequencies};
 ghost use Rattle.cert_check.specs.Cases.{IsCase};
 ghost use Rattle.cert_check.specs.Methods.{rounds_cells};
 ghost use Rattle.job_inputs.specs.SettledJobs.{SettledInputs as AnyInputs};
+ghost use Rattle.job_check.specs.Accepted.{IsSameRelease};
 ghost use Rattle.job_check.specs.Answers.{IsJudgedSo};
 ghost use Rattle.job_check.specs.Cases.{IsCaseOf};
 ghost use Rattle.job_check.specs.Reading.{IsReadyRelease, IsReleasedOf};
@@ -23,9 +24,12 @@ use std::alloc::Global;
 /// Whether the certificate of a release shows that its tables are protected, or rounded, as the job wants, and whether
 /// its extra cells guard against contributors where the job names a file of them: the first fault, if there is one, for
 /// the case of the job's settled cells.
+///
+/// Afterwards the marks of the book may say that other cells are hidden; all else stays.
 pub(crate) fn judge(alloc: Global, read: &mut ReadRelease) -> Result<(), Flaw>
     requires { IsReadyRelease read.old }
-    ensures { (released : AnyReleased) → IsReleasedOf released read.old → IsJudgedSo released result }
+    ensures judged { (released : AnyReleased) → IsReleasedOf released read.old → IsJudgedSo released result }
+    ensures same { OnOk result (IsSameRelease read.old read.new) }
 {
     let job = &mut read.job;
     let system = relations_of(alloc, &job.book)?;

@@ -9,6 +9,7 @@ mod judging;
 mod reading;
 mod stop;
 
-pub use checking::check_release;
+pub use checking::{accepted_release, check_release};
 pub use flaw::Flaw;
+pub use reading::ReadRelease;
 pub use stop::CheckStop;

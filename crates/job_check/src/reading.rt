@@ -1,3 +1,5 @@
+ghost use Rattle.std.specs.Prelude.{IfOk};
+ghost use Rattle.job_check.specs.Accepted.{IsReadOf};
 ghost use Rattle.job_check.specs.Reading.{AreReleased, ComesTo, IsReadyRelease};
 ghost use Rattle.job_check.specs.ReleaseFiles.{released_of};
 ghost use Rattle.job_inputs.specs.ReadFiles.{output_limit};
@@ -15,7 +17,7 @@ use std::alloc::Global;
 /// A job with its settled cells, and the certificate, the extra cells where the job names a file of them, and the tables
 /// that stand under its names.
 #[derive(Drop)]
-pub(crate) struct ReadRelease {
+pub struct ReadRelease {
     pub job: SettledJob,
     pub certificate: Certificate,
     pub extra: Option<Extra>,
@@ -29,8 +31,10 @@ pub(crate) fn read_release<S: Shelf>(
     shelf: &mut S,
     name: &Text,
 ) -> Result<ReadRelease, InputStop>
-    ensures { HasLookedAt (λ fs answer. AreReleased answer (released_of fs name.now)) (λ fs. ComesTo fs name.now)
+    ensures looked { HasLookedAt (λ fs answer. AreReleased answer (released_of fs name.now)) (λ fs. ComesTo fs name.now)
         IsReadyRelease output_limit result (S.state shelf.old) (S.state shelf.new) }
+    // Of a shelf that tells nothing too.
+    ensures released { IfOk result IsReadOf }
 {
     let job = read_settled(alloc, shelf, name, Purpose::Release)?;
     let certificate = read_certificate_file(alloc, shelf, &job.described.job.certificate)?;

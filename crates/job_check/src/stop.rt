@@ -5,6 +5,7 @@ use crate::flaw::Flaw;
 use attackers::ExtraFault;
 use cert_check::CheckFault;
 use job_inputs::InputStop;
+use sdc_base::Memory;
 
 /// Why the release of a job isn't accepted.
 #[derive(Clone, Copy, Debug, PartialEq, Eq)]
@@ -25,6 +26,18 @@ impl From<InputStop> for CheckStop {
 
     fn from(input: InputStop) -> Self {
         CheckStop::Inputs(input)
+    }
+}
+
+impl From<Memory> for CheckStop {
+    ghost use Rattle.std.specs.Prelude.{◌≡◌};
+    ghost use Rattle.job_check.specs.declared.stop.CheckStop.TheVariants as stop;
+    ghost use Rattle.job_inputs.specs.declared.stop.InputStop.TheVariants as input;
+
+    ghost from_gives = { λ _ e. e ≡ stop.Inputs input.Memory };
+
+    fn from(_: Memory) -> Self {
+        CheckStop::Inputs(InputStop::Memory)
     }
 }
 

@@ -20,7 +20,7 @@ cells-preserved c =
     record {
       ready = c.in_ok-write_line.ensures.ready;
       text = written-more (lines_of described trees (take number (told_cells job))) (cell_line described trees are.cell) (lines_of described trees (take (number + 1) (told_cells job))) start (bytes_written c.cells.writer) (bytes_written c.write_line.new.writer)
-          (lines_more described trees (told_cells job) number are.cell are.stands) c.cells.invariant.text after;
+          (lines_more (cell_line described trees) (told_cells job) number are.cell are.stands) c.cells.invariant.text after;
     }
 
 pub returns-clause-text : goal.returns-clause-text
@@ -28,4 +28,4 @@ returns-clause-text c =
     let job = c.args.job.now in
     let number = c.cells.number in
     let end : length (told_cells job) ≤ number = omega (arith, told_size job c.requires.ready, c.cells-test.false, c.cells-number-end.ensures.cells) in
-    c.cells.invariant.text ∙ ap (λ (lines : List ℕ). option_map (λ text. text ++ lines) (bytes_written c.args.writer.now)) (lines_all job.described job.book.trees (told_cells job) number end)
+    c.cells.invariant.text ∙ ap (λ (lines : List ℕ). option_map (λ text. text ++ lines) (bytes_written c.args.writer.now)) (lines_all (cell_line job.described job.book.trees) (told_cells job) number end)

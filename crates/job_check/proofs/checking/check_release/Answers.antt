@@ -1,43 +1,16 @@
-use Rattle.std.proofs.Common.{◌≡◌, Result, Ok, Err, sym, subst}
+use Rattle.std.proofs.Common.{◌≡◌, Err, ap}
 use Rattle.std.proofs.lemmas.Result.{err_from_is_err_and}
-use Rattle.job_inputs.specs.declared.faults.Fault.{Fault}
-use Rattle.job_check.proofs.Judgements.{flaw-comes, judged-cause, judged-comes-to}
+use Rattle.job_check.proofs.Accepting.{answers-accepted}
+use Rattle.job_check.specs.ReleaseFiles.{released_of}
 use Rattle.job_check.specs.declared.stop.CheckStop.TheVariants as stop
-use Rattle.job_check.proofs.ReleaseReading.{ok-and}
-use Rattle.job_check.specs.Answers.{AnswersRelease, stop_of}
-use Rattle.job_check.specs.Reading.{ComesTo, IsReleasedOf}
-use Rattle.job_check.specs.ReleaseFiles.{ReleasedFiles, released_of}
 use Rattle.job_check.proofs.checking.check_release.Goals as goal
 
-pub returns-in_err-read-clause-told : goal.returns-in_err-read-clause-told
-returns-in_err-read-clause-told g c =
+pub returns-in_err-_read-clause-came_to : goal.returns-in_err-_read-clause-came_to
+returns-in_err-_read-clause-came_to g c =
     λ fs told.
     let p = err_from_is_err_and c.from_residual.result c.from_residual.ensures.1 in
-    rw (p.1, p.2) (c.in_err-read.ensures.told fs told)
-
-pub returns-in_err-judge-clause-told : goal.returns-in_err-judge-clause-told
-returns-in_err-judge-clause-told g c =
-    λ fs told.
-    let p = err_from_is_err_and c.from_residual-in_err-judge.result c.from_residual-in_err-judge.ensures.1 in
-    let it = ok-and (λ released. IsReleasedOf released c.in_ok-read.read) (released_of fs c.args.name.now) (c.in_ok-read.ensures.told fs told) in
-    let e = c.in_err-judge.field-0.0 in
-    rw (p.1, p.2) (subst (λ (o : Result ReleasedFiles Fault). AnswersRelease o (Err (stop_of e))) (sym it.1) (flaw-comes it.0 e (c.in_err-judge.ensures it.0 it.2)))
-
-pub returns-in_err-judge-clause-came_to : goal.returns-in_err-judge-clause-came_to
-returns-in_err-judge-clause-came_to g c =
-    λ fs told.
-    let p = err_from_is_err_and c.from_residual-in_err-judge.result c.from_residual-in_err-judge.ensures.1 in
-    let why = c.in_err-judge.field-0.0 in
-    rw (p.1, p.2) (λ e is. let same : stop_of why ≡ stop.Inputs e = cc in judged-comes-to why e (ComesTo fs c.args.name.now) fs (g.S.Shelf.state c.read_release.new.shelf) same)
-
-pub returns-in_err-judge-clause-cause : goal.returns-in_err-judge-clause-cause
-returns-in_err-judge-clause-cause g c =
-    let p = err_from_is_err_and c.from_residual-in_err-judge.result c.from_residual-in_err-judge.ensures.1 in
-    let why = c.in_err-judge.field-0.0 in
-    rw (p.1, p.2) (λ e is. let same : stop_of why ≡ stop.Inputs e = cc in judged-cause why e _ _ same)
+    let why = c.in_err-_read.field-0.0 in
+    rw (p.1, p.2) (λ e is. c.in_err-_read.ensures.came_to fs told e (let same : why ≡ stop.Inputs e = cc in ap Err same))
 
 pub returns-clause-told : goal.returns-clause-told
-returns-clause-told g c =
-    λ fs told.
-    let it = ok-and (λ released. IsReleasedOf released c.in_ok-read.read) (released_of fs c.args.name.now) (c.in_ok-read.ensures.told fs told) in
-    subst (λ (o : Result ReleasedFiles Fault). AnswersRelease o (Ok tt)) (sym it.1) (c.in_ok-judge.ensures it.0 it.2)
+returns-clause-told g c = λ fs told. answers-accepted (released_of fs c.args.name.now) c.in_ok-_read._read (c.in_ok-_read.ensures.told fs told)

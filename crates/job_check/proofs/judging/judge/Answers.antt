@@ -9,7 +9,7 @@ use Rattle.job_inputs.proofs.Units.{held}
 use Rattle.job_check.proofs.CaseParts.{can-be-judged}
 use Rattle.job_check.proofs.GuardedParts.{hides-where}
 use Rattle.job_check.proofs.Judgements.{as-released}
-use Rattle.job_check.proofs.SameRecords.{still-tells}
+use Rattle.job_check.proofs.SameBook.{still-tells}
 use Rattle.job_check.proofs.judging.judge.Goals as goal
 
 pub judge_case-requires-clause-is_case : goal.judge_case-requires-clause-is_case
@@ -33,8 +33,8 @@ judge_case-requires-clause-fewer_than_2_32 c =
     let few : length c.args.read.now.job.rows ≤ 1000000 = c.requires.job.at_most_1000000 in
     omega (arith, ap length c.as_slice-4.ensures, few)
 
-pub returns : goal.returns
-returns c = λ released is.
+pub returns-clause-judged : goal.returns-clause-judged
+returns-clause-judged c = λ released is.
     let job = c.args.read.now.job in
     let base = c.base_in_units.ensures in
     let units = held c.base_in_units.result base.from_one base.at_most in

@@ -1,17 +1,18 @@
-use Rattle.std.proofs.Common.{arith, ◌≤◌, ◌∙◌}
+use Rattle.std.proofs.Common.{arith, ◌≤◌, ◌∙◌, refl}
 use Rattle.std.proofs.lemmas.Result.{err_from_is_err_and}
 use Rattle.job_inputs.proofs.Causes.{come-on, cause-as, cause-on, look-on, longer-look}
 use Rattle.job_inputs.specs.ReadFiles.{limit, output_limit}
 use Rattle.job_inputs.specs.Reading.{stopped_for}
 use Rattle.job_check.proofs.ReleaseReading.{settled-fails, no-certificate, no-extra, no-tables, all-read, inputs-come, certificate-comes, contributors-come, tables-come}
+use Rattle.job_check.specs.ReleaseFiles.{released_with}
 use Rattle.job_check.proofs.reading.read_release.Goals as goal
 
 -- an input is no longer than what was put may be
 at_most : limit ≤ output_limit
 at_most = omega arith
 
-pub returns-in_err-job : goal.returns-in_err-job
-returns-in_err-job g c =
+pub returns-in_err-job-clause-looked : goal.returns-in_err-job-clause-looked
+returns-in_err-job-clause-looked g c =
     let p = err_from_is_err_and c.from_residual.result c.from_residual.ensures.1 in
     let e = c.in_err-job.field-0.0 in
     let look = c.in_err-job.ensures.looked in
@@ -23,8 +24,8 @@ returns-in_err-job g c =
       sound = tt;
     })
 
-pub returns-in_err-certificate : goal.returns-in_err-certificate
-returns-in_err-certificate g c =
+pub returns-in_err-certificate-clause-looked : goal.returns-in_err-certificate-clause-looked
+returns-in_err-certificate-clause-looked g c =
     let p = err_from_is_err_and c.from_residual-in_err-certificate.result c.from_residual-in_err-certificate.ensures.1 in
     let e = c.in_err-certificate.field-0.0 in
     let first = c.in_ok-job.ensures.looked in
@@ -39,8 +40,8 @@ returns-in_err-certificate g c =
       sound = tt;
     })
 
-pub returns-in_err-extra : goal.returns-in_err-extra
-returns-in_err-extra g c =
+pub returns-in_err-extra-clause-looked : goal.returns-in_err-extra-clause-looked
+returns-in_err-extra-clause-looked g c =
     let p = err_from_is_err_and c.from_residual-in_err-extra.result c.from_residual-in_err-extra.ensures.1 in
     let e = c.in_err-extra.field-0.0 in
     let first = c.in_ok-job.ensures.looked in
@@ -58,8 +59,8 @@ returns-in_err-extra g c =
       sound = tt;
     })
 
-pub returns-in_err-tables : goal.returns-in_err-tables
-returns-in_err-tables g c =
+pub returns-in_err-tables-clause-looked : goal.returns-in_err-tables-clause-looked
+returns-in_err-tables-clause-looked g c =
     let p = err_from_is_err_and c.from_residual-in_err-tables.result c.from_residual-in_err-tables.ensures.1 in
     let e = c.in_err-tables.field-0.0 in
     let first = c.in_ok-job.ensures.looked in
@@ -81,8 +82,8 @@ returns-in_err-tables g c =
       sound = tt;
     })
 
-pub returns : goal.returns
-returns g c =
+pub returns-clause-looked : goal.returns-clause-looked
+returns-clause-looked g c =
     let first = c.in_ok-job.ensures.looked in
     let then = c.in_ok-certificate.ensures in
     let signed = look-on _ _ _ _ (longer-look limit output_limit _ _ at_most first.shelf) then.shelf in
@@ -97,4 +98,13 @@ returns g c =
       shelf = look-on _ _ _ _ before last.shelf;
       cause = record { absent = λ f is. absurd cc; too_long = λ f is. absurd cc; read_fault = λ f is. absurd cc; tree = λ f is. absurd cc };
       sound = record { job = first.sound; extra = beside.sound; each = last.sound };
+    }
+
+pub returns-clause-released : goal.returns-clause-released
+returns-clause-released g c =
+    let settled = c.in_ok-job.ensures.settled in
+    record {
+      released = released_with settled.0 c.in_ok-certificate.certificate c.in_ok-extra.extra c.in_ok-tables.tables;
+      is = record { settled = settled.1; certificate = refl; extra = refl; tables = refl };
+      sound = settled.2;
     }

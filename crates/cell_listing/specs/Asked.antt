@@ -1,0 +1,36 @@
+-- What words ask the listing for, and what is answered (own).
+use Rattle.std.specs.Prelude.{◌≡◌, ℕ, List, [], ◌∷◌, Option, None, Some, codes, if◌then◌else◌, Result, Vec}
+use Rattle.std.specs.Str.{bytes_eq}
+use Rattle.std.specs.declared.alloc.Global.{Global}
+use Rattle.sdc_base.specs.Steps.{map_fault}
+use Rattle.office_io.specs.Shelves.{ShelfState}
+use Rattle.job_check.specs.declared.stop.CheckStop.{CheckStop}
+use Rattle.job_check.specs.declared.stop.CheckStop.TheVariants as check
+use Rattle.cell_listing.specs.Runs.{IsListingRun, IsReleasedRun}
+use Rattle.cell_listing.specs.declared.asked.AskStop.{AskStop}
+use Rattle.cell_listing.specs.declared.asked.AskStop.TheVariants as asked
+use Rattle.cell_listing.specs.declared.calls.ListStop.{ListStop}
+use Rattle.cell_listing.specs.declared.calls.ListStop.TheVariants as list
+
+-- the name of a job, of one byte or more, where `--released` stands behind it, and nothing else
+abbrev pub released_named : List (List ℕ) → Option (List ℕ)
+released_named ((b ∷ name) ∷ word ∷ []) = if bytes_eq word (codes "--released") then Some (b ∷ name) else None
+released_named words = None
+
+-- why there is no listing of a job, as an answer to words
+abbrev pub asked_stop : ListStop → AskStop
+asked_stop list.Usage = asked.Usage
+asked_stop (list.Inputs input) = asked.Stopped (check.Inputs input)
+
+-- the answer is that of a listing of the job of this name
+pub record AnswersCells (name : List ℕ) (answer : Result (Vec ℕ Global) AskStop) (old new : ShelfState) : Type 0 where
+  pub listing : Result (Vec ℕ Global) ListStop
+  pub same : answer ≡ map_fault asked_stop listing
+  pub run : IsListingRun name listing old new
+
+-- the answer is that of a listing of the job with its release
+pub record AnswersReleases (name : List ℕ) (answer : Result (Vec ℕ Global) AskStop) (old new : ShelfState)
+    : Type 0 where
+  pub listing : Result (Vec ℕ Global) CheckStop
+  pub same : answer ≡ map_fault asked.Stopped listing
+  pub run : IsReleasedRun name listing old new

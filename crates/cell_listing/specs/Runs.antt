@@ -1,0 +1,44 @@
+-- What a listing answers over a shelf, and what it leaves of the shelf (own).
+use Rattle.std.specs.Prelude.{◌≡◌, ℕ, List, Result, Err, IfOk, Vec}
+use Rattle.std.specs.declared.alloc.Global.{Global}
+use Rattle.sdc_base.specs.WhereTold.{WhereTold}
+use Rattle.office_io.specs.Shelves.{ShelfState}
+use Rattle.job_inputs.specs.Looks.{ComesTo as InputsComeTo}
+use Rattle.job_inputs.specs.ReadFiles.{limit, output_limit}
+use Rattle.job_inputs.specs.Reading.{HasCause, HasComeTo, HasOnlyLooked}
+use Rattle.job_inputs.specs.SettledJobs.{SettledInputs}
+use Rattle.job_inputs.specs.SoundJobs.{AreSound}
+use Rattle.job_inputs.specs.declared.purpose.Purpose.TheVariants as purpose
+use Rattle.job_inputs.specs.declared.stop.InputStop.{InputStop}
+use Rattle.job_check.specs.Reading.{ComesTo as ReleaseComesTo}
+use Rattle.job_check.specs.ReleaseFiles.{ReleasedFiles, released_of}
+use Rattle.job_check.specs.declared.stop.CheckStop.{CheckStop}
+use Rattle.job_check.specs.declared.stop.CheckStop.TheVariants as check
+use Rattle.cell_listing.specs.Calls.{AnswersListing}
+use Rattle.cell_listing.specs.Listings.{listing_in, listing_of}
+use Rattle.cell_listing.specs.Releases.{AnswersReleased, IsListingOf}
+use Rattle.cell_listing.specs.declared.calls.ListStop.{ListStop}
+use Rattle.cell_listing.specs.declared.calls.ListStop.TheVariants as list
+
+-- A listing of the job of this name: its answer is what the told files come to, it comes to files in their order, and
+-- the shelf was only looked at.
+pub record IsListingRun (name : List ℕ) (answer : Result (Vec ℕ Global) ListStop) (old new : ShelfState) : Type 0 where
+  pub told : WhereTold old.files (λ fs. AnswersListing (listing_in fs name) answer)
+  pub came_to : WhereTold old.files (λ fs. (e : InputStop) → answer ≡ Err (list.Inputs e)
+      → HasComeTo {X = Unit {0}} (InputsComeTo purpose.Release fs name) (Err e) fs new)
+  pub shelf : HasOnlyLooked limit old new
+  pub cause : (e : InputStop) → answer ≡ Err (list.Inputs e) → HasCause {X = Unit {0}} (Err e) old new
+  pub listed : IfOk answer (λ bytes. (settled : SettledInputs) × (bytes.items ≡ listing_of settled)
+      × AreSound settled.inputs)
+
+-- The same of the job with its release, which is one that a check accepts: where it doesn't, the answer is that of the
+-- check.
+pub record IsReleasedRun (name : List ℕ) (answer : Result (Vec ℕ Global) CheckStop) (old new : ShelfState)
+    : Type 0 where
+  pub told : WhereTold old.files (λ fs. AnswersReleased (released_of fs name) answer)
+  pub came_to : WhereTold old.files (λ fs. (e : InputStop) → answer ≡ Err (check.Inputs e)
+      → HasComeTo {X = Unit {0}} (ReleaseComesTo fs name) (Err e) fs new)
+  pub shelf : HasOnlyLooked output_limit old new
+  pub cause : (e : InputStop) → answer ≡ Err (check.Inputs e) → HasCause {X = Unit {0}} (Err e) old new
+  pub listed : IfOk answer (λ bytes. (released : ReleasedFiles) × IsListingOf released bytes.items
+      × AreSound released.settled.inputs)

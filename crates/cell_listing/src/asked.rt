@@ -1,0 +1,108 @@
+ghost use Rattle.std.specs.Prelude.{◌≡◌, ◌≢◌, ◌↔◌, None, Err, option_map};
+ghost use Rattle.sdc_base.specs.WhereTold.{WhereTold};
+ghost use Rattle.job_inputs.specs.ReadFiles.{limit, output_limit};
+ghost use Rattle.job_inputs.specs.Reading.{HasOnlyLooked};
+ghost use Rattle.cell_listing.specs.Asked.{AnswersCells, AnswersReleases};
+ghost use Rattle.cell_listing.specs.Asked as spec;
+ghost use Rattle.cell_listing.specs.Calls.{job_named};
+
+use crate::calls::{ListStop, list_cells};
+use crate::released_reading::list_released;
+use job_check::CheckStop;
+use office_io::Shelf;
+use sdc_base::Text;
+use std::alloc::Global;
+
+/// Why words are answered with no listing.
+#[derive(Clone, Copy, Debug, PartialEq, Eq)]
+pub enum AskStop {
+    /// The words ask for no listing.
+    Usage,
+    /// What is to be listed was not read to its end, or is no release that a check accepts, or there was no memory.
+    Stopped(CheckStop),
+}
+
+impl From<ListStop> for AskStop {
+    ghost use Rattle.std.specs.Prelude.{◌≡◌};
+    ghost use Rattle.cell_listing.specs.Asked.{asked_stop};
+
+    ghost from_gives = { λ stop e. e ≡ asked_stop stop };
+
+    fn from(stop: ListStop) -> Self {
+        match stop {
+            ListStop::Usage => AskStop::Usage,
+            ListStop::Inputs(input) => AskStop::Stopped(CheckStop::Inputs(input)),
+        }
+    }
+}
+
+impl From<CheckStop> for AskStop {
+    ghost use Rattle.std.specs.Prelude.{◌≡◌};
+    ghost use Rattle.cell_listing.specs.declared.asked.AskStop.TheVariants as stop;
+
+    ghost from_gives = { λ check e. e ≡ stop.Stopped check };
+
+    fn from(check: CheckStop) -> Self {
+        AskStop::Stopped(check)
+    }
+}
+
+/// What the words ask for, from the shelf: with the name of a job alone, the listing of [`list_cells`]; with
+/// `--released` behind the name, that of [`list_released`]. Nothing is put.
+///
+/// Other words are `Usage`, which looks at no file; else each answer is that of the call. Its cost is theirs too. The
+/// words are argus's own.
+pub fn list_asked<S: Shelf>(
+    alloc: Global,
+    words: &[Text],
+    shelf: &mut S,
+) -> Result<Vec<u8>, AskStop>
+    ensures usage { (result ≡ Err AskStop.Usage) ↔ ((job_named words.now ≡ None) × (spec.released_named words.now ≡ None)) }
+    // The name of a job alone.
+    ensures cells { WhereTold (job_named words.now)
+        (λ name. AnswersCells name result (S.state shelf.old) (S.state shelf.new)) }
+    // The name of a job, and `--released`.
+    ensures released { WhereTold (spec.released_named words.now)
+        (λ name. AnswersReleases name result (S.state shelf.old) (S.state shelf.new)) }
+    // It was only read from, and no more than was wanted.
+    ensures shelf { HasOnlyLooked output_limit (S.state shelf.old) (S.state shelf.new) }
+{
+    match released_named(words) {
+        Some(name) => asked_release(alloc, shelf, name),
+        None => asked_cells(alloc, words, shelf),
+    }
+}
+
+// The listing of a job with its release.
+fn asked_release<S: Shelf>(alloc: Global, shelf: &mut S, name: &Text) -> Result<Vec<u8>, AskStop>
+    ensures answers { AnswersReleases name.now result (S.state shelf.old) (S.state shelf.new) }
+    ensures no_usage { result ≢ Err AskStop.Usage }
+{
+    let bytes = list_released(alloc, shelf, name)?;
+    Ok(bytes)
+}
+
+// The listing of a job that the words name.
+fn asked_cells<S: Shelf>(alloc: Global, words: &[Text], shelf: &mut S) -> Result<Vec<u8>, AskStop>
+    ensures usage { (result ≡ Err AskStop.Usage) ↔ (job_named words.now ≡ None) }
+    ensures answers { WhereTold (job_named words.now)
+        (λ name. AnswersCells name result (S.state shelf.old) (S.state shelf.new)) }
+    ensures shelf { HasOnlyLooked limit (S.state shelf.old) (S.state shelf.new) }
+{
+    let bytes = list_cells(alloc, words, shelf)?;
+    Ok(bytes)
+}
+
+// The name of a job, where `--released` stands behind it, and nothing else.
+fn released_named(words: &[Text]) -> Option<&Text>
+    ensures { option_map (λ name. name.now) result ≡ spec.released_named words.now }
+{
+    if words.len() == 2
+        && !words[0].as_slice().is_empty()
+        && words[1].as_slice() == b"--released".as_slice()
+    {
+        Some(&words[0])
+    } else {
+        None
+    }
+}

@@ -1,0 +1,331 @@
+use crate::asked::{AskStop, list_asked};
+use attackers::ExtraFault;
+use cert_check::CheckFault;
+use job_check::CheckStop;
+use job_inputs::{Fault, FileRef, InputStop};
+use office_io::MemoryShelf;
+use sdc_base::{Memory, Side, Text};
+use std::alloc::Global;
+use std::test::Fail;
+
+// A file of a shelf: its name, and what it holds.
+type File = (&'static [u8], &'static [u8]);
+
+// A table by two variables, in which one cell is primary and the plan hides three more.
+const TWO_WAY: [File; 5] = [
+    (
+        b"r.job",
+        b"<OPENMICRODATA> \"m.asc\"\n<OPENMETADATA> \"m.rda\"\n<SPECIFYTABLE> \"A\"\"B\"|\"V\"\n<SAFETYRULE> FREQ(3,30)\n<SUPPRESS> MOD()\n<WRITETABLE> (1,\"t.csv\")\n<CERTIFICATE> \"t.cert\"\n",
+    ),
+    (
+        b"m.rda",
+        b"A 1 2\n<RECODEABLE>\nB 3 2\n<RECODEABLE>\nV 5 3\n<NUMERIC>\n",
+    ),
+    (
+        b"m.asc",
+        b"a1b1 10\na1b1 10\na1b2 10\na1b2 10\na1b2 10\na1b2 20\na2b1  5\na2b1  5\na2b1 10\na2b1 10\na2b2 15\na2b2 10\na2b2 15\n",
+    ),
+    (
+        b"t.cert",
+        b"argus certificate 2\nmethod MOD\ncells 9\nrelations 6\nhidden 4 5 7 8\nstep 1 0,0 4 4,5,7,8\nneed 5 4 above 1 4:1\nneed 7 4 above 1 2:1\nneed 8 4 above 1 2:1 5:-1\nworld 4 above 1 4:6 5:-6 7:-6 8:6\nworld 4 below 1 4:-6 5:6 7:6 8:-6\nend\n",
+    ),
+    (
+        b"t.csv",
+        b"A,B,V\nTotal,Total,140\nTotal,b1,50\nTotal,b2,90\na1,Total,70\na1,b1,x\na1,b2,x\na2,Total,70\na2,b1,x\na2,b2,x\n",
+    ),
+];
+
+const TWO_WAY_LISTING: &[u8] =
+    b"cell,tables,A,B,value,records,largest,second,status,rules,up,down,price,low,high,release,origin\n0,1,Total,Total,140,13,20,15,free,,0,0,141,0,,shown,\n1,1,Total,b1,50,6,10,10,free,,0,0,51,0,,shown,\n2,1,Total,b2,90,7,20,15,free,,0,0,91,0,,shown,\n3,1,a1,Total,70,6,20,10,free,,0,0,71,0,,shown,\n4,1,a1,b1,20,2,10,10,primary,FREQ,6,6,21,0,,hidden,primary\n5,1,a1,b2,50,4,20,10,free,,0,0,51,0,,hidden,step\n6,1,a2,Total,70,7,15,15,free,,0,0,71,0,,shown,\n7,1,a2,b1,30,4,10,10,free,,0,0,31,0,,hidden,step\n8,1,a2,b2,40,3,15,15,free,,0,0,41,0,,hidden,step\n";
+
+// Codes of two levels, with a price and a bound of the office. Two cells are primary, one below the other.
+const TWO_LEVELS: [File; 6] = [
+    (
+        b"r.job",
+        b"<OPENMICRODATA> \"m.asc\"\n<OPENMETADATA> \"m.rda\"\n<SPECIFYTABLE> \"Ind\"|\"Turn\"\n<SAFETYRULE> FREQ(3,30)|P(10)\n<APRIORI> \"p.hst\",1,\";\"\n<SUPPRESS> MOD()\n<WRITETABLE> (1,\"t.csv\")\n<CERTIFICATE> \"t.cert\"\n",
+    ),
+    (
+        b"m.rda",
+        b"Ind 1 2\n<RECODEABLE>\n<HIERARCHICAL>\n<HIERLEVELS> 1 1 0 0 0\nTurn 3 3\n<NUMERIC>\n",
+    ),
+    (
+        b"m.asc",
+        b"11 10\n11 20\n11 30\n12  5\n12  5\n12  5\n21 40\n21  1\n21  1\n",
+    ),
+    (b"p.hst", b"11;c;70\n12;b;0;100\n"),
+    (
+        b"t.cert",
+        b"argus certificate 2\nmethod MOD\ncells 6\nrelations 3\nhidden 1 3 4 5\nstep 1 0 4 1,4\nstep 1 1 1 1,3\nneed 1 4 above 1 0:1\nneed 3 4 above 1 0:1 1:1\nworld 4 above 1 1:-3 3:-3 4:3 5:3\nworld 4 below 1 1:3 3:3 4:-3 5:-3\nworld 5 above 1 1:-3 3:-3 4:3 5:3\nworld 5 below 1 1:3 3:3 4:-3 5:-3\nend\n",
+    ),
+    (
+        b"t.csv",
+        b"Ind,Turn\nTotal,117\n1,x\n11,60\n12,x\n2,x\n21,x\n",
+    ),
+];
+
+const TWO_LEVELS_LISTING: &[u8] =
+    b"cell,tables,Ind,value,records,largest,second,status,rules,up,down,price,low,high,release,origin\n0,1,Total,117,9,40,30,free,,0,0,118,0,,shown,\n1,1,1,75,6,30,20,free,,0,0,76,0,,hidden,step\n2,1,11,60,3,30,20,free,,0,0,70,0,,shown,\n3,1,12,15,3,5,5,free,,0,0,16,0,100,hidden,step\n4,1,2,42,3,40,1,primary,P,3,3,43,0,,hidden,primary\n5,1,21,42,3,40,1,primary,P,3,3,43,0,,hidden,primary\n";
+
+// Two tables that share their total, each with a primary cell.
+const LINKED: [File; 6] = [
+    (
+        b"r.job",
+        b"<OPENMICRODATA> \"m.asc\"\n<OPENMETADATA> \"m.rda\"\n<SPECIFYTABLE> \"A\"|\"V\"\n<SPECIFYTABLE> \"B\"|\"V\"\n<SAFETYRULE> FREQ(3,30)\n<SUPPRESS> MOD()\n<WRITETABLE> (1,\"t.csv\")\n<WRITETABLE> (2,\"u.csv\")\n<CERTIFICATE> \"t.cert\"\n",
+    ),
+    (
+        b"m.rda",
+        b"A 1 2\n<RECODEABLE>\nB 3 2\n<RECODEABLE>\nV 5 3\n<NUMERIC>\n",
+    ),
+    (
+        b"m.asc",
+        b"a1b2 10\na1b2 10\na2b1 20\na2b1 10\na2b2 15\na2b2  5\na2b2 10\n",
+    ),
+    (
+        b"t.cert",
+        b"argus certificate 2\nmethod MOD\ncells 5\nrelations 2\nhidden 1 2 3 4\nstep 1 0 1 1,2\nstep 2 0 3 3,4\nneed 2 1 above 1 0:1\nneed 4 3 above 1 1:1\nworld 1 above 1 1:6 2:-6\nworld 1 below 1 1:-6 2:6\nworld 3 above 1 3:9 4:-9\nworld 3 below 1 3:-9 4:9\nend\n",
+    ),
+    (b"t.csv", b"A,V\nTotal,80\na1,x\na2,x\n"),
+    (b"u.csv", b"B,V\nTotal,80\nb1,x\nb2,x\n"),
+];
+
+const LINKED_LISTING: &[u8] =
+    b"cell,tables,A,B,value,records,largest,second,status,rules,up,down,price,low,high,release,origin\n0,1 2,Total,Total,80,7,20,15,free,,0,0,81,0,,shown,\n1,1,a1,Total,20,2,10,10,primary,FREQ,6,6,21,0,,hidden,primary\n2,1,a2,Total,60,5,20,15,free,,0,0,61,0,,hidden,step\n3,2,Total,b1,30,2,20,10,primary,FREQ,9,9,31,0,,hidden,primary\n4,2,Total,b2,50,5,15,10,free,,0,0,51,0,,hidden,step\n";
+
+// The total is always shown, and no one cell can make room for the primary one: two repairs do.
+const REPAIRED: [File; 6] = [
+    (
+        b"r.job",
+        b"<OPENMICRODATA> \"m.asc\"\n<OPENMETADATA> \"m.rda\"\n<SPECIFYTABLE> \"A\"|\"V\"\n<SAFETYRULE> FREQ(3,30)\n<APRIORI> \"p.hst\",1,\";\"\n<SUPPRESS> MOD()\n<WRITETABLE> (1,\"t.csv\")\n<CERTIFICATE> \"t.cert\"\n",
+    ),
+    (b"m.rda", b"A 1 1\n<RECODEABLE>\nV 2 3\n<NUMERIC>\n"),
+    (
+        b"m.asc",
+        b"a 10\na 10\nb  1\nb  1\nb  2\nc  2\nc  1\nc  1\n",
+    ),
+    (b"p.hst", b"Total;p\n"),
+    (
+        b"t.cert",
+        b"argus certificate 2\nmethod MOD\ncells 4\nrelations 1\nhidden 1 2 3\nrepair 2 1 above 1 0:1\nrepair 3 1 above 1 0:1\nneed 2 1 above 1 0:1\nneed 3 1 above 1 0:1\nworld 1 above 1 1:6 2:-4 3:-2\nworld 1 below 1 1:-6 2:6\nend\n",
+    ),
+    (b"t.csv", b"A,V\nTotal,28\na,x\nb,x\nc,x\n"),
+];
+
+const REPAIRED_LISTING: &[u8] =
+    b"cell,tables,A,value,records,largest,second,status,rules,up,down,price,low,high,release,origin\n0,1,Total,28,8,10,10,fixed,,0,0,29,0,,shown,\n1,1,a,20,2,10,10,primary,FREQ,6,6,21,0,,hidden,primary\n2,1,b,4,3,2,1,free,,0,0,5,0,,hidden,repair\n3,1,c,4,3,2,1,free,,0,0,5,0,,hidden,repair\n";
+
+// A table that is rounded to tens.
+const ROUNDED: [File; 5] = [
+    (
+        b"r.job",
+        b"<OPENMICRODATA> \"m.asc\"\n<OPENMETADATA> \"m.rda\"\n<SPECIFYTABLE> \"A\"|\"V\"\n<SAFETYRULE> FREQ(1,30)\n<SUPPRESS> RND(10)\n<WRITETABLE> (1,\"t.csv\")\n<CERTIFICATE> \"t.cert\"\n",
+    ),
+    (
+        b"m.rda",
+        b"A 1 1\n<RECODEABLE>\nV 2 5\n<NUMERIC>\n<DECIMALS> 1\n",
+    ),
+    (b"m.asc", b"a 12.5\nb 13.0\n"),
+    (
+        b"t.cert",
+        b"argus certificate 2\nmethod RND 10\ncells 3\nrelations 1\nend\n",
+    ),
+    (b"t.csv", b"A,V\nTotal,30.0\na,10.0\nb,20.0\n"),
+];
+
+const ROUNDED_LISTING: &[u8] =
+    b"cell,tables,A,value,records,largest,second,status,rules,up,down,price,low,high,release,origin\n0,1,Total,25.5,2,13.0,12.5,free,,0.0,0.0,256,0.0,,30.0,\n1,1,a,12.5,1,12.5,0.0,free,,0.0,0.0,126,0.0,,10.0,\n2,1,b,13.0,1,13.0,0.0,free,,0.0,0.0,131,0.0,,20.0,\n";
+
+// Two cells are primary, each of one firm, which knows it: a third one is hidden against these firms.
+const GUARDED: [File; 6] = [
+    (
+        b"r.job",
+        b"<OPENMICRODATA> \"m.asc\"\n<OPENMETADATA> \"m.rda\"\n<SPECIFYTABLE> \"A\"|\"V\"\n<SAFETYRULE> FREQ(3,30)\n<SUPPRESS> MOD()\n<WRITETABLE> (1,\"t.csv\")\n<CERTIFICATE> \"t.cert\"\n<CONTRIBUTORS> \"t.extra\"\n",
+    ),
+    (b"m.rda", b"A 1 1\n<RECODEABLE>\nV 2 3\n<NUMERIC>\n"),
+    (
+        b"m.asc",
+        b"a 40\nb 30\nc 10\nc 10\nc 10\nd 20\nd 10\nd 10\nd 10\n",
+    ),
+    (
+        b"t.cert",
+        b"argus certificate 2\nmethod MOD\ncells 5\nrelations 1\nhidden 1 2\nworld 1 above 1 1:12 2:-12\nworld 1 below 1 1:-12 2:12\nworld 2 above 1 1:-9 2:9\nworld 2 below 1 1:9 2:-9\nend\n",
+    ),
+    (
+        b"t.extra",
+        b"argus contributors 1\nextra 3\nneed 3 1 2 above 1 0:1\nguard 1 above 1 1:12 3:-12\nguard 1 below 1 1:-12 3:12\nguard 2 above 1 2:9 3:-9\nguard 2 below 1 2:-9 3:9\nend\n",
+    ),
+    (b"t.csv", b"A,V\nTotal,150\na,x\nb,x\nc,x\nd,50\n"),
+];
+
+const GUARDED_LISTING: &[u8] =
+    b"cell,tables,A,value,records,largest,second,status,rules,up,down,price,low,high,release,origin\n0,1,Total,150,9,40,30,free,,0,0,151,0,,shown,\n1,1,a,40,1,40,0,primary,FREQ,12,12,41,0,,hidden,primary\n2,1,b,30,1,30,0,primary,FREQ,9,9,31,0,,hidden,primary\n3,1,c,30,3,10,10,free,,0,0,31,0,,hidden,extra\n4,1,d,50,4,20,10,free,,0,0,51,0,,shown,\n";
+
+// Codes with a comma, with a quote and with bytes that aren't text, of which two are primary: each makes room for the other.
+const ODD_CODES: [File; 6] = [
+    (
+        b"r.job",
+        b"<OPENMICRODATA> \"m.asc\"\n<OPENMETADATA> \"m.rda\"\n<SPECIFYTABLE> \"A\"|\"V\"\n<SAFETYRULE> FREQ(2,30)|P(10)\n<APRIORI> \"p.hst\",1,\";\"\n<SUPPRESS> MOD()\n<WRITETABLE> (1,\"t.csv\")\n<CERTIFICATE> \"t.cert\"\n",
+    ),
+    (
+        b"m.rda",
+        b"A 1 2\n<RECODEABLE>\nV 3 4\n<NUMERIC>\n<DECIMALS> 1\n",
+    ),
+    (
+        b"m.asc",
+        b"a,10.5\na, 2.0\n\"b 7.0\n\xff\xe9 3.5\n\xff\xe9 3.5\n",
+    ),
+    (b"p.hst", b"\"b;s\nTotal;p\n\xff\xe9;c;12\n"),
+    (
+        b"t.cert",
+        b"argus certificate 2\nmethod MOD\ncells 4\nrelations 1\nhidden 2 3\nworld 2 above 1 2:11 3:-11\nworld 2 below 1 2:-11 3:11\nworld 3 above 1 2:-4 3:4\nworld 3 below 1 2:4 3:-4\nend\n",
+    ),
+    (
+        b"t.csv",
+        b"A,V\nTotal,26.5\n\"\"\"b\",7.0\n\"a,\",x\n\xff\xe9,x\n",
+    ),
+];
+
+const ODD_CODES_LISTING: &[u8] =
+    b"cell,tables,A,value,records,largest,second,status,rules,up,down,price,low,high,release,origin\n0,1,Total,26.5,5,10.5,7.0,fixed,,0.0,0.0,266,0.0,,shown,\n1,1,\"\"\"b\",7.0,1,7.0,0.0,free,FREQ P,0.0,0.0,71,0.0,,shown,\n2,1,\"a,\",12.5,2,10.5,2.0,primary,P,1.1,1.1,126,0.0,,hidden,primary\n3,1,\xff\xe9,7.0,2,3.5,3.5,primary,P,0.4,0.4,12,0.0,,hidden,primary\n";
+
+// What is said of the files, with this in place of what one of them holds, where it is there.
+fn answer(
+    alloc: Global,
+    files: &[File],
+    name: &[u8],
+    other: Option<&[u8]>,
+) -> Result<Result<Vec<u8>, AskStop>, Memory> {
+    let mut held = Vec::new(alloc);
+    for (file, bytes) in files {
+        let holds = if *file == name { other } else { Some(*bytes) };
+        if let Some(holds) = holds {
+            let holds = Vec::from_slice(alloc, holds)?;
+            held.push((Text::from_slice(alloc, file)?, holds))?;
+        }
+    }
+    let mut shelf = MemoryShelf::new(held, Vec::new(alloc), 7);
+    let mut words = Vec::new(alloc);
+    words.push(Text::from_slice(alloc, b"r.job")?)?;
+    words.push(Text::from_slice(alloc, b"--released")?)?;
+    Ok(list_asked(alloc, words.as_slice(), &mut shelf))
+}
+
+#[test]
+fn listings(rt: HostRuntime) -> Result<(), Fail> {
+    let alloc = rt.alloc();
+    let rows = [
+        (TWO_WAY.as_slice(), TWO_WAY_LISTING),
+        (TWO_LEVELS.as_slice(), TWO_LEVELS_LISTING),
+        (LINKED.as_slice(), LINKED_LISTING),
+        (REPAIRED.as_slice(), REPAIRED_LISTING),
+        (ROUNDED.as_slice(), ROUNDED_LISTING),
+        (GUARDED.as_slice(), GUARDED_LISTING),
+        (ODD_CODES.as_slice(), ODD_CODES_LISTING),
+    ];
+    for (files, listing) in rows {
+        match answer(alloc, files, b"", None)? {
+            Ok(bytes) => assert_eq!(rt; bytes.as_slice(), listing),
+            Err(stop) => assert_eq!(rt; Some(stop), None),
+        }
+    }
+    Ok(())
+}
+
+// Each row has files, one of them, what it holds, where it is there, and what the check says.
+#[test]
+fn no_release(rt: HostRuntime) -> Result<(), Fail> {
+    let alloc = rt.alloc();
+    let two_way = TWO_WAY.as_slice();
+    let rows = [
+        (
+            two_way,
+            b"t.cert".as_slice(),
+            None,
+            CheckStop::Inputs(InputStop::Refused(Fault::Absent(FileRef::Certificate))),
+        ),
+        (
+            two_way,
+            b"t.csv",
+            None,
+            CheckStop::Inputs(InputStop::Refused(Fault::Absent(FileRef::Table(0)))),
+        ),
+        (
+            two_way,
+            b"m.asc",
+            None,
+            CheckStop::Inputs(InputStop::Refused(Fault::Absent(FileRef::Microdata))),
+        ),
+        // Another number stands in the sixth line.
+        (
+            two_way,
+            b"t.csv",
+            Some(
+                b"A,B,V\nTotal,Total,140\nTotal,b1,50\nTotal,b2,90\na1,Total,70\na1,b1,20\na1,b2,x\na2,Total,70\na2,b1,x\na2,b2,x\n".as_slice(),
+            ),
+            CheckStop::NotAccepted(CheckFault::Release { table: 0, line: 6 }),
+        ),
+        // The certificate of the plan alone: nothing shows that its cells protect.
+        (
+            two_way,
+            b"t.cert",
+            Some(
+                b"argus certificate 2\nmethod MOD\ncells 9\nrelations 6\nhidden 4 5 7 8\nstep 1 0,0 4 4,5,7,8\nend\n".as_slice(),
+            ),
+            CheckStop::NotAccepted(CheckFault::WorldCell(0)),
+        ),
+        // The two parts make more than their total.
+        (
+            ROUNDED.as_slice(),
+            b"t.csv",
+            Some(b"A,V\nTotal,30.0\na,20.0\nb,20.0\n".as_slice()),
+            CheckStop::NotAccepted(CheckFault::Relation(0)),
+        ),
+        // No world keeps the second firm's cell open downwards against the first firm.
+        (
+            GUARDED.as_slice(),
+            b"t.extra",
+            Some(
+                b"argus contributors 1\nextra 3\nneed 3 1 2 above 1 0:1\nguard 1 above 1 1:12 3:-12\nguard 1 below 1 1:-12 3:12\nguard 2 above 1 2:9 3:-9\nend\n".as_slice(),
+            ),
+            CheckStop::NotGuarded(ExtraFault::Open {
+                row: 0,
+                cell: 2,
+                side: Side::Below,
+            }),
+        ),
+    ];
+    for (files, name, other, wanted) in rows {
+        let said = answer(alloc, files, name, other)?;
+        assert_eq!(rt; said.err(), Some(AskStop::Stopped(wanted)));
+    }
+    Ok(())
+}
+
+// Each row has words, and whether they ask for a listing.
+#[test]
+fn words(rt: HostRuntime) -> Result<(), Fail> {
+    let alloc = rt.alloc();
+    let rows: [(&[&[u8]], bool); 6] = [
+        (&[], true),
+        (&[b"", b"--released"], true),
+        (&[b"r.job", b"--release"], true),
+        (&[b"--released", b"r.job"], true),
+        (&[b"r.job", b"--released", b"r.job"], true),
+        (&[b"--released"], false),
+    ];
+    for (words, is_usage) in rows {
+        let mut texts = Vec::new(alloc);
+        for word in words {
+            texts.push(Text::from_slice(alloc, word)?)?;
+        }
+        let mut shelf = MemoryShelf::new(Vec::new(alloc), Vec::new(alloc), 7);
+        let said = list_asked(alloc, texts.as_slice(), &mut shelf);
+        let absent = InputStop::Refused(Fault::Absent(FileRef::Job));
+        let wanted = if is_usage {
+            AskStop::Usage
+        } else {
+            AskStop::Stopped(CheckStop::Inputs(absent))
+        };
+        assert_eq!(rt; said.err(), Some(wanted));
+    }
+    Ok(())
+}

@@ -1,0 +1,99 @@
+-- A book in which other cells are hidden is still that of its inputs.
+use Rattle.std.proofs.Common.{◌≡◌, ℕ, ◌≤◌, zero, suc, arith, List, [], ◌∷◌, length, map, All, Option, None, Some, option_map, slice_get, refl, ap, sym, subst, ◌∙◌}
+use Rattle.std.proofs.lemmas.List.{length-map}
+use Rattle.std.proofs.lemmas.Option.{slice_get-map}
+use Rattle.sdc_base.specs.RuleLevels.{keep_of}
+use Rattle.sdc_base.specs.Records.{Name}
+use Rattle.sdc_base.specs.Trees.{Tree}
+use Rattle.sdc_base.specs.declared.facts.CellFacts.{CellFacts}
+use Rattle.sdc_base.specs.declared.rows.Row.{Row}
+use Rattle.attackers.specs.Alone.{TellFrequencies}
+use Rattle.cost_rule.specs.Costs.{AreCosted}
+use Rattle.sdc_base.specs.Truths.{IsTruth}
+use Rattle.linked_tables.specs.BookViews.{BookView}
+use Rattle.linked_tables.specs.BookCells.{cells as cells_in}
+use Rattle.linked_tables.specs.declared.mark.Mark.{Mark}
+use Rattle.modular_plan.specs.Plans.{IsSameButHidden}
+use Rattle.tabulate.specs.TabulatedMarks.{AreTabulated, TellsOf}
+use Rattle.job_inputs.specs.TabulatedBooks.{IsBookOf, IsReadyFor}
+use Rattle.job_inputs.specs.declared.described.DescribedJob.{DescribedJob}
+use Rattle.job_inputs.specs.declared.inputs.Inputs.{Inputs}
+
+-- what holds of the facts of the one holds of those of the other
+over-facts : (P : CellFacts → Type 0) (old new : List Mark) → map (λ mark. mark.facts) new ≡ map (λ mark. mark.facts) old → All (λ mark. P mark.facts) old → All (λ mark. P mark.facts) new
+over-facts P [] [] same all = all
+over-facts P [] (mark ∷ new) same all = absurd cc
+over-facts P (mark ∷ old) [] same all = absurd cc
+over-facts P (mark ∷ old) (other ∷ new) same all =
+    let here : other.facts ≡ mark.facts = cc in
+    let rest : map (λ one. one.facts) new ≡ map (λ one. one.facts) old = cc in
+    front here (over-facts P old new rest (λ k d within. all (suc k) d (omega (arith, within))))
+  where
+    front : other.facts ≡ mark.facts → All (λ one. P one.facts) new → All (λ one. P one.facts) (other ∷ new)
+    front here more zero d within = subst P (sym here) (all zero mark (omega arith))
+    front here more (suc k) d within = more k d (omega (arith, within))
+
+some-facts : (o : Option Mark) (facts : CellFacts) → Some facts ≡ option_map (λ mark. mark.facts) o → (mark : Mark) × (o ≡ Some mark) × (facts ≡ mark.facts)
+some-facts None facts h = absurd cc
+some-facts (Some mark) facts h = (mark, refl, let same : facts ≡ mark.facts = cc in same)
+
+-- the mark at a place of the one has the facts of that of the other
+old-mark : (old new : List Mark) (cell : ℕ) (mark : Mark) → map (λ one. one.facts) new ≡ map (λ one. one.facts) old → slice_get new cell ≡ Some mark → (other : Mark) × (slice_get old cell ≡ Some other) × (mark.facts ≡ other.facts)
+old-mark old new cell mark same at =
+    some-facts (slice_get old cell) mark.facts
+    (sym (ap (option_map (λ (one : Mark). one.facts)) at) ∙ sym (slice_get-map (λ (one : Mark). one.facts) new cell) ∙ ap (λ (all : List CellFacts). slice_get all cell) same ∙ slice_get-map (λ (one : Mark). one.facts) old cell)
+
+tells-same : (trees : List Tree) (rows : List Row) (keep scale : ℕ) (name : Name) (mark other : Mark) → mark.facts ≡ other.facts → TellsOf trees rows keep scale name other → TellsOf trees rows keep scale name mark
+tells-same trees rows keep scale name mark other same tells = subst (λ (facts : CellFacts). TellsOf trees rows keep scale name (record { facts = facts; hidden = mark.hidden })) (sym same) (record {
+  truth_is = tells.truth_is;
+  within = tells.within;
+  freq_is = tells.freq_is;
+  keeps = tells.keeps;
+  scaled = tells.scaled;
+  largest = tells.largest;
+})
+
+tabulated-trees : (trees others : List Tree) (rows : List Row) (keep scale : ℕ) (name : Name) (mark : Mark) → others ≡ trees → TellsOf trees rows keep scale name mark → TellsOf others rows keep scale name mark
+tabulated-trees trees others rows keep scale name mark same = subst (λ (all : List Tree). TellsOf all rows keep scale name mark) (sym same)
+
+-- it has the same cells
+pub same-cells : (old new : BookView) → IsSameButHidden old new → cells_in new ≡ cells_in old
+same-cells old new same = rw (same.trees, same.tables) refl
+
+-- it has as many marks
+pub as-many-marks : (old new : BookView) → IsSameButHidden old new → length new.marks ≡ length old.marks
+as-many-marks old new same =
+    sym (length-map new.marks (λ (one : Mark). one.facts)) ∙ ap (λ (all : List CellFacts). length all) same.facts ∙ length-map old.marks (λ (one : Mark). one.facts)
+
+-- each mark still tells of the records in its cell
+pub still-told : (old new : BookView) (rows : List Row) (keep scale : ℕ) → IsSameButHidden old new → AreTabulated old rows keep scale → AreTabulated new rows keep scale
+still-told old new rows keep scale same told = λ cell name mark named at.
+    let before = old-mark old.marks new.marks cell mark same.facts at in
+    let tells = told cell name before.0 (ap (λ (names : List Name). slice_get names cell) (sym (same-cells old new same)) ∙ named) before.1 in
+    tabulated-trees old.trees new.trees rows keep scale name mark same.trees (tells-same old.trees rows keep scale name mark before.0 before.2 tells)
+
+-- and how many these are
+pub still-tells : (old new : BookView) (rows : List Row) (keep scale : ℕ) → IsSameButHidden old new → AreTabulated old rows keep scale → TellFrequencies new rows
+still-tells old new rows keep scale same told = λ cell name mark named at. (still-told old new rows keep scale same told cell name mark named at).freq_is
+
+-- the book is still that of its inputs
+pub still-book : (inputs : Inputs) (old new : BookView) → IsSameButHidden old new → IsBookOf inputs old → IsBookOf inputs new
+still-book inputs old new same is = record {
+  trees = same.trees ∙ is.trees;
+  tables = same.tables ∙ is.tables;
+  told = still-told old new inputs.records.rows (keep_of inputs.described.job.rules.list) inputs.described.bound.scale same is.told;
+  one_each = as-many-marks old new same ∙ is.one_each ∙ ap (λ (names : List Name). length names) (sym (same-cells old new same));
+}
+
+-- and still ready for a job
+pub still-ready : (described : DescribedJob) (old new : BookView) → IsSameButHidden old new → IsReadyFor described old → IsReadyFor described new
+still-ready described old new same ready = record {
+  tables = same.tables ∙ ready.tables;
+  truths = over-facts (λ facts. IsTruth facts.truth) old.marks new.marks same.facts ready.truths;
+  costed = over-facts AreCosted old.marks new.marks same.facts ready.costed;
+  keeps = over-facts (λ facts. keep_of described.job.rules.list ≤ facts.tops.keep) old.marks new.marks same.facts ready.keeps;
+}
+
+-- a book is itself
+pub same-itself : (book : BookView) → IsSameButHidden book book
+same-itself book = record { trees = refl; tables = refl; facts = refl }
