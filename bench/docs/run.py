@@ -66,7 +66,7 @@ def check_links(page):
 # ---- names
 
 # What stands for a folder of proofs, and for several crates.
-PLACEHOLDERS = {"m/f/", "worked_*"}
+PLACEHOLDERS = {"m/f/", "tests_*"}
 # What stood when bugs were planted.
 NAMES_OF_THEN = {"is_small", "two_to_nine_puts"}
 

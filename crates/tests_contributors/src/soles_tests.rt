@@ -1,0 +1,106 @@
+ghost use Rattle.std.specs.Prelude.{◌≡◌, ◌≤◌, ◌^◌, ◌<◌, true, length, slice_get, slice_index, slice_index_or, All, [], ℕ, None, pos, ◌≤ℤ◌, ◌<ℤ◌};
+ghost use Rattle.tabulate.specs.TabulatedMarks.{CanBeTabulated, HasNone, IsRow};
+
+use attackers::soles;
+use kit_records::{pairs, places, rows, thirteen};
+use linked_tables::{Book, Mark};
+use sdc_base::{Place, Row};
+use std::alloc::Global;
+use std::rt::HostRuntime;
+use std::test::Fail;
+use tabulate::tabulate;
+
+fn are_inside(book: &Book, codes: &[u32]) -> bool
+    ensures { result ≡ true → (variable : ℕ) → variable < length codes.now
+        → slice_index codes.now variable < length (slice_index_or book.now.trees variable []) }
+{
+    for (k, code) in codes.iter().enumerate() {
+        if k >= 8 {
+            return false;
+        }
+        if *code as usize >= book.size(k as u32) {
+            return false;
+        }
+    }
+    true
+}
+
+// The codes end where the trees do, or behind them.
+fn ends_behind(book: &Book, codes: &Place) -> bool
+    ensures { result ≡ true → None ≡ slice_get book.now.trees (length codes.now) }
+{
+    let count = codes.len();
+    match book.tree(count as u32) {
+        Some(_) => false,
+        None => true,
+    }
+}
+
+// There are as many codes as trees, and each is in its own.
+fn are_codes(book: &Book, codes: &Place) -> bool
+    ensures each { result ≡ true → length codes.now ≡ length book.now.trees }
+    ensures inside { result ≡ true → (variable : ℕ) → variable < length codes.now
+        → slice_index codes.now variable < length (slice_index_or book.now.trees variable []) }
+{
+    if !ends_behind(book, codes) {
+        return false;
+    }
+    are_inside(book, codes.as_slice())
+}
+
+fn is_row(book: &Book, row: &Row) -> bool
+    ensures { result ≡ true → IsRow book.now.trees 1 row.now }
+{
+    are_codes(book, &row.codes)
+        && 0 <= row.value
+        && row.value < 1000000000000000
+        && row.weight < 100000000
+        && 1 <= row.weight
+}
+
+fn are_rows(book: &Book, rows: &[Row]) -> bool
+    ensures { result ≡ true → CanBeTabulated book.now.trees 1 rows.now }
+{
+    rows.len() <= 100 && rows.iter().all(|row| is_row(book, row))
+}
+
+fn has_none(mark: &Mark) -> bool
+    ensures { result ≡ true → HasNone mark.now }
+{
+    mark.facts.truth == 0 && mark.facts.freq == 0
+}
+
+fn have_none(marks: &[Mark]) -> bool
+    ensures { result ≡ true → All HasNone marks.now }
+{
+    marks.iter().all(|mark| has_none(mark))
+}
+
+// The soles of a book with these records, none where they can't be tabulated.
+fn soles_of(alloc: Global, book: &mut Book, rows: &[Row]) -> Result<Vec<Option<u32>>, Fail> {
+    if !have_none(book.marks()) || !are_rows(book, rows) {
+        return Ok(Vec::new(alloc));
+    }
+    tabulate(book, rows, 2, 1);
+    Ok(soles(alloc, book, rows)?)
+}
+
+// Two linked tables over three variables: records that alone make up an inner cell of one of them, and no others.
+#[test]
+fn lone_records_make_up_inner_cells(rt: HostRuntime) -> Result<(), Fail> {
+    let alloc = rt.alloc();
+    let trees = pairs(alloc, 3)?;
+    let tables = places(alloc, &[&[0, 1, 2], &[0, 2]])?;
+    let mut book = Book::new(alloc, trees, tables)?;
+    let records = rows(alloc, &thirteen())?;
+    let found = soles_of(alloc, &mut book, &records)?;
+    assert_eq!(rt; found.len(), 27);
+    let mut alone = Vec::new(alloc);
+    for (cell, sole) in found.iter().enumerate() {
+        if let Some(row) = sole {
+            alone.push((cell, *row))?;
+        }
+    }
+    assert_eq!(rt; alone.as_slice(), [(13, 0), (14, 1), (25, 10)].as_slice());
+    Ok(())
+}

@@ -1,0 +1,296 @@
+ghost use Rattle.std.specs.Prelude.{◌≡◌, true, All};
+ghost use Rattle.cost_rule.specs.Costs.{IsTold};
+ghost use Rattle.cost_rule.specs.declared.kind.CostKind.TheVariants as Kinds;
+
+use crate::costs::are_costed;
+use cost_rule::{CostKind, CostRule, TellsCosts};
+use hierarchy::{CodeTree, from_lead};
+use kit_cells::{LINKED, bounded_cell, cell_of, set_truth};
+use kit_records::{place, two_codes};
+use linked_tables::Book;
+use modular_plan::plan;
+use sdc_base::{Cell, CellFacts, Kind, PlanStep, Text, Trail};
+use std::alloc::Global;
+use std::rt::HostRuntime;
+use std::test::Fail;
+
+// The truths of the total, 1 with 11 and 12 below it, and 2 with 21 below it.
+const INDUSTRIES: [u32; 6] = [117, 75, 60, 15, 42, 42];
+
+// A step: the table, the parents, the cell, and the corners.
+type Step<'a> = (u32, &'a [u32], u32, &'a [u32]);
+
+// The total, 1 with 11 and 12 below it, and 2 with 21 below it.
+fn industries(alloc: Global) -> Result<CodeTree, Fail> {
+    let lead = Text::from_slice(alloc, b"@")?;
+    let total = Text::from_slice(alloc, b"Total")?;
+    if lead.as_slice().is_empty() {
+        return Ok(two_codes(alloc)?);
+    }
+    let bytes = b"1\n@11\n@12\n2\n@21\n".as_slice();
+    Ok(from_lead(alloc, bytes, &lead, &total)?)
+}
+
+// The book of tables over these trees, whose cells have these truths.
+fn book_of(
+    alloc: Global,
+    trees: Vec<CodeTree>,
+    tables: &[&[u32]],
+    truths: &[u32],
+) -> Result<Book, Fail> {
+    let mut spanned = Vec::new(alloc);
+    for table in tables {
+        spanned.push(place(table))?;
+    }
+    if trees.len() > 8 || spanned.len() > 100 {
+        return Err(Fail::new("too many trees or tables for a book"));
+    }
+    let mut book = Book::new(alloc, trees, spanned)?;
+    for (cell, truth) in truths.iter().enumerate() {
+        if cell < 100 {
+            set_truth(&mut book, cell as u32, *truth);
+        }
+    }
+    Ok(book)
+}
+
+// A book of these tables over three variables with two codes each.
+fn linked(alloc: Global, tables: &[&[u32]]) -> Result<Book, Fail> {
+    let mut trees = Vec::new(alloc);
+    for _ in 0..3u8 {
+        trees.push(two_codes(alloc)?)?;
+    }
+    book_of(alloc, trees, tables, &LINKED)
+}
+
+// The first cells of the linked tables: cell 4 is primary with levels of 6.
+fn linked_cells(alloc: Global, count: usize, margin: Kind) -> Result<Vec<Cell>, Fail> {
+    let mut cells = Vec::new(alloc);
+    for (number, truth) in LINKED.iter().enumerate() {
+        let kind = match number {
+            0 | 1 | 2 | 3 | 6 => margin,
+            4 => Kind::Primary,
+            _ => Kind::Free,
+        };
+        if number < count {
+            cells.push(cell_of(*truth, kind, 6))?;
+        }
+    }
+    Ok(cells)
+}
+
+// The cells of the industries: 2 and 21 are primary with levels of 3.
+fn industry_cells(alloc: Global) -> Result<Vec<Cell>, Fail> {
+    let mut cells = Vec::new(alloc);
+    for (number, truth) in INDUSTRIES.iter().enumerate() {
+        let kind = if number < 4 {
+            Kind::Free
+        } else {
+            Kind::Primary
+        };
+        cells.push(cell_of(*truth, kind, 3))?;
+    }
+    Ok(cells)
+}
+
+// Plans, where it may be asked for.
+fn planned_by<F: TellsCosts + Drop>(
+    alloc: Global,
+    book: &mut Book,
+    cells: &[Cell],
+    f: F,
+    passes: u32,
+) -> Result<Trail, Fail>
+    requires told { IsTold F.may_ask F.may_say f Kinds.Value }
+{
+    let rule = CostRule::new(CostKind::Value, f);
+    if !are_costed(book.marks()) || cells.len() != book.marks().len() {
+        return Err(Fail::new("cells that no plan may be asked for"));
+    }
+    Ok(plan(alloc, book, cells, &rule, passes)?)
+}
+
+// The same with costs by value.
+fn planned(alloc: Global, book: &mut Book, cells: &[Cell], passes: u32) -> Result<Trail, Fail> {
+    let f = |facts: &CellFacts| CostKind::Value.cost(facts);
+    planned_by(alloc, book, cells, f, passes)
+}
+
+fn is_step(step: &PlanStep, meant: &Step<'_>) -> bool {
+    step.table == meant.0
+        && step.parents.as_slice() == meant.1
+        && step.cell == meant.2
+        && step.corners.as_slice() == meant.3
+}
+
+// The steps are these, in this order.
+fn are(trail: &Trail, meant: &[Step<'_>]) -> bool {
+    let steps = trail.steps.as_slice();
+    if steps.len() != meant.len() {
+        return false;
+    }
+    steps
+        .iter()
+        .zip(meant)
+        .all(|(step, one)| is_step(step, one))
+}
+
+// Exactly these cells are hidden.
+fn are_hidden(book: &Book, cells: &[u32]) -> bool {
+    book.marks().iter().enumerate().all(|(number, mark)| mark.hidden
+        == cells.iter().any(|cell| *cell as usize == number))
+}
+
+// Whether the trail through these tables has these steps, and exactly these cells are hidden then.
+fn is_trail(
+    alloc: Global,
+    tables: &[&[u32]],
+    cells: &[Cell],
+    meant: &[Step<'_>],
+    hidden: &[u32],
+) -> Result<bool, Fail> {
+    is_trail_in(alloc, tables, cells, 1, meant, hidden)
+}
+
+// The same for so many passes.
+fn is_trail_in(
+    alloc: Global,
+    tables: &[&[u32]],
+    cells: &[Cell],
+    passes: u32,
+    meant: &[Step<'_>],
+    hidden: &[u32],
+) -> Result<bool, Fail> {
+    let mut book = linked(alloc, tables)?;
+    let trail = planned(alloc, &mut book, cells, passes)?;
+    Ok(are(&trail, meant) && are_hidden(&book, hidden))
+}
+
+// The first cells of the linked tables, of which that of the codes a1 and b2 is known to be from 48 to 52.
+fn bounded_cells(alloc: Global, count: usize) -> Result<Vec<Cell>, Fail> {
+    let mut cells = linked_cells(alloc, count, Kind::Free)?;
+    if cells.len() > 5 {
+        cells[5] = bounded_cell();
+    }
+    Ok(cells)
+}
+
+// The margins are always shown.
+#[test]
+fn margins_always_shown(rt: HostRuntime) -> Result<(), Fail> {
+    let alloc = rt.alloc();
+    let cells = linked_cells(alloc, 9, Kind::Fixed)?;
+    let first: Step<'_> = (0, &[0, 0], 4, &[4, 5, 7, 8]);
+    let is = is_trail(alloc, &[&[0, 1]], cells.as_slice(), &[first], &[4, 5, 7, 8])?;
+    assert_eq!(rt; is, true);
+    Ok(())
+}
+
+// One cell can't move by 6.
+#[test]
+fn bounded_corner(rt: HostRuntime) -> Result<(), Fail> {
+    let alloc = rt.alloc();
+    let cells = bounded_cells(alloc, 9)?;
+    let first: Step<'_> = (0, &[0, 0], 4, &[3, 4, 6, 7]);
+    let is = is_trail(alloc, &[&[0, 1]], cells.as_slice(), &[first], &[3, 4, 6, 7])?;
+    assert_eq!(rt; is, true);
+    Ok(())
+}
+
+// In a second table the cells that both have need partners too.
+#[test]
+fn linked_tables(rt: HostRuntime) -> Result<(), Fail> {
+    let alloc = rt.alloc();
+    let cells = bounded_cells(alloc, 15)?;
+    let first: Step<'_> = (0, &[0, 0], 4, &[3, 4, 6, 7]);
+    let second: Step<'_> = (1, &[0, 0], 3, &[3, 6, 11, 13]);
+    let hidden: &[u32] = &[3, 4, 6, 7, 11, 13];
+    let is = is_trail(
+        alloc,
+        &[&[0, 1], &[0, 2]],
+        cells.as_slice(),
+        &[first, second],
+        hidden,
+    )?;
+    assert_eq!(rt; is, true);
+    Ok(())
+}
+
+// The cells of the linked tables, of which that of the codes a1 and c1 is primary, and that of a1 and c2 always shown.
+fn cells_of_the_second(alloc: Global) -> Result<Vec<Cell>, Fail> {
+    let mut cells = Vec::new(alloc);
+    for (number, truth) in LINKED.iter().enumerate() {
+        let kind = match number {
+            11 => Kind::Primary,
+            12 => Kind::Fixed,
+            _ => Kind::Free,
+        };
+        cells.push(cell_of(*truth, kind, 6))?;
+    }
+    Ok(cells)
+}
+
+// The second table hides cells of the first, which had its turn before, so they have no partners there after one pass.
+#[test]
+fn one_pass(rt: HostRuntime) -> Result<(), Fail> {
+    let alloc = rt.alloc();
+    let cells = cells_of_the_second(alloc)?;
+    let first: Step<'_> = (1, &[0, 0], 11, &[3, 6, 11, 13]);
+    let hidden: &[u32] = &[3, 6, 11, 13];
+    let is = is_trail_in(
+        alloc,
+        &[&[0, 1], &[0, 2]],
+        cells.as_slice(),
+        1,
+        &[first],
+        hidden,
+    )?;
+    assert_eq!(rt; is, true);
+    Ok(())
+}
+
+// They have them after a second pass, for 21 and 31 against 51 and 41.
+#[test]
+fn second_pass_hides_more(rt: HostRuntime) -> Result<(), Fail> {
+    let alloc = rt.alloc();
+    let cells = cells_of_the_second(alloc)?;
+    let first: Step<'_> = (1, &[0, 0], 11, &[3, 6, 11, 13]);
+    let second: Step<'_> = (0, &[0, 0], 3, &[3, 4, 6, 7]);
+    let hidden: &[u32] = &[3, 4, 6, 7, 11, 13];
+    let is = is_trail_in(
+        alloc,
+        &[&[0, 1], &[0, 2]],
+        cells.as_slice(),
+        2,
+        &[first, second],
+        hidden,
+    )?;
+    assert_eq!(rt; is, true);
+    Ok(())
+}
+
+// The book of the industries.
+fn industry_book(alloc: Global) -> Result<Book, Fail> {
+    let trees = vec![in alloc; industries(alloc)?]?;
+    book_of(alloc, trees, &[&[0]], &INDUSTRIES)
+}
+
+// Whether so many passes through the industries have two steps; the subtable of 2 hides nothing new.
+fn is_trail_of_industries(alloc: Global, passes: u32) -> Result<bool, Fail> {
+    let cells = industry_cells(alloc)?;
+    let mut book = industry_book(alloc)?;
+    let trail = planned(alloc, &mut book, cells.as_slice(), passes)?;
+    let first: Step<'_> = (0, &[0], 4, &[1, 4]);
+    let second: Step<'_> = (0, &[1], 1, &[1, 3]);
+    Ok(are(&trail, &[first, second]) && are_hidden(&book, &[1, 3, 4, 5]))
+}
+
+// Two levels of codes, in one pass and in two.
+#[test]
+fn two_levels(rt: HostRuntime) -> Result<(), Fail> {
+    let alloc = rt.alloc();
+    let one = is_trail_of_industries(alloc, 1)?;
+    let two = is_trail_of_industries(alloc, 2)?;
+    assert_eq!(rt; one && two, true);
+    Ok(())
+}

@@ -1,0 +1,114 @@
+ghost use Rattle.std.specs.Prelude.{◌≡◌, true, All, pos, ◌≤ℤ◌, ◌<ℤ◌};
+ghost use Rattle.sdc_base.specs.Numbers.{too_wide};
+ghost use Rattle.release_writer.specs.ShownCells.{CanBeShown};
+
+use kit_records::{places, texts, tree};
+use linked_tables::{Book, Mark};
+use release_writer::{Shown, table_bytes};
+use sdc_base::{Hidden, Items, Text};
+use std::alloc::Global;
+use std::rt::HostRuntime;
+use std::test::Fail;
+
+// A book of one table over A, with a, and another over B, with `"c,`, and A.
+fn two_tables(alloc: Global) -> Result<Book, Fail> {
+    let mut trees = Vec::new(alloc);
+    trees.push(tree(alloc, &[b"a"])?)?;
+    trees.push(tree(alloc, &[b"\"c,"])?)?;
+    Ok(Book::new(alloc, trees, places(alloc, &[&[0], &[1, 0]])?)?)
+}
+
+fn are_narrow(numbers: &[i128]) -> bool
+    ensures { result ≡ true → All (λ number. (pos 0 ≤ℤ number) × (number <ℤ pos too_wide)) numbers.now }
+{
+    numbers.iter().all(|number| 0 <= *number && *number < 10000000000000000000000000000000000000)
+}
+
+pub(crate) fn are_from_zero(marks: &[Mark]) -> bool
+    ensures { result ≡ true → All (λ mark. pos 0 ≤ℤ mark.facts.truth) marks.now }
+{
+    marks.iter().all(|mark| 0 <= mark.facts.truth)
+}
+
+fn can_be_shown(book: &Book, shown: Shown<'_>) -> bool
+    ensures { result ≡ true → CanBeShown book.now shown.entry }
+{
+    match shown {
+        Shown::Hidden(hidden) => {
+            hidden.flags.as_slice().len() == book.marks().len() && are_from_zero(book.marks())
+        }
+        Shown::Rounded(numbers) => numbers.len() == book.marks().len() && are_narrow(numbers),
+    }
+}
+
+// The bytes of a table, or none where it can't be written.
+fn printed(
+    alloc: Global,
+    book: &Book,
+    t: u32,
+    names: &[Text],
+    decimals: u8,
+    shown: Shown<'_>,
+) -> Result<Vec<u8>, Fail> {
+    let Some(table) = book.spans(t) else {
+        return Ok(Vec::new(alloc));
+    };
+    if names.len() != table.len() + 1 || decimals > 13 || !can_be_shown(book, shown) {
+        return Ok(Vec::new(alloc));
+    }
+    Ok(table_bytes(alloc, book, t, names, decimals, shown)?)
+}
+
+// The second and the third of four cells are hidden.
+fn two_hidden(alloc: Global) -> Result<Hidden, Fail> {
+    let mut flags = Vec::new(alloc);
+    for hidden in [false, true, true, false] {
+        flags.push(hidden)?;
+    }
+    Ok(Hidden {
+        flags: Items::new(flags),
+    })
+}
+
+// The bytes of a table with its names.
+fn named(
+    alloc: Global,
+    book: &Book,
+    t: u32,
+    decimals: u8,
+    shown: Shown<'_>,
+) -> Result<Vec<u8>, Fail> {
+    let names = if t == 0 {
+        texts(alloc, &[b"A", b"V"])?
+    } else {
+        texts(alloc, &[b"B\r", b"A", b""])?
+    };
+    printed(alloc, book, t, &names, decimals, shown)
+}
+
+#[test]
+fn texts_of_tables(rt: HostRuntime) -> Result<(), Fail> {
+    let alloc = rt.alloc();
+    let book = two_tables(alloc)?;
+    let hidden = two_hidden(alloc)?;
+    let numbers = [250, 10, 5, 0];
+    let rounded = Shown::Rounded(numbers.as_slice());
+    let open = Shown::Hidden(&hidden);
+    let whole: &[u8] = b"A,V\nTotal,250\na,10\n";
+    let tenths: &[u8] = b"A,V\nTotal,25.0\na,1.0\n";
+    let crossed: &[u8] = b"A,V\nTotal,0\na,x\n";
+    let quoted: &[u8] =
+        b"\"B\r\",A,\nTotal,Total,250\nTotal,a,10\n\"\"\"c,\",Total,5\n\"\"\"c,\",a,0\n";
+    let both: &[u8] = b"\"B\r\",A,\nTotal,Total,0\nTotal,a,x\n\"\"\"c,\",Total,x\n\"\"\"c,\",a,0\n";
+    for (t, decimals, shown, wanted) in [
+        (0, 0, rounded, whole),
+        (0, 1, rounded, tenths),
+        (0, 0, open, crossed),
+        (1, 0, rounded, quoted),
+        (1, 0, open, both),
+    ] {
+        let bytes = named(alloc, &book, t, decimals, shown)?;
+        assert_eq!(rt; bytes.as_slice(), wanted);
+    }
+    Ok(())
+}

@@ -1,5 +1,0 @@
-use Rattle.std.proofs.Common.{ℕ, ◌<◌, [], length, slice_index, slice_index_or}
-use Rattle.worked_guards.proofs.soles_tests.are_inside.Given as goal
-
-abbrev pub invariant-loop-k : goal.invariant-loop-k
-invariant-loop-k l = (variable : ℕ) → variable < l.k → slice_index l.codes variable < length (slice_index_or l.book.trees variable [])

@@ -1,5 +1,0 @@
-use Rattle.std.proofs.Common.{◌≤◌, All, length}
-use Rattle.worked_inputs.proofs.hierarchy_tests.texts.Given as goal
-
-abbrev pub invariant-bytes : goal.invariant-bytes
-invariant-bytes l = All (λ text. length text ≤ l.most) l.made.items

@@ -1,6 +1,0 @@
-use Rattle.std.proofs.Common.{ap, sym, [], List, ℕ, length}
-use Rattle.sdc_base.proofs.GrowingLists.{read-none}
-use Rattle.worked_releases.proofs.release_reading_tests.spanned.Goals as goal
-
-pub returns-in-None-clause-size : goal.returns-in-None-clause-size
-returns-in-None-clause-size c = ap (λ (table : List ℕ). length table) (sym (read-none c.args.book.now.tables c.args.t [] c.in-None.ensures))

@@ -1,6 +1,0 @@
-use Rattle.std.proofs.Common.{◌<◌, ℕ, ℤ, get_or}
-use Rattle.sdc_base.specs.Truths.{IsTruth}
-use Rattle.worked_walks.proofs.rounding_tests.are_truths.Given as goal
-
-abbrev pub invariant-truths : goal.invariant-truths
-invariant-truths l = (k : ℕ) (d : ℤ) → k < l.truth-index → IsTruth (get_or l.truths k d)
