@@ -19,7 +19,7 @@ use Rattle.apriori.specs.declared.prior.Status.TheVariants.{Unsafe, Safe}
 use Rattle.apriori.specs.Faults.{LineOf}
 use Rattle.apriori.specs.Settling.{SettledCell, settled_cell, low_of, high_of, told_of, figures_of, AreFactsIn, IsReadyFor, settle_of}
 use Rattle.apriori.specs.PrimaryShown.{clash_of, first_of}
-use Rattle.apriori.specs.CellLevels.{wider_levels, rule_levels, stated_or}
+use Rattle.apriori.specs.CellLevels.{wider_levels, rule_levels, levels_in_force}
 
 -- the cells of two lists agree up to so many of their largest contributions
 abbrev pub AgreeAll : ℕ → List Figures → List Figures → Type 0
@@ -38,7 +38,7 @@ same-rules rules cell other None agree = same_levels (keep_of rules.list) rules.
 -- what a cell is, from its truth, its number of records and its levels by the rules
 settled-with : ℤ → ℕ → Option Levels → Prior → SettledCell
 settled-with truth freq by-rules prior =
-    let levels : Option Levels = option_map (stated_or truth prior.levels) by-rules in
+    let levels : Option Levels = option_map (levels_in_force truth prior.levels) by-rules in
     record {
       truth = truth;
       low = low_of prior.bounds;
@@ -63,8 +63,8 @@ same-settled rules cell other prior agree =
 
 same-clash : (rules : Rules) (cell other : Figures) (prior : Prior) → AgreeUpTo (keep_of rules.list) cell other → clash_of rules cell prior ≡ clash_of rules other prior
 same-clash rules cell other prior agree =
-    ap (λ (truth : ℤ). cond (is_some (option_map (stated_or truth prior.levels) (rule_levels rules cell prior.status))) prior.keep None) agree.truth
-    ∙ ap (λ (levels : Option Levels). cond (is_some (option_map (stated_or other.truth prior.levels) levels)) prior.keep None) (same-rules rules cell other prior.status agree)
+    ap (λ (truth : ℤ). cond (is_some (option_map (levels_in_force truth prior.levels) (rule_levels rules cell prior.status))) prior.keep None) agree.truth
+    ∙ ap (λ (levels : Option Levels). cond (is_some (option_map (levels_in_force other.truth prior.levels) levels)) prior.keep None) (same-rules rules cell other prior.status agree)
 
 same-cells : (rules : Rules) (cells others : List Figures) (priors : List Prior) → AgreeAll (keep_of rules.list) cells others
     → map (λ (cell : Figures × Prior). settled_cell rules cell.0 cell.1) (zip cells priors) ≡ map (λ (cell : Figures × Prior). settled_cell rules cell.0 cell.1) (zip others priors)

@@ -39,12 +39,13 @@ abbrev pub cut_at : ℤ → Levels → Levels
 cut_at truth levels = record { up = levels.up; down = if int_lt truth levels.down then truth else levels.down }
 
 -- the levels that are stated of a primary cell, else those that it has by the rules
-abbrev pub stated_or : ℤ → Option Levels → Levels → Levels
-stated_or truth stated levels = unwrap_or (option_map (cut_at truth) stated) levels
+abbrev pub levels_in_force : ℤ → Option Levels → Levels → Levels
+levels_in_force truth stated levels = unwrap_or (option_map (cut_at truth) stated) levels
 
 -- the levels of a cell where it is primary
 abbrev pub primary_levels : Rules → Figures → Prior → Option Levels
-primary_levels rules cell prior = option_map (stated_or cell.truth prior.levels) (rule_levels rules cell prior.status)
+primary_levels rules cell prior =
+    option_map (levels_in_force cell.truth prior.levels) (rule_levels rules cell prior.status)
 
 -- a cell is primary where it has such levels
 abbrev pub is_primary : Rules → Figures → Prior → Bool

@@ -16,10 +16,10 @@ keyword_of word =
     else None
 
 -- how many fields stand behind a keyword
-abbrev pub numbers_of : Keyword → ℕ
-numbers_of keyword.Unsafe = 0
-numbers_of keyword.Safe = 0
-numbers_of keyword.Shown = 0
-numbers_of keyword.Price = 1
-numbers_of keyword.Levels = 2
-numbers_of keyword.Bounds = 2
+abbrev pub field_count : Keyword → ℕ
+field_count keyword.Unsafe = 0
+field_count keyword.Safe = 0
+field_count keyword.Shown = 0
+field_count keyword.Price = 1
+field_count keyword.Levels = 2
+field_count keyword.Bounds = 2

@@ -17,7 +17,7 @@ use Rattle.apriori.specs.declared.faults.PriorWhy.{PriorWhy}
 use Rattle.apriori.specs.declared.faults.PriorWhy.TheVariants.{BadShape, UnknownCode, BadNumber, EmptyUnsafe, OutsideTruth}
 use Rattle.apriori.specs.Priors.{most_price, most_units}
 use Rattle.apriori.specs.Fields.{fields}
-use Rattle.apriori.specs.Keywords.{keyword_of, numbers_of}
+use Rattle.apriori.specs.Keywords.{keyword_of, field_count}
 use Rattle.apriori.specs.KnownCells.{Basis, KnownCell, cell_of, variables_of_table}
 
 -- the keyword in front, and the fields behind it, which are as many as it has
@@ -25,7 +25,7 @@ unfoldable pub keyword_at : List (List ℕ) → Result (Keyword × List (List �
 keyword_at [] = Err BadShape
 keyword_at (word ∷ further) = do
   keyword ← or_fault BadShape (keyword_of word)
-  fits ← refuse BadShape (not (length further == numbers_of keyword))
+  fits ← refuse BadShape (not (length further == field_count keyword))
   Ok (keyword, further)
 
 -- a price is a whole number from 1 to the greatest

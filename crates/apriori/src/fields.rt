@@ -85,7 +85,7 @@ impl<'a> Fields<'a> {
     }
 
     /// Whether so many fields are left.
-    pub(crate) fn are(&self, count: usize) -> bool
+    pub(crate) fn has_count(&self, count: usize) -> bool
         ensures { result ≡ (length self.now == count) }
     {
         let mut fields = self.again();

@@ -45,8 +45,8 @@ pub(crate) fn keyword_of(word: &[u8]) -> Option<Keyword>
 }
 
 /// How many fields stand behind a keyword.
-pub(crate) fn numbers_of(keyword: Keyword) -> usize
-    ensures { result ≡ spec.numbers_of keyword }
+pub(crate) fn field_count(keyword: Keyword) -> usize
+    ensures { result ≡ spec.field_count keyword }
 {
     match keyword {
         Keyword::Unsafe => 0,

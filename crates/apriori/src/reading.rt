@@ -10,7 +10,7 @@ ghost use Rattle.apriori.specs.KnownCells as known_cells;
 
 use crate::faults::PriorWhy;
 use crate::fields::{Fields, fields_in};
-use crate::keyword::{Keyword, keyword_of, numbers_of};
+use crate::keyword::{Keyword, field_count, keyword_of};
 use crate::numbers::{bounds_at, levels_at, price_at};
 use crate::prior::Status;
 use crate::statement::{Claim, Form, Statement};
@@ -69,7 +69,7 @@ fn keyword_at(fields: &mut Fields) -> Result<Keyword, PriorWhy>
     let Some(keyword) = keyword_of(word) else {
         return Err(PriorWhy::BadShape);
     };
-    if !fields.are(numbers_of(keyword)) {
+    if !fields.has_count(field_count(keyword)) {
         return Err(PriorWhy::BadShape);
     }
     Ok(keyword)

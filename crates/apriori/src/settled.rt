@@ -85,7 +85,7 @@ fn primary_levels(rules: &Rules, facts: &CellFacts, prior: &Prior) -> Option<Lev
     ensures open { ForSome result (AreOpen facts.now.truth) }
 {
     let levels = rule_levels(rules, facts, prior.status)?;
-    Some(stated_or(facts.truth, prior.levels, levels))
+    Some(levels_in_force(facts.truth, prior.levels, levels))
 }
 
 // The levels that a cell has by the rules where it is primary.
@@ -114,11 +114,11 @@ fn wider_levels(levels: Levels, others: Option<Levels>) -> Levels
 }
 
 // The levels that are stated of a primary cell, else those that it has by the rules.
-fn stated_or(truth: i128, stated: Option<Levels>, levels: Levels) -> Levels
+fn levels_in_force(truth: i128, stated: Option<Levels>, levels: Levels) -> Levels
     requires truth { IsTruth truth }
     requires stated { ForSome stated CanBeLevels }
     requires levels { AreOpen truth levels }
-    ensures value { result ≡ cell_levels.stated_or truth stated levels }
+    ensures value { result ≡ cell_levels.levels_in_force truth stated levels }
     ensures open { AreOpen truth result }
 {
     match stated {

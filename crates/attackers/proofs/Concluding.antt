@@ -36,7 +36,7 @@ use Rattle.attackers.specs.Dropping.{is_beside, cells_beside, IsNeedBelow}
 use Rattle.attackers.specs.ExtraFaults.{is_free_at, may_be_extra, cells_fault, is_need_of, need_cells_fault, need_fault, needs_fault, guard_cells_fault, guards_fault, attacks_fault, guarding_fault, extra_fault}
 use Rattle.attackers.specs.Guarding.{guards_in_order, lines_of, IsGuardedBy, IsGuarded, is_cannot}
 use Rattle.attackers.specs.Narrowing.{IsNarrowed, IsOutcome}
-use Rattle.attackers.specs.GuardStops.{StopsAsTold}
+use Rattle.attackers.specs.GuardStops.{IsStopAsTold}
 use Rattle.attackers.specs.ExtraAcceptance.{IsGuarding}
 use Rattle.attackers.specs.AttackOrder.{attacks_of, unserved_attacks, IsThinned}
 use Rattle.attackers.specs.declared.siege.Siege.{Siege}
@@ -280,7 +280,7 @@ guarded siege first worlds (guards.CannotAgainst row cell side m) each start pro
     (subst (λ (l : List Attack). IsThinned (IsServedBy siege.cells.now siege.soles.now worlds) (attacks_of siege.cells.now siege.soles.now) l) (sym left) (unserved_thinned siege.cells.now siege.soles.now worlds protected.count))
     (left_out (case_of siege) siege.soles.now first worlds protected) (in_full siege.cells.now first each start) m is
 
-pub stopped : (siege : Siege) (first : List Bool) (worlds : List World) (stop : GuardStop) → ProtectedSays siege.system.now siege.cells.now first worlds → siege.attacks.now ≡ unserved_attacks siege.cells.now siege.soles.now worlds → StopsAsTold (case_of siege) siege.soles.now siege.prices.now siege.attacks.now first siege.limit stop → StopsAsTold (case_of siege) siege.soles.now siege.prices.now (attacks_of siege.cells.now siege.soles.now) first siege.limit stop
+pub stopped : (siege : Siege) (first : List Bool) (worlds : List World) (stop : GuardStop) → ProtectedSays siege.system.now siege.cells.now first worlds → siege.attacks.now ≡ unserved_attacks siege.cells.now siege.soles.now worlds → IsStopAsTold (case_of siege) siege.soles.now siege.prices.now siege.attacks.now first siege.limit stop → IsStopAsTold (case_of siege) siege.soles.now siege.prices.now (attacks_of siege.cells.now siege.soles.now) first siege.limit stop
 stopped siege first worlds stop protected left is =
     stops_all (case_of siege) siege.soles.now siege.prices.now first siege.limit (IsServedBy siege.cells.now siege.soles.now worlds) (attacks_of siege.cells.now siege.soles.now) siege.attacks.now stop.fault stop.against.row stop.against.extras stop.against.dropped
     (subst (λ (l : List Attack). IsThinned (IsServedBy siege.cells.now siege.soles.now worlds) (attacks_of siege.cells.now siege.soles.now) l) (sym left) (unserved_thinned siege.cells.now siege.soles.now worlds protected.count))

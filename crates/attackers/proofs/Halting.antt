@@ -21,7 +21,7 @@ use Rattle.attackers.specs.AttackOrder.{IsThinned}
 use Rattle.attackers.specs.Extras.{attack_of, hide_cells, subjects_of, IsInTurn, EachExtra}
 use Rattle.attackers.specs.Sieges.{case_of, IsExtendedUpTo, IsAsked, IsHalted, IsCannot}
 use Rattle.attackers.specs.Dropping.{is_beside, AreDropped, IsTryStop, TriesStopFor}
-use Rattle.attackers.specs.GuardStops.{list_with_fault, row_with_fault, IsGuardStop, StopsFor, StopsAsTold}
+use Rattle.attackers.specs.GuardStops.{list_with_fault, row_with_fault, IsGuardStop, StopsFor, IsStopAsTold}
 use Rattle.attackers.proofs.AllAttacks.{within_cells, within_one}
 use Rattle.attackers.proofs.Knowing.{guards_more}
 use Rattle.attackers.proofs.Thinning.{thinned_all, spot, spot_stands, spot_before, spot_order}
@@ -71,19 +71,19 @@ stops_trying siege first progress place (Size question hidden) row dropped is st
 stops_trying siege first progress place Memory row dropped is stop = (refl, refl, refl)
 
 -- the same of what is handed out
-pub told : (c : Case) (soles : List (Option ℕ)) (prices : List ℕ) (attacks : List Attack) (first : List Bool) (limit : ℕ) (stop : GuardStop) (fault : AskFault) (row : ℕ) (extras : List ExtraNeed) (dropped : List ℕ) → stop.fault ≡ fault → stop.against.row ≡ row → stop.against.extras ≡ extras → stop.against.dropped ≡ dropped → StopsFor c soles prices attacks first limit fault row extras dropped → StopsAsTold c soles prices attacks first limit stop
+pub told : (c : Case) (soles : List (Option ℕ)) (prices : List ℕ) (attacks : List Attack) (first : List Bool) (limit : ℕ) (stop : GuardStop) (fault : AskFault) (row : ℕ) (extras : List ExtraNeed) (dropped : List ℕ) → stop.fault ≡ fault → stop.against.row ≡ row → stop.against.extras ≡ extras → stop.against.dropped ≡ dropped → StopsFor c soles prices attacks first limit fault row extras dropped → IsStopAsTold c soles prices attacks first limit stop
 told c soles prices attacks first limit stop fault row extras dropped one two three four is =
     subst (λ (f : AskFault). StopsFor c soles prices attacks first limit f stop.against.row stop.against.extras stop.against.dropped) (sym one)
     (subst (λ (n : ℕ). StopsFor c soles prices attacks first limit fault n stop.against.extras stop.against.dropped) (sym two)
     (subst (λ (l : List ExtraNeed). StopsFor c soles prices attacks first limit fault row l stop.against.dropped) (sym three)
     (subst (λ (l : List ℕ). StopsFor c soles prices attacks first limit fault row extras l) (sym four) is)))
 
-pub stops_told : (siege : Siege) (first : List Bool) (progress : Progress) (fault : AskFault) (row : ℕ) (extras : List ExtraNeed) (none : List ℕ) (stop : GuardStop) → extras ≡ progress.extras → none ≡ [] → stop.fault ≡ fault → stop.against.row ≡ row_with_fault fault row → stop.against.extras ≡ list_with_fault fault extras → stop.against.dropped ≡ list_with_fault fault none → IsHalted siege first progress fault row → StopsAsTold (case_of siege) siege.soles.now siege.prices.now siege.attacks.now first siege.limit stop
+pub stops_told : (siege : Siege) (first : List Bool) (progress : Progress) (fault : AskFault) (row : ℕ) (extras : List ExtraNeed) (none : List ℕ) (stop : GuardStop) → extras ≡ progress.extras → none ≡ [] → stop.fault ≡ fault → stop.against.row ≡ row_with_fault fault row → stop.against.extras ≡ list_with_fault fault extras → stop.against.dropped ≡ list_with_fault fault none → IsHalted siege first progress fault row → IsStopAsTold (case_of siege) siege.soles.now siege.prices.now siege.attacks.now first siege.limit stop
 stops_told siege first progress fault row extras none stop same empty one two three four is =
     told (case_of siege) siege.soles.now siege.prices.now siege.attacks.now first siege.limit stop fault (row_with_fault fault row) (list_with_fault fault progress.extras) (list_with_fault fault []) one two
     (three ∙ ap (λ (l : List ExtraNeed). list_with_fault fault l) same) (four ∙ ap (λ (l : List ℕ). list_with_fault fault l) empty) (stops_for siege first progress fault row is)
 
-pub tries_told : (siege : Siege) (first : List Bool) (progress : Progress) (place : ℕ) (fault : AskFault) (row : ℕ) (extras : List ExtraNeed) (dropped : List ℕ) (stop : GuardStop) → extras ≡ progress.extras → stop.fault ≡ fault → stop.against.row ≡ row_with_fault fault row → stop.against.extras ≡ list_with_fault fault extras → stop.against.dropped ≡ list_with_fault fault dropped → IsExtendedUpTo siege place first progress → TriesStopFor siege first progress.hidden.flags fault row dropped → StopsAsTold (case_of siege) siege.soles.now siege.prices.now siege.attacks.now first siege.limit stop
+pub tries_told : (siege : Siege) (first : List Bool) (progress : Progress) (place : ℕ) (fault : AskFault) (row : ℕ) (extras : List ExtraNeed) (dropped : List ℕ) (stop : GuardStop) → extras ≡ progress.extras → stop.fault ≡ fault → stop.against.row ≡ row_with_fault fault row → stop.against.extras ≡ list_with_fault fault extras → stop.against.dropped ≡ list_with_fault fault dropped → IsExtendedUpTo siege place first progress → TriesStopFor siege first progress.hidden.flags fault row dropped → IsStopAsTold (case_of siege) siege.soles.now siege.prices.now siege.attacks.now first siege.limit stop
 tries_told siege first progress place fault row extras dropped stop same one two three four is tries =
     told (case_of siege) siege.soles.now siege.prices.now siege.attacks.now first siege.limit stop fault (row_with_fault fault row) (list_with_fault fault progress.extras) (list_with_fault fault dropped) one two
     (three ∙ ap (λ (l : List ExtraNeed). list_with_fault fault l) same) four (stops_trying siege first progress place fault row dropped is tries)

@@ -24,7 +24,7 @@ use Rattle.repair.proofs.Growing.{protects_more}
 use Rattle.attackers.proofs.Resting.{unmoved}
 use Rattle.attackers.proofs.AskedCells.{AttackSays, attack_says}
 use Rattle.attackers.specs.declared.attack.Attack.{Attack}
-use Rattle.attackers.specs.KnownCells.{is_known, is_left, without_known, is_closed, with_known, target_of, Guards, GuardsAll, IsAttack, moves_known, serves}
+use Rattle.attackers.specs.KnownCells.{is_known, is_left, without_known, is_hidden_or_known, with_known, target_of, Guards, GuardsAll, IsAttack, moves_known, serves}
 
 -- ---- which cells are hidden
 
@@ -38,7 +38,7 @@ pub length-without : (soles : List (Option ℕ)) (row : ℕ) (flags : List Bool)
 length-without soles row flags = length-map-range_with_len (is_left soles row flags) 0 (length flags)
 
 pub length-with : (soles : List (Option ℕ)) (row : ℕ) (flags : List Bool) → length (with_known soles row flags) ≡ length flags
-length-with soles row flags = length-map-range_with_len (is_closed soles row flags) 0 (length flags)
+length-with soles row flags = length-map-range_with_len (is_hidden_or_known soles row flags) 0 (length flags)
 
 pub left_says : (soles : List (Option ℕ)) (row : ℕ) (flags : List Bool) (k : ℕ) → is_hidden (without_known soles row flags) k ≡ is_left soles row flags k
 left_says soles row flags k =
@@ -49,8 +49,8 @@ left_says soles row flags k =
     shown_past (without_known soles row flags) k (omega (arith, past, length-without soles row flags))
     ∙ sym (ap (λ b. b && not (is_known soles row k)) (shown_past flags k past)))
 
-pub closed_says : (soles : List (Option ℕ)) (row : ℕ) (flags : List Bool) (k : ℕ) → k < length flags → is_hidden (with_known soles row flags) k ≡ is_closed soles row flags k
-closed_says soles row flags k within = get_or-map-range_with_len (is_closed soles row flags) 0 (length flags) k k false within (omega arith)
+pub closed_says : (soles : List (Option ℕ)) (row : ℕ) (flags : List Bool) (k : ℕ) → k < length flags → is_hidden (with_known soles row flags) k ≡ is_hidden_or_known soles row flags k
+closed_says soles row flags k within = get_or-map-range_with_len (is_hidden_or_known soles row flags) 0 (length flags) k k false within (omega arith)
 
 pub without_within : (soles : List (Option ℕ)) (row : ℕ) (flags : List Bool) → IsWithin (without_known soles row flags) flags
 without_within soles row flags = record {

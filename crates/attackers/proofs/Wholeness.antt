@@ -20,7 +20,7 @@ use Rattle.attackers.specs.declared.extra.GuardStop.{GuardStop}
 use Rattle.attackers.specs.declared.siege.Siege.{Siege}
 use Rattle.attackers.specs.Dropping.{IsNeedBelow}
 use Rattle.attackers.specs.Extras.{IsInTurn, EachExtra}
-use Rattle.attackers.specs.GuardStops.{IsGuardStop, StopsFor, StopsAsTold}
+use Rattle.attackers.specs.GuardStops.{IsGuardStop, StopsFor, IsStopAsTold}
 use Rattle.attackers.specs.Narrowing.{IsOutcome}
 use Rattle.attackers.specs.Sieges.{case_of}
 use Rattle.attackers.specs.WholeGuards.{IsWholeGuard, IsWholeNeed, IsWholeGuarded, IsWholeGuardStop}
@@ -68,6 +68,6 @@ stops_whole c soles prices attacks first signs limit (Size question hidden) row 
 stops_whole c soles prices attacks first signs limit Memory row extras dropped are is = (tt, subst (All IsWholeNeed) (sym is.1) (All-nil IsWholeNeed))
 
 -- where the relations have signs a stop has no walk, and its extra cells' reasons are in whole units
-pub told_whole : (c : Case) (soles : List (Option ℕ)) (prices : List ℕ) (attacks : List Attack) (first signs : List Bool) (limit : ℕ) (stop : GuardStop) → AreSigns c.system.relations signs → StopsAsTold c soles prices attacks first limit stop → IsWholeGuardStop stop
+pub told_whole : (c : Case) (soles : List (Option ℕ)) (prices : List ℕ) (attacks : List Attack) (first signs : List Bool) (limit : ℕ) (stop : GuardStop) → AreSigns c.system.relations signs → IsStopAsTold c soles prices attacks first limit stop → IsWholeGuardStop stop
 told_whole c soles prices attacks first signs limit stop are is =
     stops_whole c soles prices attacks first signs limit stop.fault stop.against.row stop.against.extras stop.against.dropped are is

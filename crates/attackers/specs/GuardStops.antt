@@ -49,6 +49,6 @@ StopsFor c soles prices attacks first limit (Size question hidden) row extras dr
     IsGuardStop c soles prices attacks first limit (Size question hidden) row extras dropped
 
 -- the same, as it is told
-abbrev pub StopsAsTold : Case → List (Option ℕ) → List ℕ → List Attack → List Bool → ℕ → GuardStop → Type 0
-StopsAsTold c soles prices attacks first limit stop =
+abbrev pub IsStopAsTold : Case → List (Option ℕ) → List ℕ → List Attack → List Bool → ℕ → GuardStop → Type 0
+IsStopAsTold c soles prices attacks first limit stop =
     StopsFor c soles prices attacks first limit stop.fault stop.against.row stop.against.extras stop.against.dropped

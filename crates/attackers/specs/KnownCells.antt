@@ -27,12 +27,12 @@ abbrev pub without_known : List (Option ℕ) → ℕ → List Bool → List Bool
 without_known soles row flags = map (is_left soles row flags) (range_with_len 0 (length flags))
 
 -- the cell is hidden, or the contributor knows it
-abbrev pub is_closed : List (Option ℕ) → ℕ → List Bool → ℕ → Bool
-is_closed soles row flags cell = is_hidden flags cell || is_known soles row cell
+abbrev pub is_hidden_or_known : List (Option ℕ) → ℕ → List Bool → ℕ → Bool
+is_hidden_or_known soles row flags cell = is_hidden flags cell || is_known soles row cell
 
 -- the hidden set with them
 abbrev pub with_known : List (Option ℕ) → ℕ → List Bool → List Bool
-with_known soles row flags = map (is_closed soles row flags) (range_with_len 0 (length flags))
+with_known soles row flags = map (is_hidden_or_known soles row flags) (range_with_len 0 (length flags))
 
 -- what is asked about where a contributor attacks
 abbrev pub target_of : Attack → ℕ × Side

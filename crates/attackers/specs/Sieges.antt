@@ -9,7 +9,7 @@ use Rattle.interval_audit.specs.declared.answer.Answer.{Answer}
 use Rattle.interval_audit.specs.declared.answer.Answer.TheVariants.{Reaches, Stops}
 use Rattle.interval_audit.specs.declared.answer.AskFault.{AskFault}
 use Rattle.certificate.specs.declared.certificate.WorldLine.{WorldLine}
-use Rattle.repair.specs.HidingOrder.{Case, case, IsOfKind}
+use Rattle.repair.specs.HidingOrder.{Case, protected_case, IsOfKind}
 use Rattle.repair.specs.KeptWorlds.{shown_count}
 use Rattle.repair.specs.LevelQuestions.{AreGiven, HasCause}
 use Rattle.attackers.specs.declared.attack.Attack.{Attack}
@@ -25,7 +25,7 @@ use Rattle.attackers.specs.WholeGuards.{IsWholeGuard}
 
 -- what is to be guarded
 abbrev pub case_of : Siege → Case
-case_of siege = case siege.system.now siege.cells.now
+case_of siege = protected_case siege.system.now siege.cells.now
 
 -- Guards hold against attacks: their worlds are ones for the hidden set, they stand for primary cells, and against each
 -- attack some of them serves; where the relations have signs they are in whole units.
@@ -38,7 +38,7 @@ pub record HoldGuards (c : Case) (soles : List (Option ℕ)) (flags : List Bool)
 
 -- Guarding is ready for a question: the hidden set is permitted, and there are a flag of it and a number of the scratch
 -- for each cell of the system.
-pub record IsReady (siege : Siege) (scratch : List ℤ) (progress : Progress) : Type 0 where
+pub record IsReadySiege (siege : Siege) (scratch : List ℤ) (progress : Progress) : Type 0 where
   pub long : length scratch ≡ siege.system.now.cells
   pub each : length progress.hidden.flags ≡ siege.system.now.cells
   pub permitted : IsPermitted siege.cells.now progress.hidden.flags

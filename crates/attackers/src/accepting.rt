@@ -3,7 +3,7 @@ ghost use Rattle.sdc_base.specs.Answers.{Gives};
 ghost use Rattle.sdc_base.specs.Grounds.{IsGround};
 ghost use Rattle.worlds.specs.ProtectFaults.{line_number};
 ghost use Rattle.worlds.specs.WorldFaults.{IsGivenWorld};
-ghost use Rattle.repair.specs.HidingOrder.{case, show};
+ghost use Rattle.repair.specs.HidingOrder.{protected_case, show};
 ghost use Rattle.attackers.specs.Extras as extras;
 ghost use Rattle.attackers.specs.Extras.{hide_cells};
 ghost use Rattle.attackers.specs.KnownCells as known;
@@ -53,15 +53,15 @@ pub fn accept_extra(
     requires ground { IsGround system.now cells.now hidden.now.flags }
     requires worlds { All (λ line. IsGivenWorld system.now cells.now hidden.now.flags line.world) worlds.now }
     ensures exact { Gives fault_of (λ u. u) result
-        (spec.extra_fault (case system.now cells.now) soles.now hidden.now.flags worlds.now extra.now) }
+        (spec.extra_fault (protected_case system.now cells.now) soles.now hidden.now.flags worlds.now extra.now) }
     ensures accepted { result ≡ Ok tt
-        → IsGuarding (case system.now cells.now) soles.now hidden.now.flags extra.now }
+        → IsGuarding (protected_case system.now cells.now) soles.now hidden.now.flags extra.now }
 {
-    first_fault(alloc, system, cells, soles, hidden, worlds, extra)
+    extra_cells_fault(alloc, system, cells, soles, hidden, worlds, extra)
 }
 
 // The first fault.
-fn first_fault(
+fn extra_cells_fault(
     alloc: Global,
     system: &System,
     cells: &[Cell],
@@ -72,7 +72,7 @@ fn first_fault(
 ) -> Result<(), ExtraFault>
     requires ground { IsGround system.now cells.now hidden.now.flags }
     ensures exact { Gives fault_of (λ u. u) result
-        (spec.extra_fault (case system.now cells.now) soles.now hidden.now.flags worlds.now extra.now) }
+        (spec.extra_fault (protected_case system.now cells.now) soles.now hidden.now.flags worlds.now extra.now) }
 {
     check_cells(cells, hidden.flags.as_slice(), extra.cells.as_slice())?;
     check_need_cells(cells, soles, extra.cells.as_slice(), extra.needs.as_slice())?;
@@ -203,7 +203,7 @@ fn check_guarding(
     requires needs { All (λ need. need.cell < length cells.now) extra.now.needs }
     requires subjects { All (λ need. need.subject < length cells.now) extra.now.needs }
     ensures { Gives fault_of (λ u. u) result
-        (spec.guarding_fault (case system.now cells.now) soles.now all.now.flags worlds.now extra.now) }
+        (spec.guarding_fault (protected_case system.now cells.now) soles.now all.now.flags worlds.now extra.now) }
 {
     // for the proof: read, so that it is known to be a number of 32 bits
     let _cells = system.cells;
@@ -237,7 +237,7 @@ fn check_needs(
     requires needs { All (λ need. need.cell < length cells.now) needs.now }
     requires subjects { All (λ need. need.subject < length cells.now) needs.now }
     ensures exact { Gives fault_of (λ u. u) result
-        (spec.needs_fault (case system.now cells.now) soles.now all.now.flags 0 needs.now) }
+        (spec.needs_fault (protected_case system.now cells.now) soles.now all.now.flags 0 needs.now) }
     ensures length { length scratch.new ≡ length scratch.old }
 {
     for (place, need) in needs.iter().enumerate() {
@@ -262,7 +262,7 @@ fn check_need(
     requires cell { need.now.cell < length cells.now }
     requires subject { need.now.subject < length cells.now }
     ensures exact { Gives fault_of (λ u. u) result
-        (spec.need_fault (case system.now cells.now) soles.now all.now.flags place need.now) }
+        (spec.need_fault (protected_case system.now cells.now) soles.now all.now.flags place need.now) }
     ensures length { length scratch.new ≡ length scratch.old }
 {
     let left = set_without(alloc, soles, need.row, all.flags.as_slice(), need.subject)?;
@@ -337,7 +337,7 @@ fn check_guards(
 ) -> Result<(), ExtraFault>
     requires ground { IsGround system.now cells.now all.now.flags }
     requires scratch { length scratch.old ≡ system.now.cells }
-    ensures { result ≡ spec.guards_fault (case system.now cells.now) all.now.flags 0 guards.now }
+    ensures { result ≡ spec.guards_fault (protected_case system.now cells.now) all.now.flags 0 guards.now }
 {
     for (place, line) in guards.iter().enumerate() {
         if let Err(why) = check_world(system, cells, all, &line.world, scratch) {

@@ -3,12 +3,12 @@ ghost use Rattle.sdc_base.specs.HiddenSets.{full_set, IsPermitted};
 ghost use Rattle.sdc_base.specs.Signs.{AreSigns};
 ghost use Rattle.cost_rule.specs.Costs.{AreCosted};
 ghost use Rattle.worlds.specs.ProtectFaults.{asked_of};
-ghost use Rattle.repair.specs.HidingOrder.{case, prices_of};
+ghost use Rattle.repair.specs.HidingOrder.{protected_case, prices_of};
 ghost use Rattle.repair.specs.KeptWorlds.{HasModestLevels};
 ghost use Rattle.attackers.specs.AttackOrder as order;
 ghost use Rattle.attackers.specs.KnownCells.{GuardsAll};
 ghost use Rattle.attackers.specs.Sieges.{case_of, HoldGuards, IsExtendedUpTo};
-ghost use Rattle.attackers.specs.GuardStops.{StopsAsTold};
+ghost use Rattle.attackers.specs.GuardStops.{IsStopAsTold};
 ghost use Rattle.attackers.specs.Guarding.{IsGuarded, is_cannot};
 ghost use Rattle.attackers.specs.Narrowing.{IsOutcome};
 ghost use Rattle.attackers.specs.WholeGuards.{IsWholeGuarded, IsWholeGuardStop};
@@ -82,11 +82,12 @@ pub fn guard<F: TellsCosts>(
     requires of_cells { protected.now.cells ≡ cells.now }
     requires each_flag { length protected.now.hidden.flags ≡ length cells.now }
     requires limit { 1 ≤ limit }
-    ensures guarded { IfOk result (IsGuarded (case system.now cells.now) soles.now protected.now.hidden.flags
+    ensures guarded { IfOk result (IsGuarded (protected_case system.now cells.now) soles.now protected.now.hidden.flags
         protected.now.worlds) }
-    ensures cannot { IfOk result (λ guarded. IsTrue (is_cannot guarded) ↔ ¬ GuardsAll (case system.now cells.now)
+    ensures cannot { IfOk result (λ guarded. IsTrue (is_cannot guarded)
+        ↔ ¬ GuardsAll (protected_case system.now cells.now)
         soles.now (full_set cells.now) (order.attacks_of cells.now soles.now)) }
-    ensures stopped { IfErr result (StopsAsTold (case system.now cells.now) soles.now
+    ensures stopped { IfErr result (IsStopAsTold (protected_case system.now cells.now) soles.now
         (prices_of rule.now cells.now marks.now) (order.attacks_of cells.now soles.now) protected.now.hidden.flags
         limit) }
     ensures whole { (signs : List Bool) → AreSigns system.now.relations signs
@@ -117,9 +118,9 @@ fn guard_by(
     requires of_cells { protected.now.cells ≡ cells.now }
     requires each_flag { length protected.now.hidden.flags ≡ length cells.now }
     requires limit { 1 ≤ limit }
-    ensures guarded { IfOk result (IsGuarded (case system.now cells.now) soles.now protected.now.hidden.flags
+    ensures guarded { IfOk result (IsGuarded (protected_case system.now cells.now) soles.now protected.now.hidden.flags
         protected.now.worlds) }
-    ensures stopped { IfErr result (StopsAsTold (case system.now cells.now) soles.now prices.now
+    ensures stopped { IfErr result (IsStopAsTold (protected_case system.now cells.now) soles.now prices.now
         (order.attacks_of cells.now soles.now) protected.now.hidden.flags limit) }
     ensures whole { (signs : List Bool) → AreSigns system.now.relations signs
         → IfOk result IsWholeGuarded }
@@ -163,7 +164,7 @@ fn resist_beside(
         ≡ order.unserved_attacks siege.now.cells.now siege.now.soles.now protected.now.worlds }
     ensures guarded { IfOk result (IsGuarded (case_of siege.now) siege.now.soles.now protected.now.hidden.flags
         protected.now.worlds) }
-    ensures stopped { IfErr result (StopsAsTold (case_of siege.now) siege.now.soles.now siege.now.prices.now
+    ensures stopped { IfErr result (IsStopAsTold (case_of siege.now) siege.now.soles.now siege.now.prices.now
         (order.attacks_of siege.now.cells.now siege.now.soles.now) protected.now.hidden.flags siege.now.limit) }
     ensures whole { (signs : List Bool) → AreSigns siege.now.system.now.relations signs
         → IfOk result IsWholeGuarded }
@@ -186,7 +187,7 @@ fn resist(
     requires permitted { IsPermitted siege.now.cells.now first.now.flags }
     requires asked { asked.now ≡ asked_of 0 siege.now.cells.now }
     ensures guarded { IfOk result (IsOutcome siege.now first.now.flags) }
-    ensures stopped { IfErr result (StopsAsTold (case_of siege.now) siege.now.soles.now siege.now.prices.now
+    ensures stopped { IfErr result (IsStopAsTold (case_of siege.now) siege.now.soles.now siege.now.prices.now
         siege.now.attacks.now first.now.flags siege.now.limit) }
 {
     let Ok(flags) = first.flags.as_slice().to_vec(alloc) else {
@@ -236,7 +237,7 @@ fn narrow(
         extended.guards }
     requires extended { IsExtendedUpTo siege.now (length siege.now.attacks.now) first.now.flags extended }
     ensures guarded { IfOk result (IsOutcome siege.now first.now.flags) }
-    ensures stopped { IfErr result (StopsAsTold (case_of siege.now) siege.now.soles.now siege.now.prices.now
+    ensures stopped { IfErr result (IsStopAsTold (case_of siege.now) siege.now.soles.now siege.now.prices.now
         siege.now.attacks.now first.now.flags siege.now.limit) }
 {
     let mut progress = extended;

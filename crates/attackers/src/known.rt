@@ -69,8 +69,8 @@ fn is_left(soles: &[Option<u32>], row: u32, flags: &[bool], cell: usize) -> bool
 }
 
 // Whether a cell is hidden, or the contributor knows it.
-fn is_closed(soles: &[Option<u32>], row: u32, flags: &[bool], cell: usize) -> bool
-    ensures { result ≡ spec.is_closed soles.now row flags.now cell }
+fn is_hidden_or_known(soles: &[Option<u32>], row: u32, flags: &[bool], cell: usize) -> bool
+    ensures { result ≡ spec.is_hidden_or_known soles.now row flags.now cell }
 {
     is_hidden(flags, cell) || is_known_at(soles, row, cell)
 }
@@ -86,7 +86,7 @@ pub(crate) fn with_known(
 {
     let mut more = Vec::new(alloc);
     'cells: for cell in 0..flags.len() {
-        more.push(is_closed(soles, row, flags, cell))?;
+        more.push(is_hidden_or_known(soles, row, flags, cell))?;
     }
     Ok(Hidden {
         flags: Items::new(more),

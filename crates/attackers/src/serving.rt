@@ -2,7 +2,7 @@ ghost use Rattle.std.specs.Prelude.{◌≡◌, ◌+◌, ◌<◌, [], List, Bool,
 ghost use Rattle.sdc_base.specs.HiddenSets.{is_hidden, IsPermitted};
 ghost use Rattle.repair.specs.LevelQuestions.{HasCause};
 ghost use Rattle.attackers.specs.KnownCells.{without_known, target_of, IsAttack};
-ghost use Rattle.attackers.specs.Sieges.{case_of, IsAnswerAgainst, IsReady, AreHeldBefore, IsExtendedUpTo, StaysExtended, IsRefutedAt, IsStep, AreHeldOr, IsAskedOf, IsHalted};
+ghost use Rattle.attackers.specs.Sieges.{case_of, IsAnswerAgainst, IsReadySiege, AreHeldBefore, IsExtendedUpTo, StaysExtended, IsRefutedAt, IsStep, AreHeldOr, IsAskedOf, IsHalted};
 
 use crate::asking::{ask_against, subject_against};
 use crate::attack::Attack;
@@ -47,10 +47,10 @@ pub(crate) fn guard_all(
     scratch: &mut [i128],
     progress: &mut Progress,
 ) -> Result<Option<Impossible>, Halt>
-    requires ready { IsReady siege.now scratch.old progress.old }
+    requires ready { IsReadySiege siege.now scratch.old progress.old }
     requires no_guards { progress.old.guards ≡ [] }
     requires no_extras { progress.old.extras ≡ [] }
-    ensures ready { IsReady siege.now scratch.new progress.new }
+    ensures ready { IsReadySiege siege.now scratch.new progress.new }
     ensures ok { IfOk result (λ found. AreHeldOr siege.now (length siege.now.attacks.now) progress.new found) }
     ensures extended { IfOk result (λ _. IsExtendedUpTo siege.now (length siege.now.attacks.now)
         progress.old.hidden.flags progress.new) }
@@ -74,9 +74,9 @@ fn guard_at(
     progress: &mut Progress,
 ) -> Result<Option<Impossible>, Halt>
     requires place { place < length siege.now.attacks.now }
-    requires ready { IsReady siege.now scratch.old progress.old }
+    requires ready { IsReadySiege siege.now scratch.old progress.old }
     requires held { AreHeldBefore siege.now place progress.old }
-    ensures ready { IsReady siege.now scratch.new progress.new }
+    ensures ready { IsReadySiege siege.now scratch.new progress.new }
     ensures extended { StaysExtended siege.now place progress.old progress.new }
     ensures ok { IfOk result (λ found. AreHeldOr siege.now (place + 1) progress.new found) }
     ensures err { IfErr result (λ halt. IsAskedOf siege.now progress.new.hidden.flags halt.fault halt.row place) }
@@ -101,9 +101,9 @@ fn guard_once(
     progress: &mut Progress,
 ) -> Result<Step, Halt>
     requires place { place < length siege.now.attacks.now }
-    requires ready { IsReady siege.now scratch.old progress.old }
+    requires ready { IsReadySiege siege.now scratch.old progress.old }
     requires held { AreHeldBefore siege.now place progress.old }
-    ensures ready { IsReady siege.now scratch.new progress.new }
+    ensures ready { IsReadySiege siege.now scratch.new progress.new }
     ensures extended { StaysExtended siege.now place progress.old progress.new }
     ensures ok { IfOk result (λ step. IsStep siege.now place progress.old progress.new step) }
     ensures err { IfErr result (λ halt. IsAskedOf siege.now progress.new.hidden.flags halt.fault halt.row place) }
@@ -168,11 +168,11 @@ fn step_by(
     scratch: &mut [i128],
     progress: &mut Progress,
 ) -> Result<Step, Memory>
-    requires ready { IsReady siege.now scratch.old progress.old }
+    requires ready { IsReadySiege siege.now scratch.old progress.old }
     requires held { AreHeldBefore siege.now place progress.old }
     requires stands { slice_get siege.now.attacks.now place ≡ Some attack }
     requires answered { IsAnswerAgainst (case_of siege.now) siege.now.soles.now progress.old.hidden.flags attack answer }
-    ensures ready { IsReady siege.now scratch.new progress.new }
+    ensures ready { IsReadySiege siege.now scratch.new progress.new }
     ensures extended { StaysExtended siege.now place progress.old progress.new }
     ensures ok { IfOk result (λ step. IsStep siege.now place progress.old progress.new step) }
     ensures err { OnErr result (progress.new.hidden.flags ≡ progress.old.hidden.flags) }
@@ -202,11 +202,11 @@ fn extend(
     scratch: &mut [i128],
     progress: &mut Progress,
 ) -> Result<Step, Memory>
-    requires ready { IsReady siege.now scratch.old progress.old }
+    requires ready { IsReadySiege siege.now scratch.old progress.old }
     requires held { AreHeldBefore siege.now place progress.old }
     requires refuted { IsRefutedAt (case_of siege.now) siege.now.soles.now siege.now.attacks.now
         progress.old.hidden.flags place attack multipliers }
-    ensures ready { IsReady siege.now scratch.new progress.new }
+    ensures ready { IsReadySiege siege.now scratch.new progress.new }
     ensures extended { StaysExtended siege.now place progress.old progress.new }
     ensures ok { IfOk result (λ step. IsStep siege.now place progress.old progress.new step) }
     ensures err { OnErr result (progress.new.hidden.flags ≡ progress.old.hidden.flags) }

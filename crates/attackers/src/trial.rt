@@ -39,7 +39,7 @@ pub(crate) fn ask_anew(
 {
     let mut news = Items::empty(alloc);
     'places: for place in 0..siege.attacks.len() {
-        let renewal = renew(alloc, siege, place, cell, hidden, guards, &mut news)?;
+        let renewal = renew_attack(alloc, siege, place, cell, hidden, guards, &mut news)?;
         if let Some(need) = renewal {
             return Ok(Trial::Refused(need));
         }
@@ -48,7 +48,7 @@ pub(crate) fn ask_anew(
 }
 
 // Asks about one attack again, with a cell shown, where no kept world serves that doesn't move it.
-fn renew(
+fn renew_attack(
     alloc: Global,
     siege: &Siege<'_>,
     place: usize,

@@ -16,7 +16,7 @@ use Rattle.attackers.specs.Alone.{AreSoles}
 use Rattle.attackers.specs.AttackOrder.{attacks_of}
 use Rattle.attackers.specs.ExtraFaults.{extra_fault}
 use Rattle.attackers.specs.Guarding.{IsGuarded, lines_of}
-use Rattle.attackers.specs.GuardStops.{StopsFor, StopsAsTold}
+use Rattle.attackers.specs.GuardStops.{StopsFor, IsStopAsTold}
 use Rattle.attackers.specs.Laws.{CanBeSaid}
 use Rattle.attackers.specs.WholeGuards.{IsWholeAgainst, IsWholeGuarded, IsWholeGuardStop}
 use Rattle.attackers.specs.declared.extra.Against.{Against}
@@ -60,7 +60,7 @@ answer-comes c prices soles limit protected certificate answer (Err unguarded.Me
 
 -- and so is a stop
 pub stop-comes : (c : Case) (prices : List ℕ) (soles : List (Option ℕ)) (limit : ℕ) (protected : HiddenSet) (certificate : Certificate) (stop : GuardStop) (why : Unguarded)
-    → StopsAsTold c soles prices (attacks_of c.cells soles) protected.hidden.flags limit stop → IsStopOf c certificate protected.hidden.flags stop why
+    → IsStopAsTold c soles prices (attacks_of c.cells soles) protected.hidden.flags limit stop → IsStopOf c certificate protected.hidden.flags stop why
     → ComesToGuard c prices soles limit protected certificate (Err why)
 stop-comes c prices soles limit protected certificate stop (unguarded.CannotAgainst row cell side multipliers) stops is = absurd is
 stop-comes c prices soles limit protected certificate stop (unguarded.Undecided stopped against) stops is =

@@ -3,7 +3,7 @@ ghost use Rattle.apriori.specs.CellLevels.{HasLevelsInRange};
 ghost use Rattle.attackers.specs.Alone.{TellFrequencies};
 ghost use Rattle.cost_rule.specs.Costs.{AreCosted, IsTold};
 ghost use Rattle.linked_tables.specs.BookCells.{cells as cells_in};
-ghost use Rattle.repair.specs.HidingOrder.{case, prices_of};
+ghost use Rattle.repair.specs.HidingOrder.{protected_case, prices_of};
 ghost use Rattle.sdc_base.specs.Signs.{AreSigns};
 ghost use Rattle.cell_guards.specs.Guards.{IsCertified, IsGuardOf, HasExtraText};
 ghost use Rattle.cell_guards.specs.GuardParts.{IsMadeOf, IsStopOf};
@@ -109,9 +109,9 @@ pub fn guard_cells(
     requires levels { All HasLevelsInRange cells.now }
     requires told { TellFrequencies book.now rows.now }
     requires fewer_than_2_32 { length rows.now < 2 ^ 32 }
-    requires certified { IsCertified (case system.now cells.now) protected.now certificate }
+    requires certified { IsCertified (protected_case system.now cells.now) protected.now certificate }
     requires limit { 1 ≤ limit }
-    ensures outcome { IsGuardOf book.now rows.now (case system.now cells.now)
+    ensures outcome { IsGuardOf book.now rows.now (protected_case system.now cells.now)
         (prices_of cost cells.now book.now.marks) limit protected.now certificate result }
     ensures text { IfOk result HasExtraText }
     ensures whole { (signs : List Bool) → AreSigns system.now.relations signs → IsWholeOutcome result }
@@ -152,9 +152,9 @@ fn guard_by<F: TellsCosts + Drop>(
     requires levels { All HasLevelsInRange cells.now }
     requires told { TellFrequencies book.now rows.now }
     requires fewer_than_2_32 { length rows.now < 2 ^ 32 }
-    requires certified { IsCertified (case system.now cells.now) protected.now certificate }
+    requires certified { IsCertified (protected_case system.now cells.now) protected.now certificate }
     requires limit { 1 ≤ limit }
-    ensures outcome { IsGuardOf book.now rows.now (case system.now cells.now)
+    ensures outcome { IsGuardOf book.now rows.now (protected_case system.now cells.now)
         (prices_of cost cells.now book.now.marks) limit protected.now certificate result }
     ensures text { IfOk result HasExtraText }
     ensures whole { (signs : List Bool) → AreSigns system.now.relations signs → IsWholeOutcome result }
@@ -219,7 +219,7 @@ fn stopped_by(
     stop: GuardStop,
 ) -> Unguarded
     requires { length cells.now ≡ system.now.cells }
-    ensures { IsStopOf (case system.now cells.now) certificate hidden.now.flags stop result }
+    ensures { IsStopOf (protected_case system.now cells.now) certificate hidden.now.flags stop result }
 {
     let Ok(shown) = shown_again(alloc, system, cells, &certificate, hidden) else {
         return Unguarded::Memory;

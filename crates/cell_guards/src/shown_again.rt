@@ -3,7 +3,7 @@ ghost use Rattle.sdc_base.specs.Kinds.{is_primary};
 ghost use Rattle.sdc_base.specs.Trails.{corners_of};
 ghost use Rattle.attackers.specs.Dropping.{cells_beside, is_beside};
 ghost use Rattle.repair.specs.HidingOrder as order;
-ghost use Rattle.repair.specs.HidingOrder.{case, hide};
+ghost use Rattle.repair.specs.HidingOrder.{protected_case, hide};
 ghost use Rattle.cell_guards.specs.ShownAgain as spec;
 
 use crate::sets::{hide_each, hide_one};
@@ -22,7 +22,7 @@ pub(crate) fn shown_again(
 ) -> Result<Items<u32>, Memory>
     requires { length cells.now ≡ system.now.cells }
     ensures { IfOk result (λ shown. shown
-        ≡ spec.shown_again (case system.now cells.now) certificate.now hidden.now.flags) }
+        ≡ spec.shown_again (protected_case system.now cells.now) certificate.now hidden.now.flags) }
 {
     let mut flags = primary_flags(alloc, cells)?;
     hide_corners(&mut flags, certificate.steps.as_slice());

@@ -7,7 +7,7 @@ use Rattle.sdc_base.specs.declared.cell.Kind.TheVariants.{Primary, Free, Fixed}
 use Rattle.sdc_base.specs.declared.facts.Levels.{Levels}
 use Rattle.sdc_base.specs.declared.rule.Rule.{Rule}
 use Rattle.sdc_base.specs.declared.rule.Rules.{Rules}
-use Rattle.apriori.specs.CellLevels.{rule_levels, stated_or}
+use Rattle.apriori.specs.CellLevels.{rule_levels, levels_in_force}
 use Rattle.apriori.specs.CellLevels.{is_primary as is_primary_by}
 use Rattle.apriori.specs.Settling.{SettledCell}
 use Rattle.apriori.specs.declared.prior.Status.{Status}
@@ -60,7 +60,7 @@ declared-unsafe rules cell None stated none primary =
 
 pub unnamed_are_declared : UnnamedAreDeclared
 unnamed_are_declared rules cell prior kind none =
-    declared-unsafe rules cell prior.status (stated_or cell.truth prior.levels) none (primary-is (is_primary_by rules cell prior) (cell.freq == 0) (is_some prior.keep) kind)
+    declared-unsafe rules cell prior.status (levels_in_force cell.truth prior.levels) none (primary-is (is_primary_by rules cell prior) (cell.freq == 0) (is_some prior.keep) kind)
 
 none-levels : (stated : Levels → Levels) (truth : ℤ) (up : Option ℤ) → is_some (option_map stated (option_map (levels_up_to truth) up)) ≡ false → up ≡ None
 none-levels stated truth None h = refl
@@ -77,7 +77,7 @@ other-is false empty kept h = refl
 
 pub named_are_declared : NamedAreDeclared
 named_are_declared rules cell prior kind some =
-    declared-safe rules cell prior.status (stated_or cell.truth prior.levels) some (other-is (is_primary_by rules cell prior) (cell.freq == 0) (is_some prior.keep) kind)
+    declared-safe rules cell prior.status (levels_in_force cell.truth prior.levels) some (other-is (is_primary_by rules cell prior) (cell.freq == 0) (is_some prior.keep) kind)
 
 -- the primary cells of a listing are those of its settled cells
 pub count-primary : (first : ℕ) (called : List Name) (figures : List Figures) (settled : List SettledCell) → length figures ≡ length called → length settled ≡ length called

@@ -14,7 +14,7 @@ job_named words = None
 
 -- The answer to the name of a job whose files come to a listing or to a first fault: the listing, or that fault. Want of
 -- memory and faults of the shelf say nothing of them.
-abbrev pub AnswersListing : Result (List ℕ) Fault → Result (Vec ℕ Global) ListStop → Type 0
-AnswersListing meant (Ok bytes) = meant ≡ Ok bytes.items
-AnswersListing meant (Err stop.Usage) = ⊥
-AnswersListing meant (Err (stop.Inputs input)) = Fails (stopped_for input) meant
+abbrev pub IsListingAnswer : Result (List ℕ) Fault → Result (Vec ℕ Global) ListStop → Type 0
+IsListingAnswer meant (Ok bytes) = meant ≡ Ok bytes.items
+IsListingAnswer meant (Err stop.Usage) = ⊥
+IsListingAnswer meant (Err (stop.Inputs input)) = Fails (stopped_for input) meant

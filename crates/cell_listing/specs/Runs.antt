@@ -3,18 +3,18 @@ use Rattle.std.specs.Prelude.{◌≡◌, ℕ, List, Result, Err, IfOk, Vec}
 use Rattle.std.specs.declared.alloc.Global.{Global}
 use Rattle.sdc_base.specs.WhereTold.{WhereTold}
 use Rattle.office_io.specs.Shelves.{ShelfState}
-use Rattle.job_inputs.specs.Looks.{ComesTo as InputsComeTo}
+use Rattle.job_inputs.specs.Looks.{InputsComeTo}
 use Rattle.job_inputs.specs.ReadFiles.{limit, output_limit}
 use Rattle.job_inputs.specs.Reading.{HasCause, HasComeTo, HasOnlyLooked}
 use Rattle.job_inputs.specs.SettledJobs.{SettledInputs}
 use Rattle.job_inputs.specs.SoundJobs.{AreSound}
 use Rattle.job_inputs.specs.declared.purpose.Purpose.TheVariants as purpose
 use Rattle.job_inputs.specs.declared.stop.InputStop.{InputStop}
-use Rattle.job_check.specs.Reading.{ComesTo as ReleaseComesTo}
+use Rattle.job_check.specs.Reading.{ReleaseComesTo}
 use Rattle.job_check.specs.ReleaseFiles.{ReleasedFiles, released_of}
 use Rattle.job_check.specs.declared.stop.CheckStop.{CheckStop}
 use Rattle.job_check.specs.declared.stop.CheckStop.TheVariants as check
-use Rattle.cell_listing.specs.Calls.{AnswersListing}
+use Rattle.cell_listing.specs.Calls.{IsListingAnswer}
 use Rattle.cell_listing.specs.Listings.{listing_in, listing_of}
 use Rattle.cell_listing.specs.Releases.{AnswersReleased, IsListingOf}
 use Rattle.cell_listing.specs.declared.calls.ListStop.{ListStop}
@@ -23,7 +23,7 @@ use Rattle.cell_listing.specs.declared.calls.ListStop.TheVariants as list
 -- A listing of the job of this name: its answer is what the told files come to, it comes to files in their order, and
 -- the shelf was only looked at.
 pub record IsListingRun (name : List ℕ) (answer : Result (Vec ℕ Global) ListStop) (old new : ShelfState) : Type 0 where
-  pub told : WhereTold old.files (λ fs. AnswersListing (listing_in fs name) answer)
+  pub told : WhereTold old.files (λ fs. IsListingAnswer (listing_in fs name) answer)
   pub came_to : WhereTold old.files (λ fs. (e : InputStop) → answer ≡ Err (list.Inputs e)
       → HasComeTo {X = Unit {0}} (InputsComeTo purpose.Release fs name) (Err e) fs new)
   pub shelf : HasOnlyLooked limit old new

@@ -2,7 +2,7 @@ ghost use Rattle.std.specs.Prelude.{◌≡◌, ◌<◌, ◌+◌, ◌-◌, ◌^�
 ghost use Rattle.csv.specs.Writing.{default_writer, writer_setup, fields_written, next_sep};
 ghost use Rattle.csv.specs.Writing as spec;
 ghost use Rattle.sdc_base.specs.TableText.{line_text};
-ghost use Rattle.release_writer.specs.Lines.{IsReady, AppendsText, bytes_written};
+ghost use Rattle.release_writer.specs.Lines.{IsReadyWriter, AppendsText, bytes_written};
 
 use csv::{Writer, WriterBuilder};
 use sdc_base::{Memory, Text};
@@ -10,7 +10,7 @@ use std::alloc::Global;
 
 /// A csv writer that has written nothing.
 pub(crate) fn empty_writer(alloc: Global) -> Writer<Vec<u8>>
-    ensures ready { IsReady result }
+    ensures ready { IsReadyWriter result }
     ensures text { bytes_written result ≡ Some [] }
 {
     WriterBuilder::new().from_writer(Vec::new(alloc))
@@ -18,9 +18,9 @@ pub(crate) fn empty_writer(alloc: Global) -> Writer<Vec<u8>>
 
 /// Writes a line of fields, of which there are two or more.
 pub(crate) fn write_line(writer: &mut Writer<Vec<u8>>, fields: &[Text]) -> Result<(), Memory>
-    requires ready { IsReady writer.old }
+    requires ready { IsReadyWriter writer.old }
     requires at_least_two { 1 < length fields.now }
-    ensures ready { OnOk result (IsReady writer.new) }
+    ensures ready { OnOk result (IsReadyWriter writer.new) }
     ensures text { OnOk result (AppendsText writer.old writer.new (line_text fields.now)) }
 {
     'fields: for field in fields {
@@ -58,7 +58,7 @@ fn put_field(writer: &mut Writer<Vec<u8>>, field: &[u8]) -> Result<(), Memory>
 fn end_line(writer: &mut Writer<Vec<u8>>) -> Result<(), Memory>
     requires setup { writer_setup writer.old ≡ default_writer }
     requires at_least_two { 1 < fields_written writer.old }
-    ensures ready { OnOk result (IsReady writer.new) }
+    ensures ready { OnOk result (IsReadyWriter writer.new) }
     ensures text { OnOk result (AppendsText writer.old writer.new (10 ∷ [])) }
 {
     match writer.end_record() {

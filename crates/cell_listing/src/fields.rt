@@ -4,7 +4,7 @@ ghost use Rattle.sdc_base.specs.Truths.{IsTruth};
 ghost use Rattle.sdc_base.specs.TableText.{codes_of_place};
 ghost use Rattle.sdc_base.specs.Trees.{code_in};
 ghost use Rattle.apriori.specs.Settling.{view_of_cell};
-ghost use Rattle.job_inputs.specs.SoundJobs.{IsSound};
+ghost use Rattle.job_inputs.specs.SoundJobs.{IsSoundJob};
 ghost use Rattle.cell_listing.specs.Givens.{listed_as, IsGiven};
 ghost use Rattle.cell_listing.specs.Columns as spec;
 
@@ -105,7 +105,7 @@ pub(crate) fn cell_fields(
     book: &Book,
     given: &Given<'_>,
 ) -> Result<Items<Text>, Memory>
-    requires sound { IsSound described.now }
+    requires sound { IsSoundJob described.now }
     requires given { IsGiven described.now given.now }
     ensures at_least_two { IfOk result (λ fields. 1 < length fields) }
     ensures fields { IfOk result (λ fields. fields
@@ -161,7 +161,7 @@ fn standing_fields(
     described: &DescribedJob,
     given: &Given<'_>,
 ) -> Result<Items<Text>, Memory>
-    requires sound { IsSound described.now }
+    requires sound { IsSoundJob described.now }
     requires given { IsGiven described.now given.now }
     ensures { IfOk result (λ fields. fields ≡ spec.standing_fields described.now (listed_as given.now)) }
 {

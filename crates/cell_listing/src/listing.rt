@@ -1,6 +1,6 @@
 ghost use Rattle.std.specs.Prelude.{◌≡◌, ◌<◌, IfOk, OnOk, length};
 ghost use Rattle.sdc_base.specs.TableText.{line_text};
-ghost use Rattle.release_writer.specs.Lines.{IsReady, AppendsText, bytes_written};
+ghost use Rattle.release_writer.specs.Lines.{IsReadyWriter, AppendsText, bytes_written};
 ghost use Rattle.job_inputs.specs.SettledJobs.{IsReadyJob, IsSettledOf, SettledInputs};
 ghost use Rattle.cell_listing.specs.ListedCells.{told_cells};
 ghost use Rattle.cell_listing.specs.Givens.{AreFieldsAt};
@@ -43,8 +43,8 @@ pub fn listing_for(alloc: Global, job: &SettledJob) -> Result<Vec<u8>, Memory>
 
 // Writes the line of the columns' names.
 fn write_names(alloc: Global, writer: &mut Writer<Vec<u8>>, job: &SettledJob) -> Result<(), Memory>
-    requires ready { IsReady writer.old }
-    ensures ready { OnOk result (IsReady writer.new) }
+    requires ready { IsReadyWriter writer.old }
+    ensures ready { OnOk result (IsReadyWriter writer.new) }
     ensures text { OnOk result (AppendsText writer.old writer.new (line_text (spec.column_names job.now.described))) }
 {
     let names = column_names(alloc, &job.described)?;
@@ -53,9 +53,9 @@ fn write_names(alloc: Global, writer: &mut Writer<Vec<u8>>, job: &SettledJob) ->
 
 // Writes the lines of the cells.
 fn write_cells(alloc: Global, writer: &mut Writer<Vec<u8>>, job: &SettledJob) -> Result<(), Memory>
-    requires writer { IsReady writer.old }
+    requires writer { IsReadyWriter writer.old }
     requires ready { IsReadyJob job.now }
-    ensures ready { OnOk result (IsReady writer.new) }
+    ensures ready { OnOk result (IsReadyWriter writer.new) }
     ensures text { OnOk result (AppendsText writer.old writer.new
         (lines_of job.now.described job.now.book.trees (told_cells job.now))) }
 {

@@ -1,5 +1,5 @@
 ghost use Rattle.std.specs.Prelude.{◌≡◌, IfOk};
-ghost use Rattle.job_inputs.specs.Looks.{ComesTo};
+ghost use Rattle.job_inputs.specs.Looks.{InputsComeTo};
 ghost use Rattle.job_inputs.specs.ReadFiles.{limit};
 ghost use Rattle.job_inputs.specs.Reading.{IsReadFrom, IsSoundByItsType};
 ghost use Rattle.job_inputs.specs.SettledJobs.{SettledInputs};
@@ -21,7 +21,8 @@ use std::alloc::Global;
 #[tactic(auto, unfolding(crate::specs::Listings::listing_in))]
 pub fn list_job<S: Shelf>(alloc: Global, shelf: &mut S, name: &Text) -> Result<Vec<u8>, InputStop>
     ensures looked { IsReadFrom (λ bytes. bytes.items) (λ fs. listing_in fs name.now)
-        (λ fs. ComesTo Purpose.Release fs name.now) IsSoundByItsType limit result (S.state shelf.old) (S.state shelf.new) }
+        (λ fs. InputsComeTo Purpose.Release fs name.now) IsSoundByItsType limit result
+        (S.state shelf.old) (S.state shelf.new) }
     // Of a shelf that tells nothing too.
     ensures listed { IfOk result (λ bytes. (settled : SettledInputs) × (bytes.items ≡ listing_of settled)
         × AreSound settled.inputs) }

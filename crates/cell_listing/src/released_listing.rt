@@ -1,6 +1,6 @@
 ghost use Rattle.std.specs.Prelude.{◌≡◌, ◌<◌, ◌++◌, ◌≤◌, IfOk, OnOk, flat_map, length};
 ghost use Rattle.sdc_base.specs.TableText.{line_text};
-ghost use Rattle.release_writer.specs.Lines.{IsReady, AppendsText};
+ghost use Rattle.release_writer.specs.Lines.{IsReadyWriter, AppendsText};
 ghost use Rattle.job_check.specs.Accepted.{IsAcceptedAs};
 ghost use Rattle.job_check.specs.Reading.{IsReadyRelease};
 ghost use Rattle.job_check.specs.ReleaseFiles.{ReleasedFiles};
@@ -54,8 +54,8 @@ fn write_names(
     writer: &mut Writer<Vec<u8>>,
     read: &ReadRelease,
 ) -> Result<(), Memory>
-    requires ready { IsReady writer.old }
-    ensures ready { OnOk result (IsReady writer.new) }
+    requires ready { IsReadyWriter writer.old }
+    ensures ready { OnOk result (IsReadyWriter writer.new) }
     ensures text { OnOk result (AppendsText writer.old writer.new
         (line_text (columns.column_names read.now.job.described ++ spec.outcome_names))) }
 {
@@ -81,10 +81,10 @@ fn write_cells(
     read: &ReadRelease,
     cells: &ReleasedCells,
 ) -> Result<(), Memory>
-    requires writer { IsReady writer.old }
+    requires writer { IsReadyWriter writer.old }
     requires ready { IsReadyRelease read.now }
     requires cells { AreReleasedIn read.now cells.now }
-    ensures ready { OnOk result (IsReady writer.new) }
+    ensures ready { OnOk result (IsReadyWriter writer.new) }
     ensures text { OnOk result (AppendsText writer.old writer.new
         (flat_map (released_line read.now.job.described read.now.job.book.trees
         (spec.outcome_at read.now.certificate read.now.extra (amounts_in cells.now))) (told_cells read.now.job))) }

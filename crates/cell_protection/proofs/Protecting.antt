@@ -12,7 +12,7 @@ use Rattle.linked_tables.specs.declared.mark.Mark.{Mark}
 use Rattle.modular_plan.specs.Plans.{trail_of}
 use Rattle.modular_plan.specs.StepLaws.{IsWholeStep}
 use Rattle.sdc_base.specs.Trails.{corners_of}
-use Rattle.repair.specs.HidingOrder.{Case, case, hide_subjects, planned_set, prices_of}
+use Rattle.repair.specs.HidingOrder.{Case, protected_case, hide_subjects, planned_set, prices_of}
 use Rattle.repair.specs.Stops.{StopsFor}
 use Rattle.repair.specs.Verdicts.{IsVerdict}
 use Rattle.repair.specs.declared.stopped.Stopped.{Stopped}
@@ -40,9 +40,9 @@ outcome-by c prices method steps limit (verdict.Cannot cell side multipliers) is
 
 -- that certificate has a text
 pub text-by : (book : BookView) (system : System) (cells : List Cell) (prices : List ℕ) (method : Method) (steps : List PlanStep) (one : Verdict) → AreNarrow book.tables → AllByRecursion (IsWholeStep book cells) steps
-    → IsVerdict (case system cells) prices (planned_from (case system cells) steps) one → HasText (protection_by method (case system cells) steps one)
+    → IsVerdict (protected_case system cells) prices (planned_from (protected_case system cells) steps) one → HasText (protection_by method (protected_case system cells) steps one)
 text-by book system cells prices method steps (verdict.Protected protected repairs needs) narrow whole is =
-    spellable book method system cells prices (planned_from (case system cells) steps) (hide_subjects (planned_from (case system cells) steps) repairs) protected steps repairs needs narrow.at_most_8_tables narrow.each whole is.0 is.1
+    spellable book method system cells prices (planned_from (protected_case system cells) steps) (hide_subjects (planned_from (protected_case system cells) steps) repairs) protected steps repairs needs narrow.at_most_8_tables narrow.each whole is.0 is.1
 text-by book system cells prices method steps (verdict.Cannot cell side multipliers) narrow whole is = tt
 
 -- the steps and the prices are those by a job's own kind of costs, before the plan marked any cell
@@ -53,20 +53,20 @@ moved-prices : (cells : List Cell) (kind cost : CostKind) (old new marks : List 
 moved-prices cells kind cost old new marks same are facts = ap (λ (one : CostKind). prices_of one cells marks) same ∙ ap (λ (ms : List Mark). prices_of cost cells ms) are ∙ same-prices cost cells old new facts
 
 pub outcome-moves : (system : System) (cells : List Cell) (kind cost : CostKind) (book : BookView) (new marks : List Mark) (method : Method) (passes limit : ℕ) (steps : List PlanStep) (one : Verdict) → kind ≡ cost → marks ≡ new → map (λ mark. mark.facts) new ≡ map (λ mark. mark.facts) book.marks
-    → passes ≡ passes_of method → steps ≡ trail_of book cells kind passes → IsVerdict (case system cells) (prices_of kind cells marks) (planned_set cells (corners_of steps)) one
-    → IsProtectionOf (case system cells) (prices_of cost cells book.marks) method (trail_of book cells cost (passes_of method)) limit (protection_by method (case system cells) steps one)
+    → passes ≡ passes_of method → steps ≡ trail_of book cells kind passes → IsVerdict (protected_case system cells) (prices_of kind cells marks) (planned_set cells (corners_of steps)) one
+    → IsProtectionOf (protected_case system cells) (prices_of cost cells book.marks) method (trail_of book cells cost (passes_of method)) limit (protection_by method (protected_case system cells) steps one)
 outcome-moves system cells kind cost book new marks method passes limit steps one same are facts by made is =
     let prices = prices_of cost cells book.marks in
-    subst (λ (all : List PlanStep). IsProtectionOf (case system cells) prices method all limit (protection_by method (case system cells) steps one)) (moved-steps book cells kind cost passes (passes_of method) steps same by made)
-    (outcome-by (case system cells) prices method steps limit one
-    (subst (λ (all : List ℕ). IsVerdict (case system cells) all (planned_set cells (corners_of steps)) one) (moved-prices cells kind cost book.marks new marks same are facts) is))
+    subst (λ (all : List PlanStep). IsProtectionOf (protected_case system cells) prices method all limit (protection_by method (protected_case system cells) steps one)) (moved-steps book cells kind cost passes (passes_of method) steps same by made)
+    (outcome-by (protected_case system cells) prices method steps limit one
+    (subst (λ (all : List ℕ). IsVerdict (protected_case system cells) all (planned_set cells (corners_of steps)) one) (moved-prices cells kind cost book.marks new marks same are facts) is))
 
 pub stop-moves : (system : System) (cells : List Cell) (kind cost : CostKind) (book : BookView) (new marks : List Mark) (method : Method) (passes limit : ℕ) (steps : List PlanStep) (stopped : Stopped) → kind ≡ cost → marks ≡ new → map (λ mark. mark.facts) new ≡ map (λ mark. mark.facts) book.marks
-    → passes ≡ passes_of method → steps ≡ trail_of book cells kind passes → StopsFor (case system cells) (prices_of kind cells marks) (planned_set cells (corners_of steps)) limit stopped.fault stopped.repairs stopped.shown
-    → StopsFor (case system cells) (prices_of cost cells book.marks) (planned_set cells (corners_of (trail_of book cells cost (passes_of method)))) limit stopped.fault stopped.repairs stopped.shown
+    → passes ≡ passes_of method → steps ≡ trail_of book cells kind passes → StopsFor (protected_case system cells) (prices_of kind cells marks) (planned_set cells (corners_of steps)) limit stopped.fault stopped.repairs stopped.shown
+    → StopsFor (protected_case system cells) (prices_of cost cells book.marks) (planned_set cells (corners_of (trail_of book cells cost (passes_of method)))) limit stopped.fault stopped.repairs stopped.shown
 stop-moves system cells kind cost book new marks method passes limit steps stopped same are facts by made is =
-    subst (λ (prices : List ℕ). StopsFor (case system cells) prices (planned_set cells (corners_of (trail_of book cells cost (passes_of method)))) limit stopped.fault stopped.repairs stopped.shown) (moved-prices cells kind cost book.marks new marks same are facts)
-    (subst (λ (all : List PlanStep). StopsFor (case system cells) (prices_of kind cells marks) (planned_set cells (corners_of all)) limit stopped.fault stopped.repairs stopped.shown) (moved-steps book cells kind cost passes (passes_of method) steps same by made) is)
+    subst (λ (prices : List ℕ). StopsFor (protected_case system cells) prices (planned_set cells (corners_of (trail_of book cells cost (passes_of method)))) limit stopped.fault stopped.repairs stopped.shown) (moved-prices cells kind cost book.marks new marks same are facts)
+    (subst (λ (all : List PlanStep). StopsFor (protected_case system cells) (prices_of kind cells marks) (planned_set cells (corners_of all)) limit stopped.fault stopped.repairs stopped.shown) (moved-steps book cells kind cost passes (passes_of method) steps same by made) is)
 
 -- what holds of a result, where something else of it does
 pub if-ok : {T E : Type 0} (P Q : T → Type 0) (r : Result T E) → ((x : T) → P x → Q x) → IfOk r P → IfOk r Q

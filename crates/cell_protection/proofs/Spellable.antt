@@ -27,7 +27,7 @@ use Rattle.worlds.proofs.TrueTests.{true_unless}
 use Rattle.certificate.specs.Numerals.{ascends_from}
 use Rattle.certificate.specs.Spelling.{IsRefutationSpellable, IsSpellable, IsStepSpellable, IsWorldSpellable}
 use Rattle.modular_plan.specs.StepLaws.{IsWholeStep}
-use Rattle.repair.specs.HidingOrder.{Case, case, hide}
+use Rattle.repair.specs.HidingOrder.{Case, protected_case, hide}
 use Rattle.repair.specs.KeptWorlds.{AreServed}
 use Rattle.repair.specs.Repairs.{EachRepair, IsJustified}
 use Rattle.repair.specs.Verdicts.{AreNeeds, IsProtected}
@@ -126,11 +126,11 @@ worlds-spelled c flags (one ∷ asked) (world ∷ worlds) served = (
 -- the certificate of a hidden set that protects has a text
 pub spellable : (book : BookView) (method : Method) (system : System) (cells : List Cell) (prices : List ℕ) (planned larger : List Bool) (protected : Protection) (steps : List PlanStep) (repairs needs : List Refuted)
     → length book.tables ≤ 8 → All (λ table. (1 ≤ length table) × (length table ≤ 8)) book.tables → AllByRecursion (IsWholeStep book cells) steps
-    → IsProtected (case system cells) prices planned protected repairs → AreNeeds (case system cells) protected.hidden.flags larger needs → IsSpellable (certificate_made method system cells protected steps repairs needs)
+    → IsProtected (protected_case system cells) prices planned protected repairs → AreNeeds (protected_case system cells) protected.hidden.flags larger needs → IsSpellable (certificate_made method system cells protected steps repairs needs)
 spellable book method system cells prices planned larger protected steps repairs needs few narrow whole is are = record {
   hidden = filter-ascends (is_hidden protected.hidden.flags) 0 0 system.cells (omega arith);
   steps = steps-spelled book cells steps few narrow whole;
-  repairs = repairs-spelled (case system cells) planned repairs is.are_repairs.justified;
+  repairs = repairs-spelled (protected_case system cells) planned repairs is.are_repairs.justified;
   needs = by-all IsRefutationSpellable needs (λ k d within. refutation-spelled system cells _ _ (are.are_needs k d within).refutes);
-  worlds = worlds-spelled (case system cells) protected.hidden.flags (asked_of 0 cells) protected.worlds is.served;
+  worlds = worlds-spelled (protected_case system cells) protected.hidden.flags (asked_of 0 cells) protected.worlds is.served;
 }

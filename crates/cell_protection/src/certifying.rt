@@ -25,7 +25,7 @@ pub(crate) fn certificate_for(
         ≡ certificate_made method system.now cells.now protected.now trail.steps repairs needs) }
 {
     let count = system.cells;
-    let hidden = numbers_of(alloc, count, protected.hidden().flags.as_slice())?;
+    let hidden = hidden_cell_numbers(alloc, count, protected.hidden().flags.as_slice())?;
     let questions = questions_of(alloc, cells)?;
     let worlds = lines_of(alloc, questions.as_slice(), protected.worlds())?;
     Ok(Certificate {
@@ -41,7 +41,7 @@ pub(crate) fn certificate_for(
 }
 
 // The numbers of the hidden cells among so many, ascending.
-fn numbers_of(alloc: Global, count: u32, flags: &[bool]) -> Result<Items<u32>, Memory>
+fn hidden_cell_numbers(alloc: Global, count: u32, flags: &[bool]) -> Result<Items<u32>, Memory>
     ensures { IfOk result (λ numbers. numbers ≡ hidden_numbers count flags.now) }
 {
     let mut numbers = Items::empty(alloc);

@@ -2,7 +2,7 @@ ghost use Rattle.std.specs.Prelude.{◌≡◌, ◌≤◌, length, All, IfOk};
 ghost use Rattle.apriori.specs.CellLevels.{HasLevelsInRange};
 ghost use Rattle.cost_rule.specs.Costs.{AreCosted, IsTold};
 ghost use Rattle.modular_plan.specs.Plans.{trail_of, IsSameButHidden};
-ghost use Rattle.repair.specs.HidingOrder.{case, prices_of};
+ghost use Rattle.repair.specs.HidingOrder.{protected_case, prices_of};
 ghost use Rattle.cell_protection.specs.Protections.{AreNarrow, HasText, IsProtectionOf, protection_by};
 ghost use Rattle.modular_plan.specs.Methods.{passes_of};
 
@@ -60,8 +60,8 @@ pub fn protect_cells<'a>(
     requires costed { All (λ mark. AreCosted mark.facts) book.old.marks }
     requires levels { All HasLevelsInRange cells.now }
     requires limit { 1 ≤ limit }
-    ensures outcome { IfOk result (IsProtectionOf (case system.now cells.now) (prices_of cost cells.now book.old.marks)
-        method (trail_of book.old cells.now cost (passes_of method)) limit) }
+    ensures outcome { IfOk result (IsProtectionOf (protected_case system.now cells.now)
+        (prices_of cost cells.now book.old.marks) method (trail_of book.old cells.now cost (passes_of method)) limit) }
     ensures text { IfOk result HasText }
     ensures same { IsSameButHidden book.old book.new }
 {
@@ -87,8 +87,8 @@ fn protect_by<'a, F: TellsCosts + Drop>(
     requires costed { All (λ mark. AreCosted mark.facts) book.old.marks }
     requires levels { All HasLevelsInRange cells.now }
     requires limit { 1 ≤ limit }
-    ensures outcome { IfOk result (IsProtectionOf (case system.now cells.now) (prices_of cost cells.now book.old.marks)
-        method (trail_of book.old cells.now cost (passes_of method)) limit) }
+    ensures outcome { IfOk result (IsProtectionOf (protected_case system.now cells.now)
+        (prices_of cost cells.now book.old.marks) method (trail_of book.old cells.now cost (passes_of method)) limit) }
     ensures text { IfOk result HasText }
     ensures same { IsSameButHidden book.old book.new }
 {
@@ -111,7 +111,8 @@ fn certificate_of<'a>(
     verdict: Verdict<'a>,
 ) -> Result<Protection<'a>, Memory>
     requires { length cells.now ≡ system.now.cells }
-    ensures { IfOk result (λ made. made ≡ protection_by method (case system.now cells.now) trail.steps verdict.entry) }
+    ensures { IfOk result (λ made. made
+        ≡ protection_by method (protected_case system.now cells.now) trail.steps verdict.entry) }
 {
     match verdict {
         Verdict::Protected {

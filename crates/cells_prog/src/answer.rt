@@ -43,7 +43,7 @@ pub fn without_words() -> ExitCode
 fn written_by<R: Print + Eprint>(rt: &R, alloc: Global, bytes: &[u8]) -> ExitCode {
     match rt.write_all(bytes) {
         Ok(()) => ExitCode::SUCCESS,
-        Err(_) => said_by(rt, alloc, &Report::WriteFault(FileRef::Out)),
+        Err(_) => exit_code_for(rt, alloc, &Report::WriteFault(FileRef::Out)),
     }
 }
 
@@ -56,12 +56,12 @@ fn stopped_by<R: Print + Eprint>(rt: &R, alloc: Global, stop: AskStop) -> ExitCo
             let _ = rt.write_all(USAGE);
             ExitCode::from(Report::Usage.status())
         }
-        AskStop::Stopped(check) => said_by(rt, alloc, &checked_report(check)),
+        AskStop::Stopped(check) => exit_code_for(rt, alloc, &checked_report(check)),
     }
 }
 
 // Says a report, in argus's words.
-fn said_by<R: Eprint>(rt: &R, alloc: Global, report: &Report) -> ExitCode
+fn exit_code_for<R: Eprint>(rt: &R, alloc: Global, report: &Report) -> ExitCode
     ensures { exit_status result ≡ status_of report.now }
 {
     if let Ok(line) = report_text(alloc, report) {

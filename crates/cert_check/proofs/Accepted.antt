@@ -35,7 +35,7 @@ use Rattle.worlds.proofs.WorldLaws.{not_refused, none_refused, world_law}
 use Rattle.worlds.proofs.ProtectLaws.{protect_law}
 use Rattle.worlds.proofs.RefutationLaws.{refutation_law}
 use Rattle.certificate.specs.declared.certificate.WorldLine.{WorldLine}
-use Rattle.repair.specs.HidingOrder.{IsOfKind, hide, show, coefficients_for, case as protected_case}
+use Rattle.repair.specs.HidingOrder.{IsOfKind, hide, show, coefficients_for, protected_case}
 use Rattle.repair.specs.Repairs.{cell_and_side, IsJustified, EachRepair}
 use Rattle.repair.proofs.Fewer.{share_from_zero}
 use Rattle.cert_check.specs.declared.faults.CheckFault.{CheckFault}

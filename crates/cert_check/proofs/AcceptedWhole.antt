@@ -33,7 +33,7 @@ use Rattle.cert_check.specs.OutsidePlan.{first_outside, outside_fault}
 use Rattle.cert_check.specs.WorldList.{worlds_fault}
 use Rattle.cert_check.specs.NeedList.{needs_fault}
 use Rattle.cert_check.specs.RoundedRelease.{at_line, values_fault, rounded_fault}
-use Rattle.cert_check.specs.FirstFault.{fault_of, open_set, hiding_fault, suppressed_fault, first_fault}
+use Rattle.cert_check.specs.FirstFault.{fault_of, open_set, hiding_fault, suppressed_fault, acceptance_fault}
 use Rattle.cert_check.specs.Acceptance.{IsShown, IsAccepted, IsOfCase, IsRoundedRelease}
 use Rattle.linked_tables.specs.BookCells.{IsBook}
 use Rattle.release_writer.specs.ReleaseReading.{rounded_read}
@@ -134,7 +134,7 @@ record IsBegun (case : Case) (release : List (List ℕ)) (c : Certificate) : Typ
   method : (not (same_method case.method c.method) || (rounds_cells case.method && not (lists_nothing c))) ≡ false
   rest : (if rounds_cells case.method then rounded_fault case release else suppressed_fault case release (hidden_set case.system.now.cells c.hidden) c) ≡ Ok tt
 
-begun : (case : Case) (release : List (List ℕ)) (c : Certificate) → first_fault case release c ≡ Ok tt → IsBegun case release c
+begun : (case : Case) (release : List (List ℕ)) (c : Certificate) → acceptance_fault case release c ≡ Ok tt → IsBegun case release c
 begun case release c ok =
     let last : Result (Unit {0}) CheckFault = if rounds_cells case.method then rounded_fault case release else suppressed_fault case release (hidden_set case.system.now.cells c.hidden) c in
     let wrong : Bool = not (same_method case.method c.method) || (rounds_cells case.method && not (lists_nothing c)) in
@@ -147,7 +147,7 @@ begun case release c ok =
     }
 
 -- where there is no fault, and the method hides cells, the certificate is accepted
-pub accepted_where : (case : Case) (release : List (List ℕ)) (c : Certificate) → IsCase case release → rounds_cells case.method ≡ false → first_fault case release c ≡ Ok tt → IsAccepted case release c
+pub accepted_where : (case : Case) (release : List (List ℕ)) (c : Certificate) → IsCase case release → rounds_cells case.method ≡ false → acceptance_fault case release c ≡ Ok tt → IsAccepted case release c
 accepted_where case release c is_case hides ok =
     let flags : List Bool = hidden_set case.system.now.cells c.hidden in
     let is : IsBegun case release c = begun case release c ok in
@@ -155,7 +155,7 @@ accepted_where case release c is_case hides ok =
     shown_where case release c flags is_case is.counted own
 
 -- and where the method rounds, the tables show a rounding
-pub rounded_where : (case : Case) (release : List (List ℕ)) (c : Certificate) → IsBook case.book.now → IsCase case release → rounds_cells case.method ≡ true → first_fault case release c ≡ Ok tt → IsRoundedRelease case release c
+pub rounded_where : (case : Case) (release : List (List ℕ)) (c : Certificate) → IsBook case.book.now → IsCase case release → rounds_cells case.method ≡ true → acceptance_fault case release c ≡ Ok tt → IsRoundedRelease case release c
 rounded_where case release c book is_case rounded ok =
     let is : IsBegun case release c = begun case release c ok in
     let own : rounded_fault case release ≡ Ok tt = sym (ap (λ b. if b then rounded_fault case release else suppressed_fault case release (hidden_set case.system.now.cells c.hidden) c) rounded) ∙ is.rest in
@@ -171,7 +171,7 @@ rounded_where case release c book is_case rounded ok =
     }
 
 -- method and counts are the case's
-pub of_case_where : (case : Case) (release : List (List ℕ)) (c : Certificate) → first_fault case release c ≡ Ok tt → IsOfCase case c
+pub of_case_where : (case : Case) (release : List (List ℕ)) (c : Certificate) → acceptance_fault case release c ≡ Ok tt → IsOfCase case c
 of_case_where case release c ok =
     let is : IsBegun case release c = begun case release c ok in
     let n : ℕ = case.system.now.cells in

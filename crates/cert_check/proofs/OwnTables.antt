@@ -16,7 +16,7 @@ use Rattle.cert_check.specs.HiddenSet.{permitted_fault}
 use Rattle.cert_check.specs.Methods.{method_fault, rounds_cells}
 use Rattle.cert_check.specs.ReleaseLines.{differing_line, hiding_text, table_fault, tables_fault}
 use Rattle.cert_check.specs.RoundedRelease.{rounded_fault}
-use Rattle.cert_check.specs.FirstFault.{fault_of, shown_fault, suppressed_fault, first_fault}
+use Rattle.cert_check.specs.FirstFault.{fault_of, shown_fault, suppressed_fault, acceptance_fault}
 use Rattle.cert_check.specs.OwnTexts.{hiding_texts, own_set, own_texts, certificate_fault}
 use Rattle.cert_check.proofs.Written.{text_itself}
 
@@ -47,7 +47,7 @@ own_case case release c is = record {
   base = is.base;
 }
 
-pub own_fault : (case : Case) (c : Certificate) → rounds_cells case.method ≡ false → first_fault case (own_texts case c) c ≡ certificate_fault case c
+pub own_fault : (case : Case) (c : Certificate) → rounds_cells case.method ≡ false → acceptance_fault case (own_texts case c) c ≡ certificate_fault case c
 own_fault case c hides =
     let own : List (List ℕ) = own_texts case c in
     let flags : List Bool = own_set case c in

@@ -22,7 +22,7 @@ use Rattle.certificate.specs.declared.certificate.Certificate.{Certificate}
 use Rattle.release_writer.specs.ReadingLaws.{AreTexts}
 use Rattle.release_writer.specs.ShownCells.{open_truth}
 use Rattle.sdc_base.specs.Trails.{corners_of}
-use Rattle.repair.specs.HidingOrder.{Case as HidingCase, case as protected_case, planned_set, hide_subjects}
+use Rattle.repair.specs.HidingOrder.{Case as HidingCase, protected_case, planned_set, hide_subjects}
 use Rattle.repair.specs.KeptWorlds.{AreServed}
 use Rattle.repair.specs.Needs.{others_hidden}
 use Rattle.repair.specs.Verdicts.{IsProtected, AreNeeds}

@@ -66,8 +66,8 @@ suppressed_fault case release flags c =
     shown_fault case flags c
 
 -- the first fault of a certificate for a case and a release
-abbrev pub first_fault : Case → List (List ℕ) → Certificate → Result (Unit {0}) CheckFault
-first_fault case release c =
+abbrev pub acceptance_fault : Case → List (List ℕ) → Certificate → Result (Unit {0}) CheckFault
+acceptance_fault case release c =
     counts_fault case.system.now c >>= λ _.
     method_fault case.method c >>= λ _.
     if rounds_cells case.method then rounded_fault case release

@@ -6,7 +6,7 @@ use Rattle.certificate.specs.declared.certificate.Certificate.{Certificate}
 use Rattle.release_writer.specs.ReadingLaws.{AreTexts}
 use Rattle.release_writer.specs.ShownCells.{open_truth}
 use Rattle.sdc_base.specs.Trails.{corners_of}
-use Rattle.repair.specs.HidingOrder.{case as protected_case, planned_set}
+use Rattle.repair.specs.HidingOrder.{protected_case, planned_set}
 use Rattle.repair.specs.Verdicts.{IsVerdict}
 use Rattle.repair.specs.declared.verdict.Verdict.TheVariants as verdict
 use Rattle.worlds.specs.ProtectFaults.{asked_of}
@@ -14,7 +14,7 @@ use Rattle.worlds.specs.Protection.{Protection}
 use Rattle.cert_check.specs.declared.case.Case.{Case}
 use Rattle.cert_check.specs.Acceptance.{IsOfCase}
 use Rattle.cert_check.specs.Cases.{IsCase}
-use Rattle.cert_check.specs.FirstFault.{first_fault}
+use Rattle.cert_check.specs.FirstFault.{acceptance_fault}
 use Rattle.cert_check.specs.HiddenSet.{hidden_set}
 use Rattle.cert_check.specs.Methods.{rounds_cells}
 
@@ -39,7 +39,7 @@ ProtectedIsAccepted =
     → SpeaksOf case protected c
     → AreTexts case.book.now case.decimals (open_truth case.book.now.marks protected.hidden.flags) case.book.now.tables
     case.names.now release
-    → first_fault case release c ≡ Ok tt
+    → acceptance_fault case release c ≡ Ok tt
 
 -- the numbers of the cells of a set, one flag for each cell, give the set
 abbrev pub NumbersGiveTheSet : Type 0

@@ -6,7 +6,7 @@ ghost use Rattle.cert_check.specs.Cases.{IsCase};
 ghost use Rattle.cert_check.specs.Counts.{counts_fit};
 ghost use Rattle.cert_check.specs.Methods.{rounds_cells};
 ghost use Rattle.cert_check.specs.Acceptance.{IsAccepted, IsOfCase, IsRoundedRelease};
-ghost use Rattle.cert_check.specs.FirstFault.{fault_of, first_fault, suppressed_fault, shown_fault, hiding_fault};
+ghost use Rattle.cert_check.specs.FirstFault.{fault_of, acceptance_fault, suppressed_fault, shown_fault, hiding_fault};
 
 use crate::case::Case;
 use crate::counting::check_counts;
@@ -52,7 +52,7 @@ pub fn accept(
     certificate: &Certificate,
 ) -> Result<(), CheckFault>
     requires { IsCase case.now release.now }
-    ensures exact { Gives fault_of (λ u. u) result (first_fault case.now release.now certificate.now) }
+    ensures exact { Gives fault_of (λ u. u) result (acceptance_fault case.now release.now certificate.now) }
     ensures of_case { result ≡ Ok tt → IsOfCase case.now certificate.now }
     ensures suppressed { result ≡ Ok tt → rounds_cells case.now.method ≡ false
         → IsAccepted case.now release.now certificate.now }
@@ -72,7 +72,7 @@ fn first_of(
     certificate: &Certificate,
 ) -> Result<(), CheckFault>
     requires { IsCase case.now release.now }
-    ensures exact { Gives fault_of (λ u. u) result (first_fault case.now release.now certificate.now) }
+    ensures exact { Gives fault_of (λ u. u) result (acceptance_fault case.now release.now certificate.now) }
 {
     check_counts(case.system, certificate)?;
     check_method(&case.method, certificate)?;

@@ -2,7 +2,7 @@ ghost use Rattle.std.specs.Prelude.{◌≡◌, false, IfOk};
 ghost use Rattle.sdc_base.specs.Answers.{Gives};
 ghost use Rattle.cert_check.specs.Acceptance.{IsAccepted, IsOfCase};
 ghost use Rattle.cert_check.specs.Cases.{IsCase};
-ghost use Rattle.cert_check.specs.FirstFault.{fault_of, first_fault};
+ghost use Rattle.cert_check.specs.FirstFault.{fault_of, acceptance_fault};
 ghost use Rattle.cert_check.specs.Methods.{rounds_cells};
 ghost use Rattle.cert_check.specs.OwnTexts.{own_set, own_texts, certificate_fault};
 
@@ -32,7 +32,7 @@ pub fn accept_certificate(
     requires is_case { IsCase case.now (own_texts case.now certificate.now) }
     requires hides { rounds_cells case.now.method ≡ false }
     ensures exact { Gives fault_of (λ hidden. tt) result
-        (first_fault case.now (own_texts case.now certificate.now) certificate.now) }
+        (acceptance_fault case.now (own_texts case.now certificate.now) certificate.now) }
     ensures set { IfOk result (λ hidden. hidden.flags ≡ own_set case.now certificate.now) }
     ensures of_case { IfOk result (λ hidden. IsOfCase case.now certificate.now) }
     ensures shown { IfOk result (λ hidden.

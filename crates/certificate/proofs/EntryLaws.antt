@@ -17,7 +17,7 @@ use Rattle.certificate.specs.Pieces.{pieces}
 use Rattle.certificate.specs.Numerals.{natural_of, denominator_of, ascends}
 use Rattle.certificate.specs.declared.version.Version.{Version}
 use Rattle.certificate.specs.declared.version.Version.TheVariants.{One, Two}
-use Rattle.certificate.specs.TokenLists.{first_of, only_of, numbers_of, is_pair, terms_of, have_form, moves_by}
+use Rattle.certificate.specs.TokenLists.{first_of, only_of, token_numbers, is_pair, terms_of, have_form, moves_by}
 use Rattle.sdc_base.specs.Sides.{side_word}
 use Rattle.certificate.specs.LineReadings.{step_by, step_of, side_of, refutation_by, refutation_of, world_by, world_of}
 use Rattle.certificate.specs.Texts.{comma_list, step_arguments, pair_token, refutation_arguments, move_tokens, world_arguments}
@@ -61,8 +61,8 @@ not-past-of n h = grind arith
 -- ---- steps
 
 step_reads : (table parents cell corners : List ℕ) (number centre : ℕ) (places others : List ℕ)
-    → (length parents == 0) ≡ false → nat_lt 8 (length (pieces 44 parents)) ≡ false → (length corners == 0) ≡ false → natural_of 1 table ≡ Ok number → numbers_of (pieces 44 parents) ≡ Ok places
-    → natural_of 0 cell ≡ Ok centre → numbers_of (pieces 44 corners) ≡ Ok others → ascends others ≡ true
+    → (length parents == 0) ≡ false → nat_lt 8 (length (pieces 44 parents)) ≡ false → (length corners == 0) ≡ false → natural_of 1 table ≡ Ok number → token_numbers (pieces 44 parents) ≡ Ok places
+    → natural_of 0 cell ≡ Ok centre → token_numbers (pieces 44 corners) ≡ Ok others → ascends others ≡ true
     → step_by table parents cell corners ≡ Ok (record { table = number - 1; parents = places; cell = centre; corners = others })
 unfolding step_by
 step_reads table parents cell corners number centre places others some few any is-table is-places is-cell is-others up = rw (some, few, any, is-table, is-places, is-cell, is-others, up) refl
@@ -92,9 +92,9 @@ step-by-text table parents cell corners step h =
     let b = bind_ok (refuse Shape (nat_lt 8 (length (pieces 44 parents)))) _ step a.2 in
     let c = bind_ok (refuse Shape (length corners == 0)) _ step b.2 in
     let d = bind_ok (natural_of 1 table) _ step c.2 in
-    let e = bind_ok (numbers_of (pieces 44 parents)) _ step d.2 in
+    let e = bind_ok (token_numbers (pieces 44 parents)) _ step d.2 in
     let f = bind_ok (natural_of 0 cell) _ step e.2 in
-    let g = bind_ok (numbers_of (pieces 44 corners)) _ step f.2 in
+    let g = bind_ok (token_numbers (pieces 44 corners)) _ step f.2 in
     let k = bind_ok (refuse Order (not (ascends g.0))) _ step g.2 in
     let number = natural_text 1 table d.0 d.1 in
     let places = numbers_text (pieces 44 parents) e.0 e.1 in

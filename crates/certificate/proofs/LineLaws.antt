@@ -9,9 +9,9 @@ use Rattle.sdc_base.specs.declared.method.Method.{Method}
 use Rattle.sdc_base.specs.declared.method.Method.TheVariants as method
 use Rattle.certificate.specs.declared.faults.CertWhy.TheVariants.{Shape, Order}
 use Rattle.certificate.specs.Numerals.{natural_of, integer_of, ascends}
-use Rattle.certificate.specs.TokenLists.{first_of, end_of, only_of, numbers_of}
+use Rattle.certificate.specs.TokenLists.{first_of, end_of, only_of, token_numbers}
 use Rattle.certificate.specs.LineReadings.{hidden_of}
-use Rattle.certificate.specs.MethodReadings.{passes_of, base_of, modular_of, method_by, method_of, count_of}
+use Rattle.certificate.specs.MethodReadings.{passes_of, method_by_base, modular_of, method_by, method_of, count_of}
 use Rattle.certificate.specs.Texts.{method_arguments}
 use Rattle.certificate.specs.Spelling.{FitsIn32Bits, IsMethodWithinTypes}
 use Rattle.certificate.proofs.NumeralLaws.{natural_again, natural_text, integer_again, integer_text}
@@ -38,7 +38,7 @@ only_text tokens token h =
 -- ---- the method and counts
 
 pub method_again : (how : Method) → IsMethodWithinTypes how → method_of (method_arguments how) ≡ Ok how
-unfolding method_of modular_of passes_of base_of only_of
+unfolding method_of modular_of passes_of method_by_base only_of
 method_again method.Modular wide = refl
 method_again (method.Gh passes) wide = rw (natural_again 0 passes (omega arith) wide) refl
 method_again (method.Rnd base) wide = rw (integer_again base wide) refl
@@ -61,8 +61,8 @@ passes_text tokens how h =
     subst (λ (m : Method). IsMethodText (codes "GH" ∷ tokens) m) (ok_same (method.Gh b.0) how b.2)
     (ap (λ (ts : List (List ℕ)). codes "GH" ∷ ts) (only_text tokens a.0 a.1 ∙ ap (λ (t : List ℕ). t ∷ []) n.0), n.2)
 
-base_text : (tokens : List (List ℕ)) (how : Method) → base_of tokens ≡ Ok how → IsMethodText (codes "RND" ∷ tokens) how
-unfolding base_of
+base_text : (tokens : List (List ℕ)) (how : Method) → method_by_base tokens ≡ Ok how → IsMethodText (codes "RND" ∷ tokens) how
+unfolding method_by_base
 base_text tokens how h =
     let a = bind_ok (only_of tokens) _ how h in
     let b = bind_ok (integer_of a.0) _ how a.2 in
@@ -76,13 +76,13 @@ picked-word word wanted tokens how is h = (ap (λ (w : List ℕ). w ∷ tokens) 
 method-by-text : (word : List ℕ) (tokens : List (List ℕ)) (how : Method) → method_by word tokens ≡ Ok how → IsMethodText (word ∷ tokens) how
 method-by-text word tokens how h =
     elim (bytes_eq word (codes "MOD")) as (λ t. bytes_eq word (codes "MOD") ≡ t
-    → cond t (modular_of tokens) (cond (bytes_eq word (codes "GH")) (passes_of tokens) (cond (bytes_eq word (codes "RND")) (base_of tokens) (Err Shape))) ≡ Ok how → IsMethodText (word ∷ tokens) how) [
+    → cond t (modular_of tokens) (cond (bytes_eq word (codes "GH")) (passes_of tokens) (cond (bytes_eq word (codes "RND")) (method_by_base tokens) (Err Shape))) ≡ Ok how → IsMethodText (word ∷ tokens) how) [
       | true ↦ λ is g. picked-word word (codes "MOD") tokens how is (modular_text tokens how g)
       | false ↦ λ no g.
-          elim (bytes_eq word (codes "GH")) as (λ t. bytes_eq word (codes "GH") ≡ t → cond t (passes_of tokens) (cond (bytes_eq word (codes "RND")) (base_of tokens) (Err Shape)) ≡ Ok how → IsMethodText (word ∷ tokens) how) [
+          elim (bytes_eq word (codes "GH")) as (λ t. bytes_eq word (codes "GH") ≡ t → cond t (passes_of tokens) (cond (bytes_eq word (codes "RND")) (method_by_base tokens) (Err Shape)) ≡ Ok how → IsMethodText (word ∷ tokens) how) [
             | true ↦ λ is k. picked-word word (codes "GH") tokens how is (passes_text tokens how k)
             | false ↦ λ not-gh k.
-                elim (bytes_eq word (codes "RND")) as (λ t. bytes_eq word (codes "RND") ≡ t → cond t (base_of tokens) (Err Shape) ≡ Ok how → IsMethodText (word ∷ tokens) how) [
+                elim (bytes_eq word (codes "RND")) as (λ t. bytes_eq word (codes "RND") ≡ t → cond t (method_by_base tokens) (Err Shape) ≡ Ok how → IsMethodText (word ∷ tokens) how) [
                   | true ↦ λ is l. picked-word word (codes "RND") tokens how is (base_text tokens how l)
                   | false ↦ λ not-rnd l. absurd cc
                 ] refl k
@@ -128,7 +128,7 @@ pub hidden_text : (tokens : List (List ℕ)) (cells : List ℕ) → hidden_of to
 unfolding hidden_of
 hidden_text tokens cells h =
     let a = bind_ok (refuse Shape (length tokens == 0)) _ cells h in
-    let b = bind_ok (numbers_of tokens) _ cells a.2 in
+    let b = bind_ok (token_numbers tokens) _ cells a.2 in
     let c = bind_ok (refuse Order (not (ascends b.0))) _ cells b.2 in
     let some = some-of (length tokens) (not_refused Shape (length tokens == 0) a.0 a.1) in
     let n = numbers_text tokens b.0 b.1 in

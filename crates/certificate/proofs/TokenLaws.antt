@@ -9,7 +9,7 @@ use Rattle.sdc_base.specs.Steps.{◌>>=◌, refuse}
 use Rattle.worlds.specs.declared.world.Move.{Move}
 use Rattle.certificate.specs.declared.faults.CertWhy.TheVariants.{Number}
 use Rattle.certificate.specs.Numerals.{natural_of, integer_of, ascends_from}
-use Rattle.certificate.specs.TokenLists.{numbers_of, is_pair, term_of, terms_of, with_move, first_integer, moves_of}
+use Rattle.certificate.specs.TokenLists.{token_numbers, is_pair, term_of, terms_of, with_move, first_integer, moves_of}
 use Rattle.certificate.specs.Texts.{pair_token, next_move, moves_in_turn}
 use Rattle.certificate.specs.Spelling.{FitsIn128Bits, FitsIn32Bits, IsTermWithinTypes, IsMoveWithinTypes, IsAmong}
 use Rattle.certificate.proofs.NumeralLaws.{natural_again, natural_text, integer_again, integer_text, decimal_apart}
@@ -31,17 +31,17 @@ not_refused fault false x h = refl
 
 -- ---- numbers
 
-pub numbers_again : (numbers : List ℕ) → AllByRecursion FitsIn32Bits numbers → numbers_of (map decimal numbers) ≡ Ok numbers
-unfolding numbers_of
+pub numbers_again : (numbers : List ℕ) → AllByRecursion FitsIn32Bits numbers → token_numbers (map decimal numbers) ≡ Ok numbers
+unfolding token_numbers
 numbers_again [] h = refl
 numbers_again (n ∷ numbers) h = rw (natural_again 0 n (omega arith) h.0, numbers_again numbers h.1) refl
 
-pub numbers_text : (tokens : List (List ℕ)) (numbers : List ℕ) → numbers_of tokens ≡ Ok numbers → (tokens ≡ map decimal numbers) × AllByRecursion FitsIn32Bits numbers
-unfolding numbers_of
+pub numbers_text : (tokens : List (List ℕ)) (numbers : List ℕ) → token_numbers tokens ≡ Ok numbers → (tokens ≡ map decimal numbers) × AllByRecursion FitsIn32Bits numbers
+unfolding token_numbers
 numbers_text [] numbers h = subst (λ (ns : List ℕ). ([] ≡ map decimal ns) × AllByRecursion FitsIn32Bits ns) (ok_same [] numbers h) (refl, tt)
 numbers_text (token ∷ tokens) numbers h =
     let a = bind_ok (natural_of 0 token) _ numbers h in
-    let b = bind_ok (numbers_of tokens) _ numbers a.2 in
+    let b = bind_ok (token_numbers tokens) _ numbers a.2 in
     let one = natural_text 0 token a.0 a.1 in
     let rest = numbers_text tokens b.0 b.1 in
     subst (λ (ns : List ℕ). (token ∷ tokens ≡ map decimal ns) × AllByRecursion FitsIn32Bits ns) (ok_same (a.0 ∷ b.0) numbers b.2)

@@ -16,13 +16,13 @@ use Rattle.certificate.specs.declared.version.Version.{Version}
 use Rattle.certificate.specs.Pieces.{pieces, space}
 use Rattle.sdc_base.specs.TableText.{comma}
 use Rattle.certificate.specs.Numerals.{natural_of, denominator_of, ascends}
-use Rattle.certificate.specs.TokenLists.{behind_word, first_of, only_of, numbers_of, is_pair, terms_of, have_form, moves_by}
+use Rattle.certificate.specs.TokenLists.{behind_word, first_of, only_of, token_numbers, is_pair, terms_of, have_form, moves_by}
 
 -- the hidden cells, one at least, ascending
 unfoldable pub hidden_of : List (List ℕ) → Result (List ℕ) CertWhy
 hidden_of tokens = do
   some ← refuse Shape (length tokens == 0)
-  cells ← numbers_of tokens
+  cells ← token_numbers tokens
   order ← refuse Order (not (ascends cells))
   Ok cells
 
@@ -33,9 +33,9 @@ step_by table parents cell corners = do
   few ← refuse Shape (nat_lt 8 (length (pieces comma parents)))
   has_corner ← refuse Shape (length corners == 0)
   number ← natural_of 1 table
-  places ← numbers_of (pieces comma parents)
+  places ← token_numbers (pieces comma parents)
   centre ← natural_of 0 cell
-  others ← numbers_of (pieces comma corners)
+  others ← token_numbers (pieces comma corners)
   order ← refuse Order (not (ascends others))
   Ok (record { table = number - 1; parents = places; cell = centre; corners = others })
 

@@ -17,8 +17,8 @@ passes_of tokens = do
   Ok (method.Gh passes)
 
 -- a method with a base
-unfoldable pub base_of : List (List ℕ) → Result Method CertWhy
-base_of tokens = do
+unfoldable pub method_by_base : List (List ℕ) → Result Method CertWhy
+method_by_base tokens = do
   token ← only_of tokens
   base ← integer_of token
   Ok (method.Rnd base)
@@ -34,7 +34,7 @@ abbrev pub method_by : List ℕ → List (List ℕ) → Result Method CertWhy
 method_by word tokens =
     if bytes_eq word (codes "MOD") then modular_of tokens
     else if bytes_eq word (codes "GH") then passes_of tokens
-    else if bytes_eq word (codes "RND") then base_of tokens
+    else if bytes_eq word (codes "RND") then method_by_base tokens
     else Err Shape
 
 -- a method

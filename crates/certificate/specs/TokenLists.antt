@@ -36,11 +36,11 @@ only_of tokens = do
   Ok first.0
 
 -- each token a number of a cell, a relation or a place
-unfoldable pub numbers_of : List (List ℕ) → Result (List ℕ) CertWhy
-numbers_of [] = Ok []
-numbers_of (token ∷ tokens) = do
+unfoldable pub token_numbers : List (List ℕ) → Result (List ℕ) CertWhy
+token_numbers [] = Ok []
+token_numbers (token ∷ tokens) = do
   number ← natural_of 0 token
-  numbers ← numbers_of tokens
+  numbers ← token_numbers tokens
   Ok (number ∷ numbers)
 
 -- a token has a colon

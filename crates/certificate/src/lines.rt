@@ -28,9 +28,9 @@ fn passes_of(tokens: &mut Pieces<'_>) -> Result<Method, CertWhy>
 }
 
 // A method with a base.
-#[tactic(auto, unfolding(crate::specs::MethodReadings::base_of))]
-fn base_of(tokens: &mut Pieces<'_>) -> Result<Method, CertWhy>
-    ensures { Gives fault_itself (λ method. method) result (method_readings.base_of tokens.old) }
+#[tactic(auto, unfolding(crate::specs::MethodReadings::method_by_base))]
+fn method_by_base(tokens: &mut Pieces<'_>) -> Result<Method, CertWhy>
+    ensures { Gives fault_itself (λ method. method) result (method_readings.method_by_base tokens.old) }
 {
     let token = tokens.only()?;
     let number = integer_of(token)?;
@@ -57,7 +57,7 @@ fn method_by(word: &[u8], tokens: &mut Pieces<'_>) -> Result<Method, CertWhy>
         return passes_of(tokens);
     }
     if is_word(word, b"RND") {
-        return base_of(tokens);
+        return method_by_base(tokens);
     }
     Err(CertWhy::Shape)
 }

@@ -6,7 +6,7 @@ ghost use Rattle.sdc_base.specs.Answers.{Gives};
 ghost use Rattle.certificate.specs.Faults.{fault_itself, why_of};
 ghost use Rattle.certificate.specs.Pieces.{pieces, space};
 ghost use Rattle.certificate.specs.TokenLists as token_lists;
-ghost use Rattle.certificate.specs.TokenLists.{numbers_of, terms_of, with_move, moves_of, move_of, paired_moves_of};
+ghost use Rattle.certificate.specs.TokenLists.{token_numbers, terms_of, with_move, moves_of, move_of, paired_moves_of};
 
 use crate::faults::{CertWhy, LineError};
 use crate::numerals::{are_ascending, integer_of, natural_of};
@@ -41,7 +41,7 @@ pub(crate) fn behind_word<'a>(word: &[u8], line: &'a [u8]) -> Result<Pieces<'a>,
 
 /// Each token as a number of a cell, a relation or a place.
 pub(crate) fn numbers_in(alloc: Global, tokens: &mut Pieces<'_>) -> Result<Items<u32>, LineError>
-    ensures { Gives why_of (λ numbers. numbers) result (numbers_of tokens.old) }
+    ensures { Gives why_of (λ numbers. numbers) result (token_numbers tokens.old) }
 {
     let mut numbers = Items::empty(alloc);
     'tokens: while let Some(token) = tokens.next_piece() {
@@ -54,7 +54,7 @@ pub(crate) fn numbers_in(alloc: Global, tokens: &mut Pieces<'_>) -> Result<Items
 /// Each of at most eight tokens as a number of a place.
 pub(crate) fn places_in(tokens: &mut Pieces<'_>) -> Result<Place, CertWhy>
     requires { length tokens.old ≤ 8 }
-    ensures { Gives fault_itself (λ places. places) result (numbers_of tokens.old) }
+    ensures { Gives fault_itself (λ places. places) result (token_numbers tokens.old) }
 {
     let mut places: ArrayVec<u32, 8> = ArrayVec::new();
     'tokens: while let Some(token) = tokens.next_piece() {

@@ -1,7 +1,7 @@
 -- The codes of a flat tree stand in the given order.
 use Rattle.std.proofs.Common.{◌≡◌, ℕ, suc, zero, ◌+◌, List, [], ◌∷◌, map, slice_get, Option, None, Some, Ok, refl, ap, subst, add-one}
 use Rattle.sdc_base.specs.Trees.{Tree, flat_tree}
-use Rattle.code_trees.specs.Faults.{first_fault, tree_unless}
+use Rattle.code_trees.specs.Faults.{first_code_fault, tree_unless}
 use Rattle.code_trees.specs.Laws.{FlatIsInOrder}
 use Rattle.code_trees.specs.declared.tree_fault.TreeFault.{TreeFault}
 
@@ -20,6 +20,6 @@ at-flat total below n code h = rw (add-one n) (below-at below n code h)
 
 pub flat_is_in_order : FlatIsInOrder
 flat_is_in_order total below tree given n code h =
-    let same : flat_tree total below ≡ tree = unless-ok (first_fault 1 (total ∷ []) below) (flat_tree total below) tree given in
+    let same : flat_tree total below ≡ tree = unless-ok (first_code_fault 1 (total ∷ []) below) (flat_tree total below) tree given in
     let at : slice_get {X = List ℕ × Option ℕ} tree (n + 1) ≡ Some (code, Some 0) = subst (λ (t : Tree). slice_get {X = List ℕ × Option ℕ} t (n + 1) ≡ Some (code, Some 0)) same (at-flat total below n code h) in
     (rw at refl, rw at refl)

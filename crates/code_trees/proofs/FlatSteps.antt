@@ -4,7 +4,7 @@ use Rattle.std.proofs.lemmas.List.{take_more, map-append}
 use Rattle.std.proofs.lemmas.Option.{slice_get_within, get_or_from_slice_get}
 use Rattle.sdc_base.specs.Trees.{Tree, codes, flat_tree}
 use Rattle.code_trees.specs.Growing.{tree_with_node}
-use Rattle.code_trees.specs.Faults.{code_fault, first_fault, fault_of, or_else, tree_unless, Names}
+use Rattle.code_trees.specs.Faults.{code_fault, first_code_fault, fault_of, or_else, tree_unless, Names}
 use Rattle.sdc_base.specs.Answers.{Fails}
 use Rattle.code_trees.specs.FlatForm.{flat_of}
 use Rattle.code_trees.specs.declared.tree_fault.TreeFault.{TreeFault}
@@ -31,15 +31,15 @@ codes-flat total before = ap (λ rest. total ∷ rest) (same before)
 
 -- the first fault, where a code is the next one
 pub first-step : (n i : ℕ) (all before : List (List ℕ)) (code : List ℕ) → slice_get all i ≡ Some code
-    → first_fault n before (drop i all) ≡ or_else (code_fault before code n) (first_fault (n + 1) (before ++ code ∷ []) (drop (i + 1) all))
-first-step n i all before code at = ap (first_fault n before) (drop-at all i code at)
+    → first_code_fault n before (drop i all) ≡ or_else (code_fault before code n) (first_code_fault (n + 1) (before ++ code ∷ []) (drop (i + 1) all))
+first-step n i all before code at = ap (first_code_fault n before) (drop-at all i code at)
 
 pub flat-next : (total : List ℕ) (all : List (List ℕ)) (i : ℕ) (code : List ℕ) → slice_get all i ≡ Some code → code_fault (total ∷ take i all) code (i + 1) ≡ None
-    → first_fault (i + 1) (total ∷ take i all) (drop i all) ≡ first_fault (i + 1 + 1) (total ∷ take (i + 1) all) (drop (i + 1) all)
+    → first_code_fault (i + 1) (total ∷ take i all) (drop i all) ≡ first_code_fault (i + 1 + 1) (total ∷ take (i + 1) all) (drop (i + 1) all)
 flat-next total all i code at none =
     first-step (i + 1) i all (total ∷ take i all) code at
-    ∙ ap (λ told. or_else told (first_fault (i + 1 + 1) (total ∷ (take i all ++ code ∷ [])) (drop (i + 1) all))) none
-    ∙ ap (λ before. first_fault (i + 1 + 1) (total ∷ before) (drop (i + 1) all)) (sym (take-at all i code at))
+    ∙ ap (λ told. or_else told (first_code_fault (i + 1 + 1) (total ∷ (take i all ++ code ∷ [])) (drop (i + 1) all))) none
+    ∙ ap (λ before. first_code_fault (i + 1 + 1) (total ∷ before) (drop (i + 1) all)) (sym (take-at all i code at))
 
 -- a fault that a step names is the first
 pub names-stop : (one : TreeFault) (told rest : Option TreeFault) (tree : Tree) → Names one told → Fails (fault_of one) (tree_unless (or_else told rest) tree)
@@ -53,7 +53,7 @@ names-stop (fault.TooMany n) told rest tree h = rw h refl
 names-stop fault.Memory told rest tree h = tt
 
 pub flat-stop : (total : List ℕ) (all : List (List ℕ)) (i : ℕ) (code : List ℕ) (one : TreeFault) → slice_get all i ≡ Some code
-    → first_fault 1 (total ∷ []) all ≡ first_fault (i + 1) (total ∷ take i all) (drop i all) → Names one (code_fault (total ∷ take i all) code (i + 1))
+    → first_code_fault 1 (total ∷ []) all ≡ first_code_fault (i + 1) (total ∷ take i all) (drop i all) → Names one (code_fault (total ∷ take i all) code (i + 1))
     → Fails (fault_of one) (flat_of total all)
 flat-stop total all i code one at so_far named =
     subst (λ told. Fails (fault_of one) (tree_unless told (flat_tree total all))) (sym (so_far ∙ first-step (i + 1) i all (total ∷ take i all) code at))

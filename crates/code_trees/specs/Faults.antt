@@ -22,10 +22,10 @@ or_else None other = other
 or_else (Some one) other = Some one
 
 -- the first fault of codes, which are numbered from n and come after those before
-abbrev pub first_fault : ℕ → List (List ℕ) → List (List ℕ) → Option TreeFault
-first_fault n before [] = None
-first_fault n before (code ∷ codes) = or_else (code_fault before code n)
-    (first_fault (n + 1) (before ++ code ∷ []) codes)
+abbrev pub first_code_fault : ℕ → List (List ℕ) → List (List ℕ) → Option TreeFault
+first_code_fault n before [] = None
+first_code_fault n before (code ∷ codes) = or_else (code_fault before code n)
+    (first_code_fault (n + 1) (before ++ code ∷ []) codes)
 
 -- a value, unless there is a fault
 abbrev pub tree_unless : Option TreeFault → Tree → Result Tree TreeFault

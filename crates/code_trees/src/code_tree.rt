@@ -46,7 +46,7 @@ impl CodeTree {
     pub fn find(&self, code: &[u8]) -> Option<u32>
         ensures { result ≡ find self.now code.now }
     {
-        let place = self.nodes.place_of(code)?;
+        let place = self.nodes.code_place(code)?;
         Some(place as u32)
     }
 

@@ -40,7 +40,7 @@ impl Nodes {
     }
 
     /// The place of a code.
-    pub fn place_of(&self, code: &[u8]) -> Option<usize>
+    pub fn code_place(&self, code: &[u8]) -> Option<usize>
         ensures place { result ≡ find self.now code.now }
         ensures within { IfSome result (λ place. place < length self.now) }
     {

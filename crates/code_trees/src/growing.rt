@@ -44,7 +44,7 @@ pub fn add(
     ensures grows { OnOk result (nodes.new ≡ tree_with_node nodes.old code.now parent) }
     ensures tree { OnOk result (IsCodeTree nodes.new) }
 {
-    if let Some(place) = nodes.place_of(code) {
+    if let Some(place) = nodes.code_place(code) {
         return Err(known_code(place, number));
     }
     if nodes.len() > MOST {

@@ -138,10 +138,10 @@ fn take_code(
     if has_blank(code) {
         return Err(TreeFault::Blank(number));
     }
-    if reaches(total, bounds, code) {
+    if begins_with_total(total, bounds, code) {
         return Err(TreeFault::IsTotal(number));
     }
-    if seen.place_of(code).is_some() {
+    if seen.code_place(code).is_some() {
         return Err(TreeFault::Twice(number));
     }
     add_prefixes(alloc, kept, bounds, code)?;
@@ -160,7 +160,7 @@ fn has_blank(code: &[u8]) -> bool
 }
 
 // Whether the code or a prefix of it is the total.
-fn reaches(total: &[u8], bounds: &[usize], code: &[u8]) -> bool
+fn begins_with_total(total: &[u8], bounds: &[usize], code: &[u8]) -> bool
     ensures { result ≡ list_any (bytes_eq total.now) (prefixes bounds.now code.now) }
 {
     'bounds: for bound in bounds {

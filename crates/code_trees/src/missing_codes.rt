@@ -39,7 +39,7 @@ fn add_missing(alloc: Global, nodes: &mut Nodes, code: &[u8], number: u32) -> Re
     ensures grows { OnOk result (nodes.new ≡ with_code nodes.old code.now) }
     ensures tree { OnOk result (IsCodeTree nodes.new) }
 {
-    if let Some(place) = nodes.place_of(code) {
+    if let Some(place) = nodes.code_place(code) {
         if place == 0 {
             return Err(TreeFault::IsTotal(number));
         }

@@ -35,7 +35,7 @@ pub(crate) fn go_round(
     ensures flow { IsFlowOf task.now result moves.new }
 {
     let by = least_room(task, moves, steps, target - amount);
-    go(moves, steps, by);
+    move_cells(moves, steps, by);
     amount + by
 }
 
@@ -59,7 +59,7 @@ fn least_room(task: &Task<'_>, moves: &[i128], steps: &[Step], most: i128) -> i1
 }
 
 // Moves the cells of steps by so much, each its way.
-fn go(moves: &mut [i128], steps: &[Step], by: i128)
+fn move_cells(moves: &mut [i128], steps: &[Step], by: i128)
     requires known { All (λ step. step.cell < length moves.old) steps.now }
     requires apart { AllPairs (λ (one other : AnyStep). one.cell ≢ other.cell) steps.now }
     requires fits { All (λ step. FitsSigned w128 (number_at moves.old step.cell +ℤ by *ℤ turn_of step)) steps.now }

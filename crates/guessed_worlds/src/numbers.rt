@@ -26,7 +26,7 @@ pub(crate) fn crossed(one: i64, times: i64, other: i64, other_times: i64, den: i
 }
 
 // The place of a number in a list, none where it isn't there.
-pub(crate) fn place_of(list: &[usize], wanted: usize) -> Option<usize> {
+pub(crate) fn place_in_list(list: &[usize], wanted: usize) -> Option<usize> {
     for (place, number) in list.iter().enumerate() {
         if *number == wanted {
             return Some(place);

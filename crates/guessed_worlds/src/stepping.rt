@@ -1,6 +1,6 @@
 use crate::exchange::exchange_rows;
 use crate::limits::{Entering, Limit, limit_of};
-use crate::numbers::{number_at, place_of, put_at};
+use crate::numbers::{number_at, place_in_list, put_at};
 use crate::spans::{Span, span_at};
 use crate::table::Table;
 use std::alloc::Global;
@@ -31,7 +31,7 @@ pub(crate) fn go_on(
     spans: &[Span],
     goal: Goal,
 ) -> Option<Advance> {
-    let row = place_of(&table.members, goal.variable);
+    let row = place_in_list(&table.members, goal.variable);
     let lack = lack_of(table, goal, row)?;
     if lack <= 0 {
         return Some(Advance::There);
@@ -70,7 +70,7 @@ fn entering_of(table: &Table, spans: &[Span], goal: Goal, row: Option<usize>) ->
 
 // The variable itself, where its bound lets it move.
 fn own_entering(table: &Table, spans: &[Span], goal: Goal) -> Option<Entering> {
-    let column = place_of(&table.others, goal.variable)?;
+    let column = place_in_list(&table.others, goal.variable)?;
     let here = number_at(&table.moves, goal.variable);
     if !span_at(spans, goal.variable).lets(here, goal.turn) {
         return None;

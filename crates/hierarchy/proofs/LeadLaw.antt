@@ -13,7 +13,7 @@ use Rattle.code_trees.specs.Growing.{tree_with_node}
 use Rattle.code_trees.specs.Faults.{tree_unless, code_fault}
 use Rattle.hierarchy.specs.Lead.{LeadLine, line_fault, first_line_fault, lead_lines, lead_tree, lead_of}
 use Rattle.code_trees.specs.Path.{IsPath, next_path}
-use Rattle.hierarchy.specs.LeadPath.{read_on}
+use Rattle.hierarchy.specs.LeadPath.{tree_with_lines}
 use Rattle.code_trees.specs.Depths.{depth_of}
 use Rattle.hierarchy.specs.LeadText.{lead_text, IsWritable, LeadTextIsRead}
 use Rattle.code_trees.specs.declared.tree_fault.TreeFault.{TreeFault}
@@ -132,7 +132,7 @@ next-is tree front code parent rest path is whole some at there =
 
 -- the nodes that are left are read
 nodes-on : (tree : Tree) (lead : List ℕ) → IsCodeTree tree → (rest front : Tree) (path : List ℕ) (place : ℕ) → tree ≡ front ++ rest → place ≡ length front → 0 < length front → IsPath front path
-    → AllByRecursion (IsWritable lead) (codes rest) → read_on front path (read_nodes tree place rest) ≡ Ok tree
+    → AllByRecursion (IsWritable lead) (codes rest) → tree_with_lines front path (read_nodes tree place rest) ≡ Ok tree
 nodes-on tree lead is [] front path place whole count some at can = ap (λ (t : Tree). Ok t) (sym (whole ∙ append-nil front))
 nodes-on tree lead is ((code, parent) ∷ rest) front path place whole count some at can =
     let line : LeadLine = record { number = length front; leads = depth_of tree (length front) - 1; code = code } in
@@ -140,7 +140,7 @@ nodes-on tree lead is ((code, parent) ∷ rest) front path place whole count som
     let node : Tree = tree_with_node front code (slice_index path line.leads) in
     let longer : length node ≡ length front + 1 = length-append front ((code, Some (slice_index path line.leads)) ∷ []) in
     let one : tree ≡ node ++ rest = whole ∙ ap (λ (up : Option ℕ). front ++ (code, up) ∷ rest) next.above ∙ sym (append_assoc front ((code, Some (slice_index path line.leads)) ∷ []) rest) in
-    ap (λ (n : ℕ). read_on front path (record { number = n; leads = depth_of tree n - 1; code = code } ∷ read_nodes tree (n + 1) rest)) count
+    ap (λ (n : ℕ). tree_with_lines front path (record { number = n; leads = depth_of tree n - 1; code = code } ∷ read_nodes tree (n + 1) rest)) count
     ∙ read-step front path line (read_nodes tree (length front + 1) rest) at.has_total next.none
     ∙ nodes-on tree lead is rest node (next_path path line.leads (length front)) (length front + 1) one (sym longer) (omega (arith, longer)) (path-next front some path at code line.leads next.inside) can.1
 

@@ -8,7 +8,7 @@ use Rattle.code_trees.specs.Path.{next_path}
 use Rattle.code_trees.specs.declared.tree_fault.TreeFault.TheVariants as fault
 use Rattle.code_trees.proofs.Paths.{last_or_below, length-next, next-below, next-last}
 use Rattle.hierarchy.specs.Lead.{LeadLine, line_fault, first_line_fault, last_at, place_or, tree_below}
-use Rattle.hierarchy.specs.LeadPath.{tree_by_path, read_on}
+use Rattle.hierarchy.specs.LeadPath.{tree_by_path, tree_with_lines}
 
 -- at each depth of the path the last place of that depth
 pub record IsDepthPath (depths path : List ℕ) (n : ℕ) : Type 0 where
@@ -74,5 +74,5 @@ same-tree (line ∷ lines) tree depths path before is some =
 
 -- at the start
 pub same-start : (total : List ℕ) (lines : List LeadLine)
-    → tree_unless (first_line_fault 0 (total ∷ []) lines) (tree_below ((total, None) ∷ []) (0 ∷ []) lines) ≡ read_on ((total, None) ∷ []) (0 ∷ []) lines
+    → tree_unless (first_line_fault 0 (total ∷ []) lines) (tree_below ((total, None) ∷ []) (0 ∷ []) lines) ≡ tree_with_lines ((total, None) ∷ []) (0 ∷ []) lines
 same-start total lines = same-tree lines ((total, None) ∷ []) (0 ∷ []) (0 ∷ []) (total ∷ []) (record { each = refl; held = λ depth below. let zeroth : depth ≡ 0 = omega arith in rw zeroth refl }) (omega arith)

@@ -6,7 +6,7 @@ use Rattle.code_trees.specs.Growing.{tree_with_node}
 use Rattle.code_trees.specs.Faults.{or_else, tree_unless, AnswersFault}
 use Rattle.hierarchy.specs.Lead.{LeadLine, line_fault, first_line_fault, lead_line, leads_of, unless_blank, leads_within, begins_with, one_more}
 use Rattle.code_trees.specs.Path.{next_path}
-use Rattle.hierarchy.specs.LeadPath.{tree_by_path, read_on}
+use Rattle.hierarchy.specs.LeadPath.{tree_by_path, tree_with_lines}
 use Rattle.code_trees.specs.declared.tree_fault.TreeFault.{TreeFault}
 use Rattle.code_trees.proofs.Growth.{codes-grown}
 use Rattle.code_trees.proofs.Paths.{length-next}
@@ -19,7 +19,7 @@ leads-next (suc most) n lead bytes e h = let same : most ≡ n = omega arith in 
 
 -- a line without fault is one node more
 pub read-step : (tree : Tree) (path : List ℕ) (line : LeadLine) (lines : List LeadLine) → 0 < length path → line_fault (length path - 1) (codes tree) line ≡ None
-    → read_on tree path (line ∷ lines) ≡ read_on (tree_with_node tree line.code (slice_index path line.leads)) (next_path path line.leads (length tree)) lines
+    → tree_with_lines tree path (line ∷ lines) ≡ tree_with_lines (tree_with_node tree line.code (slice_index path line.leads)) (next_path path line.leads (length tree)) lines
 read-step tree path line lines some none =
     let h : line.leads < length path = omega (arith, some, within-path (length path - 1) (codes tree) line none) in
     let last : line.leads + 1 ≡ length (next_path path line.leads (length tree)) - 1 = omega (arith, length-next path line.leads (length tree) h) in
@@ -32,13 +32,13 @@ read-step tree path line lines some none =
 -- the line that a step added
 pub read-ok : (r : Result (Unit {0}) TreeFault) (tree new : Tree) (path next : List ℕ) (line : LeadLine) (here : List LeadLine) → here ≡ line ∷ [] → 0 < length path
     → AnswersFault r (line_fault (length path - 1) (codes tree) line) → OnOk r (new ≡ tree_with_node tree line.code (slice_index path line.leads)) → OnOk r (next ≡ next_path path line.leads (length tree))
-    → OnOk r ((lines : List LeadLine) → read_on tree path (here ++ lines) ≡ read_on new next lines)
+    → OnOk r ((lines : List LeadLine) → tree_with_lines tree path (here ++ lines) ≡ tree_with_lines new next lines)
 read-ok (Err one) tree new path next line here same some told grows after = tt
 read-ok (Ok x) tree new path next line here same some told grows after = λ lines.
-    ap (λ (front : List LeadLine). read_on tree path (front ++ lines)) same
+    ap (λ (front : List LeadLine). tree_with_lines tree path (front ++ lines)) same
     ∙ read-step tree path line lines some told
-    ∙ ap (λ (t : Tree). read_on t (next_path path line.leads (length tree)) lines) (sym grows)
-    ∙ ap (λ (p : List ℕ). read_on new p lines) (sym after)
+    ∙ ap (λ (t : Tree). tree_with_lines t (next_path path line.leads (length tree)) lines) (sym grows)
+    ∙ ap (λ (p : List ℕ). tree_with_lines new p lines) (sym after)
 
 -- a line with a lead or a code is one line
 pub line-by-leads : (number leads : ℕ) (code : List ℕ) → leads ≢ 0 → unless_blank number leads code ≡ record { number = number; leads = leads; code = code } ∷ []

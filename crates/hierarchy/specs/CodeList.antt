@@ -46,8 +46,8 @@ codes_listed total n kept (line ∷ lines) = after_code total n kept (code_of_li
     (λ next. codes_listed total (n + 1) next lines)
 
 -- what the code of line n and the lines after it give, after the codes that are kept
-abbrev pub kept_on : List ℕ → ℕ → List (List ℕ) → List ℕ → List (List ℕ) → Result (List (List ℕ)) TreeFault
-kept_on total n kept code lines = after_code total n kept code (λ next. codes_listed total (n + 1) next lines)
+abbrev pub codes_listed_from : List ℕ → ℕ → List (List ℕ) → List ℕ → List (List ℕ) → Result (List (List ℕ)) TreeFault
+codes_listed_from total n kept code lines = after_code total n kept code (λ next. codes_listed total (n + 1) next lines)
 
 -- what a code list can be refused for
 abbrev pub IsListFault : TreeFault → Type 0
@@ -60,10 +60,11 @@ abbrev pub codes_of : List ℕ → List ℕ → Result (List (List ℕ)) TreeFau
 codes_of total bytes = codes_listed total 1 [] (lines_of bytes)
 
 -- a statement holds of the total, where the known codes are the total and these
-abbrev pub OfTotal : Tree → List (List ℕ) → (List ℕ → Type 0) → Type 0
-OfTotal known kept statement = (total : List ℕ) → codes known ≡ total ∷ kept → statement total
+abbrev pub HoldsOfTotal : Tree → List (List ℕ) → (List ℕ → Type 0) → Type 0
+HoldsOfTotal known kept statement = (total : List ℕ) → codes known ≡ total ∷ kept → statement total
 
 -- with the code of a line, before which these are kept and after which those, the codes of further lines are listed on
-abbrev pub ListsOn : List ℕ → ℕ → List (List ℕ) → List ℕ → List (List ℕ) → Type 0
-ListsOn total number before code after =
-    (lines : List (List ℕ)) → kept_on total number before code lines ≡ codes_listed total (number + 1) after lines
+abbrev pub ListsFurtherCodes : List ℕ → ℕ → List (List ℕ) → List ℕ → List (List ℕ) → Type 0
+ListsFurtherCodes total number before code after =
+    (lines : List (List ℕ)) → codes_listed_from total number before code lines
+    ≡ codes_listed total (number + 1) after lines

@@ -14,6 +14,6 @@ tree_by_path tree path (line ∷ lines) = tree_by_path (tree_with_node tree line
     (next_path path line.leads (length tree)) lines
 
 -- the tree that the lines that are left make of this one, or their first fault
-abbrev pub read_on : Tree → List ℕ → List LeadLine → Result Tree TreeFault
-read_on tree path lines =
+abbrev pub tree_with_lines : Tree → List ℕ → List LeadLine → Result Tree TreeFault
+tree_with_lines tree path lines =
     tree_unless (first_line_fault (length path - 1) (codes tree) lines) (tree_by_path tree path lines)

@@ -3,7 +3,7 @@ ghost use Rattle.std.specs.List.{before_first, position_or_len};
 ghost use Rattle.sdc_base.specs.Trees.{codes};
 ghost use Rattle.sdc_base.specs.Answers.{Fails, Gives};
 ghost use Rattle.code_trees.specs.Faults.{fault_of};
-ghost use Rattle.hierarchy.specs.CodeList.{is_comma, is_quoted, text_without_quotes, code_of_line, codes_listed, kept_on, codes_of, IsListFault, OfTotal, ListsOn};
+ghost use Rattle.hierarchy.specs.CodeList.{is_comma, is_quoted, text_without_quotes, code_of_line, codes_listed, codes_listed_from, codes_of, IsListFault, HoldsOfTotal, ListsFurtherCodes};
 
 use code_trees::{Nodes, TreeFault};
 use plain_text::{lines, trim};
@@ -51,17 +51,18 @@ fn keep(
     number: u32,
 ) -> Result<(), TreeFault>
     requires { (total : List ℕ) × (codes known.old ≡ total ∷ kept.old.items) }
-    ensures known { OnOk result (OfTotal known.old kept.old.items (λ total. codes known.new ≡ total ∷ kept.new.items)) }
+    ensures known { OnOk result (HoldsOfTotal known.old kept.old.items
+        (λ total. codes known.new ≡ total ∷ kept.new.items)) }
     ensures kind { IfErr result IsListFault }
-    ensures ok { OnOk result (OfTotal known.old kept.old.items
-        (λ total. ListsOn total number kept.old.items code.now kept.new.items)) }
-    ensures err { IfErr result (λ fault. OfTotal known.old kept.old.items (λ total. (lines : List (List ℕ))
-        → Fails (fault_of fault) (kept_on total number kept.old.items code.now lines))) }
+    ensures ok { OnOk result (HoldsOfTotal known.old kept.old.items
+        (λ total. ListsFurtherCodes total number kept.old.items code.now kept.new.items)) }
+    ensures err { IfErr result (λ fault. HoldsOfTotal known.old kept.old.items (λ total. (lines : List (List ℕ))
+        → Fails (fault_of fault) (codes_listed_from total number kept.old.items code.now lines))) }
 {
     if code.is_empty() {
         return Ok(());
     }
-    if known.place_of(code).is_some() {
+    if known.code_place(code).is_some() {
         return Ok(());
     }
     if kept.len() >= MOST {

@@ -6,7 +6,7 @@ ghost use Rattle.code_trees.specs.Growing.{tree_with_node};
 ghost use Rattle.code_trees.specs.Faults.{fault_of, AnswersFault};
 ghost use Rattle.hierarchy.specs.Lead.{leads_of, line_fault, lead_line, lead_of, LeadLine, IsLeadFault};
 ghost use Rattle.code_trees.specs.Path.{IsPath, next_path};
-ghost use Rattle.hierarchy.specs.LeadPath.{read_on};
+ghost use Rattle.hierarchy.specs.LeadPath.{tree_with_lines};
 
 use code_trees::{CodeTree, Nodes, TreeFault, add, total_alone};
 use plain_text::{lines, trim};
@@ -67,10 +67,11 @@ fn read_line(
     requires path { IsPath nodes.old path.old.items }
     requires lead { 0 < length lead.now }
     ensures ok { OnOk result ((lines : List LeadLine)
-        → read_on nodes.old path.old.items (lead_line lead.now number line.now ++ lines)
-        ≡ read_on nodes.new path.new.items lines) }
+        → tree_with_lines nodes.old path.old.items (lead_line lead.now number line.now ++ lines)
+        ≡ tree_with_lines nodes.new path.new.items lines) }
     ensures err { IfErr result (λ fault. (lines : List LeadLine)
-        → Fails (fault_of fault) (read_on nodes.old path.old.items (lead_line lead.now number line.now ++ lines))) }
+        → Fails (fault_of fault) (tree_with_lines nodes.old path.old.items
+        (lead_line lead.now number line.now ++ lines))) }
     ensures kind { IfErr result IsLeadFault }
     ensures tree { OnOk result (IsCodeTree nodes.new) }
     ensures path { OnOk result (IsPath nodes.new path.new.items) }

@@ -144,13 +144,13 @@ pub(crate) fn sign_over(edge: Edge, plus: bool) -> bool
 fn put_in(corners: &mut Vec<Corner>, new: Corner) -> Result<(), Memory>
     ensures { OnOk result (corners.new.items ≡ spec.with_corner corners.old.items new) }
 {
-    let at = place_of(corners, new);
+    let at = corner_place(corners, new);
     corners.insert(at, new)?;
     Ok(())
 }
 
 // How many stand before the first that has a higher number.
-fn place_of(corners: &[Corner], new: Corner) -> usize
+fn corner_place(corners: &[Corner], new: Corner) -> usize
     ensures place { insert corners.now result new ≡ spec.with_corner corners.now new }
     ensures within { result ≤ length corners.now }
 {

@@ -5,7 +5,7 @@ use Rattle.std.proofs.Math.Pow.{pow_mono}
 use Rattle.sdc_base.specs.declared.cell.Cell.{Cell}
 use Rattle.sdc_base.specs.declared.system.System.{System}
 use Rattle.tableau.specs.declared.problem.Problem.{Problem}
-use Rattle.tableau.specs.Problems.{numbers_of, target_row}
+use Rattle.tableau.specs.Problems.{variable_count, target_row}
 use Rattle.interval_audit.specs.declared.question.Question.{Question}
 use Rattle.interval_audit.specs.Groups.{Group, members}
 use Rattle.interval_audit.specs.ProblemSizes.{HasQuestionSize, cell_count, relation_count, size_bound}
@@ -24,7 +24,7 @@ pub if_sized : {E : Type 0} (system : System) (cells : List Cell) (group : Group
 if_sized system cells group question (Ok problem) is = rw is (size_is system cells group question)
 if_sized system cells group question (Err e) is = tt
 
-numbers_few : (system : System) (cells : List Cell) (group : Group) (question : Question) → numbers_of (problem_of system cells group question) ≤ 4 * cell_count system group + 2 * relation_count system group + 1
+numbers_few : (system : System) (cells : List Cell) (group : Group) (question : Question) → variable_count (problem_of system cells group question) ≤ 4 * cell_count system group + 2 * relation_count system group + 1
 numbers_few system cells group question =
     let problem : Problem = problem_of system cells group question in
     let few : HasQuestionSize system group problem = size_is system cells group question in

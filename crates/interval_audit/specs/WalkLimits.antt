@@ -2,7 +2,7 @@
 use Rattle.std.specs.Prelude.{◌≡◌, ℕ, ◌<◌, ◌≤◌, ◌^◌, Bool, List}
 use Rattle.sdc_base.specs.declared.cell.Cell.{Cell}
 use Rattle.sdc_base.specs.declared.system.System.{System}
-use Rattle.tableau.specs.Problems.{numbers_of}
+use Rattle.tableau.specs.Problems.{variable_count}
 use Rattle.tableau.specs.Tableaus.{TableauWalk, IsTableauWalk}
 use Rattle.interval_audit.specs.declared.question.Question.{Question}
 use Rattle.interval_audit.specs.declared.answer.Answer.{Answer}
@@ -16,7 +16,7 @@ use Rattle.interval_audit.specs.Problems.{problem_of}
 -- how many sets of columns and slacks the question's problem has; no basis comes twice in a walk, so it makes fewer
 -- steps
 abbrev pub walk_bound : System → List Cell → Group → Question → ℕ
-walk_bound system cells group question = 2 ^ numbers_of (problem_of system cells group question)
+walk_bound system cells group question = 2 ^ variable_count (problem_of system cells group question)
 
 -- the limit is at least this bound, in the asked cell's component
 abbrev pub IsAmple : System → List Cell → List Bool → Question → ℕ → Type 0

@@ -1,7 +1,7 @@
 ghost use Rattle.std.specs.Prelude.{◌≡◌, ◌<◌, ◌≤◌, ◌*◌, ◌^◌, ◌*ℤ◌, ◌<ℤ◌, ◌≤ℤ◌, All, pos, IfOk, IfErr, true, ℕ, neg_ℤ};
 ghost use Rattle.tableau.specs.Steps.{IsReached, IsBlocked};
 ghost use Rattle.tableau.specs.TableLaws.{value};
-ghost use Rattle.tableau.specs.Problems.{numbers_of};
+ghost use Rattle.tableau.specs.Problems.{variable_count};
 ghost use Rattle.tableau.specs.Tableaus.{IsTableauWalk};
 ghost use Rattle.interval_audit.specs.WalkStates.{state_of, objective_of, IsAtPoint, IsAtTarget, IsAtOptimum};
 ghost use Rattle.worlds.specs.NumberLists.{terms_of, number_given};
@@ -48,7 +48,7 @@ pub(crate) fn finish(
 // Reads where a walk stands, so that it is known.
 pub(crate) fn read_state(tableau: &Tableau)
     ensures walked { IsTableauWalk tableau.now }
-    ensures short { tableau.now.improved < 2 ^ numbers_of tableau.now.problem }
+    ensures short { tableau.now.improved < 2 ^ variable_count tableau.now.problem }
     ensures stands { IsAtPoint (state_of tableau.now) }
     ensures reached { IsReached tableau.now.problem tableau.now.table → IsAtTarget (state_of tableau.now) }
     ensures blocked { IsBlocked tableau.now.problem tableau.now.table → IsAtOptimum (state_of tableau.now) }

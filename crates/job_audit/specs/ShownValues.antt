@@ -5,7 +5,7 @@ use Rattle.sdc_base.specs.Steps.{map_fault}
 use Rattle.release_writer.specs.ReleaseReading.{rounded_read}
 use Rattle.cert_check.specs.RoundedRelease.{at_line}
 use Rattle.cert_check.specs.declared.faults.CheckFault.{CheckFault}
-use Rattle.job_inputs.specs.Bases.{base_of}
+use Rattle.job_inputs.specs.Bases.{method_base}
 use Rattle.job_inputs.specs.Tables.{names_of}
 use Rattle.job_inputs.specs.declared.settled.SettledJob.{SettledJob}
 
@@ -16,4 +16,4 @@ values_read job tables =
 
 -- the base of a job, in units
 abbrev pub base_of_job : SettledJob → ℤ
-base_of_job job = base_of job.described.job.method job.described.bound.decimals
+base_of_job job = method_base job.described.job.method job.described.bound.decimals

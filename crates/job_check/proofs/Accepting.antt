@@ -8,7 +8,7 @@ use Rattle.certificate.specs.declared.extra.Extra.{Extra}
 use Rattle.tabulate.specs.TabulatedMarks.{AreTabulated}
 use Rattle.apriori.specs.CellLevels.{HasLevelsInRange}
 use Rattle.apriori.specs.Settling.{view_of_cell}
-use Rattle.job_inputs.specs.SoundJobs.{IsSound}
+use Rattle.job_inputs.specs.SoundJobs.{IsSoundJob}
 use Rattle.job_inputs.specs.TabulatedBooks.{IsReadyFor}
 use Rattle.job_inputs.specs.declared.described.DescribedJob.{DescribedJob}
 use Rattle.job_inputs.specs.declared.faults.Fault.{Fault}
@@ -41,7 +41,7 @@ still-released released old new same is = record {
 pub still-judged : (old new : ReadRelease) → IsSameRelease old new → IsReadyRelease old → IsReadyRelease new
 still-judged old new same ready = record {
   job = record {
-    sound = subst IsSound (sym same.described) ready.job.sound;
+    sound = subst IsSoundJob (sym same.described) ready.job.sound;
     book = subst (λ (d : DescribedJob). IsReadyFor d new.job.book) (sym same.described) (still-ready old.job.described old.job.book new.job.book same.book ready.job.book);
     told =
         subst (λ (d : DescribedJob). AreTabulated new.job.book new.job.rows (keep_of d.job.rules.list) d.bound.scale) (sym same.described)

@@ -21,10 +21,10 @@ use Rattle.job_lang.specs.JobLimits.{CanHaveContributors}
 use Rattle.job_lang.specs.declared.job.OutputLine.{OutputLine}
 use Rattle.release_writer.specs.ReadingLaws.{AreTexts}
 use Rattle.release_writer.specs.ShownCells.{open_truth}
-use Rattle.repair.specs.HidingOrder.{case as protected_case}
+use Rattle.repair.specs.HidingOrder.{protected_case}
 use Rattle.worlds.specs.WorldFaults.{IsGivenWorld}
 use Rattle.job_check.specs.Contributors.{AreForJob}
-use Rattle.job_check.specs.GuardedReleases.{larger_set, ShowsGuarding}
+use Rattle.job_check.specs.GuardedReleases.{larger_set, IsRightGuarding}
 
 -- the worlds of a certificate are worlds of its hidden set
 pub given-worlds : (system : System) (cells : List Cell) (flags : List Bool) (asked : List (ℕ × Side)) (lines : List WorldLine) → EachWorld system cells flags asked lines → All (λ line. IsGivenWorld system cells flags line.world) lines
@@ -53,7 +53,7 @@ hides-where one (Some line) (Some extra) can are = hides-so one line can
 -- ---- what a release with extra cells shows
 
 pub shown-guarding : (case : Case) (soles : List (Option ℕ)) (tables : List (List ℕ)) (c : Certificate) (extra : Extra) (own larger : List Bool) → own ≡ own_set case c → larger ≡ larger_set case c extra → IsOfCase case c → IsAccepted case (own_texts case c) c
-    → AreTexts case.book.now case.decimals (open_truth case.book.now.marks larger) case.book.now.tables case.names.now tables → IsGuarding (protected_case case.system.now case.cells.now) soles own extra → ShowsGuarding case soles tables c extra
+    → AreTexts case.book.now case.decimals (open_truth case.book.now.marks larger) case.book.now.tables case.names.now tables → IsGuarding (protected_case case.system.now case.cells.now) soles own extra → IsRightGuarding case soles tables c extra
 shown-guarding case soles tables c extra own larger mine same of_case certified texts guarding =
     let held : IsGuarding (protected_case case.system.now case.cells.now) soles (own_set case c) extra = subst (λ (flags : List Bool). IsGuarding (protected_case case.system.now case.cells.now) soles flags extra) mine guarding in
     record {

@@ -11,21 +11,21 @@ use Rattle.office_io.specs.Files.{Files}
 use Rattle.office_io.specs.Shelves.{ShelfState}
 use Rattle.cert_check.specs.Acceptance.{IsAccepted, IsOfCase, IsRoundedRelease}
 use Rattle.cert_check.specs.Cases.{IsCase}
-use Rattle.cert_check.specs.FirstFault.{fault_of, first_fault}
+use Rattle.cert_check.specs.FirstFault.{fault_of, acceptance_fault}
 use Rattle.cert_check.specs.Methods.{rounds_cells}
 use Rattle.cert_check.specs.OwnTexts.{own_set, own_texts, release_fault}
 use Rattle.cert_check.specs.declared.case.Case.{Case}
 use Rattle.cert_check.specs.declared.faults.CheckFault.{CheckFault}
 use Rattle.cert_check.specs.declared.faults.CheckFault.TheVariants as fault
-use Rattle.repair.specs.HidingOrder.{case as protected_case}
+use Rattle.repair.specs.HidingOrder.{protected_case}
 use Rattle.job_inputs.specs.Reading.{HasCause, HasComeTo}
 use Rattle.job_inputs.specs.SettledJobs.{SettledInputs}
 use Rattle.job_inputs.specs.declared.file_ref.FileRef.{FileRef}
 use Rattle.job_inputs.specs.declared.stop.InputStop.{InputStop}
 use Rattle.job_inputs.specs.declared.stop.InputStop.TheVariants as input
-use Rattle.job_check.specs.Answers.{AnswersRelease, IsJudgedSo, IsNotAcceptedWith, stop_of}
+use Rattle.job_check.specs.Answers.{AnswersRelease, IsJudgementOf, IsNotAcceptedWith, stop_of}
 use Rattle.job_check.specs.Cases.{IsCaseOf}
-use Rattle.job_check.specs.GuardedReleases.{guarded_fault, flaw_of, larger_set, AreSolesOf, ShowsGuarding}
+use Rattle.job_check.specs.GuardedReleases.{guarded_fault, flaw_of, larger_set, AreSolesOf, IsRightGuarding}
 use Rattle.job_check.specs.Reading.{IsReleasedOf}
 use Rattle.job_check.specs.ReleaseFiles.{ReleasedFiles, released_with}
 use Rattle.job_check.specs.declared.reading.ReadRelease.{ReadRelease}
@@ -34,7 +34,7 @@ use Rattle.job_check.specs.declared.flaw.Flaw.TheVariants as flaw
 use Rattle.job_check.specs.declared.stop.CheckStop.TheVariants as stop
 
 -- a flaw of a release is the answer, but for want of memory
-pub flaw-comes : (released : ReleasedFiles) (why : Flaw) → IsJudgedSo released (Err why) → AnswersRelease (Ok released) (Err (stop_of why))
+pub flaw-comes : (released : ReleasedFiles) (why : Flaw) → IsJudgementOf released (Err why) → AnswersRelease (Ok released) (Err (stop_of why))
 flaw-comes released (flaw.NotAccepted fault.Counts) h = h _ refl
 flaw-comes released (flaw.NotAccepted fault.Method) h = h _ refl
 flaw-comes released (flaw.NotAccepted (fault.PrimaryShown cell)) h = h _ refl
@@ -168,31 +168,31 @@ abbrev pub plain : SettledInputs → Certificate → List (List ℕ) → Release
 plain settled certificate tables = released_with settled certificate None tables
 
 -- it has the first fault of its certificate
-pub plain-fault : (case : Case) (settled : SettledInputs) (certificate : Certificate) (extra : Option Extra) (tables : List (List ℕ)) (why : CheckFault) → extra ≡ None → Fails (fault_of why) (first_fault case tables certificate)
-    → IsCaseOf settled case → IsCase case tables → IsJudgedSo (released_with settled certificate extra tables) (Err (flaw.NotAccepted why))
+pub plain-fault : (case : Case) (settled : SettledInputs) (certificate : Certificate) (extra : Option Extra) (tables : List (List ℕ)) (why : CheckFault) → extra ≡ None → Fails (fault_of why) (acceptance_fault case tables certificate)
+    → IsCaseOf settled case → IsCase case tables → IsJudgementOf (released_with settled certificate extra tables) (Err (flaw.NotAccepted why))
 plain-fault case settled certificate extra tables why none exact is fits =
-    subst (λ (o : Option Extra). IsJudgedSo (released_with settled certificate o tables) (Err (flaw.NotAccepted why))) (sym none)
+    subst (λ (o : Option Extra). IsJudgementOf (released_with settled certificate o tables) (Err (flaw.NotAccepted why))) (sym none)
     (λ named seen.
     let it = seen-of flaw.NotAccepted (fault_of why) named seen in
     subst (IsNotAcceptedWith None (plain settled certificate tables)) (sym it.2) (record {
       case = case;
       is_case = is;
       fits = fits;
-      first = subst (λ (o : Option CheckFault). Fails o (first_fault case tables certificate)) it.1 exact;
+      first = subst (λ (o : Option CheckFault). Fails o (acceptance_fault case tables certificate)) it.1 exact;
       not_memory = names-no-memory why it.0 it.1;
     }))
 
 -- it is accepted where there is none
 pub plain-accepted : (case : Case) (settled : SettledInputs) (certificate : Certificate) (extra : Option Extra) (tables : List (List ℕ)) (result : Result (Unit {0}) CheckFault) → extra ≡ None → result ≡ Ok tt
     → (result ≡ Ok tt → IsOfCase case certificate) → (result ≡ Ok tt → rounds_cells case.method ≡ false → IsAccepted case tables certificate)
-    → (result ≡ Ok tt → rounds_cells case.method ≡ true → IsRoundedRelease case tables certificate) → Gives fault_of (λ u. u) result (first_fault case tables certificate)
-    → IsCaseOf settled case → IsCase case tables → IsJudgedSo (released_with settled certificate extra tables) (Ok tt)
+    → (result ≡ Ok tt → rounds_cells case.method ≡ true → IsRoundedRelease case tables certificate) → Gives fault_of (λ u. u) result (acceptance_fault case tables certificate)
+    → IsCaseOf settled case → IsCase case tables → IsJudgementOf (released_with settled certificate extra tables) (Ok tt)
 plain-accepted case settled certificate extra tables result none ok of_case suppressed rounded exact is fits =
-    subst (λ (o : Option Extra). IsJudgedSo (released_with settled certificate o tables) (Ok tt)) (sym none) (record {
+    subst (λ (o : Option Extra). IsJudgementOf (released_with settled certificate o tables) (Ok tt)) (sym none) (record {
       case = case;
       is_case = is;
       fits = fits;
-      no_fault = subst (λ (r : Result (Unit {0}) CheckFault). Gives fault_of (λ u. u) r (first_fault case tables certificate)) ok exact;
+      no_fault = subst (λ (r : Result (Unit {0}) CheckFault). Gives fault_of (λ u. u) r (acceptance_fault case tables certificate)) ok exact;
       of_case = of_case ok;
       suppressed = suppressed ok;
       rounded = rounded ok;
@@ -201,12 +201,12 @@ plain-accepted case settled certificate extra tables result none ok of_case supp
 -- ---- with extra cells
 
 pub guarded-so : (case : Case) (settled : SettledInputs) (soles : List (Option ℕ)) (certificate : Certificate) (own : Extra) (extra : Option Extra) (tables : List (List ℕ)) (result : Result (Unit {0}) Flaw) → extra ≡ Some own
-    → Gives flaw_of (λ u. u) result (guarded_fault case soles tables certificate own) → (result ≡ Ok tt → ShowsGuarding case soles tables certificate own) → IsCaseOf settled case → IsCase case tables
-    → AreSolesOf case settled.inputs.records.rows soles → IsJudgedSo (released_with settled certificate extra tables) result
+    → Gives flaw_of (λ u. u) result (guarded_fault case soles tables certificate own) → (result ≡ Ok tt → IsRightGuarding case soles tables certificate own) → IsCaseOf settled case → IsCase case tables
+    → AreSolesOf case settled.inputs.records.rows soles → IsJudgementOf (released_with settled certificate extra tables) result
 guarded-so case settled soles certificate own extra tables result some exact shows is fits are =
-    subst (λ (o : Option Extra). IsJudgedSo (released_with settled certificate o tables) result) (sym some) (here result exact shows)
+    subst (λ (o : Option Extra). IsJudgementOf (released_with settled certificate o tables) result) (sym some) (here result exact shows)
   where
-    here : (r : Result (Unit {0}) Flaw) → Gives flaw_of (λ u. u) r (guarded_fault case soles tables certificate own) → (r ≡ Ok tt → ShowsGuarding case soles tables certificate own) → IsJudgedSo (released_with settled certificate (Some own) tables) r
+    here : (r : Result (Unit {0}) Flaw) → Gives flaw_of (λ u. u) r (guarded_fault case soles tables certificate own) → (r ≡ Ok tt → IsRightGuarding case soles tables certificate own) → IsJudgementOf (released_with settled certificate (Some own) tables) r
     here (Ok u) gives goes = record { case = case; is_case = is; fits = fits; soles = soles; are_soles = are; no_fault = gives; shows = goes refl }
     here (Err why) gives goes = λ named seen. record {
       case = case;
@@ -219,12 +219,12 @@ guarded-so case settled soles certificate own extra tables result some exact sho
     }
 
 -- the judgement of what was read is that of the release
-pub as-released : (released : ReleasedFiles) (read : ReadRelease) (tables : List (List ℕ)) (result : Result (Unit {0}) Flaw) → tables ≡ read.tables → IsReleasedOf released read → IsJudgedSo (released_with released.settled read.certificate read.extra tables) result
-    → IsJudgedSo released result
+pub as-released : (released : ReleasedFiles) (read : ReadRelease) (tables : List (List ℕ)) (result : Result (Unit {0}) Flaw) → tables ≡ read.tables → IsReleasedOf released read → IsJudgementOf (released_with released.settled read.certificate read.extra tables) result
+    → IsJudgementOf released result
 as-released released read tables result same is judged =
-    subst (λ (all : List (List ℕ)). IsJudgedSo (released_with released.settled released.certificate released.extra all) result) (same ∙ is.tables)
-    (subst (λ (o : Option Extra). IsJudgedSo (released_with released.settled released.certificate o tables) result) is.extra
-    (subst (λ (c : Certificate). IsJudgedSo (released_with released.settled c read.extra tables) result) is.certificate judged))
+    subst (λ (all : List (List ℕ)). IsJudgementOf (released_with released.settled released.certificate released.extra all) result) (same ∙ is.tables)
+    (subst (λ (o : Option Extra). IsJudgementOf (released_with released.settled released.certificate o tables) result) is.extra
+    (subst (λ (c : Certificate). IsJudgementOf (released_with released.settled c read.extra tables) result) is.certificate judged))
 
 -- ---- the first flaw, step by step
 
@@ -244,25 +244,25 @@ last-step case soles c extra = map_fault flaw.NotGuarded (first_extra_fault (pro
 abbrev two-steps : Case → List (Option ℕ) → List (List ℕ) → Certificate → Extra → Result (Unit {0}) Flaw
 two-steps case soles tables c extra = map_fault flaw.NotAccepted (release_fault case (larger_set case c extra) tables) >>= λ _. last-step case soles c extra
 
-behind-certificate : (case : Case) (soles : List (Option ℕ)) (tables : List (List ℕ)) (c : Certificate) (extra : Extra) → first_fault case (own_texts case c) c ≡ Ok tt → guarded_fault case soles tables c extra ≡ two-steps case soles tables c extra
+behind-certificate : (case : Case) (soles : List (Option ℕ)) (tables : List (List ℕ)) (c : Certificate) (extra : Extra) → acceptance_fault case (own_texts case c) c ≡ Ok tt → guarded_fault case soles tables c extra ≡ two-steps case soles tables c extra
 behind-certificate case soles tables c extra first = ap (λ (m : Result (Unit {0}) CheckFault). map_fault flaw.NotAccepted m >>= λ _. two-steps case soles tables c extra) first
 
-behind-tables : (case : Case) (soles : List (Option ℕ)) (tables : List (List ℕ)) (c : Certificate) (extra : Extra) → first_fault case (own_texts case c) c ≡ Ok tt → release_fault case (larger_set case c extra) tables ≡ Ok tt
+behind-tables : (case : Case) (soles : List (Option ℕ)) (tables : List (List ℕ)) (c : Certificate) (extra : Extra) → acceptance_fault case (own_texts case c) c ≡ Ok tt → release_fault case (larger_set case c extra) tables ≡ Ok tt
     → guarded_fault case soles tables c extra ≡ last-step case soles c extra
 behind-tables case soles tables c extra first then =
     behind-certificate case soles tables c extra first ∙ ap (λ (m : Result (Unit {0}) CheckFault). map_fault flaw.NotAccepted m >>= λ _. last-step case soles c extra) then
 
-pub certificate-stops : (case : Case) (soles : List (Option ℕ)) (tables : List (List ℕ)) (c : Certificate) (extra : Extra) (why : CheckFault) → Fails (fault_of why) (first_fault case (own_texts case c) c)
+pub certificate-stops : (case : Case) (soles : List (Option ℕ)) (tables : List (List ℕ)) (c : Certificate) (extra : Extra) (why : CheckFault) → Fails (fault_of why) (acceptance_fault case (own_texts case c) c)
     → Fails (flaw_of (flaw.NotAccepted why)) (guarded_fault case soles tables c extra)
-certificate-stops case soles tables c extra why h = seen-stops flaw.NotAccepted (fault_of why) (first_fault case (own_texts case c) c) (λ _. two-steps case soles tables c extra) h
+certificate-stops case soles tables c extra why h = seen-stops flaw.NotAccepted (fault_of why) (acceptance_fault case (own_texts case c) c) (λ _. two-steps case soles tables c extra) h
 
-pub tables-stop : (case : Case) (soles : List (Option ℕ)) (tables : List (List ℕ)) (c : Certificate) (extra : Extra) (larger : List Bool) (why : CheckFault) → first_fault case (own_texts case c) c ≡ Ok tt → larger ≡ larger_set case c extra
+pub tables-stop : (case : Case) (soles : List (Option ℕ)) (tables : List (List ℕ)) (c : Certificate) (extra : Extra) (larger : List Bool) (why : CheckFault) → acceptance_fault case (own_texts case c) c ≡ Ok tt → larger ≡ larger_set case c extra
     → Fails (fault_of why) (release_fault case larger tables) → Fails (flaw_of (flaw.NotAccepted why)) (guarded_fault case soles tables c extra)
 tables-stop case soles tables c extra larger why first same h =
     subst (λ (m : Result (Unit {0}) Flaw). Fails (flaw_of (flaw.NotAccepted why)) m) (sym (behind-certificate case soles tables c extra first))
     (seen-stops flaw.NotAccepted (fault_of why) (release_fault case (larger_set case c extra) tables) (λ _. last-step case soles c extra) (subst (λ (flags : List Bool). Fails (fault_of why) (release_fault case flags tables)) same h))
 
-pub extra-stops : (case : Case) (soles : List (Option ℕ)) (tables : List (List ℕ)) (c : Certificate) (extra : Extra) (own larger : List Bool) (why : ExtraFault) → first_fault case (own_texts case c) c ≡ Ok tt → own ≡ own_set case c → larger ≡ larger_set case c extra
+pub extra-stops : (case : Case) (soles : List (Option ℕ)) (tables : List (List ℕ)) (c : Certificate) (extra : Extra) (own larger : List Bool) (why : ExtraFault) → acceptance_fault case (own_texts case c) c ≡ Ok tt → own ≡ own_set case c → larger ≡ larger_set case c extra
     → release_fault case larger tables ≡ Ok tt → Fails (extra_fault_of why) (first_extra_fault (protected_case case.system.now case.cells.now) soles own c.worlds extra) → Fails (flaw_of (flaw.NotGuarded why)) (guarded_fault case soles tables c extra)
 extra-stops case soles tables c extra own larger why first mine same then h =
     subst (λ (m : Result (Unit {0}) Flaw). Fails (flaw_of (flaw.NotGuarded why)) m)
@@ -270,7 +270,7 @@ extra-stops case soles tables c extra own larger why first mine same then h =
     (seen-last flaw.NotGuarded (extra_fault_of why) (first_extra_fault (protected_case case.system.now case.cells.now) soles (own_set case c) c.worlds extra)
     (subst (λ (flags : List Bool). Fails (extra_fault_of why) (first_extra_fault (protected_case case.system.now case.cells.now) soles flags c.worlds extra)) mine h))
 
-pub none-stops : (case : Case) (soles : List (Option ℕ)) (tables : List (List ℕ)) (c : Certificate) (extra : Extra) (own larger : List Bool) → first_fault case (own_texts case c) c ≡ Ok tt → own ≡ own_set case c → larger ≡ larger_set case c extra
+pub none-stops : (case : Case) (soles : List (Option ℕ)) (tables : List (List ℕ)) (c : Certificate) (extra : Extra) (own larger : List Bool) → acceptance_fault case (own_texts case c) c ≡ Ok tt → own ≡ own_set case c → larger ≡ larger_set case c extra
     → release_fault case larger tables ≡ Ok tt → first_extra_fault (protected_case case.system.now case.cells.now) soles own c.worlds extra ≡ Ok tt → guarded_fault case soles tables c extra ≡ Ok tt
 none-stops case soles tables c extra own larger first mine same then h =
     behind-tables case soles tables c extra first (subst (λ (flags : List Bool). release_fault case flags tables ≡ Ok tt) same then)

@@ -7,7 +7,7 @@ use Rattle.job_lang.specs.declared.job.OutputLine.{OutputLine}
 use Rattle.office_io.specs.Files.{Files}
 use Rattle.job_inputs.proofs.Refusing.{fails-on}
 use Rattle.job_inputs.specs.CertificateFile.{certificate_in}
-use Rattle.job_inputs.specs.Looks.{IsFile, ComesTo as InputsComeTo}
+use Rattle.job_inputs.specs.Looks.{IsFile, InputsComeTo}
 use Rattle.job_inputs.specs.SettledJobs.{SettledInputs, settled_of, IsSettledOf}
 use Rattle.job_inputs.specs.Tables.{tables_of, ComesToTables, TablesComeTo}
 use Rattle.job_inputs.specs.declared.described.DescribedJob.{DescribedJob}
@@ -17,7 +17,7 @@ use Rattle.job_inputs.specs.declared.file_ref.FileRef.TheVariants as file
 use Rattle.job_inputs.specs.declared.purpose.Purpose.TheVariants as purpose
 use Rattle.job_inputs.specs.declared.settled.SettledJob.{SettledJob}
 use Rattle.job_check.specs.Contributors.{extra_for, IsContributorsFile}
-use Rattle.job_check.specs.Reading.{IsReleasedOf, ComesTo}
+use Rattle.job_check.specs.Reading.{IsReleasedOf, ReleaseComesTo}
 use Rattle.job_check.specs.ReleaseFiles.{released_of, released_with}
 use Rattle.job_check.specs.declared.reading.ReadRelease.{ReadRelease}
 
@@ -99,7 +99,7 @@ all-read files name read was signed beside put =
 
 -- ---- to which file it comes
 
-pub inputs-come : (files : Files) (name : List ℕ) (f : FileRef) (held : List ℕ) → InputsComeTo purpose.Release files name f held → ComesTo files name f held
+pub inputs-come : (files : Files) (name : List ℕ) (f : FileRef) (held : List ℕ) → InputsComeTo purpose.Release files name f held → ReleaseComesTo files name f held
 inputs-come files name file.Job held h = h
 inputs-come files name file.Metadata held h = h
 inputs-come files name (file.CodeList at) held h = h
@@ -111,7 +111,7 @@ inputs-come files name file.Contributors held h = absurd h
 inputs-come files name (file.Table t) held h = absurd h
 inputs-come files name file.Out held h = absurd h
 
-pub certificate-comes : (files : Files) (name : List ℕ) (job : SettledJob) (f : FileRef) (held : List ℕ) → WasSettled files name job → IsFile file.Certificate job.described.job.certificate f held → ComesTo files name f held
+pub certificate-comes : (files : Files) (name : List ℕ) (job : SettledJob) (f : FileRef) (held : List ℕ) → WasSettled files name job → IsFile file.Certificate job.described.job.certificate f held → ReleaseComesTo files name f held
 certificate-comes files name job f held was comes =
     let it = inputs-of files name job was in
     rw comes.is_file (it.settled, it.read, comes.is_name ∙ ap (λ (d : DescribedJob). d.job.certificate) it.is.described)
@@ -121,7 +121,7 @@ by-line None f held comes = absurd comes
 by-line (Some line) f held comes = (comes.is_file, record { is_file = refl; is_name = comes.is_name })
 
 pub contributors-come : (files : Files) (name : List ℕ) (job : SettledJob) (certificate : Certificate) (f : FileRef) (held : List ℕ) → WasSettled files name job → certificate_in files job.described.job.certificate ≡ Ok certificate
-    → IsContributorsFile job.described.job.contributors f held → ComesTo files name f held
+    → IsContributorsFile job.described.job.contributors f held → ReleaseComesTo files name f held
 contributors-come files name job certificate f held was signed comes =
     let it = inputs-of files name job was in
     let here = subst (λ (d : DescribedJob). certificate_in files d.job.certificate ≡ Ok certificate) it.is.described signed in
@@ -129,7 +129,7 @@ contributors-come files name job certificate f held was signed comes =
     rw own.0 (it.settled, it.read, rw here refl, subst (λ (d : DescribedJob). IsContributorsFile d.job.contributors file.Contributors held) it.is.described own.1)
 
 pub tables-come : (files : Files) (name : List ℕ) (job : SettledJob) (certificate : Certificate) (extra : Option Extra) (f : FileRef) (held : List ℕ) → WasSettled files name job → certificate_in files job.described.job.certificate ≡ Ok certificate
-    → extra_for files job.described.job.contributors ≡ Ok extra → ComesToTables files job.described.job f held → ComesTo files name f held
+    → extra_for files job.described.job.contributors ≡ Ok extra → ComesToTables files job.described.job f held → ReleaseComesTo files name f held
 tables-come files name job certificate extra f held was signed beside comes =
     let it = inputs-of files name job was in
     let here = subst (λ (d : DescribedJob). certificate_in files d.job.certificate ≡ Ok certificate) it.is.described signed in

@@ -6,7 +6,7 @@ use Rattle.attackers.specs.declared.faults.ExtraFault.{ExtraFault}
 use Rattle.attackers.specs.declared.faults.ExtraFault.TheVariants as extra_fault
 use Rattle.cert_check.specs.Acceptance.{IsAccepted, IsOfCase, IsRoundedRelease}
 use Rattle.cert_check.specs.Cases.{IsCase}
-use Rattle.cert_check.specs.FirstFault.{first_fault}
+use Rattle.cert_check.specs.FirstFault.{acceptance_fault}
 use Rattle.cert_check.specs.Methods.{rounds_cells}
 use Rattle.cert_check.specs.declared.case.Case.{Case}
 use Rattle.cert_check.specs.declared.faults.CheckFault.{CheckFault}
@@ -16,7 +16,7 @@ use Rattle.job_inputs.specs.Reading.{stopped_for}
 use Rattle.job_inputs.specs.declared.faults.Fault.{Fault}
 use Rattle.job_inputs.specs.declared.stop.InputStop.TheVariants as input
 use Rattle.job_check.specs.Cases.{IsCaseOf}
-use Rattle.job_check.specs.GuardedReleases.{guarded_fault, flaw_of, AreSolesOf, ShowsGuarding}
+use Rattle.job_check.specs.GuardedReleases.{guarded_fault, flaw_of, AreSolesOf, IsRightGuarding}
 use Rattle.job_check.specs.ReleaseFiles.{ReleasedFiles}
 use Rattle.job_check.specs.declared.flaw.Flaw.{Flaw}
 use Rattle.job_check.specs.declared.flaw.Flaw.TheVariants as flaw
@@ -30,7 +30,7 @@ pub record IsAcceptedRelease (released : ReleasedFiles) : Type 0 where
   pub case : Case
   pub is_case : IsCaseOf released.settled case
   pub fits : IsCase case released.tables
-  pub no_fault : first_fault case released.tables released.certificate ≡ Ok tt
+  pub no_fault : acceptance_fault case released.tables released.certificate ≡ Ok tt
   pub of_case : IsOfCase case released.certificate
   pub suppressed : rounds_cells case.method ≡ false → IsAccepted case released.tables released.certificate
   pub rounded : rounds_cells case.method ≡ true → IsRoundedRelease case released.tables released.certificate
@@ -40,7 +40,7 @@ pub record IsNotAccepted (released : ReleasedFiles) (why : CheckFault) : Type 0 
   pub case : Case
   pub is_case : IsCaseOf released.settled case
   pub fits : IsCase case released.tables
-  pub first : first_fault case released.tables released.certificate ≡ Err why
+  pub first : acceptance_fault case released.tables released.certificate ≡ Err why
   pub not_memory : why ≢ fault.Memory
 
 -- The release is accepted with its extra cells: for the case of its settled inputs and the records that alone make up
@@ -53,7 +53,7 @@ pub record IsAcceptedWithExtra (released : ReleasedFiles) (extra : Extra) : Type
   pub soles : List (Option ℕ)
   pub are_soles : AreSolesOf case released.settled.inputs.records.rows soles
   pub no_fault : guarded_fault case soles released.tables released.certificate extra ≡ Ok tt
-  pub shows : ShowsGuarding case soles released.tables released.certificate extra
+  pub shows : IsRightGuarding case soles released.tables released.certificate extra
 
 -- The release with its extra cells has this fault, the first one; it isn't want of memory.
 pub record IsNotAcceptedWithExtra (released : ReleasedFiles) (extra : Extra) (why : Flaw) : Type 0 where
@@ -85,9 +85,9 @@ abbrev pub IsFaultyRelease : Flaw → ReleasedFiles → Type 0
 IsFaultyRelease why released = IsNotAcceptedWith released.extra released why
 
 -- the answer to whether a release is accepted, want of memory aside
-abbrev pub IsJudgedSo : ReleasedFiles → Result (Unit {0}) Flaw → Type 0
-IsJudgedSo released (Ok fine) = IsRightRelease released
-IsJudgedSo released (Err why) = ForSome (flaw_of why) (λ named. IsFaultyRelease named released)
+abbrev pub IsJudgementOf : ReleasedFiles → Result (Unit {0}) Flaw → Type 0
+IsJudgementOf released (Ok fine) = IsRightRelease released
+IsJudgementOf released (Err why) = ForSome (flaw_of why) (λ named. IsFaultyRelease named released)
 
 -- a fault as a stop of the check; want of memory is one of its inputs
 abbrev pub stop_for : CheckFault → CheckStop

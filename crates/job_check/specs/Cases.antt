@@ -4,7 +4,7 @@ use Rattle.modular_plan.specs.Methods.{passes_of}
 use Rattle.cert_check.specs.declared.case.Case.{Case}
 use Rattle.modular_plan.specs.Plans.{trail_of, IsSameButHidden}
 use Rattle.relations.specs.Holding.{IsSystemOf}
-use Rattle.job_inputs.specs.Bases.{base_of}
+use Rattle.job_inputs.specs.Bases.{method_base}
 use Rattle.job_inputs.specs.SettledJobs.{SettledInputs, IsSettledOf}
 use Rattle.job_inputs.specs.Tables.{names_of}
 use Rattle.job_inputs.specs.declared.settled.SettledJob.{SettledJob}
@@ -21,6 +21,6 @@ pub record IsCaseOf (settled : SettledInputs) (case : Case) : Type 0 where
   pub trail : case.trail.now.steps ≡ trail_of job.book job.cells job.described.job.cost
       (passes_of job.described.job.method)
   pub method : case.method ≡ job.described.job.method
-  pub base : case.base ≡ base_of job.described.job.method job.described.bound.decimals
+  pub base : case.base ≡ method_base job.described.job.method job.described.bound.decimals
   pub names : case.names.now ≡ map names_of job.described.job.tables
   pub decimals : case.decimals ≡ job.described.bound.decimals

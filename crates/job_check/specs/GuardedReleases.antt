@@ -10,7 +10,7 @@ use Rattle.attackers.specs.Extras.{hide_cells}
 use Rattle.attackers.specs.KnownCells.{Guards, IsAttack}
 use Rattle.attackers.specs.declared.attack.Attack.{Attack}
 use Rattle.cert_check.specs.Acceptance.{IsAccepted, IsOfCase}
-use Rattle.cert_check.specs.FirstFault.{fault_of, first_fault}
+use Rattle.cert_check.specs.FirstFault.{fault_of, acceptance_fault}
 use Rattle.cert_check.specs.OwnTexts.{own_set, own_texts, release_fault}
 use Rattle.cert_check.specs.declared.case.Case.{Case}
 use Rattle.certificate.specs.declared.certificate.Certificate.{Certificate}
@@ -18,7 +18,7 @@ use Rattle.certificate.specs.declared.extra.Extra.{Extra}
 use Rattle.linked_tables.specs.BookCells.{cells}
 use Rattle.release_writer.specs.ReadingLaws.{AreTexts}
 use Rattle.release_writer.specs.ShownCells.{open_truth}
-use Rattle.repair.specs.HidingOrder.{case as protected_case}
+use Rattle.repair.specs.HidingOrder.{protected_case}
 use Rattle.job_check.specs.declared.flaw.Flaw.{Flaw}
 use Rattle.job_check.specs.declared.flaw.Flaw.TheVariants as flaw
 
@@ -31,7 +31,7 @@ larger_set case c extra = hide_cells (own_set case c) extra.cells
 -- worlds.
 abbrev pub guarded_fault : Case → List (Option ℕ) → List (List ℕ) → Certificate → Extra → Result (Unit {0}) Flaw
 guarded_fault case soles tables c extra =
-    map_fault flaw.NotAccepted (first_fault case (own_texts case c) c) >>= λ _.
+    map_fault flaw.NotAccepted (acceptance_fault case (own_texts case c) c) >>= λ _.
     map_fault flaw.NotAccepted (release_fault case (larger_set case c extra) tables) >>= λ _.
     map_fault flaw.NotGuarded (extra_fault (protected_case case.system.now case.cells.now) soles (own_set case c) c.worlds
     extra)
@@ -50,7 +50,7 @@ pub record AreSolesOf (case : Case) (rows : List Row) (soles : List (Option ℕ)
 -- accepted: that set protects. The tables of the release hide exactly the larger set. Each extra cell is needed, and
 -- against each contributor that alone makes up some cell the larger set guards every primary cell that it doesn't know,
 -- to both sides.
-pub record ShowsGuarding (case : Case) (soles : List (Option ℕ)) (tables : List (List ℕ)) (c : Certificate)
+pub record IsRightGuarding (case : Case) (soles : List (Option ℕ)) (tables : List (List ℕ)) (c : Certificate)
     (extra : Extra) : Type 0 where
   pub of_case : IsOfCase case c
   pub certified : IsAccepted case (own_texts case c) c

@@ -3,7 +3,7 @@ use Rattle.std.specs.Prelude.{◌≡◌, ℕ, List, length, Result, Ok, Err, IsO
 use Rattle.sdc_base.specs.Answers.{Fails}
 use Rattle.office_io.specs.Files.{Files}
 use Rattle.job_inputs.specs.CertificateFile.{certificate_in}
-use Rattle.job_inputs.specs.Looks.{ComesTo as InputsComeTo}
+use Rattle.job_inputs.specs.Looks.{InputsComeTo}
 use Rattle.job_inputs.specs.Reading.{stopped_for}
 use Rattle.job_inputs.specs.SettledJobs.{SettledInputs, settled_of, IsReadyJob, IsSettledOf}
 use Rattle.job_inputs.specs.Tables.{TablesComeTo}
@@ -37,17 +37,17 @@ pub record IsReadyRelease (read : ReadRelease) : Type 0 where
 
 -- The check comes to this file, which has this name, and nothing before it has a fault: a file of the inputs, then the
 -- certificate, then the contributors' file of a job that names one, then the tables in the order of the job.
-abbrev pub ComesTo : Files → List ℕ → FileRef → List ℕ → Type 0
-ComesTo files name file.Certificate held =
+abbrev pub ReleaseComesTo : Files → List ℕ → FileRef → List ℕ → Type 0
+ReleaseComesTo files name file.Certificate held =
     (settled : SettledInputs) × (settled_of purpose.Release files name ≡ Ok settled)
     × (held ≡ settled.inputs.described.job.certificate)
-ComesTo files name file.Contributors held =
+ReleaseComesTo files name file.Contributors held =
     (settled : SettledInputs) × (settled_of purpose.Release files name ≡ Ok settled)
     × IsOk (certificate_in files settled.inputs.described.job.certificate)
     × IsContributorsFile settled.inputs.described.job.contributors file.Contributors held
-ComesTo files name (file.Table t) held =
+ReleaseComesTo files name (file.Table t) held =
     (settled : SettledInputs) × (settled_of purpose.Release files name ≡ Ok settled)
     × IsOk (certificate_in files settled.inputs.described.job.certificate)
     × IsOk (extra_for files settled.inputs.described.job.contributors)
     × TablesComeTo files settled.inputs.described.job t held
-ComesTo files name other held = InputsComeTo purpose.Release files name other held
+ReleaseComesTo files name other held = InputsComeTo purpose.Release files name other held

@@ -5,7 +5,7 @@ ghost use Rattle.job_inputs.specs.Reading.{HasCause, HasComeTo, HasOnlyLooked};
 ghost use Rattle.job_inputs.specs.declared.stop.InputStop.{InputStop as AnyStop};
 ghost use Rattle.job_check.specs.Accepted.{AnswersAccepted, IsAcceptedRead};
 ghost use Rattle.job_check.specs.Answers.{AnswersRelease};
-ghost use Rattle.job_check.specs.Reading.{ComesTo};
+ghost use Rattle.job_check.specs.Reading.{ReleaseComesTo};
 ghost use Rattle.job_check.specs.ReleaseFiles.{released_of};
 
 use crate::judging::judge;
@@ -43,7 +43,7 @@ pub fn check_release<S: Shelf>(alloc: Global, shelf: &mut S, name: &Text) -> Res
 
     // Where the shelf failed at a file, it is one to which the check came with no fault before it.
     ensures came_to { WhereTold (S.state shelf.old).files (λ fs. (e : AnyStop) → result ≡ Err (CheckStop.Inputs e)
-        → HasComeTo {X = Unit {0}} (ComesTo fs name.now) (Err e) fs (S.state shelf.new)) }
+        → HasComeTo {X = Unit {0}} (ReleaseComesTo fs name.now) (Err e) fs (S.state shelf.new)) }
 
     // The shelf was only looked at: its files stay, and no file was read without end.
     ensures shelf { HasOnlyLooked output_limit (S.state shelf.old) (S.state shelf.new) }
@@ -70,7 +70,7 @@ pub fn accepted_release<S: Shelf>(
 
     // Where the shelf failed at a file, it is one to which the check came with no fault before it.
     ensures came_to { WhereTold (S.state shelf.old).files (λ fs. (e : AnyStop) → result ≡ Err (CheckStop.Inputs e)
-        → HasComeTo {X = Unit {0}} (ComesTo fs name.now) (Err e) fs (S.state shelf.new)) }
+        → HasComeTo {X = Unit {0}} (ReleaseComesTo fs name.now) (Err e) fs (S.state shelf.new)) }
 
     // The shelf was only looked at: its files stay, and no file was read without end.
     ensures shelf { HasOnlyLooked output_limit (S.state shelf.old) (S.state shelf.new) }

@@ -3,7 +3,7 @@ ghost use Rattle.sdc_base.specs.Answers.{Gives};
 ghost use Rattle.attackers.specs.Extras.{hide_cells};
 ghost use Rattle.cert_check.specs.Cases.{IsCase};
 ghost use Rattle.cert_check.specs.Methods.{rounds_cells};
-ghost use Rattle.job_check.specs.GuardedReleases.{guarded_fault, flaw_of, ShowsGuarding};
+ghost use Rattle.job_check.specs.GuardedReleases.{guarded_fault, flaw_of, IsRightGuarding};
 
 use crate::flaw::Flaw;
 use attackers::{Extra, accept_extra};
@@ -28,7 +28,7 @@ pub(crate) fn accept_guarded(
     requires hides { rounds_cells case.now.method ≡ false }
     ensures exact { Gives flaw_of (λ u. u) result
         (guarded_fault case.now soles.now tables.now certificate.now extra.now) }
-    ensures shows { result ≡ Ok tt → ShowsGuarding case.now soles.now tables.now certificate.now extra.now }
+    ensures shows { result ≡ Ok tt → IsRightGuarding case.now soles.now tables.now certificate.now extra.now }
 {
     let hidden = accept_certificate(alloc, case, certificate)?;
     let larger = with_cells(alloc, &hidden, extra.cells.as_slice())?;

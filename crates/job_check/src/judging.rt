@@ -4,7 +4,7 @@ ghost use Rattle.cert_check.specs.Cases.{IsCase};
 ghost use Rattle.cert_check.specs.Methods.{rounds_cells};
 ghost use Rattle.job_inputs.specs.SettledJobs.{SettledInputs as AnyInputs};
 ghost use Rattle.job_check.specs.Accepted.{IsSameRelease};
-ghost use Rattle.job_check.specs.Answers.{IsJudgedSo};
+ghost use Rattle.job_check.specs.Answers.{IsJudgementOf};
 ghost use Rattle.job_check.specs.Cases.{IsCaseOf};
 ghost use Rattle.job_check.specs.Reading.{IsReadyRelease, IsReleasedOf};
 ghost use Rattle.job_check.specs.ReleaseFiles.{ReleasedFiles as AnyReleased, released_with};
@@ -28,7 +28,7 @@ use std::alloc::Global;
 /// Afterwards the marks of the book may say that other cells are hidden; all else stays.
 pub(crate) fn judge(alloc: Global, read: &mut ReadRelease) -> Result<(), Flaw>
     requires { IsReadyRelease read.old }
-    ensures judged { (released : AnyReleased) → IsReleasedOf released read.old → IsJudgedSo released result }
+    ensures judged { (released : AnyReleased) → IsReleasedOf released read.old → IsJudgementOf released result }
     ensures same { OnOk result (IsSameRelease read.old read.new) }
 {
     let job = &mut read.job;
@@ -72,7 +72,7 @@ fn judge_case(
     requires told { TellFrequencies case.now.book.now rows.now }
     requires fewer_than_2_32 { length rows.now < 2 ^ 32 }
     ensures { (settled : AnyInputs) → IsCaseOf settled case.now → rows.now ≡ settled.inputs.records.rows
-        → IsJudgedSo (released_with settled certificate.now extra.now tables.now) result }
+        → IsJudgementOf (released_with settled certificate.now extra.now tables.now) result }
 {
     match extra {
         Some(extra) => {

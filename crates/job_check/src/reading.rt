@@ -1,6 +1,6 @@
 ghost use Rattle.std.specs.Prelude.{IfOk};
 ghost use Rattle.job_check.specs.Accepted.{IsReadOf};
-ghost use Rattle.job_check.specs.Reading.{AreReleased, ComesTo, IsReadyRelease};
+ghost use Rattle.job_check.specs.Reading.{AreReleased, ReleaseComesTo, IsReadyRelease};
 ghost use Rattle.job_check.specs.ReleaseFiles.{released_of};
 ghost use Rattle.job_inputs.specs.ReadFiles.{output_limit};
 ghost use Rattle.job_inputs.specs.Reading.{HasLookedAt};
@@ -31,8 +31,8 @@ pub(crate) fn read_release<S: Shelf>(
     shelf: &mut S,
     name: &Text,
 ) -> Result<ReadRelease, InputStop>
-    ensures looked { HasLookedAt (λ fs answer. AreReleased answer (released_of fs name.now)) (λ fs. ComesTo fs name.now)
-        IsReadyRelease output_limit result (S.state shelf.old) (S.state shelf.new) }
+    ensures looked { HasLookedAt (λ fs answer. AreReleased answer (released_of fs name.now))
+        (λ fs. ReleaseComesTo fs name.now) IsReadyRelease output_limit result (S.state shelf.old) (S.state shelf.new) }
     // Of a shelf that tells nothing too.
     ensures released { IfOk result IsReadOf }
 {

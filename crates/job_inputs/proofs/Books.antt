@@ -5,13 +5,13 @@ use Rattle.std.proofs.lemmas.Bool.Decides.{nat_tests}
 use Rattle.sdc_base.specs.Cells.{cells_of}
 use Rattle.sdc_base.specs.Records.{Name}
 use Rattle.sdc_base.specs.Trees.{Tree}
-use Rattle.linked_tables.specs.Tables.{most_cells, has_unknown, has_twice, or_later, variables_fault, cells_fault, first_fault, unless_fault, fault_of, book_of}
+use Rattle.linked_tables.specs.Tables.{most_cells, has_unknown, has_twice, or_later, variables_fault, cells_fault, first_table_fault, unless_fault, fault_of, book_of}
 use Rattle.linked_tables.specs.declared.book_fault.BookFault.{BookFault}
 use Rattle.linked_tables.specs.declared.book_fault.BookFault.TheVariants as book
 use Rattle.sdc_base.specs.Answers.{Fails}
 use Rattle.job_inputs.specs.Laws.{OnlyCellsAreTooMany}
 use Rattle.job_inputs.specs.Refusals.{IsForCells}
-use Rattle.job_inputs.specs.SoundJobs.{IsSound}
+use Rattle.job_inputs.specs.SoundJobs.{IsSoundJob}
 use Rattle.job_inputs.specs.declared.described.DescribedJob.{DescribedJob}
 
 abbrev IsTooMany : BookFault → Type 0
@@ -47,11 +47,11 @@ one-of None (Some x) rest one none here later h = here one h
 one-of None None rest one none here later h = later one h
 
 first-is : (trees : List Tree) (before tables : List (List ℕ)) (one : BookFault) → AllByRecursion (λ places. AllByRecursion (λ k. k < length trees) places) tables → AllByRecursion (λ places. IsDistinct ◌==◌ places) tables
-    → first_fault trees before tables ≡ Some one → IsTooMany one
+    → first_table_fault trees before tables ≡ Some one → IsTooMany one
 first-is trees before [] one within once h = absurd cc
 first-is trees before (table ∷ tables) one within once h =
     let none : variables_fault (length trees) (length before) table ≡ None = rw (none-unknown (length trees) table within.0, none-twice table once.0) refl in
-    one-of (variables_fault (length trees) (length before) table) (cells_fault (length before) (cells_of trees (before ++ table ∷ []))) (first_fault trees (before ++ table ∷ []) tables) one none
+    one-of (variables_fault (length trees) (length before) table) (cells_fault (length before) (cells_of trees (before ++ table ∷ []))) (first_table_fault trees (before ++ table ∷ []) tables) one none
     (λ x is. cells-many (length before) (cells_of trees (before ++ table ∷ [])) x is)
     (λ x is. first-is trees (before ++ table ∷ []) tables x within.1 once.1 is) h
 
@@ -62,13 +62,13 @@ fault-is (Some other) x one h = let same : other ≡ one = cc in ap Some same
 pub only_cells_are_too_many : OnlyCellsAreTooMany
 only_cells_are_too_many described trees one sound many h =
     let within = subst (λ (n : ℕ). AllByRecursion (λ places. AllByRecursion (λ k. k < n) places) described.bound.tables) (sym many) sound.bound.within in
-    first-is trees [] described.bound.tables one within sound.bound.once (fault-is (first_fault trees [] described.bound.tables) (trees, described.bound.tables) one h)
+    first-is trees [] described.bound.tables one within sound.bound.once (fault-is (first_table_fault trees [] described.bound.tables) (trees, described.bound.tables) one h)
 
 of-cells : (one : BookFault) → IsTooMany one → IsForCells one
 of-cells one h = rw h.1 tt
 
 -- so a book that isn't made has too many cells, or wants memory
-pub is-for-cells : OnlyCellsAreTooMany → (described : DescribedJob) (trees : List Tree) (tables : List (List ℕ)) (one : BookFault) → IsSound described → length trees ≡ length described.bound.spanning → tables ≡ described.bound.tables
+pub is-for-cells : OnlyCellsAreTooMany → (described : DescribedJob) (trees : List Tree) (tables : List (List ℕ)) (one : BookFault) → IsSoundJob described → length trees ≡ length described.bound.spanning → tables ≡ described.bound.tables
     → Fails (fault_of one) (book_of trees tables) → IsForCells one
 is-for-cells law described trees tables (book.NoSuchVariable t) sound many is h = of-cells (book.NoSuchVariable t) (law described trees (book.NoSuchVariable t) sound many (ap (book_of trees) (sym is) ∙ h))
 is-for-cells law described trees tables (book.TwiceInTable t) sound many is h = of-cells (book.TwiceInTable t) (law described trees (book.TwiceInTable t) sound many (ap (book_of trees) (sym is) ∙ h))

@@ -12,7 +12,7 @@ use Rattle.job_inputs.specs.Inputs.{described_of, inputs_of}
 use Rattle.job_inputs.specs.CodeSources.{codes_in, fields_of, spanning_variables}
 use Rattle.job_inputs.specs.Cells.{cells_fault}
 use Rattle.job_inputs.specs.declared.inputs.Inputs.{Inputs}
-use Rattle.job_inputs.specs.Looks.{IsFile, IsListedIn, IsHierarchyOf, IsCodeListOf, FieldComesTo, FieldsComeTo, ComesFirstTo, StatementsComeTo, ComesTo}
+use Rattle.job_inputs.specs.Looks.{IsFile, IsListedIn, IsHierarchyOf, IsCodeListOf, FieldComesTo, FieldsComeTo, ComesFirstTo, StatementsComeTo, InputsComeTo}
 use Rattle.job_inputs.specs.declared.described.DescribedJob.{DescribedJob}
 use Rattle.job_inputs.specs.declared.file_ref.FileRef.{FileRef}
 use Rattle.job_inputs.specs.declared.file_ref.FileRef.TheVariants as file
@@ -37,7 +37,7 @@ pub comes-to-hierarchy : (files : Files) (place : ℕ) (variable : Variable) (f 
     → f ≡ file.Hierarchy place → IsListedIn held variable.shape → FieldComesTo files place variable f held
 comes-to-hierarchy files place variable f held codes read is listed = rw is (refl, rw read refl, listed)
 
-pub first-comes : (purpose : Purpose) (files : Files) (name : List ℕ) (f : FileRef) (held : List ℕ) → ComesFirstTo purpose files name f held → ComesTo purpose files name f held
+pub first-comes : (purpose : Purpose) (files : Files) (name : List ℕ) (f : FileRef) (held : List ℕ) → ComesFirstTo purpose files name f held → InputsComeTo purpose files name f held
 first-comes purpose files name file.Job held h = h
 first-comes purpose files name file.Metadata held h = h
 first-comes purpose files name (file.CodeList at) held h = absurd h
@@ -49,7 +49,7 @@ first-comes purpose files name file.Contributors held h = absurd h
 first-comes purpose files name (file.Table t) held h = absurd h
 first-comes purpose files name file.Out held h = absurd h
 
-pub fields-come-to : (purpose : Purpose) (files : Files) (name : List ℕ) (described : DescribedJob) (f : FileRef) (held : List ℕ) → described_of purpose files name ≡ Ok described → FieldsComeTo files (spanning_variables described) f held → ComesTo purpose files name f held
+pub fields-come-to : (purpose : Purpose) (files : Files) (name : List ℕ) (described : DescribedJob) (f : FileRef) (held : List ℕ) → described_of purpose files name ≡ Ok described → FieldsComeTo files (spanning_variables described) f held → InputsComeTo purpose files name f held
 fields-come-to purpose files name described file.Job held read h = absurd h.comes
 fields-come-to purpose files name described file.Metadata held read h = absurd h.comes
 fields-come-to purpose files name described (file.CodeList at) held read h = (described, read, h)
@@ -62,9 +62,9 @@ fields-come-to purpose files name described (file.Table t) held read h = absurd 
 fields-come-to purpose files name described file.Out held read h = absurd h.comes
 
 pub microdata-comes : (purpose : Purpose) (files : Files) (name : List ℕ) (described : DescribedJob) (fields : List Field) (f : FileRef) (held : List ℕ) → described_of purpose files name ≡ Ok described → fields_of files (spanning_variables described) ≡ Ok fields
-    → IsFile file.Microdata described.job.micro f held → ComesTo purpose files name f held
+    → IsFile file.Microdata described.job.micro f held → InputsComeTo purpose files name f held
 microdata-comes purpose files name described fields f held read laid comes = rw comes.is_file (described, read, rw laid refl, comes.is_name)
 
 pub statements-come : (purpose : Purpose) (files : Files) (name : List ℕ) (inputs : Inputs) (given : List Tree × List (List ℕ)) (f : FileRef) (t : ℕ) (held : List ℕ) → f ≡ file.Apriori t → inputs_of purpose files name ≡ Ok inputs
-    → map_fault cells_fault (book_of inputs.records.trees inputs.described.bound.tables) ≡ Ok given → StatementsComeTo files inputs t held → ComesTo purpose files name f held
+    → map_fault cells_fault (book_of inputs.records.trees inputs.described.bound.tables) ≡ Ok given → StatementsComeTo files inputs t held → InputsComeTo purpose files name f held
 statements-come purpose files name inputs given f t held is read linked comes = rw is (inputs, read, was-ok cells_fault (book_of inputs.records.trees inputs.described.bound.tables) given linked, comes)

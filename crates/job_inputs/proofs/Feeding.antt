@@ -11,7 +11,7 @@ use Rattle.microdata.specs.Microdata.{records_of}
 use Rattle.microdata.specs.declared.faults.RowWhy.{RowWhy}
 use Rattle.microdata.specs.declared.layout.Layout.{Layout}
 use Rattle.microdata.specs.declared.records.Records.{Records}
-use Rattle.job_inputs.specs.Inputs.{too_long_or, records_in}
+use Rattle.job_inputs.specs.Inputs.{long_file_fault, records_in}
 use Rattle.job_inputs.specs.ReadFiles.{limit, row_fault}
 use Rattle.job_inputs.specs.declared.file_ref.FileRef.TheVariants as file
 use Rattle.job_inputs.specs.declared.faults.Fault.{Fault}
@@ -72,7 +72,7 @@ fault-in : FaultsStand → (layout : Layout) (front behind : List ℕ) (at : ℕ
 fault-in law layout front behind at short faulty =
     let later = first-of limit front behind short in
     let early : fed_of layout (take limit (front ++ behind)) ≡ Err at = ap (fed_of layout) later ∙ (law layout front (take (limit - length front) behind) at faulty).0 in
-    elim (nat_lt limit (length (front ++ behind))) as (λ t. cond t (too_long_or (fed_of layout (take limit (front ++ behind)))) (map_fault row_fault (records_of layout (front ++ behind))) ≡ Err (row_fault at)) [
+    elim (nat_lt limit (length (front ++ behind))) as (λ t. cond t (long_file_fault (fed_of layout (take limit (front ++ behind)))) (map_fault row_fault (records_of layout (front ++ behind))) ≡ Err (row_fault at)) [
       | true ↦ rw early refl
       | false ↦ rw ((law layout front behind at faulty).1) refl
     ]

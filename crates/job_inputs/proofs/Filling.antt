@@ -10,7 +10,7 @@ use Rattle.sdc_base.specs.declared.rule.Rule.TheVariants as rule
 use Rattle.sdc_base.specs.declared.rule.Rules.{Rules}
 use Rattle.job_lang.specs.JobLimits.{AreInRange as AreJobRules, IsInRange as IsJobRule}
 use Rattle.linked_tables.specs.BlankMarks.{IsBlank}
-use Rattle.linked_tables.specs.Tables.{book_of, first_fault, unless_fault}
+use Rattle.linked_tables.specs.Tables.{book_of, first_table_fault, unless_fault}
 use Rattle.linked_tables.specs.declared.book_fault.BookFault.{BookFault}
 use Rattle.linked_tables.specs.declared.mark.Mark.{Mark}
 use Rattle.microdata.specs.Ranges.{AreInTrees, IsRow as IsReadRow}
@@ -18,7 +18,7 @@ use Rattle.primary_rules.specs.Ranges.{AreInRange, IsInRange}
 use Rattle.tabulate.specs.TabulatedMarks.{IsRow, HasNone}
 use Rattle.job_lang.specs.Binding.{weight_decimals}
 use Rattle.std.specs.Prelude.{◌^◌}
-use Rattle.job_inputs.specs.SoundJobs.{IsSound}
+use Rattle.job_inputs.specs.SoundJobs.{IsSoundJob}
 use Rattle.job_inputs.specs.declared.described.DescribedJob.{DescribedJob}
 
 -- ---- rules
@@ -88,7 +88,7 @@ power-range (suc (suc (suc (suc zero)))) h = (omega arith, omega arith)
 power-range (suc (suc (suc (suc (suc n))))) h = absurd (omega (arith, h))
 
 -- the scale of a bound job is from 1 to 10,000
-pub scale-range : (described : DescribedJob) → IsSound described → (1 ≤ described.bound.scale) × (described.bound.scale ≤ 10000)
+pub scale-range : (described : DescribedJob) → IsSoundJob described → (1 ≤ described.bound.scale) × (described.bound.scale ≤ 10000)
 scale-range described h = subst (λ (n : ℕ). (1 ≤ n) × (n ≤ 10000)) (sym h.bound.scale.0) (power-range (weight_decimals described.job.rules described.meta.variables) h.bound.scale.1)
 
 -- ---- what the book is of
@@ -101,4 +101,4 @@ made-of (Some fault) trees tables given h = absurd cc
 
 -- a book has the trees and the tables that it is made of
 pub linked-is : (trees : List Tree) (tables : List (List ℕ)) (given : List Tree × List (List ℕ)) → book_of trees tables ≡ Ok given → (given.0 ≡ trees) × (given.1 ≡ tables)
-linked-is trees tables given h = made-of (first_fault trees [] tables) trees tables given h
+linked-is trees tables given h = made-of (first_table_fault trees [] tables) trees tables given h

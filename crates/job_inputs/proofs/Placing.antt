@@ -24,7 +24,7 @@ use Rattle.microdata.specs.declared.records.Records.{Records}
 use Rattle.microdata.specs.declared.layout.NumberField.{NumberField}
 use Rattle.job_inputs.specs.Layouts.{number_field, no_number, number_at, weight_in, last_position, up_to_field, up_to_number, layout_of}
 use Rattle.job_inputs.specs.PlacedFields.{IsPlaced, IsPlacedField, IsPlacedNumber}
-use Rattle.job_inputs.specs.SoundJobs.{IsSound, AreAtLeaves, AreRecords}
+use Rattle.job_inputs.specs.SoundJobs.{IsSoundJob, AreAtLeaves, AreRecords}
 use Rattle.job_inputs.specs.declared.described.DescribedJob.{DescribedJob}
 use Rattle.microdata.specs.declared.layout.Source.TheVariants as source
 
@@ -76,7 +76,7 @@ get-within (y ∷ xs) zero x h = omega arith
 get-within (y ∷ xs) (suc k) x h = omega (arith, get-within xs k x h)
 
 -- the response is one of the metadata
-pub response-within : (described : DescribedJob) → IsSound described → described.bound.response < length described.meta.variables
+pub response-within : (described : DescribedJob) → IsSoundJob described → described.bound.response < length described.meta.variables
 response-within described h = get-within described.meta.variables described.bound.response h.bound.response.0 h.bound.response.1
 
 weighted-at : (rules : Rules) (variables : List Variable) (place : ℕ) → weight_place rules variables ≡ Some place → Found (λ (v : Variable). v.weight) variables place
@@ -87,10 +87,10 @@ weighted-at rules variables place h =
     ] h
 
 -- the weight of a bound job is a weight of the metadata
-pub weight-found : (described : DescribedJob) (place : ℕ) → IsSound described → described.bound.weight ≡ Some place → Found (λ (v : Variable). v.weight) described.meta.variables place
+pub weight-found : (described : DescribedJob) (place : ℕ) → IsSoundJob described → described.bound.weight ≡ Some place → Found (λ (v : Variable). v.weight) described.meta.variables place
 weight-found described place h is = weighted-at described.job.rules described.meta.variables place (sym (ap (λ (b : Bound). b.weight) h.places) ∙ is)
 
-pub weight-within : (described : DescribedJob) (place : ℕ) → IsSound described → described.bound.weight ≡ Some place → place < length described.meta.variables
+pub weight-within : (described : DescribedJob) (place : ℕ) → IsSoundJob described → described.bound.weight ≡ Some place → place < length described.meta.variables
 weight-within described place h is = let found = weight-found described place h is in get-within described.meta.variables place found.0 found.1
 
 placed-number : (most : ℕ) (v : Variable) → IsVariable v → v.decimals ≤ most → IsPlacedNumber most (number_field v)
@@ -99,19 +99,19 @@ placed-number most v h fine = record { placed = record { from_one = h.first_from
 number-is : (variables : List Variable) (place : ℕ) (v : Variable) → slice_get variables place ≡ Some v → number_at variables place ≡ number_field v
 number-is variables place v is = rw is refl
 
-pub response-placed : (described : DescribedJob) → IsSound described → IsPlacedNumber 9 (number_at described.meta.variables described.bound.response)
+pub response-placed : (described : DescribedJob) → IsSoundJob described → IsPlacedNumber 9 (number_at described.meta.variables described.bound.response)
 response-placed described h =
     let v = h.bound.response.0 in
     let one = h.meta.each described.bound.response v h.bound.response.1 in
     rw (number-is described.meta.variables described.bound.response v h.bound.response.1) (placed-number 9 v one one.at_most_9_decimals)
 
-pub weight-placed : (described : DescribedJob) (place : ℕ) → IsSound described → described.bound.weight ≡ Some place → IsPlacedNumber 4 (number_at described.meta.variables place)
+pub weight-placed : (described : DescribedJob) (place : ℕ) → IsSoundJob described → described.bound.weight ≡ Some place → IsPlacedNumber 4 (number_at described.meta.variables place)
 weight-placed described place h is =
     let found = weight-found described place h is in
     let one = h.meta.each place found.0 found.1 in
     rw (number-is described.meta.variables place found.0 found.1) (placed-number 4 found.0 one (one.weight_at_most_4_decimals found.2))
 
-pub weight-is-placed : (described : DescribedJob) → IsSound described → ForSome (weight_in described.meta.variables described.bound) (IsPlacedNumber 4)
+pub weight-is-placed : (described : DescribedJob) → IsSoundJob described → ForSome (weight_in described.meta.variables described.bound) (IsPlacedNumber 4)
 weight-is-placed described h = by-place described.bound.weight refl
   where
     by-place : (o : Option ℕ) → described.bound.weight ≡ o → ForSome (option_map (number_at described.meta.variables) o) (IsPlacedNumber 4)
@@ -163,7 +163,7 @@ weight-inside last None few h = few
 weight-inside last (Some number) few h = omega (arith, few, (h number refl).placed.inside)
 
 -- what is laid out by sound metadata can be read by
-pub is_layout : (described : DescribedJob) (fields : List Field) → IsSound described → AllByRecursion IsPlacedField fields → length fields ≡ length described.bound.spanning
+pub is_layout : (described : DescribedJob) (fields : List Field) → IsSoundJob described → AllByRecursion IsPlacedField fields → length fields ≡ length described.bound.spanning
     → IsLayout (layout_of described.meta.variables described.bound fields)
 is_layout described fields h all many =
     let response = number_at described.meta.variables described.bound.response in
@@ -213,13 +213,13 @@ scale-weighted rules variables =
     ]
 
 -- the scale of a bound job is that of its weight
-pub scale-is : (described : DescribedJob) → IsSound described → scale_of (weight_in described.meta.variables described.bound) ≡ described.bound.scale
+pub scale-is : (described : DescribedJob) → IsSoundJob described → scale_of (weight_in described.meta.variables described.bound) ≡ described.bound.scale
 scale-is described h =
     let variables = described.meta.variables in
     ap (λ (b : Bound). scale_of (option_map (number_at variables) b.weight)) h.places ∙ scale-weighted described.job.rules variables ∙ sym h.bound.scale.0
 
 -- records that were read by the layout of a bound job
-pub are-records : (described : DescribedJob) (fields : List Field) (layout : Layout) (records : Records) → IsSound described → length fields ≡ length described.bound.spanning
+pub are-records : (described : DescribedJob) (fields : List Field) (layout : Layout) (records : Records) → IsSoundJob described → length fields ≡ length described.bound.spanning
     → layout ≡ layout_of described.meta.variables described.bound fields → AreWithinLimits layout records → AllByRecursion IsCodeTree records.trees → AreAtLeaves records
     → AreRecords (length described.bound.spanning) described.bound.scale records
 are-records described fields layout records h many is within trees leaves =

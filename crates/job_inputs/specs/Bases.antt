@@ -5,7 +5,7 @@ use Rattle.sdc_base.specs.declared.method.Method.{Method}
 use Rattle.sdc_base.specs.declared.method.Method.TheVariants as method
 
 -- the base to which a method rounds, in units of so many decimals; 1 where it doesn't round
-abbrev pub base_of : Method → ℕ → ℤ
-base_of (method.Rnd base) decimals = base *ℤ pos (10 ^ decimals)
-base_of (method.Gh passes) decimals = pos 1
-base_of method.Modular decimals = pos 1
+abbrev pub method_base : Method → ℕ → ℤ
+method_base (method.Rnd base) decimals = base *ℤ pos (10 ^ decimals)
+method_base (method.Gh passes) decimals = pos 1
+method_base method.Modular decimals = pos 1

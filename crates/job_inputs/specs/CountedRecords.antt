@@ -1,7 +1,7 @@
 -- What holds of a job's book and numbers once its records are counted (own).
 use Rattle.std.specs.Prelude.{◌≡◌, ◌<◌, ◌≤◌, ◌^◌, length, ℕ, List, Result}
 use Rattle.linked_tables.specs.BookCells.{cells}
-use Rattle.job_inputs.specs.SoundJobs.{IsSound}
+use Rattle.job_inputs.specs.SoundJobs.{IsSoundJob}
 use Rattle.job_inputs.specs.TabulatedBooks.{IsBookOf, IsReadyFor}
 use Rattle.job_inputs.specs.declared.counted.CountedJob.{CountedJob}
 use Rattle.job_inputs.specs.declared.inputs.Inputs.{Inputs}
@@ -24,8 +24,8 @@ pub record IsCountedOf (inputs : Inputs) (counted : CountedJob) : Type 0 where
 
 -- the job is within its limits, its book has a mark for each cell and is ready for what a release wants of it, and the
 -- marks tell of the records, which are at most a million
-pub record IsReady (counted : CountedJob) : Type 0 where
-  pub sound : IsSound counted.described
+pub record IsReadyCount (counted : CountedJob) : Type 0 where
+  pub sound : IsSoundJob counted.described
   pub book : IsReadyFor counted.described counted.book
   pub told : AreTabulated counted.book counted.rows (keep_of counted.described.job.rules.list)
       counted.described.bound.scale
@@ -36,7 +36,7 @@ pub record IsReady (counted : CountedJob) : Type 0 where
 -- what a table's a priori file states can be added to these priors: the job is ready, it has the table, and there is a
 -- prior for each mark of its book
 pub record CanState (counted : CountedJob) (t : ℕ) (priors : List Prior) : Type 0 where
-  pub ready : IsReady counted
+  pub ready : IsReadyCount counted
   pub table : t < length counted.described.job.tables
   pub priors_are : ArePriors counted.book.marks priors
 

@@ -46,15 +46,15 @@ described_of purpose files name = do
 -- ---- microdata
 
 -- a fault that the first bytes of a file have, whatever follows them, or that the file is too long
-abbrev pub too_long_or : Result (Unit {0}) (ℕ × RowWhy) → Result Records Fault
-too_long_or (Ok fine) = Err (fault.TooLong file.Microdata)
-too_long_or (Err at) = Err (row_fault at)
+abbrev pub long_file_fault : Result (Unit {0}) (ℕ × RowWhy) → Result Records Fault
+long_file_fault (Ok fine) = Err (fault.TooLong file.Microdata)
+long_file_fault (Err at) = Err (row_fault at)
 
 -- the records that bytes are, or their first fault: of a file that is too long, a fault of its first 2^28 bytes comes
 -- before
 abbrev pub records_of_bytes : Layout → List ℕ → Result Records Fault
 records_of_bytes layout bytes =
-    if nat_lt limit (length bytes) then too_long_or (fed_of layout (take limit bytes))
+    if nat_lt limit (length bytes) then long_file_fault (fed_of layout (take limit bytes))
     else map_fault row_fault (records_of layout bytes)
 
 -- the records of a file, where there is one

@@ -87,18 +87,18 @@ IsPriorFileOf t lines f held =
     (line : PriorLine) × (prior_line t lines ≡ Some line) × (f ≡ file.Apriori t) × (held ≡ line.file)
 
 -- the run comes to this file, which has this name, and nothing before it has a fault
-abbrev pub ComesTo : Purpose → Files → List ℕ → FileRef → List ℕ → Type 0
-ComesTo purpose files name file.Job held = ComesFirstTo purpose files name file.Job held
-ComesTo purpose files name file.Metadata held = ComesFirstTo purpose files name file.Metadata held
-ComesTo purpose files name (file.CodeList at) held = (described : DescribedJob)
+abbrev pub InputsComeTo : Purpose → Files → List ℕ → FileRef → List ℕ → Type 0
+InputsComeTo purpose files name file.Job held = ComesFirstTo purpose files name file.Job held
+InputsComeTo purpose files name file.Metadata held = ComesFirstTo purpose files name file.Metadata held
+InputsComeTo purpose files name (file.CodeList at) held = (described : DescribedJob)
     × (described_of purpose files name ≡ Ok described)
     × FieldsComeTo files (spanning_variables described) (file.CodeList at) held
-ComesTo purpose files name (file.Hierarchy at) held = (described : DescribedJob)
+InputsComeTo purpose files name (file.Hierarchy at) held = (described : DescribedJob)
     × (described_of purpose files name ≡ Ok described)
     × FieldsComeTo files (spanning_variables described) (file.Hierarchy at) held
-ComesTo purpose files name file.Microdata held =
+InputsComeTo purpose files name file.Microdata held =
     (described : DescribedJob) × (described_of purpose files name ≡ Ok described)
     × IsOk (fields_of files (spanning_variables described)) × (held ≡ described.job.micro)
-ComesTo purpose files name (file.Apriori t) held = (inputs : Inputs) × (inputs_of purpose files name ≡ Ok inputs)
+InputsComeTo purpose files name (file.Apriori t) held = (inputs : Inputs) × (inputs_of purpose files name ≡ Ok inputs)
     × IsOk (book_of inputs.records.trees inputs.described.bound.tables) × StatementsComeTo files inputs t held
-ComesTo purpose files name other held = ⊥
+InputsComeTo purpose files name other held = ⊥

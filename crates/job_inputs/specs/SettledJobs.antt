@@ -20,7 +20,7 @@ use Rattle.office_io.specs.Files.{Files}
 use Rattle.job_inputs.specs.Cells.{figures, cells_fault, prior_fault}
 use Rattle.job_inputs.specs.Inputs.{inputs_of}
 use Rattle.job_inputs.specs.Reading.{stopped_for}
-use Rattle.job_inputs.specs.SoundJobs.{IsSound}
+use Rattle.job_inputs.specs.SoundJobs.{IsSoundJob}
 use Rattle.job_inputs.specs.PriorStatements.{priors_of}
 use Rattle.job_inputs.specs.TabulatedBooks.{IsBookOf, IsReadyFor}
 use Rattle.job_inputs.specs.declared.faults.Fault.{Fault}
@@ -80,7 +80,7 @@ AreSettled (Err stop) meant = Fails (stopped_for stop) meant
 -- The job is within its limits, and its book has a mark and a settled cell for each cell, with the same truths, and is
 -- ready for what a release wants of it; the marks tell of the job's records, which are at most a million.
 pub record IsReadyJob (job : SettledJob) : Type 0 where
-  pub sound : IsSound job.described
+  pub sound : IsSoundJob job.described
   pub book : IsReadyFor job.described job.book
   pub told : AreTabulated job.book job.rows (keep_of job.described.job.rules.list) job.described.bound.scale
   pub at_most_1000000 : length job.rows ≤ 1000000

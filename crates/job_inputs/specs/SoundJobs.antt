@@ -18,7 +18,7 @@ use Rattle.job_inputs.specs.declared.described.DescribedJob.{DescribedJob}
 use Rattle.job_inputs.specs.declared.inputs.Inputs.{Inputs}
 
 -- the job, the metadata and the places of the job's variables are within their limits
-pub record IsSound (described : DescribedJob) : Type 0 where
+pub record IsSoundJob (described : DescribedJob) : Type 0 where
   pub job : IsJob described.job
   pub meta : IsMeta described.meta
   pub bound : IsBound described.job described.meta.variables described.bound
@@ -54,5 +54,5 @@ pub record AreRecords (spanning scale : ℕ) (records : Records) : Type 0 where
 
 -- all that was read is within its limits
 pub record AreSound (inputs : Inputs) : Type 0 where
-  pub described : IsSound inputs.described
+  pub described : IsSoundJob inputs.described
   pub records : AreRecords (length inputs.described.bound.spanning) inputs.described.bound.scale inputs.records

@@ -1,7 +1,7 @@
 ghost use Rattle.std.specs.Prelude.{◌≡◌, ◌≤◌, ◌^◌, ◌≤ℤ◌, ◌*ℤ◌, pos};
 ghost use Rattle.sdc_base.specs.declared.method.Method.TheVariants as method;
 ghost use Rattle.job_lang.specs.JobLimits.{IsMethod};
-ghost use Rattle.job_inputs.specs.Bases.{base_of};
+ghost use Rattle.job_inputs.specs.Bases.{method_base};
 
 use sdc_base::Method;
 
@@ -13,7 +13,7 @@ use sdc_base::Method;
 pub fn base_in_units(method: Method, decimals: u8) -> i128
     requires method { IsMethod method }
     requires decimals { decimals ≤ 13 }
-    ensures base { result ≡ base_of method decimals }
+    ensures base { result ≡ method_base method decimals }
     ensures from_one { pos 1 ≤ℤ result }
     ensures at_most { result ≤ℤ pos (10 ^ 22) }
 {

@@ -8,7 +8,7 @@ ghost use Rattle.job_inputs.specs.Inputs.{described_of, job_for};
 ghost use Rattle.job_inputs.specs.ReadFiles.{job_fault, limit, meta_fault};
 ghost use Rattle.job_inputs.specs.Looks.{ComesFirstTo};
 ghost use Rattle.job_inputs.specs.Reading.{IsReadFrom};
-ghost use Rattle.job_inputs.specs.SoundJobs.{IsSound, IsBoundTo};
+ghost use Rattle.job_inputs.specs.SoundJobs.{IsSoundJob, IsBoundTo};
 ghost use Rattle.job_inputs.specs.Refusals.{IsReadAs};
 
 use crate::faults::Fault;
@@ -44,7 +44,7 @@ pub(crate) fn read_described<S: Shelf>(
     purpose: Purpose,
 ) -> Result<DescribedJob, InputStop>
     ensures { IsReadFrom (λ read. read) (λ fs. described_of purpose fs name.now)
-        (λ fs. ComesFirstTo purpose fs name.now) IsSound limit result (S.state shelf.old) (S.state shelf.new) }
+        (λ fs. ComesFirstTo purpose fs name.now) IsSoundJob limit result (S.state shelf.old) (S.state shelf.new) }
 {
     let bytes = load(alloc, shelf, name, FileRef::Job)?;
     let job = job_in(alloc, bytes.as_slice(), purpose)?;

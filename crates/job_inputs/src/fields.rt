@@ -7,7 +7,7 @@ ghost use Rattle.job_inputs.specs.Looks.{IsHierarchyOf, FieldComesTo, FieldsCome
 ghost use Rattle.job_inputs.specs.PlacedFields.{IsPlacedField, AreFieldsOf};
 ghost use Rattle.job_inputs.specs.ReadFiles.{limit};
 ghost use Rattle.job_inputs.specs.Reading.{IsReadFrom};
-ghost use Rattle.job_inputs.specs.SoundJobs.{IsSound};
+ghost use Rattle.job_inputs.specs.SoundJobs.{IsSoundJob};
 
 use crate::codes::{read_list, read_tree};
 use crate::described::DescribedJob;
@@ -27,7 +27,7 @@ pub(crate) fn read_fields<S: Shelf>(
     shelf: &mut S,
     described: &DescribedJob,
 ) -> Result<Items<Field>, InputStop>
-    requires { IsSound described.now }
+    requires { IsSoundJob described.now }
     ensures { IsReadFrom (λ fields. fields) (λ fs. spanning_fields fs described.now)
         (λ fs. FieldsComeTo fs (spanning_variables described.now)) (AreFieldsOf described.now) limit result
         (S.state shelf.old) (S.state shelf.new) }

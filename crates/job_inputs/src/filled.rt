@@ -6,7 +6,7 @@ ghost use Rattle.linked_tables.specs.Tables.{book_of};
 ghost use Rattle.job_inputs.specs.Refusals.{IsForCells, IsReadAs};
 ghost use Rattle.job_inputs.specs.Refusals as refusals;
 ghost use Rattle.job_inputs.specs.Cells.{cells_fault};
-ghost use Rattle.job_inputs.specs.SoundJobs.{IsSound, AreRows};
+ghost use Rattle.job_inputs.specs.SoundJobs.{IsSoundJob, AreRows};
 ghost use Rattle.job_inputs.specs.TabulatedBooks.{IsBlankBook, HasRecords};
 
 use crate::described::DescribedJob;
@@ -28,7 +28,7 @@ pub(crate) fn linked_book(
     described: &DescribedJob,
     trees: Items<CodeTree>,
 ) -> Result<Book, Refusal>
-    requires sound { IsSound described.now }
+    requires sound { IsSoundJob described.now }
     requires as_many { length trees ≡ length described.now.bound.spanning }
     ensures { IsReadAs (λ book. (book.trees, book.tables))
         (map_fault cells_fault (book_of trees described.now.bound.tables))
@@ -67,7 +67,7 @@ fn cells_refusal(fault: BookFault) -> Refusal
 /// The book with the records in its cells: each mark has the sum, the number and the largest of those that fall in its
 /// cell.
 pub(crate) fn book_with_records(book: Book, described: &DescribedJob, rows: &[Row]) -> Book
-    requires sound { IsSound described.now }
+    requires sound { IsSoundJob described.now }
     requires blank { All IsBlank book.marks }
     requires rows { AreRows book.trees described.now.bound.scale rows.now }
     ensures { HasRecords described.now rows.now book result }

@@ -1,5 +1,5 @@
 ghost use Rattle.job_inputs.specs.Inputs.{inputs_of};
-ghost use Rattle.job_inputs.specs.Looks.{ComesTo};
+ghost use Rattle.job_inputs.specs.Looks.{InputsComeTo};
 ghost use Rattle.job_inputs.specs.ReadFiles.{limit};
 ghost use Rattle.job_inputs.specs.Reading.{IsReadFrom};
 ghost use Rattle.job_inputs.specs.SoundJobs.{AreSound};
@@ -34,7 +34,7 @@ pub(crate) fn read_inputs<S: Shelf>(
     name: &Text,
     purpose: Purpose,
 ) -> Result<Inputs, InputStop>
-    ensures { IsReadFrom (λ read. read) (λ fs. inputs_of purpose fs name.now) (λ fs. ComesTo purpose fs name.now)
+    ensures { IsReadFrom (λ read. read) (λ fs. inputs_of purpose fs name.now) (λ fs. InputsComeTo purpose fs name.now)
         AreSound limit result (S.state shelf.old) (S.state shelf.new) }
 {
     let described = read_described(alloc, shelf, name, purpose)?;

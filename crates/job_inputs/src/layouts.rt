@@ -4,7 +4,7 @@ ghost use Rattle.microdata.specs.Layouts.{IsLayout};
 ghost use Rattle.job_inputs.specs.Layouts.{number_at, weight_in, up_to_field, needed_for, layout_of};
 ghost use Rattle.job_inputs.specs.Layouts as spec;
 ghost use Rattle.job_inputs.specs.PlacedFields.{IsPlaced, IsPlacedField, AreFieldsOf};
-ghost use Rattle.job_inputs.specs.SoundJobs.{IsSound};
+ghost use Rattle.job_inputs.specs.SoundJobs.{IsSoundJob};
 
 use crate::described::DescribedJob;
 use crate::fields::variable_at;
@@ -20,7 +20,7 @@ pub(crate) fn layout_for(
     described: &DescribedJob,
     fields: Items<Field>,
 ) -> Result<Layout, Memory>
-    requires sound { IsSound described.now }
+    requires sound { IsSoundJob described.now }
     requires fields { AreFieldsOf described.now fields }
     ensures exact { IfOk result (λ layout. layout ≡ layout_of described.now.meta.variables described.now.bound fields) }
     ensures layout { IfOk result IsLayout }
@@ -38,7 +38,7 @@ pub(crate) fn layout_for(
 
 // The response.
 fn response_of(alloc: Global, described: &DescribedJob) -> Result<NumberField, Memory>
-    requires { IsSound described.now }
+    requires { IsSoundJob described.now }
     ensures exact { IfOk result (λ number. number ≡ number_at described.now.meta.variables described.now.bound.response) }
 {
     number_of(
@@ -50,7 +50,7 @@ fn response_of(alloc: Global, described: &DescribedJob) -> Result<NumberField, M
 
 // The weight, where the job has weights.
 fn weight_of(alloc: Global, described: &DescribedJob) -> Result<Option<NumberField>, Memory>
-    requires { IsSound described.now }
+    requires { IsSoundJob described.now }
     ensures exact { IfOk result (λ weight. weight ≡ weight_in described.now.meta.variables described.now.bound) }
 {
     match described.bound.weight {

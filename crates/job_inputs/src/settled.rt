@@ -2,8 +2,8 @@ ghost use Rattle.std.specs.Prelude.{IfOk, IfErr, map, All};
 ghost use Rattle.sdc_base.specs.Answers.{Gives};
 ghost use Rattle.apriori.specs.Priors.{ArePriors};
 ghost use Rattle.apriori.specs.Settling.{view_of_cell};
-ghost use Rattle.job_inputs.specs.CountedRecords.{IsCountedOf, IsReady};
-ghost use Rattle.job_inputs.specs.Looks.{ComesTo};
+ghost use Rattle.job_inputs.specs.CountedRecords.{IsCountedOf, IsReadyCount};
+ghost use Rattle.job_inputs.specs.Looks.{InputsComeTo};
 ghost use Rattle.job_inputs.specs.Refusals.{refused_for, IsForContents};
 ghost use Rattle.job_inputs.specs.SettledJobs.{settled_of, IsReadyJob, IsSettledOf, AreSettled, SettledInputs, AreReadyCells};
 ghost use Rattle.job_inputs.specs.SettledJobs as spec;
@@ -55,7 +55,7 @@ pub fn read_settled<S: Shelf>(
     purpose: Purpose,
 ) -> Result<SettledJob, InputStop>
     ensures looked { HasLookedAt (λ fs answer. AreSettled answer (settled_of purpose fs name.now))
-        (λ fs. ComesTo purpose fs name.now) IsReadyJob limit result (S.state shelf.old) (S.state shelf.new) }
+        (λ fs. InputsComeTo purpose fs name.now) IsReadyJob limit result (S.state shelf.old) (S.state shelf.new) }
     // Of a shelf that tells nothing too.
     ensures settled { IfOk result (λ job. (settled : SettledInputs) × IsSettledOf settled job × AreSound settled.inputs) }
 {
@@ -82,7 +82,7 @@ fn settled_cells(
     counted: &CountedJob,
     priors: &[Prior],
 ) -> Result<Items<Cell>, Refusal>
-    requires ready { IsReady counted.now }
+    requires ready { IsReadyCount counted.now }
     requires priors { ArePriors counted.now.book.marks priors.now }
     ensures gives { (inputs : AnyInputs) → IsCountedOf inputs counted.now
         → Gives refused_for (λ cells. map view_of_cell cells) result (spec.settled_cells inputs priors.now) }

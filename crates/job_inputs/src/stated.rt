@@ -1,7 +1,7 @@
 ghost use Rattle.std.specs.Prelude.{◌≡◌, ◌<◌, ◌≤◌, IfErr, OnOk, length, option_map};
 ghost use Rattle.sdc_base.specs.Answers.{Gives};
 ghost use Rattle.apriori.specs.Priors.{ArePriors};
-ghost use Rattle.job_inputs.specs.CountedRecords.{IsCountedOf, IsReady, StatesFile, CanState};
+ghost use Rattle.job_inputs.specs.CountedRecords.{IsCountedOf, IsReadyCount, StatesFile, CanState};
 ghost use Rattle.job_inputs.specs.ReadFiles.{limit};
 ghost use Rattle.job_inputs.specs.Looks.{IsPriorFileOf, ComesToStatements};
 ghost use Rattle.job_inputs.specs.Reading.{stopped_for, HasLookedAt};
@@ -29,7 +29,7 @@ pub(crate) fn read_priors<S: Shelf>(
     shelf: &mut S,
     counted: &CountedJob,
 ) -> Result<Items<Prior>, InputStop>
-    requires { IsReady counted.now }
+    requires { IsReadyCount counted.now }
     ensures { HasLookedAt
         (λ fs answer. (inputs : AnyInputs) → IsCountedOf inputs counted.now
         → Gives stopped_for (λ priors. priors) answer (priors_of fs inputs))

@@ -3,7 +3,7 @@ ghost use Rattle.sdc_base.specs.WhereTold.{WhereTold};
 ghost use Rattle.job_inputs.specs.ReadFiles.{output_limit};
 ghost use Rattle.job_inputs.specs.Reading.{HasOnlyLooked};
 ghost use Rattle.job_intervals.specs.Finding.{AnswersIntervals, ComesFromSet, IsFound};
-ghost use Rattle.shelved_tables.specs.TablesOnShelf.{shelved_of, ComesTo, IsReadyShelved};
+ghost use Rattle.shelved_tables.specs.TablesOnShelf.{shelved_of, IntervalsComeTo, IsReadyShelved};
 ghost use Rattle.job_intervals.specs.Stops.{HasCause, HasComeTo};
 
 use crate::interval_file::IntervalFile;
@@ -55,7 +55,7 @@ pub fn find_intervals<S: Shelf>(
 
     // Where the shelf fails at a file, the run came to it and nothing before it has a fault.
     ensures came_to { WhereTold (S.state shelf.old).files
-        (λ fs. HasComeTo (ComesTo fs name.now out.now) result fs (S.state shelf.new)) }
+        (λ fs. HasComeTo (IntervalsComeTo fs name.now out.now) result fs (S.state shelf.new)) }
 
     // The shelf was only looked at: its files stay, and no file was read without end.
     ensures shelf { HasOnlyLooked output_limit (S.state shelf.old) (S.state shelf.new) }

@@ -16,7 +16,7 @@ use Rattle.job_lang.specs.declared.statement.Statement.{Statement}
 use Rattle.job_lang.specs.declared.statement.Draft.{Draft}
 use Rattle.job_lang.specs.Faults.{at_line}
 use Rattle.job_lang.specs.Statements.{text_says, lines_say, empty_draft}
-use Rattle.job_lang.specs.ClosingLooks.{said_by, file_line, rules_line, method_of, output_said}
+use Rattle.job_lang.specs.ClosingLooks.{statement_by, file_line, rules_line, method_of, output_said}
 use Rattle.job_lang.specs.MissingCommands.{needed_value, output_of_table, outputs_from}
 use Rattle.job_lang.specs.FilesApart.{is_astray, no_stray, puts_shared_file, no_same_name}
 use Rattle.job_lang.specs.RoundedContributors.{unless_line, no_rounded_contributors}
@@ -53,23 +53,23 @@ pair_of line at why fault h =
 
 -- ---- the contributors' file of a job that rounds
 
-unfit_by : (draft : Draft) (r : Bool) (o : Option Statement) (line : ℕ) (why : JobWhy) → rounds draft ≡ r → said_by keyword.Contributors draft.said ≡ o → unless_line r o ≡ Err (line, why) → IsUnfitLine draft line why
+unfit_by : (draft : Draft) (r : Bool) (o : Option Statement) (line : ℕ) (why : JobWhy) → rounds draft ≡ r → statement_by keyword.Contributors draft.said ≡ o → unless_line r o ≡ Err (line, why) → IsUnfitLine draft line why
 unfit_by draft true (Some s) line why rounding found h = let both = pair_of line s.line why BadValue h in (s, rounding, found, both.0, both.1)
 unfit_by draft true None line why rounding found h = absurd cc
 unfit_by draft false o line why rounding found h = absurd cc
 
 unfit_fault : (draft : Draft) (line : ℕ) (why : JobWhy) → no_rounded_contributors draft.said ≡ Err (line, why) → IsUnfitLine draft line why
 unfolding no_rounded_contributors
-unfit_fault draft line why h = unfit_by draft (rounds draft) (said_by keyword.Contributors draft.said) line why refl refl h
+unfit_fault draft line why h = unfit_by draft (rounds draft) (statement_by keyword.Contributors draft.said) line why refl refl h
 
-fit_by : (draft : Draft) (r : Bool) (o : Option Statement) (t : Unit {0}) → rounds draft ≡ r → said_by keyword.Contributors draft.said ≡ o → unless_line r o ≡ Ok t → has_unfit_line draft ≡ false
+fit_by : (draft : Draft) (r : Bool) (o : Option Statement) (t : Unit {0}) → rounds draft ≡ r → statement_by keyword.Contributors draft.said ≡ o → unless_line r o ≡ Ok t → has_unfit_line draft ≡ false
 fit_by draft true (Some s) t rounding found h = absurd cc
 fit_by draft true None t rounding found h = rw (rounding, found) refl
 fit_by draft false o t rounding found h = rw rounding refl
 
 all_fit : (draft : Draft) (t : Unit {0}) → no_rounded_contributors draft.said ≡ Ok t → has_unfit_line draft ≡ false
 unfolding no_rounded_contributors
-all_fit draft t h = fit_by draft (rounds draft) (said_by keyword.Contributors draft.said) t refl refl h
+all_fit draft t h = fit_by draft (rounds draft) (statement_by keyword.Contributors draft.said) t refl refl h
 
 -- ---- numbers of tables and names
 
@@ -157,32 +157,32 @@ FirstLack draft line why = (which : Command) × (find (lacks_command draft) must
 first_lack : (draft : Draft) (line : ℕ) (why : JobWhy) → job_made draft ≡ Err (line, why) → FirstLack draft line why
 unfolding job_made
 first_lack draft line why h =
-    elim (bind_err (needed_value command.OpenMicrodata (file_line (said_by keyword.OpenMicrodata draft.said))) _ (line, why) h) [
-      | inl failed ↦ let l = lack command.OpenMicrodata (file_line (said_by keyword.OpenMicrodata draft.said)) line why failed in (command.OpenMicrodata, rw l.0 refl, l.1, l.2)
+    elim (bind_err (needed_value command.OpenMicrodata (file_line (statement_by keyword.OpenMicrodata draft.said))) _ (line, why) h) [
+      | inl failed ↦ let l = lack command.OpenMicrodata (file_line (statement_by keyword.OpenMicrodata draft.said)) line why failed in (command.OpenMicrodata, rw l.0 refl, l.1, l.2)
       | inr (micro, is_micro, h) ↦
-          let a = there command.OpenMicrodata (file_line (said_by keyword.OpenMicrodata draft.said)) micro is_micro in
-          elim (bind_err (needed_value command.OpenMetadata (file_line (said_by keyword.OpenMetadata draft.said))) _ (line, why) h) [
-            | inl failed ↦ let l = lack command.OpenMetadata (file_line (said_by keyword.OpenMetadata draft.said)) line why failed in (command.OpenMetadata, rw (a, l.0) refl, l.1, l.2)
+          let a = there command.OpenMicrodata (file_line (statement_by keyword.OpenMicrodata draft.said)) micro is_micro in
+          elim (bind_err (needed_value command.OpenMetadata (file_line (statement_by keyword.OpenMetadata draft.said))) _ (line, why) h) [
+            | inl failed ↦ let l = lack command.OpenMetadata (file_line (statement_by keyword.OpenMetadata draft.said)) line why failed in (command.OpenMetadata, rw (a, l.0) refl, l.1, l.2)
             | inr (meta, is_meta, h) ↦
-                let b = there command.OpenMetadata (file_line (said_by keyword.OpenMetadata draft.said)) meta is_meta in
+                let b = there command.OpenMetadata (file_line (statement_by keyword.OpenMetadata draft.said)) meta is_meta in
                 elim (bind_err (refuse (0, Missing command.SpecifyTable) (length draft.tables == 0)) _ (line, why) h) [
                   | inl failed ↦ let l = refused command.SpecifyTable (length draft.tables == 0) line why failed in (command.SpecifyTable, rw (a, b, l.0) refl, l.1, l.2)
                   | inr (some, is_some, h) ↦
                       let d = not_refused (0, Missing command.SpecifyTable) (length draft.tables == 0) some is_some in
-                      elim (bind_err (needed_value command.SafetyRule (rules_line (said_by keyword.SafetyRule draft.said))) _ (line, why) h) [
-                        | inl failed ↦ let l = lack command.SafetyRule (rules_line (said_by keyword.SafetyRule draft.said)) line why failed in (command.SafetyRule, rw (a, b, d, l.0) refl, l.1, l.2)
+                      elim (bind_err (needed_value command.SafetyRule (rules_line (statement_by keyword.SafetyRule draft.said))) _ (line, why) h) [
+                        | inl failed ↦ let l = lack command.SafetyRule (rules_line (statement_by keyword.SafetyRule draft.said)) line why failed in (command.SafetyRule, rw (a, b, d, l.0) refl, l.1, l.2)
                         | inr (rules, is_rules, h) ↦
-                            let e = there command.SafetyRule (rules_line (said_by keyword.SafetyRule draft.said)) rules is_rules in
-                            elim (bind_err (needed_value command.Suppress (method_of (said_by keyword.Suppress draft.said))) _ (line, why) h) [
-                              | inl failed ↦ let l = lack command.Suppress (method_of (said_by keyword.Suppress draft.said)) line why failed in (command.Suppress, rw (a, b, d, e, l.0) refl, l.1, l.2)
+                            let e = there command.SafetyRule (rules_line (statement_by keyword.SafetyRule draft.said)) rules is_rules in
+                            elim (bind_err (needed_value command.Suppress (method_of (statement_by keyword.Suppress draft.said))) _ (line, why) h) [
+                              | inl failed ↦ let l = lack command.Suppress (method_of (statement_by keyword.Suppress draft.said)) line why failed in (command.Suppress, rw (a, b, d, e, l.0) refl, l.1, l.2)
                               | inr (method, is_method, h) ↦
-                                  let f = there command.Suppress (method_of (said_by keyword.Suppress draft.said)) method is_method in
+                                  let f = there command.Suppress (method_of (statement_by keyword.Suppress draft.said)) method is_method in
                                   elim (bind_err (outputs_from (length draft.tables) 0 draft.said) _ (line, why) h) [
                                     | inl failed ↦ let l = output_lack (length draft.tables) 0 draft.said line why failed in (command.WriteTable, rw (a, b, d, e, f, l.0) refl, l.1, l.2)
                                     | inr (outputs, are_outputs, h) ↦
                                         let g = outputs_there (length draft.tables) 0 draft.said outputs are_outputs in
-                                        elim (bind_err (needed_value command.Certificate (file_line (said_by keyword.Certificate draft.said))) _ (line, why) h) [
-                                          | inl failed ↦ let l = lack command.Certificate (file_line (said_by keyword.Certificate draft.said)) line why failed in (command.Certificate, rw (a, b, d, e, f, g, l.0) refl, l.1, l.2)
+                                        elim (bind_err (needed_value command.Certificate (file_line (statement_by keyword.Certificate draft.said))) _ (line, why) h) [
+                                          | inl failed ↦ let l = lack command.Certificate (file_line (statement_by keyword.Certificate draft.said)) line why failed in (command.Certificate, rw (a, b, d, e, f, g, l.0) refl, l.1, l.2)
                                           | inr (certificate, is_certificate, h) ↦ absurd cc
                                         ]
                                   ]

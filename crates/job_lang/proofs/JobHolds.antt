@@ -20,7 +20,7 @@ use Rattle.job_lang.specs.declared.statement.Instruction.TheVariants as said
 use Rattle.job_lang.specs.declared.statement.Statement.{Statement}
 use Rattle.job_lang.specs.declared.statement.Draft.{Draft}
 use Rattle.job_lang.specs.Statements.{is_by, lines_say, empty_draft}
-use Rattle.job_lang.specs.ClosingLooks.{said_by, file_line, rules_from, rules_line, method_from, method_of, work_from, work_of, usual_steps, usual_nodes, table_place, prior_in, priors_in}
+use Rattle.job_lang.specs.ClosingLooks.{statement_by, file_line, rules_from, rules_line, method_from, method_of, work_from, work_of, usual_steps, usual_nodes, table_place, prior_in, priors_in}
 use Rattle.job_lang.specs.MissingCommands.{needed_value, output_of_table, outputs_from}
 use Rattle.job_lang.specs.FilesApart.{is_no_table, is_astray, no_stray, no_same_name}
 use Rattle.job_lang.specs.RoundedContributors.{is_rounding, unless_line, no_rounded_contributors}
@@ -40,7 +40,7 @@ find_known {A} P test (y ∷ xs) all x h = elim (test y) as (λ t. cond t (Some 
 abbrev IfSaid : Option Statement → Type 0
 IfSaid o = (s : Statement) → o ≡ Some s → IsSaid s.said
 
-by_known : (word : Keyword) (all : List Statement) → AllByRecursion (λ s. IsSaid s.said) all → IfSaid (said_by word all)
+by_known : (word : Keyword) (all : List Statement) → AllByRecursion (λ s. IsSaid s.said) all → IfSaid (statement_by word all)
 by_known word all holds s h = find_known (λ s. IsSaid s.said) (λ s. is_by word s.said) all holds s h
 
 rules_from_known : (line : ℕ) (one : Instruction) (r : RulesLine) → IsSaid one → rules_from line one ≡ Some r → AreInRange r.rules
@@ -124,20 +124,20 @@ fits_by (Rnd base) (Some s) t h = absurd cc
 fits_by (Gh n) o t h = tt
 fits_by Modular o t h = tt
 
-contributors_fit : (all : List Statement) (method : Method) (t : Unit {0}) → no_rounded_contributors all ≡ Ok t → method_of (said_by keyword.Suppress all) ≡ Some method → CanHaveContributors method (file_line (said_by keyword.Contributors all))
+contributors_fit : (all : List Statement) (method : Method) (t : Unit {0}) → no_rounded_contributors all ≡ Ok t → method_of (statement_by keyword.Suppress all) ≡ Some method → CanHaveContributors method (file_line (statement_by keyword.Contributors all))
 unfolding no_rounded_contributors
-contributors_fit all method t h is = fits_by method (said_by keyword.Contributors all) t (subst (λ (m : Option Method). unless_line (is_rounding m) (said_by keyword.Contributors all) ≡ Ok t) is h)
+contributors_fit all method t h is = fits_by method (statement_by keyword.Contributors all) t (subst (λ (m : Option Method). unless_line (is_rounding m) (statement_by keyword.Contributors all) ≡ Ok t) is h)
 
 made_known : (draft : Draft) (t : Unit {0}) → IsDraft draft → no_rounded_contributors draft.said ≡ Ok t → AllByRecursion (λ (p : PriorLine). p.table < length draft.tables) (priors_in draft.said) → IfOk (job_made draft) IsJob
 unfolding job_made
 made_known draft t is fit placed =
-    then_known IsJob (needed_value command.OpenMicrodata (file_line (said_by keyword.OpenMicrodata draft.said))) _ (λ micro h.
-    then_known IsJob (needed_value command.OpenMetadata (file_line (said_by keyword.OpenMetadata draft.said))) _ (λ meta h1.
+    then_known IsJob (needed_value command.OpenMicrodata (file_line (statement_by keyword.OpenMicrodata draft.said))) _ (λ micro h.
+    then_known IsJob (needed_value command.OpenMetadata (file_line (statement_by keyword.OpenMetadata draft.said))) _ (λ meta h1.
     then_known IsJob (refuse (0, Missing command.SpecifyTable) (length draft.tables == 0)) _ (λ some h2.
-    then_known IsJob (needed_value command.SafetyRule (rules_line (said_by keyword.SafetyRule draft.said))) _ (λ rules h3.
-    then_known IsJob (needed_value command.Suppress (method_of (said_by keyword.Suppress draft.said))) _ (λ method h4.
+    then_known IsJob (needed_value command.SafetyRule (rules_line (statement_by keyword.SafetyRule draft.said))) _ (λ rules h3.
+    then_known IsJob (needed_value command.Suppress (method_of (statement_by keyword.Suppress draft.said))) _ (λ method h4.
     then_known IsJob (outputs_from (length draft.tables) 0 draft.said) _ (λ outputs h5.
-    then_known IsJob (needed_value command.Certificate (file_line (said_by keyword.Certificate draft.said))) _ (λ certificate h6.
+    then_known IsJob (needed_value command.Certificate (file_line (statement_by keyword.Certificate draft.said))) _ (λ certificate h6.
     record {
       tables = record {
         has_table = some_tables (length draft.tables) (not_refused (0, Missing command.SpecifyTable) (length draft.tables == 0) some h2);
@@ -149,11 +149,11 @@ made_known draft t is fit placed =
       variables = is.variables;
       outputs = known (λ outputs. length outputs ≡ length draft.tables) (outputs_from (length draft.tables) 0 draft.said) outputs (outputs_known (length draft.tables) 0 draft.said) h5;
       priors = placed;
-      rules = rules_line_known (said_by keyword.SafetyRule draft.said) rules (by_known keyword.SafetyRule draft.said is.said) (was_some (0, Missing command.SafetyRule) (rules_line (said_by keyword.SafetyRule draft.said)) rules h3);
-      method = method_of_known (said_by keyword.Suppress draft.said) method (by_known keyword.Suppress draft.said is.said) (was_some (0, Missing command.Suppress) (method_of (said_by keyword.Suppress draft.said)) method h4);
-      steps = work_of_known usual_steps (said_by keyword.Steps draft.said) (by_known keyword.Steps draft.said is.said) (omega arith, omega arith);
-      nodes = work_of_known usual_nodes (said_by keyword.Nodes draft.said) (by_known keyword.Nodes draft.said is.said) (omega arith, omega arith);
-      contributors = contributors_fit draft.said method t fit (was_some (0, Missing command.Suppress) (method_of (said_by keyword.Suppress draft.said)) method h4);
+      rules = rules_line_known (statement_by keyword.SafetyRule draft.said) rules (by_known keyword.SafetyRule draft.said is.said) (was_some (0, Missing command.SafetyRule) (rules_line (statement_by keyword.SafetyRule draft.said)) rules h3);
+      method = method_of_known (statement_by keyword.Suppress draft.said) method (by_known keyword.Suppress draft.said is.said) (was_some (0, Missing command.Suppress) (method_of (statement_by keyword.Suppress draft.said)) method h4);
+      steps = work_of_known usual_steps (statement_by keyword.Steps draft.said) (by_known keyword.Steps draft.said is.said) (omega arith, omega arith);
+      nodes = work_of_known usual_nodes (statement_by keyword.Nodes draft.said) (by_known keyword.Nodes draft.said is.said) (omega arith, omega arith);
+      contributors = contributors_fit draft.said method t fit (was_some (0, Missing command.Suppress) (method_of (statement_by keyword.Suppress draft.said)) method h4);
     })))))))
 
 pub closed_known : (draft : Draft) → IsDraft draft → IfOk (closed_job draft) IsJob

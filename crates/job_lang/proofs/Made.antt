@@ -13,7 +13,7 @@ use Rattle.job_lang.specs.declared.looked_up.RulesLine.{RulesLine}
 use Rattle.job_lang.specs.declared.statement.Keyword.TheVariants as keyword
 use Rattle.job_lang.specs.declared.statement.Draft.{Draft}
 use Rattle.job_lang.specs.Statements.{lines_say, empty_draft}
-use Rattle.job_lang.specs.ClosingLooks.{said_by, file_line, rules_line, method_of, cost_of, work_of, usual_steps, usual_nodes, priors_in}
+use Rattle.job_lang.specs.ClosingLooks.{statement_by, file_line, rules_line, method_of, cost_of, work_of, usual_steps, usual_nodes, priors_in}
 use Rattle.job_lang.specs.MissingCommands.{needed_value, outputs_from}
 use Rattle.job_lang.specs.FilesApart.{no_stray, no_same_name}
 use Rattle.job_lang.specs.RoundedContributors.{no_rounded_contributors}
@@ -29,14 +29,14 @@ job_with draft micro meta rules method outputs certificate = record {
   rules = rules.rules;
   rules_line = rules.line;
   priors = priors_in draft.said;
-  cost = cost_of (said_by keyword.Cost draft.said);
-  steps = work_of usual_steps (said_by keyword.Steps draft.said);
-  nodes = work_of usual_nodes (said_by keyword.Nodes draft.said);
+  cost = cost_of (statement_by keyword.Cost draft.said);
+  steps = work_of usual_steps (statement_by keyword.Steps draft.said);
+  nodes = work_of usual_nodes (statement_by keyword.Nodes draft.said);
   method = method;
   outputs = outputs;
   certificate = certificate.file;
   certificate_line = certificate.line;
-  contributors = file_line (said_by keyword.Contributors draft.said);
+  contributors = file_line (statement_by keyword.Contributors draft.said);
 }
 
 pub record IsMade (draft : Draft) (job : Job) : Type 0 where
@@ -46,24 +46,24 @@ pub record IsMade (draft : Draft) (job : Job) : Type 0 where
   pub method : Method
   pub outputs : List OutputLine
   pub certificate : OutputLine
-  pub is_micro : file_line (said_by keyword.OpenMicrodata draft.said) ≡ Some micro
-  pub is_meta : file_line (said_by keyword.OpenMetadata draft.said) ≡ Some meta
-  pub is_rules : rules_line (said_by keyword.SafetyRule draft.said) ≡ Some rules
-  pub is_method : method_of (said_by keyword.Suppress draft.said) ≡ Some method
+  pub is_micro : file_line (statement_by keyword.OpenMicrodata draft.said) ≡ Some micro
+  pub is_meta : file_line (statement_by keyword.OpenMetadata draft.said) ≡ Some meta
+  pub is_rules : rules_line (statement_by keyword.SafetyRule draft.said) ≡ Some rules
+  pub is_method : method_of (statement_by keyword.Suppress draft.said) ≡ Some method
   pub are_outputs : outputs_from (length draft.tables) 0 draft.said ≡ Ok outputs
-  pub is_certificate : file_line (said_by keyword.Certificate draft.said) ≡ Some certificate
+  pub is_certificate : file_line (statement_by keyword.Certificate draft.said) ≡ Some certificate
   pub whole : job_with draft micro meta rules method outputs certificate ≡ job
 
 pub made : (draft : Draft) (job : Job) → job_made draft ≡ Ok job → IsMade draft job
 unfolding job_made
 made draft job h =
-    let a = bind_ok (needed_value command.OpenMicrodata (file_line (said_by keyword.OpenMicrodata draft.said))) _ job h in
-    let b = bind_ok (needed_value command.OpenMetadata (file_line (said_by keyword.OpenMetadata draft.said))) _ job a.2 in
+    let a = bind_ok (needed_value command.OpenMicrodata (file_line (statement_by keyword.OpenMicrodata draft.said))) _ job h in
+    let b = bind_ok (needed_value command.OpenMetadata (file_line (statement_by keyword.OpenMetadata draft.said))) _ job a.2 in
     let d = bind_ok (refuse (0, Missing command.SpecifyTable) (length draft.tables == 0)) _ job b.2 in
-    let e = bind_ok (needed_value command.SafetyRule (rules_line (said_by keyword.SafetyRule draft.said))) _ job d.2 in
-    let f = bind_ok (needed_value command.Suppress (method_of (said_by keyword.Suppress draft.said))) _ job e.2 in
+    let e = bind_ok (needed_value command.SafetyRule (rules_line (statement_by keyword.SafetyRule draft.said))) _ job d.2 in
+    let f = bind_ok (needed_value command.Suppress (method_of (statement_by keyword.Suppress draft.said))) _ job e.2 in
     let g = bind_ok (outputs_from (length draft.tables) 0 draft.said) _ job f.2 in
-    let i = bind_ok (needed_value command.Certificate (file_line (said_by keyword.Certificate draft.said))) _ job g.2 in
+    let i = bind_ok (needed_value command.Certificate (file_line (statement_by keyword.Certificate draft.said))) _ job g.2 in
     let whole = same_value (job_with draft a.0 b.0 e.0 f.0 g.0 i.0) job i.2 in
     record {
       micro = a.0;
@@ -72,12 +72,12 @@ made draft job h =
       method = f.0;
       outputs = g.0;
       certificate = i.0;
-      is_micro = was_some (0, Missing command.OpenMicrodata) (file_line (said_by keyword.OpenMicrodata draft.said)) a.0 a.1;
-      is_meta = was_some (0, Missing command.OpenMetadata) (file_line (said_by keyword.OpenMetadata draft.said)) b.0 b.1;
-      is_rules = was_some (0, Missing command.SafetyRule) (rules_line (said_by keyword.SafetyRule draft.said)) e.0 e.1;
-      is_method = was_some (0, Missing command.Suppress) (method_of (said_by keyword.Suppress draft.said)) f.0 f.1;
+      is_micro = was_some (0, Missing command.OpenMicrodata) (file_line (statement_by keyword.OpenMicrodata draft.said)) a.0 a.1;
+      is_meta = was_some (0, Missing command.OpenMetadata) (file_line (statement_by keyword.OpenMetadata draft.said)) b.0 b.1;
+      is_rules = was_some (0, Missing command.SafetyRule) (rules_line (statement_by keyword.SafetyRule draft.said)) e.0 e.1;
+      is_method = was_some (0, Missing command.Suppress) (method_of (statement_by keyword.Suppress draft.said)) f.0 f.1;
       are_outputs = g.1;
-      is_certificate = was_some (0, Missing command.Certificate) (file_line (said_by keyword.Certificate draft.said)) i.0 i.1;
+      is_certificate = was_some (0, Missing command.Certificate) (file_line (statement_by keyword.Certificate draft.said)) i.0 i.1;
       whole = whole;
     }
 

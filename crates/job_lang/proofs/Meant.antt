@@ -28,9 +28,9 @@ use Rattle.job_lang.specs.contracts.statement.Keyword.{the_type}
 use Rattle.job_lang.specs.Keywords.{keyword_of, same_keyword, word_in}
 use Rattle.job_lang.specs.Arguments.{argument_of}
 use Rattle.job_lang.specs.Statements.{command_of, is_by, is_again, is_past_room, is_other_response, with_table, with_statement, with_said, is_passed_over, command_line, text_says, lines_say, empty_draft}
-use Rattle.job_lang.specs.ClosingLooks.{said_by, output_said, file_said, file_line, rules_from, rules_line, method_from, method_of, cost_of, work_of, work_from, usual_steps, usual_nodes}
+use Rattle.job_lang.specs.ClosingLooks.{statement_by, output_said, file_said, file_line, rules_from, rules_line, method_from, method_of, cost_of, work_of, work_from, usual_steps, usual_nodes}
 use Rattle.job_lang.specs.MissingCommands.{output_of_table, outputs_from}
-use Rattle.job_lang.specs.Meaning.{line_says, said_at, statements_of_line, stated_in, table_in, tables_among, other_in, others_among, others_in, by_command, contributors_stated, IsStatedOnce, IsStatedOrElse, IsMeant, JobsAreMeant}
+use Rattle.job_lang.specs.Meaning.{line_says, said_at, statements_of_line, stated_in, table_in, tables_among, other_in, others_among, others_in, by_command, contributors_lines, IsStatedOnce, IsStatedOrElse, IsMeant, JobsAreMeant}
 use Rattle.job_lang.proofs.Known.{not_refused, was_some, same_value}
 use Rattle.job_lang.proofs.Made.{IsMade, read, job_with}
 
@@ -205,7 +205,7 @@ absent test (y ∷ all) h = elim (test y) as (λ t. cond t (Some y) (find test a
 ] h
 
 -- a command that is said once is that of exactly one line
-once : (word : Keyword) (all : List Statement) (s : Statement) → said_by word all ≡ Some s → AreSingle all → is_single word ≡ true → (by_command word all ≡ s ∷ []) × (is_by word s.said ≡ true)
+once : (word : Keyword) (all : List Statement) (s : Statement) → statement_by word all ≡ Some s → AreSingle all → is_single word ≡ true → (by_command word all ≡ s ∷ []) × (is_by word s.said ≡ true)
 once word all s h single is = only (λ s. is_by word s.said) all s h (single word is)
 
 abbrev Line : ℕ → Instruction → Statement
@@ -232,7 +232,7 @@ certificate_is line (said.Certificate file) o by h =
     ap (λ (o : OutputLine). Line o.line (said.Certificate o.file)) is
 certificate_is line one o by h = absurd cc
 
-contributors_is : (line : ℕ) (one : Instruction) → is_by keyword.Contributors one ≡ true → Line line one ∷ [] ≡ contributors_stated (file_line (Some (Line line one)))
+contributors_is : (line : ℕ) (one : Instruction) → is_by keyword.Contributors one ≡ true → Line line one ∷ [] ≡ contributors_lines (file_line (Some (Line line one)))
 contributors_is line (said.Contributors file) by = refl
 contributors_is line one by = absurd cc
 
@@ -263,51 +263,51 @@ nodes_is line usual one by = absurd cc
 -- the file of a command that is said once
 file_once : (word : Keyword) (make : List ℕ → Instruction) (all : List Statement) (o : OutputLine) → AreSingle all → is_single word ≡ true
     → ((line : ℕ) (one : Instruction) → is_by word one ≡ true → Filed line one o → Line line one ≡ Line o.line (make o.file))
-    → file_line (said_by word all) ≡ Some o → by_command word all ≡ Line o.line (make o.file) ∷ []
+    → file_line (statement_by word all) ≡ Some o → by_command word all ≡ Line o.line (make o.file) ∷ []
 file_once word make all o single is step h =
-    elim (said_by word all) as (λ f. said_by word all ≡ f → file_line f ≡ Some o → by_command word all ≡ Line o.line (make o.file) ∷ []) [
+    elim (statement_by word all) as (λ f. statement_by word all ≡ f → file_line f ≡ Some o → by_command word all ≡ Line o.line (make o.file) ∷ []) [
       | None ↦ λ found g. absurd cc
       | Some s ↦ λ found g. let a = once word all s found single is in a.0 ∙ ap (λ (s : Statement). s ∷ []) (step s.line s.said a.1 g)
     ] refl h
 
-rules_once : (all : List Statement) (r : RulesLine) → AreSingle all → rules_line (said_by keyword.SafetyRule all) ≡ Some r → by_command keyword.SafetyRule all ≡ Line r.line (said.Safety r.rules) ∷ []
+rules_once : (all : List Statement) (r : RulesLine) → AreSingle all → rules_line (statement_by keyword.SafetyRule all) ≡ Some r → by_command keyword.SafetyRule all ≡ Line r.line (said.Safety r.rules) ∷ []
 rules_once all r single h =
-    elim (said_by keyword.SafetyRule all) as (λ f. said_by keyword.SafetyRule all ≡ f → rules_line f ≡ Some r → by_command keyword.SafetyRule all ≡ Line r.line (said.Safety r.rules) ∷ []) [
+    elim (statement_by keyword.SafetyRule all) as (λ f. statement_by keyword.SafetyRule all ≡ f → rules_line f ≡ Some r → by_command keyword.SafetyRule all ≡ Line r.line (said.Safety r.rules) ∷ []) [
       | None ↦ λ found g. absurd cc
       | Some s ↦ λ found g. let a = once keyword.SafetyRule all s found single refl in a.0 ∙ ap (λ (s : Statement). s ∷ []) (rules_is s.line s.said r a.1 g)
     ] refl h
 
-method_once : (all : List Statement) (m : Method) → AreSingle all → method_of (said_by keyword.Suppress all) ≡ Some m → IsStatedOnce keyword.Suppress all (said.Suppress m)
+method_once : (all : List Statement) (m : Method) → AreSingle all → method_of (statement_by keyword.Suppress all) ≡ Some m → IsStatedOnce keyword.Suppress all (said.Suppress m)
 method_once all m single h =
-    elim (said_by keyword.Suppress all) as (λ f. said_by keyword.Suppress all ≡ f → method_of f ≡ Some m → IsStatedOnce keyword.Suppress all (said.Suppress m)) [
+    elim (statement_by keyword.Suppress all) as (λ f. statement_by keyword.Suppress all ≡ f → method_of f ≡ Some m → IsStatedOnce keyword.Suppress all (said.Suppress m)) [
       | None ↦ λ found g. absurd cc
       | Some s ↦ λ found g. let a = once keyword.Suppress all s found single refl in (s.line, a.0 ∙ ap (λ (s : Statement). s ∷ []) (method_is s.line s.said m a.1 g))
     ] refl h
 
-cost_once : (all : List Statement) → AreSingle all → IsStatedOrElse keyword.Cost all (said.Cost (cost_of (said_by keyword.Cost all))) (cost_of (said_by keyword.Cost all) ≡ Value)
+cost_once : (all : List Statement) → AreSingle all → IsStatedOrElse keyword.Cost all (said.Cost (cost_of (statement_by keyword.Cost all))) (cost_of (statement_by keyword.Cost all) ≡ Value)
 cost_once all single =
-    elim (said_by keyword.Cost all) as (λ f. said_by keyword.Cost all ≡ f → IsStatedOrElse keyword.Cost all (said.Cost (cost_of f)) (cost_of f ≡ Value)) [
+    elim (statement_by keyword.Cost all) as (λ f. statement_by keyword.Cost all ≡ f → IsStatedOrElse keyword.Cost all (said.Cost (cost_of f)) (cost_of f ≡ Value)) [
       | None ↦ λ found. inr (absent (λ s. is_by keyword.Cost s.said) all found, refl)
       | Some s ↦ λ found. let a = once keyword.Cost all s found single refl in inl (s.line, a.0 ∙ ap (λ (s : Statement). s ∷ []) (cost_is s.line s.said a.1))
     ] refl
 
-contributors_once : (all : List Statement) → AreSingle all → by_command keyword.Contributors all ≡ contributors_stated (file_line (said_by keyword.Contributors all))
+contributors_once : (all : List Statement) → AreSingle all → by_command keyword.Contributors all ≡ contributors_lines (file_line (statement_by keyword.Contributors all))
 contributors_once all single =
-    elim (said_by keyword.Contributors all) as (λ f. said_by keyword.Contributors all ≡ f → by_command keyword.Contributors all ≡ contributors_stated (file_line f)) [
+    elim (statement_by keyword.Contributors all) as (λ f. statement_by keyword.Contributors all ≡ f → by_command keyword.Contributors all ≡ contributors_lines (file_line f)) [
       | None ↦ λ found. absent (λ s. is_by keyword.Contributors s.said) all found
       | Some s ↦ λ found. let a = once keyword.Contributors all s found single refl in a.0 ∙ contributors_is s.line s.said a.1
     ] refl
 
-steps_once : (usual : ℕ) (all : List Statement) → AreSingle all → IsStatedOrElse keyword.Steps all (said.Steps (work_of usual (said_by keyword.Steps all))) (work_of usual (said_by keyword.Steps all) ≡ usual)
+steps_once : (usual : ℕ) (all : List Statement) → AreSingle all → IsStatedOrElse keyword.Steps all (said.Steps (work_of usual (statement_by keyword.Steps all))) (work_of usual (statement_by keyword.Steps all) ≡ usual)
 steps_once usual all single =
-    elim (said_by keyword.Steps all) as (λ f. said_by keyword.Steps all ≡ f → IsStatedOrElse keyword.Steps all (said.Steps (work_of usual f)) (work_of usual f ≡ usual)) [
+    elim (statement_by keyword.Steps all) as (λ f. statement_by keyword.Steps all ≡ f → IsStatedOrElse keyword.Steps all (said.Steps (work_of usual f)) (work_of usual f ≡ usual)) [
       | None ↦ λ found. inr (absent (λ s. is_by keyword.Steps s.said) all found, refl)
       | Some s ↦ λ found. let a = once keyword.Steps all s found single refl in inl (s.line, a.0 ∙ ap (λ (s : Statement). s ∷ []) (steps_is s.line usual s.said a.1))
     ] refl
 
-nodes_once : (usual : ℕ) (all : List Statement) → AreSingle all → IsStatedOrElse keyword.Nodes all (said.Nodes (work_of usual (said_by keyword.Nodes all))) (work_of usual (said_by keyword.Nodes all) ≡ usual)
+nodes_once : (usual : ℕ) (all : List Statement) → AreSingle all → IsStatedOrElse keyword.Nodes all (said.Nodes (work_of usual (statement_by keyword.Nodes all))) (work_of usual (statement_by keyword.Nodes all) ≡ usual)
 nodes_once usual all single =
-    elim (said_by keyword.Nodes all) as (λ f. said_by keyword.Nodes all ≡ f → IsStatedOrElse keyword.Nodes all (said.Nodes (work_of usual f)) (work_of usual f ≡ usual)) [
+    elim (statement_by keyword.Nodes all) as (λ f. statement_by keyword.Nodes all ≡ f → IsStatedOrElse keyword.Nodes all (said.Nodes (work_of usual f)) (work_of usual f ≡ usual)) [
       | None ↦ λ found. inr (absent (λ s. is_by keyword.Nodes s.said) all found, refl)
       | Some s ↦ λ found. let a = once keyword.Nodes all s found single refl in inl (s.line, a.0 ∙ ap (λ (s : Statement). s ∷ []) (nodes_is s.line usual s.said a.1))
     ] refl
@@ -335,14 +335,14 @@ outputs_at (suc more) place all outputs h (suc k) within =
 made_meant : (bytes : List ℕ) (draft : Draft) (job : Job) → draft.tables ≡ tables_among (stated_in 0 (lines bytes)) → draft.said ≡ others_in bytes → AreSingle (others_in bytes) → IsMade draft job → IsMeant bytes job
 made_meant bytes draft job tables others single is =
     let all = others_in bytes in
-    let at = λ (f : Option OutputLine) (word : Keyword) (o : OutputLine) (h : file_line (said_by word draft.said) ≡ Some o). ap (λ (said : List Statement). file_line (said_by word said)) (sym others) ∙ h in
+    let at = λ (f : Option OutputLine) (word : Keyword) (o : OutputLine) (h : file_line (statement_by word draft.said) ≡ Some o). ap (λ (said : List Statement). file_line (statement_by word said)) (sym others) ∙ h in
     let whole = subst (λ (said : List Statement). job_with (record draft { said = said }) is.micro is.meta is.rules is.method is.outputs is.certificate ≡ job) others is.whole in
     subst (IsMeant bytes) whole (record {
       tables = tables;
       micro = (is.micro.line, file_once keyword.OpenMicrodata (λ file. said.Microdata file) all is.micro single refl (λ line one by h. micro_is line one is.micro by h) (at None keyword.OpenMicrodata is.micro is.is_micro));
       meta = (is.meta.line, file_once keyword.OpenMetadata (λ file. said.Metadata file) all is.meta single refl (λ line one by h. meta_is line one is.meta by h) (at None keyword.OpenMetadata is.meta is.is_meta));
-      rules = rules_once all is.rules single (ap (λ (said : List Statement). rules_line (said_by keyword.SafetyRule said)) (sym others) ∙ is.is_rules);
-      method = method_once all is.method single (ap (λ (said : List Statement). method_of (said_by keyword.Suppress said)) (sym others) ∙ is.is_method);
+      rules = rules_once all is.rules single (ap (λ (said : List Statement). rules_line (statement_by keyword.SafetyRule said)) (sym others) ∙ is.is_rules);
+      method = method_once all is.method single (ap (λ (said : List Statement). method_of (statement_by keyword.Suppress said)) (sym others) ∙ is.is_method);
       certificate = file_once keyword.Certificate (λ file. said.Certificate file) all is.certificate single refl (λ line one by h. certificate_is line one is.certificate by h) (at None keyword.Certificate is.certificate is.is_certificate);
       contributors = contributors_once all single;
       cost = cost_once all single;

@@ -21,12 +21,12 @@ use Rattle.job_lang.specs.declared.statement.Instruction.TheVariants as said
 use Rattle.job_lang.specs.declared.statement.Statement.{Statement}
 use Rattle.job_lang.specs.declared.statement.Draft.{Draft}
 use Rattle.job_lang.specs.Statements.{is_by}
-use Rattle.job_lang.specs.ClosingLooks.{said_by, is_output_at, output_said, file_said, file_line, prior_in, priors_in}
+use Rattle.job_lang.specs.ClosingLooks.{statement_by, is_output_at, output_said, file_said, file_line, prior_in, priors_in}
 use Rattle.job_lang.specs.MissingCommands.{output_of_table, outputs_from}
 use Rattle.job_lang.specs.FilesApart.{puts, is_read_file, is_shared, puts_shared_file}
 use Rattle.job_lang.specs.Binding.{unless_fault, bound_of}
 use Rattle.job_lang.specs.BindingFaults.{is_spanning, is_code_list, is_hierarchy_file, is_file_of, file_fault, earliest_fault}
-use Rattle.job_lang.specs.FileLaws.{contributors_named, codes_named, tree_named, files_of, puts_of, reads_of, PutsAreNotRead, PutsAreNotNamed}
+use Rattle.job_lang.specs.FileLaws.{contributors_files, codes_named, tree_named, files_of, puts_of, reads_of, PutsAreNotRead, PutsAreNotNamed}
 use Rattle.job_lang.proofs.Known.{was_some}
 use Rattle.job_lang.proofs.FirstFault.{no_shared_file}
 use Rattle.job_lang.proofs.BoundHolds.{IsFreeOfFault, clean}
@@ -157,7 +157,7 @@ outputs_not_read draft job (o ∷ outputs) is all = (none_read draft job o.file 
 
 -- a contributors' file, where there is one, isn't read
 contributors_not_read : (draft : Draft) (job : Job) (contributors : Option OutputLine) → IsMade draft job → ((o : OutputLine) → contributors ≡ Some o → IsUnread draft.said o.file)
-    → AllByRecursion (λ put. AllByRecursion (λ read. put ≢ read) (reads_of job)) (contributors_named contributors)
+    → AllByRecursion (λ put. AllByRecursion (λ read. put ≢ read) (reads_of job)) (contributors_files contributors)
 contributors_not_read draft job None is free = tt
 contributors_not_read draft job (Some o) is free = (none_read draft job o.file is (free o refl), tt)
 
@@ -167,13 +167,13 @@ not_read bytes job h =
     let apart = all_apart is.draft.said is.draft.said (no_shared_file is.draft.said is.draft.said tt is.apart) in
     let outputs = outputs_unread is.draft.said (length is.draft.tables) 0 is.is_made.outputs apart is.is_made.are_outputs in
     let certificate = line_of (λ s. puts_shared_file is.draft.said s.said ≡ false) is.draft.said (λ s. is_by keyword.Certificate s.said) (λ o. IsUnread is.draft.said o.file) apart (λ s o by free g. certificate_unread is.draft.said s.said s.line o by free g) is.is_made.certificate is.is_made.is_certificate in
-    let extra : Option OutputLine = file_line (said_by keyword.Contributors is.draft.said) in
+    let extra : Option OutputLine = file_line (statement_by keyword.Contributors is.draft.said) in
     let contributors : (o : OutputLine) → extra ≡ Some o → IsUnread is.draft.said o.file =
     line_of (λ s. puts_shared_file is.draft.said s.said ≡ false) is.draft.said (λ s. is_by keyword.Contributors s.said) (λ o. IsUnread is.draft.said o.file) apart (λ s o by free g. contributors_unread is.draft.said s.said s.line o by free g) in
-    let named : List (List ℕ) = contributors_named extra ++ map (λ o. o.file) is.is_made.outputs in
+    let named : List (List ℕ) = contributors_files extra ++ map (λ o. o.file) is.is_made.outputs in
     let puts : AllByRecursion (λ put. AllByRecursion (λ read. put ≢ read) (reads_of job)) (is.is_made.certificate.file ∷ named) = (
       none_read is.draft job is.is_made.certificate.file is.is_made certificate,
-      all_both (λ put. AllByRecursion (λ read. put ≢ read) (reads_of job)) (contributors_named extra) (map (λ o. o.file) is.is_made.outputs) (contributors_not_read is.draft job extra is.is_made contributors) (outputs_not_read is.draft job is.is_made.outputs is.is_made outputs),
+      all_both (λ put. AllByRecursion (λ read. put ≢ read) (reads_of job)) (contributors_files extra) (map (λ o. o.file) is.is_made.outputs) (contributors_not_read is.draft job extra is.is_made contributors) (outputs_not_read is.draft job is.is_made.outputs is.is_made outputs),
     ) in
     let same : ◌≡◌ {A = List (List ℕ)} (is.is_made.certificate.file ∷ named) (puts_of job) = ap puts_of is.is_made.whole in
     subst (λ (puts : List (List ℕ)). AllByRecursion (λ put. AllByRecursion (λ read. put ≢ read) (reads_of job)) puts) same puts
@@ -210,7 +210,7 @@ outputs_apart tables variables [] all = tt
 outputs_apart tables variables (o ∷ outputs) all = (no_file tables variables o.file all.0, outputs_apart tables variables outputs all.1)
 
 contributors_apart : (tables : List TableLine) (variables : List Variable) (contributors : Option OutputLine) → IsFreeOfFault tables variables contributors
-    → AllByRecursion (λ put. AllByRecursion (λ read. put ≢ read) (files_of tables variables)) (contributors_named contributors)
+    → AllByRecursion (λ put. AllByRecursion (λ read. put ≢ read) (files_of tables variables)) (contributors_files contributors)
 contributors_apart tables variables None free = tt
 contributors_apart tables variables (Some o) free = (no_file tables variables o.file free, tt)
 
@@ -224,6 +224,6 @@ not_named job meta bound h =
     let fine = bind_ok (unless_fault (earliest_fault job meta.variables)) _ bound h in
     let free = clean job meta.variables (no_fault (earliest_fault job meta.variables) fine.0 fine.1) in (
       no_file job.tables meta.variables job.certificate free.certificate,
-      all_both (λ put. AllByRecursion (λ read. put ≢ read) (files_of job.tables meta.variables)) (contributors_named job.contributors) (map (λ o. o.file) job.outputs)
+      all_both (λ put. AllByRecursion (λ read. put ≢ read) (files_of job.tables meta.variables)) (contributors_files job.contributors) (map (λ o. o.file) job.outputs)
           (contributors_apart job.tables meta.variables job.contributors free.contributors) (outputs_apart job.tables meta.variables job.outputs free.outputs),
     )

@@ -20,10 +20,10 @@ use Rattle.job_lang.specs.declared.statement.Instruction.{Instruction}
 use Rattle.job_lang.specs.declared.statement.Instruction.TheVariants as said
 use Rattle.job_lang.specs.declared.statement.Statement.{Statement}
 use Rattle.job_lang.specs.Statements.{is_by}
-use Rattle.job_lang.specs.ClosingLooks.{said_by, is_output_at, output_said, file_said, file_line}
+use Rattle.job_lang.specs.ClosingLooks.{statement_by, is_output_at, output_said, file_said, file_line}
 use Rattle.job_lang.specs.MissingCommands.{output_of_table, outputs_from}
 use Rattle.job_lang.specs.FilesApart.{puts, is_read_file, is_shared, puts_shared_file}
-use Rattle.job_lang.specs.FileLaws.{contributors_named, puts_of, PutsDiffer}
+use Rattle.job_lang.specs.FileLaws.{contributors_files, puts_of, PutsDiffer}
 use Rattle.job_lang.proofs.Known.{was_some}
 use Rattle.job_lang.proofs.FirstFault.{no_shared_file}
 use Rattle.job_lang.proofs.NamesApart.{AreApart, all_apart, found}
@@ -180,7 +180,7 @@ outputs_differ all place (o ∷ outputs) are = (
 -- the certificate, the contributors' file where there is one, and the outputs
 all_differ : (all : List Statement) (certificate : OutputLine) (contributors : Option OutputLine) (outputs : List OutputLine) → IsPutBy all (λ s. is_by keyword.Certificate s.said) certificate
     → ((o : OutputLine) → contributors ≡ Some o → IsPutBy all (λ s. is_by keyword.Contributors s.said) o) → AreOutputs all 0 outputs → AllByRecursion (λ file. bytes_eq certificate.file file ≡ false) (map (λ o. o.file) outputs)
-    → IsDistinct bytes_eq (certificate.file ∷ contributors_named contributors ++ map (λ o. o.file) outputs)
+    → IsDistinct bytes_eq (certificate.file ∷ contributors_files contributors ++ map (λ o. o.file) outputs)
 all_differ all certificate None outputs put extra are first = IsDistinct-cons bytes_eq certificate.file (map (λ o. o.file) outputs) first (outputs_differ all 0 outputs are)
 all_differ all certificate (Some o) outputs put extra are first =
     let own = extra o refl in
@@ -197,7 +197,7 @@ differ bytes job h =
     let outputs = are_outputs all (length is.draft.tables) 0 is.is_made.outputs apart is.is_made.are_outputs in
     let certificate = put_by all (λ s. is_by keyword.Certificate s.said) apart (λ s o by free g. put_by_certificate all s.said s.line o by free g) is.is_made.certificate is.is_made.is_certificate in
     let first = from_others all (λ s. is_by keyword.Certificate s.said) is.is_made.certificate 0 is.is_made.outputs certificate outputs (λ q s above by. no_output q s.said by) in
-    let contributors : (o : OutputLine) → file_line (said_by keyword.Contributors all) ≡ Some o → IsPutBy all (λ s. is_by keyword.Contributors s.said) o =
+    let contributors : (o : OutputLine) → file_line (statement_by keyword.Contributors all) ≡ Some o → IsPutBy all (λ s. is_by keyword.Contributors s.said) o =
     λ o found. put_by all (λ s. is_by keyword.Contributors s.said) apart (λ s o by free g. put_by_contributors all s.said s.line o by free g) o found in
     subst (λ (job : Job). IsDistinct bytes_eq (puts_of job)) is.is_made.whole
-    (all_differ all is.is_made.certificate (file_line (said_by keyword.Contributors all)) is.is_made.outputs certificate contributors outputs first)
+    (all_differ all is.is_made.certificate (file_line (statement_by keyword.Contributors all)) is.is_made.outputs certificate contributors outputs first)

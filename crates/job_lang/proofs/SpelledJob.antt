@@ -28,13 +28,13 @@ use Rattle.job_lang.specs.declared.statement.Instruction.TheVariants as said
 use Rattle.job_lang.specs.declared.statement.Statement.{Statement}
 use Rattle.job_lang.specs.Keywords.{same_keyword}
 use Rattle.job_lang.specs.Statements.{is_by}
-use Rattle.job_lang.specs.ClosingLooks.{said_by, is_output_at, output_said, file_line, rules_line, method_of, cost_of, work_of, usual_steps, usual_nodes, table_place, priors_in}
+use Rattle.job_lang.specs.ClosingLooks.{statement_by, is_output_at, output_said, file_line, rules_line, method_of, cost_of, work_of, usual_steps, usual_nodes, table_place, priors_in}
 use Rattle.job_lang.specs.MissingCommands.{outputs_from}
 use Rattle.job_lang.specs.FilesApart.{is_no_table, is_astray, no_stray, puts, is_read_file, is_shared, puts_shared_file, no_same_name}
 use Rattle.job_lang.specs.RoundedContributors.{is_rounding, unless_line, no_rounded_contributors}
 use Rattle.job_lang.specs.JobLimits.{CanHaveContributors}
 use Rattle.job_lang.specs.Jobs.{job_made, closed_job}
-use Rattle.job_lang.specs.FileLaws.{contributors_named, puts_of, reads_of}
+use Rattle.job_lang.specs.FileLaws.{contributors_files, puts_of, reads_of}
 use Rattle.job_lang.specs.Spelling.{table_number}
 use Rattle.job_lang.specs.JobText.{prior_said, tables_from, priors_from, outputs_at, output_at, in_text}
 use Rattle.job_lang.proofs.Made.{job_with}
@@ -69,25 +69,25 @@ priors_at place line (prior ∷ priors) = priors_at place (line + 1) priors
 abbrev behind_priors : Job → List Statement
 behind_priors job = middle_of (cost_line job) job ++ (outputs_stated (outputs_line job) 0 job.outputs ++ last_of job)
 
-cost_found : (job : Job) → cost_of (said_by keyword.Cost (statements_of job)) ≡ job.cost
+cost_found : (job : Job) → cost_of (statement_by keyword.Cost (statements_of job)) ≡ job.cost
 cost_found job = ap cost_of (find_past (λ s. is_by keyword.Cost s.said) (priors_stated (5 + length job.tables) job.priors) (behind_priors job) (priors_by keyword.Cost (5 + length job.tables) job.priors refl))
 
-steps_found : (job : Job) → work_of usual_steps (said_by keyword.Steps (statements_of job)) ≡ job.steps
+steps_found : (job : Job) → work_of usual_steps (statement_by keyword.Steps (statements_of job)) ≡ job.steps
 steps_found job = ap (work_of usual_steps) (find_past (λ s. is_by keyword.Steps s.said) (priors_stated (5 + length job.tables) job.priors) (behind_priors job) (priors_by keyword.Steps (5 + length job.tables) job.priors refl))
 
-nodes_found : (job : Job) → work_of usual_nodes (said_by keyword.Nodes (statements_of job)) ≡ job.nodes
+nodes_found : (job : Job) → work_of usual_nodes (statement_by keyword.Nodes (statements_of job)) ≡ job.nodes
 nodes_found job = ap (work_of usual_nodes) (find_past (λ s. is_by keyword.Nodes s.said) (priors_stated (5 + length job.tables) job.priors) (behind_priors job) (priors_by keyword.Nodes (5 + length job.tables) job.priors refl))
 
-method_found : (job : Job) → method_of (said_by keyword.Suppress (statements_of job)) ≡ Some job.method
+method_found : (job : Job) → method_of (statement_by keyword.Suppress (statements_of job)) ≡ Some job.method
 method_found job = ap method_of (find_past (λ s. is_by keyword.Suppress s.said) (priors_stated (5 + length job.tables) job.priors) (behind_priors job) (priors_by keyword.Suppress (5 + length job.tables) job.priors refl))
 
-certificate_found : (job : Job) → file_line (said_by keyword.Certificate (statements_of job)) ≡ Some (record { line = outputs_line job + length job.outputs; file = job.certificate })
+certificate_found : (job : Job) → file_line (statement_by keyword.Certificate (statements_of job)) ≡ Some (record { line = outputs_line job + length job.outputs; file = job.certificate })
 certificate_found job =
     ap file_line (find_past (λ s. is_by keyword.Certificate s.said) (priors_stated (5 + length job.tables) job.priors) (behind_priors job) (priors_by keyword.Certificate (5 + length job.tables) job.priors refl))
     ∙ ap file_line (find_past (λ s. is_by keyword.Certificate s.said) (outputs_stated (outputs_line job) 0 job.outputs) (last_of job) (outputs_by keyword.Certificate (outputs_line job) 0 job.outputs refl))
 
 -- the statement of the contributors' file, where there is one
-contributors_stated : (job : Job) → said_by keyword.Contributors (statements_of job) ≡ find (λ s. is_by keyword.Contributors s.said) (contributors_in (contributors_line job) job.contributors)
+contributors_stated : (job : Job) → statement_by keyword.Contributors (statements_of job) ≡ find (λ s. is_by keyword.Contributors s.said) (contributors_in (contributors_line job) job.contributors)
 contributors_stated job =
     find_past (λ s. is_by keyword.Contributors s.said) (priors_stated (5 + length job.tables) job.priors) (behind_priors job) (priors_by keyword.Contributors (5 + length job.tables) job.priors refl)
     ∙ find_past (λ s. is_by keyword.Contributors s.said) (outputs_stated (outputs_line job) 0 job.outputs) (last_of job) (outputs_by keyword.Contributors (outputs_line job) 0 job.outputs refl)
@@ -96,7 +96,7 @@ contributors_again : (line : ℕ) (contributors : Option OutputLine) → file_li
 contributors_again line None = refl
 contributors_again line (Some o) = refl
 
-contributors_found : (job : Job) → file_line (said_by keyword.Contributors (statements_of job)) ≡ output_at (contributors_line job) job.contributors
+contributors_found : (job : Job) → file_line (statement_by keyword.Contributors (statements_of job)) ≡ output_at (contributors_line job) job.contributors
 contributors_found job = ap file_line (contributors_stated job) ∙ contributors_again (contributors_line job) job.contributors
 
 fit : (method : Method) (line : ℕ) (contributors : Option OutputLine) → CanHaveContributors method contributors → unless_line (is_rounding (Some method)) (find (λ s. is_by keyword.Contributors s.said) (contributors_in line contributors)) ≡ Ok tt
@@ -108,7 +108,7 @@ fit Modular line contributors can = refl
 all_fit : (job : Job) → CanHaveContributors job.method job.contributors → no_rounded_contributors (statements_of job) ≡ Ok tt
 unfolding no_rounded_contributors
 all_fit job can =
-    ap (λ (m : Option Method). unless_line (is_rounding m) (said_by keyword.Contributors (statements_of job))) (method_found job)
+    ap (λ (m : Option Method). unless_line (is_rounding m) (statement_by keyword.Contributors (statements_of job))) (method_found job)
     ∙ ap (λ (o : Option Statement). unless_line (is_rounding (Some job.method)) o) (contributors_stated job)
     ∙ fit job.method (contributors_line job) job.contributors can
 
@@ -270,7 +270,7 @@ outputs_put name line place (output ∷ outputs) =
     ∙ ap (λ (n : ℕ). cond (bytes_eq output.file name) 1 0 + n) (outputs_put name (line + 1) (place + 1) outputs)
     ∙ sym (more_named name output.file (map (λ o. o.file) outputs))
 
-contributors_put : (name : List ℕ) (line : ℕ) (contributors : Option OutputLine) → count_by (λ s. puts name s.said) (contributors_in line contributors) ≡ named name (contributors_named contributors)
+contributors_put : (name : List ℕ) (line : ℕ) (contributors : Option OutputLine) → count_by (λ s. puts name s.said) (contributors_in line contributors) ≡ named name (contributors_files contributors)
 contributors_put name line None = refl
 contributors_put name line (Some o) = refl
 
@@ -283,8 +283,8 @@ puts_counted name job =
     let d = sum_by-append (weight name) outputs (last_of job) in
     let e = outputs_put name (outputs_line job) 0 job.outputs in
     let names : List (List ℕ) = map (λ o. o.file) job.outputs in
-    let f = more_named name job.certificate (contributors_named job.contributors ++ names) in
-    let g = sum_by-append (λ (other : List ℕ). cond (bytes_eq other name) 1 0) (contributors_named job.contributors) names in
+    let f = more_named name job.certificate (contributors_files job.contributors ++ names) in
+    let g = sum_by-append (λ (other : List ℕ). cond (bytes_eq other name) 1 0) (contributors_files job.contributors) names in
     let extra = contributors_in (contributors_line job) job.contributors in
     let h = contributors_put name (contributors_line job) job.contributors in
     let z : Statement = record { line = outputs_line job + length job.outputs; said = said.Certificate job.certificate } in
@@ -330,7 +330,7 @@ outputs_apart : (job : Job) (line place : ℕ) (outputs : List OutputLine) → I
 outputs_apart job line place [] distinct all = refl
 outputs_apart job line place (output ∷ outputs) distinct all = rw (unshared output.file job distinct all.0, outputs_apart job (line + 1) (place + 1) outputs distinct all.1) refl
 
-contributors_apart : (job : Job) (line : ℕ) (contributors : Option OutputLine) → IsDistinct bytes_eq (puts_of job) → AllByRecursion (λ put. AllByRecursion (λ read. put ≢ read) (reads_of job)) (contributors_named contributors)
+contributors_apart : (job : Job) (line : ℕ) (contributors : Option OutputLine) → IsDistinct bytes_eq (puts_of job) → AllByRecursion (λ put. AllByRecursion (λ read. put ≢ read) (reads_of job)) (contributors_files contributors)
     → list_any (λ s. puts_shared_file (statements_of job) s.said) (contributors_in line contributors) ≡ false
 contributors_apart job line None distinct all = refl
 contributors_apart job line (Some o) distinct all = rw (unshared o.file job distinct all.0) refl
@@ -348,19 +348,19 @@ all_apart job distinct all =
     let test : Statement → Bool = λ s. puts_shared_file (statements_of job) s.said in
     let kept : List ℕ → Type 0 = λ put. AllByRecursion (λ read. put ≢ read) (reads_of job) in
     let names : List (List ℕ) = map (λ o. o.file) job.outputs in
-    let extra = contributors_apart job (contributors_line job) job.contributors distinct (front_of_all kept (contributors_named job.contributors) names all.1) in
+    let extra = contributors_apart job (contributors_line job) job.contributors distinct (front_of_all kept (contributors_files job.contributors) names all.1) in
     let last : list_any test (last_of job) ≡ false = rw (unshared job.certificate job distinct all.0) extra in
     apart (statements_of job) (statements_of job)
     (any_past test (priors_stated (5 + length job.tables) job.priors) (behind_priors job) (priors_share_none (statements_of job) (5 + length job.tables) job.priors)
-    ∙ any_past test (outputs_stated (outputs_line job) 0 job.outputs) (last_of job) (outputs_apart job (outputs_line job) 0 job.outputs distinct (back_of_all kept (contributors_named job.contributors) names all.1))
+    ∙ any_past test (outputs_stated (outputs_line job) 0 job.outputs) (last_of job) (outputs_apart job (outputs_line job) 0 job.outputs distinct (back_of_all kept (contributors_files job.contributors) names all.1))
     ∙ last)
 
 -- ---- the job
 
 made_from : (draft : Draft) (micro meta certificate : OutputLine) (rules : RulesLine) (method : Method) (outputs : List OutputLine)
-    → file_line (said_by keyword.OpenMicrodata draft.said) ≡ Some micro → file_line (said_by keyword.OpenMetadata draft.said) ≡ Some meta → (length draft.tables == 0) ≡ false
-    → rules_line (said_by keyword.SafetyRule draft.said) ≡ Some rules → method_of (said_by keyword.Suppress draft.said) ≡ Some method → outputs_from (length draft.tables) 0 draft.said ≡ Ok outputs
-    → file_line (said_by keyword.Certificate draft.said) ≡ Some certificate → job_made draft ≡ Ok (job_with draft micro meta rules method outputs certificate)
+    → file_line (statement_by keyword.OpenMicrodata draft.said) ≡ Some micro → file_line (statement_by keyword.OpenMetadata draft.said) ≡ Some meta → (length draft.tables == 0) ≡ false
+    → rules_line (statement_by keyword.SafetyRule draft.said) ≡ Some rules → method_of (statement_by keyword.Suppress draft.said) ≡ Some method → outputs_from (length draft.tables) 0 draft.said ≡ Ok outputs
+    → file_line (statement_by keyword.Certificate draft.said) ≡ Some certificate → job_made draft ≡ Ok (job_with draft micro meta rules method outputs certificate)
 unfolding job_made
 made_from draft micro meta certificate rules method outputs a b d e f g h = rw (a, b, d, e, f, g, h) refl
 
@@ -382,10 +382,10 @@ made_again job some few outputs priors =
     made_from draft (record { line = 1; file = job.micro }) (record { line = 2; file = job.meta }) (record { line = outputs_line job + length job.outputs; file = job.certificate })
     (record { line = 3 + length job.tables; rules = job.rules }) job.method (outputs_at (outputs_line job) job.outputs)
     refl refl (some_tables (length (tables_from 3 job.tables)) (omega (arith, some, counted))) refl (method_found job) found (certificate_found job)
-    ∙ ap (λ (ps : List PriorLine). Ok (record whole { contributors = file_line (said_by keyword.Contributors (statements_of job)); priors = ps; cost = cost_of (said_by keyword.Cost (statements_of job)); steps = work_of usual_steps (said_by keyword.Steps (statements_of job)); nodes = work_of usual_nodes (said_by keyword.Nodes (statements_of job)) })) (priors_found job priors)
-    ∙ ap (λ (cost : CostKind). Ok (record whole { contributors = file_line (said_by keyword.Contributors (statements_of job)); cost = cost; steps = work_of usual_steps (said_by keyword.Steps (statements_of job)); nodes = work_of usual_nodes (said_by keyword.Nodes (statements_of job)) })) (cost_found job)
-    ∙ ap (λ (steps : ℕ). Ok (record whole { contributors = file_line (said_by keyword.Contributors (statements_of job)); steps = steps; nodes = work_of usual_nodes (said_by keyword.Nodes (statements_of job)) })) (steps_found job)
-    ∙ ap (λ (nodes : ℕ). Ok (record whole { contributors = file_line (said_by keyword.Contributors (statements_of job)); nodes = nodes })) (nodes_found job)
+    ∙ ap (λ (ps : List PriorLine). Ok (record whole { contributors = file_line (statement_by keyword.Contributors (statements_of job)); priors = ps; cost = cost_of (statement_by keyword.Cost (statements_of job)); steps = work_of usual_steps (statement_by keyword.Steps (statements_of job)); nodes = work_of usual_nodes (statement_by keyword.Nodes (statements_of job)) })) (priors_found job priors)
+    ∙ ap (λ (cost : CostKind). Ok (record whole { contributors = file_line (statement_by keyword.Contributors (statements_of job)); cost = cost; steps = work_of usual_steps (statement_by keyword.Steps (statements_of job)); nodes = work_of usual_nodes (statement_by keyword.Nodes (statements_of job)) })) (cost_found job)
+    ∙ ap (λ (steps : ℕ). Ok (record whole { contributors = file_line (statement_by keyword.Contributors (statements_of job)); steps = steps; nodes = work_of usual_nodes (statement_by keyword.Nodes (statements_of job)) })) (steps_found job)
+    ∙ ap (λ (nodes : ℕ). Ok (record whole { contributors = file_line (statement_by keyword.Contributors (statements_of job)); nodes = nodes })) (nodes_found job)
     ∙ ap (λ (contributors : Option OutputLine). Ok (record whole { contributors = contributors })) (contributors_found job)
 
 pub closed_again : (job : Job) → 0 < length job.tables → length job.tables ≤ 8 → length job.outputs ≡ length job.tables → AllByRecursion (λ p. p.table < length job.tables) job.priors → AllByRecursion (λ p. p.table < 8) job.priors

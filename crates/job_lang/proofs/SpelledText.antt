@@ -14,7 +14,7 @@ use Rattle.job_lang.specs.declared.statement.Instruction.TheVariants as said
 use Rattle.job_lang.specs.Statements.{lines_say, empty_draft}
 use Rattle.job_lang.specs.JobLimits.{HasNoTwice, HasVariables}
 use Rattle.job_lang.specs.Jobs.{closed_job, job_of}
-use Rattle.job_lang.specs.FileLaws.{contributors_named, puts_of, reads_of}
+use Rattle.job_lang.specs.FileLaws.{contributors_files, puts_of, reads_of}
 use Rattle.job_lang.specs.Binding.{response_of}
 use Rattle.job_lang.specs.Spelling.{said_line}
 use Rattle.job_lang.specs.JobText.{table_said, prior_said, outputs_said, contributors_said, job_says, job_text, in_text}
@@ -48,7 +48,7 @@ outputs_spellable : (place : ℕ) (outputs : List OutputLine) → place + length
 outputs_spellable place [] few files = tt
 outputs_spellable place (o ∷ outputs) few files = ((place, omega (arith, few), refl, files.0), outputs_spellable (place + 1) outputs (omega (arith, few)) files.1)
 
-contributors_spellable : (contributors : Option OutputLine) → AllByRecursion IsNamed (contributors_named contributors) → AllByRecursion IsSpellable (contributors_said contributors)
+contributors_spellable : (contributors : Option OutputLine) → AllByRecursion IsNamed (contributors_files contributors) → AllByRecursion IsSpellable (contributors_said contributors)
 contributors_spellable None files = tt
 contributors_spellable (Some o) files = (files.0, tt)
 
@@ -59,8 +59,8 @@ all_spellable job h =
     let tables = tables_spellable job.tables h.limits.variables h.limits.tables.once h.names in
     let priors = priors_spellable job.priors (all_below (length job.tables) job.priors h.limits.at_most_8_tables h.limits.priors) h.separators read.1.1 in
     let names : List (List ℕ) = map (λ o. o.file) job.outputs in
-    let outputs = outputs_spellable 0 job.outputs (omega (arith, h.limits.outputs, h.limits.at_most_8_tables)) (back_of_all IsNamed (contributors_named job.contributors) names put.1) in
-    let extra = contributors_spellable job.contributors (front_of_all IsNamed (contributors_named job.contributors) names put.1) in
+    let outputs = outputs_spellable 0 job.outputs (omega (arith, h.limits.outputs, h.limits.at_most_8_tables)) (back_of_all IsNamed (contributors_files job.contributors) names put.1) in
+    let extra = contributors_spellable job.contributors (front_of_all IsNamed (contributors_files job.contributors) names put.1) in
     let last : AllByRecursion IsSpellable (said.Certificate job.certificate ∷ contributors_said job.contributors) = (put.0, extra) in (
       read.0,
       (

@@ -35,7 +35,7 @@ use Rattle.job_lang.specs.MissingCommands.{output_of_table, outputs_from}
 use Rattle.job_lang.specs.FilesApart.{is_no_table, is_astray}
 use Rattle.job_lang.specs.JobLimits.{IsJob}
 use Rattle.job_lang.specs.Jobs.{job_of}
-use Rattle.job_lang.specs.FileLaws.{contributors_named, puts_of, reads_of}
+use Rattle.job_lang.specs.FileLaws.{contributors_files, puts_of, reads_of}
 use Rattle.job_lang.specs.Spelling.{table_number}
 use Rattle.job_lang.specs.WritableJobs.{HasEachOnce, HasQuotable, HasSeparator, IsWritable, JobsAreWritable}
 use Rattle.job_lang.proofs.FirstFault.{no_strays}
@@ -160,9 +160,9 @@ file_named one line o w h = absurd cc
 line_named : (all : List Statement) (test : Statement → Bool) (o : OutputLine) → AllByRecursion (λ s. IsWritten s.said) all → file_line (find test all) ≡ Some o → IsNamed o.file
 line_named all test o written h = line_of (λ s. IsWritten s.said) all test (λ o. IsNamed o.file) written (λ s o by w g. file_named s.said s.line o w g) o h
 
-extra_named : (all : List Statement) (test : Statement → Bool) → AllByRecursion (λ s. IsWritten s.said) all → AllByRecursion IsNamed (contributors_named (file_line (find test all)))
+extra_named : (all : List Statement) (test : Statement → Bool) → AllByRecursion (λ s. IsWritten s.said) all → AllByRecursion IsNamed (contributors_files (file_line (find test all)))
 extra_named all test written =
-    elim (file_line (find test all)) as (λ f. file_line (find test all) ≡ f → AllByRecursion IsNamed (contributors_named f)) [
+    elim (file_line (find test all)) as (λ f. file_line (find test all) ≡ f → AllByRecursion IsNamed (contributors_files f)) [
       | None ↦ λ is. tt
       | Some o ↦ λ is. (line_named all test o written is, tt)
     ] refl
@@ -295,7 +295,7 @@ writable bytes job h =
       names = written.tables;
       separators = priors_separators draft.said written.said;
       priors = priors_once (length draft.tables) draft.said few written.other written.said placed;
-      files = all_both IsNamed (reads_of j) (puts_of j) (micro, (meta, priors)) (certificate, all_both IsNamed (contributors_named j.contributors) (map (λ o. o.file) made.outputs) extra outputs);
+      files = all_both IsNamed (reads_of j) (puts_of j) (micro, (meta, priors)) (certificate, all_both IsNamed (contributors_files j.contributors) (map (λ o. o.file) made.outputs) extra outputs);
       puts = subst (λ (job : Job). IsDistinct bytes_eq (puts_of job)) back (differ bytes job h);
       apart = subst (λ (job : Job). AllByRecursion (λ put. AllByRecursion (λ read. put ≢ read) (reads_of job)) (puts_of job)) back (not_read bytes job h);
     })

@@ -15,8 +15,8 @@ use Rattle.job_lang.specs.declared.looked_up.RulesLine.{RulesLine}
 use Rattle.job_lang.specs.Statements.{is_by}
 
 -- the statement by this command
-abbrev pub said_by : Keyword → List Statement → Option Statement
-said_by word all = find (λ s. is_by word s.said) all
+abbrev pub statement_by : Keyword → List Statement → Option Statement
+statement_by word all = find (λ s. is_by word s.said) all
 
 -- an output of the table at this place, from 0
 abbrev pub is_output_at : ℕ → Instruction → Bool

@@ -31,13 +31,13 @@ files_of tables (v ∷ variables) = (if is_spanning tables v.name then codes_nam
     ++ files_of tables variables
 
 -- the contributors' file, where there is one
-abbrev pub contributors_named : Option OutputLine → List (List ℕ)
-contributors_named None = []
-contributors_named (Some output) = output.file ∷ []
+abbrev pub contributors_files : Option OutputLine → List (List ℕ)
+contributors_files None = []
+contributors_files (Some output) = output.file ∷ []
 
 -- the files that a job puts
 abbrev pub puts_of : Job → List (List ℕ)
-puts_of job = job.certificate ∷ contributors_named job.contributors ++ map (λ o. o.file) job.outputs
+puts_of job = job.certificate ∷ contributors_files job.contributors ++ map (λ o. o.file) job.outputs
 
 -- the files that a job names to be read
 abbrev pub reads_of : Job → List (List ℕ)

@@ -9,7 +9,7 @@ use Rattle.job_lang.specs.declared.job.Job.{Job}
 use Rattle.job_lang.specs.declared.statement.Keyword.TheVariants as keyword
 use Rattle.job_lang.specs.declared.statement.Draft.{Draft}
 use Rattle.job_lang.specs.Statements.{lines_say, empty_draft}
-use Rattle.job_lang.specs.ClosingLooks.{said_by, file_line, rules_line, method_of, cost_of, work_of, usual_steps, usual_nodes, priors_in}
+use Rattle.job_lang.specs.ClosingLooks.{statement_by, file_line, rules_line, method_of, cost_of, work_of, usual_steps, usual_nodes, priors_in}
 use Rattle.job_lang.specs.MissingCommands.{needed_value, outputs_from}
 use Rattle.job_lang.specs.FilesApart.{no_stray, no_same_name}
 use Rattle.job_lang.specs.RoundedContributors.{no_rounded_contributors}
@@ -18,13 +18,13 @@ use Rattle.job_lang.specs.RoundedContributors.{no_rounded_contributors}
 -- defaults.
 unfoldable pub job_made : Draft → Result Job (ℕ × JobWhy)
 job_made draft = do
-  micro ← needed_value command.OpenMicrodata (file_line (said_by keyword.OpenMicrodata draft.said))
-  meta ← needed_value command.OpenMetadata (file_line (said_by keyword.OpenMetadata draft.said))
+  micro ← needed_value command.OpenMicrodata (file_line (statement_by keyword.OpenMicrodata draft.said))
+  meta ← needed_value command.OpenMetadata (file_line (statement_by keyword.OpenMetadata draft.said))
   some ← refuse (0, Missing command.SpecifyTable) (length draft.tables == 0)
-  rules ← needed_value command.SafetyRule (rules_line (said_by keyword.SafetyRule draft.said))
-  method ← needed_value command.Suppress (method_of (said_by keyword.Suppress draft.said))
+  rules ← needed_value command.SafetyRule (rules_line (statement_by keyword.SafetyRule draft.said))
+  method ← needed_value command.Suppress (method_of (statement_by keyword.Suppress draft.said))
   outputs ← outputs_from (length draft.tables) 0 draft.said
-  certificate ← needed_value command.Certificate (file_line (said_by keyword.Certificate draft.said))
+  certificate ← needed_value command.Certificate (file_line (statement_by keyword.Certificate draft.said))
   Ok (record {
     micro = micro.file;
     meta = meta.file;
@@ -32,14 +32,14 @@ job_made draft = do
     rules = rules.rules;
     rules_line = rules.line;
     priors = priors_in draft.said;
-    cost = cost_of (said_by keyword.Cost draft.said);
-    steps = work_of usual_steps (said_by keyword.Steps draft.said);
-    nodes = work_of usual_nodes (said_by keyword.Nodes draft.said);
+    cost = cost_of (statement_by keyword.Cost draft.said);
+    steps = work_of usual_steps (statement_by keyword.Steps draft.said);
+    nodes = work_of usual_nodes (statement_by keyword.Nodes draft.said);
     method = method;
     outputs = outputs;
     certificate = certificate.file;
     certificate_line = certificate.line;
-    contributors = file_line (said_by keyword.Contributors draft.said);
+    contributors = file_line (statement_by keyword.Contributors draft.said);
   })
 
 -- the closing looks at what the lines say, and the job

@@ -14,7 +14,7 @@ use Rattle.job_lang.specs.declared.statement.Keyword.TheVariants as keyword
 use Rattle.job_lang.specs.declared.statement.Statement.{Statement}
 use Rattle.job_lang.specs.declared.statement.Draft.{Draft}
 use Rattle.job_lang.specs.Statements.{text_says, lines_say, empty_draft}
-use Rattle.job_lang.specs.ClosingLooks.{said_by, file_line, rules_line, method_of, output_said}
+use Rattle.job_lang.specs.ClosingLooks.{statement_by, file_line, rules_line, method_of, output_said}
 use Rattle.job_lang.specs.FilesApart.{is_astray, puts_shared_file}
 use Rattle.job_lang.specs.RoundedContributors.{is_rounding}
 use Rattle.job_lang.specs.Jobs.{job_of}
@@ -35,13 +35,13 @@ lacks_output (suc more) place said = is_none (file_line (output_said place said)
 
 -- what was said lacks this command, or for outputs one of a table
 abbrev pub lacks_command : Draft → Command → Bool
-lacks_command draft command.OpenMicrodata = is_none (file_line (said_by keyword.OpenMicrodata draft.said))
-lacks_command draft command.OpenMetadata = is_none (file_line (said_by keyword.OpenMetadata draft.said))
+lacks_command draft command.OpenMicrodata = is_none (file_line (statement_by keyword.OpenMicrodata draft.said))
+lacks_command draft command.OpenMetadata = is_none (file_line (statement_by keyword.OpenMetadata draft.said))
 lacks_command draft command.SpecifyTable = length draft.tables == 0
-lacks_command draft command.SafetyRule = is_none (rules_line (said_by keyword.SafetyRule draft.said))
-lacks_command draft command.Suppress = is_none (method_of (said_by keyword.Suppress draft.said))
+lacks_command draft command.SafetyRule = is_none (rules_line (statement_by keyword.SafetyRule draft.said))
+lacks_command draft command.Suppress = is_none (method_of (statement_by keyword.Suppress draft.said))
 lacks_command draft command.WriteTable = lacks_output (length draft.tables) 0 draft.said
-lacks_command draft command.Certificate = is_none (file_line (said_by keyword.Certificate draft.said))
+lacks_command draft command.Certificate = is_none (file_line (statement_by keyword.Certificate draft.said))
 
 -- the commands that a job must have, in their order
 abbrev pub must_have : List Command
@@ -51,16 +51,16 @@ must_have =
 
 -- the job rounds
 abbrev pub rounds : Draft → Bool
-rounds draft = is_rounding (method_of (said_by keyword.Suppress draft.said))
+rounds draft = is_rounding (method_of (statement_by keyword.Suppress draft.said))
 
 -- the job rounds and names a contributors' file
 abbrev pub has_unfit_line : Draft → Bool
-has_unfit_line draft = rounds draft && is_some (said_by keyword.Contributors draft.said)
+has_unfit_line draft = rounds draft && is_some (statement_by keyword.Contributors draft.said)
 
 -- No line has a fault, but the job rounds, and this is its line of a contributors' file.
 abbrev pub IsUnfitLine : Draft → ℕ → JobWhy → Type 0
 IsUnfitLine draft line why =
-    (s : Statement) × (rounds draft ≡ true) × (said_by keyword.Contributors draft.said ≡ Some s) × (line ≡ s.line)
+    (s : Statement) × (rounds draft ≡ true) × (statement_by keyword.Contributors draft.said ≡ Some s) × (line ≡ s.line)
     × (why ≡ BadValue)
 
 -- No line has a fault, nor is there a contributors' file of a job that rounds, and this is the first line that names no

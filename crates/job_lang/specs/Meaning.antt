@@ -78,9 +78,9 @@ abbrev pub IsStatedOrElse : Keyword → List Statement → Instruction → Type 
 IsStatedOrElse word all one Usual = IsStatedOnce word all one ⊎ ((by_command word all ≡ []) × Usual)
 
 -- a contributors' file with its line, where there is one
-abbrev pub contributors_stated : Option OutputLine → List Statement
-contributors_stated None = []
-contributors_stated (Some output) = record { line = output.line; said = said.Contributors output.file } ∷ []
+abbrev pub contributors_lines : Option OutputLine → List Statement
+contributors_lines None = []
+contributors_lines (Some output) = record { line = output.line; said = said.Contributors output.file } ∷ []
 
 -- A job has its tables in the order of their lines. Each other part is what exactly one line states, or the default
 -- where no line states it; the a priori files are those of all lines; and each table's output is that of the first line
@@ -94,7 +94,7 @@ pub record IsMeant (bytes : List ℕ) (job : Job) : Type 0 where
   pub method : IsStatedOnce keyword.Suppress (others_in bytes) (said.Suppress job.method)
   pub certificate : by_command keyword.Certificate (others_in bytes)
       ≡ record { line = job.certificate_line; said = said.Certificate job.certificate } ∷ []
-  pub contributors : by_command keyword.Contributors (others_in bytes) ≡ contributors_stated job.contributors
+  pub contributors : by_command keyword.Contributors (others_in bytes) ≡ contributors_lines job.contributors
   pub cost : IsStatedOrElse keyword.Cost (others_in bytes) (said.Cost job.cost) (job.cost ≡ Value)
   pub steps : IsStatedOrElse keyword.Steps (others_in bytes) (said.Steps job.steps) (job.steps ≡ 100000)
   pub nodes : IsStatedOrElse keyword.Nodes (others_in bytes) (said.Nodes job.nodes) (job.nodes ≡ 1000000)

@@ -6,7 +6,7 @@ use Rattle.job_lang.specs.declared.faults.JobWhy.{JobWhy}
 use Rattle.job_lang.specs.declared.faults.JobWhy.TheVariants.{BadValue}
 use Rattle.job_lang.specs.declared.statement.Keyword.TheVariants as keyword
 use Rattle.job_lang.specs.declared.statement.Statement.{Statement}
-use Rattle.job_lang.specs.ClosingLooks.{said_by, method_of}
+use Rattle.job_lang.specs.ClosingLooks.{statement_by, method_of}
 
 -- a method is given, and it rounds
 abbrev pub is_rounding : Option Method → Bool
@@ -22,4 +22,4 @@ unless_line unwanted other = Ok tt
 -- fault.
 unfoldable pub no_rounded_contributors : List Statement → Result (Unit {0}) (ℕ × JobWhy)
 no_rounded_contributors all =
-    unless_line (is_rounding (method_of (said_by keyword.Suppress all))) (said_by keyword.Contributors all)
+    unless_line (is_rounding (method_of (statement_by keyword.Suppress all))) (statement_by keyword.Contributors all)

@@ -6,13 +6,13 @@ ghost use Rattle.job_lang.specs.FilesApart as spec;
 ghost use Rattle.job_lang.specs.RoundedContributors as rounded_contributors;
 
 use crate::faults::{JobError, JobWhy};
-use crate::looked_up::{method_of, said_by};
+use crate::looked_up::{method_of, statement_by};
 use crate::statement::{Instruction, Keyword, Statement};
 use plain_text::number_in;
 use sdc_base::{Method, Text};
 
 // The fault of a statement's line.
-fn at(statement: &Statement, why: JobWhy) -> JobError
+fn statement_error(statement: &Statement, why: JobWhy) -> JobError
     ensures { fault_of result ≡ Some (statement.now.line, why) }
 {
     JobError::At {
@@ -36,12 +36,12 @@ fn is_rounding(method: Option<Method>) -> bool
 pub(crate) fn no_rounded_contributors(said: &[Statement]) -> Result<(), JobError>
     ensures { Gives fault_of (λ fine. fine) result (rounded_contributors.no_rounded_contributors said.now) }
 {
-    let rounds = is_rounding(method_of(said_by(Keyword::Suppress, said)));
-    let Some(statement) = said_by(Keyword::Contributors, said) else {
+    let rounds = is_rounding(method_of(statement_by(Keyword::Suppress, said)));
+    let Some(statement) = statement_by(Keyword::Contributors, said) else {
         return Ok(());
     };
     if rounds {
-        return Err(at(statement, JobWhy::BadValue));
+        return Err(statement_error(statement, JobWhy::BadValue));
     }
     Ok(())
 }
@@ -74,7 +74,7 @@ pub(crate) fn no_stray(count: usize, said: &[Statement]) -> Result<(), JobError>
 {
     'said: for statement in said {
         if is_astray(count, &statement.said) {
-            return Err(at(statement, JobWhy::NoSuchTable));
+            return Err(statement_error(statement, JobWhy::NoSuchTable));
         }
     }
     Ok(())
@@ -147,7 +147,7 @@ pub(crate) fn no_same_name(all: &[Statement]) -> Result<(), JobError>
 {
     'said: for statement in all {
         if puts_shared_file(all, &statement.said) {
-            return Err(at(statement, JobWhy::SameName));
+            return Err(statement_error(statement, JobWhy::SameName));
         }
     }
     Ok(())

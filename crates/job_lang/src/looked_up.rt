@@ -19,8 +19,8 @@ pub(crate) struct RulesLine {
 }
 
 /// The statement by this command.
-pub(crate) fn said_by(keyword: Keyword, all: &[Statement]) -> Option<&Statement>
-    ensures { option_copied result ≡ closing_looks.said_by keyword all.now }
+pub(crate) fn statement_by(keyword: Keyword, all: &[Statement]) -> Option<&Statement>
+    ensures { option_copied result ≡ closing_looks.statement_by keyword all.now }
 {
     'all: for statement in all {
         if is_by(keyword, &statement.said) {

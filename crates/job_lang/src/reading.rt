@@ -12,7 +12,7 @@ use crate::faults::{Command, JobError, JobWhy};
 use crate::job::{Job, OutputLine};
 use crate::lines::read_lines;
 use crate::looked_up::{
-    cost_of, file_line, method_of, output_said, priors_in, rules_line, said_by, work_of,
+    cost_of, file_line, method_of, output_said, priors_in, rules_line, statement_by, work_of,
 };
 use crate::statement::{Draft, Keyword, Statement};
 use sdc_base::Items;
@@ -104,31 +104,31 @@ fn job_made(alloc: Global, draft: Draft) -> Result<Job, JobError>
     ensures { Gives fault_of (λ job. job) result (jobs.job_made draft) }
 {
     let said = draft.said.as_slice();
-    let Some(micro) = file_line(alloc, said_by(Keyword::OpenMicrodata, said))? else {
+    let Some(micro) = file_line(alloc, statement_by(Keyword::OpenMicrodata, said))? else {
         return Err(missing_command(Command::OpenMicrodata));
     };
-    let Some(meta) = file_line(alloc, said_by(Keyword::OpenMetadata, said))? else {
+    let Some(meta) = file_line(alloc, statement_by(Keyword::OpenMetadata, said))? else {
         return Err(missing_command(Command::OpenMetadata));
     };
     let count = draft.tables.as_slice().len();
     if count == 0 {
         return Err(missing_command(Command::SpecifyTable));
     }
-    let Some(rules) = rules_line(said_by(Keyword::SafetyRule, said)) else {
+    let Some(rules) = rules_line(statement_by(Keyword::SafetyRule, said)) else {
         return Err(missing_command(Command::SafetyRule));
     };
-    let Some(method) = method_of(said_by(Keyword::Suppress, said)) else {
+    let Some(method) = method_of(statement_by(Keyword::Suppress, said)) else {
         return Err(missing_command(Command::Suppress));
     };
     let outputs = outputs_of_tables(alloc, count, said)?;
-    let Some(certificate) = file_line(alloc, said_by(Keyword::Certificate, said))? else {
+    let Some(certificate) = file_line(alloc, statement_by(Keyword::Certificate, said))? else {
         return Err(missing_command(Command::Certificate));
     };
-    let contributors = file_line(alloc, said_by(Keyword::Contributors, said))?;
+    let contributors = file_line(alloc, statement_by(Keyword::Contributors, said))?;
     let priors = priors_in(alloc, said)?;
-    let cost = cost_of(said_by(Keyword::Cost, said));
-    let steps = work_of(USUAL_STEPS, said_by(Keyword::Steps, said));
-    let nodes = work_of(USUAL_NODES, said_by(Keyword::Nodes, said));
+    let cost = cost_of(statement_by(Keyword::Cost, said));
+    let steps = work_of(USUAL_STEPS, statement_by(Keyword::Steps, said));
+    let nodes = work_of(USUAL_NODES, statement_by(Keyword::Nodes, said));
     Ok(Job {
         micro: micro.file,
         meta: meta.file,

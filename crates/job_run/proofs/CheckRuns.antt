@@ -6,7 +6,7 @@ use Rattle.office_io.specs.Files.{Files}
 use Rattle.office_io.specs.Shelves.{ShelfState}
 use Rattle.office_io.specs.Trays.{TrayState}
 use Rattle.job_check.specs.Answers.{AnswersRelease}
-use Rattle.job_check.specs.Reading.{ComesTo}
+use Rattle.job_check.specs.Reading.{ReleaseComesTo}
 use Rattle.job_check.specs.ReleaseFiles.{ReleasedFiles, released_of}
 use Rattle.job_check.specs.declared.stop.CheckStop.{CheckStop}
 use Rattle.job_check.specs.declared.stop.CheckStop.TheVariants as check
@@ -90,13 +90,13 @@ check-answers (Err (check.NotGuarded why)) = tt
 
 -- what holds of how it went on holds of the check
 pub check-run : (name : List ℕ) (r : Result (Unit {0}) CheckStop) (old new : ShelfState) (tray : TrayState) → WhereTold old.files (λ fs. AnswersRelease (released_of fs name) r)
-    → WhereTold old.files (λ fs. (e : InputStop) → r ≡ Err (check.Inputs e) → HasInputComeTo {X = Unit {0}} (ComesTo fs name) (Err e) fs new)
+    → WhereTold old.files (λ fs. (e : InputStop) → r ≡ Err (check.Inputs e) → HasInputComeTo {X = Unit {0}} (ReleaseComesTo fs name) (Err e) fs new)
     → ((e : InputStop) → r ≡ Err (check.Inputs e) → HasInputCause {X = Unit {0}} (Err e) old new) → HasOnlyLooked output_limit old new → IsCheckOf name (check_report r) old new tray tray
 check-run name r old new tray told come cause shelf = record {
   answers = check-answers r;
   told = λ fs held. meets r (released_of fs name) (told fs held);
   complete = λ fs held no_read. settles-check (check_report r) (released_of fs name) (meets r (released_of fs name) (told fs held)) (λ f is. no_read ((check-cause r old new tray cause).read_fault f is));
-  came_to = λ fs held. check-come r (ComesTo fs name) fs new (come fs held);
+  came_to = λ fs held. check-come r (ReleaseComesTo fs name) fs new (come fs held);
   untouched = refl;
   shelf = shelf;
 }

@@ -39,7 +39,7 @@ use Rattle.job_inputs.specs.declared.file_ref.FileRef.TheVariants as file
 use Rattle.job_inputs.specs.declared.inputs.Inputs.{Inputs}
 use Rattle.job_inputs.specs.declared.purpose.Purpose.{Purpose}
 use Rattle.job_inputs.specs.declared.purpose.Purpose.TheVariants as purpose
-use Rattle.job_run.specs.Roundings.{base_in_units, base_of}
+use Rattle.job_run.specs.Roundings.{base_in_units, job_base}
 
 ok-is : {A F : Type 0} {a b : A} → ◌≡◌ {A = Result A F} (Ok a) (Ok b) → a ≡ b
 ok-is {A} {F} {a} {b} is = let same : a ≡ b = cc in same
@@ -126,6 +126,6 @@ pub demo-names-none : (seed records : ℕ) (settled : SettledInputs) → settled
 demo-names-none seed records settled is = ap (λ (one : Job). one.contributors) (sym (demo-reads seed records settled is))
 
 -- and it hides
-pub demo-hides : (seed records : ℕ) (settled : SettledInputs) → settled_of purpose.Release (demo_files seed records) job_name ≡ Ok settled → base_of settled.inputs.described ≡ None
+pub demo-hides : (seed records : ℕ) (settled : SettledInputs) → settled_of purpose.Release (demo_files seed records) job_name ≡ Ok settled → job_base settled.inputs.described ≡ None
 demo-hides seed records settled is =
     ap (λ (one : Job). base_in_units one.method settled.inputs.described.bound.decimals) (sym (demo-reads seed records settled is))

@@ -15,9 +15,9 @@ use Rattle.job_inputs.specs.SettledJobs.{settled_of}
 use Rattle.job_inputs.specs.declared.purpose.Purpose.TheVariants as purpose
 use Rattle.job_run.specs.Demos.{IsDemoOf, SaysAnswer, SaysStuck}
 use Rattle.job_run.specs.Endings.{IsUndecided}
-use Rattle.job_run.specs.GuardedReleases.{CantBeGuarded}
+use Rattle.job_run.specs.GuardedReleases.{HasNoGuard}
 use Rattle.job_run.specs.PutReleases.{HasReleased, PutsOnce}
-use Rattle.job_inputs.specs.Looks.{ComesTo}
+use Rattle.job_inputs.specs.Looks.{InputsComeTo}
 use Rattle.job_run.specs.Reports.{AgreesWith, LeavesTray, HasCause, HasComeTo, report_of}
 use Rattle.job_run.specs.Summaries.{demo_of, stuck_demo}
 use Rattle.job_run.specs.declared.put.Release.{Release}
@@ -59,7 +59,7 @@ says seed records (Ok release) after tray demo calm still meets cause released i
 says seed records (Err (stop.Refused reason)) after tray demo calm still meets cause released is = sym (ok-is is)
 says seed records (Err (stop.Cannot cell side multipliers)) after tray demo calm still meets cause released is = sym (ok-is is)
 says seed records (Err (stop.CannotAgainst row cell side multipliers)) after tray demo calm still meets cause released is =
-    let read = ok-and (λ settled. CantBeGuarded settled row cell side multipliers) (settled_of purpose.Release (demo_files seed records) job_name) meets in
+    let read = ok-and (λ settled. HasNoGuard settled row cell side multipliers) (settled_of purpose.Release (demo_files seed records) job_name) meets in
     absurd (none-some _ (demo-names-none seed records read.0 read.1) read.2.guards.named)
 says seed records (Err stop.NoRounding) after tray demo calm still meets cause released is = sym (ok-is is)
 says seed records (Err (stop.Undecided why repairs shown against)) after tray demo calm still meets cause released is = rw (sym (ok-is is)) (says-stuck seed records why repairs shown against meets)
@@ -75,7 +75,7 @@ pub record WentOn (name : List ℕ) (outcome : Result Release Stop) (old new : S
   pub shelf : HasOnlyLooked limit old new
   pub released : WhereTold old.files (λ fs. IfOk outcome (λ release. HasReleased fs name release before after))
   pub cause : HasCause (report_of outcome) old new before after
-  pub come : WhereTold old.files (λ fs. HasComeTo (ComesTo purpose.Release fs name) (report_of outcome) fs new)
+  pub come : WhereTold old.files (λ fs. HasComeTo (InputsComeTo purpose.Release fs name) (report_of outcome) fs new)
 
 from-memory : (seed records : ℕ) (outcome : Result Release Stop) (after : ShelfState) (tray : TrayState) (result : Result DemoSummary Memory) → after.faults ≡ 0 → tray.faults ≡ 0
     → WentOn job_name outcome (shelf_with (demo_files seed records)) after empty_tray tray → result ≡ demo_of outcome → IfOk result (λ demo. IsDemoOf seed records demo)

@@ -34,7 +34,7 @@ use Rattle.linked_tables.specs.declared.mark.Mark.{Mark}
 use Rattle.modular_plan.specs.Methods.{passes_of}
 use Rattle.modular_plan.specs.Plans.{IsSameButHidden, trail_of}
 use Rattle.relations.specs.Holding.{IsSystemOf}
-use Rattle.repair.specs.HidingOrder.{Case, case, prices_of}
+use Rattle.repair.specs.HidingOrder.{Case, protected_case, prices_of}
 use Rattle.worlds.specs.Protection.{Protection as HiddenSet}
 use Rattle.job_lang.specs.JobLimits.{CanHaveContributors}
 use Rattle.job_lang.specs.declared.job.Job.{Job}
@@ -45,7 +45,7 @@ use Rattle.job_run.specs.Books.{job_of}
 use Rattle.job_run.specs.GuardedReleases.{IsGuardFor, IsGuardedRelease, guarded_puts, count_hidden}
 use Rattle.job_run.specs.Releases.{shown_in, summary_of}
 use Rattle.job_run.specs.FileCounts.{contributors_count, file_count}
-use Rattle.job_run.specs.Roundings.{base_in_units, base_of}
+use Rattle.job_run.specs.Roundings.{base_in_units, job_base}
 use Rattle.job_run.specs.Stops.{ComesToRelease, unguarded_stop}
 use Rattle.job_run.specs.declared.put.Release.{Release}
 use Rattle.job_run.proofs.Releasing.{each-flag, hiding-comes, outcome-for, question-comes, same-contributors, signs-for}
@@ -125,30 +125,30 @@ parts-settled settled job cells rows same same_rows is =
 
 -- what guarding a protected job comes to, it comes to for its settled inputs
 pub guard-for : (settled : SettledInputs) (job : SettledJob) (system : System) (new : BookView) (cells : List Cell) (rows : List Row) (name : List ℕ) (one : Protection) (hidden_set : HiddenSet) (certificate : Certificate) (outcome : Result GuardedCells Unguarded)
-    → base_of job.described ≡ None → option_map (λ (line : OutputLine). line.file) job.described.job.contributors ≡ Some name → IsSettledOf settled job → IsBook job.book → IsSystemOf job.book system → cells ≡ job.cells → rows ≡ job.rows → one ≡ protection.Protected hidden_set certificate
+    → job_base job.described ≡ None → option_map (λ (line : OutputLine). line.file) job.described.job.contributors ≡ Some name → IsSettledOf settled job → IsBook job.book → IsSystemOf job.book system → cells ≡ job.cells → rows ≡ job.rows → one ≡ protection.Protected hidden_set certificate
     → IsSameButHidden job.book new
-    → IsProtectionOf (case system cells) (prices_of job.described.job.cost cells job.book.marks) job.described.job.method (trail_of job.book cells job.described.job.cost (passes_of job.described.job.method)) job.described.job.steps one
-    → IsGuardOf new rows (case system cells) (prices_of job.described.job.cost cells new.marks) job.described.job.steps hidden_set certificate outcome
+    → IsProtectionOf (protected_case system cells) (prices_of job.described.job.cost cells job.book.marks) job.described.job.method (trail_of job.book cells job.described.job.cost (passes_of job.described.job.method)) job.described.job.steps one
+    → IsGuardOf new rows (protected_case system cells) (prices_of job.described.job.cost cells new.marks) job.described.job.steps hidden_set certificate outcome
     → ((signs : List Bool) → AreSigns system.relations signs → IsWholeOutcome outcome)
     → IsGuardFor settled hidden_set certificate outcome
 guard-for settled job system new cells rows name one hidden_set certificate outcome hides named is_job is_book is_system same same_rows is_one still is guards whole =
     let made = outcome-for settled job system cells one (protection.Protected hidden_set certificate) hides is_job is_book is_system same is_one is in
     let line = line-of job.described.job.contributors name named in
     let cost = job.described.job.cost in
-    let own : IsProtectionOf (case system job.cells) (prices_of cost job.cells job.book.marks) job.described.job.method (trail_of job.book job.cells cost (passes_of job.described.job.method)) job.described.job.steps (protection.Protected hidden_set certificate) =
-    subst (λ (p : Protection). IsProtectionOf (case system job.cells) (prices_of cost job.cells job.book.marks) job.described.job.method (trail_of job.book job.cells cost (passes_of job.described.job.method)) job.described.job.steps p) is_one
-    (subst (λ (all : List Cell). IsProtectionOf (case system all) (prices_of cost all job.book.marks) job.described.job.method (trail_of job.book all cost (passes_of job.described.job.method)) job.described.job.steps one) same is) in
-    let by_cells : IsGuardOf new rows (case system job.cells) (prices_of cost job.cells new.marks) job.described.job.steps hidden_set certificate outcome =
-    subst (λ (all : List Cell). IsGuardOf new rows (case system all) (prices_of cost all new.marks) job.described.job.steps hidden_set certificate outcome) same guards in
-    let by_prices : IsGuardOf new rows (case system job.cells) (prices_of cost job.cells job.book.marks) job.described.job.steps hidden_set certificate outcome =
-    subst (λ (prices : List ℕ). IsGuardOf new rows (case system job.cells) prices job.described.job.steps hidden_set certificate outcome) (same-prices cost job.cells job.book.marks new.marks still.facts) by_cells in
-    let by_rows : IsGuardOf new settled.inputs.records.rows (case system job.cells) (prices_of cost job.cells job.book.marks) job.described.job.steps hidden_set certificate outcome =
-    subst (λ (all : List Row). IsGuardOf new all (case system job.cells) (prices_of cost job.cells job.book.marks) job.described.job.steps hidden_set certificate outcome) (same_rows ∙ is_job.rows) by_prices in
+    let own : IsProtectionOf (protected_case system job.cells) (prices_of cost job.cells job.book.marks) job.described.job.method (trail_of job.book job.cells cost (passes_of job.described.job.method)) job.described.job.steps (protection.Protected hidden_set certificate) =
+    subst (λ (p : Protection). IsProtectionOf (protected_case system job.cells) (prices_of cost job.cells job.book.marks) job.described.job.method (trail_of job.book job.cells cost (passes_of job.described.job.method)) job.described.job.steps p) is_one
+    (subst (λ (all : List Cell). IsProtectionOf (protected_case system all) (prices_of cost all job.book.marks) job.described.job.method (trail_of job.book all cost (passes_of job.described.job.method)) job.described.job.steps one) same is) in
+    let by_cells : IsGuardOf new rows (protected_case system job.cells) (prices_of cost job.cells new.marks) job.described.job.steps hidden_set certificate outcome =
+    subst (λ (all : List Cell). IsGuardOf new rows (protected_case system all) (prices_of cost all new.marks) job.described.job.steps hidden_set certificate outcome) same guards in
+    let by_prices : IsGuardOf new rows (protected_case system job.cells) (prices_of cost job.cells job.book.marks) job.described.job.steps hidden_set certificate outcome =
+    subst (λ (prices : List ℕ). IsGuardOf new rows (protected_case system job.cells) prices job.described.job.steps hidden_set certificate outcome) (same-prices cost job.cells job.book.marks new.marks still.facts) by_cells in
+    let by_rows : IsGuardOf new settled.inputs.records.rows (protected_case system job.cells) (prices_of cost job.cells job.book.marks) job.described.job.steps hidden_set certificate outcome =
+    subst (λ (all : List Row). IsGuardOf new all (protected_case system job.cells) (prices_of cost job.cells job.book.marks) job.described.job.steps hidden_set certificate outcome) (same_rows ∙ is_job.rows) by_prices in
     record {
       line = line.0;
       named = same-contributors settled job is_job ∙ line.1;
       protects = record { hides = made.hides; job = job; system = system; job_is = is_job; system_is = is_system; comes_to = own; whole = made.whole };
-      guards = guard-still job.book new settled.inputs.records.rows (case system job.cells) (prices_of cost job.cells job.book.marks) job.described.job.steps hidden_set certificate outcome still by_rows;
+      guards = guard-still job.book new settled.inputs.records.rows (protected_case system job.cells) (prices_of cost job.cells job.book.marks) job.described.job.steps hidden_set certificate outcome still by_rows;
       whole = λ shape. (let signs = signs-for settled job system shape is_job is_book is_system in whole signs.0 signs.1);
     }
 
@@ -182,7 +182,7 @@ guarded-is settled release hidden_set certificate guarded name guards named same
     }
 
 -- and that is what the job comes to
-pub guarded-comes : (settled : SettledInputs) (job : SettledJob) (name : List ℕ) (release : Release) → base_of job.described ≡ None → option_map (λ (line : OutputLine). line.file) job.described.job.contributors ≡ Some name → IsSettledOf settled job → IsGuardedRelease settled release → ComesToRelease settled (Ok release)
+pub guarded-comes : (settled : SettledInputs) (job : SettledJob) (name : List ℕ) (release : Release) → job_base job.described ≡ None → option_map (λ (line : OutputLine). line.file) job.described.job.contributors ≡ Some name → IsSettledOf settled job → IsGuardedRelease settled release → ComesToRelease settled (Ok release)
 guarded-comes settled job name release hides named is_of is =
     let line = line-of job.described.job.contributors name named in
     hiding-comes settled job (Some line.0) release hides line.1 is_of is

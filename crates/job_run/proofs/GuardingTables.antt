@@ -13,7 +13,7 @@ use Rattle.sdc_base.specs.declared.cell.Kind.{Kind}
 use Rattle.sdc_base.specs.declared.cell.Kind.TheVariants.{Primary, Free}
 use Rattle.sdc_base.specs.declared.side.Side.{Side}
 use Rattle.sdc_base.specs.declared.side.Side.TheVariants.{Above, Below}
-use Rattle.repair.specs.HidingOrder.{Case, case, hide, IsOfKind}
+use Rattle.repair.specs.HidingOrder.{Case, protected_case, hide, IsOfKind}
 use Rattle.repair.proofs.Flags.{IsWithin, by_test, permitted_more}
 use Rattle.repair.proofs.Growing.{protects_more}
 use Rattle.attackers.specs.Alone.{is_sole}
@@ -78,7 +78,7 @@ by-alone settled release is row number cell side at primary unknown true makes =
     let on : IsAttack its.job.cells soles attack =
     ap (λ b. b && (not (is_known soles row number) && list_any (is_sole row) soles)) (primary-at its.job.cells number cell at primary)
     ∙ ap (λ b. not b && list_any (is_sole row) soles) unknown ∙ makes in
-    guards_each (case its.system its.job.cells) soles (hide_cells is.hidden_set.hidden.flags is.guarded.extra.cells) is.guards.guards.comes_to.guarding.guarding.guards_all attack on
+    guards_each (protected_case its.system its.job.cells) soles (hide_cells is.hidden_set.hidden.flags is.guarded.extra.cells) is.guards.guards.comes_to.guarding.guarding.guards_all attack on
 by-alone settled release is row number cell side at primary unknown false none =
     let its = is.guards.protects in
     let soles = is.guards.guards.soles in

@@ -15,7 +15,7 @@ use Rattle.job_inputs.specs.declared.file_ref.FileRef.TheVariants as file
 use Rattle.job_inputs.specs.declared.stop.InputStop.{InputStop}
 use Rattle.job_inputs.specs.declared.stop.InputStop.TheVariants as input
 use Rattle.job_intervals.specs.Finding.{AnswersIntervals, IsFileOf, IsUndecidedFor}
-use Rattle.shelved_tables.specs.TablesOnShelf.{ShelvedTables, shelved_of, ComesTo}
+use Rattle.shelved_tables.specs.TablesOnShelf.{ShelvedTables, shelved_of, IntervalsComeTo}
 use Rattle.job_intervals.specs.Stops.{HasCause as HasFindingCause, HasComeTo as HasFindingComeTo}
 use Rattle.job_intervals.specs.declared.interval_file.IntervalFile.{IntervalFile}
 use Rattle.job_intervals.specs.declared.stop.IntervalStop.{IntervalStop}
@@ -164,25 +164,25 @@ settles (report.NotGuarded why) outcome h no_read no_write = absurd h
 
 -- what holds of how it went on holds of a run that finds no intervals
 pub stopped-run : (name out : List ℕ) (e : IntervalStop) (old new : ShelfState) (tray : TrayState) → WhereTold old.files (λ fs. AnswersIntervals (shelved_of fs name out) (Err e))
-    → WhereTold old.files (λ fs. HasFindingComeTo (ComesTo fs name out) (Err e) fs new) → HasFindingCause (Err e) old new → HasOnlyLooked output_limit old new → IsIntervalRunOf name out (stop_report e) old new tray tray
+    → WhereTold old.files (λ fs. HasFindingComeTo (IntervalsComeTo fs name out) (Err e) fs new) → HasFindingCause (Err e) old new → HasOnlyLooked output_limit old new → IsIntervalRunOf name out (stop_report e) old new tray tray
 stopped-run name out e old new tray told come cause shelf = record {
   answers = stop-answers e;
   told = λ fs held. stop-meets e (shelved_of fs name out) (told fs held);
   left = λ fs held. stop-leaves e (shelved_of fs name out) out tray;
   complete = λ fs held no_read no_write.
       settles (stop_report e) (shelved_of fs name out) (stop-meets e (shelved_of fs name out) (told fs held)) (λ f is. no_read ((stop-cause e old new tray cause).read_fault f is)) (λ f is. no_write ((stop-cause e old new tray cause).write_fault f is));
-  came_to = λ fs held. stop-comes e (ComesTo fs name out) fs new (come fs held);
+  came_to = λ fs held. stop-comes e (IntervalsComeTo fs name out) fs new (come fs held);
   one_put = λ n is. absurd (stop-puts-none e n is);
   shelf = shelf;
 }
 
 -- the same of a run that went on so, and reports it
 pub stopped-run-of : (name out : List ℕ) (r : Result IntervalFile IntervalStop) (e : IntervalStop) (answer : Report) (old new : ShelfState) (tray : TrayState) → r ≡ Err e → answer ≡ stop_report e → WhereTold old.files (λ fs. AnswersIntervals (shelved_of fs name out) r)
-    → WhereTold old.files (λ fs. HasFindingComeTo (ComesTo fs name out) r fs new) → HasFindingCause r old new → HasOnlyLooked output_limit old new → IsIntervalRunOf name out answer old new tray tray
+    → WhereTold old.files (λ fs. HasFindingComeTo (IntervalsComeTo fs name out) r fs new) → HasFindingCause r old new → HasOnlyLooked output_limit old new → IsIntervalRunOf name out answer old new tray tray
 stopped-run-of name out r e answer old new tray is same told come cause shelf =
     subst (λ (a : Report). IsIntervalRunOf name out a old new tray tray) (sym same)
     (stopped-run name out e old new tray (λ fs held. subst (λ (o : Result IntervalFile IntervalStop). AnswersIntervals (shelved_of fs name out) o) is (told fs held))
-    (λ fs held. subst (λ (o : Result IntervalFile IntervalStop). HasFindingComeTo (ComesTo fs name out) o fs new) is (come fs held)) (subst (λ (o : Result IntervalFile IntervalStop). HasFindingCause o old new) is cause) shelf)
+    (λ fs held. subst (λ (o : Result IntervalFile IntervalStop). HasFindingComeTo (IntervalsComeTo fs name out) o fs new) is (come fs held)) (subst (λ (o : Result IntervalFile IntervalStop). HasFindingCause o old new) is cause) shelf)
 
 pub stopped-cause-of : (r : Result IntervalFile IntervalStop) (e : IntervalStop) (answer : Report) (old new : ShelfState) (tray : TrayState) → r ≡ Err e → answer ≡ stop_report e → HasFindingCause r old new → HasCause answer old new tray tray
 stopped-cause-of r e answer old new tray is same cause =

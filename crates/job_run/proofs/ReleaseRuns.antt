@@ -3,7 +3,7 @@ use Rattle.std.proofs.Common.{ℕ, List, Result, Ok, Err, IfOk, subst}
 use Rattle.sdc_base.specs.WhereTold.{WhereTold}
 use Rattle.office_io.specs.Shelves.{ShelfState}
 use Rattle.office_io.specs.Trays.{TrayState}
-use Rattle.job_inputs.specs.Looks.{ComesTo}
+use Rattle.job_inputs.specs.Looks.{InputsComeTo}
 use Rattle.job_inputs.specs.ReadFiles.{limit}
 use Rattle.job_inputs.specs.Reading.{HasOnlyLooked}
 use Rattle.job_inputs.specs.SettledJobs.{settled_of}
@@ -33,7 +33,7 @@ release-answers (Err stop.Memory) = tt
 pub release-run : (name : List ℕ) (r : Result Release Stop) (old new : ShelfState) (before after : TrayState)
     → WhereTold old.files (λ fs. AgreesWith (report_of r) (settled_of purpose.Release fs name)) → WhereTold old.files (λ fs. LeavesTray (report_of r) (settled_of purpose.Release fs name) before after)
     → PutsOnce (report_of r) before after → HasOnlyLooked limit old new → WhereTold old.files (λ fs. IfOk r (λ release. HasReleased fs name release before after))
-    → HasCause (report_of r) old new before after → WhereTold old.files (λ fs. HasComeTo (ComesTo purpose.Release fs name) (report_of r) fs new)
+    → HasCause (report_of r) old new before after → WhereTold old.files (λ fs. HasComeTo (InputsComeTo purpose.Release fs name) (report_of r) fs new)
     → IsReleaseRunOf name (report_of r) old new before after
 release-run name r old new before after told left once shelf released cause come = record {
   answers = release-answers r;

@@ -30,7 +30,7 @@ use Rattle.modular_plan.specs.Plans.{trail_of}
 use Rattle.sdc_base.specs.Truths.{IsTruth}
 use Rattle.release_writer.specs.ShownCells.{CanBeShown}
 use Rattle.release_writer.specs.declared.shown.Shown.TheVariants as shown
-use Rattle.repair.specs.HidingOrder.{Case, case, prices_of}
+use Rattle.repair.specs.HidingOrder.{Case, protected_case, prices_of}
 use Rattle.repair.specs.declared.stopped.Stopped.{Stopped}
 use Rattle.worlds.specs.Protection.{Protection as HiddenSet}
 use Rattle.worlds.specs.declared.refuted.Refuted.{Refuted}
@@ -45,14 +45,14 @@ use Rattle.relations.proofs.SignedTables.{one_or_two_way_has_signs}
 use Rattle.job_run.specs.Endings.{IsHidingRelease, IsReleaseBy, StopsShort}
 use Rattle.job_run.specs.Protections.{IsProtectionFor, IsSuppressedRelease}
 use Rattle.job_run.specs.Releases.{summary_of}
-use Rattle.job_run.specs.Roundings.{base_of}
+use Rattle.job_run.specs.Roundings.{job_base}
 use Rattle.job_run.specs.declared.put.Release.{Release}
 use Rattle.job_run.specs.declared.report.Summary.{Summary}
 use Rattle.job_run.specs.Stops.{ComesToRelease, question_stop, stopped_stop}
 
 -- a job has the base of its settled inputs, if it has one
-pub same-base : (settled : SettledInputs) (job : SettledJob) → IsSettledOf settled job → base_of settled.inputs.described ≡ base_of job.described
-same-base settled job is = ap base_of (sym is.described)
+pub same-base : (settled : SettledInputs) (job : SettledJob) → IsSettledOf settled job → job_base settled.inputs.described ≡ job_base job.described
+same-base settled job is = ap job_base (sym is.described)
 
 -- the relations of a job of one table of one variable, or of two flat ones, have signs
 pub signs-for : (settled : SettledInputs) (job : SettledJob) (system : System) → IsOneOrTwoWay settled.inputs.records.trees settled.inputs.described.bound.tables → IsSettledOf settled job → IsBook job.book → IsSystemOf job.book system → HaveSigns system.relations
@@ -62,8 +62,8 @@ signs-for settled job system shape is_job is_book is_system =
     (subst (λ (tables : List (List ℕ)). IsOneOrTwoWay settled.inputs.records.trees tables) (sym is_job.book.tables) shape)) is_book is_system
 
 -- what protecting the cells of a job comes to is what its settled inputs come to
-pub protection-for : (settled : SettledInputs) (job : SettledJob) (system : System) (protection : Protection) → base_of job.described ≡ None → IsSettledOf settled job → IsBook job.book → IsSystemOf job.book system
-    → IsProtectionOf (case system job.cells) (prices_of job.described.job.cost job.cells job.book.marks) job.described.job.method (trail_of job.book job.cells job.described.job.cost (passes_of job.described.job.method)) job.described.job.steps protection
+pub protection-for : (settled : SettledInputs) (job : SettledJob) (system : System) (protection : Protection) → job_base job.described ≡ None → IsSettledOf settled job → IsBook job.book → IsSystemOf job.book system
+    → IsProtectionOf (protected_case system job.cells) (prices_of job.described.job.cost job.cells job.book.marks) job.described.job.method (trail_of job.book job.cells job.described.job.cost (passes_of job.described.job.method)) job.described.job.steps protection
     → IsProtectionFor settled protection
 protection-for settled job system protection hides is_job is_book is_system is = record {
   hides = same-base settled job is_job ∙ hides;
@@ -74,7 +74,7 @@ protection-for settled job system protection hides is_job is_book is_system is =
   comes_to = is;
   whole = λ shape.
       let signs = signs-for settled job system shape is_job is_book is_system in
-      protection-whole (case system job.cells) (prices_of job.described.job.cost job.cells job.book.marks) job.described.job.method (trail_of job.book job.cells job.described.job.cost (passes_of job.described.job.method)) job.described.job.steps protection signs.0 signs.1 is;
+      protection-whole (protected_case system job.cells) (prices_of job.described.job.cost job.cells job.book.marks) job.described.job.method (trail_of job.book job.cells job.described.job.cost (passes_of job.described.job.method)) job.described.job.steps protection signs.0 signs.1 is;
 }
 
 -- a question that stopped short stops the run
@@ -90,13 +90,13 @@ pub stopped-comes : (settled : SettledInputs) (stopped : Stopped) → IsProtecti
 stopped-comes settled stopped is = question-comes settled stopped.fault stopped.repairs stopped.shown None is
 
 -- the same, where the cells are read through a slice
-pub outcome-for : (settled : SettledInputs) (job : SettledJob) (system : System) (cells : List Cell) (one other : Protection) → base_of job.described ≡ None → IsSettledOf settled job → IsBook job.book → IsSystemOf job.book system → cells ≡ job.cells → one ≡ other
-    → IsProtectionOf (case system cells) (prices_of job.described.job.cost cells job.book.marks) job.described.job.method (trail_of job.book cells job.described.job.cost (passes_of job.described.job.method)) job.described.job.steps one
+pub outcome-for : (settled : SettledInputs) (job : SettledJob) (system : System) (cells : List Cell) (one other : Protection) → job_base job.described ≡ None → IsSettledOf settled job → IsBook job.book → IsSystemOf job.book system → cells ≡ job.cells → one ≡ other
+    → IsProtectionOf (protected_case system cells) (prices_of job.described.job.cost cells job.book.marks) job.described.job.method (trail_of job.book cells job.described.job.cost (passes_of job.described.job.method)) job.described.job.steps one
     → IsProtectionFor settled other
 outcome-for settled job system cells one other hides is_job is_book is_system same is_other is =
     protection-for settled job system other hides is_job is_book is_system
-    (subst (λ (protection : Protection). IsProtectionOf (case system job.cells) (prices_of job.described.job.cost job.cells job.book.marks) job.described.job.method (trail_of job.book job.cells job.described.job.cost (passes_of job.described.job.method)) job.described.job.steps protection) is_other
-    (subst (λ (all : List Cell). IsProtectionOf (case system all) (prices_of job.described.job.cost all job.book.marks) job.described.job.method (trail_of job.book all job.described.job.cost (passes_of job.described.job.method)) job.described.job.steps one) same is))
+    (subst (λ (protection : Protection). IsProtectionOf (protected_case system job.cells) (prices_of job.described.job.cost job.cells job.book.marks) job.described.job.method (trail_of job.book job.cells job.described.job.cost (passes_of job.described.job.method)) job.described.job.steps protection) is_other
+    (subst (λ (all : List Cell). IsProtectionOf (protected_case system all) (prices_of job.described.job.cost all job.book.marks) job.described.job.method (trail_of job.book all job.described.job.cost (passes_of job.described.job.method)) job.described.job.steps one) same is))
 
 -- ---- the hidden cells
 
@@ -168,11 +168,11 @@ pub same-contributors : (settled : SettledInputs) (job : SettledJob) → IsSettl
 same-contributors settled job is = ap (λ (d : DescribedJob). d.job.contributors) (sym is.described)
 
 -- a release of a job that hides, by the file for contributors that it names
-pub hiding-comes : (settled : SettledInputs) (job : SettledJob) (named : Option OutputLine) (release : Release) → base_of job.described ≡ None → job.described.job.contributors ≡ named → IsSettledOf settled job → IsHidingRelease named settled release → ComesToRelease settled (Ok release)
+pub hiding-comes : (settled : SettledInputs) (job : SettledJob) (named : Option OutputLine) (release : Release) → job_base job.described ≡ None → job.described.job.contributors ≡ named → IsSettledOf settled job → IsHidingRelease named settled release → ComesToRelease settled (Ok release)
 hiding-comes settled job named release hides is_named is_of is =
     subst (λ (base : Option ℤ). IsReleaseBy base settled release) (sym (same-base settled job is_of ∙ hides))
     (subst (λ (line : Option OutputLine). IsHidingRelease line settled release) (sym (same-contributors settled job is_of ∙ is_named)) is)
 
 -- a hidden set that protects makes a suppressed release
-pub suppressed-comes : (settled : SettledInputs) (job : SettledJob) (release : Release) → base_of job.described ≡ None → job.described.job.contributors ≡ None → IsSettledOf settled job → IsSuppressedRelease settled release → ComesToRelease settled (Ok release)
+pub suppressed-comes : (settled : SettledInputs) (job : SettledJob) (release : Release) → job_base job.described ≡ None → job.described.job.contributors ≡ None → IsSettledOf settled job → IsSuppressedRelease settled release → ComesToRelease settled (Ok release)
 suppressed-comes settled job release hides unnamed is_of is = hiding-comes settled job None release hides unnamed is_of is

@@ -37,7 +37,7 @@ use Rattle.job_inputs.specs.declared.settled.SettledJob.{SettledJob}
 use Rattle.job_run.specs.Books.{CanBeReleased}
 use Rattle.job_run.specs.Endings.{IsReleaseBy}
 use Rattle.job_run.specs.Releases.{puts_of, summary_of, value_in}
-use Rattle.job_run.specs.Roundings.{base_of, truths_in, HasNoRounding, IsAlwaysRounded, IsSystemIn, SearchStops, rounded_certificate}
+use Rattle.job_run.specs.Roundings.{job_base, truths_in, HasNoRounding, IsAlwaysRounded, IsSystemIn, SearchStops, rounded_certificate}
 use Rattle.job_run.specs.Stops.{ComesToRelease, search_stop}
 use Rattle.job_run.specs.declared.put.Release.{Release}
 use Rattle.job_run.proofs.Bases.{base-within}
@@ -82,7 +82,7 @@ within-limits (mark ∷ marks) all =
     (within-limits marks (All-tail (λ (one : Mark). IsTruth one.facts.truth) mark marks all))
 
 -- the truths of a job that rounds can be rounded to its base
-pub task-proper : (job : SettledJob) (system : System) (base : ℤ) (truths : List ℤ) → CanBeReleased job → base_of job.described ≡ Some base → IsSystemOf job.book system → HoldOn (truth_at job.book.marks) system.relations
+pub task-proper : (job : SettledJob) (system : System) (base : ℤ) (truths : List ℤ) → CanBeReleased job → job_base job.described ≡ Some base → IsSystemOf job.book system → HoldOn (truth_at job.book.marks) system.relations
     → truths ≡ map (λ (cell : Cell). cell.truth) job.cells → IsProper system truths base
 task-proper job system base truths can rounds is holds listed =
     let same = can.ready.truths ∙ sym listed in
@@ -96,7 +96,7 @@ task-proper job system base truths can rounds is holds listed =
     }
 
 -- the same, where relations hold on the truths of records
-pub job-proper : (job : SettledJob) (system : System) (base : ℤ) (truths : List ℤ) → CanBeReleased job → base_of job.described ≡ Some base → IsSystemOf job.book system
+pub job-proper : (job : SettledJob) (system : System) (base : ℤ) (truths : List ℤ) → CanBeReleased job → job_base job.described ≡ Some base → IsSystemOf job.book system
     → ((rows : List Row) → All (IsCoded job.book.trees) rows → HaveNoChildren job.book.trees rows → AreTruths job.book rows → HoldOn (truth_at job.book.marks) system.relations)
     → truths ≡ map (λ (cell : Cell). cell.truth) job.cells → IsProper system truths base
 job-proper job system base truths can rounds is holds listed =
@@ -110,12 +110,12 @@ job-proper job system base truths can rounds is holds listed =
 -- a job that rounds, with the system of its book and the list of its truths
 pub record IsTask (settled : SettledInputs) (job : SettledJob) (system : System) (base : ℤ) (truths : List ℤ) : Type 0 where
   pub can : CanBeReleased job
-  pub rounds : base_of job.described ≡ Some base
+  pub rounds : job_base job.described ≡ Some base
   pub is_of : IsSettledOf settled job
   pub is_system : IsSystemOf job.book system
   pub listed : truths ≡ map (λ (cell : Cell). cell.truth) job.cells
 
-its-base : (settled : SettledInputs) (job : SettledJob) (system : System) (base : ℤ) (truths : List ℤ) → IsTask settled job system base truths → base_of settled.inputs.described ≡ Some base
+its-base : (settled : SettledInputs) (job : SettledJob) (system : System) (base : ℤ) (truths : List ℤ) → IsTask settled job system base truths → job_base settled.inputs.described ≡ Some base
 its-base settled job system base truths task = same-base settled job task.is_of ∙ task.rounds
 
 its-system : (settled : SettledInputs) (job : SettledJob) (system : System) (base : ℤ) (truths : List ℤ) → IsTask settled job system base truths → IsSystemIn settled.inputs system

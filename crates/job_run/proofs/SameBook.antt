@@ -19,7 +19,7 @@ use Rattle.attackers.specs.Alone.{TellFrequencies}
 use Rattle.sdc_base.specs.Sums.{freq}
 use Rattle.job_lang.specs.declared.job.TableLine.{TableLine}
 use Rattle.job_lang.specs.JobLimits.{HasVariables}
-use Rattle.job_inputs.specs.SoundJobs.{IsSound}
+use Rattle.job_inputs.specs.SoundJobs.{IsSoundJob}
 use Rattle.job_inputs.specs.TabulatedBooks.{IsBookOf, IsReadyFor}
 use Rattle.job_inputs.specs.declared.described.DescribedJob.{DescribedJob}
 use Rattle.job_inputs.specs.declared.inputs.Inputs.{Inputs}
@@ -120,7 +120,7 @@ each-narrow (table ∷ tables) (line ∷ lines) same all =
     let rest : map (λ (places : List ℕ). length places) tables ≡ map (λ (t : TableLine). length t.variables) lines = cc in
     ((omega (arith, here, all.0.0), omega (arith, here, all.0.1)), each-narrow tables lines rest all.1)
 
-pub narrow : (described : DescribedJob) (book : BookView) → IsSound described → IsReadyFor described book → AreNarrow book.tables
+pub narrow : (described : DescribedJob) (book : BookView) → IsSoundJob described → IsReadyFor described book → AreNarrow book.tables
 narrow described book sound ready =
     subst AreNarrow (sym ready.tables) (record {
       at_most_8_tables = (let many = as-many described.bound.tables described.job.tables sound.bound.tables in omega (arith, many, sound.job.at_most_8_tables));

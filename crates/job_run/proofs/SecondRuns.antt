@@ -5,7 +5,7 @@ use Rattle.std.specs.Str.{bytes_eq}
 use Rattle.std.proofs.lemmas.Slice.Eq.{bytes_eq-Decides}
 use Rattle.certificate.specs.declared.certificate.Certificate.{Certificate}
 use Rattle.certificate.specs.declared.extra.Extra.{Extra}
-use Rattle.job_lang.specs.FileLaws.{contributors_named}
+use Rattle.job_lang.specs.FileLaws.{contributors_files}
 use Rattle.job_lang.specs.declared.job.OutputLine.{OutputLine}
 use Rattle.job_lang.specs.declared.job.TableLine.{TableLine}
 use Rattle.office_io.specs.Files.{Files, files_after_put, told_file}
@@ -19,7 +19,7 @@ use Rattle.job_run.specs.Endings.{IsHidingRelease, IsReleaseBy}
 use Rattle.job_run.specs.GuardedReleases.{guarded_puts}
 use Rattle.job_run.specs.Puts.{put_all, AllWhole, IsInPart, OneInPart}
 use Rattle.job_run.specs.Releases.{tables_from, shown_in, value_in}
-use Rattle.job_run.specs.Roundings.{base_of, rounded_certificate}
+use Rattle.job_run.specs.Roundings.{job_base, rounded_certificate}
 use Rattle.job_run.specs.SecondRuns.{is_put_by, SecondRunsComplete}
 use Rattle.job_run.specs.declared.put.FilePut.{FilePut}
 use Rattle.job_run.specs.declared.put.Release.{Release}
@@ -100,7 +100,7 @@ none-behind test (name ∷ names) more none =
 
 puts-others : (other : List ℕ) (inputs : Inputs) (shown : Name → Option ℤ) (certificate : Certificate) → is_put_by inputs.described.job other ≡ false → OfOthers other (Rattle.job_run.specs.Releases.puts_of inputs shown certificate)
 puts-others other inputs shown certificate none =
-    let named = contributors_named inputs.described.job.contributors in
+    let named = contributors_files inputs.described.job.contributors in
     let both = neither (bytes_eq inputs.described.job.certificate other) (list_any (λ file. bytes_eq file other) (named ++ map (λ (o : OutputLine). o.file) inputs.described.job.outputs)) none in
     let tables = none-behind (λ file. bytes_eq file other) named (map (λ (o : OutputLine). o.file) inputs.described.job.outputs) both.1 in
     (apart-name inputs.described.job.certificate other both.0, tables-others other inputs shown 0 inputs.described.job.tables inputs.described.job.outputs tables.1)
@@ -108,10 +108,10 @@ puts-others other inputs shown certificate none =
 guarded-others : (other : List ℕ) (inputs : Inputs) (line : OutputLine) (shown : Name → Option ℤ) (certificate : Certificate) (extra : Extra) → inputs.described.job.contributors ≡ Some line → is_put_by inputs.described.job other ≡ false
     → OfOthers other (guarded_puts inputs line.file shown certificate extra)
 guarded-others other inputs line shown certificate extra is_named none =
-    let named = contributors_named inputs.described.job.contributors in
+    let named = contributors_files inputs.described.job.contributors in
     let both = neither (bytes_eq inputs.described.job.certificate other) (list_any (λ (file : List ℕ). bytes_eq file other) (named ++ map (λ (o : OutputLine). o.file) inputs.described.job.outputs)) none in
     let parts = none-behind (λ (file : List ℕ). bytes_eq file other) named (map (λ (o : OutputLine). o.file) inputs.described.job.outputs) both.1 in
-    let own : list_any (λ (file : List ℕ). bytes_eq file other) (line.file ∷ []) ≡ false = subst (λ (c : Option OutputLine). list_any (λ (file : List ℕ). bytes_eq file other) (contributors_named c) ≡ false) is_named parts.0 in
+    let own : list_any (λ (file : List ℕ). bytes_eq file other) (line.file ∷ []) ≡ false = subst (λ (c : Option OutputLine). list_any (λ (file : List ℕ). bytes_eq file other) (contributors_files c) ≡ false) is_named parts.0 in
     let apart = neither (bytes_eq line.file other) false own in
     (apart-name inputs.described.job.certificate other both.0, (apart-name line.file other apart.0, tables-others other inputs shown 0 inputs.described.job.tables inputs.described.job.outputs parts.1))
 
@@ -140,6 +140,6 @@ second_runs_complete files name summary before between after runs =
           let second-is : released.settled ≡ settled = ok-same (sym released.read ∙ again) in
           let none-first = subst (λ (s : SettledInputs). is_put_by s.inputs.described.job other ≡ false) (sym first-is) none in
           let none-second = subst (λ (s : SettledInputs). is_put_by s.inputs.described.job other ≡ false) (sym second-is) none in
-          whole-others other released.release.puts between after (release-others other released.settled released.release (base_of released.settled.inputs.described) none-second released.is_release) released.put
-          ∙ part-others other left.2.0.puts runs.file before between (release-others other left.0 left.2.0 (base_of left.0.inputs.described) none-first left.2.1) left.2.2,
+          whole-others other released.release.puts between after (release-others other released.settled released.release (job_base released.settled.inputs.described) none-second released.is_release) released.put
+          ∙ part-others other left.2.0.puts runs.file before between (release-others other left.0 left.2.0 (job_base left.0.inputs.described) none-first left.2.1) left.2.2,
     )

@@ -5,7 +5,7 @@ use Rattle.office_io.specs.Files.{Files}
 use Rattle.office_io.specs.Trays.{TrayState}
 use Rattle.job_inputs.specs.declared.file_ref.FileRef.{FileRef}
 use Rattle.job_inputs.specs.SettledJobs.{SettledInputs, settled_of}
-use Rattle.job_inputs.specs.SoundJobs.{AreSound, IsSound}
+use Rattle.job_inputs.specs.SoundJobs.{AreSound, IsSoundJob}
 use Rattle.job_inputs.specs.declared.described.DescribedJob.{DescribedJob}
 use Rattle.job_inputs.specs.declared.purpose.Purpose.TheVariants as purpose
 use Rattle.job_run.specs.Endings.{IsReleaseOf}
@@ -20,11 +20,11 @@ use Rattle.job_run.specs.declared.report.Report.TheVariants as report
 
 -- a release is what its record says
 pub release-is : (files : Files) (name : List ℕ) (settled : SettledInputs) (release : Release) (old new : TrayState) → settled_of purpose.Release files name ≡ Ok settled → IsReleaseOf settled release → AllWhole release.puts old new
-    → (described : DescribedJob) → described ≡ settled.inputs.described → length release.puts ≡ file_count described.job → IsSound described → HasReleased files name release old new
+    → (described : DescribedJob) → described ≡ settled.inputs.described → length release.puts ≡ file_count described.job → IsSoundJob described → HasReleased files name release old new
 release-is files name settled release old new read is whole described same each sound = record {
   settled = settled;
   read = read;
-  sound = subst IsSound same sound;
+  sound = subst IsSoundJob same sound;
   is_release = is;
   put = whole;
   one_put_each = whole.puts_made ∙ ap (count_after old.puts) (each ∙ ap (λ (d : DescribedJob). file_count d.job) same);

@@ -9,7 +9,7 @@ use Rattle.release_writer.specs.ShownCells.{CanBeShown}
 use Rattle.release_writer.specs.declared.shown.Shown.{Shown}
 use Rattle.release_writer.specs.declared.shown.Shown.TheVariants as shown
 use Rattle.job_inputs.specs.SettledJobs.{SettledInputs, IsReadyJob, IsSettledOf}
-use Rattle.job_inputs.specs.SoundJobs.{AreSound, IsSound}
+use Rattle.job_inputs.specs.SoundJobs.{AreSound, IsSoundJob}
 use Rattle.job_inputs.specs.TabulatedBooks.{IsReadyFor}
 use Rattle.job_inputs.specs.declared.described.DescribedJob.{DescribedJob}
 use Rattle.job_inputs.specs.declared.inputs.Inputs.{Inputs}
@@ -57,13 +57,13 @@ puts_of_shown_tables inputs how job = tables_from inputs (shown_by inputs how) 0
 
 -- the job is within its limits, its book is ready for it, and what is to be shown of its cells can be
 pub record IsShownBook (described : DescribedJob) (book : BookView) (shown : Shown) : Type 0 where
-  pub sound : IsSound described
+  pub sound : IsSoundJob described
   pub ready : IsReadyFor described book
   pub can : CanBeShown book shown
 
 -- the same, where the cells of a hidden set are hidden
 pub record IsHidingBook (described : DescribedJob) (book : BookView) (flags : List Bool) : Type 0 where
-  pub sound : IsSound described
+  pub sound : IsSoundJob described
   pub ready : IsReadyFor described book
   pub each_flag : length flags ≡ length book.marks
 

@@ -5,7 +5,7 @@ use Rattle.sdc_base.specs.WhereTold.{WhereTold}
 use Rattle.office_io.specs.Shelves.{ShelfState}
 use Rattle.office_io.specs.Trays.{TrayState}
 use Rattle.job_check.specs.Answers.{IsRightRelease, IsFaultyRelease}
-use Rattle.job_check.specs.Reading.{ComesTo}
+use Rattle.job_check.specs.Reading.{ReleaseComesTo}
 use Rattle.job_check.specs.ReleaseFiles.{ReleasedFiles, released_of}
 use Rattle.job_check.specs.declared.flaw.Flaw.TheVariants as flaw
 use Rattle.job_inputs.specs.ReadFiles.{output_limit}
@@ -58,6 +58,6 @@ pub record IsCheckOf (name : List ℕ) (answer : Report) (old new : ShelfState) 
   pub told : WhereTold old.files (λ fs. MeetsCheck answer (released_of fs name))
   pub complete : WhereTold old.files (λ fs. ¬ HasRisen old.faults new.faults
       → SettlesCheck answer (released_of fs name))
-  pub came_to : WhereTold old.files (λ fs. HasComeTo (ComesTo fs name) answer fs new)
+  pub came_to : WhereTold old.files (λ fs. HasComeTo (ReleaseComesTo fs name) answer fs new)
   pub untouched : after ≡ before
   pub shelf : HasOnlyLooked output_limit old new

@@ -8,7 +8,7 @@ use Rattle.worlds.specs.declared.refuted.Refuted.{Refuted}
 use Rattle.job_inputs.specs.SettledJobs.{SettledInputs}
 use Rattle.job_run.specs.GuardedReleases.{IsGuardedRelease, GuardStopsShort}
 use Rattle.job_run.specs.Protections.{IsSuppressedRelease, ProtectionStopsShort}
-use Rattle.job_run.specs.Roundings.{base_of, IsRoundedRelease, SearchStops}
+use Rattle.job_run.specs.Roundings.{job_base, IsRoundedRelease, SearchStops}
 use Rattle.job_run.specs.declared.put.Release.{Release}
 use Rattle.job_run.specs.declared.report.Stuck.{Stuck}
 use Rattle.job_run.specs.declared.report.Stuck.TheVariants as stuck
@@ -25,7 +25,7 @@ IsReleaseBy (Some base) settled release = IsRoundedRelease settled base release
 
 -- a release of settled inputs by the job's method
 abbrev pub IsReleaseOf : SettledInputs → Release → Type 0
-IsReleaseOf settled release = IsReleaseBy (base_of settled.inputs.described) settled release
+IsReleaseOf settled release = IsReleaseBy (job_base settled.inputs.described) settled release
 
 -- a question stopped short, with these repairs and these cells shown: one of the protection, or one against a contributor
 abbrev pub StopsShort : SettledInputs → AskFault → List Refuted → List ℕ → Option Against → Type 0

@@ -17,7 +17,7 @@ use Rattle.cell_guards.specs.declared.guarding.Unguarded.TheVariants as unguarde
 use Rattle.cell_protection.specs.declared.protection.Protection.TheVariants as protection
 use Rattle.interval_audit.specs.declared.answer.AskFault.{AskFault}
 use Rattle.relations.specs.TableSigns.{IsOneOrTwoWay}
-use Rattle.repair.specs.HidingOrder.{case, prices_of}
+use Rattle.repair.specs.HidingOrder.{protected_case, prices_of}
 use Rattle.worlds.specs.Protection.{Protection as HiddenSet}
 use Rattle.worlds.specs.declared.multipliers.Multipliers.{Multipliers}
 use Rattle.worlds.specs.declared.refuted.Refuted.{Refuted}
@@ -38,13 +38,14 @@ pub record IsGuardFor (settled : SettledInputs) (hidden_set : HiddenSet) (certif
   pub line : OutputLine
   pub named : settled.inputs.described.job.contributors ≡ Some line
   pub protects : IsProtectionFor settled (protection.Protected hidden_set certificate)
-  pub guards : IsGuardOf protects.job.book settled.inputs.records.rows (case protects.system protects.job.cells)
+  pub guards : IsGuardOf protects.job.book settled.inputs.records.rows
+      (protected_case protects.system protects.job.cells)
       (prices_of protects.job.described.job.cost protects.job.cells protects.job.book.marks)
       protects.job.described.job.steps hidden_set certificate outcome
   pub whole : IsOneOrTwoWay settled.inputs.records.trees settled.inputs.described.bound.tables → IsWholeOutcome outcome
 
 -- no hidden set guards this cell to this side against the contributor at this row, while a hidden set protects
-pub record CantBeGuarded (settled : SettledInputs) (row cell : ℕ) (side : Side) (multipliers : Multipliers)
+pub record HasNoGuard (settled : SettledInputs) (row cell : ℕ) (side : Side) (multipliers : Multipliers)
     : Type 0 where
   pub hidden_set : HiddenSet
   pub certificate : Certificate

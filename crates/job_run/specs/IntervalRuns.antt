@@ -11,7 +11,7 @@ use Rattle.job_inputs.specs.Reading.{HasOnlyLooked}
 use Rattle.job_inputs.specs.declared.faults.Fault.{Fault}
 use Rattle.job_inputs.specs.declared.file_ref.FileRef.TheVariants as file
 use Rattle.job_intervals.specs.Finding.{AreRefusedFor, IsFileOf, IsUndecidedFor}
-use Rattle.shelved_tables.specs.TablesOnShelf.{ShelvedTables, shelved_of, ComesTo}
+use Rattle.shelved_tables.specs.TablesOnShelf.{ShelvedTables, shelved_of, IntervalsComeTo}
 use Rattle.job_intervals.specs.declared.interval_file.IntervalFile.{IntervalFile}
 use Rattle.job_run.specs.Reports.{HasComeTo}
 use Rattle.job_run.specs.declared.report.Report.{Report}
@@ -102,6 +102,6 @@ pub record IsIntervalRunOf (name out : List ℕ) (answer : Report) (old new : Sh
   pub left : WhereTold old.files (λ fs. IntervalsLeave answer (shelved_of fs name out) out before after)
   pub complete : WhereTold old.files (λ fs. ¬ HasRisen old.faults new.faults → ¬ HasRisen before.faults after.faults
       → SettlesIntervals answer (shelved_of fs name out))
-  pub came_to : WhereTold old.files (λ fs. HasComeTo (ComesTo fs name out) answer fs new)
+  pub came_to : WhereTold old.files (λ fs. HasComeTo (IntervalsComeTo fs name out) answer fs new)
   pub one_put : (cells : ℕ) → answer ≡ report.Intervals cells → (bytes : List ℕ) × HasPut out bytes before after
   pub shelf : HasOnlyLooked output_limit old new

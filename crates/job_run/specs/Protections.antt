@@ -14,7 +14,7 @@ use Rattle.cell_protection.specs.declared.protection.Protection.{Protection}
 use Rattle.cell_protection.specs.declared.protection.Protection.TheVariants as protection
 use Rattle.interval_audit.specs.declared.answer.AskFault.{AskFault}
 use Rattle.modular_plan.specs.Plans.{IsSameButHidden, trail_of}
-use Rattle.repair.specs.HidingOrder.{case, prices_of}
+use Rattle.repair.specs.HidingOrder.{protected_case, prices_of}
 use Rattle.worlds.specs.Protection.{Protection as HiddenSet}
 use Rattle.worlds.specs.declared.refuted.Refuted.{Refuted}
 use Rattle.job_inputs.specs.SettledJobs.{SettledInputs, IsSettledOf}
@@ -26,20 +26,20 @@ use Rattle.relations.specs.Holding.{IsSystemOf}
 use Rattle.relations.specs.TableSigns.{IsOneOrTwoWay}
 use Rattle.job_run.specs.Books.{job_of}
 use Rattle.job_run.specs.Releases.{puts_of, shown_in, summary_of}
-use Rattle.job_run.specs.Roundings.{base_of}
+use Rattle.job_run.specs.Roundings.{job_base}
 use Rattle.job_run.specs.declared.put.Release.{Release}
 
 -- The job hides, and the protection of settled inputs comes to this: that of their settled cells, with the system of
 -- the relations between them, planned by the job's method and its costs, each question within the job's steps. It is in
 -- whole units where the job has one table of one variable, or of two flat ones.
 pub record IsProtectionFor (settled : SettledInputs) (protection : Protection) : Type 0 where
-  pub hides : base_of settled.inputs.described ≡ None
+  pub hides : job_base settled.inputs.described ≡ None
   pub job : SettledJob
   pub system : System
   pub job_is : IsSettledOf settled job
   pub system_is : IsSystemOf job.book system
-  pub comes_to : IsProtectionOf (case system job.cells) (prices_of job.described.job.cost job.cells job.book.marks)
-      job.described.job.method
+  pub comes_to : IsProtectionOf (protected_case system job.cells)
+      (prices_of job.described.job.cost job.cells job.book.marks) job.described.job.method
       (trail_of job.book job.cells job.described.job.cost (passes_of job.described.job.method)) job.described.job.steps
       protection
   pub whole : IsOneOrTwoWay settled.inputs.records.trees settled.inputs.described.bound.tables
@@ -69,11 +69,11 @@ pub record IsProtectedJob (settled : SettledInputs) (described : DescribedJob) (
   pub before : BookView
   pub records : ℕ
   pub skipped : ℕ
-  pub hides : base_of described ≡ None
+  pub hides : job_base described ≡ None
   pub is_of : IsSettledOf settled (job_of described before cells rows records skipped)
   pub is_book : IsBook before
   pub is_system : IsSystemOf before system
   pub same : IsSameButHidden before book
-  pub protects : IsProtectionOf (case system cells) (prices_of described.job.cost cells before.marks)
+  pub protects : IsProtectionOf (protected_case system cells) (prices_of described.job.cost cells before.marks)
       described.job.method (trail_of before cells described.job.cost (passes_of described.job.method))
       described.job.steps (protection.Protected hidden_set certificate)

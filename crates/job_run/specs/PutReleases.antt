@@ -4,7 +4,7 @@ use Rattle.sdc_base.specs.Counts.{count_after}
 use Rattle.office_io.specs.Files.{Files}
 use Rattle.office_io.specs.Trays.{TrayState}
 use Rattle.job_inputs.specs.SettledJobs.{SettledInputs, settled_of}
-use Rattle.job_inputs.specs.SoundJobs.{AreSound, IsSound}
+use Rattle.job_inputs.specs.SoundJobs.{AreSound, IsSoundJob}
 use Rattle.job_inputs.specs.declared.purpose.Purpose.TheVariants as purpose
 use Rattle.job_run.specs.Endings.{IsReleaseOf}
 use Rattle.job_run.specs.FileCounts.{file_count}
@@ -25,7 +25,7 @@ PutRelease = Release
 pub record HasReleased (files : Files) (name : List ℕ) (release : Release) (old new : TrayState) : Type 0 where
   pub settled : SettledInputs
   pub read : settled_of purpose.Release files name ≡ Ok settled
-  pub sound : IsSound settled.inputs.described
+  pub sound : IsSoundJob settled.inputs.described
   pub is_release : IsReleaseOf settled release
   pub put : AllWhole release.puts old new
   pub one_put_each : new.puts ≡ count_after old.puts (file_count settled.inputs.described.job)
@@ -39,7 +39,7 @@ pub record Releases (files : Files) (name : List ℕ) (summary : Summary) (old n
   pub settled : SettledInputs
   pub release : Release
   pub read : settled_of purpose.Release files name ≡ Ok settled
-  pub sound : IsSound settled.inputs.described
+  pub sound : IsSoundJob settled.inputs.described
   pub is_release : IsReleaseOf settled release
   pub numbers : summary ≡ release.summary
   pub put : AllWhole release.puts old new

@@ -4,7 +4,7 @@ use Rattle.sdc_base.specs.Counts.{HasRisen}
 use Rattle.sdc_base.specs.WhereTold.{WhereTold}
 use Rattle.office_io.specs.Shelves.{ShelfState}
 use Rattle.office_io.specs.Trays.{TrayState}
-use Rattle.job_inputs.specs.Looks.{ComesTo}
+use Rattle.job_inputs.specs.Looks.{InputsComeTo}
 use Rattle.job_inputs.specs.ReadFiles.{limit}
 use Rattle.job_inputs.specs.Reading.{HasOnlyLooked}
 use Rattle.job_inputs.specs.SettledJobs.{settled_of}
@@ -29,6 +29,6 @@ pub record IsReleaseRunOf (name : List ℕ) (answer : Report) (old new : ShelfSt
       → Releases fs name summary before after)
   pub complete : WhereTold old.files (λ fs. ¬ HasRisen old.faults new.faults → ¬ HasRisen before.faults after.faults
       → AnswersExactly answer (settled_of purpose.Release fs name))
-  pub came_to : WhereTold old.files (λ fs. HasComeTo (ComesTo purpose.Release fs name) answer fs new)
+  pub came_to : WhereTold old.files (λ fs. HasComeTo (InputsComeTo purpose.Release fs name) answer fs new)
   pub put_once : PutsOnce answer before after
   pub shelf : HasOnlyLooked limit old new

@@ -10,7 +10,7 @@ use Rattle.job_inputs.specs.ReadFiles.{limit_of}
 use Rattle.job_inputs.specs.SettledJobs.{SettledInputs}
 use Rattle.job_inputs.specs.declared.file_ref.FileRef.{FileRef}
 use Rattle.job_run.specs.Endings.{IsReleaseOf, IsUndecided}
-use Rattle.job_run.specs.GuardedReleases.{CantBeGuarded}
+use Rattle.job_run.specs.GuardedReleases.{HasNoGuard}
 use Rattle.job_run.specs.Protections.{IsProtectionFor}
 use Rattle.job_run.specs.Puts.{SomeWhole, OneInPart}
 use Rattle.job_run.specs.Roundings.{HasNoRounding}
@@ -37,7 +37,7 @@ AgreesWith (report.Refused reason) outcome = outcome ≡ Err reason
 AgreesWith (report.Cannot cell side multipliers) outcome = IsOkAnd outcome
     (λ settled. IsProtectionFor settled (protection.Cannot cell side multipliers))
 AgreesWith (report.CannotAgainst row cell side multipliers) outcome = IsOkAnd outcome
-    (λ settled. CantBeGuarded settled row cell side multipliers)
+    (λ settled. HasNoGuard settled row cell side multipliers)
 AgreesWith report.NoRounding outcome = IsOkAnd outcome HasNoRounding
 AgreesWith (report.NotAccepted why) outcome = ⊥
 AgreesWith (report.NotGuarded why) outcome = ⊥

@@ -29,8 +29,8 @@ base_in_units (method.Rnd base) decimals = Some (base *ℤ pos (10 ^ decimals))
 base_in_units hiding decimals = None
 
 -- the base to which a job rounds, in units; a job that hides has none
-abbrev pub base_of : DescribedJob → Option ℤ
-base_of described = base_in_units described.job.method described.bound.decimals
+abbrev pub job_base : DescribedJob → Option ℤ
+job_base described = base_in_units described.job.method described.bound.decimals
 
 -- the truths of all cells over the records
 abbrev pub truths_in : Inputs → List ℤ
@@ -58,7 +58,7 @@ IsAlwaysRounded inputs = IsOneOrTwoWay inputs.records.trees inputs.described.bou
 pub record HasNoRounding (settled : SettledInputs) : Type 0 where
   pub base : ℤ
   pub system : System
-  pub rounds : base_of settled.inputs.described ≡ Some base
+  pub rounds : job_base settled.inputs.described ≡ Some base
   pub system_is : IsSystemIn settled.inputs system
   pub none : (values : List ℤ) → ¬ IsRoundingFor settled.inputs base values
   pub more : ¬ IsAlwaysRounded settled.inputs
@@ -68,7 +68,7 @@ pub record HasNoRounding (settled : SettledInputs) : Type 0 where
 pub record SearchStops (settled : SettledInputs) (nodes : ℕ) : Type 0 where
   pub base : ℤ
   pub system : System
-  pub rounds : base_of settled.inputs.described ≡ Some base
+  pub rounds : job_base settled.inputs.described ≡ Some base
   pub system_is : IsSystemIn settled.inputs system
   pub limit : nodes ≡ settled.inputs.described.job.nodes
   pub stops : Stops system (truths_in settled.inputs) base nodes

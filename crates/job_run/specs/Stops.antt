@@ -14,7 +14,7 @@ use Rattle.job_inputs.specs.SettledJobs.{SettledInputs}
 use Rattle.job_inputs.specs.declared.stop.InputStop.{InputStop}
 use Rattle.job_inputs.specs.declared.stop.InputStop.TheVariants as input
 use Rattle.job_run.specs.Endings.{IsReleaseOf, IsUndecided}
-use Rattle.job_run.specs.GuardedReleases.{CantBeGuarded}
+use Rattle.job_run.specs.GuardedReleases.{HasNoGuard}
 use Rattle.job_run.specs.Protections.{IsProtectionFor}
 use Rattle.job_run.specs.Roundings.{HasNoRounding}
 use Rattle.job_run.specs.declared.put.Release.{Release}
@@ -66,7 +66,7 @@ ComesToRelease settled (Ok release) = IsReleaseOf settled release
 ComesToRelease settled (Err (stop.Refused reason)) = ⊥
 ComesToRelease settled (Err (stop.Cannot cell side multipliers)) = IsProtectionFor settled
     (protection.Cannot cell side multipliers)
-ComesToRelease settled (Err (stop.CannotAgainst row cell side multipliers)) = CantBeGuarded settled row cell side
+ComesToRelease settled (Err (stop.CannotAgainst row cell side multipliers)) = HasNoGuard settled row cell side
     multipliers
 ComesToRelease settled (Err stop.NoRounding) = HasNoRounding settled
 ComesToRelease settled (Err (stop.Undecided why repairs shown against)) = IsUndecided settled why repairs shown against

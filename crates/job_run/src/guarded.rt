@@ -9,10 +9,10 @@ ghost use Rattle.job_run.specs.Protections.{IsProtectedJob};
 ghost use Rattle.job_run.specs.Releases.{summary_of};
 ghost use Rattle.job_run.specs.Roundings as roundings;
 ghost use Rattle.job_run.specs.Stops.{ComesToRelease};
-ghost use Rattle.repair.specs.HidingOrder.{case};
+ghost use Rattle.repair.specs.HidingOrder.{protected_case};
 
 use crate::guarded_texts::guarded_puts;
-use crate::numbers::numbers_of;
+use crate::numbers::unhidden_summary;
 use crate::put::Release;
 use crate::report::Summary;
 use crate::stop::Stop;
@@ -29,12 +29,12 @@ use worlds::Protected;
 /// The release of a job that hides cells and guards them against contributors, whose file has this name.
 pub(crate) fn guarded_release(alloc: Global, job: SettledJob, name: Text) -> Result<Release, Stop>
     requires can { CanBeReleased job }
-    requires hides { roundings.base_of job.described ≡ None }
+    requires hides { roundings.job_base job.described ≡ None }
     requires named { option_map (λ line. line.file) job.described.job.contributors ≡ Some name }
     ensures comes { (settled : SettledInputs) → IsSettledOf settled job → ComesToRelease settled result }
     ensures each_file { IfOk result (λ release. length release.puts ≡ file_count job.described.job) }
 {
-    let summary = numbers_of(&job);
+    let summary = unhidden_summary(&job);
     let SettledJob {
         described,
         mut book,
@@ -64,7 +64,7 @@ fn guard_parts(
     summary: Summary,
 ) -> Result<Release, Stop>
     requires ready { IsReadyJob (job_of described.now book.old cells.now rows.now 0 0) }
-    requires hides { roundings.base_of described.now ≡ None }
+    requires hides { roundings.job_base described.now ≡ None }
     requires named { option_map (λ line. line.file) described.now.job.contributors ≡ Some name }
     ensures comes { (records skipped : ℕ) → (settled : SettledInputs)
         → IsSettledOf settled (job_of described.now book.old cells.now rows.now records skipped)
@@ -127,7 +127,7 @@ fn guard_protected(
 ) -> Result<Release, Stop>
     requires planned { IsPlannedBook described.now book.now cells.now rows.now }
     requires one_each { length cells.now ≡ system.now.cells }
-    requires certified { IsCertified (case system.now cells.now) protected.now certificate }
+    requires certified { IsCertified (protected_case system.now cells.now) protected.now certificate }
     requires text { IsSpellable certificate }
     requires named { option_map (λ line. line.file) described.now.job.contributors ≡ Some name }
     ensures comes { (settled : SettledInputs)

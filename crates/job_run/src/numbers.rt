@@ -8,7 +8,7 @@ use job_inputs::SettledJob;
 use sdc_base::Cell;
 
 /// The numbers of a job's release in which no cell is hidden.
-pub(crate) fn numbers_of(job: &SettledJob) -> Summary
+pub(crate) fn unhidden_summary(job: &SettledJob) -> Summary
     requires { IsReadyJob job.now }
     ensures { (settled : SettledInputs) → IsSettledOf settled job.now → result ≡ summary_of settled 0 }
 {

@@ -7,7 +7,7 @@ ghost use Rattle.certificate.specs.Texts.{text_of};
 ghost use Rattle.linked_tables.specs.BookCells.{cells as cells_in};
 ghost use Rattle.job_lang.specs.JobLimits.{IsMethod};
 ghost use Rattle.job_inputs.specs.SettledJobs.{IsSettledOf, SettledInputs};
-ghost use Rattle.job_inputs.specs.SoundJobs.{IsSound};
+ghost use Rattle.job_inputs.specs.SoundJobs.{IsSoundJob};
 ghost use Rattle.job_inputs.specs.TabulatedBooks.{IsBookOf, IsReadyFor};
 ghost use Rattle.job_inputs.specs.declared.inputs.Inputs.{Inputs as AnyInputs};
 ghost use Rattle.job_run.specs.Books.{CanBeReleased, IsHidingBook};
@@ -17,7 +17,7 @@ ghost use Rattle.job_run.specs.Roundings as roundings;
 ghost use Rattle.job_run.specs.Stops.{ComesToRelease};
 
 use crate::guarded::guarded_release;
-use crate::numbers::numbers_of;
+use crate::numbers::unhidden_summary;
 use crate::put::Release;
 use crate::release_texts::puts_for;
 use crate::report::Summary;
@@ -42,14 +42,14 @@ pub(crate) fn release_for(alloc: Global, job: SettledJob) -> Result<Release, Sto
     ensures comes { (settled : SettledInputs) → IsSettledOf settled job → ComesToRelease settled result }
     ensures each_file { IfOk result (λ release. length release.puts ≡ file_count job.described.job) }
 {
-    match base_of(job.described.job.method, job.described.bound.decimals) {
+    match job_base(job.described.job.method, job.described.bound.decimals) {
         Some(base) => rounded_release(alloc, job, base),
         None => hiding_release(alloc, job),
     }
 }
 
 // The base to which a method rounds, in units of so many decimals; none where it hides.
-fn base_of(method: Method, decimals: u8) -> Option<i128>
+fn job_base(method: Method, decimals: u8) -> Option<i128>
     requires method { IsMethod method }
     requires decimals { decimals ≤ 13 }
     ensures { result ≡ roundings.base_in_units method decimals }
@@ -64,7 +64,7 @@ fn base_of(method: Method, decimals: u8) -> Option<i128>
 // The release of a job that hides cells: guarded against contributors, where it names a file for them.
 fn hiding_release(alloc: Global, job: SettledJob) -> Result<Release, Stop>
     requires can { CanBeReleased job }
-    requires hides { roundings.base_of job.described ≡ None }
+    requires hides { roundings.job_base job.described ≡ None }
     ensures comes { (settled : SettledInputs) → IsSettledOf settled job → ComesToRelease settled result }
     ensures each_file { IfOk result (λ release. length release.puts ≡ file_count job.described.job) }
 {
@@ -80,12 +80,12 @@ fn hiding_release(alloc: Global, job: SettledJob) -> Result<Release, Stop>
 // The release of a job that hides cells and names no file for contributors.
 fn suppressed_release(alloc: Global, job: SettledJob) -> Result<Release, Stop>
     requires can { CanBeReleased job }
-    requires hides { roundings.base_of job.described ≡ None }
+    requires hides { roundings.job_base job.described ≡ None }
     requires unnamed { job.described.job.contributors ≡ None }
     ensures comes { (settled : SettledInputs) → IsSettledOf settled job → ComesToRelease settled result }
     ensures one_more_than_tables { IfOk result (λ release. length release.puts ≡ 1 + length job.described.job.tables) }
 {
-    let summary = numbers_of(&job);
+    let summary = unhidden_summary(&job);
     let SettledJob {
         described,
         mut book,
@@ -103,13 +103,13 @@ fn suppress_parts(
     cells: &[Cell],
     summary: Summary,
 ) -> Result<Release, Stop>
-    requires sound { IsSound described.now }
+    requires sound { IsSoundJob described.now }
     requires book { IsReadyFor described.now book.old }
     requires one_each { length book.old.marks ≡ length (cells_in book.old) }
     requires settled { length cells.now ≡ length book.old.marks }
     requires levels { All HasLevelsInRange cells.now }
     requires fewer_than_2_32 { length cells.now < 2 ^ 32 }
-    requires hides { roundings.base_of described.now ≡ None }
+    requires hides { roundings.job_base described.now ≡ None }
     requires unnamed { described.now.job.contributors ≡ None }
     ensures comes { (rows : List AnyRow) → (records skipped : ℕ) → (settled : SettledInputs)
         → IsSettledOf settled (record {

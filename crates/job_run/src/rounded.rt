@@ -5,7 +5,7 @@ ghost use Rattle.job_run.specs.Books.{CanBeReleased};
 ghost use Rattle.job_run.specs.Roundings as roundings;
 ghost use Rattle.job_run.specs.Stops.{ComesToRelease};
 
-use crate::numbers::numbers_of;
+use crate::numbers::unhidden_summary;
 use crate::put::Release;
 use crate::release_texts::puts_for;
 use crate::stop::{Stop, search_stop};
@@ -21,7 +21,7 @@ use std::alloc::Global;
 /// hidden.
 pub(crate) fn rounded_release(alloc: Global, job: SettledJob, base: i128) -> Result<Release, Stop>
     requires can { CanBeReleased job }
-    requires rounds { roundings.base_of job.described ≡ Some base }
+    requires rounds { roundings.job_base job.described ≡ Some base }
     ensures comes { (settled : SettledInputs) → IsSettledOf settled job → ComesToRelease settled result }
     ensures one_more_than_tables { IfOk result (λ release. length release.puts ≡ 1 + length job.described.job.tables) }
 {
@@ -31,12 +31,12 @@ pub(crate) fn rounded_release(alloc: Global, job: SettledJob, base: i128) -> Res
 // The same, of a job that is lent.
 fn round_job(alloc: Global, job: &SettledJob, base: i128) -> Result<Release, Stop>
     requires can { CanBeReleased job.now }
-    requires rounds { roundings.base_of job.now.described ≡ Some base }
+    requires rounds { roundings.job_base job.now.described ≡ Some base }
     ensures comes { (settled : SettledInputs) → IsSettledOf settled job.now → ComesToRelease settled result }
     ensures one_more_than_tables { IfOk result
         (λ release. length release.puts ≡ 1 + length job.now.described.job.tables) }
 {
-    let summary = numbers_of(job);
+    let summary = unhidden_summary(job);
     // for the proof: what holds of every book
     let _known = job.book.cells();
     let system = relations_of(alloc, &job.book)?;

@@ -1,7 +1,7 @@
 ghost use Rattle.std.specs.Prelude.{◌≡◌, ◌≢◌, ◌↔◌, IfOk};
 ghost use Rattle.sdc_base.specs.Counts.{HasRisen};
 ghost use Rattle.sdc_base.specs.WhereTold.{WhereTold};
-ghost use Rattle.job_inputs.specs.Looks.{ComesTo};
+ghost use Rattle.job_inputs.specs.Looks.{InputsComeTo};
 ghost use Rattle.job_inputs.specs.ReadFiles.{limit};
 ghost use Rattle.job_inputs.specs.Reading.{HasOnlyLooked};
 ghost use Rattle.job_inputs.specs.SettledJobs.{settled_of};
@@ -153,7 +153,7 @@ pub(crate) fn run_job<S: Shelf, T: Tray>(
     ensures cause { HasCause (report_of result) (S.state shelf.old) (S.state shelf.new) (T.state tray.old)
         (T.state tray.new) }
     ensures came_to { WhereTold (S.state shelf.old).files
-        (λ fs. HasComeTo (ComesTo Purpose.Release fs name.now) (report_of result) fs (S.state shelf.new)) }
+        (λ fs. HasComeTo (InputsComeTo Purpose.Release fs name.now) (report_of result) fs (S.state shelf.new)) }
 {
     let settled = read_settled(alloc, shelf, name, Purpose::Release)?;
     let release = release_for(alloc, settled)?;

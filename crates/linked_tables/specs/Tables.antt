@@ -44,10 +44,10 @@ table_fault trees before table =
     (cells_fault (length before) (cells_of trees (before ++ table ∷ [])))
 
 -- the fault of the first table that has one, of those that stand behind these
-abbrev pub first_fault : List Tree → List (List ℕ) → List (List ℕ) → Option BookFault
-first_fault trees before [] = None
-first_fault trees before (table ∷ tables) = or_later (table_fault trees before table)
-    (first_fault trees (before ++ table ∷ []) tables)
+abbrev pub first_table_fault : List Tree → List (List ℕ) → List (List ℕ) → Option BookFault
+first_table_fault trees before [] = None
+first_table_fault trees before (table ∷ tables) = or_later (table_fault trees before table)
+    (first_table_fault trees (before ++ table ∷ []) tables)
 
 -- this value, unless there is a fault
 abbrev pub unless_fault : {X : Type 0} → Option BookFault → X → Result X BookFault
@@ -56,7 +56,7 @@ unless_fault (Some one) x = Err one
 
 -- the trees and the tables of a book, or the fault of the first table that has one
 abbrev pub book_of : List Tree → List (List ℕ) → Result (List Tree × List (List ℕ)) BookFault
-book_of trees tables = unless_fault (first_fault trees [] tables) (trees, tables)
+book_of trees tables = unless_fault (first_table_fault trees [] tables) (trees, tables)
 
 -- the fault that an error names; want of memory names none
 abbrev pub fault_of : BookFault → Option BookFault

@@ -2,7 +2,7 @@ ghost use Rattle.std.specs.Prelude.{◌≡◌, ◌≤◌, ◌<◌, ◌^◌, ◌+
 ghost use Rattle.sdc_base.specs.Answers.{Fails};
 ghost use Rattle.sdc_base.specs.Cells.{named_by, with_name};
 ghost use Rattle.linked_tables.specs.BlankMarks.{IsBlank};
-ghost use Rattle.linked_tables.specs.Tables.{book_of, fault_of, first_fault, most_cells, unless_fault, variables_fault};
+ghost use Rattle.linked_tables.specs.Tables.{book_of, fault_of, first_table_fault, most_cells, unless_fault, variables_fault};
 ghost use Rattle.linked_tables.specs.BookKeeping.{IsNumbered, names_within_limit, names_below};
 
 use crate::book_fault::BookFault;
@@ -35,7 +35,7 @@ pub(crate) fn number_cells(
 ) -> Result<Numbering, BookFault>
     requires at_most_8 { length trees.now ≤ 8 }
     requires fewer { length tables.now < 2 ^ 32 }
-    ensures none { OnOk result (first_fault trees.now [] tables.now ≡ None) }
+    ensures none { OnOk result (first_table_fault trees.now [] tables.now ≡ None) }
     ensures fault { IfErr result (λ fault. Fails (fault_of fault) (book_of trees.now tables.now)) }
     ensures numbered { IfOk result (λ made. IsNumbered trees.now tables.now made.names made.starts.items) }
 {

@@ -9,7 +9,7 @@ use Rattle.sdc_base.specs.Trees.{Tree, children, is_child}
 use Rattle.sdc_base.specs.declared.rows.Row.{Row}
 use Rattle.code_trees.specs.Children.{child_from, first_child, is_place}
 use Rattle.code_trees.proofs.FlatSteps.{drop-at}
-use Rattle.microdata.specs.Closing.{closed_of, place_of, leaf_of, leaves_of, row_of, rows_of}
+use Rattle.microdata.specs.Closing.{closed_of, tree_place, leaf_of, leaves_of, row_of, rows_of}
 use Rattle.microdata.specs.Fields.{scale_of}
 use Rattle.microdata.specs.Layouts.{measures_of}
 use Rattle.microdata.specs.Microdata.{records_of, closed_records}
@@ -52,11 +52,11 @@ abbrev trees_in : List ClosedVariable → List Tree
 trees_in closed = map (λ one. one.tree) closed
 
 leaf-lowest : (closed : ClosedVariable) (number place : ℕ) → leaf_of closed number ≡ Ok place → children closed.tree place ≡ []
-leaf-lowest closed number place h = by (first_child closed.tree (place_of closed number)) refl h
+leaf-lowest closed number place h = by (first_child closed.tree (tree_place closed number)) refl h
   where
-    by : (o : Option ℕ) → first_child closed.tree (place_of closed number) ≡ o → cond {A = Result ℕ RowWhy} (is_some o) (Err NotLeaf) (Ok (place_of closed number)) ≡ Ok place → children closed.tree place ≡ []
+    by : (o : Option ℕ) → first_child closed.tree (tree_place closed number) ≡ o → cond {A = Result ℕ RowWhy} (is_some o) (Err NotLeaf) (Ok (tree_place closed number)) ≡ Ok place → children closed.tree place ≡ []
     by (Some child) is e = cc
-    by None is e = subst (λ p. children closed.tree p ≡ []) (value_of_ok _ place e) (no-children closed.tree (place_of closed number) is)
+    by None is e = subst (λ p. children closed.tree p ≡ []) (value_of_ok _ place e) (no-children closed.tree (tree_place closed number) is)
 
 leaves-lowest : (variables : List Variable) (numbers places : List ℕ) → Fit variables numbers → leaves_of (map closed_of variables) numbers ≡ Ok places → AreLeaves (trees_in (map closed_of variables)) places
 unfolding leaves_of

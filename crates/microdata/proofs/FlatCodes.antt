@@ -10,7 +10,7 @@ use Rattle.std.proofs.lemmas.Bool.Decides.{nat_tests}
 use Rattle.std.proofs.lemmas.Map.Keys.{IsDistinct-head, IsDistinct-tail, IsDistinct-cons}
 use Rattle.std.proofs.lemmas.Slice.Eq.{bytes_eq-Decides}
 use Rattle.code_trees.specs.Among.{IsIn, AreAmong}
-use Rattle.code_trees.specs.Faults.{code_fault, first_fault, or_else}
+use Rattle.code_trees.specs.Faults.{code_fault, first_code_fault, or_else}
 use Rattle.code_trees.proofs.Gathered.{in-any, all-back, all-stays, all-new}
 use Rattle.microdata.specs.Keeping.{AreFlatCodes}
 use Rattle.microdata.specs.SeenCodes.{with_flat_code}
@@ -153,10 +153,10 @@ room-left a b h = grind (arith, nat_tests)
 no-code-fault : (total : List ℕ) (earlier : List (List ℕ)) (code : List ℕ) (n : ℕ) → bytes_eq code total ≡ false → list_any (bytes_eq code) earlier ≡ false → nat_le 5000 (length earlier) ≡ false → code_fault (total ∷ earlier) code n ≡ None
 no-code-fault total earlier code n p q r = rw (p, q, r) refl
 
-pub no-first-fault : (total : List ℕ) (n : ℕ) (earlier codes : List (List ℕ)) → IsDistinct bytes_eq ((total ∷ earlier) ++ codes) → length earlier + length codes ≤ 5000 → first_fault n (total ∷ earlier) codes ≡ None
+pub no-first-fault : (total : List ℕ) (n : ℕ) (earlier codes : List (List ℕ)) → IsDistinct bytes_eq ((total ∷ earlier) ++ codes) → length earlier + length codes ≤ 5000 → first_code_fault n (total ∷ earlier) codes ≡ None
 no-first-fault total n earlier [] distinct few = refl
 no-first-fault total n earlier (code ∷ codes) distinct few =
     let none = either-false _ _ (none-before (total ∷ earlier) codes code distinct) in
     let here = no-code-fault total earlier code n none.0 none.1 (room-left (length earlier) (length codes) few) in
     let rest = no-first-fault total (n + 1) (earlier ++ code ∷ []) codes (subst (IsDistinct bytes_eq) (sym (append_assoc (total ∷ earlier) (code ∷ []) codes)) distinct) (omega (arith, few, length-append earlier (code ∷ []))) in
-    ap (λ told. or_else told (first_fault (n + 1) (total ∷ (earlier ++ code ∷ [])) codes)) here ∙ rest
+    ap (λ told. or_else told (first_code_fault (n + 1) (total ∷ (earlier ++ code ∷ [])) codes)) here ∙ rest

@@ -14,7 +14,7 @@ use Rattle.code_trees.specs.Children.{first_child}
 use Rattle.code_trees.specs.Levels.{boundaries, code_above, tree_of_codes}
 use Rattle.code_trees.proofs.Among.{codes-more}
 use Rattle.code_trees.proofs.FlatSteps.{codes-flat}
-use Rattle.microdata.specs.Closing.{tree_of, places_in, closed_of, place_of, leaf_of, leaves_of, row_of, rows_of}
+use Rattle.microdata.specs.Closing.{tree_of, places_in, closed_of, tree_place, leaf_of, leaves_of, row_of, rows_of}
 use Rattle.microdata.specs.Fields.{field}
 use Rattle.microdata.specs.Keeping.{AreSeen}
 use Rattle.microdata.specs.Layouts.{measures_of, IsField, IsLayout}
@@ -90,10 +90,10 @@ trees_in variables = map (λ (one : ClosedVariable). one.tree) (map closed_of va
 abbrev fields_in : List Variable → List Field
 fields_in variables = map (λ variable. variable.field) variables
 
-leaf-place : (variable : Variable) (number place : ℕ) → leaf_of (closed_of variable) number ≡ Ok place → place_of (closed_of variable) number ≡ place
-leaf-place variable number place h = by (is_some (first_child (closed_of variable).tree (place_of (closed_of variable) number))) h
+leaf-place : (variable : Variable) (number place : ℕ) → leaf_of (closed_of variable) number ≡ Ok place → tree_place (closed_of variable) number ≡ place
+leaf-place variable number place h = by (is_some (first_child (closed_of variable).tree (tree_place (closed_of variable) number))) h
   where
-    by : (b : Bool) → cond {A = Result ℕ RowWhy} b (Err NotLeaf) (Ok (place_of (closed_of variable) number)) ≡ Ok place → place_of (closed_of variable) number ≡ place
+    by : (b : Bool) → cond {A = Result ℕ RowWhy} b (Err NotLeaf) (Ok (tree_place (closed_of variable) number)) ≡ Ok place → tree_place (closed_of variable) number ≡ place
     by true e = cc
     by false e = value_of_ok _ place e
 

@@ -8,7 +8,7 @@ use Rattle.sdc_base.specs.Trees.{Tree, find}
 use Rattle.sdc_base.specs.declared.rows.Row.{Row}
 use Rattle.code_trees.specs.Children.{first_child}
 use Rattle.code_trees.specs.Levels.{boundaries, code_above, tree_of_codes}
-use Rattle.microdata.specs.Closing.{tree_of, places_in, closed_of, place_of, leaf_of, leaves_of, row_of, rows_of}
+use Rattle.microdata.specs.Closing.{tree_of, places_in, closed_of, tree_place, leaf_of, leaves_of, row_of, rows_of}
 use Rattle.microdata.specs.Fields.{scale_of}
 use Rattle.microdata.specs.Layouts.{measures_of}
 use Rattle.microdata.specs.Microdata.{records_of, closed_records}
@@ -52,9 +52,9 @@ abbrev trees_in : List ClosedVariable → List Tree
 trees_in closed = map (λ one. one.tree) closed
 
 leaf-in : (variable : Variable) (number place : ℕ) → number < bound_of variable → leaf_of (closed_of variable) number ≡ Ok place → place < length (closed_of variable).tree
-leaf-in variable number place within h = by (is_some (first_child (closed_of variable).tree (place_of (closed_of variable) number))) h
+leaf-in variable number place within h = by (is_some (first_child (closed_of variable).tree (tree_place (closed_of variable) number))) h
   where
-    by : (b : Bool) → cond {A = Result ℕ RowWhy} b (Err NotLeaf) (Ok (place_of (closed_of variable) number)) ≡ Ok place → place < length (closed_of variable).tree
+    by : (b : Bool) → cond {A = Result ℕ RowWhy} b (Err NotLeaf) (Ok (tree_place (closed_of variable) number)) ≡ Ok place → place < length (closed_of variable).tree
     by true e = cc
     by false e = subst (λ p. p < length (closed_of variable).tree) (value_of_ok _ place e) (placed variable.field.source variable.seen number within)
 

@@ -35,13 +35,13 @@ closed_of variable =
     record { tree = tree; places = places_in tree variable.seen.codes }
 
 -- the place in the tree of the code with this number; in a listed tree the number is the place
-abbrev pub place_of : ClosedVariable → ℕ → ℕ
-place_of closed number = slice_index_or closed.places number number
+abbrev pub tree_place : ClosedVariable → ℕ → ℕ
+tree_place closed number = slice_index_or closed.places number number
 
 -- the place, where no other codes stand below it
 abbrev pub leaf_of : ClosedVariable → ℕ → Result ℕ RowWhy
 leaf_of closed number =
-    if is_some (first_child closed.tree (place_of closed number)) then Err NotLeaf else Ok (place_of closed number)
+    if is_some (first_child closed.tree (tree_place closed number)) then Err NotLeaf else Ok (tree_place closed number)
 
 -- the places of a record's codes, in the order of the variables
 unfoldable pub leaves_of : List ClosedVariable → List ℕ → Result (List ℕ) RowWhy

@@ -8,7 +8,7 @@ ghost use Rattle.sdc_base.specs.Answers.{Gives};
 ghost use Rattle.microdata.specs.Closing.{closed_of, tree_of, places_in};
 ghost use Rattle.microdata.specs.Closing as closing;
 ghost use Rattle.microdata.specs.Faults.{fault_of, why_of, at_record};
-ghost use Rattle.microdata.specs.Keeping.{AreSeen, IsSound, IsVariable};
+ghost use Rattle.microdata.specs.Keeping.{AreSeen, AreSoundRecords, IsVariable};
 ghost use Rattle.microdata.specs.KeptRows.{kept_of};
 ghost use Rattle.microdata.specs.Layouts.{IsSource};
 ghost use Rattle.microdata.specs.Microdata.{closed_records};
@@ -185,7 +185,7 @@ fn leaves_of(closed: &[ClosedVariable], numbers: &[u32]) -> Result<Place, Record
 fn leaf_of(closed: &ClosedVariable, number: u32) -> Result<u32, RecordError>
     ensures { Gives why_of (λ place. place) result (closing.leaf_of closed.now number) }
 {
-    let place = place_of(closed, number);
+    let place = tree_place(closed, number);
     if closed.tree.first_child(place).is_some() {
         return Err(RecordError::Fault(RowWhy::NotLeaf));
     }
@@ -193,8 +193,8 @@ fn leaf_of(closed: &ClosedVariable, number: u32) -> Result<u32, RecordError>
 }
 
 // The place in the tree of the code with this number.
-fn place_of(closed: &ClosedVariable, number: u32) -> u32
-    ensures { result ≡ closing.place_of closed.now number }
+fn tree_place(closed: &ClosedVariable, number: u32) -> u32
+    ensures { result ≡ closing.tree_place closed.now number }
 {
     match closed.places.as_slice().get(number as usize) {
         Some(place) => *place,

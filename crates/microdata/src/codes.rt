@@ -40,7 +40,7 @@ impl Codes {
     }
 
     /// The number of a code, from 0.
-    pub(crate) fn place_of(&self, code: &[u8]) -> Option<usize>
+    pub(crate) fn code_number(&self, code: &[u8]) -> Option<usize>
         ensures place { result ≡ position (bytes_eq code.now) self.now }
         ensures within { IfSome result (λ place. place < length self.now) }
         ensures none { IfNone result (list_any (bytes_eq code.now) self.now ≡ false) }

@@ -2,7 +2,7 @@ ghost use Rattle.std.specs.Prelude.{◌≡◌, ◌+◌, ◌≤◌, ◌++◌, ◌
 ghost use Rattle.sdc_base.specs.Lines.{HasNoFeed};
 ghost use Rattle.microdata.specs.Feeding.{SaysAsFrom, IsKeptOf, StopsLong};
 ghost use Rattle.microdata.specs.Feeding as spec;
-ghost use Rattle.microdata.specs.Keeping.{IsSound};
+ghost use Rattle.microdata.specs.Keeping.{AreSoundRecords};
 
 use crate::faults::{RowError, RowWhy};
 use crate::layout::Measures;
@@ -18,10 +18,10 @@ pub(crate) fn take_bytes(
     begun: &mut Vec<u8>,
     piece: &[u8],
 ) -> Result<(), RowError>
-    requires sound { IsSound measures.now so_far.old }
+    requires sound { AreSoundRecords measures.now so_far.old }
     requires plain { HasNoFeed begun.old.items }
     requires short { spec.is_too_long begun.old.items ≡ false }
-    ensures sound { OnOk result (IsSound measures.now so_far.new) }
+    ensures sound { OnOk result (AreSoundRecords measures.now so_far.new) }
     ensures plain { OnOk result (HasNoFeed begun.new.items) }
     ensures short { OnOk result (spec.is_too_long begun.new.items ≡ false) }
     ensures says { OnOk result (SaysAsFrom measures.now so_far.old (begun.old.items ++ piece.now) so_far.new
@@ -58,11 +58,11 @@ fn end_line(
     begun: &mut Vec<u8>,
     bytes: &[u8],
 ) -> Result<(), RowError>
-    requires sound { IsSound measures.now so_far.old }
+    requires sound { AreSoundRecords measures.now so_far.old }
     requires plain { HasNoFeed begun.old.items }
     requires short { spec.is_too_long begun.old.items ≡ false }
     requires inside { HasNoFeed bytes.now }
-    ensures sound { OnOk result (IsSound measures.now so_far.new) }
+    ensures sound { OnOk result (AreSoundRecords measures.now so_far.new) }
     ensures empty { OnOk result (begun.new.items ≡ []) }
     ensures says { OnOk result (SaysAsFrom measures.now so_far.old (begun.old.items ++ bytes.now ++ 10 ∷ []) so_far.new
         []) }
@@ -85,9 +85,9 @@ fn take_ended(
     so_far: &mut SoFar,
     line: &[u8],
 ) -> Result<(), RowError>
-    requires sound { IsSound measures.now so_far.old }
+    requires sound { AreSoundRecords measures.now so_far.old }
     requires plain { HasNoFeed line.now }
-    ensures sound { OnOk result (IsSound measures.now so_far.new) }
+    ensures sound { OnOk result (AreSoundRecords measures.now so_far.new) }
     ensures says { OnOk result (SaysAsFrom measures.now so_far.old (line.now ++ 10 ∷ []) so_far.new []) }
     ensures stops { IfErr result (λ error. IsKeptOf (Some error) measures.now so_far.old (line.now ++ 10 ∷ [])
         so_far.old line.now) }

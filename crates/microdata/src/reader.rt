@@ -3,7 +3,7 @@ ghost use Rattle.std.specs.List.{AllByRecursion, IsDistinct};
 ghost use Rattle.sdc_base.specs.Trees.{IsCodeTree};
 ghost use Rattle.std.specs.Str.{bytes_eq};
 ghost use Rattle.sdc_base.specs.Lines.{HasNoFeed};
-ghost use Rattle.microdata.specs.Keeping.{IsSound};
+ghost use Rattle.microdata.specs.Keeping.{AreSoundRecords};
 ghost use Rattle.microdata.specs.SeenCodes.{seen_first};
 ghost use Rattle.microdata.specs.Layouts.{IsSource, IsField};
 ghost use Rattle.std.specs.Prelude.{◌≡◌, ◌+◌, ◌++◌, ℕ, List, [], All, map, None, Some, Ok, Err, IfOk, IfErr, OnOk};
@@ -42,13 +42,13 @@ pub struct Reader {
 
 impl Model for Reader {
     ghost use Rattle.microdata.specs.Feeding.{ReaderView};
-    ghost use Rattle.microdata.specs.Keeping.{IsReady};
+    ghost use Rattle.microdata.specs.Keeping.{IsReadyReader};
 
     ghost Value = { ReaderView };
 
     ghost view = { λ s. record { measures = s.measures; so_far = s.so_far; begun = s.begun.items; error = s.error } };
 
-    ghost invariant = { λ s. IsReady s.error s.measures s.so_far s.begun.items };
+    ghost invariant = { λ s. IsReadyReader s.error s.measures s.so_far s.begun.items };
 }
 
 impl Reader {
@@ -152,7 +152,7 @@ fn read_out(
     so_far: SoFar,
     last: &[u8],
 ) -> Result<Records, RowError>
-    requires sound { IsSound measures.now so_far }
+    requires sound { AreSoundRecords measures.now so_far }
     requires plain { HasNoFeed last.now }
     ensures exact { Gives fault_of (λ records. records) result (records_behind measures.now so_far last.now) }
     ensures trees { IfOk result (λ records. AllByRecursion IsCodeTree records.trees) }

@@ -2,7 +2,7 @@ ghost use Rattle.std.specs.Prelude.{◌≡◌, ◌+◌, ◌<◌, ◌≤◌, ◌^
 ghost use Rattle.sdc_base.specs.Answers.{Gives};
 ghost use Rattle.microdata.specs.Faults.{fault_of, why_of, at_record};
 ghost use Rattle.microdata.specs.Fields as spec;
-ghost use Rattle.microdata.specs.Keeping.{IsVariable, IsSound};
+ghost use Rattle.microdata.specs.Keeping.{IsVariable, AreSoundRecords};
 ghost use Rattle.microdata.specs.OneRecord.{line_says, record_says, response_says, variable_says, variables_say, with_skipped};
 
 use crate::faults::{RecordError, RowError, RowWhy, error_at};
@@ -90,9 +90,9 @@ pub(crate) fn take_line(
     so_far: &mut SoFar,
     line: &[u8],
 ) -> Result<(), RowError>
-    requires { IsSound measures.now so_far.old }
+    requires { AreSoundRecords measures.now so_far.old }
     ensures said { Gives fault_of (λ _. so_far.new) result (line_says measures.now so_far.old line.now) }
-    ensures sound { OnOk result (IsSound measures.now so_far.new) }
+    ensures sound { OnOk result (AreSoundRecords measures.now so_far.new) }
 {
     if line.is_empty() {
         return Ok(());
@@ -112,9 +112,9 @@ fn take_record(
     so_far: &mut SoFar,
     line: &[u8],
 ) -> Result<(), RecordError>
-    requires { IsSound measures.now so_far.old }
+    requires { AreSoundRecords measures.now so_far.old }
     ensures said { Gives why_of (λ _. so_far.new) result (record_says measures.now so_far.old line.now) }
-    ensures sound { OnOk result (IsSound measures.now so_far.new) }
+    ensures sound { OnOk result (AreSoundRecords measures.now so_far.new) }
 {
     if line.len() > MOST_BYTES {
         return Err(RecordError::Fault(RowWhy::TooLong));
@@ -143,14 +143,14 @@ fn take_response(
     text: &[u8],
     line: &[u8],
 ) -> Result<(), RecordError>
-    requires sound { IsSound measures.now so_far.old }
+    requires sound { AreSoundRecords measures.now so_far.old }
     requires more { so_far.old.number < 1000000 }
     requires long_enough { measures.now.needed ≤ length line.now }
     requires at_most_1000 { length line.now ≤ 1000 }
     requires text { text.now ≡ spec.field measures.now.response.first measures.now.response.width line.now }
     requires short { length text.now ≤ 1000 }
     ensures said { Gives why_of (λ _. so_far.new) result (response_says measures.now so_far.old line.now) }
-    ensures sound { OnOk result (IsSound measures.now so_far.new) }
+    ensures sound { OnOk result (AreSoundRecords measures.now so_far.new) }
 {
     let value = value_in(&measures.response, text)?;
     let weight = weight_of(&measures.weight, line)?;

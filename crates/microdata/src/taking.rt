@@ -84,7 +84,7 @@ fn take_level_code(
     ensures seen { OnOk result (AreLevelCodes widths.now total.now seen.new) }
 {
     let count = seen.codes.len();
-    if let Some(place) = seen.codes.place_of(code) {
+    if let Some(place) = seen.codes.code_number(code) {
         return Ok(place as u32);
     }
     add_level_code(alloc, widths, total, seen, code)?;
@@ -113,7 +113,7 @@ fn add_level_code(
     if code == total {
         return Err(RecordError::Fault(RowWhy::NotLeaf));
     }
-    if reaches(total, widths, code) {
+    if begins_with_total(total, widths, code) {
         return Err(RecordError::Fault(RowWhy::UnknownCode));
     }
     add_prefixes(alloc, &mut seen.nodes, widths, code)?;
@@ -144,7 +144,7 @@ fn sum_of(widths: &[u8]) -> usize
 }
 
 // Whether the code or a prefix of it at a boundary of the widths is the total.
-fn reaches(total: &[u8], widths: &[u8], code: &[u8]) -> bool
+fn begins_with_total(total: &[u8], widths: &[u8], code: &[u8]) -> bool
     requires { length widths.now ≤ 9 }
     ensures { result ≡ list_any (bytes_eq total.now) (prefixes (boundaries 0 widths.now) code.now) }
 {
@@ -197,7 +197,7 @@ fn take_flat_code(
         → OnOk result (AreFlatCodes codes total.now seen.new) }
 {
     let count = seen.codes.len();
-    if let Some(place) = seen.codes.place_of(code) {
+    if let Some(place) = seen.codes.code_number(code) {
         return Ok(place as u32);
     }
     add_flat_code(alloc, total, seen, code)?;

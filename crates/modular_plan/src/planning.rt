@@ -213,7 +213,7 @@ fn step_of(
 ) -> Result<PlanStep, Memory>
     ensures { IfOk result (λ step. step ≡ spec.step_of subtable.now cell corners.now) }
 {
-    let numbers = numbers_of(alloc, corners)?;
+    let numbers = corner_cell_numbers(alloc, corners)?;
     Ok(PlanStep {
         table: subtable.table,
         parents: subtable.parents.copy(),
@@ -223,7 +223,7 @@ fn step_of(
 }
 
 // The numbers of the corners' cells.
-fn numbers_of(alloc: Global, corners: &[Corner]) -> Result<Items<u32>, Memory>
+fn corner_cell_numbers(alloc: Global, corners: &[Corner]) -> Result<Items<u32>, Memory>
     ensures { IfOk result (λ numbers. numbers ≡ map (λ corner. corner.cell) corners.now) }
 {
     let mut numbers = Vec::new(alloc);

@@ -99,7 +99,7 @@ fn rest_of(files: &[(Text, Vec<u8>)], chosen: Option<usize>, at: usize) -> &[u8]
 }
 
 // Puts at most `most` of the bytes at the front of the buffer, and says how many.
-fn give(bytes: &[u8], most: u32, buffer: &mut [u8]) -> usize
+fn fill_buffer(bytes: &[u8], most: u32, buffer: &mut [u8]) -> usize
     requires room { 0 < length buffer.old }
     requires at_least_one { 1 ≤ most }
     ensures fits { result ≤ length buffer.old }
@@ -114,7 +114,7 @@ fn give(bytes: &[u8], most: u32, buffer: &mut [u8]) -> usize
 }
 
 // The place of the first file of this name.
-fn place_of(files: &[(Text, Vec<u8>)], name: &Text) -> Option<usize>
+fn file_place(files: &[(Text, Vec<u8>)], name: &Text) -> Option<usize>
     ensures none { IfNone result (file_of files.now name.now ≡ None) }
     ensures has_name { IfSome result (λ i. (file_of files.now name.now ≡ bytes_at files.now i)
         × (name_at files.now i ≡ Some name.now)) }
@@ -167,7 +167,7 @@ impl Shelf for MemoryShelf {
         self.at = 0;
         self.known = true;
         self.chosen = None;
-        self.last = place_of(&self.files, name);
+        self.last = file_place(&self.files, name);
         if self.next_fails() {
             self.faults = self.faults.saturating_add(1);
             return Err(BeginFault::Failed);
@@ -202,7 +202,7 @@ impl Shelf for MemoryShelf {
             self.known = false;
             return Err(Failed);
         }
-        let n = give(
+        let n = fill_buffer(
             rest_of(&self.files, self.chosen, self.at),
             self.piece,
             buffer,

@@ -10,7 +10,7 @@ pub fn cut_at(mark: u8, bytes: &[u8]) -> (&[u8], &[u8])
     ensures front { result.0.now ≡ before_first (λ b. b == mark) bytes.now }
     ensures rest { result.1.now ≡ after_first (λ b. b == mark) bytes.now }
 {
-    let end = place_of(mark, bytes);
+    let end = mark_place(mark, bytes);
     cut(bytes, end)
 }
 
@@ -37,7 +37,7 @@ fn cut(bytes: &[u8], end: usize) -> (&[u8], &[u8])
 }
 
 // The place of the first byte that is this mark, or the length where there is none.
-fn place_of(mark: u8, bytes: &[u8]) -> usize
+fn mark_place(mark: u8, bytes: &[u8]) -> usize
     ensures place { result ≡ position_or_len (λ b. b == mark) bytes.now }
     ensures within { result ≤ length bytes.now }
 {

@@ -123,13 +123,13 @@ pub fn keep(rules: &Rules) -> u8
 {
     let mut most = 2;
     for rule in rules.list.as_slice() {
-        most = most.max(look(*rule));
+        most = most.max(needed_units(*rule));
     }
     most
 }
 
 // How many of the largest contributions a rule looks at.
-fn look(rule: Rule) -> u8
+fn needed_units(rule: Rule) -> u8
     requires { IsInRange rule }
     ensures value { result ≡ looks_at rule }
     ensures at_most_ten { result ≤ 10 }

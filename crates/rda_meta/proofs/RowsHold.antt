@@ -5,24 +5,24 @@ use Rattle.rda_meta.specs.VariableLines.{name_at, number_at, missing_of, variabl
 use Rattle.rda_meta.specs.KeywordLines.{keyword_in, setting_in}
 use Rattle.rda_meta.specs.Metadata.{keyword_line, variable_line, text_says, lines_say, no_clash, variable_of, meta_of}
 use Rattle.rda_meta.specs.Keywords.{keyword_of}
-use Rattle.rda_meta.specs.Arguments.{argument_of, decimals_argument, file_argument, lead_argument, code_argument, numbers_of, levels_argument}
+use Rattle.rda_meta.specs.Arguments.{argument_of, decimals_argument, file_argument, lead_argument, code_argument, word_numbers, levels_argument}
 use Rattle.rda_meta.proofs.SpelledLines.{decimal_plain, number_spelled}
 use Rattle.rda_meta.specs.Rows.{FourLines, ReadsRealisticMetadata, Files, LateClash, SomeCanonical}
 
 pub four_lines : FourLines
-unfolding words_up_to words keyword_of argument_of decimals_argument file_argument lead_argument code_argument numbers_of levels_argument name_at number_at missing_of variable_at keyword_in setting_in keyword_line variable_line text_says lines_say no_clash variable_of meta_of
+unfolding words_up_to words keyword_of argument_of decimals_argument file_argument lead_argument code_argument word_numbers levels_argument name_at number_at missing_of variable_at keyword_in setting_in keyword_line variable_line text_says lines_say no_clash variable_of meta_of
 four_lines = refl
 
 pub realistic : ReadsRealisticMetadata
-unfolding words_up_to words keyword_of argument_of decimals_argument file_argument lead_argument code_argument numbers_of levels_argument name_at number_at missing_of variable_at keyword_in setting_in keyword_line variable_line text_says lines_say no_clash variable_of meta_of
+unfolding words_up_to words keyword_of argument_of decimals_argument file_argument lead_argument code_argument word_numbers levels_argument name_at number_at missing_of variable_at keyword_in setting_in keyword_line variable_line text_says lines_say no_clash variable_of meta_of
 realistic = refl
 
 pub files : Files
-unfolding words_up_to words keyword_of argument_of decimals_argument file_argument lead_argument code_argument numbers_of levels_argument name_at number_at missing_of variable_at keyword_in setting_in keyword_line variable_line text_says lines_say no_clash variable_of meta_of
+unfolding words_up_to words keyword_of argument_of decimals_argument file_argument lead_argument code_argument word_numbers levels_argument name_at number_at missing_of variable_at keyword_in setting_in keyword_line variable_line text_says lines_say no_clash variable_of meta_of
 files = refl
 
 pub late_clash : LateClash
-unfolding words_up_to words keyword_of argument_of decimals_argument file_argument lead_argument code_argument numbers_of levels_argument name_at number_at missing_of variable_at keyword_in setting_in keyword_line variable_line text_says lines_say no_clash variable_of meta_of
+unfolding words_up_to words keyword_of argument_of decimals_argument file_argument lead_argument code_argument word_numbers levels_argument name_at number_at missing_of variable_at keyword_in setting_in keyword_line variable_line text_says lines_say no_clash variable_of meta_of
 late_clash = refl
 
 pub some_canonical : SomeCanonical

@@ -22,7 +22,7 @@ use Rattle.rda_meta.specs.Words.{words}
 use denote.Enum.Bare.{same_true}
 use Rattle.rda_meta.specs.contracts.setting.Keyword.{the_type}
 use Rattle.rda_meta.specs.Keywords.{same_keyword, is_passed}
-use Rattle.rda_meta.specs.Arguments.{is_lead, is_zero, without_end_zeros, are_levels, only_word, decimals_argument, file_argument, lead_argument, numbers_of, levels_argument, argument_of}
+use Rattle.rda_meta.specs.Arguments.{is_lead, is_zero, without_end_zeros, are_levels, only_word, decimals_argument, file_argument, lead_argument, word_numbers, levels_argument, argument_of}
 use Rattle.rda_meta.specs.LineSettings.{has_keyword, argument_said, number_in as number_behind, word_in, levels_in, is_numeric, decimals_of, lead_of, shape_from, has_tree, is_clashing}
 use Rattle.rda_meta.specs.KeywordLines.{keyword_in, last_of, is_again, setting_in, with_setting}
 use Rattle.rda_meta.specs.VariableLines.{name_at, number_at, is_past, missing_of, is_named, variable_at}
@@ -152,7 +152,7 @@ AreLevels width a = (widths : List ℕ) × (a ≡ Levels widths) × (are_levels 
 levels-fit : (width : ℕ) (ws : List (List ℕ)) (a : Argument) → argument_of HierLevels width ws ≡ Ok a → AreLevels width a
 unfolding argument_of levels_argument
 levels-fit width ws a h =
-    let w = bind_ok (numbers_of ws) _ a h in
+    let w = bind_ok (word_numbers ws) _ a h in
     let n = bind_ok (refuse BadValue (not (are_levels width (without_end_zeros w.0)))) _ a w.2 in
     let made : Levels (without_end_zeros w.0) ≡ a = cc in
     (without_end_zeros w.0, sym made, not-false (are_levels width (without_end_zeros w.0)) (refuse-ok BadValue (not (are_levels width (without_end_zeros w.0))) n.0 n.1))

@@ -54,11 +54,11 @@ code_argument words = do
   Ok (Word (trim word))
 
 -- each word as a number; one above 255 is above every width
-unfoldable pub numbers_of : List (List ℕ) → Result (List ℕ) MetaWhy
-numbers_of [] = Ok []
-numbers_of (word ∷ words) = do
+unfoldable pub word_numbers : List (List ℕ) → Result (List ℕ) MetaWhy
+word_numbers [] = Ok []
+word_numbers (word ∷ words) = do
   number ← or_fault BadValue (number_in 0 255 word)
-  numbers ← numbers_of words
+  numbers ← word_numbers words
   Ok (number ∷ numbers)
 
 -- a level of no bytes
@@ -76,7 +76,7 @@ are_levels width levels = nat_lt (length levels) 10 && not (list_any is_zero lev
 -- the bytes of a code per level, for a variable of this width
 unfoldable pub levels_argument : ℕ → List (List ℕ) → Result Argument MetaWhy
 levels_argument width words = do
-  numbers ← numbers_of words
+  numbers ← word_numbers words
   fine ← refuse BadValue (not (are_levels width (without_end_zeros numbers)))
   Ok (Levels (without_end_zeros numbers))
 

@@ -112,7 +112,7 @@ fn code_argument(alloc: Global, words: &mut Words) -> Result<Argument, LineError
 fn levels_argument(alloc: Global, width: u32, words: &mut Words) -> Result<Argument, LineError>
     ensures { Gives why_of (λ argument. argument) result (spec.levels_argument width words.old) }
 {
-    let numbers = numbers_of(alloc, words)?;
+    let numbers = word_numbers(alloc, words)?;
     let levels = without_zeros(numbers.as_slice());
     if !are_levels(width, levels) {
         return Err(LineError::Fault(MetaWhy::BadValue));
@@ -121,8 +121,8 @@ fn levels_argument(alloc: Global, width: u32, words: &mut Words) -> Result<Argum
 }
 
 // Each word as a number.
-fn numbers_of(alloc: Global, words: &mut Words) -> Result<Items<u8>, LineError>
-    ensures { Gives why_of (λ numbers. numbers) result (spec.numbers_of words.old) }
+fn word_numbers(alloc: Global, words: &mut Words) -> Result<Items<u8>, LineError>
+    ensures { Gives why_of (λ numbers. numbers) result (spec.word_numbers words.old) }
 {
     let mut numbers = Items::empty(alloc);
     'words: while let Some(word) = words.next_word() {

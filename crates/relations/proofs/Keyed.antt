@@ -69,8 +69,8 @@ abbrev pub keyed : {X : Type 0} → (ℕ → ℕ → Option X) → ℕ → ℕ �
 keyed f cells variables = items (with_pair f) cells variables
 
 -- the place of the item of a cell and a variable: as many come before it
-abbrev pub place_of : {X : Type 0} → (ℕ → ℕ → Option X) → ℕ → ℕ → ℕ → ℕ
-place_of f variables cell variable = length (flat_map (λ c. filter_map (with_pair f c) (range_with_len 0 variables)) (range_with_len 0 cell)) + length (filter_map (with_pair f cell) (range_with_len 0 variable))
+abbrev pub item_place : {X : Type 0} → (ℕ → ℕ → Option X) → ℕ → ℕ → ℕ → ℕ
+item_place f variables cell variable = length (flat_map (λ c. filter_map (with_pair f c) (range_with_len 0 variables)) (range_with_len 0 cell)) + length (filter_map (with_pair f cell) (range_with_len 0 variable))
 
 of-pair : {X : Type 0} (f : ℕ → ℕ → Option X) (cell variable : ℕ) (e : X × (ℕ × ℕ)) → with_pair f cell variable ≡ Some e → (f cell variable ≡ Some e.0) × (e.1 ≡ (cell, variable))
 of-pair {X = X} f cell variable e is = by (f cell variable) is
@@ -82,7 +82,7 @@ of-pair {X = X} f cell variable e is = by (f cell variable) is
         some-same : {Y : Type 0} {a b : Y} → Some a ≡ Some b → a ≡ b
         some-same h = cc
 
-pub keyed-at : {X : Type 0} (f : ℕ → ℕ → Option X) (cells variables k : ℕ) (e : X × (ℕ × ℕ)) → slice_get (keyed f cells variables) k ≡ Some e → (e.1.0 < cells) × (e.1.1 < variables) × (f e.1.0 e.1.1 ≡ Some e.0) × (k ≡ place_of f variables e.1.0 e.1.1)
+pub keyed-at : {X : Type 0} (f : ℕ → ℕ → Option X) (cells variables k : ℕ) (e : X × (ℕ × ℕ)) → slice_get (keyed f cells variables) k ≡ Some e → (e.1.0 < cells) × (e.1.1 < variables) × (f e.1.0 e.1.1 ≡ Some e.0) × (k ≡ item_place f variables e.1.0 e.1.1)
 keyed-at {X = X} f cells variables k e at =
     let outer = get-joined (λ c. filter_map (with_pair f c) (range_with_len 0 variables)) 0 cells k e at in
     let inner = get-chosen (with_pair f (0 + outer.0)) 0 variables outer.1 e outer.3 in
@@ -95,7 +95,7 @@ keyed-at {X = X} f cells variables k e at =
       omega (arith, variable, inner.1),
       ap (λ (p : ℕ × ℕ). f p.0 p.1) its.1 ∙ its.0,
       outer.4 ∙ ap (λ (n : ℕ). length (flat_map (λ c. filter_map (with_pair f c) (range_with_len 0 variables)) (range_with_len 0 outer.0)) + n) (inner.3 ∙ ap (λ (c : ℕ). length (filter_map (with_pair f c) (range_with_len 0 inner.0))) cell_is)
-          ∙ ap (λ (c : ℕ). place_of f variables c inner.0) (sym cell) ∙ ap (λ (v : ℕ). place_of f variables e.1.0 v) (sym variable),
+          ∙ ap (λ (c : ℕ). item_place f variables c inner.0) (sym cell) ∙ ap (λ (v : ℕ). item_place f variables e.1.0 v) (sym variable),
     )
 
 -- without the pairs they are the items

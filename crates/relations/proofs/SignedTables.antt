@@ -25,7 +25,7 @@ use Rattle.relations.specs.Holding.{IsSystemOf, sum_in}
 use Rattle.relations.specs.TableSigns.{HaveSigns, IsFlat, IsOneOrTwoWay, OneOrTwoWayHasSigns, OneVariableHasSigns, TwoFlatVariablesHaveSigns}
 use Rattle.relations.proofs.Holding.{at-named, tables-of}
 use Rattle.relations.proofs.Tables.{cell-of_trees}
-use Rattle.relations.proofs.Keyed.{items, keyed, keyed-at, map-keyed, place_of}
+use Rattle.relations.proofs.Keyed.{items, keyed, keyed-at, map-keyed, item_place}
 use Rattle.relations.proofs.CellCounts.{Counts, IsMade, IsPart, IsRelationFor, counts, made, one-number, set-back, set-itself}
 
 some-same : {X : Type 0} {a b : X} → Some a ≡ Some b → a ≡ b
@@ -82,7 +82,7 @@ record IsKeyed (book : BookView) (relations : List Relation) (plus : ℕ → ℕ
   pub at : slice_get relations k ≡ Some r
   pub is_for : IsRelationFor book.trees book.tables number variable r
   pub sign : sign_of (signs_by book plus) k ≡ plus number variable
-  pub place : k ≡ place_of (relation_at book) (length book.trees) number variable
+  pub place : k ≡ item_place (relation_at book) (length book.trees) number variable
 
 keyed-by : (book : BookView) (system : System) (plus : ℕ → ℕ → Bool) (k : ℕ) (r : Relation) → IsSystemOf book system → slice_get system.relations k ≡ Some r → (number : ℕ) × (variable : ℕ) × IsKeyed book system.relations plus k number variable r
 keyed-by book system plus k r is at = by (slice_get (keys_of book) k) refl (sym same ∙ slice_get-map sum_in system.relations k ∙ ap (option_map sum_in) at)
@@ -171,8 +171,8 @@ signed-by book system plus is of alone = (
         (sym (counted-by book system.relations plus other b.0 b.1 cell s b.2) ∙ second)
         in
         a.2.place
-        ∙ ap (λ (c : ℕ). place_of (relation_at book) (length book.trees) c a.1) same.0
-        ∙ ap (λ (v : ℕ). place_of (relation_at book) (length book.trees) b.0 v) same.1
+        ∙ ap (λ (c : ℕ). item_place (relation_at book) (length book.trees) c a.1) same.0
+        ∙ ap (λ (v : ℕ). item_place (relation_at book) (length book.trees) b.0 v) same.1
         ∙ sym b.2.place
 
     alike : (one other cell : ℕ) (z : ℤ) → z ≢ pos 0 → signed_count system.relations signs one cell ≡ z → signed_count system.relations signs other cell ≡ z → one ≡ other

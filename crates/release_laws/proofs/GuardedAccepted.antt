@@ -10,7 +10,7 @@ use Rattle.cert_check.proofs.Accepted.{tables_good}
 use Rattle.cert_check.proofs.OwnTables.{as_many_texts, own_case, texts_themselves}
 use Rattle.cert_check.proofs.Written.{texts_pass}
 use Rattle.cert_check.specs.Cases.{IsCase}
-use Rattle.cert_check.specs.FirstFault.{first_fault}
+use Rattle.cert_check.specs.FirstFault.{acceptance_fault}
 use Rattle.cert_check.specs.HiddenSet.{hidden_set}
 use Rattle.cert_check.specs.OwnTexts.{hiding_texts, own_set, own_texts, release_fault}
 use Rattle.cert_check.specs.declared.case.Case.{Case}
@@ -20,7 +20,7 @@ use Rattle.certificate.specs.declared.extra.Extra.{Extra}
 use Rattle.linked_tables.specs.BookCells.{cells as cells_in}
 use Rattle.release_writer.specs.ReadingLaws.{AreTexts}
 use Rattle.release_writer.specs.ShownCells.{open_truth}
-use Rattle.repair.specs.HidingOrder.{case as protected_case}
+use Rattle.repair.specs.HidingOrder.{protected_case}
 use Rattle.job_check.proofs.Judgements.{none-stops}
 use Rattle.job_check.specs.GuardedReleases.{guarded_fault, larger_set}
 use Rattle.job_check.specs.declared.flaw.Flaw.{Flaw}
@@ -52,7 +52,7 @@ own-alike one other c alike =
 
 guarded-alike : (one other : Case) (soles others : List (Option ℕ)) (tables : List (List ℕ)) (c : Certificate) (extra : Extra) → RestAlike one other → soles ≡ others → guarded_fault one soles tables c extra ≡ guarded_fault other others tables c extra
 guarded-alike one other soles others tables c extra alike same =
-    let signed : first_fault one (own_texts one c) c ≡ first_fault other (own_texts other c) c = judged-alike one other (own_texts one c) c alike ∙ ap (λ (texts : List (List ℕ)). first_fault other texts c) (own-alike one other c alike) in
+    let signed : acceptance_fault one (own_texts one c) c ≡ acceptance_fault other (own_texts other c) c = judged-alike one other (own_texts one c) c alike ∙ ap (λ (texts : List (List ℕ)). acceptance_fault other texts c) (own-alike one other c alike) in
     let larger : larger_set one c extra ≡ larger_set other c extra = ap (λ (flags : List Bool). hide_cells flags extra.cells) (own-sets one other c alike) in
     let texts : release_fault one (larger_set one c extra) tables ≡ release_fault other (larger_set other c extra) tables =
     texts-alike one other tables (larger_set one c extra) alike ∙ ap (λ (flags : List Bool). release_fault other flags tables) larger in
@@ -62,8 +62,8 @@ guarded-alike one other soles others tables c extra alike same =
     ∙ ap (λ (all : List (Option ℕ)). extra_fault (protected_case other.system.now other.cells.now) all (own_set one c) c.worlds extra) same
     ∙ ap (λ (flags : List Bool). extra_fault (protected_case other.system.now other.cells.now) others flags c.worlds extra) (own-sets one other c alike) in
     ap (λ (r : Result (Unit {0}) CheckFault). guarded_by r (release_fault one (larger_set one c extra) tables) (extra_fault (protected_case one.system.now one.cells.now) soles (own_set one c) c.worlds extra)) signed
-    ∙ ap (λ (r : Result (Unit {0}) CheckFault). guarded_by (first_fault other (own_texts other c) c) r (extra_fault (protected_case one.system.now one.cells.now) soles (own_set one c) c.worlds extra)) texts
-    ∙ ap (λ (r : Result (Unit {0}) ExtraFault). guarded_by (first_fault other (own_texts other c) c) (release_fault other (larger_set other c extra) tables) r) guards
+    ∙ ap (λ (r : Result (Unit {0}) CheckFault). guarded_by (acceptance_fault other (own_texts other c) c) r (extra_fault (protected_case one.system.now one.cells.now) soles (own_set one c) c.worlds extra)) texts
+    ∙ ap (λ (r : Result (Unit {0}) ExtraFault). guarded_by (acceptance_fault other (own_texts other c) c) (release_fault other (larger_set other c extra) tables) r) guards
 
 pub guards-in-one-way : GuardsAreJudgedInOneWay
 guards-in-one-way settled one other soles others tables c extra is are fits fit own also =
@@ -95,7 +95,7 @@ guarded-is-accepted settled prices protected certificate extra case soles tables
     let each : length g.soles ≡ length (cells_in g.job.book) =
     g.one_each ∙ ap length cells ∙ fits.each_cell ∙ sym (ap (λ (s : System). s.cells) system) ∙ g.system_is.cells in
     let same : g.soles ≡ soles = one-soles g.job.book case.book.now settled.inputs.records.rows g.soles soles trees all each are.one_each g.are_soles are.are_soles in
-    let signed : first_fault case own certificate ≡ Ok tt = protection-is-accepted case own prices protected certificate owned hides protects (texts-of-set case tables certificate protected.hidden.flags fits set) in
+    let signed : acceptance_fault case own certificate ≡ Ok tt = protection-is-accepted case own prices protected certificate owned hides protects (texts-of-set case tables certificate protected.hidden.flags fits set) in
     let shown : release_fault case (larger_set case certificate extra) tables ≡ Ok tt =
     texts_pass case.book.now (larger_set case certificate extra) case.decimals 0 case.book.now.tables case.names.now tables
     (subst (λ (flags : List Bool). AreTexts case.book.now case.decimals (open_truth case.book.now.marks (hide_cells flags extra.cells)) case.book.now.tables case.names.now tables) (sym set) texts) in

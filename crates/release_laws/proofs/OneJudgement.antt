@@ -11,7 +11,7 @@ use Rattle.cell_protection.specs.Protections.{IsProtectedWith}
 use Rattle.modular_plan.specs.Methods.{passes_of}
 use Rattle.cert_check.specs.Cases.{IsCase}
 use Rattle.cert_check.specs.Counts.{counts_fault}
-use Rattle.cert_check.specs.FirstFault.{first_fault}
+use Rattle.cert_check.specs.FirstFault.{acceptance_fault}
 use Rattle.cert_check.specs.HiddenSet.{hidden_set, permitted_fault}
 use Rattle.cert_check.specs.Methods.{method_fault, rounds_cells}
 use Rattle.cert_check.specs.NeedList.{needs_fault}
@@ -28,7 +28,7 @@ use Rattle.relations.specs.Holding.{IsSystemOf}
 use Rattle.worlds.specs.Protection.{Protection as HiddenSet}
 use Rattle.release_writer.specs.ReleaseReading.{LinePlace, rounded_read}
 use Rattle.sdc_base.specs.Trails.{corners_of}
-use Rattle.repair.specs.HidingOrder.{case as protected_case, hide_subjects, planned_set}
+use Rattle.repair.specs.HidingOrder.{protected_case, hide_subjects, planned_set}
 use Rattle.job_inputs.specs.SettledJobs.{SettledInputs, IsSettledOf}
 use Rattle.job_inputs.specs.Tables.{names_of}
 use Rattle.job_inputs.specs.declared.described.DescribedJob.{DescribedJob}
@@ -38,7 +38,7 @@ use Rattle.release_laws.proofs.OneTrail.{same-system, same-trail}
 use Rattle.release_laws.proofs.SameValues.{same-cells}
 use Rattle.release_laws.proofs.Speaking.{protection-is-accepted}
 use Rattle.job_check.specs.Cases.{IsCaseOf}
-use Rattle.job_inputs.specs.Bases.{base_of}
+use Rattle.job_inputs.specs.Bases.{method_base}
 use Rattle.release_laws.specs.Laws.{InputsAreJudgedInOneWay, WrittenIsAccepted}
 
 -- the first fault of a suppressed release, by what it rests on
@@ -59,7 +59,7 @@ fault_by system cells steps method base values texts c =
     else suppressed_by system cells steps (texts (hidden_set system.cells c.hidden)) (hidden_set system.cells c.hidden) c
 
 by-parts : (case : Case) (tables : List (List ℕ)) (c : Certificate)
-    → first_fault case tables c
+    → acceptance_fault case tables c
     ≡ fault_by case.system.now case.cells.now case.trail.now.steps case.method case.base (rounded_read case.book.now case.names.now case.decimals tables)
     (λ flags. tables_fault case.book.now flags case.decimals 0 case.book.now.tables case.names.now tables) c
 by-parts case tables c = refl
@@ -90,7 +90,7 @@ texts-alike one other tables flags alike =
     ∙ tables-same one.book.now other.book.now flags other.decimals 0 other.book.now.tables other.names.now tables alike.book
 
 -- so the first fault is
-pub judged-alike : (one other : Case) (tables : List (List ℕ)) (c : Certificate) → RestAlike one other → first_fault one tables c ≡ first_fault other tables c
+pub judged-alike : (one other : Case) (tables : List (List ℕ)) (c : Certificate) → RestAlike one other → acceptance_fault one tables c ≡ acceptance_fault other tables c
 judged-alike one other tables c alike =
     let values : Result (List ℤ) LinePlace = rounded_read one.book.now one.names.now one.decimals tables in
     let texts : List Bool → Result (Unit {0}) CheckFault = λ flags. tables_fault one.book.now flags one.decimals 0 one.book.now.tables one.names.now tables in
@@ -135,7 +135,7 @@ rest-alike settled one other tables is are fits fit =
       cells = here;
       steps = is.trail ∙ one-trail settled is.job are.job is.job_is are.job_is ∙ sym are.trail;
       method = is.method ∙ ap (λ (d : DescribedJob). d.job.method) described ∙ sym are.method;
-      base = is.base ∙ ap (λ (d : DescribedJob). base_of d.job.method d.bound.decimals) described ∙ sym are.base;
+      base = is.base ∙ ap (λ (d : DescribedJob). method_base d.job.method d.bound.decimals) described ∙ sym are.base;
       names = is.names ∙ ap (λ (d : DescribedJob). map names_of d.job.tables) described ∙ sym are.names;
       decimals = is.decimals ∙ ap (λ (d : DescribedJob). d.bound.decimals) described ∙ sym are.decimals;
       book = record {

@@ -10,7 +10,7 @@ use Rattle.sdc_base.specs.Trees.{Tree}
 use Rattle.linked_tables.specs.BookViews.{BookView}
 use Rattle.linked_tables.specs.BookCells.{name_in_table, number_of}
 use Rattle.linked_tables.specs.declared.mark.Mark.{Mark}
-use Rattle.release_writer.specs.ReleaseReading.{ReleaseSoFar, LinePlace, is_left, numbers_of, read_place, read_places, read_table, read_tables, reading_after, rounded_read}
+use Rattle.release_writer.specs.ReleaseReading.{ReleaseSoFar, LinePlace, is_left, shown_numbers, read_place, read_places, read_table, read_tables, reading_after, rounded_read}
 use Rattle.release_writer.specs.LineChoices.{Template, rest_behind, value_there}
 use Rattle.release_writer.specs.ShownCells.{open_truth}
 use Rattle.worlds.specs.ProtectFaults.{line_number}
@@ -111,5 +111,5 @@ all-same trees tables t decimals one other (table ∷ left) (own ∷ names) (byt
 
 pub rounded-same : (one other : BookView) (names : List (List (List ℕ))) (decimals : ℕ) (files : List (List ℕ)) → AreAlike one other → rounded_read one names decimals files ≡ rounded_read other names decimals files
 rounded-same one other names decimals files alike =
-    ap (map_ok numbers_of) (all-same one.trees one.tables 0 decimals one.marks other.marks one.tables names files [])
+    ap (map_ok shown_numbers) (all-same one.trees one.tables 0 decimals one.marks other.marks one.tables names files [])
     ∙ ap₂ (λ (trees : List Tree) (tables : List (List ℕ)). rounded_read (held trees tables other.marks) names decimals files) alike.trees alike.tables

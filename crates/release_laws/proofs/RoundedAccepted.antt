@@ -45,7 +45,7 @@ use Rattle.job_check.proofs.CaseParts.{by-facts, length-map}
 use Rattle.release_laws.proofs.OneTrail.{same-system}
 use Rattle.release_laws.proofs.RoundedTexts.{rounded-are-read-back}
 use Rattle.job_inputs.proofs.Units.{in-units}
-use Rattle.job_inputs.specs.Bases.{base_of}
+use Rattle.job_inputs.specs.Bases.{method_base}
 use Rattle.release_laws.specs.RoundingLaws.{RoundingIsAccepted, WrittenRoundingIsAccepted}
 
 -- ---- a certificate without lists
@@ -138,7 +138,7 @@ truths-are inputs book is =
         ap₂ (λ (truth : ℤ) (truths : List ℤ). truth ∷ truths) (each 0 name mark refl refl) (by names marks (omega (arith, many)) (λ k one other named there. each (suc k) one other named there))
 
 -- a base in units is at most 10^22
-base-most : (one : Method) (decimals : ℕ) → IsMethod one → decimals ≤ 13 → base_of one decimals ≤ℤ pos (10 ^ 22)
+base-most : (one : Method) (decimals : ℕ) → IsMethod one → decimals ≤ 13 → method_base one decimals ≤ℤ pos (10 ^ 22)
 base-most (method.Rnd base) decimals is few =
     let most : 10 ^ decimals ≤ 10 ^ 13 = pow-le-pow_right (omega arith) few in
     (in-units base (10 ^ decimals) is.0 is.1 (one-le-pow decimals 10 (omega arith)) most).1
@@ -176,7 +176,7 @@ written-rounding-is-accepted settled book system values case tables sound book_i
     λ k inside. subst (λ (list : List ℤ). (pos 0 ≤ℤ number_at list k) × (number_at list k ≤ℤ pos (10 ^ 29))) (own-truths own held is.book.facts ∙ fits.truths) (truths-within inputs own its k (omega (arith, inside, many))) in
     let most : case.base ≤ℤ pos (10 ^ 22) =
     subst (λ (b : ℤ). b ≤ℤ pos (10 ^ 22)) (sym is.base)
-    (subst (λ (d : DescribedJob). base_of d.job.method d.bound.decimals ≤ℤ pos (10 ^ 22)) (sym is.job_is.described) (base-most inputs.described.job.method inputs.described.bound.decimals sound.job.method sound.bound.decimals)) in
+    (subst (λ (d : DescribedJob). method_base d.job.method d.bound.decimals ≤ℤ pos (10 ^ 22)) (sym is.job_is.described) (base-most inputs.described.job.method inputs.described.bound.decimals sound.job.method sound.bound.decimals)) in
     let frame : cells_in held ≡ cells_in own = ap₂ (λ (ts : List Tree) (each : List (List ℕ)). cells_in (record { trees = ts; tables = each; marks = held.marks })) is.book.trees is.book.tables in
     let one_each : length held.marks ≡ length (cells_in held) = sym (length-map (λ (mark : Mark). mark.facts.truth) held.marks) ∙ ap (λ (list : List ℤ). length list) (sym (own-truths own held is.book.facts)) ∙ length-map (λ (mark : Mark). mark.facts.truth) own.marks ∙ its.one_each ∙ ap (λ (names : List Name). length names) (sym frame) in
     rounding-is-accepted case tables values

@@ -21,7 +21,7 @@ use Rattle.plain_text.proofs.ReadBack.{printed_read}
 use Rattle.release_writer.proofs.Behind.{behind-self, fields_before, line-last}
 use Rattle.release_writer.proofs.ReadBack.{ReadsNew, release-read}
 use Rattle.release_writer.specs.ReadingLaws.{IsReleased, first_shown}
-use Rattle.release_writer.specs.ReleaseReading.{numbers_of}
+use Rattle.release_writer.specs.ReleaseReading.{shown_numbers}
 use Rattle.release_writer.specs.LineChoices.{Template, choice_there, line_showing, new_value, number_there, value_read}
 use Rattle.release_laws.specs.RoundingLaws.{RoundedAreReadBack}
 
@@ -155,16 +155,16 @@ numbers-new book decimals numbers few released many t table place rest cell with
     subst (λ (value : Option ℤ). new_value form place (line_showing form place value ++ rest) cell ≡ Some (value, rest)) (sym it.1)
     (ap (λ (o : Option ℤ). option_and_then (λ number. choice_there form place (line_showing form place (Some (pos it.0)) ++ rest) (Some number)) o) (number-read form place rest it.0 it.2 few) ∙ fits-self form place rest (Some (pos it.0)))
 
-each-number : (f : ℕ → Option ℤ) (numbers : List ℤ) (a : ℕ) → ((k : ℕ) → k < length numbers → f (a + k) ≡ slice_get numbers k) → numbers_of (map f (range_with_len a (length numbers))) ≡ numbers
+each-number : (f : ℕ → Option ℤ) (numbers : List ℤ) (a : ℕ) → ((k : ℕ) → k < length numbers → f (a + k) ≡ slice_get numbers k) → shown_numbers (map f (range_with_len a (length numbers))) ≡ numbers
 each-number f [] a same = refl
 each-number f (number ∷ numbers) a same =
     let first : f a ≡ Some number = ap f (omega arith) ∙ same 0 (omega arith) in
-    ap (λ (value : Option ℤ). unwrap_or value (pos 0) ∷ numbers_of (map f (range_with_len (a + 1) (length numbers)))) first
+    ap (λ (value : Option ℤ). unwrap_or value (pos 0) ∷ shown_numbers (map f (range_with_len (a + 1) (length numbers)))) first
     ∙ ap (λ (rest : List ℤ). number ∷ rest) (each-number f numbers (a + 1) (λ k within. ap f (omega arith) ∙ same (suc k) (omega (arith, within))))
 
 pub rounded-are-read-back : RoundedAreReadBack
 rounded-are-read-back book names decimals files numbers one_each whole_digits few released texts =
     let many : length numbers ≡ length (cells_in book) = whole_digits ∙ one_each in
-    ap (map_ok numbers_of) (release-read book decimals true (slice_get numbers) names files (numbers-new book decimals numbers few released many) texts)
-    ∙ ap (λ (n : ℕ). Ok (numbers_of (first_shown (slice_get numbers) n))) (sym many)
+    ap (map_ok shown_numbers) (release-read book decimals true (slice_get numbers) names files (numbers-new book decimals numbers few released many) texts)
+    ∙ ap (λ (n : ℕ). Ok (shown_numbers (first_shown (slice_get numbers) n))) (sym many)
     ∙ ap Ok (each-number (slice_get numbers) numbers 0 (λ k within. ap (slice_get numbers) (omega arith)))

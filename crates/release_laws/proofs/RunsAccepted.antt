@@ -20,11 +20,11 @@ use Rattle.certificate.specs.declared.extra.Extra.{Extra}
 use Rattle.certificate.specs.ExtraReadings.{extra_of}
 use Rattle.certificate.specs.ExtraTexts.{extra_text}
 use Rattle.cert_check.specs.Cases.{IsCase}
-use Rattle.cert_check.specs.FirstFault.{first_fault}
+use Rattle.cert_check.specs.FirstFault.{acceptance_fault}
 use Rattle.cert_check.specs.Methods.{rounds_cells}
 use Rattle.cert_check.specs.declared.case.Case.{Case}
 use Rattle.cert_check.specs.declared.faults.CheckFault.{CheckFault}
-use Rattle.job_lang.specs.FileLaws.{PutsAreNotNamed, PutsAreNotRead, PutsDiffer, contributors_named, puts_of as names_put}
+use Rattle.job_lang.specs.FileLaws.{PutsAreNotNamed, PutsAreNotRead, PutsDiffer, contributors_files, puts_of as names_put}
 use Rattle.job_lang.specs.JobLimits.{CanHaveContributors}
 use Rattle.job_lang.specs.declared.job.Job.{Job}
 use Rattle.job_lang.specs.declared.job.OutputLine.{OutputLine}
@@ -40,7 +40,7 @@ use Rattle.job_inputs.specs.CertificateFile.{certificate_in, certificate_fault}
 use Rattle.job_inputs.specs.ContributorsFile.{extra_in}
 use Rattle.job_inputs.specs.ReadFiles.{bytes_of_file, limit_of, output_limit, whole_file}
 use Rattle.job_inputs.specs.SettledJobs.{SettledInputs, settled_of}
-use Rattle.job_inputs.specs.SoundJobs.{IsSound}
+use Rattle.job_inputs.specs.SoundJobs.{IsSoundJob}
 use Rattle.job_inputs.specs.TabulatedBooks.{IsBookOf}
 use Rattle.job_inputs.specs.Tables.{names_of, tables_of, tables_from as bytes_from}
 use Rattle.job_inputs.specs.declared.described.DescribedJob.{DescribedJob}
@@ -50,7 +50,7 @@ use Rattle.job_inputs.specs.declared.file_ref.FileRef.TheVariants as file
 use Rattle.job_inputs.specs.declared.inputs.Inputs.{Inputs}
 use Rattle.job_inputs.specs.declared.purpose.Purpose.TheVariants as purpose
 use Rattle.job_check.specs.Cases.{IsCaseOf}
-use Rattle.job_inputs.specs.Bases.{base_of as case_base}
+use Rattle.job_inputs.specs.Bases.{method_base as case_base}
 use Rattle.job_check.specs.Answers.{IsNotAcceptedWith}
 use Rattle.job_check.specs.Contributors.{extra_for}
 use Rattle.job_check.specs.GuardedReleases.{guarded_fault, AreSolesOf}
@@ -67,7 +67,7 @@ use Rattle.job_run.specs.GuardedReleases.{IsGuardedRelease, guarded_puts}
 use Rattle.job_run.specs.Protections.{IsSuppressedRelease}
 use Rattle.job_run.specs.Puts.{Put, put_all}
 use Rattle.job_run.specs.Releases.{puts_of, shown_in, table_of, tables_from, value_in}
-use Rattle.job_run.specs.Roundings.{base_in_units, base_of, rounded_certificate, truths_in, IsRoundedRelease}
+use Rattle.job_run.specs.Roundings.{base_in_units, job_base, rounded_certificate, truths_in, IsRoundedRelease}
 use Rattle.job_run.specs.PutReleases.{PutRelease}
 use Rattle.job_run.specs.declared.report.Report.{Report}
 use Rattle.job_run.specs.declared.report.Report.TheVariants as report
@@ -138,13 +138,13 @@ table-names inputs shown t (line ∷ lines) (output ∷ outputs) many = ap (λ (
 plain-names : (inputs : Inputs) (shown : Name → Option ℤ) (certificate : Certificate) → length inputs.described.job.outputs ≡ length inputs.described.job.tables → inputs.described.job.contributors ≡ None
     → names_put inputs.described.job ≡ names (puts_of inputs shown certificate)
 plain-names inputs shown certificate many none =
-    ap (λ (line : Option OutputLine). inputs.described.job.certificate ∷ contributors_named line ++ map (λ (o : OutputLine). o.file) inputs.described.job.outputs) none
+    ap (λ (line : Option OutputLine). inputs.described.job.certificate ∷ contributors_files line ++ map (λ (o : OutputLine). o.file) inputs.described.job.outputs) none
     ∙ ap (λ (rest : List (List ℕ)). inputs.described.job.certificate ∷ rest) (sym (table-names inputs shown 0 inputs.described.job.tables inputs.described.job.outputs many))
 
 guarded-names : (inputs : Inputs) (line : OutputLine) (shown : Name → Option ℤ) (certificate : Certificate) (extra : Extra) → length inputs.described.job.outputs ≡ length inputs.described.job.tables → inputs.described.job.contributors ≡ Some line
     → names_put inputs.described.job ≡ names (guarded_puts inputs line.file shown certificate extra)
 guarded-names inputs line shown certificate extra many some =
-    ap (λ (o : Option OutputLine). inputs.described.job.certificate ∷ contributors_named o ++ map (λ (o : OutputLine). o.file) inputs.described.job.outputs) some
+    ap (λ (o : Option OutputLine). inputs.described.job.certificate ∷ contributors_files o ++ map (λ (o : OutputLine). o.file) inputs.described.job.outputs) some
     ∙ ap (λ (rest : List (List ℕ)). inputs.described.job.certificate ∷ line.file ∷ rest) (sym (table-names inputs shown 0 inputs.described.job.tables inputs.described.job.outputs many))
 
 -- the bytes of tables that stand under the names of outputs
@@ -219,7 +219,7 @@ texts-from inputs book shown by t (table ∷ rest) (line ∷ lines) (output ∷ 
     )
 
 -- a case's tables are the texts that its release puts
-case-texts : (settled : SettledInputs) (case : Case) (shown : Name → Option ℤ) (by : ℕ → Option ℤ) → IsSound settled.inputs.described → IsCaseOf settled case → ShowsSame settled.inputs case.book.now shown by
+case-texts : (settled : SettledInputs) (case : Case) (shown : Name → Option ℤ) (by : ℕ → Option ℤ) → IsSoundJob settled.inputs.described → IsCaseOf settled case → ShowsSame settled.inputs case.book.now shown by
     → AreTexts case.book.now case.decimals by case.book.now.tables case.names.now (table_bytes settled.inputs shown)
 case-texts settled case shown by sound is same =
     let inputs : Inputs = settled.inputs in
@@ -252,7 +252,7 @@ case-method settled case is = sym (is.method ∙ ap (λ (d : DescribedJob). d.jo
 
 -- the released files have no fault for any case of theirs, with their extra cells where there are some
 abbrev PassesWith : Option Extra → ReleasedFiles → Type 0
-PassesWith None released = (case : Case) → IsCaseOf released.settled case → IsCase case released.tables → first_fault case released.tables released.certificate ≡ Ok tt
+PassesWith None released = (case : Case) → IsCaseOf released.settled case → IsCase case released.tables → acceptance_fault case released.tables released.certificate ≡ Ok tt
 PassesWith (Some extra) released =
     (case : Case) (soles : List (Option ℕ)) → IsCaseOf released.settled case → IsCase case released.tables → AreSolesOf case released.settled.inputs.records.rows soles
     → guarded_fault case soles released.tables released.certificate extra ≡ Ok tt
@@ -260,7 +260,7 @@ PassesWith (Some extra) released =
 abbrev HasNoFault : ReleasedFiles → Type 0
 HasNoFault released = PassesWith released.extra released
 
-hidden-passes : WrittenIsAccepted → (settled : SettledInputs) (release : PutRelease) (is : IsSuppressedRelease settled release) → IsSound settled.inputs.described
+hidden-passes : WrittenIsAccepted → (settled : SettledInputs) (release : PutRelease) (is : IsSuppressedRelease settled release) → IsSoundJob settled.inputs.described
     → HasNoFault (released_with settled is.certificate None (table_bytes settled.inputs (shown_in settled.inputs is.hidden_set.hidden.flags)))
 hidden-passes written settled release is sound = λ case is_case fit.
     let inputs : Inputs = settled.inputs in
@@ -270,7 +270,7 @@ hidden-passes written settled release is sound = λ case is_case fit.
     (subst (λ (m : Method). rounds_cells m ≡ false) (case-method settled case is_case) (hides-so inputs.described.job.method inputs.described.bound.decimals is.protects.hides))
     (case-texts settled case (shown_in inputs flags) (open_truth case.book.now.marks flags) sound is_case (λ t header within. hidden-shown inputs case.book.now flags t header book within))
 
-guarded-passes : GuardedIsAccepted → (settled : SettledInputs) (release : PutRelease) (is : IsGuardedRelease settled release) → IsSound settled.inputs.described
+guarded-passes : GuardedIsAccepted → (settled : SettledInputs) (release : PutRelease) (is : IsGuardedRelease settled release) → IsSoundJob settled.inputs.described
     → HasNoFault (released_with settled is.certificate (Some is.guarded.extra) (table_bytes settled.inputs (shown_in settled.inputs is.guarded.hidden.flags)))
 guarded-passes guarded settled release is sound = λ case soles is_case fit are.
     let inputs : Inputs = settled.inputs in
@@ -295,7 +295,7 @@ guarded-passes guarded settled release is sound = λ case soles is_case fit are.
     is_case fit (subst (λ (m : Method). rounds_cells m ≡ false) (case-method settled case is_case) (hides-so inputs.described.job.method inputs.described.bound.decimals protects.hides)) are
     (subst (λ (set : List Bool). AreTexts case.book.now case.decimals (open_truth case.book.now.marks set) case.book.now.tables case.names.now (table_bytes inputs (shown_in inputs flags))) larger texts)
 
-rounding-passes : WrittenRoundingIsAccepted → (settled : SettledInputs) (base : ℤ) (release : PutRelease) (is : IsRoundedRelease settled base release) → base_of settled.inputs.described ≡ Some base → IsSound settled.inputs.described
+rounding-passes : WrittenRoundingIsAccepted → (settled : SettledInputs) (base : ℤ) (release : PutRelease) (is : IsRoundedRelease settled base release) → job_base settled.inputs.described ≡ Some base → IsSoundJob settled.inputs.described
     → HasNoFault (released_with settled (rounded_certificate settled.inputs) None (table_bytes settled.inputs (value_in settled.inputs is.values)))
 rounding-passes written settled base release is rounds sound = λ case is_case fit.
     let inputs : Inputs = settled.inputs in
@@ -319,7 +319,7 @@ record IsReadSo (files : Files) (name : List ℕ) : Type 0 where
 -- the puts of a release under their names, none too long, beside its inputs
 record StandsBeside (files out : Files) (name : List ℕ) (settled : SettledInputs) : Type 0 where
   read : settled_of purpose.Release files name ≡ Ok settled
-  sound : IsSound settled.inputs.described
+  sound : IsSoundJob settled.inputs.described
   differ : IsDistinct bytes_eq (names_put settled.inputs.described.job)
   puts : AllByRecursion (λ (put : List ℕ). files put ≡ out put) (names_put settled.inputs.described.job)
   short : AllByRecursion (λ (put : List ℕ). IsShort (out put)) (names_put settled.inputs.described.job)
@@ -358,7 +358,7 @@ hidden-so written guarded files out before name settled release (Some line) name
       passes = guarded-passes guarded settled release is s.sound;
     }
 
-read-so : WrittenIsAccepted → GuardedIsAccepted → WrittenRoundingIsAccepted → (files out before : Files) (name : List ℕ) (settled : SettledInputs) (release : PutRelease) (base : Option ℤ) → base_of settled.inputs.described ≡ base → IsReleaseBy base settled release
+read-so : WrittenIsAccepted → GuardedIsAccepted → WrittenRoundingIsAccepted → (files out before : Files) (name : List ℕ) (settled : SettledInputs) (release : PutRelease) (base : Option ℤ) → job_base settled.inputs.described ≡ base → IsReleaseBy base settled release
     → StandsBeside files out name settled → out ≡ put_all before release.puts → IsReadSo files name
 read-so written guarded rounded files out before name settled release None rounds is s made = hidden-so written guarded files out before name settled release settled.inputs.described.job.contributors refl is s made
 read-so written guarded rounded files out before name settled release (Some base) rounds is s made =
@@ -413,7 +413,7 @@ runs-are-accepted differ written guarded rounded files out held name summary ans
     let same : hold.settled ≡ settled = ok-same (sym hold.read ∙ told.read) in
     let stated = job-read files name settled.inputs.described (described-read files name settled.inputs (inputs-read files name settled told.read)) in
     let before = some-before runs.before.files out told.release.puts (sym told.put.files ∙ runs.put) in
-    let read = read-so written guarded rounded held out before.0 name settled told.release (base_of settled.inputs.described) refl told.is_release
+    let read = read-so written guarded rounded held out before.0 name settled told.release (job_base settled.inputs.described) refl told.is_release
     (record {
       read = hold.same_inputs ∙ ap Ok same;
       sound = told.sound;

@@ -8,7 +8,7 @@ use Rattle.sdc_base.specs.Steps.{◌>>=◌, map_fault, refuse}
 use Rattle.apriori.specs.declared.prior.Prior.{Prior}
 use Rattle.job_lang.specs.Binding.{bound_of, places_from, places_of}
 use Rattle.job_lang.specs.BindingFaults.{is_spanning}
-use Rattle.job_lang.specs.FileLaws.{PutsAreNotRead, PutsAreNotNamed, codes_named, files_of, reads_of, tree_named, contributors_named, puts_of as names_put}
+use Rattle.job_lang.specs.FileLaws.{PutsAreNotRead, PutsAreNotNamed, codes_named, files_of, reads_of, tree_named, contributors_files, puts_of as names_put}
 use Rattle.job_lang.specs.declared.bound.Bound.{Bound}
 use Rattle.job_lang.specs.declared.job.Job.{Job}
 use Rattle.job_lang.specs.declared.job.OutputLine.{OutputLine}
@@ -178,7 +178,7 @@ outputs-unput (output ∷ outputs) name none =
     ((λ same. apart-name output.file name both.0 (sym same)), outputs-unput outputs name both.1)
 
 -- nor has the contributors' file, where there is one
-contributors-unput : (line : Option OutputLine) (name : List ℕ) (others : List (List ℕ)) → is_contributors_file name line ≡ false → NoneIs others name → NoneIs (contributors_named line ++ others) name
+contributors-unput : (line : Option OutputLine) (name : List ℕ) (others : List (List ℕ)) → is_contributors_file name line ≡ false → NoneIs others name → NoneIs (contributors_files line ++ others) name
 contributors-unput None name others none rest = rest
 contributors-unput (Some output) name others none rest = ((λ same. apart-name output.file name none (sym same)), rest)
 

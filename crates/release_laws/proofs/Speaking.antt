@@ -8,7 +8,7 @@ use Rattle.worlds.specs.ProtectFaults.{asked_of}
 use Rattle.worlds.specs.Protection.{Protection as HiddenSet}
 use Rattle.worlds.specs.declared.world.World.{World}
 use Rattle.certificate.specs.declared.certificate.Certificate.{Certificate}
-use Rattle.repair.specs.HidingOrder.{Case as HidingCase, case as protected_case}
+use Rattle.repair.specs.HidingOrder.{Case as HidingCase, protected_case}
 use Rattle.repair.specs.KeptWorlds.{AreServed}
 use Rattle.cell_protection.specs.Certifying.{certificate_made, hidden_numbers, world_lines}
 use Rattle.cell_protection.specs.Protections.{IsProtectedWith}

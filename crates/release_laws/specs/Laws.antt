@@ -10,14 +10,14 @@ use Rattle.modular_plan.specs.Methods.{passes_of}
 use Rattle.certificate.specs.declared.certificate.Certificate.{Certificate}
 use Rattle.certificate.specs.declared.extra.Extra.{Extra}
 use Rattle.cert_check.specs.Cases.{IsCase}
-use Rattle.cert_check.specs.FirstFault.{first_fault}
+use Rattle.cert_check.specs.FirstFault.{acceptance_fault}
 use Rattle.cert_check.specs.Methods.{rounds_cells}
 use Rattle.cert_check.specs.declared.case.Case.{Case}
 use Rattle.modular_plan.specs.Plans.{trail_of}
 use Rattle.relations.specs.Holding.{IsSystemOf}
 use Rattle.release_writer.specs.ReadingLaws.{AreTexts}
 use Rattle.release_writer.specs.ShownCells.{open_truth}
-use Rattle.repair.specs.HidingOrder.{case as protected_case}
+use Rattle.repair.specs.HidingOrder.{protected_case}
 use Rattle.worlds.specs.Protection.{Protection as HiddenSet}
 use Rattle.job_inputs.specs.SettledJobs.{SettledInputs, IsSettledOf}
 use Rattle.job_inputs.specs.declared.settled.SettledJob.{SettledJob}
@@ -38,14 +38,14 @@ ProtectionIsAccepted =
     → IsProtectedWith (protected_case case.system.now case.cells.now) prices case.method case.trail.now.steps protected
     certificate
     → HideExactly case protected tables
-    → first_fault case tables certificate ≡ Ok tt
+    → acceptance_fault case tables certificate ≡ Ok tt
 
 -- cases of the same settled inputs have the same first fault
 abbrev pub InputsAreJudgedInOneWay : Type 0
 InputsAreJudgedInOneWay =
     (settled : SettledInputs) (one other : Case) (tables : List (List ℕ)) (certificate : Certificate)
     → IsCaseOf settled one → IsCaseOf settled other → IsCase one tables → IsCase other tables
-    → first_fault one tables certificate ≡ first_fault other tables certificate
+    → acceptance_fault one tables certificate ≡ acceptance_fault other tables certificate
 
 -- Where settled inputs have a protection, with the trail that their job makes, its certificate has no fault for the
 -- case of the inputs, with the tables that hide its set: so a check accepts what a run has put, with the same inputs.
@@ -57,7 +57,7 @@ WrittenIsAccepted =
     → IsProtectedWith (protected_case system job.cells) prices job.described.job.method
     (trail_of job.book job.cells job.described.job.cost (passes_of job.described.job.method)) protected certificate
     → IsCaseOf settled case → IsCase case tables → rounds_cells case.method ≡ false → HideExactly case protected tables
-    → first_fault case tables certificate ≡ Ok tt
+    → acceptance_fault case tables certificate ≡ Ok tt
 
 -- cases of the same settled inputs have the same first fault of a release with extra cells
 abbrev pub GuardsAreJudgedInOneWay : Type 0

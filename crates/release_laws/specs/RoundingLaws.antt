@@ -8,7 +8,7 @@ use Rattle.certificate.specs.Laws.{without_hidden_cells}
 use Rattle.certificate.specs.declared.certificate.Certificate.{Certificate}
 use Rattle.cert_check.specs.Acceptance.{IsOfCase}
 use Rattle.cert_check.specs.Cases.{IsCase}
-use Rattle.cert_check.specs.FirstFault.{first_fault}
+use Rattle.cert_check.specs.FirstFault.{acceptance_fault}
 use Rattle.cert_check.specs.Methods.{rounds_cells, ListsNothing}
 use Rattle.cert_check.specs.declared.case.Case.{Case}
 use Rattle.linked_tables.specs.BookViews.{BookView}
@@ -18,7 +18,7 @@ use Rattle.release_writer.specs.ReadingLaws.{AreTexts, IsReleased}
 use Rattle.release_writer.specs.ReleaseReading.{rounded_read}
 use Rattle.job_inputs.specs.Cells.{cells, truth_in}
 use Rattle.job_inputs.specs.SettledJobs.{SettledInputs}
-use Rattle.job_inputs.specs.SoundJobs.{IsSound}
+use Rattle.job_inputs.specs.SoundJobs.{IsSoundJob}
 use Rattle.job_inputs.specs.TabulatedBooks.{IsBookOf}
 use Rattle.job_check.specs.Cases.{IsCaseOf}
 
@@ -40,7 +40,7 @@ RoundingIsAccepted =
     → IsOfCase case certificate → ListsNothing certificate → IsReleased values
     → IsRounding case.system.now (map (λ cell. cell.truth) case.cells.now) case.base values
     → AreTexts case.book.now case.decimals (slice_get values) case.book.now.tables case.names.now tables
-    → first_fault case tables certificate ≡ Ok tt
+    → acceptance_fault case tables certificate ≡ Ok tt
 
 -- Where values are a rounding for settled inputs of a job within its limits, to the base of their case, a certificate
 -- that counts the cells and the relations and lists nothing has no fault for that case, with the tables that show the
@@ -49,11 +49,11 @@ abbrev pub WrittenRoundingIsAccepted : Type 0
 WrittenRoundingIsAccepted =
     (settled : SettledInputs) (book : BookView) (system : System) (values : List ℤ) (case : Case)
     (tables : List (List ℕ))
-    → IsSound settled.inputs.described → IsBookOf settled.inputs book → IsSystemOf book system
+    → IsSoundJob settled.inputs.described → IsBookOf settled.inputs book → IsSystemOf book system
     → IsRounding system (map (truth_in settled.inputs) (cells settled.inputs)) case.base values
     → IsCaseOf settled case → IsCase case tables → rounds_cells case.method ≡ true
     → AreTexts case.book.now case.decimals (slice_get values) case.book.now.tables case.names.now tables
-    → first_fault case tables
+    → acceptance_fault case tables
     (without_hidden_cells settled.inputs.described.job.method (length (cells settled.inputs))
     (length (relations_among settled.inputs.records.trees settled.inputs.described.bound.tables)))
     ≡ Ok tt

@@ -21,7 +21,7 @@ use Rattle.sdc_base.specs.Cells.{trees_of}
 use Rattle.linked_tables.specs.declared.mark.Mark.{Mark}
 use Rattle.linked_tables.specs.BookViews.{BookView}
 use Rattle.linked_tables.specs.BookCells.{cells}
-use Rattle.release_writer.specs.ReleaseReading.{LinePlace, numbers_of, release_read}
+use Rattle.release_writer.specs.ReleaseReading.{LinePlace, shown_numbers, release_read}
 use Rattle.release_writer.specs.LineChoices.{Template, rest_behind, line_showing, choice_there, new_value, rounded_value, number_there, number_behind, value_read}
 use Rattle.release_writer.specs.ReadingLaws.{AreTexts, RoundedHaveTexts, IsReleased}
 use Rattle.release_writer.proofs.HaveTexts.{Shows, GivesNew, AllFrom, all-at, fitting-some, release-read, shown_by, texts-same}
@@ -78,12 +78,12 @@ number-seen : (value : Option ℤ) → IsNumber 0 value → value ≡ Some (unwr
 number-seen None h = let no : None ≡ Some (pos h.0) = h.1 in cc
 number-seen (Some z) h = refl
 
-numbers-at : (values : List (Option ℤ)) (cell : ℕ) → cell < length values → slice_get (numbers_of values) cell ≡ Some (unwrap_or (slice_index_or values cell None) (pos 0))
+numbers-at : (values : List (Option ℤ)) (cell : ℕ) → cell < length values → slice_get (shown_numbers values) cell ≡ Some (unwrap_or (slice_index_or values cell None) (pos 0))
 numbers-at [] cell h = absurd (omega (arith, h))
 numbers-at (value ∷ values) zero h = refl
 numbers-at (value ∷ values) (suc cell) h = numbers-at values cell (omega (arith, h))
 
-numbers-long : (values : List (Option ℤ)) → length (numbers_of values) ≡ length values
+numbers-long : (values : List (Option ℤ)) → length (shown_numbers values) ≡ length values
 numbers-long [] = refl
 numbers-long (value ∷ values) = ap suc (numbers-long values)
 
@@ -92,23 +92,23 @@ past-value [] cell h = refl
 past-value (value ∷ values) zero h = absurd (omega (arith, h))
 past-value (value ∷ values) (suc cell) h = past-value values cell (omega (arith, h))
 
-shown-numbers : (values : List (Option ℤ)) → AllFrom IsNumber 0 values → (cell : ℕ) → shown_by values cell ≡ slice_get (numbers_of values) cell
+shown-numbers : (values : List (Option ℤ)) → AllFrom IsNumber 0 values → (cell : ℕ) → shown_by values cell ≡ slice_get (shown_numbers values) cell
 shown-numbers values all cell =
-    elim (nat_lt cell (length values)) as (λ b. nat_lt cell (length values) ≡ b → shown_by values cell ≡ slice_get (numbers_of values) cell) [
+    elim (nat_lt cell (length values)) as (λ b. nat_lt cell (length values) ≡ b → shown_by values cell ≡ slice_get (shown_numbers values) cell) [
       | true ↦ λ is.
           let small : cell < length values = grind (arith, nat_tests, is) in
           number-seen (shown_by values cell) (all-at IsNumber 0 values cell all small) ∙ sym (numbers-at values cell small)
       | false ↦ λ is.
           let past : length values ≤ cell = grind (arith, nat_tests, is) in
-          past-value values cell past ∙ sym (slice_get_past (numbers_of values) cell (omega (arith, past, numbers-long values)))
+          past-value values cell past ∙ sym (slice_get_past (shown_numbers values) cell (omega (arith, past, numbers-long values)))
     ] refl
 
-released : (a : ℕ) (values : List (Option ℤ)) → AllFrom IsNumber a values → IsReleased (numbers_of values)
+released : (a : ℕ) (values : List (Option ℤ)) → AllFrom IsNumber a values → IsReleased (shown_numbers values)
 released a [] all = tt
 released a (None ∷ values) all = let no : None ≡ Some (pos all.0.0) = all.0.1 in cc
 released a (Some z ∷ values) all = let same : z ≡ pos all.0.0 = cc in ((all.0.0, same, all.0.2), released (a + 1) values all.1)
 
-map-ok : (r : Result (List (Option ℤ)) LinePlace) (numbers : List ℤ) → map_ok numbers_of r ≡ Ok numbers → (values : List (Option ℤ)) × (r ≡ Ok values) × (numbers_of values ≡ numbers)
+map-ok : (r : Result (List (Option ℤ)) LinePlace) (numbers : List ℤ) → map_ok shown_numbers r ≡ Ok numbers → (values : List (Option ℤ)) × (r ≡ Ok values) × (shown_numbers values ≡ numbers)
 map-ok (Ok values) numbers h = (values, refl, cc)
 map-ok (Err e) numbers h = cc
 
@@ -118,5 +118,5 @@ rounded_have_texts book names decimals files numbers one_each one_name one_file 
     let values = made.0 in
     let read = release-read book decimals true IsNumber names files values (rounded-gives book decimals) one_name one_file made.1 in
     let size : length values ≡ length book.marks = read.long ∙ sym one_each in
-    let texts = texts-same book decimals (shown_by values) (slice_get (numbers_of values)) (shown-numbers values read.all) book.tables names files read.texts in
+    let texts = texts-same book decimals (shown_by values) (slice_get (shown_numbers values)) (shown-numbers values read.all) book.tables names files read.texts in
     subst (λ (numbers : List ℤ). (length numbers ≡ length book.marks) × IsReleased numbers × AreTexts book decimals (slice_get numbers) book.tables names files) made.2 (numbers-long values ∙ size, released 0 values read.all, texts)

@@ -28,7 +28,7 @@ abbrev pub begun_line : List (List ℕ) → List ℕ
 begun_line fields = join_with_byte comma (map field_text fields)
 
 -- a csv writer over bytes in memory, with the defaults and between two lines
-pub record IsReady (writer : Writer (Vec ℕ Global)) : Type 0 where
+pub record IsReadyWriter (writer : Writer (Vec ℕ Global)) : Type 0 where
   pub setup : writer_setup writer ≡ default_writer
   pub fields : fields_written writer ≡ 0
   pub clean : has_written writer ≡ false

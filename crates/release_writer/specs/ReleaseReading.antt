@@ -79,8 +79,8 @@ abbrev pub flags_of : List (Option ℤ) → List Bool
 flags_of shown = map (λ value. not (is_some value)) shown
 
 -- the numbers of cells that show this
-abbrev pub numbers_of : List (Option ℤ) → List ℤ
-numbers_of shown = map (λ value. unwrap_or value (pos 0)) shown
+abbrev pub shown_numbers : List (Option ℤ) → List ℤ
+shown_numbers shown = map (λ value. unwrap_or value (pos 0)) shown
 
 -- the hidden set, by a flag for each cell, whose texts these bytes are, or the first bad line
 abbrev pub hidden_read : BookView → List (List (List ℕ)) → ℕ → List (List ℕ) → Result (List Bool) LinePlace
@@ -88,4 +88,4 @@ hidden_read book names decimals files = map_ok flags_of (release_read book names
 
 -- the numbers whose texts these bytes are, or the first bad line
 abbrev pub rounded_read : BookView → List (List (List ℕ)) → ℕ → List (List ℕ) → Result (List ℤ) LinePlace
-rounded_read book names decimals files = map_ok numbers_of (release_read book names decimals true files)
+rounded_read book names decimals files = map_ok shown_numbers (release_read book names decimals true files)

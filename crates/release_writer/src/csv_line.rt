@@ -1,7 +1,7 @@
 ghost use Rattle.std.specs.Prelude.{◌≡◌, ◌<◌, ◌+◌, ◌-◌, ◌^◌, ◌++◌, ◌∷◌, [], length, true, OnOk};
 ghost use Rattle.csv.specs.Writing.{default_writer, writer_setup, fields_written, has_written, next_sep};
 ghost use Rattle.csv.specs.Writing as spec;
-ghost use Rattle.release_writer.specs.Lines.{IsReady, AppendsText};
+ghost use Rattle.release_writer.specs.Lines.{IsReadyWriter, AppendsText};
 
 use csv::Writer;
 use sdc_base::Memory;
@@ -27,7 +27,7 @@ pub(crate) fn end_line(writer: &mut Writer<Vec<u8>>) -> Result<(), Memory>
     requires setup { writer_setup writer.old ≡ default_writer }
     requires at_least_one_field { 0 < fields_written writer.old }
     requires shown { fields_written writer.old ≡ 1 → has_written writer.old ≡ true }
-    ensures ready { OnOk result (IsReady writer.new) }
+    ensures ready { OnOk result (IsReadyWriter writer.new) }
     ensures text { OnOk result (AppendsText writer.old writer.new (10 ∷ [])) }
 {
     match writer.end_record() {

@@ -2,7 +2,7 @@ ghost use Rattle.std.specs.Prelude.{◌≡◌, ◌≤◌, ◌<◌, ◌++◌, ◌
 ghost use Rattle.sdc_base.specs.Trees.{code_in};
 ghost use Rattle.sdc_base.specs.Cells.{trees_of};
 ghost use Rattle.sdc_base.specs.TableText.{line_text, codes_of_place};
-ghost use Rattle.release_writer.specs.Lines.{IsReady, AppendsText};
+ghost use Rattle.release_writer.specs.Lines.{IsReadyWriter, AppendsText};
 
 use crate::csv_line::{end_line, put_field};
 use csv::Writer;
@@ -11,10 +11,10 @@ use sdc_base::{Memory, Text};
 
 /// Writes the line of a table's names, of which one alone isn't empty.
 pub(crate) fn write_names(writer: &mut Writer<Vec<u8>>, names: &[Text]) -> Result<(), Memory>
-    requires ready { IsReady writer.old }
+    requires ready { IsReadyWriter writer.old }
     requires at_least_one_name { 0 < length names.now }
     requires shown { length names.now ≡ 1 → 0 < length (slice_index_or names.now 0 []) }
-    ensures ready { OnOk result (IsReady writer.new) }
+    ensures ready { OnOk result (IsReadyWriter writer.new) }
     ensures text { OnOk result (AppendsText writer.old writer.new (line_text names.now)) }
 {
     'names: for name in names {
@@ -31,11 +31,11 @@ pub(crate) fn write_place(
     place: &[u32],
     number: &[u8],
 ) -> Result<(), Memory>
-    requires ready { IsReady writer.old }
+    requires ready { IsReadyWriter writer.old }
     requires code_for_each_variable { length place.now ≡ length table.now }
     requires at_most_8 { length table.now ≤ 8 }
     requires number { 0 < length number.now }
-    ensures ready { OnOk result (IsReady writer.new) }
+    ensures ready { OnOk result (IsReadyWriter writer.new) }
     ensures text { OnOk result (AppendsText writer.old writer.new
         (line_text (codes_of_place (trees_of book.now.trees table.now) place.now ++ number.now ∷ []))) }
 {

@@ -62,7 +62,7 @@ pub fn rounded_of(
         (spec.rounded_read book.now names.now decimals tables.now) }
 {
     let shown = release_shown(alloc, book, names, decimals, true, tables)?;
-    let numbers = numbers_of(alloc, shown.as_slice())?;
+    let numbers = shown_numbers(alloc, shown.as_slice())?;
     Ok(numbers)
 }
 
@@ -78,8 +78,8 @@ fn flags_of(alloc: Global, shown: &[Option<i128>]) -> Result<Items<bool>, Memory
 }
 
 // The numbers of cells that show this.
-fn numbers_of(alloc: Global, shown: &[Option<i128>]) -> Result<Items<i128>, Memory>
-    ensures { IfOk result (λ numbers. numbers ≡ spec.numbers_of shown.now) }
+fn shown_numbers(alloc: Global, shown: &[Option<i128>]) -> Result<Items<i128>, Memory>
+    ensures { IfOk result (λ numbers. numbers ≡ spec.shown_numbers shown.now) }
 {
     let mut numbers = Items::empty(alloc);
     'values: for value in shown {

@@ -3,7 +3,7 @@ ghost use Rattle.sdc_base.specs.Cells.{trees_of};
 ghost use Rattle.sdc_base.specs.CellOrder.{is_place_in};
 ghost use Rattle.sdc_base.specs.TableText.{line_text};
 ghost use Rattle.release_writer.specs.ShownCells.{CanBeShown, release_text};
-ghost use Rattle.release_writer.specs.Lines.{IsReady, bytes_written, AppendsText, lines_below, place_line};
+ghost use Rattle.release_writer.specs.Lines.{IsReadyWriter, bytes_written, AppendsText, lines_below, place_line};
 ghost use Rattle.release_writer.specs.Pages.{IsPage};
 
 use crate::lines::{write_names, write_place};
@@ -69,7 +69,7 @@ pub(crate) fn bytes_of(writer: Writer<Vec<u8>>) -> Result<Vec<u8>, Memory>
 /// A writer behind the line of a table's names.
 pub(crate) fn begin(alloc: Global, names: &[Text]) -> Result<Writer<Vec<u8>>, Memory>
     requires at_least_one_name { 0 < length names.now }
-    ensures ready { IfOk result IsReady }
+    ensures ready { IfOk result IsReadyWriter }
     ensures text { IfOk result (λ writer. bytes_written writer ≡ Some (line_text names.now)) }
 {
     let mut start = Vec::new(alloc);
@@ -108,12 +108,12 @@ fn write_below(
     page: &Page<'_>,
     place: &[u32],
 ) -> Result<(), Memory>
-    requires ready { IsReady writer.old }
+    requires ready { IsReadyWriter writer.old }
     requires page { IsPage page.now }
     requires begun { length place.now ≤ length page.now.table.now }
     requires place { is_place_in (trees_of page.now.book.now.trees (take (length place.now) page.now.table.now))
         place.now ≡ true }
-    ensures ready { OnOk result (IsReady writer.new) }
+    ensures ready { OnOk result (IsReadyWriter writer.new) }
     ensures text { OnOk result (AppendsText writer.old writer.new
         (lines_below page.now.book.now page.now.table.now page.now.decimals page.now.shown place.now)) }
 {
@@ -135,12 +135,12 @@ fn write_whole(
     page: &Page<'_>,
     place: &[u32],
 ) -> Result<(), Memory>
-    requires ready { IsReady writer.old }
+    requires ready { IsReadyWriter writer.old }
     requires page { IsPage page.now }
     requires at_most_8 { length page.now.table.now ≤ 8 }
     requires code_for_each_variable { length place.now ≡ length page.now.table.now }
     requires place { is_place_in (trees_of page.now.book.now.trees page.now.table.now) place.now ≡ true }
-    ensures ready { OnOk result (IsReady writer.new) }
+    ensures ready { OnOk result (IsReadyWriter writer.new) }
     ensures text { OnOk result (AppendsText writer.old writer.new
         (place_line page.now.book.now page.now.table.now page.now.decimals page.now.shown place.now)) }
 {

@@ -25,8 +25,8 @@ pub record Case : Type 0 where
   pub cells : List Cell
 
 -- what these make
-abbrev pub case : System → List Cell → Case
-case system cells = record { system = system; cells = cells }
+abbrev pub protected_case : System → List Cell → Case
+protected_case system cells = record { system = system; cells = cells }
 
 -- the price of each cell, by its own or by the facts of its mark
 abbrev pub prices_of : CostKind → List Cell → List Mark → List ℕ

@@ -53,9 +53,9 @@ IsStep c place before flags worlds Repaired =
 IsStep c place before flags worlds (Cannot found) = IsImpossible c flags found
 
 -- the questions before a place have their worlds, or a cell can't be protected
-abbrev pub AreServedOr : Case → ℕ → List Bool → List World → Option Impossible → Type 0
-AreServedOr c place flags worlds None = AreServedBefore c flags place worlds
-AreServedOr c place flags worlds (Some found) = IsImpossible c flags found
+abbrev pub AreServedOrImpossible : Case → ℕ → List Bool → List World → Option Impossible → Type 0
+AreServedOrImpossible c place flags worlds None = AreServedBefore c flags place worlds
+AreServedOrImpossible c place flags worlds (Some found) = IsImpossible c flags found
 
 -- a question at some place has a fault, and repairing from the planned set has come to it
 pub record IsHalted (c : Case) (prices : List ℕ) (planned flags : List Bool) (repairs : List Refuted) (limit : ℕ)

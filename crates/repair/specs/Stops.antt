@@ -70,6 +70,6 @@ StopsFor c prices planned limit (Size question hidden) repairs shown = IsStop c 
     (Size question hidden) repairs shown
 
 -- why a protection stopped, and what was done until then, as it tells
-abbrev pub StopsAsTold : Case → List ℕ → List Bool → ℕ → Stopped → Type 0
-StopsAsTold c prices planned limit stopped =
+abbrev pub IsStopAsTold : Case → List ℕ → List Bool → ℕ → Stopped → Type 0
+IsStopAsTold c prices planned limit stopped =
     StopsFor c prices planned limit stopped.fault stopped.repairs stopped.shown

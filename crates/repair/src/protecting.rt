@@ -4,11 +4,11 @@ ghost use Rattle.cost_rule.specs.Costs.{AreCosted};
 ghost use Rattle.sdc_base.specs.HiddenSets.{MayHide};
 ghost use Rattle.sdc_base.specs.Signs.{AreSigns};
 ghost use Rattle.sdc_base.specs.Trails.{corners_of};
-ghost use Rattle.repair.specs.HidingOrder.{case, prices_of, planned_set, ProtectsAll};
+ghost use Rattle.repair.specs.HidingOrder.{protected_case, prices_of, planned_set, ProtectsAll};
 ghost use Rattle.repair.specs.KeptWorlds.{HasModestLevels, AreServed};
 ghost use Rattle.repair.specs.Tasks.{case_of};
 ghost use Rattle.worlds.specs.ProtectFaults.{asked_of};
-ghost use Rattle.repair.specs.Stops.{StopsAsTold};
+ghost use Rattle.repair.specs.Stops.{IsStopAsTold};
 ghost use Rattle.repair.specs.QuestionSteps.{IsRepairedForAll};
 ghost use Rattle.repair.specs.Verdicts.{IsVerdict, IsNarrowed, is_cannot};
 ghost use Rattle.repair.specs.WholeVerdicts.{IsWholeVerdict, IsWholeStop};
@@ -84,11 +84,11 @@ pub fn protect<'a, F: TellsCosts>(
     requires modest { All HasModestLevels cells.now }
     requires corners { All (MayHide cells.now) (corners_of trail.now.steps) }
     requires limit { 1 ≤ limit }
-    ensures verdict { IfOk result (λ verdict. IsVerdict (case system.now cells.now)
+    ensures verdict { IfOk result (λ verdict. IsVerdict (protected_case system.now cells.now)
         (prices_of rule.now cells.now marks.now) (planned_set cells.now (corners_of trail.now.steps)) verdict) }
-    ensures cannot { IfOk result (λ verdict. IsTrue (is_cannot verdict) ↔ ¬ ProtectsAll (case system.now cells.now)
-        (full_set cells.now)) }
-    ensures stopped { IfErr result (λ stopped. StopsAsTold (case system.now cells.now)
+    ensures cannot { IfOk result (λ verdict. IsTrue (is_cannot verdict)
+        ↔ ¬ ProtectsAll (protected_case system.now cells.now) (full_set cells.now)) }
+    ensures stopped { IfErr result (λ stopped. IsStopAsTold (protected_case system.now cells.now)
         (prices_of rule.now cells.now marks.now) (planned_set cells.now (corners_of trail.now.steps)) limit stopped) }
     ensures whole { (signs : List Bool) → AreSigns system.now.relations signs
         → IfOk result (λ verdict. IsWholeVerdict verdict) }
@@ -119,11 +119,11 @@ pub fn protect<'a, F: TellsCosts>(
         questions: &questions,
         limit,
     };
-    settle(alloc, &task, hidden, &mut scratch)
+    repaired_verdict(alloc, &task, hidden, &mut scratch)
 }
 
 // Repairs a hidden set until it protects.
-fn settle<'a>(
+fn repaired_verdict<'a>(
     alloc: Global,
     task: &Task<'a, '_>,
     hidden: Hidden,
@@ -133,7 +133,7 @@ fn settle<'a>(
     requires each { length hidden.flags ≡ task.now.system.now.cells }
     requires permitted { IsPermitted task.now.cells.now hidden.flags }
     ensures verdict { IfOk result (λ verdict. IsVerdict (case_of task.now) task.now.prices.now hidden.flags verdict) }
-    ensures stopped { IfErr result (λ stopped. StopsAsTold (case_of task.now) task.now.prices.now hidden.flags
+    ensures stopped { IfErr result (λ stopped. IsStopAsTold (case_of task.now) task.now.prices.now hidden.flags
         task.now.limit stopped) }
 {
     let mut progress = Progress {
@@ -154,12 +154,12 @@ fn settle<'a>(
             side: impossible.side,
             multipliers: impossible.multipliers,
         }),
-        None => narrowed_question(alloc, task, progress, scratch),
+        None => narrowed_verdict(alloc, task, progress, scratch),
     }
 }
 
 // Shows again what needn't be hidden, where a hidden set serves all that is asked.
-fn narrowed_question<'a>(
+fn narrowed_verdict<'a>(
     alloc: Global,
     task: &Task<'a, '_>,
     repaired: Progress,
@@ -172,7 +172,7 @@ fn narrowed_question<'a>(
     ensures verdict { IfOk result (λ verdict. (planned : List Bool) → IsRepairedForAll task.now planned repaired
         → IsVerdict (case_of task.now) task.now.prices.now planned verdict) }
     ensures stopped { IfErr result (λ stopped. (planned : List Bool) → IsRepairedForAll task.now planned repaired
-        → StopsAsTold (case_of task.now) task.now.prices.now planned task.now.limit stopped) }
+        → IsStopAsTold (case_of task.now) task.now.prices.now planned task.now.limit stopped) }
 {
     let mut progress = repaired;
     let mut tried = Findings {

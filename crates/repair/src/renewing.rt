@@ -41,7 +41,7 @@ pub(crate) fn renew_all(
     let flags = hidden.flags.as_slice();
     take_over(task, flags, worlds, spares);
     'places: for place in 0..task.questions.len() {
-        renew(alloc, task, place, hidden, worlds)?;
+        renew_question(alloc, task, place, hidden, worlds)?;
     }
     Ok(())
 }
@@ -82,7 +82,7 @@ fn offer(flags: &[bool], worlds: &mut Items<World>, spare: Spare)
 }
 
 // Asks the question at a place again, where its kept world moves a cell that is shown, and keeps the answer.
-fn renew(
+fn renew_question(
     alloc: Global,
     task: &Task<'_, '_>,
     place: usize,

@@ -6,7 +6,7 @@ ghost use Rattle.repair.specs.HidingOrder.{IsOfKind};
 ghost use Rattle.repair.specs.Tasks.{case_of};
 ghost use Rattle.repair.specs.KeptWorlds.{HasModestLevels, AreServedBefore, IsStopped};
 ghost use Rattle.repair.specs.Stops.{IsQuestion};
-ghost use Rattle.repair.specs.QuestionSteps.{IsReadyForRepair, IsRepairedUpTo, StaysRepaired, IsStep, IsImpossible, AreServedOr, IsHalted};
+ghost use Rattle.repair.specs.QuestionSteps.{IsReadyForRepair, IsRepairedUpTo, StaysRepaired, IsStep, IsImpossible, AreServedOrImpossible, IsHalted};
 
 use crate::cheapest::subject_of;
 use crate::progress::Progress;
@@ -46,7 +46,7 @@ pub(crate) fn serve_all(
     requires no_worlds { progress.old.worlds ≡ [] }
     requires no_repairs { progress.old.repairs ≡ [] }
     ensures ready { IsReadyForRepair task.now scratch.new progress.new }
-    ensures ok { IfOk result (λ found. AreServedOr (case_of task.now) (length task.now.questions.now)
+    ensures ok { IfOk result (λ found. AreServedOrImpossible (case_of task.now) (length task.now.questions.now)
         progress.new.hidden.flags progress.new.worlds found) }
     ensures repaired { IfOk result (λ _. IsRepairedUpTo task.now (length task.now.questions.now)
         progress.old.hidden.flags progress.new) }
@@ -75,7 +75,7 @@ fn serve(
     requires served { AreServedBefore (case_of task.now) progress.old.hidden.flags place progress.old.worlds }
     ensures ready { IsReadyForRepair task.now scratch.new progress.new }
     ensures repaired { StaysRepaired task.now place progress.old progress.new }
-    ensures ok { IfOk result (λ found. AreServedOr (case_of task.now) (place + 1) progress.new.hidden.flags
+    ensures ok { IfOk result (λ found. AreServedOrImpossible (case_of task.now) (place + 1) progress.new.hidden.flags
         progress.new.worlds found) }
     ensures err { IfErr result (λ fault. IsQuestion (case_of task.now) progress.new.hidden.flags task.now.limit fault
         place) }

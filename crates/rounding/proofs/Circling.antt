@@ -105,17 +105,17 @@ pub from_read : (arcs : List Arc) (cell : ℕ) (arc : Arc) (step : Step) → cel
 from_read arcs cell arc step below read start = start ∙ ap (λ (a : Arc). a.from) (read ∙ get_or_any arcs cell arc (record { from = 0; to = 0 }) below)
 
 -- what goes round can be gone
-pub record IsReady (base : ℤ) (numbers : List ℤ) (steps : List Step) : Type 0 where
+pub record AreReadySteps (base : ℤ) (numbers : List ℤ) (steps : List Step) : Type 0 where
   pub moves : AreMoves base numbers steps
   pub some : 1 ≤ length steps
   pub few : length steps ≤ 2 ^ 32
 
-pub round_ready : (base : ℤ) (arcs : List Arc) (touching : List (List ℕ)) (numbers : List ℤ) (steps circuit : List Step) (place : ℕ) → IsNetwork arcs touching → length arcs ≡ length numbers → GoesRound arcs base numbers steps place → circuit ≡ drop place steps → IsReady base numbers circuit
+pub round_ready : (base : ℤ) (arcs : List Arc) (touching : List (List ℕ)) (numbers : List ℤ) (steps circuit : List Step) (place : ℕ) → IsNetwork arcs touching → length arcs ≡ length numbers → GoesRound arcs base numbers steps place → circuit ≡ drop place steps → AreReadySteps base numbers circuit
 round_ready base arcs touching numbers steps circuit place network each round is =
     let few = steps_few (length numbers) (drop place steps) round.moved.once (All-weaker (IsMove base numbers) (λ (s : Step). s.cell < length numbers) (λ s one. one.inside) (drop place steps) round.moved.each) in
     let most = network.fewer_than_2_32 in
     let inside = round.place_inside in
-    subst (λ (ss : List Step). IsReady base numbers ss) (sym is) (record { moves = round.moved; some = omega (arith, length-drop place steps, inside); few = omega (arith, few, each, most) })
+    subst (λ (ss : List Step). AreReadySteps base numbers ss) (sym is) (record { moves = round.moved; some = omega (arith, length-drop place steps, inside); few = omega (arith, few, each, most) })
 
 -- ---- all cells
 

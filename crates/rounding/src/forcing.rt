@@ -50,7 +50,7 @@ fn settle_each(
     ensures none { IfOk result (λ all. all ≡ false → NoneWithin bounds.new) }
 {
     'numbers: for number in numbers {
-        let holds = settle(bounds, naming, *number)?;
+        let holds = force_relation(bounds, naming, *number)?;
         if !holds {
             return Ok(false);
         }
@@ -59,7 +59,11 @@ fn settle_each(
 }
 
 // Fixes what a relation forces. False where it can't hold.
-fn settle(bounds: &mut Bounds<'_>, naming: &[Items<u32>], number: u32) -> Result<bool, Memory>
+fn force_relation(
+    bounds: &mut Bounds<'_>,
+    naming: &[Items<u32>],
+    number: u32,
+) -> Result<bool, Memory>
     requires proper { IsProper bounds.old.system bounds.old.truths bounds.old.base }
     requires naming { IsNaming bounds.old.system naming.now }
     requires number { number < length bounds.old.system.relations }

@@ -43,7 +43,7 @@ pub(crate) fn go_round(task: &Task<'_>, numbers: &mut [i128], steps: &[Step])
 {
     let tightest = tightest(task, numbers, steps);
     let by = room_for(task, numbers, steps[tightest]);
-    go(numbers, steps, by);
+    move_cells(numbers, steps, by);
 }
 
 // The place of the step whose cell has the least room.
@@ -92,7 +92,7 @@ fn room_for(task: &Task<'_>, numbers: &[i128], step: Step) -> i128
 }
 
 // Moves the cells of steps by so much, each its way.
-fn go(numbers: &mut [i128], steps: &[Step], by: i128)
+fn move_cells(numbers: &mut [i128], steps: &[Step], by: i128)
     requires each { All (λ step. (step.cell < length numbers.old) × ((step.turn ≡ pos 1) ⊎ (step.turn ≡ negsuc 0)))
         steps.now }
     requires at_most_2_32 { length steps.now ≤ 2 ^ 32 }

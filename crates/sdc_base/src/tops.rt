@@ -152,7 +152,7 @@ fn put_in(list: &mut Few<Unit, 10>, keep: usize, new: Unit)
     requires at_most_keep { length list.old ≤ keep }
     ensures { list.new ≡ take keep (with_contribution list.old new) }
 {
-    let at = place_of(list.as_slice(), new);
+    let at = unit_place(list.as_slice(), new);
     if at < keep {
         list.truncate(keep - 1);
         list.insert(at, new);
@@ -160,7 +160,7 @@ fn put_in(list: &mut Few<Unit, 10>, keep: usize, new: Unit)
 }
 
 // How many stand before the first that has a lower value.
-fn place_of(units: &[Unit], new: Unit) -> usize
+fn unit_place(units: &[Unit], new: Unit) -> usize
     ensures place { insert units.now result new ≡ with_contribution units.now new }
     ensures within { result ≤ length units.now }
 {

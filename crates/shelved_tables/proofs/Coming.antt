@@ -4,7 +4,7 @@ use Rattle.sdc_base.specs.Answers.{Fails}
 use Rattle.sdc_base.specs.Steps.{refuse}
 use Rattle.office_io.specs.Files.{Files}
 use Rattle.job_inputs.proofs.Refusing.{fails-on}
-use Rattle.job_inputs.specs.Looks.{ComesTo as ComesToInput}
+use Rattle.job_inputs.specs.Looks.{InputsComeTo}
 use Rattle.job_inputs.specs.SettledJobs.{SettledInputs, settled_of}
 use Rattle.job_inputs.specs.Tables.{tables_of, TablesComeTo, ComesToTables}
 use Rattle.job_inputs.specs.declared.described.DescribedJob.{DescribedJob}
@@ -56,7 +56,7 @@ not_refused reason true h = absurd cc
 not_refused reason false h = refl
 
 -- a file of the inputs is one of all
-pub input_comes : (purpose : Purpose) (files : Files) (name out : List ℕ) (f : FileRef) (held : List ℕ) → ComesToInput purpose files name f held → ComesFor purpose files name out f held
+pub input_comes : (purpose : Purpose) (files : Files) (name out : List ℕ) (f : FileRef) (held : List ℕ) → InputsComeTo purpose files name f held → ComesFor purpose files name out f held
 input_comes purpose files name out file.Job held h = h
 input_comes purpose files name out file.Metadata held h = h
 input_comes purpose files name out (file.CodeList at) held h = h

@@ -3,7 +3,7 @@ use Rattle.std.specs.Prelude.{◌≡◌, ℕ, false, List, length, Result, Ok, E
 use Rattle.sdc_base.specs.Answers.{Fails}
 use Rattle.sdc_base.specs.Steps.{◌>>=◌, refuse}
 use Rattle.office_io.specs.Files.{Files}
-use Rattle.job_inputs.specs.Looks.{ComesTo as ComesToInput}
+use Rattle.job_inputs.specs.Looks.{InputsComeTo}
 use Rattle.job_inputs.specs.Reading.{stopped_for}
 use Rattle.job_inputs.specs.SettledJobs.{SettledInputs, settled_of, IsReadyJob, IsSettledOf}
 use Rattle.job_inputs.specs.Tables.{tables_of, TablesComeTo}
@@ -62,8 +62,8 @@ pub record ComesToTable (purpose : Purpose) (files : Files) (name out : List ℕ
 -- a run for a purpose comes to this file, which has this name, and nothing before it has a fault
 abbrev pub ComesFor : Purpose → Files → List ℕ → List ℕ → FileRef → List ℕ → Type 0
 ComesFor purpose files name out (file.Table t) held = ComesToTable purpose files name out t held
-ComesFor purpose files name out other held = ComesToInput purpose files name other held
+ComesFor purpose files name out other held = InputsComeTo purpose files name other held
 
 -- a run for intervals does
-abbrev pub ComesTo : Files → List ℕ → List ℕ → FileRef → List ℕ → Type 0
-ComesTo = ComesFor purposes.Intervals
+abbrev pub IntervalsComeTo : Files → List ℕ → List ℕ → FileRef → List ℕ → Type 0
+IntervalsComeTo = ComesFor purposes.Intervals

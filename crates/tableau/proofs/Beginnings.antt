@@ -12,7 +12,7 @@ use Rattle.tableau.specs.Tables.{HasShape}
 use Rattle.sdc_base.specs.Systems.{number_at}
 use Rattle.tableau.specs.declared.problem.Problem.{Problem}
 use Rattle.tableau.specs.declared.problem.LinRow.{LinRow}
-use Rattle.tableau.specs.Problems.{row_at, no_row, numbers_then_value, first_table, number_in, rows_of, numbers_of}
+use Rattle.tableau.specs.Problems.{row_at, no_row, numbers_then_value, first_table, number_in, rows_of, variable_count}
 use Rattle.tableau.specs.RowLists.{IsLexPositive, list_of, RowsAreLexPositive}
 use Rattle.tableau.specs.Walks.{IsBasisOf, StartGivesTable}
 use Rattle.tableau.proofs.Starts.{start_holds}
@@ -55,7 +55,7 @@ start_shaped problem =
       objective = length-numbers_then_value n _ (pos 0) ∙ ap (λ j. j + 1) (sym others);
     }
 
-start_basis : (problem : Problem) → IsBasisOf (numbers_of problem) (first_table problem).members (first_table problem).others
+start_basis : (problem : Problem) → IsBasisOf (variable_count problem) (first_table problem).members (first_table problem).others
 start_basis problem =
     let n : ℕ = problem.columns in
     let m : ℕ = length (rows_of problem) in

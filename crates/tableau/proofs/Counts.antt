@@ -8,7 +8,7 @@ use Rattle.std.proofs.lemmas.List.Folds.{list_any_at, Any-from_list_any}
 use Rattle.std.proofs.lemmas.Map.Steps.{length-le_from_distinct_below}
 use Rattle.tableau.specs.Tables.{Table}
 use Rattle.tableau.specs.declared.problem.Problem.{Problem}
-use Rattle.tableau.specs.Problems.{NamesColumns, numbers_of}
+use Rattle.tableau.specs.Problems.{NamesColumns, variable_count}
 use Rattle.tableau.specs.RowLists.{Rises, IsBasis, Implies}
 use Rattle.tableau.specs.Walks.{IsTableOf, IsChain, bits_of, ChainsAreShort}
 use Rattle.tableau.proofs.Bases.{basis_determines}
@@ -50,13 +50,13 @@ same_bits a b (suc m) same v below =
 held_at : (xs : List ℕ) (k : ℕ) → k < length xs → list_any (λ x. x == slice_index xs k) xs ≡ true
 held_at xs k below = let test : (get_or xs k 0 == slice_index xs k) ≡ true = grind (arith, nat_tests) in list_any_at (λ x. x == slice_index xs k) xs k 0 below test
 
-pub bases_differ : (problem : Problem) (one other : Table) → IsTableOf problem one → IsTableOf problem other → Rises problem one other → bits_of one.others (numbers_of problem) ≢ bits_of other.others (numbers_of problem)
+pub bases_differ : (problem : Problem) (one other : Table) → IsTableOf problem one → IsTableOf problem other → Rises problem one other → bits_of one.others (variable_count problem) ≢ bits_of other.others (variable_count problem)
 bases_differ problem one other kept also rises same =
     let basis : IsBasis one = record { distinct = kept.basis.members; apart = kept.basis.apart } in
     let says : Implies one other = λ amounts objective whole holds. also.from_start amounts objective whole (kept.to_start amounts objective whole holds) in
     let apart : (j k : ℕ) → j < length one.members → k < length other.others → slice_index one.members j ≢ slice_index other.others k = λ j k j_below k_below clash.
     let v : ℕ = slice_index other.others k in
-    let among : list_any (λ x. x == v) one.others ≡ true = same_bits one.others other.others (numbers_of problem) same v (also.basis.others_below k k_below) ∙ held_at other.others k k_below in
+    let among : list_any (λ x. x == v) one.others ≡ true = same_bits one.others other.others (variable_count problem) same v (also.basis.others_below k k_below) ∙ held_at other.others k k_below in
     let place = Any-from_list_any (λ x. x == v) one.others among in
     let at : slice_index one.others place.0 ≡ v = sym (get_or_default_zero one.others place.0 place.1 place.2) ∙ place.3 ∙ (Decides-eqb place.1 v).0 place.4 in
     kept.basis.apart j place.0 j_below place.2 (clash ∙ sym at)
@@ -79,13 +79,13 @@ all_rise problem formed table (before ∷ more) chain =
 apart_test : (a b : ℕ) → a ≢ b → eqb b a ≡ false
 apart_test a b apart = grind (arith, nat_tests)
 
-other_codes : (problem : Problem) (table : Table) → IsTableOf problem table → (rest : List Table) → AllByRecursion (λ e. IsTableOf problem e × Rises problem e table) rest → AllByRecursion (λ c. eqb (bits_of table.others (numbers_of problem)) c ≡ false) (map (λ (t : Table). bits_of t.others (numbers_of problem)) rest)
+other_codes : (problem : Problem) (table : Table) → IsTableOf problem table → (rest : List Table) → AllByRecursion (λ e. IsTableOf problem e × Rises problem e table) rest → AllByRecursion (λ c. eqb (bits_of table.others (variable_count problem)) c ≡ false) (map (λ (t : Table). bits_of t.others (variable_count problem)) rest)
 other_codes problem table kept [] all = tt
 other_codes problem table kept (e ∷ rest) all =
-    let apart : bits_of e.others (numbers_of problem) ≢ bits_of table.others (numbers_of problem) = bases_differ problem e table all.0.0 kept all.0.1 in
-    (apart_test (bits_of e.others (numbers_of problem)) (bits_of table.others (numbers_of problem)) apart, other_codes problem table kept rest all.1)
+    let apart : bits_of e.others (variable_count problem) ≢ bits_of table.others (variable_count problem) = bases_differ problem e table all.0.0 kept all.0.1 in
+    (apart_test (bits_of e.others (variable_count problem)) (bits_of table.others (variable_count problem)) apart, other_codes problem table kept rest all.1)
 
-distinct_codes : (problem : Problem) → NamesColumns problem → (tables : List Table) → IsChain problem tables → IsDistinct eqb (map (λ (t : Table). bits_of t.others (numbers_of problem)) tables)
+distinct_codes : (problem : Problem) → NamesColumns problem → (tables : List Table) → IsChain problem tables → IsDistinct eqb (map (λ (t : Table). bits_of t.others (variable_count problem)) tables)
 unfolding IsDistinct
 distinct_codes problem formed [] chain = tt
 distinct_codes problem formed (table ∷ []) chain = (tt, tt)
@@ -93,17 +93,17 @@ distinct_codes problem formed (table ∷ before ∷ more) chain =
     let all : IsTableOf problem table × AllByRecursion (λ e. IsTableOf problem e × Rises problem e table) (before ∷ more) = all_rise problem formed table (before ∷ more) chain in
     (other_codes problem table all.0 (before ∷ more) all.1, distinct_codes problem formed (before ∷ more) chain.1)
 
-codes_below : (problem : Problem) (tables : List Table) (q : ℕ) → list_any (eqb q) (map (λ (t : Table). bits_of t.others (numbers_of problem)) tables) ≡ true → q < 2 ^ numbers_of problem
+codes_below : (problem : Problem) (tables : List Table) (q : ℕ) → list_any (eqb q) (map (λ (t : Table). bits_of t.others (variable_count problem)) tables) ≡ true → q < 2 ^ variable_count problem
 codes_below problem [] q among = cc
 codes_below problem (table ∷ rest) q among =
-    elim (eqb q (bits_of table.others (numbers_of problem))) as (λ b. eqb q (bits_of table.others (numbers_of problem)) ≡ b → (b || list_any (eqb q) (map (λ (t : Table). bits_of t.others (numbers_of problem)) rest)) ≡ true → q < 2 ^ numbers_of problem) [
-      | true ↦ λ is _. let same : q ≡ bits_of table.others (numbers_of problem) = (Decides-eqb q (bits_of table.others (numbers_of problem))).0 is in omega (arith, below_bits table.others (numbers_of problem))
+    elim (eqb q (bits_of table.others (variable_count problem))) as (λ b. eqb q (bits_of table.others (variable_count problem)) ≡ b → (b || list_any (eqb q) (map (λ (t : Table). bits_of t.others (variable_count problem)) rest)) ≡ true → q < 2 ^ variable_count problem) [
+      | true ↦ λ is _. let same : q ≡ bits_of table.others (variable_count problem) = (Decides-eqb q (bits_of table.others (variable_count problem))).0 is in omega (arith, below_bits table.others (variable_count problem))
       | false ↦ λ _ later. codes_below problem rest q later
     ] refl among
 
 pub chains_are_short : ChainsAreShort
 chains_are_short problem tables formed chain =
-    let codes : List ℕ = map (λ (t : Table). bits_of t.others (numbers_of problem)) tables in
-    let long : length codes ≡ length tables = length-map tables (λ (t : Table). bits_of t.others (numbers_of problem)) in
-    let most : length codes ≤ 2 ^ numbers_of problem = length-le_from_distinct_below codes (2 ^ numbers_of problem) (distinct_codes problem formed tables chain) (codes_below problem tables) in
+    let codes : List ℕ = map (λ (t : Table). bits_of t.others (variable_count problem)) tables in
+    let long : length codes ≡ length tables = length-map tables (λ (t : Table). bits_of t.others (variable_count problem)) in
+    let most : length codes ≤ 2 ^ variable_count problem = length-le_from_distinct_below codes (2 ^ variable_count problem) (distinct_codes problem formed tables chain) (codes_below problem tables) in
     omega arith

@@ -16,7 +16,7 @@ use Rattle.tableau.specs.FaultPlaces.{IsFaultAt}
 use Rattle.tableau.specs.Entries.{IsSparse, AreEntriesBelow, crossed_products, crossed_at}
 use Rattle.tableau.specs.OwnRows.{own_den, IsLowest}
 use Rattle.tableau.specs.NewRows.{exchanged_den, exchanged_number, IsPivot, IsNewRow, IsLowestOf}
-use Rattle.tableau.specs.SparseTables.{table_of, width_of, factor_at, IsSound}
+use Rattle.tableau.specs.SparseTables.{table_of, width_of, factor_at, IsSoundTable}
 use Rattle.tableau.specs.Tables.{Table, exchanged_pivot}
 use Rattle.sdc_base.specs.Systems.{number_at}
 use Rattle.tableau.specs.Widths.{is_wide, all_rows, IsWideAt, IsWidePlace}
@@ -168,7 +168,7 @@ pub once_times : (x m : ℤ) → (x *ℤ pos 1) *ℤ m ≡ x *ℤ m
 once_times x m = let one : x *ℤ pos 1 ≡ x = omega (arith, ints) in ap (λ t. t *ℤ m) one
 
 -- a row without a number in the column stays as it is
-pub kept_row : (s : SparseTable) (row column k : ℕ) → IsSound s → row < length s.members.items → column < length s.others.items → k ≤ length s.members.items → k ≢ row → IsSparse 0 (width_of s + 1) (slice_index_or s.rows.items k []) → coefficient (slice_index_or s.rows.items k []) column ≡ pos 0 →
+pub kept_row : (s : SparseTable) (row column k : ℕ) → IsSoundTable s → row < length s.members.items → column < length s.others.items → k ≤ length s.members.items → k ≢ row → IsSparse 0 (width_of s + 1) (slice_index_or s.rows.items k []) → coefficient (slice_index_or s.rows.items k []) column ≡ pos 0 →
     IsNewRow s row column k (slice_index_or s.rows.items k [])
 kept_row s row column k sound row_within column_within within other sparse none =
     let own : List Term = slice_index_or s.rows.items k [] in
@@ -205,10 +205,10 @@ at_apart den p f column v pivot own apart = let test : (v == column) ≡ false =
 abbrev pub times_of : SparseTable → ℕ → ℕ → ℤ → ℤ
 times_of s row k g = factor_at s k *ℤ (g *ℤ factor_at s row)
 
-pub times_up_of : (s : SparseTable) (row k : ℕ) (g : ℤ) → IsSound s → row < length s.members.items → k ≤ length s.members.items → pos 1 ≤ℤ g → pos 1 ≤ℤ times_of s row k g
+pub times_up_of : (s : SparseTable) (row k : ℕ) (g : ℤ) → IsSoundTable s → row < length s.members.items → k ≤ length s.members.items → pos 1 ≤ℤ g → pos 1 ≤ℤ times_of s row k g
 times_up_of s row k g sound row_within within up = times_above (factor_at s k) (g *ℤ factor_at s row) (factor_up s k sound within) (times_above g (factor_at s row) up (factor_up s row sound (omega arith)))
 
-module _ (s : SparseTable) (row column k : ℕ) (bare own : List Term) (den p f times less g : ℤ) (sound : IsSound s) (row_within : row < length s.members.items) (column_within : column < length s.others.items) (within : k ≤ length s.members.items) (other : k ≢ row) (pivot : IsPivot s row column bare den p) (own_is : own ≡ slice_index_or s.rows.items k []) (f_is : f ≡ coefficient (slice_index_or s.rows.items k []) column) (p_times : times *ℤ g ≡ p) (f_times : less *ℤ g ≡ f) where
+module _ (s : SparseTable) (row column k : ℕ) (bare own : List Term) (den p f times less g : ℤ) (sound : IsSoundTable s) (row_within : row < length s.members.items) (column_within : column < length s.others.items) (within : k ≤ length s.members.items) (other : k ≢ row) (pivot : IsPivot s row column bare den p) (own_is : own ≡ slice_index_or s.rows.items k []) (f_is : f ≡ coefficient (slice_index_or s.rows.items k []) column) (p_times : times *ℤ g ≡ p) (f_times : less *ℤ g ≡ f) where
   pivot_times : p *ℤ factor_at s row ≡ number_at (slice_index_or (table_of s).rows row []) column
   pivot_times = ap (λ x. x *ℤ factor_at s row) pivot.number_is ∙ row_number s row column row_within (omega arith)
 

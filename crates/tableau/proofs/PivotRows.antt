@@ -12,7 +12,7 @@ use Rattle.tableau.specs.declared.sparse_table.SparseTable.{SparseTable}
 use Rattle.tableau.specs.Entries.{AreEntriesBelow, crossed_products, crossed_at}
 use Rattle.tableau.specs.OwnRows.{own_den, IsLowest}
 use Rattle.tableau.specs.NewRows.{IsPivot, IsNewRow}
-use Rattle.tableau.specs.SparseTables.{table_of, width_of, factor_at, IsSound}
+use Rattle.tableau.specs.SparseTables.{table_of, width_of, factor_at, IsSoundTable}
 use Rattle.tableau.specs.Tables.{Table}
 use Rattle.tableau.specs.Widths.{is_wide, IsWideAt}
 use Rattle.tableau.proofs.Ascending.{first_entry, not_first}
@@ -26,7 +26,7 @@ use Rattle.tableau.proofs.SparseTables.{row_number, own_row, factor_up, factor_i
 less_one : (b : ℤ) → negsuc 0 *ℤ b ≡ neg_ℤ b
 less_one b = minus_times (pos 1) b ∙ ap neg_ℤ (let one : pos 1 *ℤ b ≡ b = omega (arith, ints) in one)
 
-module _ (s : SparseTable) (row column : ℕ) (bare : List Term) (den p : ℤ) (sound : IsSound s) (row_within : row < length s.members.items) (column_within : column < length s.others.items) (pivot : IsPivot s row column bare den p) where
+module _ (s : SparseTable) (row column : ℕ) (bare : List Term) (den p : ℤ) (sound : IsSoundTable s) (row_within : row < length s.members.items) (column_within : column < length s.others.items) (pivot : IsPivot s row column bare den p) where
   -- the one entry of a row that has nothing but its den
   abbrev pub lone : List Term
   lone = (width_of s, p) ∷ []

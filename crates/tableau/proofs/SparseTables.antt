@@ -6,7 +6,7 @@ use Rattle.sdc_base.specs.Forms.{Term, coefficient}
 use Rattle.tableau.specs.declared.sparse_table.SparseTable.{SparseTable}
 use Rattle.tableau.specs.Entries.{IsSparse}
 use Rattle.tableau.specs.OwnRows.{own_den, row_over, IsOwnRow}
-use Rattle.tableau.specs.SparseTables.{table_of, width_of, factor_at, IsSound}
+use Rattle.tableau.specs.SparseTables.{table_of, width_of, factor_at, IsSoundTable}
 use Rattle.tableau.specs.Tables.{HasShape}
 use Rattle.sdc_base.specs.Systems.{number_at}
 use Rattle.tableau.specs.Widths.{all_rows}
@@ -47,25 +47,25 @@ all_number s k j below within = sym (ap (λ (r : List ℤ). number_at r j) (all_
 
 -- ---- a table that is sound
 
-pub own_row : (s : SparseTable) (k : ℕ) → IsSound s → k ≤ length s.members.items → IsOwnRow (unsigned_abs s.den) (width_of s) (slice_index_or s.rows.items k [])
+pub own_row : (s : SparseTable) (k : ℕ) → IsSoundTable s → k ≤ length s.members.items → IsOwnRow (unsigned_abs s.den) (width_of s) (slice_index_or s.rows.items k [])
 own_row s k sound within = sound.rows.each k (omega (arith, s.filled))
 
-pub factor_up : (s : SparseTable) (k : ℕ) → IsSound s → k ≤ length s.members.items → pos 1 ≤ℤ factor_at s k
+pub factor_up : (s : SparseTable) (k : ℕ) → IsSoundTable s → k ≤ length s.members.items → pos 1 ≤ℤ factor_at s k
 factor_up s k sound within = (row_factor s.den (width_of s) (slice_index_or s.rows.items k []) sound.rows.above (own_row s k sound within)).1
 
-pub factor_is : (s : SparseTable) (k : ℕ) → IsSound s → k ≤ length s.members.items → own_den (width_of s) (slice_index_or s.rows.items k []) *ℤ factor_at s k ≡ s.den
+pub factor_is : (s : SparseTable) (k : ℕ) → IsSoundTable s → k ≤ length s.members.items → own_den (width_of s) (slice_index_or s.rows.items k []) *ℤ factor_at s k ≡ s.den
 factor_is s k sound within = *ℤ_comm (own_den (width_of s) (slice_index_or s.rows.items k [])) (factor_at s k) ∙ (row_factor s.den (width_of s) (slice_index_or s.rows.items k []) sound.rows.above (own_row s k sound within)).0
 
-pub length-values_kept : (s : SparseTable) → IsSound s → length s.values.items ≡ length s.members.items
+pub length-values_kept : (s : SparseTable) → IsSoundTable s → length s.values.items ≡ length s.members.items
 length-values_kept s sound = ap length sound.values ∙ length-map (table_of s).rows (λ (row : List ℤ). number_at row (length s.others.items)) ∙ (sparse_shaped s).rows
 
-pub value_kept : (s : SparseTable) (k : ℕ) → IsSound s → k < length s.members.items → slice_index_or s.values.items k (pos 0) ≡ number_at (slice_index_or (table_of s).rows k []) (length s.others.items)
+pub value_kept : (s : SparseTable) (k : ℕ) → IsSoundTable s → k < length s.members.items → slice_index_or s.values.items k (pos 0) ≡ number_at (slice_index_or (table_of s).rows k []) (length s.others.items)
 value_kept s k sound within = ap (λ (t : List ℤ). slice_index_or t k (pos 0)) sound.values ∙ get_or-map (λ (row : List ℤ). number_at row (length s.others.items)) (table_of s).rows k [] (pos 0) (omega (arith, (sparse_shaped s).rows))
 
-pub length-objective_kept : (s : SparseTable) → IsSound s → length s.objective.items ≡ length s.others.items + 1
+pub length-objective_kept : (s : SparseTable) → IsSoundTable s → length s.objective.items ≡ length s.others.items + 1
 length-objective_kept s sound = ap length sound.objective ∙ (sparse_shaped s).objective
 
-pub den_up : (s : SparseTable) (k width : ℕ) (row : List Term) → IsSound s → k ≤ length s.members.items → width ≡ width_of s → row ≡ slice_index_or s.rows.items k [] → pos 1 ≤ℤ own_den width row
+pub den_up : (s : SparseTable) (k width : ℕ) (row : List Term) → IsSoundTable s → k ≤ length s.members.items → width ≡ width_of s → row ≡ slice_index_or s.rows.items k [] → pos 1 ≤ℤ own_den width row
 den_up s k width row sound within width_is row_is = subst (λ (t : List Term). pos 1 ≤ℤ own_den width t) (sym row_is) (subst (λ n. pos 1 ≤ℤ own_den n (slice_index_or s.rows.items k [])) (sym width_is) (own_row s k sound within).above)
 
 pub sparse_at : (n m : ℕ) (row : List Term) → n ≡ m → IsSparse 0 n row → IsSparse 0 m row

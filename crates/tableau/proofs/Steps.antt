@@ -8,7 +8,7 @@ use Rattle.sdc_base.proofs.WholeNumbers.{distrib, times_more, below_from_times}
 use Rattle.tableau.specs.Amounts.{value_of}
 use Rattle.tableau.specs.Tables.{Table, HasShape, IsQuotient, RowHolds, row_form, under_row, times_row, dot, form_at, exchanged_table}
 use Rattle.sdc_base.specs.Systems.{number_at}
-use Rattle.tableau.specs.Problems.{IsTrueOf, all_amounts, rows_of, numbers_of}
+use Rattle.tableau.specs.Problems.{IsTrueOf, all_amounts, rows_of, variable_count}
 use Rattle.tableau.specs.RowLists.{Leaves, RowsAreLexPositive, Rises, AreZeros, list_of, list_size}
 use Rattle.tableau.specs.Walks.{IsBasisOf, StepGivesTable, ExchangeKeepsBasis, DivisionKeepsBack}
 use Rattle.tableau.proofs.Dots.{dot-times, moved}
@@ -110,14 +110,14 @@ step_keeps problem table after row column d formed kept step =
     let shaped : HasShape after = shaped_part d whole after divided whole_shaped in
     let whole_den : pos 1 ≤ℤ whole.den = omega (arith, ints, times_more table.den (pos 0) p kept.above_zero (omega (arith, ints, leaves.above)), times_none table.den) in
     let den : pos 0 <ℤ after.den = below_from_times d (pos 0) after.den divided.divisor (omega (arith, ints, times_none d, divided.den, *ℤ_comm after.den d)) in
-    let whole_basis : IsBasisOf (numbers_of problem) whole.members whole.others = exchange_keeps_basis (numbers_of problem) table row column leaves.row_within step.enters.within kept.basis in
-    let first : IsBasisOf (numbers_of problem) after.members whole.others = subst (λ (t : List ℕ). IsBasisOf (numbers_of problem) t whole.others) (sym divided.members) whole_basis in
+    let whole_basis : IsBasisOf (variable_count problem) whole.members whole.others = exchange_keeps_basis (variable_count problem) table row column leaves.row_within step.enters.within kept.basis in
+    let first : IsBasisOf (variable_count problem) after.members whole.others = subst (λ (t : List ℕ). IsBasisOf (variable_count problem) t whole.others) (sym divided.members) whole_basis in
     let whole_true : IsTrueOf problem whole = λ amounts one. exchange_keeps table row column kept.shaped leaves.row_within step.enters.within (all_amounts problem amounts one) (value_of amounts problem.objective) one (kept.true_of amounts one) in
     let members_long : length after.members ≡ length whole.members = ap length divided.members in
     let size : length whole.members ≡ length table.members = length-set table.members row (slice_index table.others column) in
     let not_none : (k : ℕ) → k < length table.members → AreZeros (length (rows_of problem)) 1 (list_of problem whole k) → ⊥ = λ k below none.
     no_row_is_none problem whole k formed whole_shaped whole_den (omega arith)
-    (All-from_get_or (λ v. v < numbers_of problem) whole.others 0 whole_basis.others_below)
+    (All-from_get_or (λ v. v < variable_count problem) whole.others 0 whole_basis.others_below)
     (whole_basis.members_below k (omega arith))
     (All-from_get_or (λ v. v ≢ slice_index whole.members k) whole.others 0 (λ j j_below clash. whole_basis.apart k j (omega arith) j_below (sym clash)))
     whole_true
@@ -127,7 +127,7 @@ step_keeps problem table after row column d formed kept step =
         shaped = shaped;
         sized = record { members = members_long ∙ size ∙ kept.sized.members; others = ap length divided.others ∙ length-set table.others column (slice_index table.members row) ∙ kept.sized.others };
         above_zero = omega (arith, ints);
-        basis = subst (λ (t : List ℕ). IsBasisOf (numbers_of problem) after.members t) (sym divided.others) first;
+        basis = subst (λ (t : List ℕ). IsBasisOf (variable_count problem) after.members t) (sym divided.others) first;
         true_of = λ amounts one. division_keeps d whole after shaped divided (all_amounts problem amounts one) (value_of amounts problem.objective) one (whole_true amounts one);
         from_start = λ amounts objective one holds. division_keeps d whole after shaped divided amounts objective one (exchange_keeps table row column kept.shaped leaves.row_within step.enters.within amounts objective one (kept.from_start amounts objective one holds));
         to_start = λ amounts objective one holds. kept.to_start amounts objective one (exchange_keeps_back table row column kept.shaped leaves.row_within step.enters.within kept.above_zero leaves.above amounts objective one (division_keeps_back d whole after shaped divided amounts objective one holds));

@@ -5,7 +5,7 @@ use Rattle.std.proofs.lemmas.List.Elements.{All-get_or}
 use Rattle.tableau.specs.declared.problem.Problem.{Problem}
 use Rattle.tableau.specs.declared.problem.LinRow.{LinRow}
 use Rattle.tableau.specs.Tables.{Table}
-use Rattle.tableau.specs.Problems.{NamesColumns, rows_of, row_at, no_row, target_row, numbers_of}
+use Rattle.tableau.specs.Problems.{NamesColumns, rows_of, row_at, no_row, target_row, variable_count}
 use Rattle.tableau.specs.ProblemForm.{AreEntries, IsWellFormed}
 use Rattle.tableau.specs.Walks.{IsWalk, IsTableOf}
 use Rattle.tableau.proofs.Independent.{by_less}
@@ -69,5 +69,5 @@ reached_stays problem table reached can = absurd (omega (arith, ints, reached, c
 pub cannot_stays : (problem : Problem) (table : Table) → CannotImprove table → CanImprove problem table → ⊥
 cannot_stays problem table cannot can = absurd (omega (arith, ints, can.2.below, cannot can.1 can.2.within))
 
-pub well_formed_short : (problem : Problem) (n : ℕ) (table : Table) → IsWellFormed problem → IsWalk problem n table → n < 2 ^ numbers_of problem
+pub well_formed_short : (problem : Problem) (n : ℕ) (table : Table) → IsWellFormed problem → IsWalk problem n table → n < 2 ^ variable_count problem
 well_formed_short problem n table well_formed walk = walks_are_short problem n table (well_formed_problem problem well_formed) (well_formed_bounds problem well_formed) walk

@@ -18,8 +18,8 @@ abbrev pub rows_of : Problem → List LinRow
 rows_of problem = problem.rows ++ target_row problem ∷ []
 
 -- how many columns and slacks there are
-abbrev pub numbers_of : Problem → ℕ
-numbers_of problem = problem.columns + length (rows_of problem)
+abbrev pub variable_count : Problem → ℕ
+variable_count problem = problem.columns + length (rows_of problem)
 
 abbrev pub no_row : LinRow
 no_row = record { entries = []; bound = pos 0 }

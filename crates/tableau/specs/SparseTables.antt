@@ -28,7 +28,7 @@ factor_at table k = factor_of table.den (width_of table) (slice_index_or table.r
 
 -- rows are over dens of their own, and what is kept over the table's den are the members' values and the objective's
 -- numbers
-pub record IsSound (table : SparseTable) : Type 0 where
+pub record IsSoundTable (table : SparseTable) : Type 0 where
   pub rows : AreOwnRows table.den (width_of table) table.rows.items
   pub values : table.values.items ≡ member_values (table_of table)
   pub objective : table.objective.items ≡ (table_of table).objective

@@ -3,7 +3,7 @@ use Rattle.std.specs.Prelude.{◌≡◌, ◌≢◌, ℕ, zero, suc, ◌+◌, ◌
 use Rattle.std.specs.List.{list_any}
 use Rattle.tableau.specs.Tables.{Table, HasShape, IsQuotient, exchanged_table}
 use Rattle.tableau.specs.declared.problem.Problem.{Problem}
-use Rattle.tableau.specs.Problems.{NamesColumns, IsTrueOf, BoundsAreFromZero, rows_of, numbers_of, first_table}
+use Rattle.tableau.specs.Problems.{NamesColumns, IsTrueOf, BoundsAreFromZero, rows_of, variable_count, first_table}
 use Rattle.tableau.specs.RowLists.{RowsAreLexPositive, Rises, Implies}
 use Rattle.tableau.specs.Steps.{IsStep, IsStepOf, CanImprove}
 
@@ -39,7 +39,7 @@ pub record IsTableOf (problem : Problem) (table : Table) : Type 0 where
   pub shaped : HasShape table
   pub sized : HasSize problem table
   pub above_zero : pos 1 ≤ℤ table.den
-  pub basis : IsBasisOf (numbers_of problem) table.members table.others
+  pub basis : IsBasisOf (variable_count problem) table.members table.others
   pub true_of : IsTrueOf problem table
   pub from_start : Implies (first_table problem) table
   pub to_start : Implies table (first_table problem)
@@ -65,7 +65,7 @@ IsChain problem (after ∷ before ∷ tables) = IsStepOf problem before after ×
 -- no basis comes twice, so a chain has at most as many tables as there are sets of columns and slacks
 abbrev pub ChainsAreShort : Type 0
 ChainsAreShort = (problem : Problem) (tables : List Table) → NamesColumns problem → IsChain problem tables →
-    length tables ≤ 2 ^ numbers_of problem
+    length tables ≤ 2 ^ variable_count problem
 
 -- the first table is one, where bounds are 0 or more
 abbrev pub StartGivesTable : Type 0
@@ -88,7 +88,7 @@ WalkGivesTable = (problem : Problem) (n : ℕ) (table : Table) → NamesColumns 
 abbrev pub WalksAreShort : Type 0
 WalksAreShort = (problem : Problem) (n : ℕ) (table : Table) → NamesColumns problem →
     BoundsAreFromZero problem → IsWalk problem n table →
-    n < 2 ^ numbers_of problem
+    n < 2 ^ variable_count problem
 
 -- from a table there is at most one step
 abbrev pub StepIsOne : Type 0

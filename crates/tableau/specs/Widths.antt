@@ -5,7 +5,7 @@ use Rattle.tableau.specs.declared.problem.Problem.{Problem}
 use Rattle.tableau.specs.Tables.{Table}
 use Rattle.sdc_base.specs.Systems.{number_at}
 use Rattle.tableau.specs.TableLaws.{value}
-use Rattle.tableau.specs.Problems.{numbers_of}
+use Rattle.tableau.specs.Problems.{variable_count}
 use Rattle.tableau.specs.RowLists.{Leaves}
 use Rattle.tableau.specs.Steps.{Enters}
 
@@ -53,7 +53,7 @@ IsWidePlace table row column k j =
 -- a row is named by its member, and a place in it by its column or slack; the objective's row and the values' column
 -- have the number after the last slack
 abbrev pub name_in : Problem → List ℕ → ℕ → ℕ
-name_in problem names k = slice_index (names ++ numbers_of problem ∷ []) k
+name_in problem names k = slice_index (names ++ variable_count problem ∷ []) k
 
 -- the objective is below the target, and the exchange of the step from this table is wide at the place with these names
 pub record IsWideStep (problem : Problem) (table : Table) (named_row named_column : ℕ) : Type 0 where

@@ -5,7 +5,7 @@ ghost use Rattle.tableau.specs.ProblemForm.{AscendFrom};
 ghost use Rattle.tableau.specs.Entries.{IsSparse, AreEntriesBelow, crossed_value, crossed_products, crossed_at};
 ghost use Rattle.tableau.specs.OwnRows.{own_den};
 ghost use Rattle.tableau.specs.Widths.{is_wide, IsWidePlace};
-ghost use Rattle.tableau.specs.SparseTables.{table_of, width_of, IsSound};
+ghost use Rattle.tableau.specs.SparseTables.{table_of, width_of, IsSoundTable};
 ghost use Rattle.tableau.specs.NewRows.{placed_list, IsPivot, IsNewRow};
 
 use crate::common_divisor::gcd;
@@ -123,7 +123,7 @@ fn pivot_row(
     row: usize,
     column: usize,
 ) -> Result<Items<(u32, i128)>, ExchangeFault>
-    requires sound { IsSound table.now }
+    requires sound { IsSoundTable table.now }
     requires row { row < length table.now.members.items }
     requires column { column < length table.now.others.items }
     requires pivot { IsPivot table.now row column bare.now den p }
@@ -158,7 +158,7 @@ fn other_row(
     column: usize,
     k: usize,
 ) -> Result<Items<(u32, i128)>, ExchangeFault>
-    requires sound { IsSound table.now }
+    requires sound { IsSoundTable table.now }
     requires row { row < length table.now.members.items }
     requires column { column < length table.now.others.items }
     requires pivot { IsPivot table.now row column bare.now den p }
@@ -195,7 +195,7 @@ pub(crate) fn made_row(
     column: usize,
     k: usize,
 ) -> Result<Option<Items<(u32, i128)>>, ExchangeFault>
-    requires sound { IsSound table.now }
+    requires sound { IsSoundTable table.now }
     requires row { row < length table.now.members.items }
     requires column { column < length table.now.others.items }
     requires pivot { IsPivot table.now row column bare.now den p }

@@ -2,14 +2,14 @@ ghost use Rattle.std.specs.Prelude.{◌≡◌, ◌+◌, ◌<◌, length, IfSome,
 ghost use Rattle.tableau.specs.TableLaws.{CannotImprove};
 ghost use Rattle.tableau.specs.Steps.{Enters};
 ghost use Rattle.tableau.specs.Choices.{IsEntering};
-ghost use Rattle.tableau.specs.SparseTables.{table_of, IsSound};
+ghost use Rattle.tableau.specs.SparseTables.{table_of, IsSoundTable};
 
 use crate::sparse_rows::objective_number;
 use crate::sparse_table::SparseTable;
 
 // The place of the column or slack that comes in, none where no number in the objective's row is below 0.
 pub(crate) fn entering_place(table: &SparseTable) -> Option<usize>
-    requires { IsSound table.now }
+    requires { IsSoundTable table.now }
     ensures none { IfNone result (CannotImprove (table_of table.now)) }
     ensures enters { IfSome result (λ column. Enters (table_of table.now) column) }
 {
@@ -22,7 +22,7 @@ pub(crate) fn entering_place(table: &SparseTable) -> Option<usize>
 
 // What comes in among one place more.
 fn choose_entering(table: &SparseTable, best: Option<usize>, k: usize) -> Option<usize>
-    requires sound { IsSound table.now }
+    requires sound { IsSoundTable table.now }
     requires place { k < length table.now.others.items }
     requires best { IsEntering (table_of table.now) k best }
     ensures { IsEntering (table_of table.now) (k + 1) result }

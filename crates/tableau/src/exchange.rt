@@ -4,7 +4,7 @@ ghost use Rattle.sdc_base.specs.Systems.{number_at};
 ghost use Rattle.tableau.specs.Steps.{IsInLowestTerms};
 ghost use Rattle.tableau.specs.Widths.{IsWidePlace};
 ghost use Rattle.tableau.specs.NewRows.{AreNewRows, AreExchanged, placed_lists};
-ghost use Rattle.tableau.specs.SparseTables.{table_of, width_of, IsSound};
+ghost use Rattle.tableau.specs.SparseTables.{table_of, width_of, IsSoundTable};
 
 use crate::crossing::made_row;
 use crate::entries::entry_at;
@@ -34,7 +34,7 @@ fn new_rows(
     row: usize,
     column: usize,
 ) -> Result<Vec<Option<Items<(u32, i128)>>>, ExchangeFault>
-    requires sound { IsSound table.now }
+    requires sound { IsSoundTable table.now }
     requires row { row < length table.now.members.items }
     requires column { column < length table.now.others.items }
     requires above { pos 1 ≤ℤ number_at (slice_index_or (table_of table.now).rows row []) column }
@@ -70,7 +70,7 @@ fn exchanged_rows(
     row: usize,
     column: usize,
 ) -> Result<ExchangedRows, ExchangeFault>
-    requires sound { IsSound table.now }
+    requires sound { IsSoundTable table.now }
     requires row { row < length table.now.members.items }
     requires column { column < length table.now.others.items }
     requires above { pos 1 ≤ℤ number_at (slice_index_or (table_of table.now).rows row []) column }
@@ -112,13 +112,13 @@ pub(crate) fn exchange(
     row: usize,
     column: usize,
 ) -> Result<(), ExchangeFault>
-    requires sound { IsSound table.old }
+    requires sound { IsSoundTable table.old }
     requires row { row < length table.old.members.items }
     requires column { column < length table.old.others.items }
     requires above { pos 1 ≤ℤ number_at (slice_index_or (table_of table.old).rows row []) column }
     ensures ok { OnOk result ((d : ℤ) × IsInLowestTerms d (exchanged_table (table_of table.old) row column)
         (table_of table.new)) }
-    ensures sound { IsSound table.new }
+    ensures sound { IsSoundTable table.new }
     ensures err { OnErr result (table.new ≡ table.old) }
     ensures wide { (k j : ℕ) → result ≡ Err (ExchangeFault.Wide k j) → IsWidePlace (table_of table.old) row column k j }
 {

@@ -5,7 +5,7 @@ ghost use Rattle.tableau.specs.Problems.{first_table, numbers_then_value, rows_o
 ghost use Rattle.tableau.specs.ProblemForm.{AscendFrom, AreEntries, IsWellFormed};
 ghost use Rattle.tableau.specs.Entries.{AreEntriesOf, AreListsOf, row_of_entries};
 ghost use Rattle.tableau.specs.OwnRows.{with_den};
-ghost use Rattle.tableau.specs.SparseTables.{table_of, IsSound};
+ghost use Rattle.tableau.specs.SparseTables.{table_of, IsSoundTable};
 
 use crate::entries::{entry_at, number_here, past_place, put};
 use crate::problem::{LinRow, Problem};
@@ -129,7 +129,7 @@ fn names_from(alloc: Global, from: u32, count: u32) -> Result<Vec<u32>, Memory>
 pub(crate) fn make_first_table(alloc: Global, problem: &Problem) -> Result<SparseTable, Memory>
     requires { IsWellFormed problem.now }
     ensures table { IfOk result (λ sparse. table_of sparse ≡ first_table problem.now) }
-    ensures sound { IfOk result (λ sparse. IsSound sparse) }
+    ensures sound { IfOk result (λ sparse. IsSoundTable sparse) }
 {
     let rows = problem.rows.as_slice();
     let height = rows.len() as u32 + 1;

@@ -3,7 +3,7 @@ ghost use Rattle.sdc_base.specs.Systems.{number_at};
 ghost use Rattle.tableau.specs.RowLists.{Leaves};
 ghost use Rattle.tableau.specs.Walks.{IsTableOf};
 ghost use Rattle.tableau.specs.Choices.{IsLeaving, AreSlackPlaces};
-ghost use Rattle.tableau.specs.SparseTables.{table_of, IsSound};
+ghost use Rattle.tableau.specs.SparseTables.{table_of, IsSoundTable};
 
 use crate::lists::compare_lists;
 use crate::problem::Problem;
@@ -18,7 +18,7 @@ pub(crate) fn leaving_row(
     places: &[u32],
     column: usize,
 ) -> Option<usize>
-    requires sound { IsSound table.now }
+    requires sound { IsSoundTable table.now }
     requires kept { IsTableOf problem.now (table_of table.now) }
     requires places { AreSlackPlaces problem.now (table_of table.now) places.now }
     requires column { column < length table.now.others.items }
@@ -42,7 +42,7 @@ fn choose_leaving(
     best: Option<usize>,
     k: usize,
 ) -> Option<usize>
-    requires sound { IsSound table.now }
+    requires sound { IsSoundTable table.now }
     requires kept { IsTableOf problem.now (table_of table.now) }
     requires places { AreSlackPlaces problem.now (table_of table.now) places.now }
     requires column { column < length table.now.others.items }

@@ -4,7 +4,7 @@ ghost use Rattle.tableau.specs.RowLists.{IsLexPositive, AreZeros, list_of, list_
 ghost use Rattle.tableau.specs.Walks.{IsTableOf};
 ghost use Rattle.tableau.specs.ProblemForm.{IsWellFormed};
 ghost use Rattle.tableau.specs.Choices.{AreSlackPlaces};
-ghost use Rattle.tableau.specs.SparseTables.{table_of, factor_at, IsSound};
+ghost use Rattle.tableau.specs.SparseTables.{table_of, factor_at, IsSoundTable};
 
 use crate::problem::Problem;
 use crate::products::compare_products;
@@ -43,7 +43,7 @@ fn list_number(
     k: usize,
     place: usize,
 ) -> i128
-    requires sound { IsSound table.now }
+    requires sound { IsSoundTable table.now }
     requires kept { IsTableOf problem.now (table_of table.now) }
     requires places { AreSlackPlaces problem.now (table_of table.now) places.now }
     requires row { k < length table.now.members.items }
@@ -73,7 +73,7 @@ pub(crate) fn compare_lists(
     one: usize,
     other: usize,
 ) -> Ordering
-    requires sound { IsSound table.now }
+    requires sound { IsSoundTable table.now }
     requires kept { IsTableOf problem.now (table_of table.now) }
     requires places { AreSlackPlaces problem.now (table_of table.now) places.now }
     requires column { column < length table.now.others.items }

@@ -2,7 +2,7 @@ ghost use Rattle.std.specs.Prelude.{◌≡◌, ◌+◌, ◌<◌, length};
 ghost use Rattle.tableau.specs.Problems.{rows_of};
 ghost use Rattle.tableau.specs.Walks.{IsTableOf};
 ghost use Rattle.tableau.specs.Readings.{values_of, slacks_of};
-ghost use Rattle.tableau.specs.SparseTables.{table_of, IsSound};
+ghost use Rattle.tableau.specs.SparseTables.{table_of, IsSoundTable};
 
 use crate::problem::Problem;
 use crate::sparse_rows::{objective_number, value_at};
@@ -10,7 +10,7 @@ use crate::sparse_table::SparseTable;
 
 // Reads the values of the columns.
 pub(crate) fn read_values(values: &mut [i128], problem: &Problem, table: &SparseTable)
-    requires sound { IsSound table.now }
+    requires sound { IsSoundTable table.now }
     requires kept { IsTableOf problem.now (table_of table.now) }
     requires long { length values.old ≡ problem.now.columns }
     ensures { values.new ≡ values_of problem.now (table_of table.now) }
@@ -28,7 +28,7 @@ pub(crate) fn read_values(values: &mut [i128], problem: &Problem, table: &Sparse
 
 // Reads the objective's numbers at the slacks.
 pub(crate) fn read_slacks(slacks: &mut [i128], problem: &Problem, table: &SparseTable)
-    requires sound { IsSound table.now }
+    requires sound { IsSoundTable table.now }
     requires kept { IsTableOf problem.now (table_of table.now) }
     requires long { length slacks.old ≡ length (rows_of problem.now) }
     ensures { slacks.new ≡ slacks_of problem.now (table_of table.now) }

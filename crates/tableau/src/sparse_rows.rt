@@ -3,7 +3,7 @@ ghost use Rattle.sdc_base.specs.Forms.{coefficient};
 ghost use Rattle.tableau.specs.Entries.{IsSparse};
 ghost use Rattle.tableau.specs.OwnRows.{own_den};
 ghost use Rattle.sdc_base.specs.Systems.{number_at};
-ghost use Rattle.tableau.specs.SparseTables.{table_of, factor_at, IsSound};
+ghost use Rattle.tableau.specs.SparseTables.{table_of, factor_at, IsSoundTable};
 
 use crate::entries::{entry_at, number_here};
 use crate::sparse_table::SparseTable;
@@ -39,7 +39,7 @@ pub(crate) fn bare_row(entries: &[(u32, i128)], width: u32) -> &[(u32, i128)]
 
 // The number of a member's row at a place, over the row's own den; the value's place is the last.
 pub(crate) fn own_number(table: &SparseTable, k: usize, j: usize) -> i128
-    requires sound { IsSound table.now }
+    requires sound { IsSoundTable table.now }
     requires row { k < length table.now.members.items }
     requires place { j ≤ length table.now.others.items }
     ensures over { result *ℤ factor_at table.now k ≡ number_at (slice_index_or (table_of table.now).rows k []) j }
@@ -52,7 +52,7 @@ pub(crate) fn own_number(table: &SparseTable, k: usize, j: usize) -> i128
 
 // The own den of a member's row.
 pub(crate) fn row_den(table: &SparseTable, k: usize) -> i128
-    requires sound { IsSound table.now }
+    requires sound { IsSoundTable table.now }
     requires row { k < length table.now.members.items }
     ensures { result *ℤ factor_at table.now k ≡ table.now.den }
 {
@@ -61,7 +61,7 @@ pub(crate) fn row_den(table: &SparseTable, k: usize) -> i128
 
 // The value of a member's row.
 pub(crate) fn value_at(table: &SparseTable, k: usize) -> i128
-    requires sound { IsSound table.now }
+    requires sound { IsSoundTable table.now }
     requires row { k < length table.now.members.items }
     ensures { result ≡ number_at (slice_index_or (table_of table.now).rows k []) (length table.now.others.items) }
 {
@@ -70,7 +70,7 @@ pub(crate) fn value_at(table: &SparseTable, k: usize) -> i128
 
 // The number of the objective's row at a place, the value's being the last.
 pub(crate) fn objective_number(table: &SparseTable, j: usize) -> i128
-    requires sound { IsSound table.now }
+    requires sound { IsSoundTable table.now }
     requires place { j ≤ length table.now.others.items }
     ensures { result ≡ number_at (table_of table.now).objective j }
 {

@@ -3,7 +3,7 @@ ghost use Rattle.tableau.specs.ProblemForm.{IsWellFormed};
 ghost use Rattle.tableau.specs.Walks.{IsTableOf};
 ghost use Rattle.tableau.specs.Steps.{IsStepOf, IsReached, IsBlocked};
 ghost use Rattle.tableau.specs.Widths.{name_in, IsWideStep};
-ghost use Rattle.tableau.specs.SparseTables.{table_of, IsSound, NamesPlace};
+ghost use Rattle.tableau.specs.SparseTables.{table_of, IsSoundTable, NamesPlace};
 
 use crate::entering::entering_place;
 use crate::exchange::exchange;
@@ -19,7 +19,7 @@ use std::alloc::Global;
 
 // Whether the objective equals the target.
 pub(crate) fn is_reached(problem: &Problem, table: &SparseTable) -> bool
-    requires { IsSound table.now }
+    requires { IsSoundTable table.now }
     ensures { IsTrue result ↔ IsReached problem.now (table_of table.now) }
 {
     let value = objective_number(table, table.others.len());
@@ -68,11 +68,11 @@ pub(crate) fn make_step(
     alloc: Global,
 ) -> Result<Step, Memory>
     requires well_formed { IsWellFormed problem.now }
-    requires sound { IsSound table.old }
+    requires sound { IsSoundTable table.old }
     requires kept { IsTableOf problem.now (table_of table.old) }
     ensures improved { result ≡ Ok Step.Improved → IsStepOf problem.now (table_of table.old) (table_of table.new) }
     ensures same { result ≢ Ok Step.Improved → table.new ≡ table.old }
-    ensures sound { IsSound table.new }
+    ensures sound { IsSoundTable table.new }
     ensures kept { IsTableOf problem.now (table_of table.new) }
     ensures reached { IfOk result (λ step. (step ≡ Step.Reached) ↔ IsReached problem.now (table_of table.old)) }
     ensures blocked { IfOk result (λ step. (step ≡ Step.Blocked) ↔ IsBlocked problem.now (table_of table.old)) }

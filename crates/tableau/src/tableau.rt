@@ -1,6 +1,6 @@
 ghost use Rattle.std.specs.Prelude.{◌≡◌, ◌≢◌, ◌↔◌, ℕ, ◌+◌, ◌-◌, ◌^◌, ◌<◌, length, pos, ◌≤ℤ◌, Ok, IsTrue, IfOk};
 ghost use Rattle.tableau.specs.TableLaws.{CannotImprove};
-ghost use Rattle.tableau.specs.Problems.{first_table, numbers_of, number_for, AreDuals};
+ghost use Rattle.tableau.specs.Problems.{first_table, variable_count, number_for, AreDuals};
 ghost use Rattle.tableau.specs.ProblemForm.{IsWellFormed};
 ghost use Rattle.tableau.specs.Steps.{IsStepOf, CanImprove, IsReached, IsBlocked};
 ghost use Rattle.tableau.specs.Widths.{IsWideStep};
@@ -34,13 +34,13 @@ pub struct Tableau {
 
 impl Model for Tableau {
     ghost use Rattle.tableau.specs.Tableaus.{TableauWalk, tableau_walk, IsTableau};
-    ghost use Rattle.tableau.specs.SparseTables.{table_of, IsSound};
+    ghost use Rattle.tableau.specs.SparseTables.{table_of, IsSoundTable};
 
     ghost Value = { TableauWalk };
 
     ghost view = { λ t. tableau_walk t.problem t.improved (table_of t.table) };
 
-    ghost invariant = { λ t. IsSound t.table × IsTableau (tableau_walk t.problem t.improved (table_of t.table))
+    ghost invariant = { λ t. IsSoundTable t.table × IsTableau (tableau_walk t.problem t.improved (table_of t.table))
         t.values.items t.slacks.items };
 }
 
@@ -74,7 +74,7 @@ impl Tableau {
     pub fn improved(&self) -> u64
         ensures improved { result ≡ self.now.improved }
         ensures walk { IsTableauWalk self.now }
-        ensures short { result < 2 ^ numbers_of self.now.problem }
+        ensures short { result < 2 ^ variable_count self.now.problem }
     {
         let _ = &self.table;
         self.improved

@@ -14,7 +14,7 @@ pub(crate) fn give_rows(book: &mut Book, t: u32, first: u32, rows: &[Row])
     ensures { GaveRecords book.old book.new t first rows.now }
 {
     'rows: for row in rows {
-        let place = place_of(book, t, row);
+        let place = record_place(book, t, row);
         give_at(book, t, first, row, place.as_slice());
     }
 }
@@ -37,7 +37,7 @@ fn give_at(book: &mut Book, t: u32, first: u32, row: &Row, place: &[u32])
 }
 
 // A record's place in table t: its codes for the variables of the table.
-fn place_of(book: &Book, t: u32, row: &Row) -> Place
+fn record_place(book: &Book, t: u32, row: &Row) -> Place
     ensures { result ≡ codes_for row.now.codes (variables_of book.now t) }
 {
     match book.spans(t) {

@@ -263,7 +263,7 @@ fn agrees(answer: &Result<Vec<u8>, RowError>, expected: &Result<&[u8], RowError>
     }
 }
 
-fn at(number: u64, why: RowWhy) -> Result<&'static [u8], RowError> {
+fn row_error(number: u64, why: RowWhy) -> Result<&'static [u8], RowError> {
     Err(RowError::At { number, why })
 }
 
@@ -293,16 +293,16 @@ fn records_however_cut(rt: HostRuntime) -> Result<(), Fail> {
             b"a  1\r\n\r\n\nb 02\r\n",
             Ok(b"Total b a |2 1 1|1 2 1/0"),
         ),
-        (Shape::Flat, b"\n\na  1\n\nb 2", at(2, RowWhy::Short)),
+        (Shape::Flat, b"\n\na  1\n\nb 2", row_error(2, RowWhy::Short)),
         // a CR that no LF follows is a byte of its record
         (Shape::Flat, b"a  1\r", Ok(b"Total b a |2 1 1/0")),
-        (Shape::Flat, b"a  \r", at(1, RowWhy::BadNumber)),
-        (Shape::Flat, b"a -1\n", at(1, RowWhy::Negative)),
-        (Shape::Flat, b"a 1x\n", at(1, RowWhy::BadNumber)),
-        (Shape::Flat, b"a1.5\n", at(1, RowWhy::BadNumber)),
-        (Shape::Flat, b"a99\n", at(1, RowWhy::Short)),
+        (Shape::Flat, b"a  \r", row_error(1, RowWhy::BadNumber)),
+        (Shape::Flat, b"a -1\n", row_error(1, RowWhy::Negative)),
+        (Shape::Flat, b"a 1x\n", row_error(1, RowWhy::BadNumber)),
+        (Shape::Flat, b"a1.5\n", row_error(1, RowWhy::BadNumber)),
+        (Shape::Flat, b"a99\n", row_error(1, RowWhy::Short)),
         // a skipped record keeps its number, and nothing else in it is looked at
-        (Shape::Flat, b"a999\nb -1\n", at(2, RowWhy::Negative)),
+        (Shape::Flat, b"a999\nb -1\n", row_error(2, RowWhy::Negative)),
         (Shape::Levels, b"T 999\nTx   \n", Ok(b"T /2")),
         (
             Shape::Weighted,
@@ -318,43 +318,67 @@ fn records_however_cut(rt: HostRuntime) -> Result<(), Fail> {
         (
             Shape::WideLevels,
             b" A1  1\nA    2\n",
-            at(2, RowWhy::NotLeaf),
+            row_error(2, RowWhy::NotLeaf),
         ),
         (
             Shape::WideLevels,
             b" A1  1\nB    2\n",
             Ok(b"T A A1 B |2 1 1|3 2 1/0"),
         ),
-        (Shape::WideLevels, b"A 1  1\n", at(1, RowWhy::UnknownCode)),
-        (Shape::WideLevels, b"A12  1\n", at(1, RowWhy::UnknownCode)),
-        (Shape::WideLevels, b"Tx   1\n", at(1, RowWhy::UnknownCode)),
-        (Shape::WideLevels, b"T    1\n", at(1, RowWhy::NotLeaf)),
+        (
+            Shape::WideLevels,
+            b"A 1  1\n",
+            row_error(1, RowWhy::UnknownCode),
+        ),
+        (
+            Shape::WideLevels,
+            b"A12  1\n",
+            row_error(1, RowWhy::UnknownCode),
+        ),
+        (
+            Shape::WideLevels,
+            b"Tx   1\n",
+            row_error(1, RowWhy::UnknownCode),
+        ),
+        (
+            Shape::WideLevels,
+            b"T    1\n",
+            row_error(1, RowWhy::NotLeaf),
+        ),
         // an empty code stands below the total, and a code may end between two boundaries
         (Shape::Levels, b"    1\nB   2\n", Ok(b"T  B |1 1 1|2 2 1/0")),
-        (Shape::Levels, b"T   1\n", at(1, RowWhy::NotLeaf)),
-        (Shape::Levels, b"A1  1\nTx  1\n", at(2, RowWhy::UnknownCode)),
+        (Shape::Levels, b"T   1\n", row_error(1, RowWhy::NotLeaf)),
+        (
+            Shape::Levels,
+            b"A1  1\nTx  1\n",
+            row_error(2, RowWhy::UnknownCode),
+        ),
         // a code with others below it is looked for behind the last record
         (
             Shape::Levels,
             b"B1  1\nA   1\nA1  2\nA   1\n",
-            at(2, RowWhy::NotLeaf),
+            row_error(2, RowWhy::NotLeaf),
         ),
         (
             Shape::Levels,
             b"T 999\nB1  1\nA   1\nA1  2\n",
-            at(3, RowWhy::NotLeaf),
+            row_error(3, RowWhy::NotLeaf),
         ),
-        (Shape::Levels, b"A   1\nA1  2\nA1\n", at(3, RowWhy::Short)),
+        (
+            Shape::Levels,
+            b"A   1\nA1  2\nA1\n",
+            row_error(3, RowWhy::Short),
+        ),
         // the response before the codes
-        (Shape::Levels, b"Tx -1\n", at(1, RowWhy::Negative)),
+        (Shape::Levels, b"Tx -1\n", row_error(1, RowWhy::Negative)),
         (
             Shape::Listed,
             b"A1  1\nP2  2\n",
             Ok(b"T P1 A1 A2 P2 |2 1 1|4 2 1/0"),
         ),
-        (Shape::Listed, b"P1  1\n", at(1, RowWhy::NotLeaf)),
-        (Shape::Listed, b"T   1\n", at(1, RowWhy::NotLeaf)),
-        (Shape::Listed, b"A3  1\n", at(1, RowWhy::UnknownCode)),
+        (Shape::Listed, b"P1  1\n", row_error(1, RowWhy::NotLeaf)),
+        (Shape::Listed, b"T   1\n", row_error(1, RowWhy::NotLeaf)),
+        (Shape::Listed, b"A3  1\n", row_error(1, RowWhy::UnknownCode)),
         (
             Shape::Weighted,
             b"a              1    1.00\nb999999999999999999999.9\n",
@@ -368,28 +392,28 @@ fn records_however_cut(rt: HostRuntime) -> Result<(), Fail> {
         (
             Shape::Weighted,
             b"a              1   1.001\n",
-            at(1, RowWhy::BadNumber),
+            row_error(1, RowWhy::BadNumber),
         ),
         // the weight before the codes, behind the response
         (
             Shape::Weighted,
             b"a             -1    0.99\n",
-            at(1, RowWhy::Negative),
+            row_error(1, RowWhy::Negative),
         ),
         (
             Shape::Weighted,
             b"a              1    0.99\n",
-            at(1, RowWhy::LightWeight),
+            row_error(1, RowWhy::LightWeight),
         ),
         (
             Shape::Weighted,
             b"a              11000000.\n",
-            at(1, RowWhy::BadNumber),
+            row_error(1, RowWhy::BadNumber),
         ),
         (
             Shape::Weighted,
             b"a              1        \n",
-            at(1, RowWhy::BadNumber),
+            row_error(1, RowWhy::BadNumber),
         ),
         // decimals, and numbers of 15 and 16 digits
         (
@@ -405,53 +429,53 @@ fn records_however_cut(rt: HostRuntime) -> Result<(), Fail> {
         (
             Shape::Wide,
             b"x      9999999999999.99\nx     10000000000000.00\n",
-            at(2, RowWhy::BadNumber),
+            row_error(2, RowWhy::BadNumber),
         ),
         (
             Shape::Wide,
             b"x        10000000000000\n",
-            at(1, RowWhy::BadNumber),
+            row_error(1, RowWhy::BadNumber),
         ),
         (
             Shape::Wide,
             b"x                 1.500\n",
-            at(1, RowWhy::BadNumber),
+            row_error(1, RowWhy::BadNumber),
         ),
         (
             Shape::Wide,
             b"x                  1.5.\n",
-            at(1, RowWhy::BadNumber),
+            row_error(1, RowWhy::BadNumber),
         ),
         (
             Shape::Wide,
             b"x                     .\n",
-            at(1, RowWhy::BadNumber),
+            row_error(1, RowWhy::BadNumber),
         ),
         (
             Shape::Wide,
             b"x                    +1\n",
-            at(1, RowWhy::BadNumber),
+            row_error(1, RowWhy::BadNumber),
         ),
         (
             Shape::Wide,
             b"x                   -.5\n",
-            at(1, RowWhy::Negative),
+            row_error(1, RowWhy::Negative),
         ),
         (
             Shape::Wide,
             b"x                     -\n",
-            at(1, RowWhy::Negative),
+            row_error(1, RowWhy::Negative),
         ),
         (
             Shape::Wide,
             b"x                   1-5\n",
-            at(1, RowWhy::BadNumber),
+            row_error(1, RowWhy::BadNumber),
         ),
         // the total's code, also behind a skipped record that has it
         (
             Shape::Wide,
             b"x                     1\nTotal                 2\n",
-            at(2, RowWhy::NotLeaf),
+            row_error(2, RowWhy::NotLeaf),
         ),
         (
             Shape::Wide,
@@ -469,7 +493,7 @@ fn records_however_cut(rt: HostRuntime) -> Result<(), Fail> {
         (
             Shape::Two,
             b"a1b1c1 10\na1b1c2 10\na1b2c1 10\na1b2c1 10\na1b2c2 10\na1b2c2 20\na2b1c1  5\na2b1c1  5\na2b1c2 10\na2b1c2 10\na2b2c1 15\na2b2c2 10\na2b2c2 1",
-            at(13, RowWhy::Short),
+            row_error(13, RowWhy::Short),
         ),
     ] {
         for cut in 0..bytes.len() {
@@ -512,8 +536,11 @@ fn records_of_pieces(rt: HostRuntime) -> Result<(), Fail> {
             &[b"c", b"", b"  1\na  2\n", b"b  3"],
             Ok(b"Total b a c |3 1 1|2 2 1|1 3 1/0"),
         ),
-        (&[b"a  1\nb 2", b"\n", b"c  1\n"], at(2, RowWhy::Short)),
-        (&[b"a  1\nb 2\n", b"c 1\n"], at(2, RowWhy::Short)),
+        (
+            &[b"a  1\nb 2", b"\n", b"c  1\n"],
+            row_error(2, RowWhy::Short),
+        ),
+        (&[b"a  1\nb 2\n", b"c 1\n"], row_error(2, RowWhy::Short)),
     ];
     for (pieces, expected) in rows {
         assert_eq!(rt; agrees(&read_texts(alloc, pieces), &expected), true);
@@ -538,13 +565,13 @@ fn long_records(rt: HostRuntime) -> Result<(), Fail> {
         (1000, b"\n".as_slice(), Ok(b"Total b a |2 1 1/0".as_slice())),
         (1000, b"\r\n", Ok(b"Total b a |2 1 1/0")),
         (1000, b"", Ok(b"Total b a |2 1 1/0")),
-        (1001, b"\n", at(1, RowWhy::TooLong)),
-        (1001, b"\r\n", at(1, RowWhy::TooLong)),
-        (1001, b"", at(1, RowWhy::TooLong)),
-        (1000, b"\r", at(1, RowWhy::TooLong)),
+        (1001, b"\n", row_error(1, RowWhy::TooLong)),
+        (1001, b"\r\n", row_error(1, RowWhy::TooLong)),
+        (1001, b"", row_error(1, RowWhy::TooLong)),
+        (1000, b"\r", row_error(1, RowWhy::TooLong)),
         (999, b"\r", Ok(b"Total b a |2 1 1/0")),
         (999, b"\r\r\n", Ok(b"Total b a |2 1 1/0")),
-        (1000, b"\r\r\n", at(1, RowWhy::TooLong)),
+        (1000, b"\r\r\n", row_error(1, RowWhy::TooLong)),
     ] {
         let bytes = long_record(alloc, length, end)?;
         for (cut, size) in [(0, 1), (0, 2), (0, 3), (0, 7), (500, 7)] {
@@ -591,7 +618,7 @@ fn many_codes_by_levels(rt: HostRuntime) -> Result<(), Fail> {
     assert_eq!(rt;
         agrees(
             &read(alloc, Shape::Levels, &more, 0, 4096),
-            &at(4931, RowWhy::TooManyCodes)
+            &row_error(4931, RowWhy::TooManyCodes)
         ),
         true
     );
@@ -653,7 +680,7 @@ fn many_further_codes(rt: HostRuntime) -> Result<(), Fail> {
     assert_eq!(rt;
         agrees(
             &read(alloc, Shape::Wide, &more, 0, 4096),
-            &at(5000, RowWhy::TooManyCodes)
+            &row_error(5000, RowWhy::TooManyCodes)
         ),
         true
     );

@@ -140,7 +140,7 @@ fn least(
 }
 
 // The corners are these, in this order.
-fn are(corners: &Option<Vec<Corner>>, meant: &[(u32, bool)]) -> bool {
+fn are_corners(corners: &Option<Vec<Corner>>, meant: &[(u32, bool)]) -> bool {
     let Some(corners) = corners else {
         return false;
     };
@@ -174,7 +174,7 @@ fn is_linked(
     meant: &[(u32, bool)],
 ) -> Result<bool, Fail> {
     let corners = linked(alloc, hidden, cells, at, levels)?;
-    Ok(are(&corners, meant))
+    Ok(are_corners(&corners, meant))
 }
 
 // The corners of the least cube of the cell 1, 1, 1 of the three-way table.
@@ -194,7 +194,7 @@ fn is_cubic(
 ) -> Result<bool, Fail> {
     let cells = cells_of(alloc, &CUBIC, fixed, None)?;
     let corners = cubic(alloc, cells.as_slice(), levels)?;
-    Ok(are(&corners, meant))
+    Ok(are_corners(&corners, meant))
 }
 
 // The cells of the linked tables, of which that of the codes a1 and b2 is known to be from 48 to 52.

@@ -124,7 +124,7 @@ fn is_step(step: &PlanStep, meant: &Step<'_>) -> bool {
 }
 
 // The steps are these, in this order.
-fn are(trail: &Trail, meant: &[Step<'_>]) -> bool {
+fn are_steps(trail: &Trail, meant: &[Step<'_>]) -> bool {
     let steps = trail.steps.as_slice();
     if steps.len() != meant.len() {
         return false;
@@ -163,7 +163,7 @@ fn is_trail_in(
 ) -> Result<bool, Fail> {
     let mut book = linked(alloc, tables)?;
     let trail = planned(alloc, &mut book, cells, passes)?;
-    Ok(are(&trail, meant) && are_hidden(&book, hidden))
+    Ok(are_steps(&trail, meant) && are_hidden(&book, hidden))
 }
 
 // The first cells of the linked tables, of which that of the codes a1 and b2 is known to be from 48 to 52.
@@ -282,7 +282,7 @@ fn is_trail_of_industries(alloc: Global, passes: u32) -> Result<bool, Fail> {
     let trail = planned(alloc, &mut book, cells.as_slice(), passes)?;
     let first: Step<'_> = (0, &[0], 4, &[1, 4]);
     let second: Step<'_> = (0, &[1], 1, &[1, 3]);
-    Ok(are(&trail, &[first, second]) && are_hidden(&book, &[1, 3, 4, 5]))
+    Ok(are_steps(&trail, &[first, second]) && are_hidden(&book, &[1, 3, 4, 5]))
 }
 
 // Two levels of codes, in one pass and in two.

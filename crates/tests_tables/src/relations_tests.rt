@@ -13,7 +13,7 @@ use std::test::Fail;
 type Sum<'a> = (u32, &'a [u32]);
 
 // The relations are these, in this order.
-fn are(relations: &[Relation], sums: &[Sum<'_>]) -> bool {
+fn are_relations(relations: &[Relation], sums: &[Sum<'_>]) -> bool {
     if relations.len() != sums.len() {
         return false;
     }
@@ -130,7 +130,10 @@ fn two_way_table(rt: HostRuntime) -> Result<(), Fail> {
     let alloc = rt.alloc();
     let system = system_over(alloc, 2, &[&[0, 1]])?;
     assert_eq!(rt; system.cells, 9);
-    assert_eq!(rt; are(system.relations.as_slice(), &TWO_BY_TWO), true);
+    assert_eq!(rt;
+        are_relations(system.relations.as_slice(), &TWO_BY_TWO),
+        true
+    );
     for (hidden, numbers, sizes) in &TWO_WAY_GROUPS {
         assert_eq!(rt; are_grouped(alloc, &system, hidden, numbers, sizes)?, true);
     }
@@ -175,7 +178,7 @@ fn linked_tables(rt: HostRuntime) -> Result<(), Fail> {
     let alloc = rt.alloc();
     let system = system_over(alloc, 3, &[&[0, 1], &[0, 2]])?;
     assert_eq!(rt; system.cells, 15);
-    assert_eq!(rt; are(system.relations.as_slice(), &LINKED), true);
+    assert_eq!(rt; are_relations(system.relations.as_slice(), &LINKED), true);
     let hidden = [3, 4, 6, 7, 11, 13];
     assert_eq!(rt;
         are_grouped(alloc, &system, &hidden, &LINKED_GROUP, &[6])?,
@@ -198,7 +201,7 @@ fn two_levels(rt: HostRuntime) -> Result<(), Fail> {
     let system = system_of_regions(alloc)?;
     let sums: &[Sum<'_>] = &[(0, &[1, 4]), (1, &[2, 3]), (4, &[5])];
     assert_eq!(rt; system.cells, 6);
-    assert_eq!(rt; are(system.relations.as_slice(), sums), true);
+    assert_eq!(rt; are_relations(system.relations.as_slice(), sums), true);
     let below: &[Option<u32>] = &[None, None, Some(0), Some(0), None, Some(1)];
     assert_eq!(rt;
         are_grouped(alloc, &system, &[2, 3, 5], below, &[2, 1])?,

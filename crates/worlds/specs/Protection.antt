@@ -18,6 +18,6 @@ abbrev pub protection : System → List Cell → Hidden → List World → Prote
 protection system cells hidden worlds = record { system = system; cells = cells; hidden = hidden; worlds = worlds }
 
 -- the worlds have no fault, and the hidden set protects every primary cell to both sides
-pub record IsSound (p : Protection) : Type 0 where
+pub record IsSoundProtection (p : Protection) : Type 0 where
   pub checked : protect_fault p.system p.cells p.hidden.flags p.worlds ≡ Ok tt
   pub protecting : IsProtecting p.system p.cells p.hidden.flags

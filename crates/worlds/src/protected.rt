@@ -22,13 +22,13 @@ pub struct Protected<'a> {
 }
 
 impl<'a> Model for Protected<'a> {
-    ghost use Rattle.worlds.specs.Protection.{Protection, protection, IsSound};
+    ghost use Rattle.worlds.specs.Protection.{Protection, protection, IsSoundProtection};
 
     ghost Value = { Protection };
 
     ghost view = { λ p. protection p.system.now p.cells.now p.hidden p.worlds };
 
-    ghost invariant = { λ p. IsSound (protection p.system.now p.cells.now p.hidden p.worlds) };
+    ghost invariant = { λ p. IsSoundProtection (protection p.system.now p.cells.now p.hidden p.worlds) };
 }
 
 impl<'a> Protected<'a> {

@@ -4,7 +4,7 @@ ghost use Rattle.worlds.specs.ProtectFaults.{line_number, primary_shown, fixed_h
 use crate::faults::ProtectFault;
 use crate::pattern::Pattern;
 use crate::world::World;
-use crate::world_check::{first_fault, reaches};
+use crate::world_check::{first_world_fault, reaches};
 use sdc_base::{Cell, Side};
 
 // The first fault of a hidden set with worlds for its primary cells.
@@ -145,7 +145,7 @@ fn check_line(
     ensures exact { result ≡ line_fault pattern.now.system.now pattern.now.cells.now pattern.now.hidden.now.flags line
         (cell, side) world.now }
 {
-    if let Err(fault) = first_fault(pattern, world, scratch) {
+    if let Err(fault) = first_world_fault(pattern, world, scratch) {
         return Err(ProtectFault::World(number_of(line), fault));
     }
     if !reaches(&pattern.cells[cell as usize], side, cell, world) {

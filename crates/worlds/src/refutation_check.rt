@@ -90,11 +90,11 @@ pub fn check_refutation(
         cells,
         hidden,
     };
-    first_fault(&pattern, cell, side, multipliers, scratch)
+    first_refutation_fault(&pattern, cell, side, multipliers, scratch)
 }
 
 // The first fault of a refutation.
-fn first_fault(
+fn first_refutation_fault(
     pattern: &Pattern<'_>,
     cell: u32,
     side: Side,

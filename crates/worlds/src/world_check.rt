@@ -41,11 +41,11 @@ pub fn check_world(
         cells,
         hidden,
     };
-    first_fault(&pattern, world, scratch)
+    first_world_fault(&pattern, world, scratch)
 }
 
 // The first fault of a world.
-pub(crate) fn first_fault(
+pub(crate) fn first_world_fault(
     pattern: &Pattern<'_>,
     world: &World,
     scratch: &mut [i128],

@@ -1,10 +1,10 @@
 use Rattle.std.proofs.Common.{◌≡◌, length, drop}
-use Rattle.repair.specs.HidingOrder.{case}
+use Rattle.repair.specs.HidingOrder.{protected_case}
 use Rattle.attackers.specs.ExtraFaults.{guards_fault}
 use Rattle.attackers.proofs.accepting.check_guards.Given as goal
 
 abbrev pub invariant-loop-place : goal.invariant-loop-place
 invariant-loop-place l = record {
-  same : guards_fault (case l.system l.cells) l.all.flags l.place (drop l.place l.guards) ≡ guards_fault (case l.system l.cells) l.all.flags 0 l.guards;
+  same : guards_fault (protected_case l.system l.cells) l.all.flags l.place (drop l.place l.guards) ≡ guards_fault (protected_case l.system l.cells) l.all.flags 0 l.guards;
   long : length l.scratch ≡ l.system.cells;
 }

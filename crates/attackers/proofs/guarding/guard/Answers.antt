@@ -1,5 +1,5 @@
 use Rattle.std.proofs.Common.{◌∙◌, List, ℕ, length, ap}
-use Rattle.repair.specs.HidingOrder.{case}
+use Rattle.repair.specs.HidingOrder.{protected_case}
 use Rattle.repair.proofs.Concluding.{where_ok}
 use Rattle.repair.proofs.Corners.{length-prices}
 use Rattle.attackers.proofs.Concluding.{cannot_where}
@@ -11,4 +11,4 @@ guard_by-requires-clause-prices g c =
 
 pub returns-clause-cannot : goal.returns-clause-cannot
 returns-clause-cannot g c =
-    where_ok c.guard_by.result c.guard_by.ensures.guarded (λ found is. cannot_where (case c.args.system.now c.args.cells.now) c.args.soles.now c.args.protected.now.hidden.flags c.args.protected.now.worlds found is)
+    where_ok c.guard_by.result c.guard_by.ensures.guarded (λ found is. cannot_where (protected_case c.args.system.now c.args.cells.now) c.args.soles.now c.args.protected.now.hidden.flags c.args.protected.now.worlds found is)

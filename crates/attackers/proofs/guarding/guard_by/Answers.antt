@@ -1,10 +1,10 @@
 use Rattle.std.proofs.Common.{◌∙◌, IfErr, IfOk, List, All, sym, subst}
 use Rattle.sdc_base.specs.Signs.{AreSigns}
 use Rattle.sdc_base.specs.declared.system.System.{System}
-use Rattle.repair.specs.HidingOrder.{case}
+use Rattle.repair.specs.HidingOrder.{protected_case}
 use Rattle.attackers.specs.declared.attack.Attack.{Attack}
 use Rattle.attackers.specs.AttackOrder as order
-use Rattle.attackers.specs.GuardStops.{StopsAsTold}
+use Rattle.attackers.specs.GuardStops.{IsStopAsTold}
 use Rattle.attackers.specs.Guarding.{IsGuarded}
 use Rattle.attackers.specs.KnownCells.{IsAttack}
 use Rattle.attackers.specs.SiegeParts.{IsSiege}
@@ -27,11 +27,11 @@ resist_beside-requires-clause-of_system c = c.requires.of_system ∙ sym c.in-Ok
 
 pub returns-clause-guarded : goal.returns-clause-guarded
 returns-clause-guarded c =
-    subst (λ (own : System). IfOk c.resist_beside.result (IsGuarded (case own c.args.cells.now) c.args.soles.now c.args.protected.now.hidden.flags c.args.protected.now.worlds)) c.in-Ok-of.ensures c.resist_beside.ensures.guarded
+    subst (λ (own : System). IfOk c.resist_beside.result (IsGuarded (protected_case own c.args.cells.now) c.args.soles.now c.args.protected.now.hidden.flags c.args.protected.now.worlds)) c.in-Ok-of.ensures c.resist_beside.ensures.guarded
 
 pub returns-clause-stopped : goal.returns-clause-stopped
 returns-clause-stopped c =
-    subst (λ (own : System). IfErr c.resist_beside.result (StopsAsTold (case own c.args.cells.now) c.args.soles.now c.args.prices.now (order.attacks_of c.args.cells.now c.args.soles.now) c.args.protected.now.hidden.flags c.args.limit)) c.in-Ok-of.ensures c.resist_beside.ensures.stopped
+    subst (λ (own : System). IfErr c.resist_beside.result (IsStopAsTold (protected_case own c.args.cells.now) c.args.soles.now c.args.prices.now (order.attacks_of c.args.cells.now c.args.soles.now) c.args.protected.now.hidden.flags c.args.limit)) c.in-Ok-of.ensures c.resist_beside.ensures.stopped
 
 pub returns-clause-whole : goal.returns-clause-whole
 returns-clause-whole c = λ signs are.

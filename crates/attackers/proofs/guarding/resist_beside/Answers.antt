@@ -4,7 +4,7 @@ use Rattle.sdc_base.specs.declared.cell.Cell.{Cell}
 use Rattle.sdc_base.specs.declared.hidden.Hidden.{Hidden}
 use Rattle.sdc_base.specs.declared.system.System.{System}
 use Rattle.worlds.specs.ProtectFaults.{protect_fault}
-use Rattle.attackers.specs.GuardStops.{StopsAsTold}
+use Rattle.attackers.specs.GuardStops.{IsStopAsTold}
 use Rattle.attackers.specs.Narrowing.{IsOutcome}
 use Rattle.attackers.specs.Sieges.{case_of}
 use Rattle.attackers.proofs.Concluding.{guarded, stopped}
@@ -45,7 +45,7 @@ returns-clause-stopped c =
     let says : ProtectedSays siege.system.now siege.cells.now first c.args.protected.now.worlds = protected_says siege.system.now siege.cells.now first c.args.protected.now.worlds siege.fits.one_each fine in
     err_where c.resist.result c.resist.ensures.stopped (λ stop is.
     stopped siege first c.args.protected.now.worlds stop says c.requires.left
-    (subst (λ (h : Hidden). StopsAsTold (case_of siege) siege.soles.now siege.prices.now siege.attacks.now h.flags siege.limit stop) c.hidden.ensures.hidden is))
+    (subst (λ (h : Hidden). IsStopAsTold (case_of siege) siege.soles.now siege.prices.now siege.attacks.now h.flags siege.limit stop) c.hidden.ensures.hidden is))
 
 pub returns-clause-whole : goal.returns-clause-whole
 returns-clause-whole c = λ signs are.

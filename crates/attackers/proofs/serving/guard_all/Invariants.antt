@@ -1,9 +1,9 @@
-use Rattle.attackers.specs.Sieges.{IsReady, AreHeldBefore, IsExtendedUpTo}
+use Rattle.attackers.specs.Sieges.{IsReadySiege, AreHeldBefore, IsExtendedUpTo}
 use Rattle.attackers.proofs.serving.guard_all.Given as goal
 
 abbrev pub invariant-places : goal.invariant-places
 invariant-places l = record {
-  ready : IsReady l.siege l.scratch l.progress;
+  ready : IsReadySiege l.siege l.scratch l.progress;
   held : AreHeldBefore l.siege l.place l.progress;
   extended : IsExtendedUpTo l.siege l.place l.fn.progress.hidden.flags l.progress;
 }

@@ -1,10 +1,10 @@
 use Rattle.repair.specs.KeptWorlds.{shown_count}
-use Rattle.attackers.specs.Sieges.{IsReady, AreHeldBefore, StaysExtended}
+use Rattle.attackers.specs.Sieges.{IsReadySiege, AreHeldBefore, StaysExtended}
 use Rattle.attackers.proofs.serving.guard_at.Given as goal
 
 abbrev pub invariant-extras : goal.invariant-extras
 invariant-extras l = record {
-  ready : IsReady l.siege l.scratch l.progress;
+  ready : IsReadySiege l.siege l.scratch l.progress;
   held : AreHeldBefore l.siege l.place l.progress;
   extended : StaysExtended l.siege l.place l.fn.progress l.progress;
 }

@@ -1,7 +1,7 @@
 use Rattle.std.proofs.Common.{List, ℕ, Option, sym, subst, ◌∙◌}
 use Rattle.sdc_base.specs.declared.hidden.Hidden.{Hidden}
 use Rattle.attackers.specs.Guarding.{IsGuarded}
-use Rattle.repair.specs.HidingOrder.{case, prices_of}
+use Rattle.repair.specs.HidingOrder.{protected_case, prices_of}
 use Rattle.cell_guards.specs.GuardParts.{IsMadeOf}
 use Rattle.cell_guards.proofs.Concluding.{answer-comes, answer-whole, guard-of, has-text, stop-whole}
 use Rattle.cell_guards.proofs.Saying.{can-be-said}
@@ -9,7 +9,7 @@ use Rattle.cell_guards.proofs.guarding.guard_by.Goals as goal
 
 pub returns-in-Ok-clause-outcome : goal.returns-in-Ok-clause-outcome
 returns-in-Ok-clause-outcome g c =
-    let all = case c.args.system.now c.args.cells.now in
+    let all = protected_case c.args.system.now c.args.cells.now in
     let prices = prices_of c.args.cost c.args.cells.now c.args.book.now.marks in
     let guarded = subst (λ (soles : List (Option ℕ)). IsGuarded all soles c.args.protected.now.hidden.flags c.args.protected.now.worlds c.in-Ok.answer) c.deref.ensures.value c.in-Ok.ensures.guarded in
     let made = subst (λ (hidden : Hidden). IsMadeOf c.args.certificate hidden.flags c.in-Ok.answer c.guarded_by.result) c.hidden.ensures.hidden c.guarded_by.ensures in
@@ -19,7 +19,7 @@ returns-in-Ok-clause-outcome g c =
 
 pub returns-in-Ok-clause-text : goal.returns-in-Ok-clause-text
 returns-in-Ok-clause-text g c =
-    let all = case c.args.system.now c.args.cells.now in
+    let all = protected_case c.args.system.now c.args.cells.now in
     let prices = prices_of c.args.cost c.args.cells.now c.args.book.now.marks in
     let guarded = subst (λ (soles : List (Option ℕ)). IsGuarded all soles c.args.protected.now.hidden.flags c.args.protected.now.worlds c.in-Ok.answer) c.deref.ensures.value c.in-Ok.ensures.guarded in
     let made = subst (λ (hidden : Hidden). IsMadeOf c.args.certificate hidden.flags c.in-Ok.answer c.guarded_by.result) c.hidden.ensures.hidden c.guarded_by.ensures in
@@ -33,4 +33,4 @@ returns-in-Ok-clause-whole g c = λ signs are.
 
 pub returns-clause-whole : goal.returns-clause-whole
 returns-clause-whole g c = λ signs are.
-    stop-whole (case c.args.system.now c.args.cells.now) c.args.certificate _ c.in-Err.stop c.stopped_by.result (c.in-Err.ensures.whole_stop signs are) c.stopped_by.ensures
+    stop-whole (protected_case c.args.system.now c.args.cells.now) c.args.certificate _ c.in-Err.stop c.stopped_by.result (c.in-Err.ensures.whole_stop signs are) c.stopped_by.ensures

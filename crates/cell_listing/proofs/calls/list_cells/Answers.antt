@@ -1,7 +1,7 @@
 use Rattle.std.proofs.Common.{◌≡◌, ℕ, List, Err, sym, subst}
 use Rattle.std.proofs.lemmas.Result.{err_from_is_err_and}
 use Rattle.job_inputs.proofs.Causes.{come-on}
-use Rattle.job_inputs.specs.Looks.{ComesTo}
+use Rattle.job_inputs.specs.Looks.{InputsComeTo}
 use Rattle.job_inputs.specs.Reading.{HasComeTo}
 use Rattle.job_inputs.specs.declared.purpose.Purpose.TheVariants as purpose
 use Rattle.job_inputs.specs.declared.stop.InputStop.{InputStop}
@@ -16,5 +16,5 @@ returns-in_err-bytes-clause-came_to g c =
     let given = c.in-Some.ensures in
     let same : e ≡ why = cc in
     let name : c.in-Some.name.now ≡ x = cc in
-    subst (λ (stop : InputStop). HasComeTo {X = Unit {0}} (ComesTo purpose.Release fs x) (Err stop) fs new) (sym same)
-    (come-on why (ComesTo purpose.Release fs c.in-Some.name.now) (ComesTo purpose.Release fs x) fs new (λ f held comes. subst (λ (n : List ℕ). ComesTo purpose.Release fs n f held) name comes) (c.in_err-bytes.ensures.looked.came_to fs told))
+    subst (λ (stop : InputStop). HasComeTo {X = Unit {0}} (InputsComeTo purpose.Release fs x) (Err stop) fs new) (sym same)
+    (come-on why (InputsComeTo purpose.Release fs c.in-Some.name.now) (InputsComeTo purpose.Release fs x) fs new (λ f held comes. subst (λ (n : List ℕ). InputsComeTo purpose.Release fs n f held) name comes) (c.in_err-bytes.ensures.looked.came_to fs told))

@@ -3,7 +3,7 @@ use Rattle.cost_rule.specs.Costs.{AreCosted}
 use Rattle.linked_tables.specs.declared.mark.Mark.{Mark}
 use Rattle.modular_plan.specs.Plans.{trail_of}
 use Rattle.modular_plan.proofs.SameBooks.{same-costed}
-use Rattle.repair.specs.HidingOrder.{case, prices_of}
+use Rattle.repair.specs.HidingOrder.{protected_case, prices_of}
 use Rattle.cell_protection.specs.Protections.{HasText, IsProtectionOf, protection_by}
 use Rattle.modular_plan.specs.Methods.{passes_of}
 use Rattle.cell_protection.specs.declared.protection.Protection.{Protection}
@@ -25,7 +25,7 @@ returns-clause-outcome g c =
 
 pub returns-in-Ok-clause-outcome : goal.returns-in-Ok-clause-outcome
 returns-in-Ok-clause-outcome g c =
-    let all = case c.args.system.now c.args.cells.now in
+    let all = protected_case c.args.system.now c.args.cells.now in
     let Outcome : Protection → Type 0 = IsProtectionOf all (prices_of c.args.cost c.args.cells.now c.args.book.now.marks) c.args.method (trail_of c.args.book.now c.args.cells.now c.args.cost (passes_of c.args.method)) c.args.limit in
     let by = protection_by c.args.method all c.in_ok-trail.trail.steps c.in-Ok.verdict in
     if-ok (λ made. made ≡ by) Outcome c.certificate_of.result
@@ -36,7 +36,7 @@ returns-in-Ok-clause-outcome g c =
 
 pub returns-in-Ok-clause-text : goal.returns-in-Ok-clause-text
 returns-in-Ok-clause-text g c =
-    let all = case c.args.system.now c.args.cells.now in
+    let all = protected_case c.args.system.now c.args.cells.now in
     let by = protection_by c.args.method all c.in_ok-trail.trail.steps c.in-Ok.verdict in
     if-ok (λ made. made ≡ by) HasText c.certificate_of.result
     (λ made is. subst HasText (sym is)

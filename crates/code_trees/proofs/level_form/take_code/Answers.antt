@@ -10,25 +10,25 @@ use Rattle.code_trees.proofs.level_form.take_code.Goals as goal
 
 pub returns-then-is_some-clause-told : goal.returns-then-is_some-clause-told
 returns-then-is_some-clause-told c =
-    level-fault-by c.args.total.now c.args.bounds.now c.args.seen.now c.args.kept.now.keys c.args.code.now c.args.number false false true _ (sym c.has_blank.ensures ∙ c.if-has_blank.false) (sym c.reaches.ensures ∙ c.if-reaches.false)
-    (ap (λ (o : Option ℕ). is_some o) (sym c.place_of.ensures.place) ∙ sym c.is_some.ensures ∙ c.if-is_some.true) refl
+    level-fault-by c.args.total.now c.args.bounds.now c.args.seen.now c.args.kept.now.keys c.args.code.now c.args.number false false true _ (sym c.has_blank.ensures ∙ c.if-has_blank.false) (sym c.begins_with_total.ensures ∙ c.if-begins_with_total.false)
+    (ap (λ (o : Option ℕ). is_some o) (sym c.code_place.ensures.place) ∙ sym c.is_some.ensures ∙ c.if-is_some.true) refl
 
 pub returns-then-len-gt-MOST-clause-told : goal.returns-then-len-gt-MOST-clause-told
 returns-then-len-gt-MOST-clause-told c =
     let over : nat_lt 5000 (length (with_prefixes c.args.bounds.now c.args.kept.now.keys c.args.code.now)) ≡ true = is_over 5000 _ (omega (arith, ap length c.in_ok-add_prefixes.ensures.kept)) in
-    level-fault-by c.args.total.now c.args.bounds.now c.args.seen.now c.args.kept.now.keys c.args.code.now c.args.number false false false true (sym c.has_blank.ensures ∙ c.if-has_blank.false) (sym c.reaches.ensures ∙ c.if-reaches.false)
-    (ap (λ (o : Option ℕ). is_some o) (sym c.place_of.ensures.place) ∙ sym c.is_some.ensures ∙ c.if-is_some.false) over
+    level-fault-by c.args.total.now c.args.bounds.now c.args.seen.now c.args.kept.now.keys c.args.code.now c.args.number false false false true (sym c.has_blank.ensures ∙ c.if-has_blank.false) (sym c.begins_with_total.ensures ∙ c.if-begins_with_total.false)
+    (ap (λ (o : Option ℕ). is_some o) (sym c.code_place.ensures.place) ∙ sym c.is_some.ensures ∙ c.if-is_some.false) over
 
 pub returns-clause-told : goal.returns-clause-told
 returns-clause-told c =
     let over : nat_lt 5000 (length (with_prefixes c.args.bounds.now c.args.kept.now.keys c.args.code.now)) ≡ false = not_over 5000 _ (omega (arith, ap length c.in_ok-add_prefixes.ensures.kept)) in
-    level-fault-by c.args.total.now c.args.bounds.now c.args.seen.now c.args.kept.now.keys c.args.code.now c.args.number false false false false (sym c.has_blank.ensures ∙ c.if-has_blank.false) (sym c.reaches.ensures ∙ c.if-reaches.false)
-    (ap (λ (o : Option ℕ). is_some o) (sym c.place_of.ensures.place) ∙ sym c.is_some.ensures ∙ c.if-is_some.false) over
+    level-fault-by c.args.total.now c.args.bounds.now c.args.seen.now c.args.kept.now.keys c.args.code.now c.args.number false false false false (sym c.has_blank.ensures ∙ c.if-has_blank.false) (sym c.begins_with_total.ensures ∙ c.if-begins_with_total.false)
+    (ap (λ (o : Option ℕ). is_some o) (sym c.code_place.ensures.place) ∙ sym c.is_some.ensures ∙ c.if-is_some.false) over
 
 pub returns-clause-apart : goal.returns-clause-apart
 returns-clause-apart c =
     ap (list_any (bytes_eq c.args.total.now)) c.in_ok-add_prefixes.ensures.kept
-    ∙ none-with (bytes_eq c.args.total.now) c.args.bounds.now c.args.kept.now.keys c.args.code.now c.requires (sym c.reaches.ensures ∙ c.if-reaches.false)
+    ∙ none-with (bytes_eq c.args.total.now) c.args.bounds.now c.args.kept.now.keys c.args.code.now c.requires (sym c.begins_with_total.ensures ∙ c.if-begins_with_total.false)
 
 pub returns-clause-among : goal.returns-clause-among
 returns-clause-among c = λ among.

@@ -4,7 +4,7 @@ use Rattle.plain_text.specs.Reading.{LinesView}
 use Rattle.sdc_base.specs.Trees.{Tree}
 use Rattle.hierarchy.specs.Lead.{lead_lines}
 use Rattle.code_trees.specs.Path.{IsPath}
-use Rattle.hierarchy.specs.LeadPath.{read_on}
+use Rattle.hierarchy.specs.LeadPath.{tree_with_lines}
 use Rattle.code_trees.proofs.Paths.{path-total}
 use Rattle.hierarchy.proofs.LeadPaths.{same-start}
 use Rattle.hierarchy.proofs.lead_form.from_lead.Goals as goal
@@ -21,9 +21,9 @@ lines-init c =
       path = subst (λ (tree : Tree). IsPath tree c.push.new.self.items) (sym nodes) (subst (IsPath start) (sym items) (path-total total));
       numbers = ap (λ (reader : LinesView). reader.given + length (lines reader.rest)) c.lines-reader.ensures.start ∙ (omega arith);
       rest = same-start total left
-          ∙ ap (λ (tree : Tree). read_on tree (0 ∷ []) left) (sym nodes)
-          ∙ ap (λ (path : List ℕ). read_on c.in_ok-nodes.nodes path left) (sym items)
-          ∙ ap (λ (reader : LinesView). read_on c.in_ok-nodes.nodes c.push.new.self.items (lead_lines c.args.lead.now (reader.given + 1) (lines reader.rest))) (sym c.lines-reader.ensures.start);
+          ∙ ap (λ (tree : Tree). tree_with_lines tree (0 ∷ []) left) (sym nodes)
+          ∙ ap (λ (path : List ℕ). tree_with_lines c.in_ok-nodes.nodes path left) (sym items)
+          ∙ ap (λ (reader : LinesView). tree_with_lines c.in_ok-nodes.nodes c.push.new.self.items (lead_lines c.args.lead.now (reader.given + 1) (lines reader.rest))) (sym c.lines-reader.ensures.start);
     }
 
 pub overflow_cast-line : goal.overflow_cast-line

@@ -6,7 +6,7 @@ use Rattle.job_check.proofs.Judgements.{flaw-comes, judged-cause, judged-comes-t
 use Rattle.job_check.proofs.ReleaseReading.{ok-and}
 use Rattle.job_check.specs.Accepted.{AnswersAccepted}
 use Rattle.job_check.specs.Answers.{AnswersRelease, stop_of}
-use Rattle.job_check.specs.Reading.{ComesTo, IsReleasedOf}
+use Rattle.job_check.specs.Reading.{ReleaseComesTo, IsReleasedOf}
 use Rattle.job_check.specs.ReleaseFiles.{ReleasedFiles, released_of}
 use Rattle.job_check.specs.declared.stop.CheckStop.TheVariants as stop
 use Rattle.job_check.proofs.checking.accepted_release.Goals as goal
@@ -30,7 +30,7 @@ returns-in_err-judge-clause-came_to g c =
     λ fs told.
     let p = err_from_is_err_and c.from_residual-in_err-judge.result c.from_residual-in_err-judge.ensures.1 in
     let why = c.in_err-judge.field-0.0 in
-    rw (p.1, p.2) (λ e is. let same : stop_of why ≡ stop.Inputs e = cc in judged-comes-to why e (ComesTo fs c.args.name.now) fs (g.S.Shelf.state c.read_release.new.shelf) same)
+    rw (p.1, p.2) (λ e is. let same : stop_of why ≡ stop.Inputs e = cc in judged-comes-to why e (ReleaseComesTo fs c.args.name.now) fs (g.S.Shelf.state c.read_release.new.shelf) same)
 
 pub returns-in_err-judge-clause-cause : goal.returns-in_err-judge-clause-cause
 returns-in_err-judge-clause-cause g c =

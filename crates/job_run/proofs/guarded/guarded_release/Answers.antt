@@ -11,4 +11,4 @@ returns-clause-comes c = λ settled is.
     let job = c.args.job in
     c.guard_parts.ensures.comes job.records job.skipped settled
     (parts-settled settled job c.as_slice.result.now c.as_slice-2.result.now c.as_slice.ensures c.as_slice-2.ensures is)
-    (c.numbers_of-summary.ensures settled is)
+    (c.unhidden_summary-summary.ensures settled is)

@@ -22,4 +22,4 @@ returns-clause-comes c = λ settled is.
       records = job.records;
       skipped = job.skipped;
     })) (sym c.as_slice.ensures) is in
-    c.suppress_parts.ensures.comes job.rows job.records job.skipped settled parts (c.numbers_of-summary.ensures settled is)
+    c.suppress_parts.ensures.comes job.rows job.records job.skipped settled parts (c.unhidden_summary-summary.ensures settled is)

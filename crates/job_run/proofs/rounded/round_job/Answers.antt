@@ -60,4 +60,4 @@ returns-clause-comes c = λ settled is.
     c.empty_certificate-certificate.ensures c.in_ok-puts.ensures.read_back
     (c.in_ok-puts.ensures.puts settled.inputs (sym is.described) is.book
     ∙ ap (λ (values : List ℤ). puts_of settled.inputs (value_in settled.inputs values) certificate) c.values-values.ensures.values)
-    (c.numbers_of-summary.ensures settled is)
+    (c.unhidden_summary-summary.ensures settled is)

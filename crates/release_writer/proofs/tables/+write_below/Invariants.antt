@@ -1,5 +1,5 @@
 use Rattle.std.proofs.Common.{◌≡◌, ◌++◌, ◌-◌, length, option_map}
-use Rattle.release_writer.specs.Lines.{IsReady, bytes_written}
+use Rattle.release_writer.specs.Lines.{IsReadyWriter, bytes_written}
 use Rattle.release_writer.proofs.BegunPlaces.{lines_begun}
 use Rattle.release_writer.proofs.tables.+write_below.Given as goal
 
@@ -8,6 +8,6 @@ decreases-write_below l = length l.page.now.table.now - length l.place.now
 
 abbrev pub invariant-codes : goal.invariant-codes
 invariant-codes l = record {
-  ready : IsReady l.writer;
+  ready : IsReadyWriter l.writer;
   text : bytes_written l.writer ≡ option_map (λ text. text ++ lines_begun l.page.book.now l.page.table.now l.page.decimals l.page.shown l.place l.code) (bytes_written l.fn.writer);
 }

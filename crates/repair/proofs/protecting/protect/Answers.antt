@@ -2,9 +2,9 @@ use Rattle.std.proofs.Common.{◌∙◌, IfErr, IfOk, List, Bool, ℕ, length, a
 use Rattle.sdc_base.specs.HiddenSets.{IsPermitted}
 use Rattle.sdc_base.specs.Trails.{corners_of}
 use Rattle.sdc_base.specs.declared.system.System.{System}
-use Rattle.repair.specs.HidingOrder.{case, planned_set}
+use Rattle.repair.specs.HidingOrder.{protected_case, planned_set}
 use Rattle.repair.specs.KeptWorlds.{IsTask}
-use Rattle.repair.specs.Stops.{StopsAsTold}
+use Rattle.repair.specs.Stops.{IsStopAsTold}
 use Rattle.repair.specs.Verdicts.{IsVerdict}
 use Rattle.repair.specs.declared.stopped.Stopped.{Stopped}
 use Rattle.repair.specs.declared.verdict.Verdict.{Verdict}
@@ -25,25 +25,25 @@ invariant_of-task g c = record {
   });
 }
 
-pub settle-requires-clause-each : goal.settle-requires-clause-each
-settle-requires-clause-each g c =
+pub repaired_verdict-requires-clause-each : goal.repaired_verdict-requires-clause-each
+repaired_verdict-requires-clause-each g c =
     ap (λ (l : List Bool). length l) c.in-Ok-planned_hidden.ensures
     ∙ ap (λ steps. length (planned_set c.args.cells.now (corners_of steps))) c.as_slice.ensures
     ∙ planned_length c.args.cells.now (corners_of c.args.trail.now.steps) ∙ c.requires.cells ∙ ap (λ (own : System). own.cells) (sym c.in-Ok-of.ensures)
 
-pub settle-requires-clause-permitted : goal.settle-requires-clause-permitted
-settle-requires-clause-permitted g c =
+pub repaired_verdict-requires-clause-permitted : goal.repaired_verdict-requires-clause-permitted
+repaired_verdict-requires-clause-permitted g c =
     subst (IsPermitted c.args.cells.now) (sym (c.in-Ok-planned_hidden.ensures ∙ ap (λ steps. planned_set c.args.cells.now (corners_of steps)) c.as_slice.ensures))
     (planned_permitted c.args.cells.now (corners_of c.args.trail.now.steps) c.requires.corners)
 
 pub returns-clause-cannot : goal.returns-clause-cannot
 returns-clause-cannot g c =
-    where_ok c.settle.result (subst (λ (own : System). IfOk c.settle.result (λ (verdict : Verdict). IsVerdict (case own c.args.cells.now) c.deref.result.now c.in-Ok-planned_hidden.hidden.flags verdict)) c.in-Ok-of.ensures c.settle.ensures.verdict) (λ verdict is. cannot_where (case c.args.system.now c.args.cells.now) c.deref.result.now c.in-Ok-planned_hidden.hidden.flags verdict is)
+    where_ok c.repaired_verdict.result (subst (λ (own : System). IfOk c.repaired_verdict.result (λ (verdict : Verdict). IsVerdict (protected_case own c.args.cells.now) c.deref.result.now c.in-Ok-planned_hidden.hidden.flags verdict)) c.in-Ok-of.ensures c.repaired_verdict.ensures.verdict) (λ verdict is. cannot_where (protected_case c.args.system.now c.args.cells.now) c.deref.result.now c.in-Ok-planned_hidden.hidden.flags verdict is)
 
 pub returns-clause-whole : goal.returns-clause-whole
 returns-clause-whole g c =
-    where_whole (case c.args.system.now c.args.cells.now) c.deref.result.now c.in-Ok-planned_hidden.hidden.flags c.settle.result (subst (λ (own : System). IfOk c.settle.result (λ (verdict : Verdict). IsVerdict (case own c.args.cells.now) c.deref.result.now c.in-Ok-planned_hidden.hidden.flags verdict)) c.in-Ok-of.ensures c.settle.ensures.verdict)
+    where_whole (protected_case c.args.system.now c.args.cells.now) c.deref.result.now c.in-Ok-planned_hidden.hidden.flags c.repaired_verdict.result (subst (λ (own : System). IfOk c.repaired_verdict.result (λ (verdict : Verdict). IsVerdict (protected_case own c.args.cells.now) c.deref.result.now c.in-Ok-planned_hidden.hidden.flags verdict)) c.in-Ok-of.ensures c.repaired_verdict.ensures.verdict)
 
 pub returns-clause-whole_stop : goal.returns-clause-whole_stop
 returns-clause-whole_stop g c =
-    where_whole_stop (case c.args.system.now c.args.cells.now) c.deref.result.now c.in-Ok-planned_hidden.hidden.flags c.args.limit c.settle.result (subst (λ (own : System). IfErr c.settle.result (λ (stopped : Stopped). StopsAsTold (case own c.args.cells.now) c.deref.result.now c.in-Ok-planned_hidden.hidden.flags c.args.limit stopped)) c.in-Ok-of.ensures c.settle.ensures.stopped)
+    where_whole_stop (protected_case c.args.system.now c.args.cells.now) c.deref.result.now c.in-Ok-planned_hidden.hidden.flags c.args.limit c.repaired_verdict.result (subst (λ (own : System). IfErr c.repaired_verdict.result (λ (stopped : Stopped). IsStopAsTold (protected_case own c.args.cells.now) c.deref.result.now c.in-Ok-planned_hidden.hidden.flags c.args.limit stopped)) c.in-Ok-of.ensures c.repaired_verdict.ensures.stopped)

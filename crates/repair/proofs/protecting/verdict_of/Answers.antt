@@ -2,7 +2,7 @@ use Rattle.std.proofs.Common.{◌≡◌, ◌∙◌, Ok, Err, ap, sym, subst}
 use Rattle.sdc_base.specs.declared.system.System.{System}
 use Rattle.worlds.specs.Protection.{Protection, protection}
 use Rattle.worlds.specs.ProtectFaults.{protect_fault, IsProtecting}
-use Rattle.repair.specs.HidingOrder.{Case, case, hide_subjects}
+use Rattle.repair.specs.HidingOrder.{Case, protected_case, hide_subjects}
 use Rattle.repair.specs.Verdicts.{AreNeeds}
 use Rattle.repair.proofs.Passing.{served_pass}
 use Rattle.repair.proofs.Concluding.{protected_by}
@@ -10,7 +10,7 @@ use Rattle.repair.proofs.protecting.verdict_of.Goals as goal
 
 pub unreachable-requires : goal.unreachable-requires
 unreachable-requires c =
-    let task : Case = case c.args.task.now.system.now c.args.task.now.cells.now in
+    let task : Case = protected_case c.args.task.now.system.now c.args.task.now.cells.now in
     let ok : protect_fault c.args.task.now.system.now c.args.task.now.cells.now c.args.progress.hidden.flags c.args.progress.worlds ≡ Ok tt = served_pass task c.args.progress.hidden.flags c.args.progress.worlds c.args.task.now.fits.one_each c.requires.permitted c.requires.served in
     let bad : Err c.in-Err.field-0 ≡ Ok tt = sym c.in-Err.ensures.err ∙ ap (λ (own : System). protect_fault own c.args.task.now.cells.now c.args.progress.hidden.flags c.args.progress.worlds) c.system.ensures ∙ ok in
     cc
@@ -18,7 +18,7 @@ unreachable-requires c =
 pub returns : goal.returns
 returns c =
     λ planned narrowed.
-    let task : Case = case c.args.task.now.system.now c.args.task.now.cells.now in
+    let task : Case = protected_case c.args.task.now.system.now c.args.task.now.cells.now in
     let value : c.in-Ok.protected ≡ protection c.args.task.now.system.now c.args.task.now.cells.now c.args.progress.hidden c.args.progress.worlds =
     subst (λ (own : System). c.in-Ok.protected ≡ protection own c.args.task.now.cells.now c.args.progress.hidden c.args.progress.worlds) c.system.ensures c.in-Ok.ensures.value in
     let protecting : IsProtecting c.args.task.now.system.now c.args.task.now.cells.now c.args.progress.hidden.flags =

@@ -1,7 +1,7 @@
 use Rattle.std.proofs.Common.{◌++◌, ◌∷◌, [], All, length, sym, subst}
 use Rattle.worlds.specs.ProtectFaults.{asked_of}
 use Rattle.repair.specs.declared.trial.Spare.{Spare}
-use Rattle.repair.specs.HidingOrder.{Case, case, hide_subjects}
+use Rattle.repair.specs.HidingOrder.{Case, protected_case, hide_subjects}
 use Rattle.repair.specs.CellTrials.{AreKept, IsSpare, AreSpare, IsTrialAnswer}
 use Rattle.repair.specs.OnTheWay.{IsOnWay, AreAnswers}
 use Rattle.repair.proofs.OnTheWay.{answers_offered}
@@ -10,13 +10,13 @@ use Rattle.repair.proofs.renewing.take_over.Goals as goal
 
 pub offer-requires : goal.offer-requires
 offer-requires c =
-    let task : Case = case c.args.task.now.system.now c.args.task.now.cells.now in
+    let task : Case = protected_case c.args.task.now.system.now c.args.task.now.cells.now in
     let own : IsSpare task c.in-Some.spare = All-last (IsSpare task) c.pop.new.self.items c.in-Some.spare (subst (AreSpare task) c.in-Some.ensures.items c.spares.invariant.spares) in
     spare_within task c.spares.worlds c.in-Some.spare c.spares.invariant.kept own
 
 pub spares-preserved : goal.spares-preserved
 spares-preserved c =
-    let task : Case = case c.args.task.now.system.now c.args.task.now.cells.now in
+    let task : Case = protected_case c.args.task.now.system.now c.args.task.now.cells.now in
     let all : AreSpare task (c.pop.new.self.items ++ c.in-Some.spare ∷ []) = subst (AreSpare task) c.in-Some.ensures.items c.spares.invariant.spares in
     let own : IsSpare task c.in-Some.spare = All-last (IsSpare task) c.pop.new.self.items c.in-Some.spare all in
     record {

@@ -13,7 +13,7 @@ use Rattle.worlds.specs.ProtectFaults.{asked_of}
 use Rattle.worlds.specs.declared.refuted.Refuted.{Refuted}
 use Rattle.repair.proofs.Growing.{served_so_far}
 use Rattle.repair.proofs.OnTheWay.{given_by, first_whole, answers_push}
-use Rattle.repair.specs.HidingOrder.{Case, case, IsOfKind, StandsAt}
+use Rattle.repair.specs.HidingOrder.{Case, protected_case, IsOfKind, StandsAt}
 use Rattle.repair.specs.KeptWorlds.{AreServedBefore, IsRepaired}
 use Rattle.repair.specs.Stops.{IsQuestion}
 use Rattle.repair.proofs.Order.{asked_primary}
@@ -32,7 +32,7 @@ ask-requires-clause-hidden c =
 
 pub returns-in_err-answer-clause-err : goal.returns-in_err-answer-clause-err
 returns-in_err-answer-clause-err c =
-    let task : Case = case c.args.task.now.system.now c.args.task.now.cells.now in
+    let task : Case = protected_case c.args.task.now.system.now c.args.task.now.cells.now in
     let asked : ℕ × Side = get_or c.args.task.now.questions.now c.args.place (0, Above) in
     let stands : StandsAt c.args.task.now.cells.now asked c.args.place = stands_there c.args.task.now.cells.now c.args.task.now.questions.now c.args.place (0, Above) c.args.task.now.fits.in_order c.requires.place in
     let flags : List Bool = c.args.progress.now.hidden.flags in
@@ -43,7 +43,7 @@ returns-in_err-answer-clause-err c =
 
 pub returns-in-Ok-clause-ok : goal.returns-in-Ok-clause-ok
 returns-in-Ok-clause-ok c =
-    let task : Case = case c.args.task.now.system.now c.args.task.now.cells.now in
+    let task : Case = protected_case c.args.task.now.system.now c.args.task.now.cells.now in
     let asked : ℕ × Side = get_or c.args.task.now.questions.now c.args.place (0, Above) in
     let stands : StandsAt c.args.task.now.cells.now asked c.args.place = stands_there c.args.task.now.cells.now c.args.task.now.questions.now c.args.place (0, Above) c.args.task.now.fits.in_order c.requires.place in
     let flags : List Bool = c.args.progress.now.hidden.flags in
@@ -56,7 +56,7 @@ returns-in-Ok-clause-ok c =
 pub returns-in-Ok-clause-repaired : goal.returns-in-Ok-clause-repaired
 returns-in-Ok-clause-repaired c =
     λ planned before.
-    let task : Case = case c.args.task.now.system.now c.args.task.now.cells.now in
+    let task : Case = protected_case c.args.task.now.system.now c.args.task.now.cells.now in
     let asked : ℕ × Side = get_or c.args.task.now.questions.now c.args.place (0, Above) in
     let stands : StandsAt c.args.task.now.cells.now asked c.args.place = stands_there c.args.task.now.cells.now c.args.task.now.questions.now c.args.place (0, Above) c.args.task.now.fits.in_order c.requires.place in
     let flags : List Bool = c.args.progress.now.hidden.flags in
@@ -80,7 +80,7 @@ returns-in-Ok-clause-repaired c =
 
 pub returns-in-Reaches-clause-err : goal.returns-in-Reaches-clause-err
 returns-in-Reaches-clause-err c =
-    let task : Case = case c.args.task.now.system.now c.args.task.now.cells.now in
+    let task : Case = protected_case c.args.task.now.system.now c.args.task.now.cells.now in
     let asked : ℕ × Side = get_or c.args.task.now.questions.now c.args.place (0, Above) in
     let stands : StandsAt c.args.task.now.cells.now asked c.args.place = stands_there c.args.task.now.cells.now c.args.task.now.questions.now c.args.place (0, Above) c.args.task.now.fits.in_order c.requires.place in
     subst (λ (f : List Bool). IsQuestion task f c.args.task.now.limit _ c.args.place) (sym c.in-Err.ensures.flags)
@@ -88,7 +88,7 @@ returns-in-Reaches-clause-err c =
 
 pub hide_one-requires-clause-stopped : goal.hide_one-requires-clause-stopped
 hide_one-requires-clause-stopped c =
-    let task : Case = case c.args.task.now.system.now c.args.task.now.cells.now in
+    let task : Case = protected_case c.args.task.now.system.now c.args.task.now.cells.now in
     let asked : ℕ × Side = get_or c.args.task.now.questions.now c.args.place (0, Above) in
     let stands : StandsAt c.args.task.now.cells.now asked c.args.place = stands_there c.args.task.now.cells.now c.args.task.now.questions.now c.args.place (0, Above) c.args.task.now.fits.in_order c.requires.place in
     let flags : List Bool = c.args.progress.now.hidden.flags in
@@ -100,7 +100,7 @@ hide_one-requires-clause-stopped c =
 
 pub returns-clause-err : goal.returns-clause-err
 returns-clause-err c =
-    let task : Case = case c.args.task.now.system.now c.args.task.now.cells.now in
+    let task : Case = protected_case c.args.task.now.system.now c.args.task.now.cells.now in
     let asked : ℕ × Side = get_or c.args.task.now.questions.now c.args.place (0, Above) in
     let stands : StandsAt c.args.task.now.cells.now asked c.args.place = stands_there c.args.task.now.cells.now c.args.task.now.questions.now c.args.place (0, Above) c.args.task.now.fits.in_order c.requires.place in
     subst (λ (f : List Bool). IsQuestion task f c.args.task.now.limit _ c.args.place) (sym c.in-Err-hide_one.ensures.err)

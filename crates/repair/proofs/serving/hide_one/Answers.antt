@@ -6,7 +6,7 @@ use Rattle.worlds.specs.declared.world.World.{World}
 use Rattle.repair.specs.OnTheWay.{IsOfFirst, AreAnswers}
 use Rattle.repair.proofs.OnTheWay.{answers_wider, first_more}
 use Rattle.worlds.specs.declared.refuted.Refuted.{Refuted}
-use Rattle.repair.specs.HidingOrder.{Case, case, hide, coefficients_for}
+use Rattle.repair.specs.HidingOrder.{Case, protected_case, hide, coefficients_for}
 use Rattle.repair.specs.KeptWorlds.{AreServedBefore, IsRepaired, shown_count}
 use Rattle.repair.proofs.Flags.{free_may, permitted_more, within_hide, fewer_shown}
 use Rattle.repair.proofs.Growing.{served_more}
@@ -41,7 +41,7 @@ returns-in_ok-repair-in-Some-clause-ready c =
 pub returns-in_ok-repair-in-Some-clause-repaired : goal.returns-in_ok-repair-in-Some-clause-repaired
 returns-in_ok-repair-in-Some-clause-repaired c =
     λ planned before.
-    let task : Case = case c.args.task.now.system.now c.args.task.now.cells.now in
+    let task : Case = protected_case c.args.task.now.system.now c.args.task.now.cells.now in
     let flags : List Bool = c.args.progress.now.hidden.flags in
     let repair : Refuted = record { subject = c.in-Some.subject; cell = c.args.asked.0; side = c.args.asked.1; multipliers = c.args.multipliers } in
     let both = justified_by task c.args.task.now.prices.now flags c.args.place c.args.asked c.args.multipliers c.in-Some.subject repair refl c.requires.stopped c.in-Some.ensures.cheapest in
@@ -59,7 +59,7 @@ returns-in_ok-repair-in-Some-clause-repaired c =
 
 pub returns-in_ok-repair-in-Some-clause-ok : goal.returns-in_ok-repair-in-Some-clause-ok
 returns-in_ok-repair-in-Some-clause-ok c =
-    let task : Case = case c.args.task.now.system.now c.args.task.now.cells.now in
+    let task : Case = protected_case c.args.task.now.system.now c.args.task.now.cells.now in
     let flags : List Bool = c.args.progress.now.hidden.flags in
     let within : c.in-Some.subject < length flags = omega (arith, c.args.task.now.fits.one_each, c.requires.ready.each, cheapest_inside _ _ _ _ _ c.in-Some.ensures.cheapest) in
     let own = breaking_says c.args.task.now.cells.now flags (coefficients_for c.args.task.now.system.now c.args.asked c.args.multipliers) c.in-Some.subject c.in-Some.ensures.cheapest.breaking in (

@@ -1,4 +1,4 @@
-use Rattle.repair.specs.HidingOrder.{case}
+use Rattle.repair.specs.HidingOrder.{protected_case}
 use Rattle.repair.specs.KeptWorlds.{AreServedBefore}
 use Rattle.repair.specs.QuestionSteps.{IsReadyForRepair, IsRepairedUpTo}
 use Rattle.repair.proofs.serving.serve_all.Given as goal
@@ -6,6 +6,6 @@ use Rattle.repair.proofs.serving.serve_all.Given as goal
 abbrev pub invariant-places : goal.invariant-places
 invariant-places l = record {
   ready : IsReadyForRepair l.task l.scratch l.progress;
-  served : AreServedBefore (case l.task.system.now l.task.cells.now) l.progress.hidden.flags l.place l.progress.worlds;
+  served : AreServedBefore (protected_case l.task.system.now l.task.cells.now) l.progress.hidden.flags l.place l.progress.worlds;
   repaired : IsRepairedUpTo l.task l.place l.fn.progress.hidden.flags l.progress;
 }

@@ -2,14 +2,14 @@ use Rattle.std.proofs.Common.{◌≡◌, ◌+◌, ◌∙◌, ℕ, List, ap, sym,
 use Rattle.std.proofs.lemmas.Result.{err_from_is_err_and}
 use Rattle.sdc_base.specs.declared.side.Side.{Side}
 use Rattle.worlds.specs.ProtectFaults.{asked_of}
-use Rattle.repair.specs.HidingOrder.{Case, case, ProtectsBefore}
+use Rattle.repair.specs.HidingOrder.{Case, protected_case, ProtectsBefore}
 use Rattle.repair.specs.CellTrials.{ProtectsBeforeOr}
 use Rattle.repair.proofs.AtHand.{kept_length}
 use Rattle.repair.proofs.trial.first_refused.Goals as goal
 
 pub refusal_of-requires-clause-count : goal.refusal_of-requires-clause-count
 refusal_of-requires-clause-count c =
-    kept_length (case c.args.task.now.system.now c.args.task.now.cells.now) (asked_of 0 c.args.task.now.cells.now) c.args.worlds.now c.requires.kept
+    kept_length (protected_case c.args.task.now.system.now c.args.task.now.cells.now) (asked_of 0 c.args.task.now.cells.now) c.args.worlds.now c.requires.kept
     ∙ ap (λ (l : List (ℕ × Side)). length l) (sym c.args.task.now.fits.in_order)
 
 pub returns-in_err-need-clause-err : goal.returns-in_err-need-clause-err
@@ -19,7 +19,7 @@ returns-in_err-need-clause-err c =
 
 pub returns-clause-ok : goal.returns-clause-ok
 returns-clause-ok c =
-    let task : Case = case c.args.task.now.system.now c.args.task.now.cells.now in
+    let task : Case = protected_case c.args.task.now.system.now c.args.task.now.cells.now in
     let last : c.places.place ≡ length c.args.task.now.questions.now = omega (arith, c.places-test.false, c.places.auto.place-end) in
     subst (ProtectsBefore task c.args.hidden.now.flags) last c.places.invariant.before
 
@@ -28,7 +28,7 @@ returns-in-Some-clause-answers c = λ larger now before. c.in_ok-need.ensures.an
 
 pub places-preserved : goal.places-preserved
 places-preserved c =
-    let task : Case = case c.args.task.now.system.now c.args.task.now.cells.now in
+    let task : Case = protected_case c.args.task.now.system.now c.args.task.now.cells.now in
     record {
       before = subst (ProtectsBeforeOr task c.args.hidden.now.flags c.args.cell (c.places.place + 1)) c.in_default.is c.in_ok-need.ensures.ok;
       answers = λ larger now before. c.in_ok-need.ensures.answers larger now (c.places.invariant.answers larger now before);

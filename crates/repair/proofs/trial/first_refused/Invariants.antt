@@ -1,4 +1,4 @@
-use Rattle.repair.specs.HidingOrder.{case, ProtectsBefore}
+use Rattle.repair.specs.HidingOrder.{protected_case, ProtectsBefore}
 use Rattle.repair.specs.CellTrials.{AreSpare, AreTrialAnswers}
 use Rattle.repair.specs.OnTheWay.{IsOfTrial}
 use Rattle.std.proofs.Common.{◌+◌, List, Bool}
@@ -6,9 +6,9 @@ use Rattle.repair.proofs.trial.first_refused.Given as goal
 
 abbrev pub invariant-places : goal.invariant-places
 invariant-places l = record {
-  before : ProtectsBefore (case l.task.system.now l.task.cells.now) l.hidden.flags l.place;
-  answers : (larger : List Bool) → IsOfTrial (case l.task.system.now l.task.cells.now) larger (l.cell + 1) l.hidden.flags l.hidden.flags
-      → AreTrialAnswers (case l.task.system.now l.task.cells.now) larger (l.cell + 1) l.hidden.flags l.fn.spares.items
-      → AreTrialAnswers (case l.task.system.now l.task.cells.now) larger (l.cell + 1) l.hidden.flags l.spares.items;
-  spares : AreSpare (case l.task.system.now l.task.cells.now) l.spares.items;
+  before : ProtectsBefore (protected_case l.task.system.now l.task.cells.now) l.hidden.flags l.place;
+  answers : (larger : List Bool) → IsOfTrial (protected_case l.task.system.now l.task.cells.now) larger (l.cell + 1) l.hidden.flags l.hidden.flags
+      → AreTrialAnswers (protected_case l.task.system.now l.task.cells.now) larger (l.cell + 1) l.hidden.flags l.fn.spares.items
+      → AreTrialAnswers (protected_case l.task.system.now l.task.cells.now) larger (l.cell + 1) l.hidden.flags l.spares.items;
+  spares : AreSpare (protected_case l.task.system.now l.task.cells.now) l.spares.items;
 }

@@ -11,7 +11,7 @@ use Rattle.std.specs.List.{list_any}
 use Rattle.interval_audit.specs.declared.answer.Answer.TheVariants.{Reaches, Stops}
 use Rattle.interval_audit.specs.Answers.{IsTrueAnswer, IsAnswerOf, ReachesTarget, StopsShort}
 use Rattle.repair.specs.LevelQuestions.{IsCausing, IsGiven}
-use Rattle.repair.specs.HidingOrder.{Case, case, IsOfKind, StandsAt}
+use Rattle.repair.specs.HidingOrder.{Case, protected_case, IsOfKind, StandsAt}
 use Rattle.repair.specs.KeptWorlds.{IsServing}
 use Rattle.repair.specs.CellTrials.{fits, serves_beside, IsKept, AreSpare, AreTrialAnswers}
 use Rattle.repair.specs.OnTheWay.{IsOfTrial}
@@ -25,7 +25,7 @@ use Rattle.repair.proofs.trial.refusal_of.Goals as goal
 
 pub returns-then-fits-clause-ok : goal.returns-then-fits-clause-ok
 returns-then-fits-clause-ok c =
-    let task : Case = case c.args.task.now.system.now c.args.task.now.cells.now in
+    let task : Case = protected_case c.args.task.now.system.now c.args.task.now.cells.now in
     let flags : List Bool = c.args.hidden.now.flags in
     let asked : ℕ × Side = get_or c.args.task.now.questions.now c.args.place (0, Above) in
     let stands : StandsAt c.args.task.now.cells.now asked c.args.place = stands_there c.args.task.now.cells.now c.args.task.now.questions.now c.args.place (0, Above) c.args.task.now.fits.in_order c.requires.place in
@@ -44,7 +44,7 @@ is_at_hand-requires c = record {
 
 pub returns-then-is_at_hand-clause-ok : goal.returns-then-is_at_hand-clause-ok
 returns-then-is_at_hand-clause-ok c =
-    let task : Case = case c.args.task.now.system.now c.args.task.now.cells.now in
+    let task : Case = protected_case c.args.task.now.system.now c.args.task.now.cells.now in
     let flags : List Bool = c.args.hidden.now.flags in
     let asked : ℕ × Side = get_or c.args.task.now.questions.now c.args.place (0, Above) in
     let stands : StandsAt c.args.task.now.cells.now asked c.args.place = stands_there c.args.task.now.cells.now c.args.task.now.questions.now c.args.place (0, Above) c.args.task.now.fits.in_order c.requires.place in
@@ -60,7 +60,7 @@ is_guessed-requires-clause-primary c =
 
 pub returns-then-is_guessed-clause-ok : goal.returns-then-is_guessed-clause-ok
 returns-then-is_guessed-clause-ok c =
-    let task : Case = case c.args.task.now.system.now c.args.task.now.cells.now in
+    let task : Case = protected_case c.args.task.now.system.now c.args.task.now.cells.now in
     let flags : List Bool = c.args.hidden.now.flags in
     let asked : ℕ × Side = get_or c.args.task.now.questions.now c.args.place (0, Above) in
     let stands : StandsAt c.args.task.now.cells.now asked c.args.place = stands_there c.args.task.now.cells.now c.args.task.now.questions.now c.args.place (0, Above) c.args.task.now.fits.in_order c.requires.place in
@@ -97,7 +97,7 @@ returns-in_default-clause-err c =
 
 pub returns-in-Reaches-clause-spares : goal.returns-in-Reaches-clause-spares
 returns-in-Reaches-clause-spares c =
-    let task : Case = case c.args.task.now.system.now c.args.task.now.cells.now in
+    let task : Case = protected_case c.args.task.now.system.now c.args.task.now.cells.now in
     let flags : List Bool = c.args.hidden.now.flags in
     let asked : ℕ × Side = get_or c.args.task.now.questions.now c.args.place (0, Above) in
     let stands : StandsAt c.args.task.now.cells.now asked c.args.place = stands_there c.args.task.now.cells.now c.args.task.now.questions.now c.args.place (0, Above) c.args.task.now.fits.in_order c.requires.place in
@@ -110,7 +110,7 @@ returns-in-Reaches-clause-spares c =
 pub returns-in-Reaches-clause-answers : goal.returns-in-Reaches-clause-answers
 returns-in-Reaches-clause-answers c =
     λ larger now before.
-    let task : Case = case c.args.task.now.system.now c.args.task.now.cells.now in
+    let task : Case = protected_case c.args.task.now.system.now c.args.task.now.cells.now in
     let flags : List Bool = c.args.hidden.now.flags in
     let asked : ℕ × Side = get_or c.args.task.now.questions.now c.args.place (0, Above) in
     let stands : StandsAt c.args.task.now.cells.now asked c.args.place = stands_there c.args.task.now.cells.now c.args.task.now.questions.now c.args.place (0, Above) c.args.task.now.fits.in_order c.requires.place in
@@ -125,7 +125,7 @@ returns-in-Reaches-clause-answers c =
 
 pub returns-in-Reaches-clause-ok : goal.returns-in-Reaches-clause-ok
 returns-in-Reaches-clause-ok c =
-    let task : Case = case c.args.task.now.system.now c.args.task.now.cells.now in
+    let task : Case = protected_case c.args.task.now.system.now c.args.task.now.cells.now in
     let flags : List Bool = c.args.hidden.now.flags in
     let asked : ℕ × Side = get_or c.args.task.now.questions.now c.args.place (0, Above) in
     let stands : StandsAt c.args.task.now.cells.now asked c.args.place = stands_there c.args.task.now.cells.now c.args.task.now.questions.now c.args.place (0, Above) c.args.task.now.fits.in_order c.requires.place in
@@ -147,7 +147,7 @@ returns-clause-ok c =
       refl,
       record {
         cell_primary = asked_primary c.args.task.now.cells.now c.args.place asked stands;
-        first = first_refuted (case c.args.task.now.system.now c.args.task.now.cells.now) flags c.args.place asked c.in-Stops.multipliers c.args.task.now.fits.one_each stands c.requires.before refutes;
+        first = first_refuted (protected_case c.args.task.now.system.now c.args.task.now.cells.now) flags c.args.place asked c.in-Stops.multipliers c.args.task.now.fits.one_each stands c.requires.before refutes;
         refutes = refutes;
         gives = record { question = c.level_question-question.result; best = c.in-Stops.best; world = c.in-Stops.world; is_asked = c.level_question-question.ensures; is_right = does; is_read = read };
       },

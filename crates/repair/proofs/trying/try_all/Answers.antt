@@ -2,7 +2,7 @@ use Rattle.std.proofs.Common.{◌≡◌, ◌==◌, ◌∙◌, [], false, ℕ, Li
 use Rattle.std.proofs.lemmas.List.Elements.{All-nil}
 use Rattle.worlds.specs.declared.refuted.Refuted.{Refuted}
 use Rattle.worlds.specs.ProtectFaults.{asked_of}
-use Rattle.repair.specs.HidingOrder.{Case, case, hide_subjects}
+use Rattle.repair.specs.HidingOrder.{Case, protected_case, hide_subjects}
 use Rattle.repair.specs.CellTrials.{AreSpare, IsSpare, IsTrialAnswer, AreTrialAnswers, AnswerTrials, AnswerOnWay, IsTried}
 use Rattle.repair.specs.OnTheWay.{IsOfFirst, AreAnswers}
 use Rattle.repair.proofs.OnTheWay.{answers_first}
@@ -13,7 +13,7 @@ use Rattle.repair.proofs.trying.try_all.Goals as goal
 
 pub cells-init : goal.cells-init
 cells-init c =
-    let task : Case = case c.args.task.now.system.now c.args.task.now.cells.now in
+    let task : Case = protected_case c.args.task.now.system.now c.args.task.now.cells.now in
     let flags : List Bool = c.args.progress.now.hidden.flags in
     record {
       each = c.requires.each;
@@ -32,7 +32,7 @@ cells-init c =
 
 pub returns-clause-err : goal.returns-clause-err
 returns-clause-err c =
-    let task : Case = case c.args.task.now.system.now c.args.task.now.cells.now in
+    let task : Case = protected_case c.args.task.now.system.now c.args.task.now.cells.now in
     let larger : List Bool = c.args.progress.now.hidden.flags in
     let flags : List Bool = c.cells.progress.hidden.flags in
     let shown : List ℕ = c.cells.tried.shown in
@@ -45,14 +45,14 @@ returns-clause-err c =
 pub returns-then-is_empty-clause-answers : goal.returns-then-is_empty-clause-answers
 returns-then-is_empty-clause-answers c =
     λ planned hidden_is are.
-    let task : Case = case c.args.task.now.system.now c.args.task.now.cells.now in
+    let task : Case = protected_case c.args.task.now.system.now c.args.task.now.cells.now in
     let repairs : List Refuted = c.args.progress.now.repairs in
     answers_first task planned repairs c.cells.progress.hidden.flags c.cells.progress.worlds (subst (AreAnswers task (IsOfFirst planned repairs) (asked_of 0 c.args.task.now.cells.now)) (sym c.cells.invariant.worlds) are)
 
 pub returns-clause-answers : goal.returns-clause-answers
 returns-clause-answers c =
     λ planned hidden_is are.
-    let task : Case = case c.args.task.now.system.now c.args.task.now.cells.now in
+    let task : Case = protected_case c.args.task.now.system.now c.args.task.now.cells.now in
     let repairs : List Refuted = c.args.progress.now.repairs in
     let flags : List Bool = c.cells.progress.hidden.flags in
     let worlds : AnswerOnWay c.args.task.now planned repairs flags c.cells.progress.worlds =

@@ -6,7 +6,7 @@ use Rattle.worlds.specs.declared.refuted.Refuted.{Refuted}
 use Rattle.worlds.specs.declared.world.World.{World}
 use Rattle.worlds.specs.ProtectFaults.{asked_of}
 use Rattle.worlds.proofs.TrueTests.{on_ok}
-use Rattle.repair.specs.HidingOrder.{Case, case, hide, show, ProtectsAll}
+use Rattle.repair.specs.HidingOrder.{Case, protected_case, hide, show, ProtectsAll}
 use Rattle.repair.specs.CellTrials.{AreKept, AreSpare, AreTrialAnswers, ProtectsBeforeOr, IsRefuted, IsTried, IsTryStop, HasFault}
 use Rattle.sdc_base.specs.declared.side.Side.{Side}
 use Rattle.repair.proofs.AtHand.{protects_all, spares_left}
@@ -17,12 +17,12 @@ use Rattle.repair.proofs.trying.try_one.Goals as goal
 
 pub first_refused-requires-clause-kept : goal.first_refused-requires-clause-kept
 first_refused-requires-clause-kept c =
-    let task : Case = case c.args.task.now.system.now c.args.task.now.cells.now in
+    let task : Case = protected_case c.args.task.now.system.now c.args.task.now.cells.now in
     subst (λ (ws : List World). AreKept task (asked_of 0 c.args.task.now.cells.now) ws) (sym c.as_slice.ensures) c.requires.kept
 
 pub returns-in_err-found-clause-err : goal.returns-in_err-found-clause-err
 returns-in_err-found-clause-err c =
-    let task : Case = case c.args.task.now.system.now c.args.task.now.cells.now in
+    let task : Case = protected_case c.args.task.now.system.now c.args.task.now.cells.now in
     let flags : List Bool = c.args.progress.now.hidden.flags in
     let inside : c.args.cell < length flags = omega (arith, c.requires.each, c.args.task.now.fits.one_each, slice_get_within c.args.task.now.cells.now c.args.cell c.requires.is_free.cell c.requires.is_free.found) in
     let has : HasFault task (show flags c.args.cell) c.args.task.now.limit c.in_err-found.field-0.0 = subst (λ (f : List Bool). HasFault task f c.args.task.now.limit c.in_err-found.field-0.0) c.set.ensures c.in_err-found.ensures.err in
@@ -34,13 +34,13 @@ returns-in_err-found-clause-err c =
 
 pub returns-in-None-clause-spares : goal.returns-in-None-clause-spares
 returns-in-None-clause-spares c =
-    let task : Case = case c.args.task.now.system.now c.args.task.now.cells.now in
+    let task : Case = protected_case c.args.task.now.system.now c.args.task.now.cells.now in
     subst (AreSpare task) (sym c.drop_unfit.ensures) (spares_left task c.as_slice-in-None.result.now c.first_refused.new.spares.items c.in_ok-found.ensures.spares)
 
 pub returns-in-None-clause-ok : goal.returns-in-None-clause-ok
 returns-in-None-clause-ok c =
     λ larger before.
-    let task : Case = case c.args.task.now.system.now c.args.task.now.cells.now in
+    let task : Case = protected_case c.args.task.now.system.now c.args.task.now.cells.now in
     let flags : List Bool = c.args.progress.now.hidden.flags in
     let inside : c.args.cell < length flags = omega (arith, c.requires.each, c.args.task.now.fits.one_each, slice_get_within c.args.task.now.cells.now c.args.cell c.requires.is_free.cell c.requires.is_free.found) in
     let told : ProtectsBeforeOr task c.set.new.self c.args.cell (length c.args.task.now.questions.now) None = subst (ProtectsBeforeOr task c.set.new.self c.args.cell (length c.args.task.now.questions.now)) c.in-None.is c.in_ok-found.ensures.ok in
@@ -64,13 +64,13 @@ returns-in-Some-clause-permitted c =
 
 pub returns-in-Some-clause-spares : goal.returns-in-Some-clause-spares
 returns-in-Some-clause-spares c =
-    let task : Case = case c.args.task.now.system.now c.args.task.now.cells.now in
+    let task : Case = protected_case c.args.task.now.system.now c.args.task.now.cells.now in
     on_ok (AreSpare task c.put_back.new.tried.spares.items) c.put_back.result
     (subst (λ spares. AreSpare task spares.items) (sym c.put_back.ensures.spares) c.in_ok-found.ensures.spares)
 
 pub returns-in-Some-clause-ok : goal.returns-in-Some-clause-ok
 returns-in-Some-clause-ok c =
-    let task : Case = case c.args.task.now.system.now c.args.task.now.cells.now in
+    let task : Case = protected_case c.args.task.now.system.now c.args.task.now.cells.now in
     let flags : List Bool = c.args.progress.now.hidden.flags in
     let inside : c.args.cell < length flags = omega (arith, c.requires.each, c.args.task.now.fits.one_each, slice_get_within c.args.task.now.cells.now c.args.cell c.requires.is_free.cell c.requires.is_free.found) in
     let same : c.put_back.new.progress.hidden.flags ≡ flags = c.put_back.ensures.flags ∙ ap (λ (f : List Bool). hide f c.args.cell) c.set.ensures ∙ hidden_again flags c.args.cell inside c.requires.hidden in

@@ -5,13 +5,13 @@ use Rattle.rounding.proofs.ForceSteps.{forced_then, hold_further}
 use Rattle.rounding.proofs.forcing.settle_each.Goals as goal
 
 pub returns-then-not-holds-clause-forced : goal.returns-then-not-holds-clause-forced
-returns-then-not-holds-clause-forced c = forced_then c.args.bounds.now c.numbers.bounds c.settle.new.bounds c.numbers.invariant.forced c.in_ok-holds.ensures.forced
+returns-then-not-holds-clause-forced c = forced_then c.args.bounds.now c.numbers.bounds c.force_relation.new.bounds c.numbers.invariant.forced c.in_ok-holds.ensures.forced
 
 pub numbers-preserved : goal.numbers-preserved
 numbers-preserved c =
     let first = c.args.bounds.now in
     let before = c.numbers.bounds in
-    let after = c.settle.new.bounds in
+    let after = c.force_relation.new.bounds in
     let numbers = c.args.numbers.now in
     record {
       forced = forced_then first before after c.numbers.invariant.forced c.in_ok-holds.ensures.forced;

@@ -7,8 +7,8 @@ use Rattle.rounding.specs.Circuits.{IsMove}
 use Rattle.rounding.proofs.Moving.{goes, goes_balanced, in_range}
 use Rattle.rounding.proofs.underway.go_round.Goals as goal
 
-pub go-requires : goal.go-requires
-go-requires c =
+pub move_cells-requires : goal.move_cells-requires
+move_cells-requires c =
     let base = c.args.task.now.base in
     let numbers = c.args.numbers.now in
     let by : FitsSigned w128 c.room_for-by.result = omega (arith, ints, c.room_for-by.ensures.low, c.room_for-by.ensures.high) in
@@ -23,11 +23,11 @@ pub returns : goal.returns
 returns c =
     let base = c.args.task.now.base in
     let before = c.args.numbers.now in
-    let after = c.go.new.numbers in
+    let after = c.move_cells.new.numbers in
     let steps = c.args.steps.now in
     let by : FitsSigned w128 c.room_for-by.result = omega (arith, ints, c.room_for-by.ensures.low, c.room_for-by.ensures.high) in
-    let is = simp to_z-of_z at c.go.ensures in
-    let each : length after ≡ length before = omega (arith, c.go.auto.numbers) in
+    let is = simp to_z-of_z at c.move_cells.ensures in
+    let each : length after ≡ length before = omega (arith, c.move_cells.auto.numbers) in
     let has = goes c.args.task.now.truths.now base c.room_for-by.result before after steps c.tightest-tightest.result c.requires.beside c.requires.moves c.tightest-tightest.ensures.place c.tightest-tightest.ensures.least c.room_for-by.ensures.value each is in
     record {
       beside = has.beside;

@@ -7,7 +7,7 @@ use Rattle.sdc_base.proofs.tops.put_in.Goals as goal
 pub returns-then-at-keep : goal.returns-then-at-keep
 returns-then-at-keep c =
     let xs : List Contribution = c.args.list.now in
-    let place : insert xs c.place_of-at.result c.args.new ≡ with_contribution xs c.args.new =
-    subst (λ (t : List Contribution). insert t c.place_of-at.result c.args.new ≡ with_contribution t c.args.new) c.as_slice.ensures c.place_of-at.ensures.place in
-    let within : c.place_of-at.result ≤ length xs = subst (λ (t : List Contribution). c.place_of-at.result ≤ length t) c.as_slice.ensures c.place_of-at.ensures.within in
-    c.insert.ensures ∙ put_in_kept xs c.truncate.new.self c.args.new c.args.keep c.place_of-at.result c.if-at-keep.true within c.truncate.ensures place
+    let place : insert xs c.unit_place-at.result c.args.new ≡ with_contribution xs c.args.new =
+    subst (λ (t : List Contribution). insert t c.unit_place-at.result c.args.new ≡ with_contribution t c.args.new) c.as_slice.ensures c.unit_place-at.ensures.place in
+    let within : c.unit_place-at.result ≤ length xs = subst (λ (t : List Contribution). c.unit_place-at.result ≤ length t) c.as_slice.ensures c.unit_place-at.ensures.within in
+    c.insert.ensures ∙ put_in_kept xs c.truncate.new.self c.args.new c.args.keep c.unit_place-at.result c.if-at-keep.true within c.truncate.ensures place

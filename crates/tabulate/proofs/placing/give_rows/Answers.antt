@@ -12,7 +12,7 @@ rows-preserved c =
     let i = c.rows.row-index in
     let row = c.row-item.result in
     let at : slice_get rows i ≡ Some row = slice_get_read rows (length rows) i row refl c.rows-test.true c.row-item.is in
-    let place : c.as_slice.result.now ≡ codes_for row.codes (variables_of c.rows.book c.args.t) = c.as_slice.ensures ∙ c.place_of-place.ensures in
+    let place : c.as_slice.result.now ≡ codes_for row.codes (variables_of c.rows.book c.args.t) = c.as_slice.ensures ∙ c.record_place-place.ensures in
     let gave : GaveRecord c.rows.book c.give_at.new.book c.args.t c.args.first row (codes_for row.codes (variables_of c.rows.book c.args.t) ∷ []) =
     subst (λ (one : List ℕ). GaveRecord c.rows.book c.give_at.new.book c.args.t c.args.first row (one ∷ [])) place c.give_at.ensures
     in

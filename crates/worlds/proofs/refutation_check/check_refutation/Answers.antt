@@ -6,7 +6,7 @@ use Rattle.worlds.proofs.refutation_check.check_refutation.Goals as goal
 
 pub returns-clause-refutation : goal.returns-clause-refutation
 returns-clause-refutation c =
-    subst (λ r. IsOk r ↔ IsGivenRefutation c.args.system.now c.args.cells.now c.args.hidden.now.flags c.args.cell c.args.side c.args.multipliers.now) (sym c.first_fault.ensures.exact)
+    subst (λ r. IsOk r ↔ IsGivenRefutation c.args.system.now c.args.cells.now c.args.hidden.now.flags c.args.cell c.args.side c.args.multipliers.now) (sym c.first_refutation_fault.ensures.exact)
     (ok_where (IsGivenRefutation c.args.system.now c.args.cells.now c.args.hidden.now.flags c.args.cell c.args.side c.args.multipliers.now) (refutation_fault c.args.system.now c.args.cells.now c.args.hidden.now.flags c.args.cell c.args.side c.args.multipliers.now)
     (refutation_law c.args.system.now c.args.cells.now c.args.hidden.now.flags c.args.cell c.args.side c.args.multipliers.now c.requires.asked))
 

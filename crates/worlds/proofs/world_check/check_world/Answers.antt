@@ -6,6 +6,6 @@ use Rattle.worlds.proofs.world_check.check_world.Goals as goal
 
 pub returns-clause-world : goal.returns-clause-world
 returns-clause-world c =
-    subst (λ r. IsOk r ↔ IsGivenWorld c.args.system.now c.args.cells.now c.args.hidden.now.flags c.args.world.now) (sym c.first_fault.ensures.exact)
+    subst (λ r. IsOk r ↔ IsGivenWorld c.args.system.now c.args.cells.now c.args.hidden.now.flags c.args.world.now) (sym c.first_world_fault.ensures.exact)
     (ok_where (IsGivenWorld c.args.system.now c.args.cells.now c.args.hidden.now.flags c.args.world.now) (world_fault c.args.system.now c.args.cells.now c.args.hidden.now.flags c.args.world.now)
     (world_law c.args.system.now c.args.cells.now c.args.hidden.now.flags c.args.world.now c.requires.ground.each_cell))

@@ -2,7 +2,7 @@ use Rattle.std.proofs.Common.{sym, List, ℕ, subst, Result, Option}
 use Rattle.sdc_base.specs.Answers.{Gives}
 use Rattle.microdata.specs.Faults.{fault_of}
 use Rattle.microdata.specs.Feeding.{ReaderView, HasRead, IsKeptOf}
-use Rattle.microdata.specs.Keeping.{IsReady}
+use Rattle.microdata.specs.Keeping.{IsReadyReader}
 use Rattle.microdata.specs.Microdata.{records_behind}
 use Rattle.microdata.specs.OneRecord.{no_records}
 use Rattle.microdata.specs.declared.faults.RowError.{RowError}
@@ -23,6 +23,6 @@ returns-clause-exact c =
     λ layout bytes read.
     let r : ReaderView = record { measures = c.self.inside.measures; so_far = c.self.inside.so_far; begun = c.self.inside.begun.items; error = c.self.inside.error } in
     let h : HasRead r layout bytes = subst (λ (r : ReaderView). HasRead r layout bytes) (sym c.self.view_is) read in
-    let ready = subst (λ (e : Option RowError). IsReady e r.measures r.so_far r.begun) c.in_default.is c.self.invariant in
+    let ready = subst (λ (e : Option RowError). IsReadyReader e r.measures r.so_far r.begun) c.in_default.is c.self.invariant in
     subst (λ (meant : Result Records (ℕ × RowWhy)). Gives fault_of (λ records. records) c.read_out.result meant) (sym (all-read r layout bytes c.in_default.is h ready.1))
     (subst (λ (last : List ℕ). Gives fault_of (λ records. records) c.read_out.result (records_behind c.self.inside.measures c.self.inside.so_far last)) c.deref.ensures.value c.read_out.ensures.exact)

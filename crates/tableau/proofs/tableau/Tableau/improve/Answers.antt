@@ -6,7 +6,7 @@ use Rattle.tableau.specs.Tables.{Table}
 use Rattle.tableau.specs.Steps.{IsStepOf, IsReached, IsBlocked}
 use Rattle.tableau.specs.Widths.{IsWideStep}
 use Rattle.tableau.specs.Tableaus.{TableauWalk, IsTableau, tableau_walk}
-use Rattle.tableau.specs.SparseTables.{table_of, IsSound}
+use Rattle.tableau.specs.SparseTables.{table_of, IsSoundTable}
 use Rattle.tableau.proofs.WellFormedProblems.{well_formed_keeps, length-values, length-slacks, walk_more}
 use Rattle.tableau.proofs.ReducedRows.{taken_back}
 use Rattle.tableau.proofs.tableau.Tableau.improve.Goals as goal
@@ -20,7 +20,7 @@ pub invariant_of-self-in_default : goal.invariant_of-self-in_default
 invariant_of-self-in_default c =
     let i = c.self.inside in
     let same : c.make_step.new.table ≡ i.table = c.in_ok-step.ensures.same (λ clash. let is : c.in_ok-step.step ≡ step.Improved = cc in c.in_default.not-Improved is) in
-    subst (λ (d : SparseTable). IsSound d × IsTableau (tableau_walk i.problem i.improved (table_of d)) i.values.items i.slacks.items) (sym same) c.self.invariant
+    subst (λ (d : SparseTable). IsSoundTable d × IsTableau (tableau_walk i.problem i.improved (table_of d)) i.values.items i.slacks.items) (sym same) c.self.invariant
 
 pub read_values-requires-clause-long : goal.read_values-requires-clause-long
 read_values-requires-clause-long c =

@@ -2,7 +2,7 @@ use Rattle.std.proofs.Common.{◌≡◌, ◌<◌, ◌≤ℤ◌, pos, sym, subst,
 use Rattle.std.proofs.lemmas.List.Elements.{All-from_get_or}
 use Rattle.tableau.specs.Tableaus.{TableauWalk}
 use Rattle.tableau.specs.Tables.{Table}
-use Rattle.tableau.specs.Problems.{AreDuals, numbers_of, number_for}
+use Rattle.tableau.specs.Problems.{AreDuals, variable_count, number_for}
 use Rattle.tableau.specs.Steps.{IsBlocked}
 use Rattle.tableau.proofs.Solved.{none_below, target_is_free}
 use Rattle.tableau.specs.Walks.{IsTableOf}
@@ -18,7 +18,7 @@ returns-clause-duals c =
     let is_walk = c.self.invariant.1.is_walk in
     let kept : IsTableOf i.problem t = well_formed_keeps i.problem i.improved t is_walk.well_formed is_walk.steps in
     subst (λ (w : TableauWalk). AreDuals w.problem w.table) c.self.view_is
-    (duals i.problem t (well_formed_problem i.problem is_walk.well_formed) kept.shaped (All-from_get_or (λ v. v < numbers_of i.problem) t.others 0 kept.basis.others_below) kept.true_of)
+    (duals i.problem t (well_formed_problem i.problem is_walk.well_formed) kept.shaped (All-from_get_or (λ v. v < variable_count i.problem) t.others 0 kept.basis.others_below) kept.true_of)
 
 pub returns-clause-above : goal.returns-clause-above
 returns-clause-above c blocked v =

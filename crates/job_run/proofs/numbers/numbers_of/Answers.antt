@@ -1,6 +1,0 @@
-use Rattle.job_run.proofs.Releasing.{numbers-are}
-use Rattle.job_run.proofs.numbers.numbers_of.Goals as goal
-
-pub returns : goal.returns
-returns c = λ settled is.
-    numbers-are settled c.args.job.now c.as_slice.result.now c.cells.result c.primary_in.result is c.cells.ensures.cells c.as_slice.ensures c.primary_in.ensures
