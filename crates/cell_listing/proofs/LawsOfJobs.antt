@@ -17,10 +17,10 @@ use Rattle.job_inputs.specs.Cells.{cells, figures}
 use Rattle.job_inputs.specs.SettledJobs.{SettledInputs, IsReadyJob, IsSettledOf}
 use Rattle.job_inputs.specs.TabulatedBooks.{IsBookOf}
 use Rattle.job_inputs.specs.declared.settled.SettledJob.{SettledJob}
-use Rattle.cell_listing.specs.Laws.{PrimaryAreCounted, ShownAreValues}
+use Rattle.cell_listing.specs.Laws.{CellsAreCounted, ShownAreValues}
 use Rattle.cell_listing.specs.ListedCells.{ListedCell, listed_cells}
 use Rattle.cell_listing.proofs.LawsOfCells.{count-primary}
-use Rattle.cell_listing.proofs.Numbered.{was_number}
+use Rattle.cell_listing.proofs.Numbered.{as_many, was_number}
 
 -- the cells of a job's book are those of its inputs
 same-cells : (job : SettledJob) (settled : SettledInputs) → IsSettledOf settled job → cells_in job.book ≡ cells settled.inputs
@@ -31,11 +31,15 @@ all-settled : (job : SettledJob) (settled : SettledInputs) → IsReadyJob job �
 all-settled job settled ready is =
     ap (λ (all : List SettledCell). length all) (sym is.cells) ∙ length-map job.cells view_of_cell ∙ ready.settled ∙ ready.one_each ∙ ap (λ (all : List Name). length all) (same-cells job settled is)
 
-pub primary_are_counted : PrimaryAreCounted
-primary_are_counted settled job ready is =
-    count-primary 0 (cells settled.inputs) (figures settled.inputs) settled.cells
-    (length-map (cells settled.inputs) (λ (name : Name). figures_in settled.inputs.records.trees name settled.inputs.records.rows settled.inputs.described.bound.scale))
-    (all-settled job settled ready is)
+pub cells_are_counted : CellsAreCounted
+cells_are_counted settled job ready is =
+    let inputs = settled.inputs in
+    let known : length (figures inputs) ≡ length (cells inputs) = length-map (cells inputs) (λ (name : Name). figures_in inputs.records.trees name inputs.records.rows inputs.described.bound.scale) in
+    let all = all-settled job settled ready is in
+    record {
+      one_line_each = as_many 0 (cells inputs) (figures inputs) settled.cells known all;
+      primary = count-primary 0 (cells inputs) (figures inputs) settled.cells known all;
+    }
 
 there-is : (marks : List Mark) (i : ℕ) → i < length marks → (mark : Mark) × (slice_get marks i ≡ Some mark)
 there-is [] i within = absurd (omega arith)

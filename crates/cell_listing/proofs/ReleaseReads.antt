@@ -21,6 +21,7 @@ use Rattle.cell_listing.specs.declared.released_cells.ReleasedCells.{ReleasedCel
 use Rattle.cell_listing.specs.declared.released_cells.ReleasedCells.TheVariants as cells
 use Rattle.cell_listing.proofs.Alike.{released_alike}
 use Rattle.cell_listing.proofs.HiddenRows.{hidden_exactly, hiding_of}
+use Rattle.cell_listing.proofs.LawsOfJobs.{cells_are_counted}
 use Rattle.cell_listing.proofs.ShownRows.{rounded_shown, suppressed_shown}
 
 -- a release with extra cells doesn't round
@@ -55,6 +56,7 @@ is_listing released read made text ready are is got =
       text_is =
           is ∙ released_alike read.certificate read.extra amounts read.job released.settled ready.job got.is.settled
           ∙ ap₂ (λ (c : Certificate) (extra : Option Extra). released_text inputs.described inputs.records.trees (outcome_at c extra amounts) (listed_cells released.settled)) got.is.certificate got.is.extra;
+      counts = cells_are_counted released.settled read.job ready.job got.is.settled;
       hidden = hidden_exactly released amounts got.accepted (apart released read ready got.is released.extra got.is.extra got.accepted);
       tables = tables_show released read made got are;
     }

@@ -1,9 +1,11 @@
 -- What a listing is asked for by words, and what is answered (own).
-use Rattle.std.specs.Prelude.{◌≡◌, ℕ, List, [], ◌∷◌, Option, None, Some, Result, Ok, Err, Vec}
+use Rattle.std.specs.Prelude.{ℕ, List, [], ◌∷◌, Option, None, Some, Result, Ok, Err, IsOkAnd, Vec}
 use Rattle.std.specs.declared.alloc.Global.{Global}
 use Rattle.sdc_base.specs.Answers.{Fails}
 use Rattle.job_inputs.specs.Reading.{stopped_for}
+use Rattle.job_inputs.specs.SettledJobs.{SettledInputs}
 use Rattle.job_inputs.specs.declared.faults.Fault.{Fault}
+use Rattle.cell_listing.specs.Listings.{IsCellListing}
 use Rattle.cell_listing.specs.declared.calls.ListStop.{ListStop}
 use Rattle.cell_listing.specs.declared.calls.ListStop.TheVariants as stop
 
@@ -12,9 +14,9 @@ abbrev pub job_named : List (List ℕ) → Option (List ℕ)
 job_named ((b ∷ name) ∷ []) = Some (b ∷ name)
 job_named words = None
 
--- The answer to the name of a job whose files come to a listing or to a first fault: the listing, or that fault. Want of
--- memory and faults of the shelf say nothing of them.
-abbrev pub IsListingAnswer : Result (List ℕ) Fault → Result (Vec ℕ Global) ListStop → Type 0
-IsListingAnswer meant (Ok bytes) = meant ≡ Ok bytes.items
+-- The answer to the name of a job whose files come to settled inputs or to a first fault: the listing of these, or that
+-- fault. Want of memory and faults of the shelf say nothing of them.
+abbrev pub IsListingAnswer : Result SettledInputs Fault → Result (Vec ℕ Global) ListStop → Type 0
+IsListingAnswer meant (Ok bytes) = IsOkAnd meant (λ settled. IsCellListing settled bytes.items)
 IsListingAnswer meant (Err stop.Usage) = ⊥
 IsListingAnswer meant (Err (stop.Inputs input)) = Fails (stopped_for input) meant

@@ -1,7 +1,6 @@
 -- What holds of listings, in the words of rules, a priori files and releases (own).
-use Rattle.std.specs.Prelude.{◌≡◌, ◌≢◌, ℕ, List, Bool, false, [], length, filter, slice_get, Some}
+use Rattle.std.specs.Prelude.{◌≡◌, ◌≢◌, ℕ, List, Bool, false, [], slice_get, Option, Some}
 use Rattle.sdc_base.specs.HiddenSets.{is_hidden}
-use Rattle.sdc_base.specs.Kinds.{is_primary}
 use Rattle.sdc_base.specs.RuleLevels.{Figures, figures_of_facts}
 use Rattle.sdc_base.specs.TableText.{shown_text}
 use Rattle.sdc_base.specs.declared.cell.Kind.TheVariants.{Primary}
@@ -15,8 +14,8 @@ use Rattle.cost_rule.specs.declared.kind.CostKind.{CostKind}
 use Rattle.release_writer.specs.ShownCells.{open_truth}
 use Rattle.job_inputs.specs.SettledJobs.{SettledInputs, IsReadyJob, IsSettledOf}
 use Rattle.job_inputs.specs.declared.settled.SettledJob.{SettledJob}
-use Rattle.std.specs.Prelude.{Option}
 use Rattle.cell_listing.specs.ListedCells.{ListedCell, listed_cells}
+use Rattle.cell_listing.specs.Listings.{CountsAsReport}
 use Rattle.cell_listing.specs.Reasons.{naming_words}
 use Rattle.cell_listing.specs.Columns.{amount_text, price_by}
 
@@ -38,12 +37,10 @@ PricesAreCosts =
     (kind : CostKind) (own : Option ℕ) (facts : CellFacts)
     → price_by kind own (figures_of_facts facts) ≡ price_of kind own facts
 
--- a listing has as many primary cells as the report of a release counts
-abbrev pub PrimaryAreCounted : Type 0
-PrimaryAreCounted =
-    (settled : SettledInputs) (job : SettledJob) → IsReadyJob job → IsSettledOf settled job
-    → length (filter (λ cell. is_primary cell.settled.kind) (listed_cells settled))
-    ≡ length (filter (λ cell. is_primary cell.kind) settled.cells)
+-- a listing has as many cells, and as many primary ones, as the report of a release counts
+abbrev pub CellsAreCounted : Type 0
+CellsAreCounted =
+    (settled : SettledInputs) (job : SettledJob) → IsReadyJob job → IsSettledOf settled job → CountsAsReport settled
 
 -- where a release shows a cell, it shows what stands as the value in the cell's line
 abbrev pub ShownAreValues : Type 0

@@ -10,6 +10,7 @@ use Rattle.job_check.specs.Answers.{AnswersRelease, IsRightRelease}
 use Rattle.job_check.specs.ReleaseFiles.{ReleasedFiles}
 use Rattle.job_check.specs.declared.stop.CheckStop.{CheckStop}
 use Rattle.cell_listing.specs.ListedCells.{ListedCell, listed_cells}
+use Rattle.cell_listing.specs.Listings.{CountsAsReport}
 use Rattle.cell_listing.specs.Outcomes.{is_listed_hidden}
 use Rattle.cell_listing.specs.ReleasedListings.{outcome_at, released_listing}
 use Rattle.cell_listing.specs.declared.outcome.Origin.{Origin}
@@ -43,12 +44,14 @@ pub record ShowWhatIsListed (released : ReleasedFiles) (amounts : List ℤ) : Ty
   pub tables : AreTexts book released.settled.inputs.described.bound.decimals shown book.tables
       (map names_of released.settled.inputs.described.job.tables) released.tables
 
--- The listing of a release that a check accepts: the lines that say hidden are those of the certificate's hidden cells
--- and of the extra cells, each with what it came to that by, and the tables show what the lines say.
+-- The listing of a release that a check accepts: its lines are those that the report of a release counts, those that say
+-- hidden are those of the certificate's hidden cells and of the extra cells, each with what it came to that by, and the
+-- tables show what the lines say.
 pub record IsListingOf (released : ReleasedFiles) (text : List ℕ) : Type 0 where
   pub accepted : IsRightRelease released
   pub amounts : List ℤ
   pub text_is : text ≡ released_listing released amounts
+  pub counts : CountsAsReport released.settled
   pub hidden : (number : ℕ) → IsListedHidden released amounts number ↔
       ((is_listed_hidden released.certificate released.extra number ≡ true)
       × (number < length (listed_cells released.settled)))

@@ -6,7 +6,7 @@ use Rattle.office_io.specs.Shelves.{ShelfState}
 use Rattle.job_inputs.specs.Looks.{InputsComeTo}
 use Rattle.job_inputs.specs.ReadFiles.{limit, output_limit}
 use Rattle.job_inputs.specs.Reading.{HasCause, HasComeTo, HasOnlyLooked}
-use Rattle.job_inputs.specs.SettledJobs.{SettledInputs}
+use Rattle.job_inputs.specs.SettledJobs.{SettledInputs, settled_of}
 use Rattle.job_inputs.specs.SoundJobs.{AreSound}
 use Rattle.job_inputs.specs.declared.purpose.Purpose.TheVariants as purpose
 use Rattle.job_inputs.specs.declared.stop.InputStop.{InputStop}
@@ -15,7 +15,7 @@ use Rattle.job_check.specs.ReleaseFiles.{ReleasedFiles, released_of}
 use Rattle.job_check.specs.declared.stop.CheckStop.{CheckStop}
 use Rattle.job_check.specs.declared.stop.CheckStop.TheVariants as check
 use Rattle.cell_listing.specs.Calls.{IsListingAnswer}
-use Rattle.cell_listing.specs.Listings.{listing_in, listing_of}
+use Rattle.cell_listing.specs.Listings.{IsCellListing}
 use Rattle.cell_listing.specs.Releases.{AnswersReleased, IsListingOf}
 use Rattle.cell_listing.specs.declared.calls.ListStop.{ListStop}
 use Rattle.cell_listing.specs.declared.calls.ListStop.TheVariants as list
@@ -23,12 +23,12 @@ use Rattle.cell_listing.specs.declared.calls.ListStop.TheVariants as list
 -- A listing of the job of this name: its answer is what the told files come to, it comes to files in their order, and
 -- the shelf was only looked at.
 pub record IsListingRun (name : List ℕ) (answer : Result (Vec ℕ Global) ListStop) (old new : ShelfState) : Type 0 where
-  pub told : WhereTold old.files (λ fs. IsListingAnswer (listing_in fs name) answer)
+  pub told : WhereTold old.files (λ fs. IsListingAnswer (settled_of purpose.Release fs name) answer)
   pub came_to : WhereTold old.files (λ fs. (e : InputStop) → answer ≡ Err (list.Inputs e)
       → HasComeTo {X = Unit {0}} (InputsComeTo purpose.Release fs name) (Err e) fs new)
   pub shelf : HasOnlyLooked limit old new
   pub cause : (e : InputStop) → answer ≡ Err (list.Inputs e) → HasCause {X = Unit {0}} (Err e) old new
-  pub listed : IfOk answer (λ bytes. (settled : SettledInputs) × (bytes.items ≡ listing_of settled)
+  pub listed : IfOk answer (λ bytes. (settled : SettledInputs) × IsCellListing settled bytes.items
       × AreSound settled.inputs)
 
 -- The same of the job with its release, which is one that a check accepts: where it doesn't, the answer is that of the

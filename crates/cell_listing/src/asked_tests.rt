@@ -1,9 +1,14 @@
 use crate::asked::{AskStop, list_asked};
+use apriori::PriorWhy;
 use attackers::ExtraFault;
 use cert_check::CheckFault;
+use certificate::CertWhy;
 use job_check::CheckStop;
 use job_inputs::{Fault, FileRef, InputStop};
+use job_lang::JobWhy;
+use microdata::RowWhy;
 use office_io::MemoryShelf;
+use rda_meta::MetaWhy;
 use sdc_base::{Memory, Side, Text};
 use std::alloc::Global;
 use std::test::Fail;
@@ -187,9 +192,58 @@ const ODD_CODES: [File; 6] = [
 const ODD_CODES_LISTING: &[u8] =
     b"cell,tables,A,value,records,largest,second,status,rules,up,down,price,low,high,release,origin\n0,1,Total,26.5,5,10.5,7.0,fixed,,0.0,0.0,266,0.0,,shown,\n1,1,\"\"\"b\",7.0,1,7.0,0.0,free,FREQ P,0.0,0.0,71,0.0,,shown,\n2,1,\"a,\",12.5,2,10.5,2.0,primary,P,1.1,1.1,126,0.0,,hidden,primary\n3,1,\xff\xe9,7.0,2,3.5,3.5,primary,P,0.4,0.4,12,0.0,,hidden,primary\n";
 
-// What is said of the files, with this in place of what one of them holds, where it is there.
+// Codes of two levels, and all that an a priori file can state: one cell safe though a rule names it, one always shown, one
+// unsafe with a price and levels of its own, one with bounds, and one primary by a rule with levels of its own.
+const STATED: [File; 4] = [
+    (
+        b"r.job",
+        b"<OPENMICRODATA> \"m.asc\"\n<OPENMETADATA> \"m.rda\"\n<SPECIFYTABLE> \"Ind\"|\"Turn\"\n<SAFETYRULE> FREQ(3,30)|P(10)|MAN(20)\n<APRIORI> \"p.hst\",1,\";\"\n<SUPPRESS> MOD()\n<WRITETABLE> (1,\"t.csv\")\n<CERTIFICATE> \"t.cert\"\n",
+    ),
+    (
+        b"m.rda",
+        b"Ind 1 2\n<RECODEABLE>\n<HIERARCHICAL>\n<HIERLEVELS> 1 1 0 0 0\nTurn 3 3\n<NUMERIC>\n",
+    ),
+    (
+        b"m.asc",
+        b"11 10\n11 20\n11 30\n12  5\n12  5\n12  5\n21 40\n21  1\n21  1\n",
+    ),
+    (
+        b"p.hst",
+        b"21;s\n1;p\n11;u\n11;c;70\n11;pl;5;8\n12;b;10;100\n2;pl;0;9\n",
+    ),
+];
+
+const STATED_CELLS: &[u8] =
+    b"cell,tables,Ind,value,records,largest,second,status,rules,up,down,price,low,high\n0,1,Total,117,9,40,30,free,,0,0,118,0,\n1,1,1,75,6,30,20,fixed,,0,0,76,0,\n2,1,11,60,3,30,20,primary,u,8,5,70,0,\n3,1,12,15,3,5,5,free,,0,0,16,10,100\n4,1,2,42,3,40,1,primary,P,9,0,43,0,\n5,1,21,42,3,40,1,free,P,0,0,43,0,\n";
+
+const LINKED_CELLS: &[u8] =
+    b"cell,tables,A,B,value,records,largest,second,status,rules,up,down,price,low,high\n0,1 2,Total,Total,80,7,20,15,free,,0,0,81,0,\n1,1,a1,Total,20,2,10,10,primary,FREQ,6,6,21,0,\n2,1,a2,Total,60,5,20,15,free,,0,0,61,0,\n3,2,Total,b1,30,2,20,10,primary,FREQ,9,9,31,0,\n4,2,Total,b2,50,5,15,10,free,,0,0,51,0,\n";
+
+// A job that names every kind of file, of which the inputs alone are here.
+const NAMING_ALL: [File; 6] = [
+    (
+        b"r.job",
+        b"<OPENMICRODATA> \"m.asc\"\n<OPENMETADATA> \"m.rda\"\n<SPECIFYTABLE> \"A\"|\"V\"\n<SAFETYRULE> FREQ(3,30)\n<APRIORI> \"p.hst\",1,\";\"\n<SUPPRESS> MOD()\n<WRITETABLE> (1,\"t.csv\")\n<CERTIFICATE> \"t.cert\"\n<CONTRIBUTORS> \"t.extra\"\n",
+    ),
+    (
+        b"m.rda",
+        b"A 1 1\n<RECODEABLE>\n<CODELIST> \"a.cdl\"\n<HIERARCHICAL>\n<HIERCODELIST> \"a.hrc\"\n<HIERLEADSTRING> @\nV 2 3\n<NUMERIC>\n",
+    ),
+    (b"a.cdl", b"a,first\nb,second\n"),
+    (b"a.hrc", b"a\nb\n"),
+    (b"m.asc", b"a 10\nb 20\n"),
+    (b"p.hst", b"a;c;5\n"),
+];
+
+// The words that ask for the cells of a job, and for those of its release.
+const CELLS: [&[u8]; 1] = [b"r.job"];
+
+const RELEASED: [&[u8]; 2] = [b"r.job", b"--released"];
+
+// What is said of the files to words, with this in place of what one of them holds, where it is there.
 fn answer(
     alloc: Global,
+    asked: &[&[u8]],
     files: &[File],
     name: &[u8],
     other: Option<&[u8]>,
@@ -204,9 +258,26 @@ fn answer(
     }
     let mut shelf = MemoryShelf::new(held, Vec::new(alloc), 7);
     let mut words = Vec::new(alloc);
-    words.push(Text::from_slice(alloc, b"r.job")?)?;
-    words.push(Text::from_slice(alloc, b"--released")?)?;
+    for word in asked {
+        words.push(Text::from_slice(alloc, word)?)?;
+    }
     Ok(list_asked(alloc, words.as_slice(), &mut shelf))
+}
+
+#[test]
+fn listings_of_jobs(rt: HostRuntime) -> Result<(), Fail> {
+    let alloc = rt.alloc();
+    let rows = [
+        (STATED.as_slice(), STATED_CELLS),
+        (LINKED.as_slice(), LINKED_CELLS),
+    ];
+    for (files, listing) in rows {
+        match answer(alloc, CELLS.as_slice(), files, b"", None)? {
+            Ok(bytes) => assert_eq!(rt; bytes.as_slice(), listing),
+            Err(stop) => assert_eq!(rt; Some(stop), None),
+        }
+    }
+    Ok(())
 }
 
 #[test]
@@ -222,7 +293,7 @@ fn listings(rt: HostRuntime) -> Result<(), Fail> {
         (ODD_CODES.as_slice(), ODD_CODES_LISTING),
     ];
     for (files, listing) in rows {
-        match answer(alloc, files, b"", None)? {
+        match answer(alloc, RELEASED.as_slice(), files, b"", None)? {
             Ok(bytes) => assert_eq!(rt; bytes.as_slice(), listing),
             Err(stop) => assert_eq!(rt; Some(stop), None),
         }
@@ -279,6 +350,13 @@ fn no_release(rt: HostRuntime) -> Result<(), Fail> {
             Some(b"A,V\nTotal,30.0\na,20.0\nb,20.0\n".as_slice()),
             CheckStop::NotAccepted(CheckFault::Relation(0)),
         ),
+        // The extra cell is shown.
+        (
+            GUARDED.as_slice(),
+            b"t.csv",
+            Some(b"A,V\nTotal,150\na,x\nb,x\nc,30\nd,50\n".as_slice()),
+            CheckStop::NotAccepted(CheckFault::Release { table: 0, line: 5 }),
+        ),
         // No world keeps the second firm's cell open downwards against the first firm.
         (
             GUARDED.as_slice(),
@@ -294,8 +372,86 @@ fn no_release(rt: HostRuntime) -> Result<(), Fail> {
         ),
     ];
     for (files, name, other, wanted) in rows {
-        let said = answer(alloc, files, name, other)?;
+        let said = answer(alloc, RELEASED.as_slice(), files, name, other)?;
         assert_eq!(rt; said.err(), Some(AskStop::Stopped(wanted)));
+    }
+    Ok(())
+}
+
+// Each row has a file, what it holds, where it is there, and the fault that is wanted, of the cells and of a release.
+#[test]
+fn faults_of_inputs(rt: HostRuntime) -> Result<(), Fail> {
+    let alloc = rt.alloc();
+    let unquoted = Fault::Job {
+        line: 1,
+        why: JobWhy::BadValue,
+    };
+    let unplaced = Fault::Meta {
+        line: 1,
+        why: MetaWhy::BadPlace,
+    };
+    let short = Fault::Row {
+        number: 2,
+        why: RowWhy::Short,
+    };
+    let unknown = Fault::Prior {
+        table: 0,
+        line: 1,
+        why: PriorWhy::UnknownCode,
+    };
+    let rows = [
+        (
+            b"r.job".as_slice(),
+            Some(b"<OPENMICRODATA> m.asc\n".as_slice()),
+            unquoted,
+        ),
+        (b"m.rda", Some(b"A 1 0\n"), unplaced),
+        (b"a.cdl", None, Fault::Absent(FileRef::CodeList(0))),
+        (b"a.hrc", None, Fault::Absent(FileRef::Hierarchy(0))),
+        (b"m.asc", Some(b"a 10\na\n"), short),
+        (b"p.hst", Some(b"c;p\n"), unknown),
+    ];
+    for (name, other, fault) in rows {
+        let wanted = AskStop::Stopped(CheckStop::Inputs(InputStop::Refused(fault)));
+        for words in [CELLS.as_slice(), RELEASED.as_slice()] {
+            let said = answer(alloc, words, NAMING_ALL.as_slice(), name, other)?;
+            assert_eq!(rt; said.err(), Some(wanted));
+        }
+    }
+    Ok(())
+}
+
+// Each row has a file of a release, what it holds, where it is there, and the fault that is wanted.
+#[test]
+fn faults_of_a_release(rt: HostRuntime) -> Result<(), Fail> {
+    let alloc = rt.alloc();
+    let other_version = Fault::Certificate {
+        line: 1,
+        why: CertWhy::Version,
+    };
+    let other_word = Fault::Contributors {
+        line: 2,
+        why: CertWhy::Shape,
+    };
+    let rows = [
+        (
+            b"t.cert".as_slice(),
+            Some(b"argus certificate 9\n".as_slice()),
+            other_version,
+        ),
+        (b"t.extra", None, Fault::Absent(FileRef::Contributors)),
+        (
+            b"t.extra",
+            Some(b"argus contributors 1\nmore 3\nend\n"),
+            other_word,
+        ),
+        (b"t.csv", None, Fault::Absent(FileRef::Table(0))),
+    ];
+    for (name, other, fault) in rows {
+        let wanted = AskStop::Stopped(CheckStop::Inputs(InputStop::Refused(fault)));
+        let files = GUARDED.as_slice();
+        let said = answer(alloc, RELEASED.as_slice(), files, name, other)?;
+        assert_eq!(rt; said.err(), Some(wanted));
     }
     Ok(())
 }

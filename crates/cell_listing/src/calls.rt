@@ -3,12 +3,12 @@ ghost use Rattle.sdc_base.specs.WhereTold.{WhereTold};
 ghost use Rattle.job_inputs.specs.Looks.{InputsComeTo};
 ghost use Rattle.job_inputs.specs.ReadFiles.{limit};
 ghost use Rattle.job_inputs.specs.Reading.{HasCause, HasComeTo, HasOnlyLooked};
-ghost use Rattle.job_inputs.specs.SettledJobs.{SettledInputs};
+ghost use Rattle.job_inputs.specs.SettledJobs.{SettledInputs, settled_of};
 ghost use Rattle.job_inputs.specs.SoundJobs.{AreSound};
 ghost use Rattle.job_inputs.specs.declared.stop.InputStop.{InputStop as AnyStop};
 ghost use Rattle.cell_listing.specs.Calls.{IsListingAnswer};
 ghost use Rattle.cell_listing.specs.Calls as spec;
-ghost use Rattle.cell_listing.specs.Listings.{listing_in, listing_of};
+ghost use Rattle.cell_listing.specs.Listings.{IsCellListing};
 
 use crate::reading::list_job;
 use job_inputs::{InputStop, Purpose};
@@ -53,7 +53,7 @@ pub fn list_cells<S: Shelf>(
     ensures usage { (result ≡ Err ListStop.Usage) ↔ (spec.job_named words.now ≡ None) }
     // The answer is what the told files come to.
     ensures told { WhereTold (spec.job_named words.now) (λ name. WhereTold (S.state shelf.old).files
-        (λ fs. IsListingAnswer (listing_in fs name) result)) }
+        (λ fs. IsListingAnswer (settled_of Purpose.Release fs name) result)) }
     // Where the shelf failed at a file, it is one to which reading came with no fault before it.
     ensures came_to { WhereTold (spec.job_named words.now) (λ name. WhereTold (S.state shelf.old).files
         (λ fs. (e : AnyStop) → result ≡ Err (ListStop.Inputs e)
@@ -63,7 +63,7 @@ pub fn list_cells<S: Shelf>(
     ensures cause { (e : AnyStop) → result ≡ Err (ListStop.Inputs e)
         → HasCause {X = Unit {0}} (Err e) (S.state shelf.old) (S.state shelf.new) }
     // Of a shelf that tells nothing too.
-    ensures listed { IfOk result (λ bytes. (settled : SettledInputs) × (bytes.items ≡ listing_of settled)
+    ensures listed { IfOk result (λ bytes. (settled : SettledInputs) × IsCellListing settled bytes.items
         × AreSound settled.inputs) }
 {
     let Some(name) = job_named(words) else {

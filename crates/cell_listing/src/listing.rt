@@ -4,7 +4,7 @@ ghost use Rattle.release_writer.specs.Lines.{IsReadyWriter, AppendsText, bytes_w
 ghost use Rattle.job_inputs.specs.SettledJobs.{IsReadyJob, IsSettledOf, SettledInputs};
 ghost use Rattle.cell_listing.specs.ListedCells.{told_cells};
 ghost use Rattle.cell_listing.specs.Givens.{AreFieldsAt};
-ghost use Rattle.cell_listing.specs.Listings.{listing_text, listing_of, lines_of};
+ghost use Rattle.cell_listing.specs.Listings.{listing_text, lines_of, IsCellListing};
 ghost use Rattle.cell_listing.specs.Columns as spec;
 
 use crate::csv_line::{bytes_of, empty_writer, write_line};
@@ -33,7 +33,7 @@ pub fn listing_for(alloc: Global, job: &SettledJob) -> Result<Vec<u8>, Memory>
     ensures told { IfOk result (λ bytes. bytes.items
         ≡ listing_text job.now.described job.now.book.trees (told_cells job.now)) }
     ensures over_records { IfOk result (λ bytes. (settled : SettledInputs) → IsSettledOf settled job.now
-        → bytes.items ≡ listing_of settled) }
+        → IsCellListing settled bytes.items) }
 {
     let mut writer = empty_writer(alloc);
     write_names(alloc, &mut writer, job)?;

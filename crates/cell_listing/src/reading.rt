@@ -1,10 +1,10 @@
-ghost use Rattle.std.specs.Prelude.{◌≡◌, IfOk};
+ghost use Rattle.std.specs.Prelude.{IfOk};
 ghost use Rattle.job_inputs.specs.Looks.{InputsComeTo};
 ghost use Rattle.job_inputs.specs.ReadFiles.{limit};
-ghost use Rattle.job_inputs.specs.Reading.{IsReadFrom, IsSoundByItsType};
-ghost use Rattle.job_inputs.specs.SettledJobs.{SettledInputs};
+ghost use Rattle.job_inputs.specs.Reading.{HasLookedAt, IsSoundByItsType};
+ghost use Rattle.job_inputs.specs.SettledJobs.{SettledInputs, settled_of};
 ghost use Rattle.job_inputs.specs.SoundJobs.{AreSound};
-ghost use Rattle.cell_listing.specs.Listings.{listing_in, listing_of};
+ghost use Rattle.cell_listing.specs.Listings.{AreListed, IsCellListing};
 
 use crate::listing::listing_for;
 use job_inputs::{InputStop, Purpose, read_settled};
@@ -18,13 +18,12 @@ use std::alloc::Global;
 /// that of a release. Where the shelf fails at a file, the answer is `ReadFault` with the file; want of memory is
 /// `Memory`. The cost is that of reading each file once, with the records kept in memory; one look-up for each record
 /// and table, one look at each cell for each table and rule, and the length of the text. The order is argus's own.
-#[tactic(auto, unfolding(crate::specs::Listings::listing_in))]
 pub fn list_job<S: Shelf>(alloc: Global, shelf: &mut S, name: &Text) -> Result<Vec<u8>, InputStop>
-    ensures looked { IsReadFrom (λ bytes. bytes.items) (λ fs. listing_in fs name.now)
+    ensures looked { HasLookedAt (λ fs answer. AreListed answer (settled_of Purpose.Release fs name.now))
         (λ fs. InputsComeTo Purpose.Release fs name.now) IsSoundByItsType limit result
         (S.state shelf.old) (S.state shelf.new) }
     // Of a shelf that tells nothing too.
-    ensures listed { IfOk result (λ bytes. (settled : SettledInputs) × (bytes.items ≡ listing_of settled)
+    ensures listed { IfOk result (λ bytes. (settled : SettledInputs) × IsCellListing settled bytes.items
         × AreSound settled.inputs) }
 {
     let job = read_settled(alloc, shelf, name, Purpose::Release)?;
