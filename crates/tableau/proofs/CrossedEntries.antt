@@ -97,6 +97,17 @@ den_wide s row column wide =
     let list : list_any is_wide ((s.den *ℤ s.den) ∷ (s.den *ℤ big_p) ∷ []) ≡ true = or_right (is_wide (s.den *ℤ s.den)) (is_wide (s.den *ℤ big_p) || false) (or_left (is_wide (s.den *ℤ big_p)) false wide) in
     wide_pivot t row column row column refl (rw test list)
 
+-- where the pivot's row has no number, the one product for a row's own is wide
+pub alone_wide : (den p f : ℤ) (column v : ℕ) (pivot own : List Term) → coefficient pivot v ≡ pos 0 → coefficient pivot column ≢ pos 0 → is_wide (coefficient own v *ℤ p) ≡ true →
+    list_any is_wide (crossed_products den p f column v (coefficient own v) (coefficient pivot v)) ≡ true
+alone_wide den p f column v pivot own none some wide =
+    let e : ℤ = coefficient own v in
+    let g : ℤ = coefficient pivot v in
+    let apart : v ≢ column = λ same. some (ap (coefficient pivot) (sym same) ∙ none) in
+    let test : (v == column) ≡ false = grind (arith, nat_tests) in
+    let products : list_any is_wide ((e *ℤ p) ∷ (f *ℤ g) ∷ (e *ℤ p -ℤ f *ℤ g) ∷ []) ≡ true = or_left (is_wide (e *ℤ p)) (is_wide (f *ℤ g) || (is_wide (e *ℤ p -ℤ f *ℤ g) || false)) wide in
+    rw test products
+
 -- a fault of a row, where it is told
 pub fault_wide : (s : SparseTable) (row column k last i j : ℕ) (fault : RowFault) → last ≡ length s.others.items → row < length s.members.items → column < length s.others.items → k ≤ length s.members.items → IsFaultAt k row column last fault i j →
     ((place : ℕ) → fault ≡ faults.Wide place → place ≤ length s.others.items → IsWideAt (table_of s) row column k place) → ((place : ℕ) → fault ≡ faults.Wide place → length s.others.items < place → IsWideAt (table_of s) row column row column) → IsWidePlace (table_of s) row column i j

@@ -1,6 +1,6 @@
 -- The numbers of a list, one by one.
 use Rattle.std.proofs.Common.{◌≡◌, ◌≢◌, ◌==◌, true, false, ℕ, zero, suc, ◌+◌, ◌-◌, ◌<◌, ◌≤◌, List, [], ◌∷◌, length, zip, slice_index, slice_index_or, All, ℤ, pos, ◌-ℤ◌, ◌*ℤ◌, ◌<ℤ◌, ◌≤ℤ◌, arith, refl, ap, sym, subst, ◌∙◌, if◌then◌else◌}
-use Rattle.std.proofs.Math.IntN.{*ℤ_comm}
+use Rattle.std.proofs.Math.IntN.{*ℤ_comm, *ℤ-zero, zero-*ℤ}
 use Rattle.std.proofs.lemmas.Int.{ints}
 use Rattle.std.proofs.lemmas.Bool.Decides.{nat_tests}
 use Rattle.std.proofs.lemmas.List.Elements.{All-from_get_or}
@@ -15,6 +15,10 @@ use Rattle.tableau.specs.Readings.{member_values, value_for}
 use Rattle.std.proofs.lemmas.List.{get_or-map, length-map}
 use Rattle.tableau.specs.RowLists.{IsLexPositive, list_of, list_size, lead}
 use Rattle.tableau.specs.Walks.{IsTableOf}
+use Rattle.tableau.specs.declared.sparse_table.SparseTable.{SparseTable}
+use Rattle.tableau.specs.SparseTables.{table_of, factor_at}
+use Rattle.tableau.proofs.SparseTables.{row_number}
+use Rattle.tableau.proofs.ReadNumbers.{named_or_none}
 use Rattle.tableau.proofs.Independent.{absent, own_number}
 use Rattle.tableau.proofs.Beginnings.{first_above}
 use Rattle.tableau.proofs.Rising.{product_above}
@@ -99,6 +103,54 @@ lead_none_over p q x y c d p' q' x' y' ep eq ex ey same =
 pub lead_above_over : (p q x y c d p' q' x' y' : ℤ) → pos 1 ≤ℤ c → pos 1 ≤ℤ d → p *ℤ c ≡ p' → q *ℤ d ≡ q' → x *ℤ c ≡ x' → y *ℤ d ≡ y' → (x *ℤ q) <ℤ (y *ℤ p) → pos 0 <ℤ (p' *ℤ y' -ℤ q' *ℤ x')
 lead_above_over p q x y c d p' q' x' y' c_up d_up ep eq ex ey less =
     omega (arith, ints, times_more (c *ℤ d) (x *ℤ q) (y *ℤ p) (omega (arith, ints, product_above c d c_up (omega (arith, ints)))) less, both_over q x d c q' x' eq ex, both_over p y c d p' y' ep ey, ap (λ t. t *ℤ (x *ℤ q)) (*ℤ_comm c d))
+
+-- ---- lists that are gone through by the entries of two rows
+
+-- where the numbers at a place are the same over those in the column, the lists are at its slack
+pub slack_same : (problem : Problem) (s : SparseTable) (column one other k : ℕ) (p q x y : ℤ) → IsTableOf problem (table_of s) → one < length s.members.items → other < length s.members.items → k < length s.others.items → problem.columns ≤ slice_index s.others.items k →
+    x ≡ coefficient (slice_index_or s.rows.items one []) k → y ≡ coefficient (slice_index_or s.rows.items other []) k →
+    p *ℤ factor_at s one ≡ number_at (slice_index_or (table_of s).rows one []) column → q *ℤ factor_at s other ≡ number_at (slice_index_or (table_of s).rows other []) column →
+    x *ℤ q ≡ y *ℤ p → lead problem (table_of s) column other one (slice_index s.others.items k - problem.columns + 1) ≡ pos 0
+slack_same problem s column one other k p q x y kept one_in other_in k_in slack x_is y_is ep eq same =
+    let t : Table = table_of s in
+    let v : ℕ = slice_index s.others.items k in
+    let place : ℕ = v - problem.columns + 1 in
+    let behind : place ≢ 0 = omega arith in
+    let v_is : v ≡ problem.columns + (place - 1) = omega (arith, slack) in
+    let ex : x *ℤ factor_at s one ≡ list_of problem t one place = ap (λ z. z *ℤ factor_at s one) x_is ∙ row_number s one k one_in (omega (arith, k_in)) ∙ list_other problem t one place v k kept one_in behind v_is (kept.basis.apart one k one_in k_in) k_in refl in
+    let ey : y *ℤ factor_at s other ≡ list_of problem t other place = ap (λ z. z *ℤ factor_at s other) y_is ∙ row_number s other k other_in (omega (arith, k_in)) ∙ list_other problem t other place v k kept other_in behind v_is (kept.basis.apart other k other_in k_in) k_in refl in
+    lead_none_over p q x y (factor_at s one) (factor_at s other) (number_at (slice_index_or t.rows one []) column) (number_at (slice_index_or t.rows other []) column) (list_of problem t one place) (list_of problem t other place) ep eq ex ey same
+
+-- and where neither row has a number
+pub slack_none : (problem : Problem) (s : SparseTable) (column one other k : ℕ) (p q : ℤ) → IsTableOf problem (table_of s) → one < length s.members.items → other < length s.members.items → k < length s.others.items → problem.columns ≤ slice_index s.others.items k →
+    coefficient (slice_index_or s.rows.items one []) k ≡ pos 0 → coefficient (slice_index_or s.rows.items other []) k ≡ pos 0 →
+    p *ℤ factor_at s one ≡ number_at (slice_index_or (table_of s).rows one []) column → q *ℤ factor_at s other ≡ number_at (slice_index_or (table_of s).rows other []) column →
+    lead problem (table_of s) column other one (slice_index s.others.items k - problem.columns + 1) ≡ pos 0
+slack_none problem s column one other k p q kept one_in other_in k_in slack none other_none ep eq =
+    slack_same problem s column one other k p q (pos 0) (pos 0) kept one_in other_in k_in slack (sym none) (sym other_none) ep eq (zero-*ℤ q ∙ sym (zero-*ℤ p))
+
+-- lists that are the same at each slack among the others, before those of the two members, are the same before these
+pub slacks_same : (problem : Problem) (table : Table) (column one other apart : ℕ) → IsTableOf problem table → one < length table.members → other < length table.members →
+    (problem.columns ≤ slice_index table.members one → apart ≤ slice_index table.members one - problem.columns + 1) → (problem.columns ≤ slice_index table.members other → apart ≤ slice_index table.members other - problem.columns + 1) →
+    ((k : ℕ) → k < length table.others → problem.columns ≤ slice_index table.others k → slice_index table.others k - problem.columns + 1 < apart → lead problem table column other one (slice_index table.others k - problem.columns + 1) ≡ pos 0) →
+    (i : ℕ) → i ≢ 0 → i < apart → lead problem table column other one i ≡ pos 0
+slacks_same problem table column one other apart kept one_in other_in one_up other_up same i behind below =
+    let v : ℕ = problem.columns + (i - 1) in
+    let g : ℕ → ℤ = lead problem table column other one in
+    let not_one : slice_index table.members one ≢ v = λ is. absurd (omega (arith, is, behind, below, one_up (omega (arith, is)))) in
+    let not_other : slice_index table.members other ≢ v = λ is. absurd (omega (arith, is, behind, below, other_up (omega (arith, is)))) in
+    named_or_none table.others (length table.others) v
+    (λ k k_in is.
+    let here : slice_index table.others k - problem.columns + 1 ≡ i = omega (arith, is, behind) in
+    ap g (sym here) ∙ same k k_in (omega (arith, is)) (omega (arith, here, below)))
+    (λ none.
+    let own_none : list_of problem table one i ≡ pos 0 = sym (list_none problem table one i v behind refl not_one none) in
+    let other_none : list_of problem table other i ≡ pos 0 = sym (list_none problem table other i v behind refl not_other none) in
+    let p : ℤ = number_at (slice_index_or table.rows one []) column in
+    let q : ℤ = number_at (slice_index_or table.rows other []) column in
+    let first : q *ℤ list_of problem table one i ≡ pos 0 = ap (λ z. q *ℤ z) own_none ∙ *ℤ-zero q in
+    let second : p *ℤ list_of problem table other i ≡ pos 0 = ap (λ z. p *ℤ z) other_none ∙ *ℤ-zero p in
+    omega (arith, ints, first, second))
 
 -- ---- what is read off a table
 

@@ -13,7 +13,7 @@ use Rattle.tableau.specs.OwnRows.{own_den, factor_of, row_over, IsOwnRow}
 use Rattle.tableau.proofs.Ascending.{first_entry, not_first}
 use Rattle.tableau.proofs.Independent.{by_less}
 use Rattle.tableau.proofs.Rising.{product_above}
-use Rattle.tableau.proofs.Places.{ascend_of, place_within, append_before, number_spread, length-numbers_then_value, from_found}
+use Rattle.tableau.proofs.Places.{ascend_of, ascend_le, ascend_less, from_none_here, place_within, append_before, number_spread, length-numbers_then_value, from_found}
 
 -- ---- factors
 
@@ -107,6 +107,42 @@ from_last width i entries sparse last i_is =
     (λ within.
     let same : slice_index_or entries i d ≡ (width, coefficient entries width) = ap (λ (t : List Term). slice_index_or t i d) last.is ∙ get_or_at last.bare (width, coefficient entries width) [] d i (sym size) in
     subst (λ (e : Term). width ≤ e.0) (sym same) (omega arith))
+
+pub last_place : (width i : ℕ) (entries : List Term) → HasLast 0 width entries → i + 1 ≡ length entries → (slice_index_or entries i (0, pos 0)).0 ≡ width
+last_place width i entries last i_is =
+    let d : Term = (0, pos 0) in
+    let size : i ≡ length last.bare = omega (arith, i_is, length-last width entries last) in
+    let same : slice_index_or entries i d ≡ (width, coefficient entries width) = ap (λ (t : List Term). slice_index_or t i d) last.is ∙ get_or_at last.bare (width, coefficient entries width) [] d i (sym size) in
+    ap (λ (e : Term). e.0) same
+
+-- the last entry but one is the value's, or there is none
+pub from_value : (width i : ℕ) (entries : List Term) → IsSparse 0 (width + 1) entries → i + 2 ≡ length entries → 0 < width → width - 1 ≤ (slice_index_or entries i (0, pos 0)).0 → AreEntriesFrom (width - 1) i entries
+from_value width i entries sparse i_is up at =
+    let d : Term = (0, pos 0) in
+    let ascend = ascend_of 0 (width + 1) entries sparse in
+    let last_in : (slice_index_or entries (i + 1) d).0 < width + 1 = place_within 0 (width + 1) (i + 1) d entries sparse (omega arith) in
+    let order : (slice_index_or entries i d).0 < (slice_index_or entries (i + 1) d).0 = ascend_less 0 i (i + 1) d entries ascend (omega arith) (omega arith) in
+    from_found i (width - 1) d entries ascend
+    (λ k below within. let less : (slice_index_or entries k d).0 < (slice_index_or entries i d).0 = ascend_less 0 k i d entries ascend below (omega arith) in omega (arith, less, order, last_in))
+    (λ within. at)
+
+pub no_value : (width i : ℕ) (entries : List Term) → IsSparse 0 (width + 1) entries → HasLast 0 width entries → i + 2 ≡ length entries → 0 < width → (slice_index_or entries i (0, pos 0)).0 < width - 1 → pos 0 ≡ coefficient entries (width - 1)
+no_value width i entries sparse last i_is up at =
+    let d : Term = (0, pos 0) in
+    let ascend = ascend_of 0 (width + 1) entries sparse in
+    let own : (slice_index_or entries (i + 1) d).0 ≡ width = last_place width (i + 1) entries last (omega arith) in
+    let here : AreEntriesFrom (width - 1) (i + 1) entries =
+    from_found (i + 1) (width - 1) d entries ascend
+    (λ k below within. let less : (slice_index_or entries k d).0 ≤ (slice_index_or entries i d).0 = ascend_le 0 k i d entries ascend (omega arith) (omega arith) in omega (arith, less, at))
+    (λ within. omega (arith, own)) in
+    from_none_here (i + 1) (width - 1) d entries here (omega arith) (λ same. absurd (omega (arith, same, own, up)))
+
+pub lone_value : (width : ℕ) (entries : List Term) → IsSparse 0 (width + 1) entries → HasLast 0 width entries → length entries < 2 → 0 < width → pos 0 ≡ coefficient entries (width - 1)
+lone_value width entries sparse last short up =
+    let d : Term = (0, pos 0) in
+    let own : (slice_index_or entries 0 d).0 ≡ width = last_place width 0 entries last (omega (arith, some_last width entries last)) in
+    let here : AreEntriesFrom (width - 1) 0 entries = from_found 0 (width - 1) d entries (ascend_of 0 (width + 1) entries sparse) (λ k below within. absurd (omega (arith, below))) (λ within. omega (arith, own)) in
+    from_none_here 0 (width - 1) d entries here (some_last width entries last) (λ same. absurd (omega (arith, same, own, up)))
 
 -- ---- signs
 

@@ -1,5 +1,5 @@
 -- Lists of places with numbers, and the rows that they stand for.
-use Rattle.std.proofs.Common.{◌≡◌, ◌≢◌, ◌==◌, true, false, ℕ, zero, suc, ◌+◌, ◌<◌, ◌≤◌, List, [], ◌∷◌, ◌++◌, length, drop, slice_index_or, ℤ, pos, negsuc, arith, refl, ap, sym, subst, ◌∙◌, if◌then◌else◌}
+use Rattle.std.proofs.Common.{◌≡◌, ◌≢◌, ◌==◌, true, false, ℕ, zero, suc, ◌+◌, ◌<◌, ◌≤◌, List, [], ◌∷◌, ◌++◌, length, drop, slice_index_or, ℤ, pos, negsuc, ◌*ℤ◌, arith, refl, ap, sym, subst, ◌∙◌, if◌then◌else◌}
 use Rattle.std.proofs.Math.IntN.{*ℤ_comm}
 use Rattle.std.proofs.lemmas.Int.{ints}
 use Rattle.std.proofs.lemmas.Bool.Decides.{nat_tests}
@@ -170,6 +170,13 @@ ascend_le from zero (suc j) d (entry ∷ entries) ascend up below = omega (arith
 ascend_le from (suc i) zero d (entry ∷ entries) ascend up below = absurd (omega arith)
 ascend_le from (suc i) (suc j) d (entry ∷ entries) ascend up below = ascend_le (suc entry.0) i j d entries ascend.1 (omega arith) (omega arith)
 
+pub ascend_less : (from i j : ℕ) (d : Term) (entries : List Term) → AscendFrom from entries → i < j → j < length entries → (slice_index_or entries i d).0 < (slice_index_or entries j d).0
+ascend_less from i j d [] ascend up below = absurd (omega arith)
+ascend_less from zero zero d (entry ∷ entries) ascend up below = absurd (omega arith)
+ascend_less from zero (suc j) d (entry ∷ entries) ascend up below = omega (arith, ascend_up (suc entry.0) j d entries ascend.1 (omega arith))
+ascend_less from (suc i) zero d (entry ∷ entries) ascend up below = absurd (omega arith)
+ascend_less from (suc i) (suc j) d (entry ∷ entries) ascend up below = ascend_less (suc entry.0) i j d entries ascend.1 (omega arith) (omega arith)
+
 ascend_drop : (from i : ℕ) (entries : List Term) → AscendFrom from entries → AscendFrom from (drop i entries)
 ascend_drop from zero entries ascend = ascend
 ascend_drop from (suc i) [] ascend = tt
@@ -196,15 +203,9 @@ from_found i place d entries ascend before behind = record {
 
 -- ---- two rows crossed
 
-pub crossed_none : (den p f : ℤ) (column v : ℕ) (pivot own : List Term) → coefficient own v ≡ pos 0 → coefficient pivot v ≡ pos 0 → (coefficient pivot column ≡ pos 0 → f ≡ pos 0) → crossed_at den p f column pivot own v ≡ pos 0
-crossed_none den p f column v pivot own own_none pivot_none some =
-    by_less v column
-    (λ less. let test : (v == column) ≡ false = let apart : v ≢ column = omega arith in grind (arith, nat_tests) in rw (test, own_none, pivot_none) (omega (arith, ints, *ℤ_comm f (pos 0))))
-    (λ more.
-    by_less column v
-    (λ less. let test : (v == column) ≡ false = let apart : v ≢ column = omega arith in grind (arith, nat_tests) in rw (test, own_none, pivot_none) (omega (arith, ints, *ℤ_comm f (pos 0))))
-    (λ most.
-    let same : v ≡ column = omega arith in
-    let test : (v == column) ≡ true = grind (arith, nat_tests) in
-    let none : f ≡ pos 0 = some (ap (coefficient pivot) (sym same) ∙ pivot_none) in
-    rw (test, none) (omega (arith, ints))))
+-- where the pivot's row has no number, a row's own is taken p times
+pub crossed_alone : (den p f : ℤ) (column v : ℕ) (pivot own : List Term) → coefficient pivot v ≡ pos 0 → coefficient pivot column ≢ pos 0 → crossed_at den p f column pivot own v ≡ coefficient own v *ℤ p
+crossed_alone den p f column v pivot own none some =
+    let apart : v ≢ column = λ same. some (ap (coefficient pivot) (sym same) ∙ none) in
+    let test : (v == column) ≡ false = grind (arith, nat_tests) in
+    rw (test, none) (omega (arith, ints, *ℤ_comm f (pos 0)))

@@ -6,7 +6,7 @@ use Rattle.sdc_base.specs.Forms.{Term, coefficient}
 use Rattle.tableau.specs.declared.sparse_table.SparseTable.{SparseTable}
 use Rattle.tableau.specs.Entries.{IsSparse}
 use Rattle.tableau.specs.OwnRows.{own_den, row_over, IsOwnRow}
-use Rattle.tableau.specs.SparseTables.{table_of, width_of, factor_at, IsSoundTable}
+use Rattle.tableau.specs.SparseTables.{table_of, width_of, factor_at, column_of, IsSoundTable}
 use Rattle.tableau.specs.Tables.{HasShape}
 use Rattle.sdc_base.specs.Systems.{number_at}
 use Rattle.tableau.specs.Widths.{all_rows}
@@ -44,6 +44,14 @@ all_row_is s k within =
 
 pub all_number : (s : SparseTable) (k j : ℕ) → k ≤ length s.members.items → j ≤ length s.others.items → coefficient (slice_index_or s.rows.items k []) j *ℤ factor_at s k ≡ number_at (slice_index_or (all_rows (table_of s)) k []) j
 all_number s k j below within = sym (ap (λ (r : List ℤ). number_at r j) (all_row_is s k below) ∙ over_at s.den (width_of s) j (slice_index_or s.rows.items k []) (omega arith))
+
+-- ---- the numbers of a column
+
+pub column_at : (s : SparseTable) (column k : ℕ) → k ≤ length s.members.items → slice_index_or (column_of s column) k (pos 0) ≡ coefficient (slice_index_or s.rows.items k []) column
+column_at s column k within = get_or-map (λ (entries : List Term). coefficient entries column) s.rows.items k [] (pos 0) (omega (arith, s.filled))
+
+pub length-column : (s : SparseTable) (column : ℕ) → length (column_of s column) ≡ length s.members.items + 1
+length-column s column = length-map s.rows.items (λ (entries : List Term). coefficient entries column) ∙ s.filled
 
 -- ---- a table that is sound
 

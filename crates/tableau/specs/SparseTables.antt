@@ -1,6 +1,7 @@
 -- Lists of places with numbers, seen as the rows of a table (own).
-use Rattle.std.specs.Prelude.{◌+◌, [], length, map, take, slice_index_or, ◌≡◌, ℕ, ℤ}
+use Rattle.std.specs.Prelude.{◌+◌, [], length, map, take, slice_index_or, ◌≡◌, ℕ, ℤ, List}
 use Rattle.tableau.specs.declared.sparse_table.SparseTable.{SparseTable}
+use Rattle.sdc_base.specs.Forms.{coefficient}
 use Rattle.tableau.specs.OwnRows.{row_over, factor_of, AreOwnRows}
 use Rattle.tableau.specs.Tables.{Table}
 use Rattle.tableau.specs.Readings.{member_values}
@@ -25,6 +26,10 @@ width_of table = length table.others.items + 1
 -- how many times the own den of the k-th row is the table's
 abbrev pub factor_at : SparseTable → ℕ → ℤ
 factor_at table k = factor_of table.den (width_of table) (slice_index_or table.rows.items k [])
+
+-- the numbers of all rows at a place, each over the row's own den
+abbrev pub column_of : SparseTable → ℕ → List ℤ
+column_of table column = map (λ entries. coefficient entries column) table.rows.items
 
 -- rows are over dens of their own, and what is kept over the table's den are the members' values and the objective's
 -- numbers

@@ -1,20 +1,21 @@
-ghost use Rattle.std.specs.Prelude.{◌≡◌, ◌≢◌, ℕ, ◌+◌, ◌<◌, ◌≤◌, [], ◌∷◌, length, slice_index_or, pos, ◌*ℤ◌, ◌-ℤ◌, ◌<ℤ◌, ◌≤ℤ◌, true, IfOk, IfSome, IfNone, Err};
+ghost use Rattle.std.specs.Prelude.{◌≡◌, ◌≢◌, ℕ, ℤ, ◌+◌, ◌<◌, ◌≤◌, [], ◌∷◌, length, slice_index_or, pos, ◌*ℤ◌, ◌-ℤ◌, ◌<ℤ◌, ◌≤ℤ◌, true, IfOk, OnOk, IfSome, IfNone, Err};
 ghost use Rattle.std.specs.List.{list_any};
 ghost use Rattle.sdc_base.specs.Forms.{coefficient};
 ghost use Rattle.tableau.specs.ProblemForm.{AscendFrom};
-ghost use Rattle.tableau.specs.Entries.{IsSparse, AreEntriesBelow, crossed_value, crossed_products, crossed_at};
+ghost use Rattle.tableau.specs.Entries.{IsSparse, AreEntriesFrom, AreEntriesBelow, crossed_value, crossed_products, crossed_at};
 ghost use Rattle.tableau.specs.OwnRows.{own_den};
 ghost use Rattle.tableau.specs.Widths.{is_wide, IsWidePlace};
-ghost use Rattle.tableau.specs.SparseTables.{table_of, width_of, IsSoundTable};
+ghost use Rattle.tableau.specs.SparseTables.{table_of, column_of, IsSoundTable};
 ghost use Rattle.tableau.specs.NewRows.{placed_list, IsPivot, IsNewRow};
 
 use crate::common_divisor::gcd;
 use crate::dividing::quotient;
-use crate::entries::{entry_at, entry_here, least_place, place_at, put};
+use crate::entries::{entry_here, least_place, place_at, put};
 use crate::faults::{ExchangeFault, RowFault, at_place};
 use crate::lowest_row::lowest_row;
+use crate::numbers_over::number_over;
 use crate::products::{narrow_difference, narrow_product};
-use crate::sparse_rows::{bare_row, den_of, row_of};
+use crate::sparse_rows::{column_number, row_of};
 use crate::sparse_table::SparseTable;
 use sdc_base::Items;
 use std::alloc::Global;
@@ -67,6 +68,46 @@ fn number_outside(
     Some(number)
 }
 
+// Puts the numbers of a row's own entries before a place, each p times, behind the ones that are made, and tells how
+// many entries are passed.
+fn put_own(
+    made: &mut Vec<(u32, i128)>,
+    own: &[(u32, i128)],
+    p: i128,
+    first: usize,
+    from: u32,
+    place: u32,
+) -> Result<usize, RowFault>
+    requires within { from ≤ place }
+    requires own { AreEntriesFrom from first own.now }
+    ensures past { IfOk result (λ past. AreEntriesFrom place past own.now) }
+    ensures made { OnOk result ((numbers : ℕ → ℤ) → AreEntriesBelow from numbers made.old.items
+        → ((v : ℕ) → from ≤ v → v < place → numbers v ≡ coefficient own.now v *ℤ p)
+        → AreEntriesBelow place numbers made.new.items) }
+    ensures wide { (j : ℕ) → result ≡ Err (RowFault.Wide j)
+        → (from ≤ j) × (j < place) × (is_wide (coefficient own.now j *ℤ p) ≡ true) }
+{
+    let mut i = first;
+    let mut next = from;
+    'run: while next < place {
+        let at = place_at(own, i, place);
+        if at >= place {
+            return Ok(i);
+        }
+        let here = entry_here(own, i, at);
+        let Some(number) = number_over(here.0, p) else {
+            return Err(RowFault::Wide(at as usize));
+        };
+        match put(made, at, number) {
+            Ok(()) => {}
+            Err(_) => return Err(RowFault::Memory),
+        }
+        i = here.1;
+        next = at + 1;
+    }
+    Ok(i)
+}
+
 // The entries of a row after the exchange: each number p times, less f times the pivot's.
 fn crossed_row(
     alloc: Global,
@@ -80,7 +121,7 @@ fn crossed_row(
 ) -> Result<Items<(u32, i128)>, RowFault>
     requires pivot { AscendFrom 0 pivot.now }
     requires own { AscendFrom 0 own.now }
-    requires column { coefficient pivot.now column ≡ pos 0 → f ≡ pos 0 }
+    requires column { coefficient pivot.now column ≢ pos 0 }
     ensures ok { IfOk result (λ made. AreEntriesBelow width (crossed_at den p f column pivot.now own.now) made) }
     ensures wide { (j : ℕ) → result ≡ Err (RowFault.Wide j)
         → (j < width) × (list_any is_wide
@@ -93,7 +134,11 @@ fn crossed_row(
     let mut j = 0;
     let mut next = 0u32;
     'merge: while next < width {
-        let place = least_place(place_at(own, i, width), place_at(pivot, j, width));
+        let place = least_place(place_at(pivot, j, width), width);
+        i = match put_own(&mut made, own, p, i, next, place) {
+            Ok(past) => past,
+            Err(fault) => return Err(fault),
+        };
         if place >= width {
             return Ok(Items::new(made));
         }
@@ -191,6 +236,7 @@ pub(crate) fn made_row(
     bare: &[(u32, i128)],
     den: i128,
     p: i128,
+    numbers: &[i128],
     row: usize,
     column: usize,
     k: usize,
@@ -199,6 +245,7 @@ pub(crate) fn made_row(
     requires row { row < length table.now.members.items }
     requires column { column < length table.now.others.items }
     requires pivot { IsPivot table.now row column bare.now den p }
+    requires numbers { numbers.now ≡ column_of table.now column }
     requires within { k ≤ length table.now.members.items }
     ensures ok { IfOk result (λ new. IsNewRow table.now row column k
         (placed_list (slice_index_or table.now.rows.items k []) new)) }
@@ -210,7 +257,7 @@ pub(crate) fn made_row(
             Err(fault) => return Err(fault),
         }
     }
-    let f = entry_at(row_of(table, k), column as u32);
+    let f = column_number(table, numbers, column, k);
     if f == 0 {
         return Ok(None);
     }

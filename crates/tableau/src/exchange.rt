@@ -4,15 +4,14 @@ ghost use Rattle.sdc_base.specs.Systems.{number_at};
 ghost use Rattle.tableau.specs.Steps.{IsInLowestTerms};
 ghost use Rattle.tableau.specs.Widths.{IsWidePlace};
 ghost use Rattle.tableau.specs.NewRows.{AreNewRows, AreExchanged, placed_lists};
-ghost use Rattle.tableau.specs.SparseTables.{table_of, width_of, IsSoundTable};
+ghost use Rattle.tableau.specs.SparseTables.{table_of, width_of, column_of, IsSoundTable};
 
 use crate::crossing::made_row;
-use crate::entries::entry_at;
 use crate::faults::{ExchangeFault, at_place};
 use crate::multiples::{placed, rows_den};
 use crate::numbers_over::{row_numbers, values_over};
 use crate::placing::place_rows;
-use crate::sparse_rows::{bare_row, den_of, row_of};
+use crate::sparse_rows::{bare_row, column_number, den_of, row_of};
 use crate::sparse_table::SparseTable;
 use sdc_base::Items;
 use std::alloc::Global;
@@ -31,12 +30,14 @@ struct ExchangedRows {
 fn new_rows(
     alloc: Global,
     table: &SparseTable,
+    numbers: &[i128],
     row: usize,
     column: usize,
 ) -> Result<Vec<Option<Items<(u32, i128)>>>, ExchangeFault>
     requires sound { IsSoundTable table.now }
     requires row { row < length table.now.members.items }
     requires column { column < length table.now.others.items }
+    requires numbers { numbers.now ≡ column_of table.now column }
     requires above { pos 1 ≤ℤ number_at (slice_index_or (table_of table.now).rows row []) column }
     ensures long { IfOk result (λ news. length news.items ≡ length table.now.members.items + 1) }
     ensures ok { IfOk result (λ news. AreNewRows table.now row column (placed_lists table.now.rows.items news.items)) }
@@ -46,12 +47,12 @@ fn new_rows(
     let width = table.others.len() as u32 + 1;
     let bare = bare_row(pivot, width);
     let den = den_of(pivot, width);
-    let p = entry_at(pivot, column as u32);
+    let p = column_number(table, numbers, column, row);
     let Ok(mut news) = Vec::with_capacity(alloc, table.rows.len()) else {
         return Err(ExchangeFault::Memory);
     };
     for k in 0..table.members.len() + 1 {
-        let new = match made_row(alloc, table, bare, den, p, row, column, k) {
+        let new = match made_row(alloc, table, bare, den, p, numbers, row, column, k) {
             Ok(new) => new,
             Err(fault) => return Err(fault),
         };
@@ -67,18 +68,20 @@ fn new_rows(
 fn exchanged_rows(
     alloc: Global,
     table: &SparseTable,
+    numbers: &[i128],
     row: usize,
     column: usize,
 ) -> Result<ExchangedRows, ExchangeFault>
     requires sound { IsSoundTable table.now }
     requires row { row < length table.now.members.items }
     requires column { column < length table.now.others.items }
+    requires numbers { numbers.now ≡ column_of table.now column }
     requires above { pos 1 ≤ℤ number_at (slice_index_or (table_of table.now).rows row []) column }
     ensures ok { IfOk result (λ made. AreExchanged table.now row column made.den made.rows.items
         made.values.items made.objective.items) }
     ensures wide { (k j : ℕ) → result ≡ Err (ExchangeFault.Wide k j) → IsWidePlace (table_of table.now) row column k j }
 {
-    let rows = match new_rows(alloc, table, row, column) {
+    let rows = match new_rows(alloc, table, numbers, row, column) {
         Ok(rows) => rows,
         Err(fault) => return Err(fault),
     };
@@ -109,12 +112,14 @@ fn exchanged_rows(
 pub(crate) fn exchange(
     table: &mut SparseTable,
     alloc: Global,
+    numbers: &[i128],
     row: usize,
     column: usize,
 ) -> Result<(), ExchangeFault>
     requires sound { IsSoundTable table.old }
     requires row { row < length table.old.members.items }
     requires column { column < length table.old.others.items }
+    requires numbers { numbers.now ≡ column_of table.old column }
     requires above { pos 1 ≤ℤ number_at (slice_index_or (table_of table.old).rows row []) column }
     ensures ok { OnOk result ((d : ℤ) × IsInLowestTerms d (exchanged_table (table_of table.old) row column)
         (table_of table.new)) }
@@ -122,7 +127,7 @@ pub(crate) fn exchange(
     ensures err { OnErr result (table.new ≡ table.old) }
     ensures wide { (k j : ℕ) → result ≡ Err (ExchangeFault.Wide k j) → IsWidePlace (table_of table.old) row column k j }
 {
-    let made = match exchanged_rows(alloc, table, row, column) {
+    let made = match exchanged_rows(alloc, table, numbers, row, column) {
         Ok(made) => made,
         Err(fault) => return Err(fault),
     };

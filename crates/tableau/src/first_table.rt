@@ -102,7 +102,11 @@ fn spread(alloc: Global, entries: &[(u32, i128)], width: u32) -> Result<Vec<i128
 }
 
 // The numbers of rows at a place.
-fn numbers_at(alloc: Global, lists: &[Items<(u32, i128)>], place: u32) -> Result<Vec<i128>, Memory>
+pub(crate) fn numbers_at(
+    alloc: Global,
+    lists: &[Items<(u32, i128)>],
+    place: u32,
+) -> Result<Vec<i128>, Memory>
     requires { All (λ entries. AscendFrom 0 entries) lists.now }
     ensures { IfOk result (λ numbers. numbers.items ≡ map (λ entries. coefficient entries place) lists.now) }
 {

@@ -8,11 +8,11 @@ ghost use Rattle.tableau.specs.NewRows.{placed_list, placed_lists};
 ghost use Rattle.tableau.specs.Widths.{is_wide};
 
 use crate::dividing::quotient;
-use crate::entries::{entry_at, number_here, past_place};
+use crate::entries::{number_here, past_place};
 use crate::faults::{ExchangeFault, RowFault};
 use crate::multiples::placed;
 use crate::products::narrow_product;
-use crate::sparse_rows::den_of;
+use crate::sparse_rows::{den_of, value_of};
 use sdc_base::Items;
 use std::alloc::Global;
 
@@ -28,10 +28,13 @@ fn factor(den: i128, width: u32, entries: &[(u32, i128)]) -> i128
 }
 
 // A number taken so many times, none where that is wide.
-fn number_over(number: i128, times: i128) -> Option<i128>
+pub(crate) fn number_over(number: i128, times: i128) -> Option<i128>
     ensures over { IfSome result (λ over. over ≡ number *ℤ times) }
     ensures none { IfNone result (is_wide (number *ℤ times) ≡ true) }
 {
+    if times == 1 {
+        return Some(number);
+    }
     let Some(over) = narrow_product(number, times) else {
         return None;
     };
@@ -62,7 +65,7 @@ pub(crate) fn values_over(
     };
     for k in 0..count {
         let own = placed(&olds[k], &news[k]);
-        let number = entry_at(own, width - 1);
+        let number = value_of(own, width);
         let Some(over) = number_over(number, factor(den, width, own)) else {
             return Err(ExchangeFault::Wide(k, (width - 1) as usize));
         };

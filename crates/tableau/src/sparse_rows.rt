@@ -1,12 +1,15 @@
-ghost use Rattle.std.specs.Prelude.{◌≡◌, ℕ, ◌+◌, ◌<◌, ◌≤◌, [], length, slice_index_or, ◌*ℤ◌, pos, ◌≤ℤ◌};
+ghost use Rattle.std.specs.Prelude.{◌≡◌, ℕ, ◌+◌, ◌-◌, ◌<◌, ◌≤◌, [], length, slice_index_or, ◌*ℤ◌, pos, ◌≤ℤ◌, IfOk};
 ghost use Rattle.sdc_base.specs.Forms.{coefficient};
 ghost use Rattle.tableau.specs.Entries.{IsSparse};
 ghost use Rattle.tableau.specs.OwnRows.{own_den};
 ghost use Rattle.sdc_base.specs.Systems.{number_at};
-ghost use Rattle.tableau.specs.SparseTables.{table_of, factor_at, IsSoundTable};
+ghost use Rattle.tableau.specs.SparseTables.{table_of, factor_at, column_of, IsSoundTable};
 
 use crate::entries::{entry_at, number_here};
+use crate::first_table::numbers_at;
 use crate::sparse_table::SparseTable;
+use sdc_base::Memory;
+use std::alloc::Global;
 
 // The entries of a row, that of the objective being the last.
 pub(crate) fn row_of(table: &SparseTable, k: usize) -> &[(u32, i128)]
@@ -24,6 +27,23 @@ pub(crate) fn den_of(entries: &[(u32, i128)], width: u32) -> i128
     ensures { result ≡ own_den width entries.now }
 {
     number_here(entries, entries.len() - 1, width)
+}
+
+// The value of a row of so many numbers, which stands before its den.
+pub(crate) fn value_of(entries: &[(u32, i128)], width: u32) -> i128
+    requires width { 0 < width }
+    requires sparse { IsSparse 0 (width + 1) entries.now }
+    requires above { pos 1 ≤ℤ own_den width entries.now }
+    ensures { result ≡ coefficient entries.now (width - 1) }
+{
+    if entries.len() < 2 {
+        return 0;
+    }
+    let i = entries.len() - 2;
+    if entries[i].0 < width - 1 {
+        return 0;
+    }
+    number_here(entries, i, width - 1)
 }
 
 // A row of so many numbers without its den.
@@ -48,6 +68,44 @@ pub(crate) fn own_number(table: &SparseTable, k: usize, j: usize) -> i128
     ensures below { result ≤ℤ pos 0 → number_at (slice_index_or (table_of table.now).rows k []) j ≤ℤ pos 0 }
 {
     entry_at(row_of(table, k), j as u32)
+}
+
+// The numbers of all rows at a place of the others, each over its row's own den, the objective's being the last.
+pub(crate) fn column_numbers(
+    alloc: Global,
+    table: &SparseTable,
+    column: usize,
+) -> Result<Vec<i128>, Memory>
+    requires { column < length table.now.others.items }
+    ensures { IfOk result (λ numbers. numbers.items ≡ column_of table.now column) }
+{
+    numbers_at(alloc, table.rows.as_slice(), column as u32)
+}
+
+// The number of a row at the place where these are the numbers of all rows.
+pub(crate) fn column_number(table: &SparseTable, numbers: &[i128], column: usize, k: usize) -> i128
+    requires column { column < length table.now.others.items }
+    requires numbers { numbers.now ≡ column_of table.now column }
+    requires row { k ≤ length table.now.members.items }
+    ensures { result ≡ coefficient (slice_index_or table.now.rows.items k []) column }
+{
+    let _table = table;
+    let _column = column;
+    numbers[k]
+}
+
+// The number of a member's row there, over the row's own den.
+pub(crate) fn member_number(table: &SparseTable, numbers: &[i128], column: usize, k: usize) -> i128
+    requires sound { IsSoundTable table.now }
+    requires column { column < length table.now.others.items }
+    requires numbers { numbers.now ≡ column_of table.now column }
+    requires row { k < length table.now.members.items }
+    ensures over { result *ℤ factor_at table.now k ≡ number_at (slice_index_or (table_of table.now).rows k []) column }
+    ensures above { pos 1 ≤ℤ result → pos 1 ≤ℤ number_at (slice_index_or (table_of table.now).rows k []) column }
+    ensures back { pos 1 ≤ℤ number_at (slice_index_or (table_of table.now).rows k []) column → pos 1 ≤ℤ result }
+    ensures below { result ≤ℤ pos 0 → number_at (slice_index_or (table_of table.now).rows k []) column ≤ℤ pos 0 }
+{
+    column_number(table, numbers, column, k)
 }
 
 // The own den of a member's row.

@@ -11,7 +11,7 @@ use crate::faults::ExchangeFault;
 use crate::leaving::leaving_row;
 use crate::lists::slack_places;
 use crate::problem::Problem;
-use crate::sparse_rows::objective_number;
+use crate::sparse_rows::{column_numbers, objective_number};
 use crate::sparse_table::SparseTable;
 use crate::step::Step;
 use sdc_base::Memory;
@@ -88,10 +88,14 @@ pub(crate) fn make_step(
     let Ok(places) = slack_places(alloc, problem, table) else {
         return Err(Memory);
     };
-    let Some(row) = leaving_row(problem, table, places.as_slice(), column) else {
+    let Ok(numbers) = column_numbers(alloc, table, column) else {
+        return Err(Memory);
+    };
+    let column_slice = numbers.as_slice();
+    let Some(row) = leaving_row(problem, table, places.as_slice(), column_slice, column) else {
         unreachable!();
     };
-    match exchange(table, alloc, row, column) {
+    match exchange(table, alloc, column_slice, row, column) {
         Ok(()) => Ok(Step::Improved),
         Err(fault) => answer(problem, table, fault),
     }

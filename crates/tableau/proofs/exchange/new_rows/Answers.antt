@@ -24,9 +24,6 @@ den_of-den-requires-clause-sparse c = sparse_at (length c.args.table.now.others.
 pub den_of-den-requires-clause-above : goal.den_of-den-requires-clause-above
 den_of-den-requires-clause-above c = den_up c.args.table.now c.args.row (c.len.result + 1) c.row_of-pivot.result.now c.requires.sound (omega (arith, c.requires.row)) (omega (arith, c.len.ensures)) c.row_of-pivot.ensures.row_at
 
-pub entry_at-p-requires : goal.entry_at-p-requires
-entry_at-p-requires c = ascend_of 0 (length c.args.table.now.others.items + 2) c.row_of-pivot.result.now c.row_of-pivot.ensures.sparse
-
 pub loop-k-init : goal.loop-k-init
 loop-k-init c = record { long = ap length c.in-Ok.ensures.items; new = no_rows c.args.table.now c.args.row c.args.column c.in-Ok.news.items c.in-Ok.ensures.items }
 
@@ -37,14 +34,14 @@ made_row-requires-clause-pivot c =
     let row_is : c.row_of-pivot.result.now ≡ own = c.row_of-pivot.ensures.row_at in
     let width : c.len.result + 1 ≡ width_of s = omega (arith, c.len.ensures) in
     let den_fits : FitsSigned w128 c.den_of-den.result = search rules in
-    let p_fits : FitsSigned w128 c.entry_at-p.result = search rules in
-    let p_is : to_z w128 (of_z w128 c.entry_at-p.result) ≡ coefficient own c.args.column = to_z-of_z w128 c.entry_at-p.result p_fits ∙ c.entry_at-p.ensures ∙ ap (λ (t : List Term). coefficient t c.args.column) row_is in
+    let p_fits : FitsSigned w128 c.column_number-p.result = search rules in
+    let p_is : to_z w128 (of_z w128 c.column_number-p.result) ≡ coefficient own c.args.column = to_z-of_z w128 c.column_number-p.result p_fits ∙ c.column_number-p.ensures in
     record {
       sparse = sparse_at (c.len.result + 1) (width_of s) c.bare_row-bare.result.now width c.bare_row-bare.ensures.sparse;
       same = λ v below. c.bare_row-bare.ensures.same v (omega (arith, width)) ∙ ap (λ (t : List Term). coefficient t v) row_is;
       den_is = to_z-of_z w128 c.den_of-den.result den_fits ∙ c.den_of-den.ensures ∙ ap (λ n. own_den n c.row_of-pivot.result.now) width ∙ ap (own_den (width_of s)) row_is;
       number_is = p_is;
-      above = above_of (to_z w128 (of_z w128 c.entry_at-p.result)) (factor_at s c.args.row) (number_at (slice_index_or (table_of s).rows c.args.row []) c.args.column) (factor_up s c.args.row c.requires.sound (omega (arith, c.requires.row)))
+      above = above_of (to_z w128 (of_z w128 c.column_number-p.result)) (factor_at s c.args.row) (number_at (slice_index_or (table_of s).rows c.args.row []) c.args.column) (factor_up s c.args.row c.requires.sound (omega (arith, c.requires.row)))
           (ap (λ z. z *ℤ factor_at s c.args.row) p_is ∙ row_number s c.args.row c.args.column c.requires.row (omega (arith, c.requires.column))) c.requires.above;
     }
 
