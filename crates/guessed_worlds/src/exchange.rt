@@ -1,50 +1,97 @@
-use crate::numbers::{crossed, number_at, put_at};
+use crate::equation::{Entry, number_at};
+use crate::lowest::{divisor_of, make_lowest};
+use crate::table::{Crossing, Table};
 use std::alloc::Global;
+use std::mem;
 
-// Exchanges the member of a row for the variable of a column, in all rows over a den; gives the new den, which is 1 or
-// more. None is given where there is nothing to exchange, a number leaves 64 bits or memory is wanting; then the rows
-// are of no use.
-pub(crate) fn exchange_rows(
-    alloc: Global,
-    rows: &mut [Vec<i64>],
-    den: i64,
-    row: usize,
-    column: usize,
-) -> Option<i64> {
-    let pivot = number_at(rows.get(row)?, column);
-    let turn = pivot.signum();
-    let new_den = pivot.checked_abs()?;
-    let Ok(mut leading) = rows.get(row)?.as_slice().to_vec(alloc) else {
-        return None;
-    };
-    put_at(&mut leading, column, pivot.checked_add(den)?);
-    for (number, one) in rows.iter_mut().enumerate() {
-        if number == row {
-            turn_row(one, column, turn, den)?;
-        } else {
-            let times = number_at(one, column).checked_mul(turn)?;
-            cross_row(one, &leading, new_den, times, den)?;
-        }
-    }
-    Some(new_den)
+// What is subtracted from other equations so that a variable goes: the numbers of an equation, its number at the
+// variable, and how far its member has to fall, times the member's number.
+#[derive(Clone, Copy)]
+struct Pivot<'a> {
+    entries: &'a [Entry],
+    number: i64,
+    gap: i64,
 }
 
-// The row of the exchange: turned round where its number is below 0, with the old den in the column.
-fn turn_row(row: &mut [i64], column: usize, turn: i64, den: i64) -> Option<()> {
-    for number in row.iter_mut() {
-        *number = number.checked_mul(turn)?;
+// Makes a variable the member of an equation, whose `here` says how far its member has to fall; of the other
+// equations those that have a number at the variable lose it. None where a number leaves 64 bits, there is nothing to
+// exchange, no more room or no memory; then the table is of no use.
+pub(crate) fn exchange(
+    alloc: Global,
+    table: &mut Table,
+    crossings: &[Crossing],
+    row: usize,
+    variable: usize,
+) -> Option<()> {
+    let leading = table.equations.get_mut(row)?;
+    let gap = leading.here;
+    let entries = mem::replace(&mut leading.entries, Vec::new(alloc));
+    let pivot = Pivot {
+        entries: &entries,
+        number: number_at(&entries, variable),
+        gap,
+    };
+    cross_all(table, crossings, row, pivot)?;
+    let number = pivot.number;
+    put_back(table, row, variable, entries, number)
+}
+
+// Takes the variable of the pivot out of all other equations.
+fn cross_all(
+    table: &mut Table,
+    crossings: &[Crossing],
+    row: usize,
+    pivot: Pivot<'_>,
+) -> Option<()> {
+    for crossing in crossings {
+        if crossing.row != row {
+            cross(table, *crossing, pivot)?;
+        }
     }
-    put_at(row, column, den.checked_mul(turn)?);
     Some(())
 }
 
-// Another row: its numbers so many times, less those of the leading row so many times, over the old den.
-fn cross_row(row: &mut [i64], leading: &[i64], own: i64, times: i64, den: i64) -> Option<()> {
-    if times == 0 && own == den {
-        return Some(());
+// Takes the variable of the pivot out of an equation.
+fn cross(table: &mut Table, crossing: Crossing, pivot: Pivot<'_>) -> Option<()> {
+    let size = pivot.number.checked_abs()?;
+    let common = divisor_of(size.unsigned_abs(), crossing.number.unsigned_abs());
+    let by = i64::try_from(common).ok()?;
+    let times = size.checked_div(by)?;
+    let turned = crossing.number.checked_mul(pivot.number.signum())?;
+    let less = turned.checked_div(by)?;
+    table.subtract(crossing.row, times, pivot.entries, less)?;
+    let one = table.equations.get_mut(crossing.row)?;
+    let taken = pivot.gap.checked_mul(less)?;
+    one.here = one.here.checked_mul(times)?.checked_sub(taken)?;
+    one.den = one.den.checked_mul(times)?;
+    make_lowest(one)
+}
+
+// Puts the pivot's entries back, turned where the variable's number is below 0, with the variable as their member.
+fn put_back(
+    table: &mut Table,
+    row: usize,
+    variable: usize,
+    entries: Vec<Entry>,
+    number: i64,
+) -> Option<()> {
+    let one = table.equations.get_mut(row)?;
+    one.entries = entries;
+    one.member = variable;
+    one.den = number.checked_abs()?;
+    if number < 0 {
+        one.here = one.here.checked_neg()?;
+        turn(&mut one.entries)?;
     }
-    for (place, number) in row.iter_mut().enumerate() {
-        *number = crossed(*number, own, number_at(leading, place), times, den)?;
+    make_lowest(one)?;
+    table.put_row(variable, Some(row));
+    Some(())
+}
+
+// Turns the signs of entries.
+fn turn(entries: &mut [Entry]) -> Option<()> {
+    for entry in entries.iter_mut() {
+        entry.number = entry.number.checked_neg()?;
     }
     Some(())
 }

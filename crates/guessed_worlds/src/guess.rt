@@ -1,4 +1,6 @@
-use crate::spans::Span;
+use crate::equation::Equation;
+use crate::lowest::divisor_of;
+use crate::spans::Spans;
 use crate::stepping::{Advance, Goal, go_on};
 use crate::table::Table;
 use sdc_base::Items;
@@ -10,7 +12,12 @@ const MOST_STEPS: u32 = 400;
 
 // Goes on until a goal is reached, nothing takes the search nearer or it has taken its steps: whether it is reached.
 // None is given where the table is of no use any more.
-pub(crate) fn reach(alloc: Global, table: &mut Table, spans: &[Span], goal: Goal) -> Option<bool> {
+pub(crate) fn reach(
+    alloc: Global,
+    table: &mut Table,
+    spans: Spans<'_>,
+    goal: Goal,
+) -> Option<bool> {
     table.clear();
     'steps: for _ in 0..MOST_STEPS {
         match go_on(alloc, table, spans, goal)? {
@@ -22,22 +29,61 @@ pub(crate) fn reach(alloc: Global, table: &mut Table, spans: &[Span], goal: Goal
     Some(false)
 }
 
-// The world of these moves of hidden cells over a den; none where memory is wanting.
-pub(crate) fn world_of(alloc: Global, numbers: &[u32], moves: &[i64], den: i64) -> Option<World> {
-    let mut listed = Items::empty(alloc);
-    for (place, by) in moves.iter().enumerate() {
-        if *by != 0 {
+// The world of a table's moves; none where a number leaves 64 bits or memory is wanting.
+pub(crate) fn world_of(alloc: Global, table: &Table, numbers: &[u32]) -> Option<World> {
+    let den = common_den(&table.equations)?;
+    let mut moves = Items::empty(alloc);
+    for (variable, cell) in numbers.iter().enumerate() {
+        let by = move_over(table, variable, den)?;
+        if by != 0 {
             let one = Move {
-                cell: *numbers.get(place)?,
-                by: *by as i128,
+                cell: *cell,
+                by: by as i128,
             };
-            let Ok(()) = listed.push(one) else {
-                return None;
-            };
+            moves.push(one).ok()?;
         }
     }
     Some(World {
         den: den as i128,
-        moves: listed,
+        moves,
     })
+}
+
+// The least number of which all members' moves are whole multiples over.
+fn common_den(equations: &[Equation]) -> Option<i64> {
+    let mut den: i64 = 1;
+    for equation in equations {
+        if equation.den != 1 && equation.here != 0 {
+            den = least_multiple(den, own_den(equation)?)?;
+        }
+    }
+    Some(den)
+}
+
+// The denominator of a member's move in lowest terms.
+fn own_den(equation: &Equation) -> Option<i64> {
+    let common = divisor_of(equation.den.unsigned_abs(), equation.here.unsigned_abs());
+    equation.den.checked_div(i64::try_from(common).ok()?)
+}
+
+// The least common multiple.
+fn least_multiple(one: i64, other: i64) -> Option<i64> {
+    let common = divisor_of(one.unsigned_abs(), other.unsigned_abs());
+    one.checked_div(i64::try_from(common).ok()?)?
+        .checked_mul(other)
+}
+
+// A variable's move over a den.
+fn move_over(table: &Table, variable: usize, den: i64) -> Option<i64> {
+    let Some(row) = table.row_of(variable) else {
+        return table.move_at(variable).checked_mul(den);
+    };
+    let equation = table.equations.get(row)?;
+    if equation.here == 0 {
+        return Some(0);
+    }
+    let own = own_den(equation)?;
+    let times = den.checked_div(own)?;
+    let part = equation.den.checked_div(own)?;
+    equation.here.checked_div(part)?.checked_mul(times)
 }

@@ -1,11 +1,10 @@
-use crate::numbers::number_at;
-use crate::spans::{Span, span_at};
-use crate::table::Table;
+use crate::spans::{Span, Spans};
+use crate::table::{Crossing, Table};
 
-// A variable that is to move, by its column, and its side: 1 up, -1 down.
+// A variable that is to move, and its side: 1 up, -1 down.
 #[derive(Clone, Copy)]
 pub(crate) struct Entering {
-    pub(crate) column: usize,
+    pub(crate) variable: usize,
     pub(crate) turn: i64,
 }
 
@@ -19,27 +18,27 @@ pub(crate) struct Limit {
     pub(crate) bound: i64,
 }
 
-// What stops an entering variable first; none where a number leaves 64 bits.
-pub(crate) fn limit_of(table: &Table, spans: &[Span], entering: Entering) -> Option<Limit> {
+// What stops an entering variable first, which has numbers in these equations; none where a number leaves 64 bits.
+pub(crate) fn limit_of(
+    table: &Table,
+    spans: Spans<'_>,
+    entering: Entering,
+    crossings: &[Crossing],
+) -> Option<Limit> {
     let mut best = own_limit(table, spans, entering)?;
-    for (row, variable) in table.members.iter().enumerate() {
-        let number = table.number(row, entering.column);
-        if number != 0 {
-            let fall = number.checked_mul(entering.turn)?;
-            let limit = member_limit(table, span_at(spans, *variable), row, fall)?;
-            if comes_first(limit, best) {
-                best = limit;
-            }
+    for crossing in crossings {
+        let limit = member_limit(table, spans, *crossing, entering.turn)?;
+        if comes_first(limit, best) {
+            best = limit;
         }
     }
     Some(best)
 }
 
 // How far the variable's own bound lets it go.
-fn own_limit(table: &Table, spans: &[Span], entering: Entering) -> Option<Limit> {
-    let variable = table.others.get(entering.column)?;
-    let span = span_at(spans, *variable);
-    let here = number_at(&table.moves, *variable);
+fn own_limit(table: &Table, spans: Spans<'_>, entering: Entering) -> Option<Limit> {
+    let span = spans.of(entering.variable);
+    let here = table.move_at(entering.variable);
     let gap = if entering.turn < 0 {
         here.checked_sub(span.least)?
     } else {
@@ -53,22 +52,28 @@ fn own_limit(table: &Table, spans: &[Span], entering: Entering) -> Option<Limit>
     })
 }
 
-// How far a member whose move falls by so much can go.
-fn member_limit(table: &Table, span: Span, row: usize, fall: i64) -> Option<Limit> {
-    let here = table.member_move(row);
-    let bound = if fall > 0 { span.least } else { span.most };
-    let far = bound.checked_mul(table.den)?;
+// How far the member of an equation lets it go.
+fn member_limit(table: &Table, spans: Spans<'_>, crossing: Crossing, turn: i64) -> Option<Limit> {
+    let equation = table.equations.get(crossing.row)?;
+    let fall = crossing.number.checked_mul(turn)?;
+    let bound = bound_of(spans.of(equation.member), fall);
+    let far = bound.checked_mul(equation.den)?;
     let gap = if fall > 0 {
-        here.checked_sub(far)?
+        equation.here.checked_sub(far)?
     } else {
-        far.checked_sub(here)?
+        far.checked_sub(equation.here)?
     };
     Some(Limit {
         gap,
         per: fall.checked_abs()?,
-        row: Some(row),
+        row: Some(crossing.row),
         bound,
     })
+}
+
+// The bound of a member that falls by so much.
+fn bound_of(span: Span, fall: i64) -> i64 {
+    if fall > 0 { span.least } else { span.most }
 }
 
 // Whether a limit comes before another; of two at one place that of the greater number.

@@ -8,25 +8,28 @@ ghost use Rattle.worlds.specs.WorldFaults.{IsGivenWorld};
 use crate::first_table::first_table;
 use crate::guess::{reach, world_of};
 use crate::numbering::{hidden_numbers, places_of};
-use crate::spans::{Span, narrow, spans_now, spans_of};
+use crate::spans::{Span, Spans, narrow, spans_of};
 use crate::stepping::Goal;
 use crate::table::Table;
 use sdc_base::{Cell, Hidden, Side, System, signs};
 use std::alloc::Global;
 use worlds::{World, check_world, reaches};
 
-// No table of a search has more numbers than this.
+// The equations of a search have no more numbers than this.
 const MOST_NUMBERS: usize = 4_000_000;
 
 /// A search for worlds that may fail.
 ///
 /// It is made for the hidden set of some moment, and serves for that set and those within it. Nothing that it finds
-/// counts before it is checked, so no contract rests on how it searches: exchanges of a bounded simplex in whole numbers
-/// of 64 bits over one denominator, each search beginning where the one before ended.
+/// counts before it is checked, so no contract rests on how it searches: exchanges of a bounded simplex in whole
+/// numbers of 64 bits, on equations that keep their numbers other than 0 alone, each search beginning where the one
+/// before ended.
 #[derive(Drop)]
 pub struct WorldSearch {
     // The hidden cells, ascending.
     numbers: Vec<u32>,
+    // The place of each cell among them, if it has one.
+    places: Vec<Option<usize>>,
     spans: Vec<Span>,
     table: Option<Table>,
 }
@@ -34,14 +37,15 @@ pub struct WorldSearch {
 impl WorldSearch {
     /// A search over these hidden cells.
     ///
-    /// It finds nothing where memory is wanting, the system has signs (its questions are quick without it), or the
-    /// relations that count a hidden cell, times the hidden cells, are more than 4,000,000. It takes an exchange for
-    /// each relation among them.
+    /// It finds nothing where memory is wanting, the system has signs (its questions are quick without it), or its
+    /// equations would have more than 4,000,000 numbers other than 0. There is an equation for each relation that
+    /// counts a hidden cell, and making them takes an exchange for each.
     pub fn new(alloc: Global, system: &System, cells: &[Cell], hidden: &Hidden) -> WorldSearch {
         match made(alloc, system, cells, hidden.flags.as_slice()) {
             Some(search) => search,
             None => WorldSearch {
                 numbers: Vec::new(alloc),
+                places: Vec::new(alloc),
                 spans: Vec::new(alloc),
                 table: None,
             },
@@ -51,9 +55,9 @@ impl WorldSearch {
     /// A world for a hidden set that takes a cell at least its level to a side, where the search finds one.
     ///
     /// There are a cell and a flag for each cell of the system, and the number is that of a cell. That none is given
-    /// says nothing: the search may have ended early, also for want of memory. It takes at most 400 exchanges, each
-    /// through the numbers of the rows that change, and a check of the world, which goes once through its moves and the
-    /// parts of all relations.
+    /// says nothing: the search may have ended early, also for want of memory. It takes at most 400 exchanges, and a
+    /// check of the world, which goes once through its moves and the parts of all relations. An exchange looks into
+    /// each equation for one number, and goes through the numbers of those that have it.
     ///
     /// Guessed worlds are argus's own; worlds are those of the feasibility interval in Hundepool et al., Statistical
     /// Disclosure Control, chapter on magnitude tables.
@@ -95,18 +99,22 @@ impl WorldSearch {
         flags: &[bool],
         asked: (u32, Side),
     ) -> Option<World> {
-        let spans = spans_now(alloc, &self.spans, &self.numbers, flags)?;
-        let goal = goal_of(cell, &self.numbers, asked)?;
+        let variable = (*self.places.get(asked.0 as usize)?)?;
+        let goal = goal_of(cell, variable, asked.1);
+        let spans = Spans {
+            spans: &self.spans,
+            numbers: &self.numbers,
+            flags,
+        };
         let table = self.table.as_mut()?;
-        let Some(found) = reach(alloc, table, &spans, goal) else {
+        let Some(found) = reach(alloc, table, spans, goal) else {
             self.table = None;
             return None;
         };
         if !found {
             return None;
         }
-        let moves = table.all_moves(alloc)?;
-        world_of(alloc, &self.numbers, &moves, table.den)
+        world_of(alloc, table, &self.numbers)
     }
 }
 
@@ -127,15 +135,15 @@ fn made(alloc: Global, system: &System, cells: &[Cell], flags: &[bool]) -> Optio
     let spans = spans_of(alloc, cells, &numbers)?;
     Some(WorldSearch {
         numbers,
+        places,
         spans,
         table: Some(table),
     })
 }
 
 // What is asked, as a goal of the search.
-fn goal_of(cell: &Cell, numbers: &[u32], asked: (u32, Side)) -> Option<Goal> {
-    let variable = numbers.iter().position(|number| *number == asked.0)?;
-    Some(match asked.1 {
+fn goal_of(cell: &Cell, variable: usize, side: Side) -> Goal {
+    match side {
         Side::Above => Goal {
             variable,
             turn: 1,
@@ -146,5 +154,5 @@ fn goal_of(cell: &Cell, numbers: &[u32], asked: (u32, Side)) -> Option<Goal> {
             turn: -1,
             level: narrow(cell.down),
         },
-    })
+    }
 }

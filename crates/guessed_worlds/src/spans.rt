@@ -13,7 +13,7 @@ pub(crate) struct Span {
 
 impl Span {
     // That of a cell that stays.
-    pub(crate) fn still() -> Span {
+    fn still() -> Span {
         Span { least: 0, most: 0 }
     }
 
@@ -27,6 +27,24 @@ impl Span {
     }
 }
 
+// The spans of these hidden cells, of which those without a flag stay.
+#[derive(Clone, Copy)]
+pub(crate) struct Spans<'a> {
+    pub(crate) spans: &'a [Span],
+    pub(crate) numbers: &'a [u32],
+    pub(crate) flags: &'a [bool],
+}
+
+impl Spans<'_> {
+    // The span of a variable.
+    pub(crate) fn of(&self, variable: usize) -> Span {
+        match (self.spans.get(variable), self.numbers.get(variable)) {
+            (Some(span), Some(number)) if is_hidden(self.flags, *number as usize) => *span,
+            _ => Span::still(),
+        }
+    }
+}
+
 // The spans of these hidden cells by their bounds.
 pub(crate) fn spans_of(alloc: Global, cells: &[Cell], numbers: &[u32]) -> Option<Vec<Span>> {
     let mut spans = Vec::new(alloc);
@@ -35,9 +53,7 @@ pub(crate) fn spans_of(alloc: Global, cells: &[Cell], numbers: &[u32]) -> Option
             Some(cell) => span_of(cell),
             None => Span::still(),
         };
-        let Ok(()) = spans.push(span) else {
-            return None;
-        };
+        spans.push(span).ok()?;
     }
     Some(spans)
 }
@@ -68,34 +84,5 @@ pub(crate) fn narrow(units: i128) -> i64 {
         FAR
     } else {
         units as i64
-    }
-}
-
-// The spans of cells while those without a flag stay.
-pub(crate) fn spans_now(
-    alloc: Global,
-    spans: &[Span],
-    numbers: &[u32],
-    flags: &[bool],
-) -> Option<Vec<Span>> {
-    let mut now = Vec::new(alloc);
-    for (place, span) in spans.iter().enumerate() {
-        let hidden = match numbers.get(place) {
-            Some(number) => is_hidden(flags, *number as usize),
-            None => false,
-        };
-        let kept = if hidden { *span } else { Span::still() };
-        let Ok(()) = now.push(kept) else {
-            return None;
-        };
-    }
-    Some(now)
-}
-
-// The span of a variable.
-pub(crate) fn span_at(spans: &[Span], variable: usize) -> Span {
-    match spans.get(variable) {
-        Some(span) => *span,
-        None => Span::still(),
     }
 }

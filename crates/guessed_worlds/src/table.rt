@@ -1,72 +1,108 @@
-use crate::numbers::{number_at, put_at};
+use crate::equation::{Entry, Equation, number_at};
+use crate::merge::{Pair, merge};
 use std::alloc::Global;
+use std::mem;
 
-// The moves of hidden cells under their relations: those of the members by those of the others. The cells go by their
-// places in a list, as variables.
+// Equations of the moves of hidden cells under their relations. The cells go by their places in a list, as variables.
 #[derive(Drop)]
 pub(crate) struct Table {
-    // What all numbers of the rows are over, 1 or more.
-    pub(crate) den: i64,
-    // For each member how much its move falls where that of each other rises by 1, and behind these its move.
-    pub(crate) rows: Vec<Vec<i64>>,
-    // The variable of each row.
-    pub(crate) members: Vec<usize>,
-    // The variable of each column.
-    pub(crate) others: Vec<usize>,
-    // The move of each variable while it has a column.
+    // One for each member; a member stands in no other.
+    pub(crate) equations: Vec<Equation>,
+    // For each variable the place of its equation while it is a member.
+    pub(crate) rows: Vec<Option<usize>>,
+    // For each variable its move while it is none.
     pub(crate) moves: Vec<i64>,
+    // Where an equation is made.
+    pub(crate) made: Vec<Entry>,
+    // How many more numbers the equations may have.
+    pub(crate) room: usize,
+}
+
+// An equation with a number at some variable.
+#[derive(Clone, Copy)]
+pub(crate) struct Crossing {
+    pub(crate) row: usize,
+    pub(crate) number: i64,
 }
 
 impl Table {
     // Takes all moves back.
     pub(crate) fn clear(&mut self) {
-        let last = self.others.len();
-        for row in self.rows.iter_mut() {
-            put_at(row, last, 0);
+        for one in self.equations.iter_mut() {
+            one.here = 0;
         }
-        for one in self.moves.iter_mut() {
-            *one = 0;
+        clear_moves(&mut self.moves);
+    }
+
+    // The equations with a number at a variable.
+    pub(crate) fn crossings(&self, alloc: Global, variable: usize) -> Option<Vec<Crossing>> {
+        let mut found = Vec::new(alloc);
+        for (row, one) in self.equations.iter().enumerate() {
+            let number = number_at(&one.entries, variable);
+            if number != 0 {
+                found.push(Crossing { row, number }).ok()?;
+            }
+        }
+        Some(found)
+    }
+
+    // The equation whose member a variable is.
+    pub(crate) fn row_of(&self, variable: usize) -> Option<usize> {
+        match self.rows.get(variable) {
+            Some(row) => *row,
+            None => None,
         }
     }
 
-    // The number of a row at a column; behind the columns that of its move.
-    pub(crate) fn number(&self, row: usize, column: usize) -> i64 {
-        match self.rows.get(row) {
-            Some(numbers) => number_at(numbers, column),
+    // The move of a variable that is no member.
+    pub(crate) fn move_at(&self, variable: usize) -> i64 {
+        match self.moves.get(variable) {
+            Some(units) => *units,
             None => 0,
         }
     }
 
-    // The move of a row's member, over the den.
-    pub(crate) fn member_move(&self, row: usize) -> i64 {
-        self.number(row, self.others.len())
-    }
-
-    // The move of a column's variable.
-    pub(crate) fn other_move(&self, column: usize) -> i64 {
-        match self.others.get(column) {
-            Some(variable) => number_at(&self.moves, *variable),
-            None => 0,
+    // Puts the move of a variable that is no member.
+    pub(crate) fn put_move(&mut self, variable: usize, units: i64) {
+        if let Some(slot) = self.moves.get_mut(variable) {
+            *slot = units;
         }
     }
 
-    // The moves of all variables, over the den; none where one leaves 64 bits.
-    pub(crate) fn all_moves(&self, alloc: Global) -> Option<Vec<i64>> {
-        let Ok(mut all) = Vec::from_elem(alloc, 0, self.moves.len()) else {
-            return None;
+    // Puts the equation whose member a variable is, if any.
+    pub(crate) fn put_row(&mut self, variable: usize, row: Option<usize>) {
+        if let Some(slot) = self.rows.get_mut(variable) {
+            *slot = row;
+        }
+    }
+
+    // Takes an equation so many times, less another so many times; none where a number leaves 64 bits, there is no more
+    // room or memory is wanting.
+    pub(crate) fn subtract(
+        &mut self,
+        row: usize,
+        times: i64,
+        other: &[Entry],
+        less: i64,
+    ) -> Option<()> {
+        let one = self.equations.get_mut(row)?;
+        let pair = Pair {
+            own: &one.entries,
+            times,
+            other,
+            less,
         };
-        for variable in &self.others {
-            let by = number_at(&self.moves, *variable).checked_mul(self.den)?;
-            put_at(&mut all, *variable, by);
-        }
-        self.put_members(&mut all);
-        Some(all)
+        merge(pair, &mut self.made)?;
+        let room = self.room.saturating_add(one.entries.len());
+        self.room = room.checked_sub(self.made.len())?;
+        mem::swap(&mut one.entries, &mut self.made);
+        Some(())
     }
+}
 
-    // Puts the moves of the members in their places.
-    fn put_members(&self, all: &mut [i64]) {
-        for (row, variable) in self.members.iter().enumerate() {
-            put_at(all, *variable, self.member_move(row));
-        }
+// Makes all moves 0.
+fn clear_moves(moves: &mut [i64]) {
+    for one in moves.iter_mut() {
+        *one = 0;
     }
 }

@@ -3,6 +3,7 @@
 #![tactic(auto)]
 
 mod cheapest;
+mod guesses;
 mod laws;
 mod planned;
 mod prices;

@@ -13,6 +13,7 @@ ghost use Rattle.repair.specs.QuestionSteps.{IsRepairedForAll};
 ghost use Rattle.repair.specs.Verdicts.{IsVerdict, IsNarrowed, is_cannot};
 ghost use Rattle.repair.specs.WholeVerdicts.{IsWholeVerdict, IsWholeStop};
 
+use crate::guesses::Guesses;
 use crate::planned::planned_hidden;
 use crate::prices::list_prices;
 use crate::progress::Progress;
@@ -23,7 +24,6 @@ use crate::task::Task;
 use crate::trying::{Findings, try_all};
 use crate::verdict::Verdict;
 use cost_rule::{CostRule, TellsCosts};
-use guessed_worlds::WorldSearch;
 use interval_audit::SignedSystem;
 use linked_tables::Mark;
 use sdc_base::{Cell, Hidden, Items, System, Trail};
@@ -39,8 +39,8 @@ use worlds::{Protected, Refuted};
 /// protects the cell to that side: the verdict is `Cannot`, with the multipliers that stopped this question.
 ///
 /// Then each hidden free cell is tried as shown, in ascending order. The questions are gone through in their order, and
-/// one is asked, with the cell shown, where no world at hand reaches its level without moving a cell that is shown, nor
-/// is such a world guessed.
+/// one is asked, with the cell shown, where no world is guessed that reaches its level without moving a cell that is
+/// shown, nor is there such a world at hand.
 /// Where all are reached the cell is shown from then on. Else it stays hidden, and the first refutation is kept as its
 /// need: every question before that of the need is protected with the cell shown.
 ///
@@ -48,7 +48,8 @@ use worlds::{Protected, Refuted};
 /// trial gave, or else it is asked once, of the final set. The verdict is `Protected`, with a world for each question.
 ///
 /// At hand are the worlds that are kept for the questions, one each, and beside them answers that trials gave, also
-/// those in vain; of these there are at most as many as questions, and none moves a cell that is shown.
+/// those in vain; of these there are at most as many as questions, and none moves a cell that is shown. The last guess
+/// for each question is kept too, and serves it for as long as it moves no cell that is shown.
 ///
 /// There are a cell and a mark for each cell of the system, in the order of their numbers from 0; the marks' facts are
 /// ones that the rule may be asked about; levels are in units and at most `2^110`; the corners are numbers of cells
@@ -64,8 +65,8 @@ use worlds::{Protected, Refuted};
 /// The rule is asked once for each cell without a price. There is a question for each primary cell and side and for
 /// each repair; for each hidden free cell one for each question that no world at hand and no guess serves with it
 /// shown; and at last at most one for each question. A repair goes once through the cells and the parts of the
-/// relations that have a multiplier; a trial once through the moves of all kept worlds, and for each question whose
-/// kept world moves a cell that is shown through those of the worlds at hand.
+/// relations that have a multiplier; a trial once through the moves of all kept worlds and last guesses, and for each
+/// question that neither these nor a new guess serve through those of the worlds at hand.
 ///
 /// Repairs and needs are this project's own; the questions are those of the feasibility interval in Hundepool et al.,
 /// Statistical Disclosure Control, chapter on magnitude tables.
@@ -179,7 +180,7 @@ fn narrowed_verdict<'a>(
         needs: Items::empty(alloc),
         shown: Items::empty(alloc),
         spares: Vec::new(alloc),
-        search: WorldSearch::new(alloc, task.system.system(), task.cells, &progress.hidden),
+        guesses: Guesses::new(alloc, task, &progress.hidden),
     };
     let outcome = try_all(alloc, task, &mut progress, &mut tried);
     if let Err(fault) = outcome {

@@ -1,7 +1,6 @@
-ghost use Rattle.std.specs.Prelude.{◌≡◌, ◌||◌, ◌<◌, ◌+◌, ◌++◌, ◌∷◌, [], List, Bool, Some, slice_get, length, nat_lt, if◌then◌else◌, IfOk, IfErr, OnOk, OnErr, IsTrue};
+ghost use Rattle.std.specs.Prelude.{◌≡◌, ◌||◌, ◌<◌, ◌+◌, ◌++◌, ◌∷◌, [], List, Bool, Some, slice_get, length, nat_lt, if◌then◌else◌, IfOk, IfErr, OnOk, OnErr};
 ghost use Rattle.std.specs.List.{list_any};
 ghost use Rattle.sdc_base.specs.HiddenSets.{is_hidden, IsPermitted};
-ghost use Rattle.sdc_base.specs.Worlds.{Protects};
 ghost use Rattle.sdc_base.specs.declared.cell.Cell.{Cell as AnyCell};
 ghost use Rattle.sdc_base.specs.declared.cell.Kind.TheVariants.{Primary as PrimaryKind};
 ghost use Rattle.worlds.specs.ProtectFaults.{asked_of};
@@ -9,12 +8,12 @@ ghost use Rattle.repair.specs.HidingOrder.{IsOfKind, ProtectsBefore};
 ghost use Rattle.repair.specs.Tasks.{case_of};
 ghost use Rattle.repair.specs.OnTheWay.{IsOfTrial};
 ghost use Rattle.repair.specs.Stops.{IsQuestion};
-ghost use Rattle.repair.specs.CellTrials.{AreKept, AreSpare, AreTrialAnswers, ProtectsBeforeOr, HasFault};
+ghost use Rattle.repair.specs.CellTrials.{AreKept, AreSpare, AreGuesses, AreTrialAnswers, ProtectsBeforeOr, HasFault};
 ghost use Rattle.repair.specs.CellTrials as spec;
 
+use crate::guesses::{Guesses, is_guessed};
 use crate::serving::level_question;
 use crate::task::Task;
-use guessed_worlds::WorldSearch;
 use interval_audit::{Answer, AskFault};
 use sdc_base::{Cell, Hidden, Memory, Side};
 use std::alloc::Global;
@@ -36,12 +35,14 @@ pub(crate) fn first_refused(
     hidden: &Hidden,
     worlds: &[World],
     spares: &mut Vec<Spare>,
-    search: &mut WorldSearch,
+    guesses: &mut Guesses,
 ) -> Result<Option<Refuted>, AskFault>
     requires each { length hidden.now.flags ≡ task.now.system.now.cells }
     requires permitted { IsPermitted task.now.cells.now hidden.now.flags }
     requires kept { AreKept (case_of task.now) (asked_of 0 task.now.cells.now) worlds.now }
     requires spares { AreSpare (case_of task.now) spares.old.items }
+    requires guesses { AreGuesses (case_of task.now) guesses.old.last.items }
+    ensures guesses { AreGuesses (case_of task.now) guesses.new.last.items }
     ensures spares { IfOk result (λ _. AreSpare (case_of task.now) spares.new.items) }
     ensures answers { (larger : List Bool)
         → IsOfTrial (case_of task.now) larger (cell + 1) hidden.now.flags hidden.now.flags
@@ -52,7 +53,7 @@ pub(crate) fn first_refused(
     ensures err { IfErr result (λ fault. HasFault (case_of task.now) hidden.now.flags task.now.limit fault) }
 {
     'places: for place in 0..task.questions.len() {
-        let need = refusal_of(alloc, task, place, cell, hidden, worlds, spares, search)?;
+        let need = refusal_of(alloc, task, place, cell, hidden, worlds, spares, guesses)?;
         if let Some(need) = need {
             return Ok(Some(need));
         }
@@ -69,15 +70,17 @@ fn refusal_of(
     hidden: &Hidden,
     worlds: &[World],
     spares: &mut Vec<Spare>,
-    search: &mut WorldSearch,
+    guesses: &mut Guesses,
 ) -> Result<Option<Refuted>, AskFault>
     requires place { place < length task.now.questions.now }
     requires each { length hidden.now.flags ≡ task.now.system.now.cells }
     requires permitted { IsPermitted task.now.cells.now hidden.now.flags }
     requires kept { AreKept (case_of task.now) (asked_of 0 task.now.cells.now) worlds.now }
     requires spares { AreSpare (case_of task.now) spares.old.items }
+    requires guesses { AreGuesses (case_of task.now) guesses.old.last.items }
     requires count { length worlds.now ≡ length task.now.questions.now }
     requires before { ProtectsBefore (case_of task.now) hidden.now.flags place }
+    ensures guesses { AreGuesses (case_of task.now) guesses.new.last.items }
     ensures spares { IfOk result (λ _. AreSpare (case_of task.now) spares.new.items) }
     ensures answers { (larger : List Bool)
         → IsOfTrial (case_of task.now) larger (cell + 1) hidden.now.flags hidden.now.flags
@@ -91,10 +94,10 @@ fn refusal_of(
         return Ok(None);
     }
     let asked = task.questions[place];
-    if is_at_hand(task.cells, asked, flags, worlds, spares.as_slice()) {
+    if is_guessed(alloc, task, hidden, place, asked, guesses) {
         return Ok(None);
     }
-    if is_guessed(alloc, task, hidden, asked, search) {
+    if is_at_hand(task.cells, asked, flags, worlds, spares.as_slice()) {
         return Ok(None);
     }
     let question = level_question(task.cells, asked);
@@ -115,23 +118,6 @@ fn refusal_of(
             multipliers,
         })),
     }
-}
-
-// Whether a guess serves a question with hidden cells alone.
-fn is_guessed(
-    alloc: Global,
-    task: &Task<'_, '_>,
-    hidden: &Hidden,
-    asked: (u32, Side),
-    search: &mut WorldSearch,
-) -> bool
-    requires each { length hidden.now.flags ≡ task.now.system.now.cells }
-    requires primary { IsOfKind task.now.cells.now asked.0 PrimaryKind }
-    ensures { IsTrue result → Protects task.now.system.now task.now.cells.now hidden.now.flags asked.0 asked.1 }
-{
-    let system = task.system.system();
-    let world = search.world_for(alloc, system, task.cells, hidden, asked);
-    world.is_some()
 }
 
 // Whether a world at hand, one that is kept or a spare one, takes a cell to its level to a side with hidden cells alone.

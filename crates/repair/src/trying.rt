@@ -6,13 +6,13 @@ ghost use Rattle.repair.specs.HidingOrder.{hide, hide_subjects, IsOfKind};
 ghost use Rattle.repair.specs.Tasks.{case_of};
 ghost use Rattle.repair.specs.KeptWorlds.{AreServed};
 ghost use Rattle.repair.specs.OnTheWay.{IsOfFirst, AreAnswers};
-ghost use Rattle.repair.specs.CellTrials.{AreKept, AreSpare, AnswerOnWay, IsTried, HasTried, TriesStopFor};
+ghost use Rattle.repair.specs.CellTrials.{AreKept, AreSpare, AreGuesses, AnswerOnWay, IsTried, HasTried, TriesStopFor};
 
+use crate::guesses::Guesses;
 use crate::progress::Progress;
 use crate::renewing::{drop_unfit, renew_all};
 use crate::task::Task;
 use crate::trial::{Spare, first_refused};
-use guessed_worlds::WorldSearch;
 use interval_audit::AskFault;
 use sdc_base::Items;
 use std::alloc::Global;
@@ -27,8 +27,8 @@ pub(crate) struct Findings {
     pub(crate) shown: Items<u32>,
     /// Worlds at hand beside the kept ones, at most as many as there are questions; none moves a cell that is shown.
     pub(crate) spares: Vec<Spare>,
-    /// A search for worlds for the hidden set and those within it.
-    pub(crate) search: WorldSearch,
+    /// Guesses of worlds for the hidden set and those within it.
+    pub(crate) guesses: Guesses,
 }
 
 // Tries each hidden free cell as shown, in ascending order; where cells are shown, each question then gets an answer of
@@ -44,6 +44,7 @@ pub(crate) fn try_all(
     requires served { AreServed (case_of task.now) progress.old.hidden.flags (asked_of 0 task.now.cells.now)
         progress.old.worlds }
     requires no_spares { tried.old.spares.items ≡ [] }
+    requires guesses { AreGuesses (case_of task.now) tried.old.guesses.last.items }
     requires no_needs { tried.old.needs ≡ [] }
     requires none_shown { tried.old.shown ≡ [] }
     ensures repairs { progress.new.repairs ≡ progress.old.repairs }
@@ -90,6 +91,8 @@ fn try_next(
     requires permitted { IsPermitted task.now.cells.now progress.old.hidden.flags }
     requires kept { AreKept (case_of task.now) (asked_of 0 task.now.cells.now) progress.old.worlds }
     requires spares { AreSpare (case_of task.now) tried.old.spares.items }
+    requires guesses { AreGuesses (case_of task.now) tried.old.guesses.last.items }
+    ensures guesses { AreGuesses (case_of task.now) tried.new.guesses.last.items }
     ensures repairs { progress.new.repairs ≡ progress.old.repairs }
     ensures worlds { progress.new.worlds ≡ progress.old.worlds }
     ensures each { OnOk result (length progress.new.hidden.flags ≡ task.now.system.now.cells) }
@@ -125,6 +128,8 @@ fn try_one(
     requires permitted { IsPermitted task.now.cells.now progress.old.hidden.flags }
     requires kept { AreKept (case_of task.now) (asked_of 0 task.now.cells.now) progress.old.worlds }
     requires spares { AreSpare (case_of task.now) tried.old.spares.items }
+    requires guesses { AreGuesses (case_of task.now) tried.old.guesses.last.items }
+    ensures guesses { AreGuesses (case_of task.now) tried.new.guesses.last.items }
     ensures repairs { progress.new.repairs ≡ progress.old.repairs }
     ensures worlds { progress.new.worlds ≡ progress.old.worlds }
     ensures each { OnOk result (length progress.new.hidden.flags ≡ task.now.system.now.cells) }
@@ -146,7 +151,7 @@ fn try_one(
         &progress.hidden,
         progress.worlds.as_slice(),
         &mut tried.spares,
-        &mut tried.search,
+        &mut tried.guesses,
     )?;
     match found {
         None => {
@@ -169,6 +174,7 @@ fn put_back(
     ensures worlds { progress.new.worlds ≡ progress.old.worlds }
     ensures repairs { progress.new.repairs ≡ progress.old.repairs }
     ensures spares { tried.new.spares ≡ tried.old.spares }
+    ensures guesses { tried.new.guesses ≡ tried.old.guesses }
     ensures needs { OnOk result (tried.new.needs ≡ tried.old.needs ++ need ∷ []) }
     ensures shown { OnOk result ((earlier : List ℕ) (last : ℕ) → tried.old.shown ≡ earlier ++ last ∷ []
         → tried.new.shown ≡ earlier) }

@@ -89,6 +89,7 @@ pub(crate) fn column_number(table: &SparseTable, numbers: &[i128], column: usize
     requires row { k ≤ length table.now.members.items }
     ensures { result ≡ coefficient (slice_index_or table.now.rows.items k []) column }
 {
+    // for the proof: whose numbers these are
     let _table = table;
     let _column = column;
     numbers[k]

@@ -54,9 +54,8 @@ returns-then-is_at_hand-clause-ok c =
     protects_next task flags c.args.place asked stands
     (protects_at_hand task flags asked is.cell (asked_of 0 c.args.task.now.cells.now) c.args.worlds.now c.as_slice.result.now is.found c.requires.kept spares test) c.requires.before
 
-pub is_guessed-requires-clause-primary : goal.is_guessed-requires-clause-primary
-is_guessed-requires-clause-primary c =
-    asked_primary c.args.task.now.cells.now c.args.place (get_or c.args.task.now.questions.now c.args.place (0, Above)) (stands_there c.args.task.now.cells.now c.args.task.now.questions.now c.args.place (0, Above) c.args.task.now.fits.in_order c.requires.place)
+pub is_guessed-requires-clause-stands : goal.is_guessed-requires-clause-stands
+is_guessed-requires-clause-stands c = stands_there c.args.task.now.cells.now c.args.task.now.questions.now c.args.place (0, Above) c.args.task.now.fits.in_order c.requires.place
 
 pub returns-then-is_guessed-clause-ok : goal.returns-then-is_guessed-clause-ok
 returns-then-is_guessed-clause-ok c =
@@ -64,7 +63,7 @@ returns-then-is_guessed-clause-ok c =
     let flags : List Bool = c.args.hidden.now.flags in
     let asked : ℕ × Side = get_or c.args.task.now.questions.now c.args.place (0, Above) in
     let stands : StandsAt c.args.task.now.cells.now asked c.args.place = stands_there c.args.task.now.cells.now c.args.task.now.questions.now c.args.place (0, Above) c.args.task.now.fits.in_order c.requires.place in
-    protects_next task flags c.args.place asked stands (c.is_guessed.ensures c.if-is_guessed.true) c.requires.before
+    protects_next task flags c.args.place asked stands (c.is_guessed.ensures.protects c.if-is_guessed.true) c.requires.before
 
 pub level_question-question-requires-clause-primary : goal.level_question-question-requires-clause-primary
 level_question-question-requires-clause-primary c =

@@ -22,6 +22,7 @@ cells-init c =
       worlds = refl;
       kept = kept_by task flags (asked_of 0 c.args.task.now.cells.now) c.args.progress.now.worlds c.requires.served;
       spares = subst (AreSpare task) (sym c.requires.no_spares) (All-nil (IsSpare task));
+      guesses = c.requires.guesses;
       tried = record {
         are_tried = subst (λ (ns : List Refuted). IsTried task flags 0 flags ns c.args.tried.now.shown) (sym c.requires.no_needs)
             (subst (λ (l : List ℕ). IsTried task flags 0 flags [] l) (sym c.requires.none_shown)

@@ -1,7 +1,7 @@
 use Rattle.std.proofs.Common.{◌≡◌, length}
 use Rattle.sdc_base.specs.HiddenSets.{IsPermitted}
 use Rattle.repair.specs.HidingOrder.{protected_case}
-use Rattle.repair.specs.CellTrials.{AreKept, AreSpare, HasTried}
+use Rattle.repair.specs.CellTrials.{AreKept, AreSpare, AreGuesses, HasTried}
 use Rattle.worlds.specs.ProtectFaults.{asked_of}
 use Rattle.repair.proofs.trying.try_all.Given as goal
 
@@ -13,5 +13,6 @@ invariant-cells l = record {
   worlds : l.progress.worlds ≡ l.fn.progress.worlds;
   kept : AreKept (protected_case l.task.system.now l.task.cells.now) (asked_of 0 l.task.cells.now) l.progress.worlds;
   spares : AreSpare (protected_case l.task.system.now l.task.cells.now) l.tried.spares.items;
+  guesses : AreGuesses (protected_case l.task.system.now l.task.cells.now) l.tried.guesses.last.items;
   tried : HasTried l.task l.fn.progress.hidden.flags l.number l.progress l.tried;
 }

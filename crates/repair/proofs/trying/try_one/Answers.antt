@@ -7,7 +7,7 @@ use Rattle.worlds.specs.declared.world.World.{World}
 use Rattle.worlds.specs.ProtectFaults.{asked_of}
 use Rattle.worlds.proofs.TrueTests.{on_ok}
 use Rattle.repair.specs.HidingOrder.{Case, protected_case, hide, show, ProtectsAll}
-use Rattle.repair.specs.CellTrials.{AreKept, AreSpare, AreTrialAnswers, ProtectsBeforeOr, IsRefuted, IsTried, IsTryStop, HasFault}
+use Rattle.repair.specs.CellTrials.{AreKept, AreSpare, AreGuesses, AreTrialAnswers, ProtectsBeforeOr, IsRefuted, IsTried, IsTryStop, HasFault}
 use Rattle.sdc_base.specs.declared.side.Side.{Side}
 use Rattle.repair.proofs.AtHand.{protects_all, spares_left}
 use Rattle.repair.specs.OnTheWay.{IsOfTrial}
@@ -67,6 +67,11 @@ returns-in-Some-clause-spares c =
     let task : Case = protected_case c.args.task.now.system.now c.args.task.now.cells.now in
     on_ok (AreSpare task c.put_back.new.tried.spares.items) c.put_back.result
     (subst (λ spares. AreSpare task spares.items) (sym c.put_back.ensures.spares) c.in_ok-found.ensures.spares)
+
+pub returns-in-Some-clause-guesses : goal.returns-in-Some-clause-guesses
+returns-in-Some-clause-guesses c =
+    let task : Case = protected_case c.args.task.now.system.now c.args.task.now.cells.now in
+    subst (λ guesses. AreGuesses task guesses.last.items) (sym c.put_back.ensures.guesses) c.first_refused.ensures.guesses
 
 pub returns-in-Some-clause-ok : goal.returns-in-Some-clause-ok
 returns-in-Some-clause-ok c =
