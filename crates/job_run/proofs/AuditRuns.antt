@@ -8,7 +8,7 @@ use Rattle.office_io.specs.Files.{Files}
 use Rattle.office_io.specs.Shelves.{ShelfState}
 use Rattle.office_io.specs.Trays.{TrayState, HasPut, HasPutInPart}
 use Rattle.job_inputs.specs.ReadFiles.{output_limit}
-use Rattle.job_inputs.specs.Reading.{HasOnlyLooked, stopped_for}
+use Rattle.job_inputs.specs.Reading.{HasOnlyLooked, stopped_for, HasComeTo}
 use Rattle.job_inputs.specs.declared.faults.Fault.{Fault}
 use Rattle.job_inputs.specs.declared.file_ref.FileRef.{FileRef}
 use Rattle.job_inputs.specs.declared.file_ref.FileRef.TheVariants as file
@@ -21,30 +21,29 @@ use Rattle.job_audit.specs.Stops.{HasCause as HasFindingCause, HasComeTo as HasF
 use Rattle.job_audit.specs.declared.audit_file.AuditFile.{AuditFile}
 use Rattle.job_audit.specs.declared.stop.AuditStop.{AuditStop}
 use Rattle.job_audit.specs.declared.stop.AuditStop.TheVariants as stop
-use Rattle.job_run.specs.AuditRuns.{IsAuditAnswer, IsReportedSo, MeetsAudit, IsAuditPut, IsAuditPart, AuditLeaves, SettlesAudit, IsAuditRunOf}
-use Rattle.job_run.specs.IntervalRuns.{question_report}
-use Rattle.job_run.specs.Reports.{report_of, HasCause, HasComeTo, LeavesAll}
-use Rattle.job_run.specs.Stops.{inputs_stop}
+use Rattle.job_run.specs.AuditRuns.{IsAuditAnswer, MeetsAudit, IsAuditPut, IsAuditPart, AuditLeaves, SettlesAudit, IsAuditRunOf}
+use Rattle.job_run.specs.Reporting.{inputs_report, question_report, IsQuestionReport}
+use Rattle.job_run.specs.Reports.{FaultsHaveCauses, LeavesAll, reading_of}
 use Rattle.job_run.specs.declared.report.Report.{Report}
 use Rattle.job_run.specs.declared.report.Report.TheVariants as report
 use Rattle.job_run.proofs.IntervalRuns.{ok-is, question-cause, question-comes, question-leaves-all}
-use Rattle.job_run.proofs.Outcomes.{inputs-cause, inputs-come, inputs-leave-all}
+use Rattle.job_run.proofs.Outcomes.{memory-comes, read-comes, inputs-cause, inputs-come, inputs-leave-all, no-fault, read-counted}
 
 -- the report of an audit that wasn't found
 abbrev pub stop_report : AuditStop → Report
-stop_report (stop.Inputs why) = report_of (Err (inputs_stop why))
+stop_report (stop.Inputs why) = inputs_report why
 stop_report (stop.NotAccepted why) = report.NotAccepted why
 stop_report (stop.Undecided why) = question_report why
 
 -- ---- no audit was found
 
-inputs-meet : (e : InputStop) (outcome : Result ShelvedTables Fault) → Fails (stopped_for e) outcome → MeetsAudit (report_of (Err (inputs_stop e))) outcome
+inputs-meet : (e : InputStop) (outcome : Result ShelvedTables Fault) → Fails (stopped_for e) outcome → MeetsAudit (inputs_report e) outcome
 inputs-meet (input.Refused f) outcome h = h
 inputs-meet (input.ReadFault f) outcome h = tt
 inputs-meet input.Memory outcome h = tt
 
-reported : (shelved : ShelvedTables) (why : AskFault) → IsUndecidedFor shelved why → IsReportedSo shelved (question_report why)
-reported shelved why h = record { fault = why; is_report = refl; is_so = h }
+reported : (shelved : ShelvedTables) (why : AskFault) → IsUndecidedFor shelved why → IsQuestionReport (IsUndecidedFor shelved) (question_report why)
+reported shelved why h = record { fault = why; is_report = refl; is_stuck = h }
 
 question-meets : (why : AskFault) (outcome : Result ShelvedTables Fault) → IsOkAnd outcome (λ one. IsUndecidedFor one why) → MeetsAudit (question_report why) outcome
 question-meets (ask.Work walk) (Ok shelved) h = reported shelved (ask.Work walk) h
@@ -58,7 +57,7 @@ stop-meets (stop.Inputs why) outcome h = inputs-meet why outcome h
 stop-meets (stop.NotAccepted why) outcome h = h
 stop-meets (stop.Undecided why) outcome h = question-meets why outcome h
 
-inputs-leave : (e : InputStop) (outcome : Result ShelvedTables Fault) (out : List ℕ) (tray : TrayState) → AuditLeaves (report_of (Err (inputs_stop e))) outcome out tray tray
+inputs-leave : (e : InputStop) (outcome : Result ShelvedTables Fault) (out : List ℕ) (tray : TrayState) → AuditLeaves (inputs_report e) outcome out tray tray
 inputs-leave (input.Refused f) outcome out tray = refl
 inputs-leave (input.ReadFault f) outcome out tray = refl
 inputs-leave input.Memory outcome out tray = refl
@@ -79,17 +78,17 @@ stop-leaves-all (stop.Inputs why) tray = inputs-leave-all why tray
 stop-leaves-all (stop.NotAccepted why) tray = refl
 stop-leaves-all (stop.Undecided why) tray = question-leaves-all why tray
 
-pub stop-cause : (e : AuditStop) (old new : ShelfState) (tray : TrayState) → HasFindingCause (Err e) old new → HasCause (stop_report e) old new tray tray
+pub stop-cause : (e : AuditStop) (old new : ShelfState) (tray : TrayState) → HasFindingCause (Err e) old new → FaultsHaveCauses (stop_report e) old new tray tray
 stop-cause (stop.Inputs why) old new tray cause = inputs-cause why old new tray (cause why refl)
-stop-cause (stop.NotAccepted why) old new tray cause = record { absent = λ f is. absurd cc; too_long = λ f is. absurd cc; read_fault = λ f is. absurd cc; write_fault = λ f is. absurd cc; tree = λ f is. absurd cc }
+stop-cause (stop.NotAccepted why) old new tray cause = no-fault _ old new tray tray refl (λ f is. absurd cc)
 stop-cause (stop.Undecided why) old new tray cause = question-cause why old new tray
 
-stop-comes : (e : AuditStop) (comes : FileRef → List ℕ → Type 0) (files : Files) (new : ShelfState) → HasFindingComeTo comes (Err e) files new → HasComeTo comes (stop_report e) files new
+stop-comes : (e : AuditStop) (comes : FileRef → List ℕ → Type 0) (files : Files) (new : ShelfState) → HasFindingComeTo comes (Err e) files new → HasComeTo comes (reading_of (stop_report e)) files new
 stop-comes (stop.Inputs why) comes files new come = inputs-come why comes files new (come why refl)
-stop-comes (stop.NotAccepted why) comes files new come = λ f is. absurd cc
+stop-comes (stop.NotAccepted why) comes files new come = read-comes comes files new
 stop-comes (stop.Undecided why) comes files new come = question-comes why comes files new
 
-inputs-put-none : (e : InputStop) (n m : ℕ) → report_of (Err (inputs_stop e)) ≢ report.Audited n m
+inputs-put-none : (e : InputStop) (n m : ℕ) → inputs_report e ≢ report.Audited n m
 inputs-put-none (input.Refused f) n m is = absurd cc
 inputs-put-none (input.ReadFault f) n m is = absurd cc
 inputs-put-none input.Memory n m is = absurd cc
@@ -105,7 +104,7 @@ stop-puts-none (stop.Inputs why) n m is = inputs-put-none why n m is
 stop-puts-none (stop.NotAccepted why) n m is = absurd cc
 stop-puts-none (stop.Undecided why) n m is = question-puts-none why n m is
 
-inputs-answer : (e : InputStop) → IsAuditAnswer (report_of (Err (inputs_stop e)))
+inputs-answer : (e : InputStop) → IsAuditAnswer (inputs_report e)
 inputs-answer (input.Refused f) = tt
 inputs-answer (input.ReadFault f) = tt
 inputs-answer input.Memory = tt
@@ -155,7 +154,7 @@ stopped-run name out e old new tray told come cause shelf = record {
   told = λ fs held. stop-meets e (shelved_for Audit fs name out) (told fs held);
   left = λ fs held. stop-leaves e (shelved_for Audit fs name out) out tray;
   complete = λ fs held no_read no_write.
-      settles (stop_report e) (shelved_for Audit fs name out) (stop-meets e (shelved_for Audit fs name out) (told fs held)) (λ f is. no_read ((stop-cause e old new tray cause).read_fault f is)) (λ f is. no_write ((stop-cause e old new tray cause).write_fault f is));
+      settles (stop_report e) (shelved_for Audit fs name out) (stop-meets e (shelved_for Audit fs name out) (told fs held)) (λ f is. no_read (read-counted (stop_report e) old new tray tray f (stop-cause e old new tray cause) is)) (λ f is. no_write ((stop-cause e old new tray cause).write_fault f is));
   came_to = λ fs held. stop-comes e (ComesFor Audit fs name out) fs new (come fs held);
   one_put = λ n m is. absurd (stop-puts-none e n m is);
   shelf = shelf;
@@ -169,9 +168,9 @@ stopped-run-of name out r e answer old new tray is same told come cause shelf =
     (stopped-run name out e old new tray (λ fs held. subst (λ (o : Result AuditFile AuditStop). AnswersAudit (shelved_for Audit fs name out) o) is (told fs held))
     (λ fs held. subst (λ (o : Result AuditFile AuditStop). HasFindingComeTo (ComesFor Audit fs name out) o fs new) is (come fs held)) (subst (λ (o : Result AuditFile AuditStop). HasFindingCause o old new) is cause) shelf)
 
-pub stopped-cause-of : (r : Result AuditFile AuditStop) (e : AuditStop) (answer : Report) (old new : ShelfState) (tray : TrayState) → r ≡ Err e → answer ≡ stop_report e → HasFindingCause r old new → HasCause answer old new tray tray
+pub stopped-cause-of : (r : Result AuditFile AuditStop) (e : AuditStop) (answer : Report) (old new : ShelfState) (tray : TrayState) → r ≡ Err e → answer ≡ stop_report e → HasFindingCause r old new → FaultsHaveCauses answer old new tray tray
 stopped-cause-of r e answer old new tray is same cause =
-    subst (λ (a : Report). HasCause a old new tray tray) (sym same) (stop-cause e old new tray (subst (λ (o : Result AuditFile AuditStop). HasFindingCause o old new) is cause))
+    subst (λ (a : Report). FaultsHaveCauses a old new tray tray) (sym same) (stop-cause e old new tray (subst (λ (o : Result AuditFile AuditStop). HasFindingCause o old new) is cause))
 
 -- ---- an audit was found
 
@@ -193,7 +192,7 @@ put-run name out audit old new before after told whole shelf = record {
   told = λ fs held. ok-is (shelved_for Audit fs name out) _ (told fs held);
   left = λ fs held. put-leaves (shelved_for Audit fs name out) audit out before after (told fs held) whole;
   complete = λ fs held no_read no_write. settles (report.Audited audit.primary audit.exposed) (shelved_for Audit fs name out) (ok-is (shelved_for Audit fs name out) _ (told fs held)) (λ f is. absurd cc) (λ f is. absurd cc);
-  came_to = λ fs held f is. absurd cc;
+  came_to = λ fs held. read-comes (ComesFor Audit fs name out) fs new;
   one_put = λ n m is. (audit.bytes, whole);
   shelf = shelf;
 }
@@ -206,7 +205,7 @@ part-run name out audit old new before after told part shelf = record {
   told = λ fs held. ok-is (shelved_for Audit fs name out) _ (told fs held);
   left = λ fs held. (refl, part-leaves (shelved_for Audit fs name out) audit out before after (told fs held) part);
   complete = λ fs held no_read no_write. absurd (no_write part.failed);
-  came_to = λ fs held f is. absurd cc;
+  came_to = λ fs held. read-comes (ComesFor Audit fs name out) fs new;
   one_put = λ n m is. absurd cc;
   shelf = shelf;
 }
@@ -218,7 +217,7 @@ no-memory-run name out old new tray shelf = record {
   told = λ fs held. tt;
   left = λ fs held. refl;
   complete = λ fs held no_read no_write. settles report.Memory (shelved_for Audit fs name out) tt (λ f is. absurd cc) (λ f is. absurd cc);
-  came_to = λ fs held f is. absurd cc;
+  came_to = λ fs held. memory-comes (ComesFor Audit fs name out) fs new;
   one_put = λ n m is. absurd cc;
   shelf = shelf;
 }

@@ -11,26 +11,26 @@ use Rattle.job_check.specs.ReleaseFiles.{ReleasedFiles, released_of}
 use Rattle.job_check.specs.declared.stop.CheckStop.{CheckStop}
 use Rattle.job_check.specs.declared.stop.CheckStop.TheVariants as check
 use Rattle.job_inputs.specs.ReadFiles.{output_limit}
-use Rattle.job_inputs.specs.Reading.{HasOnlyLooked, stopped_for, HasCause as HasInputCause, HasComeTo as HasInputComeTo}
+use Rattle.job_inputs.specs.Reading.{HasOnlyLooked, stopped_for, HasCause, HasComeTo}
 use Rattle.job_inputs.specs.declared.faults.Fault.{Fault}
 use Rattle.job_inputs.specs.declared.file_ref.FileRef.{FileRef}
 use Rattle.job_inputs.specs.declared.stop.InputStop.{InputStop}
 use Rattle.job_inputs.specs.declared.stop.InputStop.TheVariants as input
 use Rattle.job_run.specs.Checks.{IsCheckAnswer, MeetsCheck, SettlesCheck, IsCheckOf}
-use Rattle.job_run.specs.Reports.{report_of, HasCause, HasComeTo}
-use Rattle.job_run.specs.Stops.{inputs_stop}
+use Rattle.job_run.specs.Reporting.{inputs_report}
+use Rattle.job_run.specs.Reports.{FaultsHaveCauses, reading_of}
 use Rattle.job_run.specs.declared.report.Report.{Report}
 use Rattle.job_run.specs.declared.report.Report.TheVariants as report
-use Rattle.job_run.proofs.Outcomes.{inputs-cause, inputs-come}
+use Rattle.job_run.proofs.Outcomes.{read-comes, inputs-cause, inputs-come, no-fault, read-counted}
 
 -- the report of a check that went on so
 abbrev pub check_report : Result (Unit {0}) CheckStop → Report
 check_report (Ok fine) = report.Accepted
-check_report (Err (check.Inputs why)) = report_of (Err (inputs_stop why))
+check_report (Err (check.Inputs why)) = inputs_report why
 check_report (Err (check.NotAccepted why)) = report.NotAccepted why
 check_report (Err (check.NotGuarded why)) = report.NotGuarded why
 
-inputs-meet-check : (e : InputStop) (outcome : Result ReleasedFiles Fault) → Fails (stopped_for e) outcome → MeetsCheck (report_of (Err (inputs_stop e))) outcome
+inputs-meet-check : (e : InputStop) (outcome : Result ReleasedFiles Fault) → Fails (stopped_for e) outcome → MeetsCheck (inputs_report e) outcome
 inputs-meet-check (input.Refused f) outcome h = h
 inputs-meet-check (input.ReadFault f) outcome h = tt
 inputs-meet-check input.Memory outcome h = tt
@@ -65,19 +65,19 @@ settles-check (report.CannotAgainst row cell side multipliers) outcome h no_read
 settles-check (report.Undecided why repairs shown against) outcome h no_read = absurd h
 settles-check (report.WriteFault f) outcome h no_read = absurd h
 
-pub check-cause : (r : Result (Unit {0}) CheckStop) (old new : ShelfState) (tray : TrayState) → ((e : InputStop) → r ≡ Err (check.Inputs e) → HasInputCause {X = Unit {0}} (Err e) old new) → HasCause (check_report r) old new tray tray
-check-cause (Ok fine) old new tray cause = record { absent = λ f is. absurd cc; too_long = λ f is. absurd cc; read_fault = λ f is. absurd cc; write_fault = λ f is. absurd cc; tree = λ f is. absurd cc }
+pub check-cause : (r : Result (Unit {0}) CheckStop) (old new : ShelfState) (tray : TrayState) → ((e : InputStop) → r ≡ Err (check.Inputs e) → HasCause {X = Unit {0}} (Err e) old new) → FaultsHaveCauses (check_report r) old new tray tray
+check-cause (Ok fine) old new tray cause = no-fault _ old new tray tray refl (λ f is. absurd cc)
 check-cause (Err (check.Inputs why)) old new tray cause = inputs-cause why old new tray (cause why refl)
-check-cause (Err (check.NotAccepted why)) old new tray cause = record { absent = λ f is. absurd cc; too_long = λ f is. absurd cc; read_fault = λ f is. absurd cc; write_fault = λ f is. absurd cc; tree = λ f is. absurd cc }
-check-cause (Err (check.NotGuarded why)) old new tray cause = record { absent = λ f is. absurd cc; too_long = λ f is. absurd cc; read_fault = λ f is. absurd cc; write_fault = λ f is. absurd cc; tree = λ f is. absurd cc }
+check-cause (Err (check.NotAccepted why)) old new tray cause = no-fault _ old new tray tray refl (λ f is. absurd cc)
+check-cause (Err (check.NotGuarded why)) old new tray cause = no-fault _ old new tray tray refl (λ f is. absurd cc)
 
-check-come : (r : Result (Unit {0}) CheckStop) (comes : FileRef → List ℕ → Type 0) (files : Files) (new : ShelfState) → ((e : InputStop) → r ≡ Err (check.Inputs e) → HasInputComeTo {X = Unit {0}} comes (Err e) files new) → HasComeTo comes (check_report r) files new
-check-come (Ok fine) comes files new come = λ f is. absurd cc
+check-come : (r : Result (Unit {0}) CheckStop) (comes : FileRef → List ℕ → Type 0) (files : Files) (new : ShelfState) → ((e : InputStop) → r ≡ Err (check.Inputs e) → HasComeTo {X = Unit {0}} comes (Err e) files new) → HasComeTo comes (reading_of (check_report r)) files new
+check-come (Ok fine) comes files new come = read-comes comes files new
 check-come (Err (check.Inputs why)) comes files new come = inputs-come why comes files new (come why refl)
-check-come (Err (check.NotAccepted why)) comes files new come = λ f is. absurd cc
-check-come (Err (check.NotGuarded why)) comes files new come = λ f is. absurd cc
+check-come (Err (check.NotAccepted why)) comes files new come = read-comes comes files new
+check-come (Err (check.NotGuarded why)) comes files new come = read-comes comes files new
 
-inputs-answer : (e : InputStop) → IsCheckAnswer (report_of (Err (inputs_stop e)))
+inputs-answer : (e : InputStop) → IsCheckAnswer (inputs_report e)
 inputs-answer (input.Refused f) = tt
 inputs-answer (input.ReadFault f) = tt
 inputs-answer input.Memory = tt
@@ -90,12 +90,12 @@ check-answers (Err (check.NotGuarded why)) = tt
 
 -- what holds of how it went on holds of the check
 pub check-run : (name : List ℕ) (r : Result (Unit {0}) CheckStop) (old new : ShelfState) (tray : TrayState) → WhereTold old.files (λ fs. AnswersRelease (released_of fs name) r)
-    → WhereTold old.files (λ fs. (e : InputStop) → r ≡ Err (check.Inputs e) → HasInputComeTo {X = Unit {0}} (ReleaseComesTo fs name) (Err e) fs new)
-    → ((e : InputStop) → r ≡ Err (check.Inputs e) → HasInputCause {X = Unit {0}} (Err e) old new) → HasOnlyLooked output_limit old new → IsCheckOf name (check_report r) old new tray tray
+    → WhereTold old.files (λ fs. (e : InputStop) → r ≡ Err (check.Inputs e) → HasComeTo {X = Unit {0}} (ReleaseComesTo fs name) (Err e) fs new)
+    → ((e : InputStop) → r ≡ Err (check.Inputs e) → HasCause {X = Unit {0}} (Err e) old new) → HasOnlyLooked output_limit old new → IsCheckOf name (check_report r) old new tray tray
 check-run name r old new tray told come cause shelf = record {
   answers = check-answers r;
   told = λ fs held. meets r (released_of fs name) (told fs held);
-  complete = λ fs held no_read. settles-check (check_report r) (released_of fs name) (meets r (released_of fs name) (told fs held)) (λ f is. no_read ((check-cause r old new tray cause).read_fault f is));
+  complete = λ fs held no_read. settles-check (check_report r) (released_of fs name) (meets r (released_of fs name) (told fs held)) (λ f is. no_read (read-counted (check_report r) old new tray tray f (check-cause r old new tray cause) is));
   came_to = λ fs held. check-come r (ReleaseComesTo fs name) fs new (come fs held);
   untouched = refl;
   shelf = shelf;

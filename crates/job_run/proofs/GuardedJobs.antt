@@ -46,9 +46,10 @@ use Rattle.job_run.specs.GuardedReleases.{IsGuardFor, IsGuardedRelease, guarded_
 use Rattle.job_run.specs.Releases.{shown_in, summary_of}
 use Rattle.job_run.specs.FileCounts.{contributors_count, file_count}
 use Rattle.job_run.specs.Roundings.{base_in_units, job_base}
-use Rattle.job_run.specs.Stops.{ComesToRelease, unguarded_stop}
+use Rattle.job_run.specs.Reporting.{unguarded_report}
+use Rattle.job_run.specs.Reports.{ComesToRelease}
 use Rattle.job_run.specs.declared.put.Release.{Release}
-use Rattle.job_run.proofs.Releasing.{each-flag, hiding-comes, outcome-for, question-comes, same-contributors, signs-for}
+use Rattle.job_run.proofs.Releasing.{each-flag, hiding-comes, outcome-for, stuck-comes, same-contributors, signs-for}
 use Rattle.job_run.proofs.SameBook.{same-cells}
 
 -- ---- a book in which other cells are hidden
@@ -153,11 +154,11 @@ guard-for settled job system new cells rows name one hidden_set certificate outc
     }
 
 -- why a hidden set isn't guarded stops the run
-pub unguarded-comes : (settled : SettledInputs) (hidden_set : HiddenSet) (certificate : Certificate) (why : Unguarded) → IsGuardFor settled hidden_set certificate (Err why) → ComesToRelease settled (Err (unguarded_stop why))
-unguarded-comes settled hidden_set certificate (unguarded.CannotAgainst row cell side multipliers) is = record { hidden_set = hidden_set; certificate = certificate; guards = is }
+pub unguarded-comes : (settled : SettledInputs) (hidden_set : HiddenSet) (certificate : Certificate) (why : Unguarded) → IsGuardFor settled hidden_set certificate (Err why) → ComesToRelease settled (Err (unguarded_report why))
+unguarded-comes settled hidden_set certificate (unguarded.CannotAgainst row cell side multipliers) is = (tt, record { hidden_set = hidden_set; certificate = certificate; guards = is })
 unguarded-comes settled hidden_set certificate (unguarded.Undecided stopped against) is =
-    question-comes settled stopped.fault stopped.repairs stopped.shown (Some against) (record { hidden_set = hidden_set; certificate = certificate; guards = is })
-unguarded-comes settled hidden_set certificate unguarded.Memory is = tt
+    stuck-comes settled stopped.fault stopped.repairs stopped.shown (Some against) (record { hidden_set = hidden_set; certificate = certificate; guards = is })
+unguarded-comes settled hidden_set certificate unguarded.Memory is = (tt, tt)
 
 -- a guarded set makes a guarded release
 pub guarded-is : (settled : SettledInputs) (release : Release) (hidden_set : HiddenSet) (certificate : Certificate) (guarded : GuardedCells) (name : List ℕ) → IsGuardFor settled hidden_set certificate (Ok guarded)

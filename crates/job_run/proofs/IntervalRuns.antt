@@ -8,7 +8,7 @@ use Rattle.office_io.specs.Files.{Files}
 use Rattle.office_io.specs.Shelves.{ShelfState}
 use Rattle.office_io.specs.Trays.{TrayState, HasPut, HasPutInPart}
 use Rattle.job_inputs.specs.ReadFiles.{output_limit}
-use Rattle.job_inputs.specs.Reading.{HasOnlyLooked, stopped_for}
+use Rattle.job_inputs.specs.Reading.{HasOnlyLooked, stopped_for, HasComeTo}
 use Rattle.job_inputs.specs.declared.faults.Fault.{Fault}
 use Rattle.job_inputs.specs.declared.file_ref.FileRef.{FileRef}
 use Rattle.job_inputs.specs.declared.file_ref.FileRef.TheVariants as file
@@ -20,28 +20,28 @@ use Rattle.job_intervals.specs.Stops.{HasCause as HasFindingCause, HasComeTo as 
 use Rattle.job_intervals.specs.declared.interval_file.IntervalFile.{IntervalFile}
 use Rattle.job_intervals.specs.declared.stop.IntervalStop.{IntervalStop}
 use Rattle.job_intervals.specs.declared.stop.IntervalStop.TheVariants as stop
-use Rattle.job_run.specs.IntervalRuns.{IsIntervalAnswer, question_report, IsReportedSo, MeetsIntervals, IsIntervalPut, IsIntervalPart, IntervalsLeave, SettlesIntervals, IsIntervalRunOf}
-use Rattle.job_run.specs.Reports.{report_of, HasCause, HasComeTo, LeavesAll}
-use Rattle.job_run.specs.Stops.{inputs_stop}
+use Rattle.job_run.specs.IntervalRuns.{IsIntervalAnswer, MeetsIntervals, IsIntervalPut, IsIntervalPart, IntervalsLeave, SettlesIntervals, IsIntervalRunOf}
+use Rattle.job_run.specs.Reporting.{inputs_report, question_report, IsQuestionReport}
+use Rattle.job_run.specs.Reports.{FaultsHaveCauses, LeavesAll, reading_of}
 use Rattle.job_run.specs.declared.report.Report.{Report}
 use Rattle.job_run.specs.declared.report.Report.TheVariants as report
-use Rattle.job_run.proofs.Outcomes.{inputs-cause, inputs-come, inputs-leave-all}
+use Rattle.job_run.proofs.Outcomes.{memory-comes, read-comes, inputs-cause, inputs-come, inputs-leave-all, no-fault, no-memory, read-counted}
 
 -- the report of intervals that weren't found
 abbrev pub stop_report : IntervalStop → Report
-stop_report (stop.Inputs why) = report_of (Err (inputs_stop why))
+stop_report (stop.Inputs why) = inputs_report why
 stop_report (stop.NotAccepted why) = report.NotAccepted why
 stop_report (stop.Undecided why) = question_report why
 
 -- ---- no intervals were found
 
-inputs-meet : (e : InputStop) (outcome : Result ShelvedTables Fault) → Fails (stopped_for e) outcome → MeetsIntervals (report_of (Err (inputs_stop e))) outcome
+inputs-meet : (e : InputStop) (outcome : Result ShelvedTables Fault) → Fails (stopped_for e) outcome → MeetsIntervals (inputs_report e) outcome
 inputs-meet (input.Refused f) outcome h = h
 inputs-meet (input.ReadFault f) outcome h = tt
 inputs-meet input.Memory outcome h = tt
 
-reported : (shelved : ShelvedTables) (why : AskFault) → IsUndecidedFor shelved why → IsReportedSo shelved (question_report why)
-reported shelved why h = record { fault = why; is_report = refl; is_so = h }
+reported : (shelved : ShelvedTables) (why : AskFault) → IsUndecidedFor shelved why → IsQuestionReport (IsUndecidedFor shelved) (question_report why)
+reported shelved why h = record { fault = why; is_report = refl; is_stuck = h }
 
 question-meets : (why : AskFault) (outcome : Result ShelvedTables Fault) → IsOkAnd outcome (λ one. IsUndecidedFor one why) → MeetsIntervals (question_report why) outcome
 question-meets (ask.Work walk) (Ok shelved) h = reported shelved (ask.Work walk) h
@@ -55,7 +55,7 @@ stop-meets (stop.Inputs why) outcome h = inputs-meet why outcome h
 stop-meets (stop.NotAccepted why) outcome h = h
 stop-meets (stop.Undecided why) outcome h = question-meets why outcome h
 
-inputs-leave : (e : InputStop) (outcome : Result ShelvedTables Fault) (out : List ℕ) (tray : TrayState) → IntervalsLeave (report_of (Err (inputs_stop e))) outcome out tray tray
+inputs-leave : (e : InputStop) (outcome : Result ShelvedTables Fault) (out : List ℕ) (tray : TrayState) → IntervalsLeave (inputs_report e) outcome out tray tray
 inputs-leave (input.Refused f) outcome out tray = refl
 inputs-leave (input.ReadFault f) outcome out tray = refl
 inputs-leave input.Memory outcome out tray = refl
@@ -82,29 +82,29 @@ stop-leaves-all (stop.Inputs why) tray = inputs-leave-all why tray
 stop-leaves-all (stop.NotAccepted why) tray = refl
 stop-leaves-all (stop.Undecided why) tray = question-leaves-all why tray
 
-pub question-cause : (why : AskFault) (old new : ShelfState) (tray : TrayState) → HasCause (question_report why) old new tray tray
-question-cause (ask.Work walk) old new tray = record { absent = λ f is. absurd cc; too_long = λ f is. absurd cc; read_fault = λ f is. absurd cc; write_fault = λ f is. absurd cc; tree = λ f is. absurd cc }
-question-cause (ask.Wide walk place) old new tray = record { absent = λ f is. absurd cc; too_long = λ f is. absurd cc; read_fault = λ f is. absurd cc; write_fault = λ f is. absurd cc; tree = λ f is. absurd cc }
-question-cause (ask.Size question hidden) old new tray = record { absent = λ f is. absurd cc; too_long = λ f is. absurd cc; read_fault = λ f is. absurd cc; write_fault = λ f is. absurd cc; tree = λ f is. absurd cc }
-question-cause ask.Memory old new tray = record { absent = λ f is. absurd cc; too_long = λ f is. absurd cc; read_fault = λ f is. absurd cc; write_fault = λ f is. absurd cc; tree = λ f is. absurd cc }
+pub question-cause : (why : AskFault) (old new : ShelfState) (tray : TrayState) → FaultsHaveCauses (question_report why) old new tray tray
+question-cause (ask.Work walk) old new tray = no-fault _ old new tray tray refl (λ f is. absurd cc)
+question-cause (ask.Wide walk place) old new tray = no-fault _ old new tray tray refl (λ f is. absurd cc)
+question-cause (ask.Size question hidden) old new tray = no-fault _ old new tray tray refl (λ f is. absurd cc)
+question-cause ask.Memory old new tray = no-memory old new tray tray
 
-pub stop-cause : (e : IntervalStop) (old new : ShelfState) (tray : TrayState) → HasFindingCause (Err e) old new → HasCause (stop_report e) old new tray tray
+pub stop-cause : (e : IntervalStop) (old new : ShelfState) (tray : TrayState) → HasFindingCause (Err e) old new → FaultsHaveCauses (stop_report e) old new tray tray
 stop-cause (stop.Inputs why) old new tray cause = inputs-cause why old new tray (cause why refl)
-stop-cause (stop.NotAccepted why) old new tray cause = record { absent = λ f is. absurd cc; too_long = λ f is. absurd cc; read_fault = λ f is. absurd cc; write_fault = λ f is. absurd cc; tree = λ f is. absurd cc }
+stop-cause (stop.NotAccepted why) old new tray cause = no-fault _ old new tray tray refl (λ f is. absurd cc)
 stop-cause (stop.Undecided why) old new tray cause = question-cause why old new tray
 
-pub question-comes : (why : AskFault) (comes : FileRef → List ℕ → Type 0) (files : Files) (new : ShelfState) → HasComeTo comes (question_report why) files new
-question-comes (ask.Work walk) comes files new = λ f is. absurd cc
-question-comes (ask.Wide walk place) comes files new = λ f is. absurd cc
-question-comes (ask.Size question hidden) comes files new = λ f is. absurd cc
-question-comes ask.Memory comes files new = λ f is. absurd cc
+pub question-comes : (why : AskFault) (comes : FileRef → List ℕ → Type 0) (files : Files) (new : ShelfState) → HasComeTo comes (reading_of (question_report why)) files new
+question-comes (ask.Work walk) comes files new = read-comes comes files new
+question-comes (ask.Wide walk place) comes files new = read-comes comes files new
+question-comes (ask.Size question hidden) comes files new = read-comes comes files new
+question-comes ask.Memory comes files new = memory-comes comes files new
 
-stop-comes : (e : IntervalStop) (comes : FileRef → List ℕ → Type 0) (files : Files) (new : ShelfState) → HasFindingComeTo comes (Err e) files new → HasComeTo comes (stop_report e) files new
+stop-comes : (e : IntervalStop) (comes : FileRef → List ℕ → Type 0) (files : Files) (new : ShelfState) → HasFindingComeTo comes (Err e) files new → HasComeTo comes (reading_of (stop_report e)) files new
 stop-comes (stop.Inputs why) comes files new come = inputs-come why comes files new (come why refl)
-stop-comes (stop.NotAccepted why) comes files new come = λ f is. absurd cc
+stop-comes (stop.NotAccepted why) comes files new come = read-comes comes files new
 stop-comes (stop.Undecided why) comes files new come = question-comes why comes files new
 
-inputs-put-none : (e : InputStop) (n : ℕ) → report_of (Err (inputs_stop e)) ≢ report.Intervals n
+inputs-put-none : (e : InputStop) (n : ℕ) → inputs_report e ≢ report.Intervals n
 inputs-put-none (input.Refused f) n is = absurd cc
 inputs-put-none (input.ReadFault f) n is = absurd cc
 inputs-put-none input.Memory n is = absurd cc
@@ -120,7 +120,7 @@ stop-puts-none (stop.Inputs why) n is = inputs-put-none why n is
 stop-puts-none (stop.NotAccepted why) n is = absurd cc
 stop-puts-none (stop.Undecided why) n is = question-puts-none why n is
 
-inputs-answer : (e : InputStop) → IsIntervalAnswer (report_of (Err (inputs_stop e)))
+inputs-answer : (e : InputStop) → IsIntervalAnswer (inputs_report e)
 inputs-answer (input.Refused f) = tt
 inputs-answer (input.ReadFault f) = tt
 inputs-answer input.Memory = tt
@@ -170,7 +170,7 @@ stopped-run name out e old new tray told come cause shelf = record {
   told = λ fs held. stop-meets e (shelved_of fs name out) (told fs held);
   left = λ fs held. stop-leaves e (shelved_of fs name out) out tray;
   complete = λ fs held no_read no_write.
-      settles (stop_report e) (shelved_of fs name out) (stop-meets e (shelved_of fs name out) (told fs held)) (λ f is. no_read ((stop-cause e old new tray cause).read_fault f is)) (λ f is. no_write ((stop-cause e old new tray cause).write_fault f is));
+      settles (stop_report e) (shelved_of fs name out) (stop-meets e (shelved_of fs name out) (told fs held)) (λ f is. no_read (read-counted (stop_report e) old new tray tray f (stop-cause e old new tray cause) is)) (λ f is. no_write ((stop-cause e old new tray cause).write_fault f is));
   came_to = λ fs held. stop-comes e (IntervalsComeTo fs name out) fs new (come fs held);
   one_put = λ n is. absurd (stop-puts-none e n is);
   shelf = shelf;
@@ -184,9 +184,9 @@ stopped-run-of name out r e answer old new tray is same told come cause shelf =
     (stopped-run name out e old new tray (λ fs held. subst (λ (o : Result IntervalFile IntervalStop). AnswersIntervals (shelved_of fs name out) o) is (told fs held))
     (λ fs held. subst (λ (o : Result IntervalFile IntervalStop). HasFindingComeTo (IntervalsComeTo fs name out) o fs new) is (come fs held)) (subst (λ (o : Result IntervalFile IntervalStop). HasFindingCause o old new) is cause) shelf)
 
-pub stopped-cause-of : (r : Result IntervalFile IntervalStop) (e : IntervalStop) (answer : Report) (old new : ShelfState) (tray : TrayState) → r ≡ Err e → answer ≡ stop_report e → HasFindingCause r old new → HasCause answer old new tray tray
+pub stopped-cause-of : (r : Result IntervalFile IntervalStop) (e : IntervalStop) (answer : Report) (old new : ShelfState) (tray : TrayState) → r ≡ Err e → answer ≡ stop_report e → HasFindingCause r old new → FaultsHaveCauses answer old new tray tray
 stopped-cause-of r e answer old new tray is same cause =
-    subst (λ (a : Report). HasCause a old new tray tray) (sym same) (stop-cause e old new tray (subst (λ (o : Result IntervalFile IntervalStop). HasFindingCause o old new) is cause))
+    subst (λ (a : Report). FaultsHaveCauses a old new tray tray) (sym same) (stop-cause e old new tray (subst (λ (o : Result IntervalFile IntervalStop). HasFindingCause o old new) is cause))
 
 -- ---- intervals were found
 
@@ -212,7 +212,7 @@ put-run name out intervals old new before after told whole shelf = record {
   told = λ fs held. ok-is (shelved_of fs name out) _ (told fs held);
   left = λ fs held. put-leaves (shelved_of fs name out) intervals out before after (told fs held) whole;
   complete = λ fs held no_read no_write. settles (report.Intervals intervals.cells) (shelved_of fs name out) (ok-is (shelved_of fs name out) _ (told fs held)) (λ f is. absurd cc) (λ f is. absurd cc);
-  came_to = λ fs held f is. absurd cc;
+  came_to = λ fs held. read-comes (IntervalsComeTo fs name out) fs new;
   one_put = λ n is. (intervals.bytes, whole);
   shelf = shelf;
 }
@@ -225,7 +225,7 @@ part-run name out intervals old new before after told part shelf = record {
   told = λ fs held. ok-is (shelved_of fs name out) _ (told fs held);
   left = λ fs held. (refl, part-leaves (shelved_of fs name out) intervals out before after (told fs held) part);
   complete = λ fs held no_read no_write. absurd (no_write part.failed);
-  came_to = λ fs held f is. absurd cc;
+  came_to = λ fs held. read-comes (IntervalsComeTo fs name out) fs new;
   one_put = λ n is. absurd cc;
   shelf = shelf;
 }
@@ -237,7 +237,7 @@ no-memory-run name out old new tray shelf = record {
   told = λ fs held. tt;
   left = λ fs held. refl;
   complete = λ fs held no_read no_write. settles report.Memory (shelved_of fs name out) tt (λ f is. absurd cc) (λ f is. absurd cc);
-  came_to = λ fs held f is. absurd cc;
+  came_to = λ fs held. memory-comes (IntervalsComeTo fs name out) fs new;
   one_put = λ n is. absurd cc;
   shelf = shelf;
 }

@@ -3,14 +3,13 @@ use Rattle.std.proofs.Common.{◌≡◌, ◌≢◌, inl, inr, ℕ, true, false, 
 use Rattle.std.specs.Str.{bytes_eq}
 use Rattle.sdc_base.specs.Answers.{Fails}
 use Rattle.certificate.specs.declared.certificate.Certificate.{Certificate}
-use Rattle.code_trees.specs.declared.tree_fault.TreeFault.TheVariants as tree
 use Rattle.office_io.specs.Files.{Files}
 use Rattle.office_io.specs.Shelves.{ShelfState}
 use Rattle.office_io.specs.Trays.{TrayState}
 use Rattle.job_inputs.specs.CertificateFile.{certificate_in, IsSoundCertificate}
 use Rattle.job_inputs.specs.Looks.{IsFile}
 use Rattle.job_inputs.specs.ReadFiles.{output_limit}
-use Rattle.job_inputs.specs.Reading.{stopped_for, IsReadFrom}
+use Rattle.job_inputs.specs.Reading.{stopped_for, HasComeTo, IsReadFrom}
 use Rattle.job_inputs.specs.declared.faults.Fault.{Fault}
 use Rattle.job_inputs.specs.declared.faults.Fault.TheVariants as fault
 use Rattle.job_inputs.specs.declared.file_ref.FileRef.{FileRef}
@@ -19,11 +18,11 @@ use Rattle.job_inputs.specs.declared.stop.InputStop.{InputStop}
 use Rattle.job_inputs.specs.declared.stop.InputStop.TheVariants as input
 use Rattle.job_inputs.proofs.Causes.{nothing-looked, read-wider}
 use Rattle.job_run.specs.Migrations.{migrating_of, IsPutAgain, IsMigrationAnswer, MeetsMigration, MigrationLeaves, SettlesMigration, ComesTo, IsMigrationOf}
-use Rattle.job_run.specs.Reports.{report_of, HasCause, LeavesAll}
-use Rattle.job_run.specs.Stops.{inputs_stop}
+use Rattle.job_run.specs.Reporting.{inputs_report}
+use Rattle.job_run.specs.Reports.{FaultsHaveCauses, LeavesAll, reading_of}
 use Rattle.job_run.specs.declared.report.Report.{Report}
 use Rattle.job_run.specs.declared.report.Report.TheVariants as report
-use Rattle.job_run.proofs.Outcomes.{inputs-cause, inputs-come}
+use Rattle.job_run.proofs.Outcomes.{memory-comes, read-cause, read-comes, inputs-cause, inputs-come, no-fault, no-memory, read-counted}
 
 -- ---- the two names
 
@@ -56,22 +55,22 @@ file-read old new result before after apart read =
 
 -- ---- no certificate was read
 
-inputs-answer : (e : InputStop) → IsMigrationAnswer (report_of (Err (inputs_stop e)))
+inputs-answer : (e : InputStop) → IsMigrationAnswer (inputs_report e)
 inputs-answer (input.Refused f) = tt
 inputs-answer (input.ReadFault f) = tt
 inputs-answer input.Memory = tt
 
-inputs-meet : (e : InputStop) (outcome : Result Certificate Fault) → Fails (stopped_for e) outcome → MeetsMigration (report_of (Err (inputs_stop e))) outcome
+inputs-meet : (e : InputStop) (outcome : Result Certificate Fault) → Fails (stopped_for e) outcome → MeetsMigration (inputs_report e) outcome
 inputs-meet (input.Refused f) outcome h = h
 inputs-meet (input.ReadFault f) outcome h = tt
 inputs-meet input.Memory outcome h = tt
 
-inputs-leave : (e : InputStop) (outcome : Result Certificate Fault) (new : List ℕ) (tray : TrayState) → MigrationLeaves (report_of (Err (inputs_stop e))) outcome new tray tray
+inputs-leave : (e : InputStop) (outcome : Result Certificate Fault) (new : List ℕ) (tray : TrayState) → MigrationLeaves (inputs_report e) outcome new tray tray
 inputs-leave (input.Refused f) outcome new tray = refl
 inputs-leave (input.ReadFault f) outcome new tray = refl
 inputs-leave input.Memory outcome new tray = refl
 
-inputs-put-none : (e : InputStop) → report_of (Err (inputs_stop e)) ≢ report.Migrated
+inputs-put-none : (e : InputStop) → inputs_report e ≢ report.Migrated
 inputs-put-none (input.Refused f) is = absurd cc
 inputs-put-none (input.ReadFault f) is = absurd cc
 inputs-put-none input.Memory is = absurd cc
@@ -101,14 +100,14 @@ settles (report.Undecided why repairs shown against) outcome h no_read no_write 
 -- what stopped the reading is reported, and nothing is put
 pub stopped-migration : (old new : List ℕ) (e : InputStop) (shelf shelved : ShelfState) (tray : TrayState)
     → IsReadFrom {X = Certificate} (λ certificate. certificate) (λ fs. migrating_of fs old new) (λ fs. ComesTo old new) IsSoundCertificate output_limit (Err e) shelf shelved
-    → IsMigrationOf old new (report_of (Err (inputs_stop e))) shelf shelved tray tray
+    → IsMigrationOf old new (inputs_report e) shelf shelved tray tray
 stopped-migration old new e shelf shelved tray read =
     let cause = inputs-cause e shelf shelved tray read.cause in
     record {
       answers = inputs-answer e;
       told = λ fs held. inputs-meet e (migrating_of fs old new) (read.told fs held);
       left = λ fs held. inputs-leave e (migrating_of fs old new) new tray;
-      complete = λ fs held no_read no_write. settles (report_of (Err (inputs_stop e))) (migrating_of fs old new) (inputs-meet e (migrating_of fs old new) (read.told fs held)) (λ f is. no_read (cause.read_fault f is)) (λ f is. no_write (cause.write_fault f is));
+      complete = λ fs held no_read no_write. settles (inputs_report e) (migrating_of fs old new) (inputs-meet e (migrating_of fs old new) (read.told fs held)) (λ f is. no_read (read-counted (inputs_report e) shelf shelved tray tray f cause is)) (λ f is. no_write (cause.write_fault f is));
       came_to = λ fs held. inputs-come e (ComesTo old new) fs shelved (read.came_to fs held);
       one_put = λ is. absurd (inputs-put-none e is);
       looked = read.shelf;
@@ -116,97 +115,52 @@ stopped-migration old new e shelf shelved tray read =
 
 -- ---- a certificate was read
 
+-- what holds of each report of a put holds of them all
+by-put : (certificate : Certificate) (new : List ℕ) (before after : TrayState) (P : Report → Type 0) → (IsPutAgain certificate new report.Migrated before after → P report.Migrated)
+    → ((f : FileRef) → IsPutAgain certificate new (report.WriteFault f) before after → P (report.WriteFault f)) → (IsPutAgain certificate new report.Memory before after → P report.Memory)
+    → (answer : Report) → IsPutAgain certificate new answer before after → P answer
+by-put certificate new before after P migrated failed memory report.Migrated h = migrated h
+by-put certificate new before after P migrated failed memory (report.WriteFault f) h = failed f h
+by-put certificate new before after P migrated failed memory report.Memory h = memory h
+by-put certificate new before after P migrated failed memory (report.Released s) h = absurd h
+by-put certificate new before after P migrated failed memory report.Accepted h = absurd h
+by-put certificate new before after P migrated failed memory (report.Intervals n) h = absurd h
+by-put certificate new before after P migrated failed memory (report.Audited n m) h = absurd h
+by-put certificate new before after P migrated failed memory (report.Demo demo) h = absurd h
+by-put certificate new before after P migrated failed memory report.Usage h = absurd h
+by-put certificate new before after P migrated failed memory (report.Refused f) h = absurd h
+by-put certificate new before after P migrated failed memory (report.Cannot cell side multipliers) h = absurd h
+by-put certificate new before after P migrated failed memory (report.CannotAgainst row cell side multipliers) h = absurd h
+by-put certificate new before after P migrated failed memory report.NoRounding h = absurd h
+by-put certificate new before after P migrated failed memory (report.NotAccepted why) h = absurd h
+by-put certificate new before after P migrated failed memory (report.NotGuarded why) h = absurd h
+by-put certificate new before after P migrated failed memory (report.Undecided why repairs shown against) h = absurd h
+by-put certificate new before after P migrated failed memory (report.ReadFault f) h = absurd h
+
 put-answers : (certificate : Certificate) (new : List ℕ) (answer : Report) (before after : TrayState) → IsPutAgain certificate new answer before after → IsMigrationAnswer answer
-put-answers certificate new report.Migrated before after h = tt
-put-answers certificate new (report.WriteFault f) before after h = tt
-put-answers certificate new report.Memory before after h = tt
-put-answers certificate new (report.Released s) before after h = absurd h
-put-answers certificate new report.Accepted before after h = absurd h
-put-answers certificate new (report.Intervals n) before after h = absurd h
-put-answers certificate new (report.Audited n m) before after h = absurd h
-put-answers certificate new (report.Demo demo) before after h = absurd h
-put-answers certificate new report.Usage before after h = absurd h
-put-answers certificate new (report.Refused f) before after h = absurd h
-put-answers certificate new (report.Cannot cell side multipliers) before after h = absurd h
-put-answers certificate new (report.CannotAgainst row cell side multipliers) before after h = absurd h
-put-answers certificate new report.NoRounding before after h = absurd h
-put-answers certificate new (report.NotAccepted why) before after h = absurd h
-put-answers certificate new (report.NotGuarded why) before after h = absurd h
-put-answers certificate new (report.Undecided why repairs shown against) before after h = absurd h
-put-answers certificate new (report.ReadFault f) before after h = absurd h
+put-answers certificate new answer before after h = by-put certificate new before after IsMigrationAnswer (λ put. tt) (λ f put. tt) (λ put. tt) answer h
 
 put-meets : (certificate : Certificate) (new : List ℕ) (answer : Report) (before after : TrayState) (outcome : Result Certificate Fault) → outcome ≡ Ok certificate → IsPutAgain certificate new answer before after → MeetsMigration answer outcome
-put-meets certificate new report.Migrated before after outcome is h = rw is refl
-put-meets certificate new (report.WriteFault f) before after outcome is h = rw is refl
-put-meets certificate new report.Memory before after outcome is h = tt
-put-meets certificate new (report.Released s) before after outcome is h = absurd h
-put-meets certificate new report.Accepted before after outcome is h = absurd h
-put-meets certificate new (report.Intervals n) before after outcome is h = absurd h
-put-meets certificate new (report.Audited n m) before after outcome is h = absurd h
-put-meets certificate new (report.Demo demo) before after outcome is h = absurd h
-put-meets certificate new report.Usage before after outcome is h = absurd h
-put-meets certificate new (report.Refused f) before after outcome is h = absurd h
-put-meets certificate new (report.Cannot cell side multipliers) before after outcome is h = absurd h
-put-meets certificate new (report.CannotAgainst row cell side multipliers) before after outcome is h = absurd h
-put-meets certificate new report.NoRounding before after outcome is h = absurd h
-put-meets certificate new (report.NotAccepted why) before after outcome is h = absurd h
-put-meets certificate new (report.NotGuarded why) before after outcome is h = absurd h
-put-meets certificate new (report.Undecided why repairs shown against) before after outcome is h = absurd h
-put-meets certificate new (report.ReadFault f) before after outcome is h = absurd h
+put-meets certificate new answer before after outcome is h = by-put certificate new before after (λ (one : Report). MeetsMigration one outcome) (λ put. rw is refl) (λ f put. rw is refl) (λ put. tt) answer h
 
 put-leaves : (certificate : Certificate) (new : List ℕ) (answer : Report) (before after : TrayState) (outcome : Result Certificate Fault) → outcome ≡ Ok certificate → IsPutAgain certificate new answer before after → MigrationLeaves answer outcome new before after
-put-leaves certificate new report.Migrated before after outcome is h = rw is h
-put-leaves certificate new (report.WriteFault f) before after outcome is h = rw is h
-put-leaves certificate new report.Memory before after outcome is h = h
-put-leaves certificate new (report.Released s) before after outcome is h = absurd h
-put-leaves certificate new report.Accepted before after outcome is h = absurd h
-put-leaves certificate new (report.Intervals n) before after outcome is h = absurd h
-put-leaves certificate new (report.Audited n m) before after outcome is h = absurd h
-put-leaves certificate new (report.Demo demo) before after outcome is h = absurd h
-put-leaves certificate new report.Usage before after outcome is h = absurd h
-put-leaves certificate new (report.Refused f) before after outcome is h = absurd h
-put-leaves certificate new (report.Cannot cell side multipliers) before after outcome is h = absurd h
-put-leaves certificate new (report.CannotAgainst row cell side multipliers) before after outcome is h = absurd h
-put-leaves certificate new report.NoRounding before after outcome is h = absurd h
-put-leaves certificate new (report.NotAccepted why) before after outcome is h = absurd h
-put-leaves certificate new (report.NotGuarded why) before after outcome is h = absurd h
-put-leaves certificate new (report.Undecided why repairs shown against) before after outcome is h = absurd h
-put-leaves certificate new (report.ReadFault f) before after outcome is h = absurd h
+put-leaves certificate new answer before after outcome is h = by-put certificate new before after (λ (one : Report). MigrationLeaves one outcome new before after) (λ put. rw is put) (λ f put. rw is put) (λ put. put) answer h
 
 -- whatever was put, the tray isn't one that had to stay
 pub put-leaves-all : (certificate : Certificate) (new : List ℕ) (answer : Report) (before after : TrayState) → IsPutAgain certificate new answer before after → LeavesAll answer before after
-put-leaves-all certificate new report.Migrated before after h = tt
-put-leaves-all certificate new (report.WriteFault f) before after h = tt
-put-leaves-all certificate new report.Memory before after h = tt
-put-leaves-all certificate new (report.Released s) before after h = absurd h
-put-leaves-all certificate new report.Accepted before after h = absurd h
-put-leaves-all certificate new (report.Intervals n) before after h = absurd h
-put-leaves-all certificate new (report.Audited n m) before after h = absurd h
-put-leaves-all certificate new (report.Demo demo) before after h = absurd h
-put-leaves-all certificate new report.Usage before after h = absurd h
-put-leaves-all certificate new (report.Refused f) before after h = absurd h
-put-leaves-all certificate new (report.Cannot cell side multipliers) before after h = absurd h
-put-leaves-all certificate new (report.CannotAgainst row cell side multipliers) before after h = absurd h
-put-leaves-all certificate new report.NoRounding before after h = absurd h
-put-leaves-all certificate new (report.NotAccepted why) before after h = absurd h
-put-leaves-all certificate new (report.NotGuarded why) before after h = absurd h
-put-leaves-all certificate new (report.Undecided why repairs shown against) before after h = absurd h
-put-leaves-all certificate new (report.ReadFault f) before after h = absurd h
+put-leaves-all certificate new answer before after h = by-put certificate new before after (λ (one : Report). LeavesAll one before after) (λ put. tt) (λ f put. tt) (λ put. tt) answer h
+
+pub put-cause : (certificate : Certificate) (new : List ℕ) (answer : Report) (shelf shelved : ShelfState) (before after : TrayState) → IsPutAgain certificate new answer before after → FaultsHaveCauses answer shelf shelved before after
+put-cause certificate new answer shelf shelved before after h =
+    by-put certificate new before after (λ (one : Report). FaultsHaveCauses one shelf shelved before after) (λ put. no-fault _ shelf shelved before after refl (λ f is. absurd cc))
+    (λ f put. record { reading = read-cause shelf shelved; write_fault = λ g is. put.1.failed }) (λ put. no-memory shelf shelved before after) answer h
+
+put-comes : (certificate : Certificate) (new : List ℕ) (answer : Report) (before after : TrayState) (comes : FileRef → List ℕ → Type 0) (files : Files) (shelved : ShelfState) → IsPutAgain certificate new answer before after → HasComeTo comes (reading_of answer) files shelved
+put-comes certificate new answer before after comes files shelved h =
+    by-put certificate new before after (λ (one : Report). HasComeTo comes (reading_of one) files shelved) (λ put. read-comes comes files shelved) (λ f put. read-comes comes files shelved) (λ put. memory-comes comes files shelved) answer h
 
 not-read : (certificate : Certificate) (new : List ℕ) (answer : Report) (before after : TrayState) → IsPutAgain certificate new answer before after → (f : FileRef) → answer ≢ report.ReadFault f
 not-read certificate new answer before after h f is = subst (λ (a : Report). IsPutAgain certificate new a before after) is h
-
-not-refused : (certificate : Certificate) (new : List ℕ) (answer : Report) (before after : TrayState) → IsPutAgain certificate new answer before after → (f : Fault) → answer ≢ report.Refused f
-not-refused certificate new answer before after h f is = subst (λ (a : Report). IsPutAgain certificate new a before after) is h
-
-pub put-cause : (certificate : Certificate) (new : List ℕ) (answer : Report) (shelf shelved : ShelfState) (before after : TrayState) → IsPutAgain certificate new answer before after → HasCause answer shelf shelved before after
-put-cause certificate new answer shelf shelved before after h = record {
-  absent = λ f is. absurd (not-refused certificate new answer before after h (fault.Absent f) is);
-  too_long = λ f is. absurd (not-refused certificate new answer before after h (fault.TooLong f) is);
-  read_fault = λ f is. absurd (not-read certificate new answer before after h f is);
-  write_fault = λ f is. (subst (λ (a : Report). IsPutAgain certificate new a before after) is h).1.failed;
-  tree = λ f is. not-refused certificate new answer before after h (fault.Tree f tree.Memory) is;
-}
 
 -- the certificate was put again, in part, or not at all
 pub put-migration : (old new : List ℕ) (certificate : Certificate) (answer : Report) (shelf shelved : ShelfState) (before after : TrayState)
@@ -219,7 +173,7 @@ put-migration old new certificate answer shelf shelved before after read h = rec
   complete = λ fs held no_read no_write.
       settles answer (migrating_of fs old new) (put-meets certificate new answer before after (migrating_of fs old new) (read.told fs held) h) (not-read certificate new answer before after h)
       (λ f is. no_write ((put-cause certificate new answer shelf shelved before after h).write_fault f is));
-  came_to = λ fs held f is. absurd (not-read certificate new answer before after h f is);
+  came_to = λ fs held. put-comes certificate new answer before after (ComesTo old new) fs shelved h;
   one_put = λ is. (certificate, subst (λ (a : Report). IsPutAgain certificate new a before after) is h);
   looked = read.shelf;
 }

@@ -48,7 +48,8 @@ use Rattle.job_run.specs.Releases.{summary_of}
 use Rattle.job_run.specs.Roundings.{job_base}
 use Rattle.job_run.specs.declared.put.Release.{Release}
 use Rattle.job_run.specs.declared.report.Summary.{Summary}
-use Rattle.job_run.specs.Stops.{ComesToRelease, question_stop, stopped_stop}
+use Rattle.job_run.specs.Reporting.{stuck_report, stopped_report}
+use Rattle.job_run.specs.Reports.{ComesToRelease}
 
 -- a job has the base of its settled inputs, if it has one
 pub same-base : (settled : SettledInputs) (job : SettledJob) → IsSettledOf settled job → job_base settled.inputs.described ≡ job_base job.described
@@ -78,16 +79,16 @@ protection-for settled job system protection hides is_job is_book is_system is =
 }
 
 -- a question that stopped short stops the run
-pub question-comes : (settled : SettledInputs) (fault : AskFault) (repairs : List Refuted) (shown : List ℕ) (against : Option Against) → StopsShort settled fault repairs shown against
-    → ComesToRelease settled (Err (question_stop fault repairs shown against))
-question-comes settled (ask.Work walk) repairs shown against is = is
-question-comes settled (ask.Wide walk place) repairs shown against is = is
-question-comes settled (ask.Size question hidden) repairs shown against is = is
-question-comes settled ask.Memory repairs shown against is = tt
+pub stuck-comes : (settled : SettledInputs) (fault : AskFault) (repairs : List Refuted) (shown : List ℕ) (against : Option Against) → StopsShort settled fault repairs shown against
+    → ComesToRelease settled (Err (stuck_report fault repairs shown against))
+stuck-comes settled (ask.Work walk) repairs shown against is = (tt, is)
+stuck-comes settled (ask.Wide walk place) repairs shown against is = (tt, is)
+stuck-comes settled (ask.Size question hidden) repairs shown against is = (tt, is)
+stuck-comes settled ask.Memory repairs shown against is = (tt, tt)
 
 -- a protection that stopped short stops the run
-pub stopped-comes : (settled : SettledInputs) (stopped : Stopped) → IsProtectionFor settled (protection.Undecided stopped) → ComesToRelease settled (Err (stopped_stop stopped))
-stopped-comes settled stopped is = question-comes settled stopped.fault stopped.repairs stopped.shown None is
+pub stopped-comes : (settled : SettledInputs) (stopped : Stopped) → IsProtectionFor settled (protection.Undecided stopped) → ComesToRelease settled (Err (stopped_report stopped))
+stopped-comes settled stopped is = stuck-comes settled stopped.fault stopped.repairs stopped.shown None is
 
 -- the same, where the cells are read through a slice
 pub outcome-for : (settled : SettledInputs) (job : SettledJob) (system : System) (cells : List Cell) (one other : Protection) → job_base job.described ≡ None → IsSettledOf settled job → IsBook job.book → IsSystemOf job.book system → cells ≡ job.cells → one ≡ other

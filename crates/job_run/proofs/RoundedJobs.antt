@@ -38,7 +38,8 @@ use Rattle.job_run.specs.Books.{CanBeReleased}
 use Rattle.job_run.specs.Endings.{IsReleaseBy}
 use Rattle.job_run.specs.Releases.{puts_of, summary_of, value_in}
 use Rattle.job_run.specs.Roundings.{job_base, truths_in, HasNoRounding, IsAlwaysRounded, IsSystemIn, SearchStops, rounded_certificate}
-use Rattle.job_run.specs.Stops.{ComesToRelease, search_stop}
+use Rattle.job_run.specs.Reporting.{search_report}
+use Rattle.job_run.specs.Reports.{ComesToRelease}
 use Rattle.job_run.specs.declared.put.Release.{Release}
 use Rattle.job_run.proofs.Bases.{base-within}
 use Rattle.job_run.proofs.JobTruths.{are-bare, are-coded, are-truths, holds-on, truths-are}
@@ -158,14 +159,14 @@ pub search-comes : (settled : SettledInputs) (job : SettledJob) (system : System
     → (fault ≡ round.NoRounding → (values : List ℤ) → IsRounding system truths base values → ⊥)
     → ((nodes : ℕ) → fault ≡ round.Nodes nodes → (nodes ≡ job.described.job.nodes) × Stops system truths base nodes)
     → IsBook job.book → ((signs : List Bool) → AreSigns system.relations signs → fault ≡ round.Memory)
-    → ComesToRelease settled (Err (search_stop fault))
+    → ComesToRelease settled (Err (search_report fault))
 search-comes settled job system base truths round.NoRounding task none limit is_book signed =
-    no-rounding settled job system base truths task (none refl) (other-tables settled job system base truths round.NoRounding task is_book signed (λ is. absurd cc))
+    (tt, no-rounding settled job system base truths task (none refl) (other-tables settled job system base truths round.NoRounding task is_book signed (λ is. absurd cc)))
 search-comes settled job system base truths (round.Nodes nodes) task none limit is_book signed =
     let stops = limit nodes refl in
     let more = other-tables settled job system base truths (round.Nodes nodes) task is_book signed (λ is. absurd cc) in
-    (search-stops settled job system base truths nodes task stops.0 stops.1 more, refl, refl, refl)
-search-comes settled job system base truths round.Memory task none limit is_book signed = tt
+    (tt, (search-stops settled job system base truths nodes task stops.0 stops.1 more, refl, refl, refl))
+search-comes settled job system base truths round.Memory task none limit is_book signed = (tt, tt)
 
 -- ---- the release
 

@@ -3,27 +3,20 @@
 use Rattle.std.specs.Prelude.{◌≡◌, ◌⊎◌, ℕ, List, Result, Ok, Err, IsOk, IsOkAnd}
 use Rattle.sdc_base.specs.Counts.{HasRisen}
 use Rattle.sdc_base.specs.WhereTold.{WhereTold}
-use Rattle.interval_audit.specs.declared.answer.AskFault.{AskFault}
 use Rattle.office_io.specs.Shelves.{ShelfState}
 use Rattle.office_io.specs.Trays.{TrayState, HasPut, HasPutInPart}
 use Rattle.job_inputs.specs.ReadFiles.{output_limit}
-use Rattle.job_inputs.specs.Reading.{HasOnlyLooked}
+use Rattle.job_inputs.specs.Reading.{HasComeTo, HasOnlyLooked}
 use Rattle.job_inputs.specs.declared.faults.Fault.{Fault}
 use Rattle.job_inputs.specs.declared.file_ref.FileRef.TheVariants as file
 use Rattle.job_audit.specs.Finding.{AreRefusedFor, IsFileOf, IsUndecidedFor}
 use Rattle.job_inputs.specs.declared.purpose.Purpose.TheVariants.{Audit}
 use Rattle.shelved_tables.specs.TablesOnShelf.{ShelvedTables, shelved_for, ComesFor}
 use Rattle.job_audit.specs.declared.audit_file.AuditFile.{AuditFile}
-use Rattle.job_run.specs.IntervalRuns.{question_report}
-use Rattle.job_run.specs.Reports.{HasComeTo}
+use Rattle.job_run.specs.Reporting.{IsQuestionReport}
+use Rattle.job_run.specs.Reports.{reading_of}
 use Rattle.job_run.specs.declared.report.Report.{Report}
 use Rattle.job_run.specs.declared.report.Report.TheVariants as report
-
--- the first question without an answer is reported so
-pub record IsReportedSo (shelved : ShelvedTables) (answer : Report) : Type 0 where
-  pub fault : AskFault
-  pub is_report : answer ≡ question_report fault
-  pub is_so : IsUndecidedFor shelved fault
 
 -- what a run for an audit can answer, whatever shelf and tray tell
 abbrev pub IsAuditAnswer : Report → Type 0
@@ -43,7 +36,7 @@ abbrev pub MeetsAudit : Report → Result ShelvedTables Fault → Type 0
 MeetsAudit (report.Audited primary exposed) outcome = IsOk outcome
 MeetsAudit (report.NotAccepted why) outcome = IsOkAnd outcome (λ shelved. AreRefusedFor shelved why)
 MeetsAudit (report.Undecided why repairs shown against) outcome = IsOkAnd outcome
-    (λ shelved. IsReportedSo shelved (report.Undecided why repairs shown against))
+    (λ shelved. IsQuestionReport (IsUndecidedFor shelved) (report.Undecided why repairs shown against))
 MeetsAudit (report.Refused reason) outcome = outcome ≡ Err reason
 MeetsAudit (report.ReadFault file) outcome = Unit {0}
 MeetsAudit (report.WriteFault file) outcome = IsOk outcome
@@ -98,7 +91,7 @@ pub record IsAuditRunOf (name out : List ℕ) (answer : Report) (old new : Shelf
   pub left : WhereTold old.files (λ fs. AuditLeaves answer (shelved_for Audit fs name out) out before after)
   pub complete : WhereTold old.files (λ fs. ¬ HasRisen old.faults new.faults → ¬ HasRisen before.faults after.faults
       → SettlesAudit answer (shelved_for Audit fs name out))
-  pub came_to : WhereTold old.files (λ fs. HasComeTo (ComesFor Audit fs name out) answer fs new)
+  pub came_to : WhereTold old.files (λ fs. HasComeTo (ComesFor Audit fs name out) (reading_of answer) fs new)
   pub one_put : (primary exposed : ℕ) → answer ≡ report.Audited primary exposed
       → (bytes : List ℕ) × HasPut out bytes before after
   pub shelf : HasOnlyLooked output_limit old new

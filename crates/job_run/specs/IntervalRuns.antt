@@ -1,35 +1,20 @@
 -- What a run for intervals answers, and what it leaves on the tray (handbook, feasibility interval; own).
-use Rattle.std.specs.Prelude.{◌≡◌, ◌⊎◌, ℕ, List, [], None, Result, Ok, Err, IsOk, IsOkAnd}
+use Rattle.std.specs.Prelude.{◌≡◌, ◌⊎◌, ℕ, List, Result, Ok, Err, IsOk, IsOkAnd}
 use Rattle.sdc_base.specs.Counts.{HasRisen}
 use Rattle.sdc_base.specs.WhereTold.{WhereTold}
-use Rattle.interval_audit.specs.declared.answer.AskFault.{AskFault}
-use Rattle.interval_audit.specs.declared.answer.AskFault.TheVariants as ask
 use Rattle.office_io.specs.Shelves.{ShelfState}
 use Rattle.office_io.specs.Trays.{TrayState, HasPut, HasPutInPart}
 use Rattle.job_inputs.specs.ReadFiles.{output_limit}
-use Rattle.job_inputs.specs.Reading.{HasOnlyLooked}
+use Rattle.job_inputs.specs.Reading.{HasComeTo, HasOnlyLooked}
 use Rattle.job_inputs.specs.declared.faults.Fault.{Fault}
 use Rattle.job_inputs.specs.declared.file_ref.FileRef.TheVariants as file
 use Rattle.job_intervals.specs.Finding.{AreRefusedFor, IsFileOf, IsUndecidedFor}
 use Rattle.shelved_tables.specs.TablesOnShelf.{ShelvedTables, shelved_of, IntervalsComeTo}
 use Rattle.job_intervals.specs.declared.interval_file.IntervalFile.{IntervalFile}
-use Rattle.job_run.specs.Reports.{HasComeTo}
+use Rattle.job_run.specs.Reporting.{IsQuestionReport}
+use Rattle.job_run.specs.Reports.{reading_of}
 use Rattle.job_run.specs.declared.report.Report.{Report}
 use Rattle.job_run.specs.declared.report.Report.TheVariants as report
-use Rattle.job_run.specs.declared.report.Stuck.TheVariants as stuck
-
--- the report of a question that stopped short: nothing was repaired, and no cell shown again
-abbrev pub question_report : AskFault → Report
-question_report (ask.Work walk) = report.Undecided (stuck.Work walk) [] [] None
-question_report (ask.Wide walk place) = report.Undecided (stuck.Wide walk place) [] [] None
-question_report (ask.Size question hidden) = report.Undecided (stuck.Size question hidden) [] [] None
-question_report ask.Memory = report.Memory
-
--- the first question without an answer is reported so
-pub record IsReportedSo (shelved : ShelvedTables) (answer : Report) : Type 0 where
-  pub fault : AskFault
-  pub is_report : answer ≡ question_report fault
-  pub is_so : IsUndecidedFor shelved fault
 
 -- what a run for intervals can answer, whatever shelf and tray tell
 abbrev pub IsIntervalAnswer : Report → Type 0
@@ -49,7 +34,7 @@ abbrev pub MeetsIntervals : Report → Result ShelvedTables Fault → Type 0
 MeetsIntervals (report.Intervals cells) outcome = IsOk outcome
 MeetsIntervals (report.NotAccepted why) outcome = IsOkAnd outcome (λ shelved. AreRefusedFor shelved why)
 MeetsIntervals (report.Undecided why repairs shown against) outcome = IsOkAnd outcome
-    (λ shelved. IsReportedSo shelved (report.Undecided why repairs shown against))
+    (λ shelved. IsQuestionReport (IsUndecidedFor shelved) (report.Undecided why repairs shown against))
 MeetsIntervals (report.Refused reason) outcome = outcome ≡ Err reason
 MeetsIntervals (report.ReadFault file) outcome = Unit {0}
 MeetsIntervals (report.WriteFault file) outcome = IsOk outcome
@@ -102,6 +87,6 @@ pub record IsIntervalRunOf (name out : List ℕ) (answer : Report) (old new : Sh
   pub left : WhereTold old.files (λ fs. IntervalsLeave answer (shelved_of fs name out) out before after)
   pub complete : WhereTold old.files (λ fs. ¬ HasRisen old.faults new.faults → ¬ HasRisen before.faults after.faults
       → SettlesIntervals answer (shelved_of fs name out))
-  pub came_to : WhereTold old.files (λ fs. HasComeTo (IntervalsComeTo fs name out) answer fs new)
+  pub came_to : WhereTold old.files (λ fs. HasComeTo (IntervalsComeTo fs name out) (reading_of answer) fs new)
   pub one_put : (cells : ℕ) → answer ≡ report.Intervals cells → (bytes : List ℕ) × HasPut out bytes before after
   pub shelf : HasOnlyLooked output_limit old new

@@ -6,7 +6,7 @@ pub mod ProtectionLaws
 pub mod GuardedReleases
 pub mod FileCounts
 pub mod Endings
-pub mod Stops
+pub mod Reporting
 pub mod Books
 pub mod GuardingLaws
 pub mod Commands

@@ -1,10 +1,8 @@
 ghost use Rattle.job_run.specs.AuditRuns.{IsAuditRunOf};
-ghost use Rattle.job_run.specs.Reports.{HasCause, LeavesAll};
+ghost use Rattle.job_run.specs.Reports.{FaultsHaveCauses, LeavesAll};
 
-use crate::interval_run::question_report;
 use crate::report::Report;
-use crate::reporting::report;
-use crate::stop::Stop;
+use crate::reporting::question_report;
 use job_audit::{AuditStop, find_audit};
 use job_inputs::FileRef;
 use office_io::{PutFault, Shelf, Tray};
@@ -22,7 +20,8 @@ pub(crate) fn put_audit<S: Shelf, T: Tray>(
     ensures audit { IsAuditRunOf name.now out.now result (S.state shelf.old) (S.state shelf.new) (T.state tray.old)
         (T.state tray.new) }
     ensures untouched { LeavesAll result (T.state tray.old) (T.state tray.new) }
-    ensures cause { HasCause result (S.state shelf.old) (S.state shelf.new) (T.state tray.old) (T.state tray.new) }
+    ensures cause { FaultsHaveCauses result (S.state shelf.old) (S.state shelf.new) (T.state tray.old)
+        (T.state tray.new) }
 {
     match find_audit(alloc, shelf, name, out) {
         Ok(file) => match tray.put(out, file.bytes.as_slice()) {
@@ -33,7 +32,7 @@ pub(crate) fn put_audit<S: Shelf, T: Tray>(
             Err(PutFault::Failed) => Report::WriteFault(FileRef::Out),
             Err(PutFault::Memory) => Report::Memory,
         },
-        Err(AuditStop::Inputs(stop)) => report(Err(Stop::from(stop))),
+        Err(AuditStop::Inputs(stop)) => Report::from(stop),
         Err(AuditStop::NotAccepted(why)) => Report::NotAccepted(why),
         Err(AuditStop::Undecided(fault)) => question_report(alloc, fault),
     }

@@ -1,10 +1,8 @@
 ghost use Rattle.std.specs.Prelude.{◌≢◌};
 ghost use Rattle.job_run.specs.Checks.{IsCheckOf};
-ghost use Rattle.job_run.specs.Reports.{HasCause, LeavesAll};
+ghost use Rattle.job_run.specs.Reports.{FaultsHaveCauses, LeavesAll};
 
 use crate::report::Report;
-use crate::reporting::report;
-use crate::stop::Stop;
 use job_check::{CheckStop, check_release};
 use office_io::{Shelf, Tray};
 use sdc_base::Text;
@@ -20,11 +18,12 @@ pub(crate) fn check_job<S: Shelf, T: Tray>(
     ensures check { IsCheckOf name.now result (S.state shelf.old) (S.state shelf.new) (T.state tray.old)
         (T.state tray.new) }
     ensures untouched { LeavesAll result (T.state tray.old) (T.state tray.new) }
-    ensures cause { HasCause result (S.state shelf.old) (S.state shelf.new) (T.state tray.old) (T.state tray.new) }
+    ensures cause { FaultsHaveCauses result (S.state shelf.old) (S.state shelf.new) (T.state tray.old)
+        (T.state tray.new) }
 {
     match check_release(alloc, shelf, name) {
         Ok(()) => Report::Accepted,
-        Err(CheckStop::Inputs(stop)) => report(Err(Stop::from(stop))),
+        Err(CheckStop::Inputs(stop)) => Report::from(stop),
         Err(CheckStop::NotAccepted(why)) => Report::NotAccepted(why),
         Err(CheckStop::NotGuarded(why)) => Report::NotGuarded(why),
     }

@@ -6,7 +6,6 @@ ghost use Rattle.job_run.specs.Summaries.{demo_of, stuck_demo};
 use crate::put::Release;
 use crate::report::{DemoSummary, Report, Stuck};
 use crate::running::run_job;
-use crate::stop::Stop;
 use demo_files::{SteadyShelf, SteadyTray, demo_files};
 use interval_audit::AskFault;
 use repair::Stopped;
@@ -36,7 +35,7 @@ fn summary_of(alloc: Global, seed: u64, records: u32) -> Result<DemoSummary, Mem
 }
 
 // What a demonstration says of how its run went on.
-fn summarize(outcome: Result<Release, Stop>) -> Result<DemoSummary, Memory>
+fn summarize(outcome: Result<Release, Report>) -> Result<DemoSummary, Memory>
     ensures { result ≡ demo_of outcome }
 {
     match outcome {
@@ -46,21 +45,30 @@ fn summarize(outcome: Result<Release, Stop>) -> Result<DemoSummary, Memory>
             certificate: Some(release.certificate),
             stopped: None,
         }),
-        Err(Stop::Refused(_)) => Ok(with_status(2)),
-        Err(Stop::Cannot { .. }) => Ok(with_status(3)),
-        Err(Stop::CannotAgainst { .. }) => Ok(with_status(3)),
-        Err(Stop::NoRounding) => Ok(with_status(3)),
         Err(
-            Stop::Undecided {
+            Report::Undecided {
                 stuck,
                 repairs,
                 shown,
                 ..
             },
         ) => Ok(with_question(stuck, repairs, shown)),
-        Err(Stop::ReadFault(_)) => Ok(with_status(5)),
-        Err(Stop::WriteFault(_)) => Ok(with_status(6)),
-        Err(Stop::Memory) => Err(Memory),
+        Err(Report::Memory) => Err(Memory),
+        Err(Report::Released(_)) => Ok(with_status(0)),
+        Err(Report::Accepted) => Ok(with_status(0)),
+        Err(Report::Intervals(_)) => Ok(with_status(0)),
+        Err(Report::Audited { .. }) => Ok(with_status(0)),
+        Err(Report::Demo(_)) => Ok(with_status(0)),
+        Err(Report::Migrated) => Ok(with_status(0)),
+        Err(Report::Usage) => Ok(with_status(1)),
+        Err(Report::Refused(_)) => Ok(with_status(2)),
+        Err(Report::Cannot { .. }) => Ok(with_status(3)),
+        Err(Report::CannotAgainst { .. }) => Ok(with_status(3)),
+        Err(Report::NoRounding) => Ok(with_status(3)),
+        Err(Report::NotAccepted(_)) => Ok(with_status(3)),
+        Err(Report::NotGuarded(_)) => Ok(with_status(3)),
+        Err(Report::ReadFault(_)) => Ok(with_status(5)),
+        Err(Report::WriteFault(_)) => Ok(with_status(6)),
     }
 }
 

@@ -7,15 +7,14 @@ ghost use Rattle.job_run.specs.FileCounts.{file_count};
 ghost use Rattle.job_run.specs.GuardedReleases as releases;
 ghost use Rattle.job_run.specs.Protections.{IsProtectedJob};
 ghost use Rattle.job_run.specs.Releases.{summary_of};
+ghost use Rattle.job_run.specs.Reports.{ComesToRelease};
 ghost use Rattle.job_run.specs.Roundings as roundings;
-ghost use Rattle.job_run.specs.Stops.{ComesToRelease};
 ghost use Rattle.repair.specs.HidingOrder.{protected_case};
 
 use crate::guarded_texts::guarded_puts;
 use crate::numbers::unhidden_summary;
 use crate::put::Release;
-use crate::report::Summary;
-use crate::stop::Stop;
+use crate::report::{Report, Summary};
 use cell_guards::guard_cells;
 use cell_protection::{Protection, protect_cells};
 use certificate::Certificate;
@@ -27,7 +26,7 @@ use std::alloc::Global;
 use worlds::Protected;
 
 /// The release of a job that hides cells and guards them against contributors, whose file has this name.
-pub(crate) fn guarded_release(alloc: Global, job: SettledJob, name: Text) -> Result<Release, Stop>
+pub(crate) fn guarded_release(alloc: Global, job: SettledJob, name: Text) -> Result<Release, Report>
     requires can { CanBeReleased job }
     requires hides { roundings.job_base job.described ≡ None }
     requires named { option_map (λ line. line.file) job.described.job.contributors ≡ Some name }
@@ -62,7 +61,7 @@ fn guard_parts(
     rows: &[Row],
     name: Text,
     summary: Summary,
-) -> Result<Release, Stop>
+) -> Result<Release, Report>
     requires ready { IsReadyJob (job_of described.now book.old cells.now rows.now 0 0) }
     requires hides { roundings.job_base described.now ≡ None }
     requires named { option_map (λ line. line.file) described.now.job.contributors ≡ Some name }
@@ -103,12 +102,12 @@ fn guard_parts(
             cell,
             side,
             multipliers,
-        } => Err(Stop::Cannot {
+        } => Err(Report::Cannot {
             cell,
             side,
             multipliers,
         }),
-        Protection::Undecided(stopped) => Err(Stop::from(stopped)),
+        Protection::Undecided(stopped) => Err(Report::from(stopped)),
     }
 }
 
@@ -124,7 +123,7 @@ fn guard_protected(
     protected: &Protected<'_>,
     certificate: Certificate,
     summary: Summary,
-) -> Result<Release, Stop>
+) -> Result<Release, Report>
     requires planned { IsPlannedBook described.now book.now cells.now rows.now }
     requires one_each { length cells.now ≡ system.now.cells }
     requires certified { IsCertified (protected_case system.now cells.now) protected.now certificate }

@@ -22,7 +22,6 @@ mod report;
 mod reporting;
 mod rounded;
 mod running;
-mod stop;
 
 pub use job_inputs::{Fault, FileRef};
 pub use laws::{

@@ -4,11 +4,9 @@ ghost use Rattle.job_inputs.specs.CertificateFile.{IsSoundCertificate};
 ghost use Rattle.job_inputs.specs.ReadFiles.{output_limit};
 ghost use Rattle.job_inputs.specs.Reading.{IsReadFrom};
 ghost use Rattle.job_run.specs.Migrations.{migrating_of, ComesTo, IsMigrationOf, IsPutAgain};
-ghost use Rattle.job_run.specs.Reports.{HasCause, LeavesAll};
+ghost use Rattle.job_run.specs.Reports.{FaultsHaveCauses, LeavesAll};
 
 use crate::report::Report;
-use crate::reporting::report;
-use crate::stop::Stop;
 use certificate::{Certificate, write_certificate};
 use job_inputs::{Fault, FileRef, InputStop, read_certificate_file};
 use office_io::{PutFault, Shelf, Tray};
@@ -26,11 +24,12 @@ pub(crate) fn migrate<S: Shelf, T: Tray>(
     ensures migration { IsMigrationOf old.now new.now result (S.state shelf.old) (S.state shelf.new)
         (T.state tray.old) (T.state tray.new) }
     ensures untouched { LeavesAll result (T.state tray.old) (T.state tray.new) }
-    ensures cause { HasCause result (S.state shelf.old) (S.state shelf.new) (T.state tray.old) (T.state tray.new) }
+    ensures cause { FaultsHaveCauses result (S.state shelf.old) (S.state shelf.new) (T.state tray.old)
+        (T.state tray.new) }
 {
     match read_old(alloc, old, new, shelf) {
         Ok(certificate) => put_again(alloc, &certificate, new, tray),
-        Err(stop) => report(Err(Stop::from(stop))),
+        Err(stop) => Report::from(stop),
     }
 }
 

@@ -13,16 +13,15 @@ ghost use Rattle.job_inputs.specs.declared.inputs.Inputs.{Inputs as AnyInputs};
 ghost use Rattle.job_run.specs.Books.{CanBeReleased, IsHidingBook};
 ghost use Rattle.job_run.specs.FileCounts.{file_count};
 ghost use Rattle.job_run.specs.Releases.{puts_of, shown_in, summary_of};
+ghost use Rattle.job_run.specs.Reports.{ComesToRelease};
 ghost use Rattle.job_run.specs.Roundings as roundings;
-ghost use Rattle.job_run.specs.Stops.{ComesToRelease};
 
 use crate::guarded::guarded_release;
 use crate::numbers::unhidden_summary;
 use crate::put::Release;
 use crate::release_texts::puts_for;
-use crate::report::Summary;
+use crate::report::{Report, Summary};
 use crate::rounded::rounded_release;
-use crate::stop::Stop;
 use cell_protection::{Protection, protect_cells};
 use certificate::Certificate;
 use job_inputs::{DescribedJob, SettledJob, base_in_units};
@@ -37,7 +36,7 @@ use worlds::Protected;
 /// names a file for contributors; and the certificate, that file and the tables are made, with the numbers of the
 /// release. Else why there is none: a cell that can't be protected or guarded, that there is no rounding, a question or
 /// a search that stopped short, or want of memory.
-pub(crate) fn release_for(alloc: Global, job: SettledJob) -> Result<Release, Stop>
+pub(crate) fn release_for(alloc: Global, job: SettledJob) -> Result<Release, Report>
     requires { CanBeReleased job }
     ensures comes { (settled : SettledInputs) → IsSettledOf settled job → ComesToRelease settled result }
     ensures each_file { IfOk result (λ release. length release.puts ≡ file_count job.described.job) }
@@ -62,7 +61,7 @@ fn job_base(method: Method, decimals: u8) -> Option<i128>
 }
 
 // The release of a job that hides cells: guarded against contributors, where it names a file for them.
-fn hiding_release(alloc: Global, job: SettledJob) -> Result<Release, Stop>
+fn hiding_release(alloc: Global, job: SettledJob) -> Result<Release, Report>
     requires can { CanBeReleased job }
     requires hides { roundings.job_base job.described ≡ None }
     ensures comes { (settled : SettledInputs) → IsSettledOf settled job → ComesToRelease settled result }
@@ -78,7 +77,7 @@ fn hiding_release(alloc: Global, job: SettledJob) -> Result<Release, Stop>
 }
 
 // The release of a job that hides cells and names no file for contributors.
-fn suppressed_release(alloc: Global, job: SettledJob) -> Result<Release, Stop>
+fn suppressed_release(alloc: Global, job: SettledJob) -> Result<Release, Report>
     requires can { CanBeReleased job }
     requires hides { roundings.job_base job.described ≡ None }
     requires unnamed { job.described.job.contributors ≡ None }
@@ -102,7 +101,7 @@ fn suppress_parts(
     book: &mut Book,
     cells: &[Cell],
     summary: Summary,
-) -> Result<Release, Stop>
+) -> Result<Release, Report>
     requires sound { IsSoundJob described.now }
     requires book { IsReadyFor described.now book.old }
     requires one_each { length book.old.marks ≡ length (cells_in book.old) }
@@ -147,12 +146,12 @@ fn suppress_parts(
             cell,
             side,
             multipliers,
-        } => Err(Stop::Cannot {
+        } => Err(Report::Cannot {
             cell,
             side,
             multipliers,
         }),
-        Protection::Undecided(stopped) => Err(Stop::from(stopped)),
+        Protection::Undecided(stopped) => Err(Report::from(stopped)),
     }
 }
 

@@ -1,57 +1,140 @@
 ghost use Rattle.std.specs.Prelude.{◌≡◌};
-ghost use Rattle.job_run.specs.Reports.{report_of};
+ghost use Rattle.job_run.specs.Reporting as spec;
 
-use crate::put::Release;
-use crate::report::Report;
-use crate::stop::Stop;
+use crate::puts::PutStop;
+use crate::report::{Report, Stuck};
+use attackers::Against;
+use cell_guards::Unguarded;
+use interval_audit::AskFault;
+use job_inputs::InputStop;
+use repair::Stopped;
+use rounding::RoundFault;
+use sdc_base::{Items, Memory};
+use std::alloc::Global;
 
-/// The report of how a run of a job went on.
-pub(crate) fn report(outcome: Result<Release, Stop>) -> Report
-    ensures { result ≡ report_of outcome }
-{
-    match outcome {
-        Ok(release) => Report::Released(release.summary),
-        Err(Stop::Refused(fault)) => Report::Refused(fault),
-        Err(
-            Stop::Cannot {
+impl From<Memory> for Report {
+    ghost use Rattle.std.specs.Prelude.{◌≡◌};
+    ghost use Rattle.job_run.specs.declared.report.Report.TheVariants as report;
+
+    ghost from_gives = { λ _ e. e ≡ report.Memory };
+
+    fn from(_: Memory) -> Self {
+        Report::Memory
+    }
+}
+
+impl From<InputStop> for Report {
+    ghost use Rattle.std.specs.Prelude.{◌≡◌};
+    ghost use Rattle.job_run.specs.Reporting.{inputs_report};
+
+    ghost from_gives = { λ stop e. e ≡ inputs_report stop };
+
+    fn from(stop: InputStop) -> Self {
+        match stop {
+            InputStop::Refused(fault) => Report::Refused(fault),
+            InputStop::ReadFault(file) => Report::ReadFault(file),
+            InputStop::Memory => Report::Memory,
+        }
+    }
+}
+
+impl From<Stopped> for Report {
+    ghost use Rattle.std.specs.Prelude.{◌≡◌};
+    ghost use Rattle.job_run.specs.Reporting.{stopped_report};
+
+    ghost from_gives = { λ stopped e. e ≡ stopped_report stopped };
+
+    fn from(stopped: Stopped) -> Self {
+        stuck_report(stopped, None)
+    }
+}
+
+impl From<Unguarded> for Report {
+    ghost use Rattle.std.specs.Prelude.{◌≡◌};
+    ghost use Rattle.job_run.specs.Reporting.{unguarded_report};
+
+    ghost from_gives = { λ reason e. e ≡ unguarded_report reason };
+
+    fn from(reason: Unguarded) -> Self {
+        match reason {
+            Unguarded::CannotAgainst {
+                row,
                 cell,
                 side,
                 multipliers,
-            },
-        ) => Report::Cannot {
-            cell,
-            side,
-            multipliers,
-        },
-        Err(
-            Stop::CannotAgainst {
+            } => Report::CannotAgainst {
                 row,
                 cell,
                 side,
                 multipliers,
             },
-        ) => Report::CannotAgainst {
-            row,
-            cell,
-            side,
-            multipliers,
+            Unguarded::Undecided { stopped, against } => stuck_report(stopped, Some(against)),
+            Unguarded::Memory => Report::Memory,
+        }
+    }
+}
+
+impl From<PutStop> for Report {
+    ghost use Rattle.std.specs.Prelude.{◌≡◌};
+    ghost use Rattle.job_run.specs.Reporting.{puts_report};
+
+    ghost from_gives = { λ stop e. e ≡ puts_report stop };
+
+    fn from(stop: PutStop) -> Self {
+        match stop {
+            PutStop::WriteFault(file) => Report::WriteFault(file),
+            PutStop::Memory => Report::Memory,
+        }
+    }
+}
+
+/// The report where the search for a rounding gave none: it has made no repairs and shown no cells again.
+pub(crate) fn search_report(alloc: Global, fault: RoundFault) -> Report
+    ensures { result ≡ spec.search_report fault }
+{
+    match fault {
+        RoundFault::NoRounding => Report::NoRounding,
+        RoundFault::Nodes(nodes) => Report::Undecided {
+            stuck: Stuck::Nodes(nodes),
+            repairs: Items::empty(alloc),
+            shown: Items::empty(alloc),
+            against: None,
         },
-        Err(Stop::NoRounding) => Report::NoRounding,
-        Err(
-            Stop::Undecided {
-                stuck,
-                repairs,
-                shown,
-                against,
-            },
-        ) => Report::Undecided {
-            stuck,
-            repairs,
-            shown,
-            against,
-        },
-        Err(Stop::ReadFault(file)) => Report::ReadFault(file),
-        Err(Stop::WriteFault(file)) => Report::WriteFault(file),
-        Err(Stop::Memory) => Report::Memory,
+        RoundFault::Memory => Report::Memory,
+    }
+}
+
+/// The report of a question about released tables that stopped short: nothing was repaired, and no cell shown again.
+pub(crate) fn question_report(alloc: Global, fault: AskFault) -> Report
+    ensures { result ≡ spec.question_report fault }
+{
+    let stopped = Stopped {
+        fault,
+        repairs: Items::empty(alloc),
+        shown: Items::empty(alloc),
+    };
+    stuck_report(stopped, None)
+}
+
+// The report of a question that stopped short, and against whom it is.
+fn stuck_report(stopped: Stopped, against: Option<Against>) -> Report
+    ensures { result ≡ spec.stuck_report stopped.fault stopped.repairs stopped.shown against }
+{
+    let Stopped {
+        fault,
+        repairs,
+        shown,
+    } = stopped;
+    let stuck = match fault {
+        AskFault::Work(walk) => Stuck::Work(walk),
+        AskFault::Wide(walk, place) => Stuck::Wide(walk, place),
+        AskFault::Size { question, hidden } => Stuck::Size { question, hidden },
+        AskFault::Memory => return Report::Memory,
+    };
+    Report::Undecided {
+        stuck,
+        repairs,
+        shown,
+        against,
     }
 }

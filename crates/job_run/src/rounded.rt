@@ -2,13 +2,14 @@ ghost use Rattle.std.specs.Prelude.{◌≡◌, ◌+◌, Some, IfOk, length, map}
 ghost use Rattle.certificate.specs.Laws.{without_hidden_cells};
 ghost use Rattle.job_inputs.specs.SettledJobs.{IsSettledOf, SettledInputs};
 ghost use Rattle.job_run.specs.Books.{CanBeReleased};
+ghost use Rattle.job_run.specs.Reports.{ComesToRelease};
 ghost use Rattle.job_run.specs.Roundings as roundings;
-ghost use Rattle.job_run.specs.Stops.{ComesToRelease};
 
 use crate::numbers::unhidden_summary;
 use crate::put::Release;
 use crate::release_texts::puts_for;
-use crate::stop::{Stop, search_stop};
+use crate::report::Report;
+use crate::reporting::search_report;
 use certificate::Certificate;
 use job_inputs::SettledJob;
 use relations::relations_of;
@@ -19,7 +20,7 @@ use std::alloc::Global;
 
 /// The release of a job that rounds to this base, in units: the cells show a rounding of their truths, and none is
 /// hidden.
-pub(crate) fn rounded_release(alloc: Global, job: SettledJob, base: i128) -> Result<Release, Stop>
+pub(crate) fn rounded_release(alloc: Global, job: SettledJob, base: i128) -> Result<Release, Report>
     requires can { CanBeReleased job }
     requires rounds { roundings.job_base job.described ≡ Some base }
     ensures comes { (settled : SettledInputs) → IsSettledOf settled job → ComesToRelease settled result }
@@ -29,7 +30,7 @@ pub(crate) fn rounded_release(alloc: Global, job: SettledJob, base: i128) -> Res
 }
 
 // The same, of a job that is lent.
-fn round_job(alloc: Global, job: &SettledJob, base: i128) -> Result<Release, Stop>
+fn round_job(alloc: Global, job: &SettledJob, base: i128) -> Result<Release, Report>
     requires can { CanBeReleased job.now }
     requires rounds { roundings.job_base job.now.described ≡ Some base }
     ensures comes { (settled : SettledInputs) → IsSettledOf settled job.now → ComesToRelease settled result }
@@ -44,7 +45,7 @@ fn round_job(alloc: Global, job: &SettledJob, base: i128) -> Result<Release, Sto
     let nodes = job.described.job.nodes;
     let rounding = match round(alloc, &system, truths.as_slice(), base, nodes) {
         Ok(rounding) => rounding,
-        Err(fault) => return Err(search_stop(alloc, fault)),
+        Err(fault) => return Err(search_report(alloc, fault)),
     };
     let values = rounding.values();
     let shown = Shown::Rounded(values);

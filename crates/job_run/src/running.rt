@@ -1,10 +1,5 @@
-ghost use Rattle.std.specs.Prelude.{◌≡◌, ◌≢◌, ◌↔◌, IfOk};
-ghost use Rattle.sdc_base.specs.Counts.{HasRisen};
+ghost use Rattle.std.specs.Prelude.{◌≡◌, ◌≢◌, ◌↔◌, IfErr, IfOk};
 ghost use Rattle.sdc_base.specs.WhereTold.{WhereTold};
-ghost use Rattle.job_inputs.specs.Looks.{InputsComeTo};
-ghost use Rattle.job_inputs.specs.ReadFiles.{limit};
-ghost use Rattle.job_inputs.specs.Reading.{HasOnlyLooked};
-ghost use Rattle.job_inputs.specs.SettledJobs.{settled_of};
 ghost use Rattle.job_run.specs.AuditRuns.{IsAuditRunOf};
 ghost use Rattle.job_run.specs.Checks.{IsCheckOf};
 ghost use Rattle.job_run.specs.Commands as commands;
@@ -13,9 +8,8 @@ ghost use Rattle.job_run.specs.Demos.{IsDemoRunOf};
 ghost use Rattle.job_run.specs.IntervalRuns.{IsIntervalRunOf};
 ghost use Rattle.job_run.specs.Migrations.{IsMigrationOf};
 ghost use Rattle.job_run.specs.ReleaseRuns.{IsReleaseRunOf};
-ghost use Rattle.job_run.specs.PutReleases.{HasReleased, PutsOnce};
-ghost use Rattle.job_run.specs.Reports.{AgreesWith, LeavesTray, LeavesAll, AnswersExactly, HasCause, HasComeTo, report_of};
-ghost use Rattle.job_run.specs.declared.report.Summary.{Summary as Numbers};
+ghost use Rattle.job_run.specs.PutReleases.{HasReleased};
+ghost use Rattle.job_run.specs.Reports.{FaultsHaveCauses, LeavesAll, StopsRelease, report_of};
 
 use crate::audit_run::put_audit;
 use crate::check_run::check_job;
@@ -27,38 +21,37 @@ use crate::put::Release;
 use crate::puts::put_files;
 use crate::release::release_for;
 use crate::report::Report;
-use crate::reporting::report;
-use crate::stop::Stop;
 use job_inputs::{Purpose, read_settled};
 use office_io::{Shelf, Tray};
 use sdc_base::Text;
 use std::alloc::Global;
 
 /// Does what the words say: `run JOB` puts a release of a job, `check JOB` says whether the release that stands under
-/// the job's names is one, `intervals JOB OUT` puts what a reader of its tables can find out of each hidden cell, `audit
-/// JOB OUT` puts what a reader of its rounded tables can find out of each primary cell, `demo SEED RECORDS` protects a
-/// made survey of so many records, 1 to 1,000,000, drawn from a seed, and `migrate OLD NEW` puts the certificate OLD
-/// again as NEW, in the second version of its text.
+/// the job's names is one, `intervals JOB OUT` puts what a reader of its tables can find out of each hidden cell,
+/// `audit JOB OUT` puts what a reader of its rounded tables can find out of each primary cell, `demo SEED RECORDS`
+/// protects a made survey of so many records, 1 to 1,000,000, drawn from a seed, and `migrate OLD NEW` puts the
+/// certificate OLD again as NEW, in the second version of its text.
 ///
 /// Of a job its metadata, the code lists and hierarchies of its spanning variables and its microdata are looked at in
 /// this order, then the number of cells, the a priori files by table, the cells with what is stated of them, and
 /// whether a put would take the name of an input; for `check` then the certificate, and for `check`, `intervals` and
 /// `audit` the tables. The first fault is the answer. `intervals` refuses a job that rounds as soon as it is read, and
-/// `audit` one that doesn't. The microdata are read in pieces, every other file whole. All that is put is made before the first put.
+/// `audit` one that doesn't. The microdata are read in pieces, every other file whole. All that is put is made before
+/// the first put.
 ///
-/// A job that hides comes to a release, to a cell that can't be protected, or to a question that stopped short; where it
-/// names a file for contributors, its hidden set is also guarded against each record's contributor that alone makes up
-/// a cell, or a cell can't be guarded. The certificate is put first, then that file, then the tables, which hide the
+/// A job that hides comes to a release, to a cell that can't be protected, or to a question that stopped short; where
+/// it names a file for contributors, its hidden set is also guarded against each record's contributor that alone makes
+/// up a cell, or a cell can't be guarded. The certificate is put first, then that file, then the tables, which hide the
 /// extra cells too. A job that rounds comes to a release, to no rounding, or to a search that stopped short; its
 /// primary cells are counted and not hidden.
 ///
 /// Other words are answered with the usage line. Usage, a refusal and a fault of the shelf leave the tray as it was,
-/// and so does each answer without a release, intervals, an audit or a certificate that was put again. After a fault of the tray
-/// the files put before the one that failed stand whole, and of that one its first bytes may be there; after want of
-/// memory some of the files may have been put whole. No file is put twice, and `check` puts nothing. `demo` makes its
-/// files in memory, runs its job there in the same way, and says what came of it; it looks neither at the shelf nor at
-/// the tray. `migrate` refuses equal names first, then looks at the file OLD alone; what it puts is read as the same
-/// certificate. It takes any words, any shelf and any tray.
+/// and so does each answer without a release, intervals, an audit or a certificate that was put again. After a fault of
+/// the tray the files put before the one that failed stand whole, and of that one its first bytes may be there; after
+/// want of memory some of the files may have been put whole. No file is put twice, and `check` puts nothing. `demo`
+/// makes its files in memory, runs its job there in the same way, and says what came of it; it looks neither at the
+/// shelf nor at the tray. `migrate` refuses equal names first, then looks at the file OLD alone; what it puts is read
+/// as the same certificate. It takes any words, any shelf and any tray.
 ///
 /// Over a shelf that tells nothing, as one over real files, four answers have a cause that counts show: that a file is
 /// absent, that one is too long, a read fault and a write fault. What else is refused, and what is put, is said of told
@@ -100,7 +93,8 @@ pub fn run<S: Shelf, T: Tray>(alloc: Global, words: &[Text], shelf: &mut S, tray
     // That the tray is as it was, and that a file is absent or too long, a read fault and a write fault have their
     // cause, whatever the shelf and the tray tell.
     ensures untouched { LeavesAll result (T.state tray.old) (T.state tray.new) }
-    ensures cause { HasCause result (S.state shelf.old) (S.state shelf.new) (T.state tray.old) (T.state tray.new) }
+    ensures cause { FaultsHaveCauses result (S.state shelf.old) (S.state shelf.new) (T.state tray.old)
+        (T.state tray.new) }
 {
     if let Some(name) = job_behind(b"run".as_slice(), words) {
         return put_release(alloc, name, shelf, tray);
@@ -128,9 +122,13 @@ fn put_release<S: Shelf, T: Tray>(alloc: Global, name: &Text, shelf: &mut S, tra
     ensures release { IsReleaseRunOf name.now result (S.state shelf.old) (S.state shelf.new) (T.state tray.old)
         (T.state tray.new) }
     ensures untouched { LeavesAll result (T.state tray.old) (T.state tray.new) }
-    ensures cause { HasCause result (S.state shelf.old) (S.state shelf.new) (T.state tray.old) (T.state tray.new) }
+    ensures cause { FaultsHaveCauses result (S.state shelf.old) (S.state shelf.new) (T.state tray.old)
+        (T.state tray.new) }
 {
-    report(run_job(alloc, name, shelf, tray))
+    match run_job(alloc, name, shelf, tray) {
+        Ok(release) => Report::Released(release.summary),
+        Err(stop) => stop,
+    }
 }
 
 // The whole run of a job: everything that is put is made before the first put.
@@ -139,21 +137,15 @@ pub(crate) fn run_job<S: Shelf, T: Tray>(
     name: &Text,
     shelf: &mut S,
     tray: &mut T,
-) -> Result<Release, Stop>
-    ensures told { WhereTold (S.state shelf.old).files
-        (λ fs. AgreesWith (report_of result) (settled_of Purpose.Release fs name.now)) }
-    ensures left { WhereTold (S.state shelf.old).files
-        (λ fs. LeavesTray (report_of result) (settled_of Purpose.Release fs name.now) (T.state tray.old)
-        (T.state tray.new)) }
+) -> Result<Release, Report>
+    ensures run { IsReleaseRunOf name.now (report_of result) (S.state shelf.old) (S.state shelf.new) (T.state tray.old)
+        (T.state tray.new) }
     ensures untouched { LeavesAll (report_of result) (T.state tray.old) (T.state tray.new) }
-    ensures put_once { PutsOnce (report_of result) (T.state tray.old) (T.state tray.new) }
-    ensures shelf { HasOnlyLooked limit (S.state shelf.old) (S.state shelf.new) }
+    ensures cause { FaultsHaveCauses (report_of result) (S.state shelf.old) (S.state shelf.new) (T.state tray.old)
+        (T.state tray.new) }
+    ensures stops { IfErr result StopsRelease }
     ensures released { WhereTold (S.state shelf.old).files
         (λ fs. IfOk result (λ release. HasReleased fs name.now release (T.state tray.old) (T.state tray.new))) }
-    ensures cause { HasCause (report_of result) (S.state shelf.old) (S.state shelf.new) (T.state tray.old)
-        (T.state tray.new) }
-    ensures came_to { WhereTold (S.state shelf.old).files
-        (λ fs. HasComeTo (InputsComeTo Purpose.Release fs name.now) (report_of result) fs (S.state shelf.new)) }
 {
     let settled = read_settled(alloc, shelf, name, Purpose::Release)?;
     let release = release_for(alloc, settled)?;

@@ -9,4 +9,4 @@ returns c =
     let run = c.run_job.ensures in
     let named : c.in_ok-name.name ≡ job_name = search rules in
     demo-run c.args.seed c.args.records _ c.run_job.result _ _ _ _ c.summarize.result named (c.new-shelf.ensures ∙ ap shelf_with c.in_ok-files.ensures) c.new-tray.ensures refl refl
-    (record { told = run.told; left = run.left; put_once = run.put_once; shelf = run.shelf; released = run.released; cause = run.cause; come = run.came_to }) c.summarize.ensures
+    (record { run = run.run; causes = run.cause; stops = run.stops; released = run.released }) c.summarize.ensures

@@ -5,9 +5,7 @@ use Rattle.job_inputs.specs.ReadFiles.{output_limit}
 use Rattle.job_inputs.specs.Reading.{IsReadFrom}
 use Rattle.job_inputs.specs.declared.stop.InputStop.{InputStop}
 use Rattle.job_run.specs.Migrations.{migrating_of, ComesTo, IsMigrationOf}
-use Rattle.job_run.specs.Reports.{report_of}
 use Rattle.job_run.specs.declared.report.Report.{Report}
-use Rattle.job_run.specs.declared.stop.Stop.{Stop}
 use Rattle.job_run.proofs.Migrations.{stopped-migration}
 use Rattle.job_run.proofs.migration.migrate.Goals as goal
 
@@ -19,5 +17,5 @@ returns-in-Err-clause-migration g c =
     let shelved = g.S.Shelf.state c.read_old.new.shelf in
     let tray = g.T.Tray.state c.args.tray.now in
     let read = subst (λ (r : Result Certificate InputStop). IsReadFrom (λ certificate. certificate) (λ fs. migrating_of fs old new) (λ fs. ComesTo old new) IsSoundCertificate output_limit r shelf shelved) c.in-Err.is c.read_old.ensures in
-    subst (λ (a : Report). IsMigrationOf old new a shelf shelved tray tray) (sym (c.report.ensures ∙ ap (λ (s : Stop). report_of (Err s)) c.from.ensures))
+    subst (λ (a : Report). IsMigrationOf old new a shelf shelved tray tray) (sym c.from.ensures)
     (stopped-migration old new c.in-Err.stop shelf shelved tray read)

@@ -60,9 +60,11 @@ returns-in-Cannot-clause-comes c = λ rows records skipped settled is numbers.
       rows = rows;
       records = records;
       skipped = skipped;
-    } in
-    outcome-for settled job c.in_ok-system.system c.args.cells.now c.in_ok-protection.protection (protection.Cannot c.in-Cannot.cell c.in-Cannot.side c.in-Cannot.multipliers) c.requires.hides is c.cells-known.ensures.book
-    (record { cells = c.in_ok-system.ensures.cells; relations = c.in_ok-system.ensures.exact }) refl c.in-Cannot.is c.in_ok-protection.ensures.outcome
+    } in (
+      tt,
+      outcome-for settled job c.in_ok-system.system c.args.cells.now c.in_ok-protection.protection (protection.Cannot c.in-Cannot.cell c.in-Cannot.side c.in-Cannot.multipliers) c.requires.hides is c.cells-known.ensures.book
+          (record { cells = c.in_ok-system.ensures.cells; relations = c.in_ok-system.ensures.exact }) refl c.in-Cannot.is c.in_ok-protection.ensures.outcome,
+    )
 
 pub returns-clause-comes : goal.returns-clause-comes
 returns-clause-comes c = λ rows records skipped settled is numbers.

@@ -24,7 +24,7 @@ returns-in-Err-clause-comes c = λ settled is.
       is_system = record { cells = c.in_ok-system.ensures.cells; relations = c.in_ok-system.ensures.exact };
       listed = c.as_slice-2.ensures ∙ c.in_ok-truths.ensures ∙ ap (λ (all : List Cell). map (λ (cell : Cell). cell.truth) all) c.as_slice.ensures;
     } in
-    rw (c.search_stop.ensures)
+    rw (c.search_report.ensures)
     (search-comes settled c.args.job.now c.in_ok-system.system c.args.base c.as_slice-2.result.now c.in-Err.fault task
     (λ is. let none = c.in-Err.ensures.none (ap Err is) in simp to_z-of_z at none)
     (λ nodes is. let limit = c.in-Err.ensures.limit nodes (ap Err is) in simp to_z-of_z at limit)

@@ -1,0 +1,65 @@
+-- How a run reports what stopped one of its steps (own).
+use Rattle.std.specs.Prelude.{◌≡◌, ℕ, List, [], Option, None, Some}
+use Rattle.attackers.specs.declared.extra.Against.{Against}
+use Rattle.cell_guards.specs.declared.guarding.Unguarded.{Unguarded}
+use Rattle.cell_guards.specs.declared.guarding.Unguarded.TheVariants as unguarded
+use Rattle.interval_audit.specs.declared.answer.AskFault.{AskFault}
+use Rattle.interval_audit.specs.declared.answer.AskFault.TheVariants as ask
+use Rattle.repair.specs.declared.stopped.Stopped.{Stopped}
+use Rattle.rounding.specs.declared.fault.RoundFault.{RoundFault}
+use Rattle.rounding.specs.declared.fault.RoundFault.TheVariants as round
+use Rattle.worlds.specs.declared.refuted.Refuted.{Refuted}
+use Rattle.job_inputs.specs.declared.stop.InputStop.{InputStop}
+use Rattle.job_inputs.specs.declared.stop.InputStop.TheVariants as input
+use Rattle.job_run.specs.declared.puts.PutStop.{PutStop}
+use Rattle.job_run.specs.declared.puts.PutStop.TheVariants as puts
+use Rattle.job_run.specs.declared.report.Report.{Report}
+use Rattle.job_run.specs.declared.report.Report.TheVariants as report
+use Rattle.job_run.specs.declared.report.Stuck.TheVariants as stuck
+
+-- what stopped the reading of inputs
+abbrev pub inputs_report : InputStop → Report
+inputs_report (input.Refused reason) = report.Refused reason
+inputs_report (input.ReadFault file) = report.ReadFault file
+inputs_report input.Memory = report.Memory
+
+-- what stopped the puts
+abbrev pub puts_report : PutStop → Report
+puts_report (puts.WriteFault file) = report.WriteFault file
+puts_report puts.Memory = report.Memory
+
+-- a question that stopped short, with the repairs and the shown cells until then, and against whom it is
+abbrev pub stuck_report : AskFault → List Refuted → List ℕ → Option Against → Report
+stuck_report (ask.Work walk) repairs shown against = report.Undecided (stuck.Work walk) repairs shown against
+stuck_report (ask.Wide walk place) repairs shown against =
+    report.Undecided (stuck.Wide walk place) repairs shown against
+stuck_report (ask.Size question hidden) repairs shown against =
+    report.Undecided (stuck.Size question hidden) repairs shown against
+stuck_report ask.Memory repairs shown against = report.Memory
+
+-- a question about released tables that stopped short: nothing was repaired, and no cell shown again
+abbrev pub question_report : AskFault → Report
+question_report fault = stuck_report fault [] [] None
+
+-- a protection that stopped short
+abbrev pub stopped_report : Stopped → Report
+stopped_report stopped = stuck_report stopped.fault stopped.repairs stopped.shown None
+
+-- why a hidden set isn't guarded
+abbrev pub unguarded_report : Unguarded → Report
+unguarded_report (unguarded.CannotAgainst row cell side multipliers) = report.CannotAgainst row cell side multipliers
+unguarded_report (unguarded.Undecided stopped against) =
+    stuck_report stopped.fault stopped.repairs stopped.shown (Some against)
+unguarded_report unguarded.Memory = report.Memory
+
+-- a search for a rounding that found none, which repairs nothing and shows no cells again
+abbrev pub search_report : RoundFault → Report
+search_report round.NoRounding = report.NoRounding
+search_report (round.Nodes nodes) = report.Undecided (stuck.Nodes nodes) [] [] None
+search_report round.Memory = report.Memory
+
+-- the report is that of a question that stopped short, of which this holds
+pub record IsQuestionReport (IsStuck : AskFault → Type 0) (answer : Report) : Type 0 where
+  pub fault : AskFault
+  pub is_report : answer ≡ question_report fault
+  pub is_stuck : IsStuck fault
