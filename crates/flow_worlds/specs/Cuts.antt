@@ -1,14 +1,16 @@
 -- Cuts: multipliers by which no hidden cell that counts can go further to the side to which it counts (network flows;
 -- linear duality).
-use Rattle.std.specs.Prelude.{◌≡◌, ◌⊎◌, ℕ, Bool, true, List, ◌∷◌, All, length, slice_get, Some, ℤ, pos, negsuc, ◌+ℤ◌, ◌<ℤ◌, if◌then◌else◌}
+use Rattle.std.specs.Prelude.{◌≡◌, ◌⊎◌, ℕ, Bool, true, List, ◌∷◌, All, length, slice_get, Some, ℤ, pos, negsuc, ◌+ℤ◌, ◌*ℤ◌, ◌<ℤ◌, if◌then◌else◌}
 use Rattle.sdc_base.specs.declared.cell.Cell.{Cell}
-use Rattle.sdc_base.specs.Forms.{coefficient, weighted_forms}
+use Rattle.sdc_base.specs.declared.relation.Relation.{Relation}
+use Rattle.sdc_base.specs.Forms.{Term, coefficient, weighted_forms}
 use Rattle.sdc_base.specs.HiddenSets.{is_hidden}
-use Rattle.sdc_base.specs.Signs.{sign_of}
+use Rattle.sdc_base.specs.Signs.{sign_of, times_counted}
 use Rattle.flow_worlds.specs.Arcs.{is_same}
 use Rattle.flow_worlds.specs.Searches.{is_reached}
 use Rattle.flow_worlds.specs.Steps.{turn_of}
 use Rattle.sdc_base.specs.Systems.{Numbers, number_at}
+use Rattle.sdc_base.specs.Totals.{sum_below}
 use Rattle.worlds.specs.NumberLists.{IsListed}
 use Rattle.worlds.specs.declared.multipliers.Multipliers.{Multipliers}
 use Rattle.flow_worlds.specs.declared.task.Task.{Task}
@@ -32,6 +34,15 @@ multiplier_of sign forward = if is_same sign forward then negsuc 0 else pos 1
 abbrev pub weight_of : List Bool → List Bool → Bool → ℕ → ℤ
 weight_of signs reached forward number =
     if is_reached reached number then multiplier_of (sign_of signs number) forward else pos 0
+
+-- By multipliers of relations with these signs a cell's coefficient is the sum of the relations' weights, each as many
+-- times as its relation counts the cell.
+abbrev pub AddUpToWeights : List Bool → List Bool → Bool → List Term → Type 0
+AddUpToWeights signs reached forward multipliers =
+    (relations : List Relation) (cell : ℕ)
+    → coefficient (weighted_forms relations multipliers) cell
+    ≡ sum_below (length signs)
+    (λ number. weight_of signs reached forward number *ℤ times_counted relations number cell)
 
 -- multipliers of 1 or -1 over the denominator 1, by which the moves are tight
 pub record IsCut (task : Task) (moves : List ℤ) (multipliers : Multipliers) : Type 0 where

@@ -31,6 +31,10 @@ visit_at visits place =
 abbrev pub visited : List Visit → ℕ → Step
 visited visits place = (visit_at visits place).step
 
+-- the first step of a search
+abbrev pub first_step : Search → Step
+first_step search = visited search.visits.items 0
+
 -- From a point on, over a hidden cell there other than the asked one, an open step reaches only points of the set.
 abbrev pub StaysOver : Task → List ℤ → Bool → (ℕ → Bool) → ℕ → ℕ → Type 0
 StaysOver task moves forward inside point cell =

@@ -1,11 +1,7 @@
-ghost use Rattle.std.specs.Prelude.{◌≡◌, ◌<◌, ◌≤◌, ◌^◌, ◌*ℤ◌, ℕ, List, [], All, length, pos, true, false, IfOk};
-ghost use Rattle.sdc_base.specs.declared.relation.Relation.{Relation as AnyRelation};
-ghost use Rattle.sdc_base.specs.Forms.{coefficient, weighted_forms};
-ghost use Rattle.sdc_base.specs.Signs.{times_counted};
-ghost use Rattle.sdc_base.specs.Totals.{sum_below};
+ghost use Rattle.std.specs.Prelude.{◌≡◌, ◌<◌, ◌≤◌, ◌^◌, [], All, length, pos, true, false, IfOk};
 ghost use Rattle.worlds.specs.NumberLists.{IsListed};
 ghost use Rattle.flow_worlds.specs.Searches.{IsSearchOf, IsGone, IsOpenStep, is_reached};
-ghost use Rattle.flow_worlds.specs.Cuts.{IsCut, IsOne, weight_of};
+ghost use Rattle.flow_worlds.specs.Cuts.{AddUpToWeights, IsCut, IsOne};
 ghost use Rattle.flow_worlds.specs.Cuts as spec;
 ghost use Rattle.flow_worlds.specs.Flows.{IsFlow};
 ghost use Rattle.flow_worlds.specs.Tasks.{IsTask};
@@ -86,10 +82,7 @@ fn multipliers_of(
     ensures whole { IfOk result (λ m. m.den ≡ pos 1) }
     ensures listed { IfOk result (λ m. IsListed (length signs.now) m.by_relation) }
     ensures ones { IfOk result (λ m. All (λ one. IsOne one.1) m.by_relation) }
-    ensures coefficients { IfOk result (λ m. (relations : List AnyRelation) (cell : ℕ)
-        → coefficient (weighted_forms relations m.by_relation) cell
-        ≡ sum_below (length signs.now)
-        (λ number. weight_of signs.now reached.now forward number *ℤ times_counted relations number cell)) }
+    ensures coefficients { IfOk result (λ m. AddUpToWeights signs.now reached.now forward m.by_relation) }
 {
     let mut by_relation = Vec::new(alloc);
     'relations: for (number, sign) in signs.iter().enumerate() {

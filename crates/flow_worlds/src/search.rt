@@ -3,7 +3,7 @@ ghost use Rattle.sdc_base.specs.HiddenSets.{is_hidden};
 ghost use Rattle.flow_worlds.specs.Arcs.{Touches, arc_at};
 ghost use Rattle.flow_worlds.specs.Steps as steps_specs;
 ghost use Rattle.flow_worlds.specs.Searches as spec;
-ghost use Rattle.flow_worlds.specs.Searches.{IsOpenStep, IsSearchOf, IsGone, Grows, StaysAt, StaysOver, is_reached, visited};
+ghost use Rattle.flow_worlds.specs.Searches.{IsOpenStep, IsSearchOf, IsGone, Grows, StaysAt, StaysOver, first_step, is_reached, visited};
 ghost use Rattle.flow_worlds.specs.Tasks.{IsTask};
 
 use crate::arcs::is_same;
@@ -50,7 +50,7 @@ pub(crate) fn search_from(
         if search.reached[first.start as usize] {
             return Ok(search);
         }
-        go_on(task, moves, forward, first, &mut search, place)?;
+        go_on(task, moves, forward, &mut search, place)?;
         place += 1;
     }
     Ok(search)
@@ -84,23 +84,22 @@ fn go_on(
     task: &Task<'_>,
     moves: &[i128],
     forward: bool,
-    first: Step,
     search: &mut Search,
     place: usize,
 ) -> Result<(), Memory>
     requires task { IsTask task.now }
     requires each { length moves.now ≡ length task.now.cells.now }
-    requires asked { first.cell ≡ task.now.asked.cell }
-    requires search { IsSearchOf task.now moves.now forward first search.old }
+    requires asked { (first_step search.old).cell ≡ task.now.asked.cell }
+    requires search { IsSearchOf task.now moves.now forward (first_step search.old) search.old }
     requires place { place < length search.old.visits.items }
-    ensures search { OnOk result (IsSearchOf task.now moves.now forward first search.new) }
+    ensures search { OnOk result (IsSearchOf task.now moves.now forward (first_step search.old) search.new) }
     ensures grows { OnOk result (Grows search.old search.new) }
     ensures stays { OnOk result (StaysAt task.now moves.now forward (is_reached search.new.reached.items)
         (visited search.old.visits.items place).end) }
 {
     let point = search.visits[place].step.end;
     'cells: for cell in task.touching[point as usize].as_slice() {
-        go_over(task, moves, forward, first, search, place, *cell)?;
+        go_over(task, moves, forward, search, place, *cell)?;
     }
     Ok(())
 }
@@ -110,20 +109,19 @@ fn go_over(
     task: &Task<'_>,
     moves: &[i128],
     forward: bool,
-    first: Step,
     search: &mut Search,
     place: usize,
     cell: u32,
 ) -> Result<(), Memory>
     requires task { IsTask task.now }
     requires each { length moves.now ≡ length task.now.cells.now }
-    requires asked { first.cell ≡ task.now.asked.cell }
-    requires search { IsSearchOf task.now moves.now forward first search.old }
+    requires asked { (first_step search.old).cell ≡ task.now.asked.cell }
+    requires search { IsSearchOf task.now moves.now forward (first_step search.old) search.old }
     requires place { place < length search.old.visits.items }
     requires known { cell < length task.now.arcs.now }
     requires hidden { is_hidden task.now.flags.now cell ≡ true }
     requires touches { Touches (arc_at task.now.arcs.now cell) (visited search.old.visits.items place).end }
-    ensures search { OnOk result (IsSearchOf task.now moves.now forward first search.new) }
+    ensures search { OnOk result (IsSearchOf task.now moves.now forward (first_step search.old) search.new) }
     ensures grows { OnOk result (Grows search.old search.new) }
     ensures stays { OnOk result (StaysOver task.now moves.now forward (is_reached search.new.reached.items)
         (visited search.old.visits.items place).end cell) }

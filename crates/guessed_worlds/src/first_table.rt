@@ -85,18 +85,17 @@ fn take_member(alloc: Global, table: &mut Table, counts: &[u64], row: usize) -> 
     row.checked_add(1)
 }
 
-// The variable of the number nearest to 0, of several the one that has numbers in the fewest equations.
+// The counted variable of the number nearest to 0, of several the one that has numbers in the fewest equations.
 fn best_variable(entries: &[Entry], counts: &[u64]) -> Option<usize> {
     let mut best = None;
     let mut least = (u64::MAX, u64::MAX);
     for entry in entries {
-        let count = match counts.get(entry.variable) {
-            Some(count) => *count,
-            None => 0,
+        let Some(count) = counts.get(entry.variable) else {
+            continue;
         };
         let size = entry.number.unsigned_abs();
-        if size < least.0 || (size == least.0 && count < least.1) {
-            least = (size, count);
+        if size < least.0 || (size == least.0 && *count < least.1) {
+            least = (size, *count);
             best = Some(entry.variable);
         }
     }

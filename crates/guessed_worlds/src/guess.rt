@@ -76,7 +76,7 @@ fn least_multiple(one: i64, other: i64) -> Option<i64> {
 // A variable's move over a den.
 fn move_over(table: &Table, variable: usize, den: i64) -> Option<i64> {
     let Some(row) = table.row_of(variable) else {
-        return table.move_at(variable).checked_mul(den);
+        return table.move_at(variable)?.checked_mul(den);
     };
     let equation = table.equations.get(row)?;
     if equation.here == 0 {

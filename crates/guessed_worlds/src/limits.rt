@@ -38,7 +38,7 @@ pub(crate) fn limit_of(
 // How far the variable's own bound lets it go.
 fn own_limit(table: &Table, spans: Spans<'_>, entering: Entering) -> Option<Limit> {
     let span = spans.of(entering.variable);
-    let here = table.move_at(entering.variable);
+    let here = table.move_at(entering.variable)?;
     let gap = if entering.turn < 0 {
         here.checked_sub(span.least)?
     } else {

@@ -1,5 +1,4 @@
 ghost use Rattle.std.specs.Prelude.{◌≡◌, ◌<◌, Some, length, slice_get, IfSome};
-ghost use Rattle.sdc_base.specs.Grounds.{IsGround};
 ghost use Rattle.sdc_base.specs.Worlds.{Reaches};
 ghost use Rattle.sdc_base.specs.declared.cell.Cell.{Cell as AnyCell};
 ghost use Rattle.worlds.specs.NumberLists.{terms_of, number_given};
@@ -13,7 +12,7 @@ use crate::stepping::Goal;
 use crate::table::Table;
 use sdc_base::{Cell, Hidden, Side, System, signs};
 use std::alloc::Global;
-use worlds::{World, check_world, reaches};
+use worlds::{Pattern, World, check_world, reaches};
 
 // The equations of a search have no more numbers than this.
 const MOST_NUMBERS: usize = 4_000_000;
@@ -52,37 +51,36 @@ impl WorldSearch {
         }
     }
 
-    /// A world for a hidden set that takes a cell at least its level to a side, where the search finds one.
+    /// A world for a suppression pattern that takes a cell at least its level to a side, where the search finds one.
     ///
-    /// There are a cell and a flag for each cell of the system, and the number is that of a cell. That none is given
-    /// says nothing: the search may have ended early, also for want of memory. It takes at most 400 exchanges, and a
-    /// check of the world, which goes once through its moves and the parts of all relations. An exchange looks into
-    /// each equation for one number, and goes through the numbers of those that have it.
+    /// The asked number is that of a cell of the pattern. That none is given says nothing: the search may have ended
+    /// early, also for want of memory. It takes at most 400 exchanges, and a check of the world, which goes once through
+    /// its moves and the parts of all relations. An exchange looks into each equation for one number, and goes through
+    /// the numbers of those that have it.
     ///
     /// Guessed worlds are argus's own; worlds are those of the feasibility interval in Hundepool et al., Statistical
     /// Disclosure Control, chapter on magnitude tables.
     pub fn world_for(
         &mut self,
         alloc: Global,
-        system: &System,
-        cells: &[Cell],
-        hidden: &Hidden,
+        pattern: &Pattern<'_>,
         asked: (u32, Side),
     ) -> Option<World>
-        requires ground { IsGround system.now cells.now hidden.now.flags }
-        requires inside { asked.0 < length cells.now }
-        ensures world { IfSome result (λ world. IsGivenWorld system.now cells.now hidden.now.flags world) }
-        ensures reaching { (cell : AnyCell) → slice_get cells.now asked.0 ≡ Some cell → IfSome result (λ world.
-            Reaches asked.1 cell world.den (number_given (terms_of world.moves) asked.0)) }
+        requires inside { asked.0 < length pattern.now.cells.now }
+        ensures world { IfSome result (λ world. IsGivenWorld pattern.now.system.now pattern.now.cells.now
+            pattern.now.hidden.now.flags world) }
+        ensures reaching { (cell : AnyCell) → slice_get pattern.now.cells.now asked.0 ≡ Some cell
+            → IfSome result (λ world. Reaches asked.1 cell world.den
+            (number_given (terms_of world.moves) asked.0)) }
     {
-        // for the proof: read, so that it is known to be a number of 32 bits
-        let _cells = system.cells;
+        let cells = pattern.cells;
+        let hidden = pattern.hidden;
         let cell = &cells[asked.0 as usize];
         let world = self.guess(alloc, cell, hidden.flags.as_slice(), asked)?;
         let Ok(mut scratch) = Vec::from_elem(alloc, 0, cells.len()) else {
             return None;
         };
-        if check_world(system, cells, hidden, &world, &mut scratch).is_err() {
+        if check_world(pattern.system, cells, hidden, &world, &mut scratch).is_err() {
             return None;
         }
         if !reaches(cell, asked.1, asked.0, &world) {

@@ -61,7 +61,7 @@ fn lack_of(table: &Table, goal: Goal, row: Option<usize>) -> Option<i64> {
             goal.level.checked_mul(equation.den)?.checked_sub(here)
         }
         None => {
-            let here = table.move_at(goal.variable).checked_mul(goal.turn)?;
+            let here = table.move_at(goal.variable)?.checked_mul(goal.turn)?;
             goal.level.checked_sub(here)
         }
     }
@@ -84,7 +84,7 @@ fn way_of(
 
 // The variable itself, where its bound lets it move.
 fn own_way(table: &Table, spans: Spans<'_>, goal: Goal, lack: i64) -> Option<Way> {
-    let here = table.move_at(goal.variable);
+    let here = table.move_at(goal.variable)?;
     if !spans.of(goal.variable).lets(here, goal.turn) {
         return None;
     }
@@ -129,7 +129,7 @@ fn best_entering(
             let turn = turn_of(entry.number, goal.turn);
             if spans
                 .of(entry.variable)
-                .lets(table.move_at(entry.variable), turn)
+                .lets(table.move_at(entry.variable)?, turn)
             {
                 greatest = size;
                 best = Some(Entering {
@@ -179,7 +179,7 @@ fn shift(table: &mut Table, entering: Entering, units: i64, crossings: &[Crossin
         let fall = crossing.number.checked_mul(by)?;
         equation.here = equation.here.checked_sub(fall)?;
     }
-    let here = table.move_at(entering.variable).checked_add(by)?;
+    let here = table.move_at(entering.variable)?.checked_add(by)?;
     table.put_move(entering.variable, here);
     Some(())
 }
@@ -198,7 +198,7 @@ fn leave(
     let far = bound.checked_mul(equation.den)?;
     equation.here = equation.here.checked_sub(far)?;
     exchange(alloc, table, crossings, row, entering)?;
-    let before = table.move_at(entering);
+    let before = table.move_at(entering)?;
     let equation = table.equations.get_mut(row)?;
     let whole = before.checked_mul(equation.den)?;
     equation.here = equation.here.checked_add(whole)?;

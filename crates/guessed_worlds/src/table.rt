@@ -46,20 +46,14 @@ impl Table {
         Some(found)
     }
 
-    // The equation whose member a variable is.
+    // The equation whose member a variable is, if any.
     pub(crate) fn row_of(&self, variable: usize) -> Option<usize> {
-        match self.rows.get(variable) {
-            Some(row) => *row,
-            None => None,
-        }
+        *self.rows.get(variable)?
     }
 
-    // The move of a variable that is no member.
-    pub(crate) fn move_at(&self, variable: usize) -> i64 {
-        match self.moves.get(variable) {
-            Some(units) => *units,
-            None => 0,
-        }
+    // The move of a variable that is no member; none where the table hasn't that variable.
+    pub(crate) fn move_at(&self, variable: usize) -> Option<i64> {
+        Some(*self.moves.get(variable)?)
     }
 
     // Puts the move of a variable that is no member.

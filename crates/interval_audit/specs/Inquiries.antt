@@ -25,52 +25,56 @@ component_of inquiry = group_of inquiry.of.now inquiry.question.cell
 
 -- the problem of the question in that component
 abbrev pub problem_for : Inquiry → Problem
-problem_for inquiry = problem_of inquiry.system.now inquiry.cells.now (component_of inquiry) inquiry.question
+problem_for inquiry =
+    problem_of inquiry.pattern.system.now inquiry.pattern.cells.now (component_of inquiry) inquiry.question
 
 -- the numbers that multipliers add up to are bounded
 abbrev pub AddsBounded : Inquiry → Multipliers → Type 0
 AddsBounded inquiry multipliers =
-    AreBounded inquiry.cells.now inquiry.hidden.now.flags
-    (coefficient (terms_added inquiry.system.now inquiry.question.cell inquiry.question.side multipliers))
+    AreBounded inquiry.pattern.cells.now inquiry.pattern.hidden.now.flags
+    (coefficient (terms_added inquiry.pattern.system.now inquiry.question.cell inquiry.question.side multipliers))
 
 -- the answer is right
 abbrev pub IsRightFor : Inquiry → Answer → Type 0
 IsRightFor inquiry answer =
-    IsTrueAnswer inquiry.system.now inquiry.cells.now inquiry.hidden.now.flags inquiry.question answer
+    IsTrueAnswer inquiry.pattern.system.now inquiry.pattern.cells.now inquiry.pattern.hidden.now.flags
+    inquiry.question answer
 
 -- the answer is what a walk of the question that has ended gives
 abbrev pub IsReadOffWalk : Inquiry → TableauWalk → Answer → Type 0
 IsReadOffWalk inquiry walk answer =
-    IsReadOff inquiry.system.now inquiry.cells.now (component_of inquiry) walk answer
+    IsReadOff inquiry.pattern.system.now inquiry.pattern.cells.now (component_of inquiry) walk answer
 
 -- the answer is what the walk of the question gives
 abbrev pub IsGivenByWalk : Inquiry → Answer → Type 0
 IsGivenByWalk inquiry answer =
-    IsWalkAnswerIn inquiry.system.now inquiry.cells.now (component_of inquiry) inquiry.question answer
+    IsWalkAnswerIn inquiry.pattern.system.now inquiry.pattern.cells.now (component_of inquiry) inquiry.question answer
 
 -- the same by a walk of at most so many improvements
 abbrev pub IsGivenWithin : Inquiry → ℕ → Answer → Type 0
 IsGivenWithin inquiry limit answer =
-    IsWalkAnswerWithin inquiry.system.now inquiry.cells.now (component_of inquiry) inquiry.question limit answer
+    IsWalkAnswerWithin inquiry.pattern.system.now inquiry.pattern.cells.now (component_of inquiry) inquiry.question
+    limit answer
 
 -- why there is no answer by a walk of at most so many improvements
 abbrev pub IsCauseFor : Inquiry → ℕ → AskFault → Type 0
 IsCauseFor inquiry limit fault =
-    IsCauseIn inquiry.system.now inquiry.cells.now inquiry.hidden.now.flags (component_of inquiry) inquiry.question
-    limit fault
+    IsCauseIn inquiry.pattern.system.now inquiry.pattern.cells.now inquiry.pattern.hidden.now.flags
+    (component_of inquiry) inquiry.question limit fault
 
 -- only a limit below the bound of the question's walks cuts one off
 abbrev pub IsCutOffBelow : Inquiry → ℕ → AskFault → Type 0
 IsCutOffBelow inquiry limit fault =
-    IsCutBelow inquiry.system.now inquiry.cells.now (component_of inquiry) inquiry.question limit fault
+    IsCutBelow inquiry.pattern.system.now inquiry.pattern.cells.now (component_of inquiry) inquiry.question limit fault
 
 -- the world is the one that the amounts of a walk's columns make
 abbrev pub IsWorldOfWalk : Inquiry → TableauWalk → World → Type 0
 IsWorldOfWalk inquiry walk world =
-    IsWorldOf inquiry.system.now (component_of inquiry) walk.table.den (number_at (values_of walk.problem walk.table))
-    world
+    IsWorldOf inquiry.pattern.system.now (component_of inquiry) walk.table.den
+    (number_at (values_of walk.problem walk.table)) world
 
 -- the multipliers are those that weights of the rows make over the denominator of a walk
 abbrev pub AreMultipliersOfWalk : Inquiry → TableauWalk → List ℤ → Multipliers → Type 0
 AreMultipliersOfWalk inquiry walk weights multipliers =
-    AreMultipliersOf inquiry.system.now inquiry.cells.now (component_of inquiry) walk.table.den weights multipliers
+    AreMultipliersOf inquiry.pattern.system.now inquiry.pattern.cells.now (component_of inquiry) walk.table.den
+    weights multipliers

@@ -21,6 +21,7 @@ use flow_worlds::{FlowAnswer, flow};
 use sdc_base::{Cell, Fraction, Hidden, Memory, System, components, rows_of};
 use std::alloc::Global;
 use tableau::{Step, Tableau};
+use worlds::Pattern;
 
 // The most hidden cells that a question is about.
 const MOST_MEMBERS: usize = 4000;
@@ -156,11 +157,11 @@ fn whole_answer(answer: FlowAnswer) -> Answer
 }
 
 /// The answer of a question by a walk on its problem.
-pub(crate) fn ask_walk(
+pub(crate) fn ask_walk<'a>(
     alloc: Global,
-    system: &System,
-    cells: &[Cell],
-    hidden: &Hidden,
+    system: &'a System,
+    cells: &'a [Cell],
+    hidden: &'a Hidden,
     question: Question,
     limit: u64,
 ) -> Result<Answer, AskFault>
@@ -192,10 +193,13 @@ pub(crate) fn ask_walk(
     let lists = rows_of(alloc, system, &grouping)?;
     let rows = lists.as_slice();
     let met = list_of(rows, of, question.cell);
-    let inquiry = Inquiry {
+    let pattern = Pattern {
         system,
         cells,
         hidden,
+    };
+    let inquiry = Inquiry {
+        pattern,
         of,
         met,
         question,
@@ -204,7 +208,7 @@ pub(crate) fn ask_walk(
 }
 
 // The answer of a walk of at most so many improvements.
-fn walk_on(alloc: Global, inquiry: &Inquiry<'_>, limit: u64) -> Result<Answer, AskFault>
+fn walk_on(alloc: Global, inquiry: &Inquiry<'_, '_>, limit: u64) -> Result<Answer, AskFault>
     ensures right { IfOk result (λ answer. inquiries.IsRightFor inquiry.now answer) }
     ensures read { IfOk result (λ answer. inquiries.IsGivenByWalk inquiry.now answer) }
     ensures cause { IfErr result (λ fault. inquiries.IsCauseFor inquiry.now limit fault) }
@@ -215,8 +219,8 @@ fn walk_on(alloc: Global, inquiry: &Inquiry<'_>, limit: u64) -> Result<Answer, A
     let question = inquiry.question;
     let problem = problem_over(
         alloc,
-        inquiry.system,
-        inquiry.cells,
+        inquiry.pattern.system,
+        inquiry.pattern.cells,
         inquiry.of,
         inquiry.met,
         question,

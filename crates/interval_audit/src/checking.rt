@@ -12,25 +12,25 @@ use worlds::{Multipliers, RefutationFault, bound_sum};
 
 // The first cell at which the check of multipliers, with the target as level, needs a number wider than 128 bits.
 pub(crate) fn wide_at(
-    inquiry: &Inquiry<'_>,
+    inquiry: &Inquiry<'_, '_>,
     multipliers: &Multipliers,
     scratch: &mut [i128],
 ) -> Option<u32>
-    requires scratch { length scratch.old ≡ inquiry.now.system.now.cells }
+    requires scratch { length scratch.old ≡ inquiry.now.pattern.system.now.cells }
     requires positive { pos 1 ≤ℤ multipliers.now.den }
-    requires listed { IsListed (length inquiry.now.system.now.relations) multipliers.now.by_relation }
+    requires listed { IsListed (length inquiry.now.pattern.system.now.relations) multipliers.now.by_relation }
     requires bounded { inquiries.AddsBounded inquiry.now multipliers.now }
-    ensures sum { result ≡ None → IsGivenSum inquiry.now.system.now inquiry.now.cells.now inquiry.now.hidden.now.flags
-        inquiry.now.question.cell inquiry.now.question.side multipliers.now }
+    ensures sum { result ≡ None → IsGivenSum inquiry.now.pattern.system.now inquiry.now.pattern.cells.now
+        inquiry.now.pattern.hidden.now.flags inquiry.now.question.cell inquiry.now.question.side multipliers.now }
     ensures product { result ≡ None → FitsSigned w128 (multipliers.now.den *ℤ inquiry.now.question.target) }
-    ensures wide { IfSome result (λ cell. NeedsWideNumber inquiry.now.system.now inquiry.now.cells.now
-        inquiry.now.hidden.now.flags inquiry.now.question multipliers.now cell) }
+    ensures wide { IfSome result (λ cell. NeedsWideNumber inquiry.now.pattern.system.now inquiry.now.pattern.cells.now
+        inquiry.now.pattern.hidden.now.flags inquiry.now.question multipliers.now cell) }
 {
     let question = inquiry.question;
     let found = bound_sum(
-        inquiry.system,
-        inquiry.cells,
-        inquiry.hidden,
+        inquiry.pattern.system,
+        inquiry.pattern.cells,
+        inquiry.pattern.hidden,
         question.cell,
         question.side,
         multipliers,

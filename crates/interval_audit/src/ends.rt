@@ -86,8 +86,8 @@ pub fn signed_interval(
     ensures signed { (signs : List Bool) → AreSigns system.now.relations signs
         → IfErr result (λ fault. HasNoWalk fault) }
 {
-    let below = end_of(alloc, system, cells, hidden, cell, Side::Below, limit)?;
-    let above = end_of(alloc, system, cells, hidden, cell, Side::Above, limit)?;
+    let below = end_of(alloc, system, cells, hidden, (cell, Side::Below), limit)?;
+    let above = end_of(alloc, system, cells, hidden, (cell, Side::Above), limit)?;
     Ok(TwoEnds { below, above })
 }
 
@@ -97,22 +97,22 @@ fn end_of(
     system: &SignedSystem<'_>,
     cells: &[Cell],
     hidden: &Hidden,
-    cell: u32,
-    side: Side,
+    asked: (u32, Side),
     limit: u64,
 ) -> Result<Answer, AskFault>
     requires ground { IsGround system.now cells.now hidden.now.flags }
-    requires hidden { is_hidden hidden.now.flags cell ≡ true }
+    requires hidden { is_hidden hidden.now.flags asked.0 ≡ true }
     requires limit { 1 ≤ limit }
-    ensures right { IfOk result (λ answer. IsTrueEnd system.now cells.now hidden.now.flags cell side answer) }
-    ensures read { IfOk result (λ answer. IsEndAnswer system.now cells.now hidden.now.flags cell side answer) }
+    ensures right { IfOk result (λ answer. IsTrueEnd system.now cells.now hidden.now.flags asked.0 asked.1 answer) }
+    ensures read { IfOk result (λ answer. IsEndAnswer system.now cells.now hidden.now.flags asked.0 asked.1 answer) }
     ensures whole { (signs : List Bool) → AreSigns system.now.relations signs
-        → IfOk result (λ answer. IsWholeEnd system.now cells.now hidden.now.flags cell side answer) }
-    ensures cause { IfErr result (λ fault. IsEndCause system.now cells.now hidden.now.flags cell side limit fault) }
+        → IfOk result (λ answer. IsWholeEnd system.now cells.now hidden.now.flags asked.0 asked.1 answer) }
+    ensures cause { IfErr result (λ fault. IsEndCause system.now cells.now hidden.now.flags asked.0 asked.1 limit
+        fault) }
     ensures signed { (signs : List Bool) → AreSigns system.now.relations signs
         → IfErr result (λ fault. HasNoWalk fault) }
 {
-    let question = end_question(cell, side);
+    let question = end_question(asked.0, asked.1);
     system.ask(alloc, cells, hidden, question, limit)
 }
 

@@ -23,7 +23,7 @@ use worlds::{Move, Multipliers, World};
 // The answer where a walk has ended.
 pub(crate) fn finish(
     alloc: Global,
-    inquiry: &Inquiry<'_>,
+    inquiry: &Inquiry<'_, '_>,
     tableau: Tableau,
 ) -> Result<Answer, AskFault>
     requires problem { tableau.problem ≡ inquiries.problem_for inquiry.now }
@@ -62,7 +62,7 @@ pub(crate) fn read_state(tableau: &Tableau)
 }
 
 // The world that a walk gives, in lowest terms.
-fn world_of(alloc: Global, inquiry: &Inquiry<'_>, tableau: &Tableau) -> Result<World, Memory>
+fn world_of(alloc: Global, inquiry: &Inquiry<'_, '_>, tableau: &Tableau) -> Result<World, Memory>
     requires problem { tableau.now.problem
         ≡ inquiries.problem_for inquiry.now }
     requires stands { IsAtPoint (state_of tableau.now) }
@@ -73,7 +73,7 @@ fn world_of(alloc: Global, inquiry: &Inquiry<'_>, tableau: &Tableau) -> Result<W
         alloc,
         inquiry.of,
         inquiry.question.cell,
-        inquiry.system.cells,
+        inquiry.pattern.system.cells,
     )?;
     read_world(alloc, members.as_slice(), tableau.values(), tableau.den())
 }
@@ -117,7 +117,7 @@ fn is_product(number: i128, one: i128, other: i128) -> bool
 // The answer where a walk is blocked, and the world that it gives.
 fn stop(
     alloc: Global,
-    inquiry: &Inquiry<'_>,
+    inquiry: &Inquiry<'_, '_>,
     tableau: Tableau,
     world: World,
     num: i128,
@@ -137,7 +137,7 @@ fn stop(
         → inquiries.IsCutOffBelow inquiry.now limit fault) }
 {
     let multipliers = multipliers_of(alloc, inquiry, &tableau)?;
-    let mut scratch = Vec::from_elem(alloc, 0, inquiry.system.cells as usize)?;
+    let mut scratch = Vec::from_elem(alloc, 0, inquiry.pattern.system.cells as usize)?;
     let wide = wide_at(inquiry, &multipliers, &mut scratch);
     if let Some(cell) = wide {
         let walk = Walk {
@@ -160,7 +160,7 @@ fn stop(
 // The multipliers that a blocked walk gives, in lowest terms.
 fn multipliers_of(
     alloc: Global,
-    inquiry: &Inquiry<'_>,
+    inquiry: &Inquiry<'_, '_>,
     tableau: &Tableau,
 ) -> Result<Multipliers, Memory>
     requires problem { tableau.now.problem

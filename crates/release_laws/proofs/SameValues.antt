@@ -109,16 +109,17 @@ Parts = ℕ × List Relation
 record IsNamed (parts : Parts) : Type 0 where
   named : All (NamesCells parts.0) parts.1
   at_most_2_30 : length parts.1 ≤ 2 ^ 30
+  below_2_32 : parts.0 < 2 ^ 32
 
 named-once : (parts : Parts) → IsProp (IsNamed parts)
 named-once parts = Prim.hlevel props
 
 system-of : (parts : Parts) → IsNamed parts → System
-system-of parts is = record { cells = parts.0; relations = parts.1; named = is.named; at_most_2_30 = is.at_most_2_30 }
+system-of parts is = record { cells = parts.0; relations = parts.1; named = is.named; at_most_2_30 = is.at_most_2_30; below_2_32 = is.below_2_32 }
 
 -- systems of as many cells whose relations have the same totals and parts are the same
 pub same-systems : (one other : System) → one.cells ≡ other.cells → map sum_in one.relations ≡ map sum_in other.relations → one ≡ other
 unfolding system-of
 same-systems one other cells sums =
-    same-made IsNamed named-once system-of (one.cells, one.relations) (other.cells, other.relations) (record { named = one.named; at_most_2_30 = one.at_most_2_30 }) (record { named = other.named; at_most_2_30 = other.at_most_2_30 })
+    same-made IsNamed named-once system-of (one.cells, one.relations) (other.cells, other.relations) (record { named = one.named; at_most_2_30 = one.at_most_2_30; below_2_32 = one.below_2_32 }) (record { named = other.named; at_most_2_30 = other.at_most_2_30; below_2_32 = other.below_2_32 })
     (ap₂ (λ (n : ℕ) (relations : List Relation). (n, relations)) cells (same-relations one.relations other.relations sums))

@@ -1,4 +1,4 @@
-ghost use Rattle.std.specs.Prelude.{◌≤◌, ◌^◌, length, All};
+ghost use Rattle.std.specs.Prelude.{◌≤◌, ◌<◌, ◌^◌, length, All};
 ghost use Rattle.sdc_base.specs.Systems.{NamesCells};
 
 use crate::items::Items;
@@ -13,4 +13,5 @@ pub struct System {
     pub relations: Items<Relation>,
     ghost named: { All (NamesCells cells) relations },
     ghost at_most_2_30: { length relations ≤ 2 ^ 30 },
+    ghost below_2_32: { cells < 2 ^ 32 },
 }

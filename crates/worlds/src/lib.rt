@@ -20,6 +20,7 @@ mod world_check;
 
 pub use faults::{ProtectFault, RefutationFault, WorldFault};
 pub use multipliers::Multipliers;
+pub use pattern::Pattern;
 pub use protected::Protected;
 pub use refutation_check::{bound_sum, check_refutation};
 pub use refuted::Refuted;

@@ -33,8 +33,6 @@ pub(crate) fn check_protection(
 fn shown_primary(pattern: &Pattern<'_>) -> Option<u32>
     ensures { result ≡ primary_shown pattern.now.hidden.now.flags 0 pattern.now.cells.now }
 {
-    // for the proof: read, so that it is known to be a number of 32 bits.
-    let _cells = pattern.system.cells;
     let cells = pattern.cells;
     let flags = pattern.hidden.flags.as_slice();
     for (number, cell) in cells.iter().enumerate() {
@@ -49,8 +47,6 @@ fn shown_primary(pattern: &Pattern<'_>) -> Option<u32>
 fn hidden_fixed(pattern: &Pattern<'_>) -> Option<u32>
     ensures { result ≡ fixed_hidden pattern.now.hidden.now.flags 0 pattern.now.cells.now }
 {
-    // for the proof: read, so that it is known to be a number of 32 bits.
-    let _cells = pattern.system.cells;
     let cells = pattern.cells;
     let flags = pattern.hidden.flags.as_slice();
     for (number, cell) in cells.iter().enumerate() {
@@ -65,8 +61,6 @@ fn hidden_fixed(pattern: &Pattern<'_>) -> Option<u32>
 fn count_asked(pattern: &Pattern<'_>) -> usize
     ensures { result ≡ length (asked_of 0 pattern.now.cells.now) }
 {
-    // for the proof: read, so that it is known to be a number of 32 bits.
-    let _cells = pattern.system.cells;
     let mut count = 0;
     for cell in pattern.cells {
         count += asked_for(cell);
@@ -118,8 +112,6 @@ fn check_cell(
         ≡ length worlds.now) }
     ensures err { IfErr result (λ fault. fault_from pattern.now worlds.now number line ≡ Err fault) }
 {
-    // for the proof: read, so that it is known to be a number of 32 bits.
-    let _cells = pattern.system.cells;
     if !pattern.cells[number].kind.is_primary() {
         return Ok(line);
     }

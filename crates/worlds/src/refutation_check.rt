@@ -146,8 +146,6 @@ fn first_sum(
     if let Some(place) = misplaced_multiplier(listed, relations.len() as u32) {
         return Err(RefutationFault::Order(place));
     }
-    // Read, so that it is known to be a number of 32 bits.
-    let _cells = pattern.system.cells;
     gather(relations, cell, side, multipliers.den, listed, scratch)?;
     sum_shares(pattern.cells, pattern.hidden.flags.as_slice(), scratch)
 }

@@ -1,4 +1,4 @@
-use Rattle.std.proofs.Common.{◌≡◌, ◌<◌, List, true, false, length, arith, ap, subst, sym, ◌∙◌}
+use Rattle.std.proofs.Common.{◌≡◌, List, true, false, length, arith, ap, subst, sym, ◌∙◌}
 use Rattle.sdc_base.specs.declared.relation.Relation.{Relation}
 use Rattle.flow_worlds.specs.Searches.{is_reached}
 use Rattle.flow_worlds.proofs.Cutting.{cut_is, forward_stops, backward_stops, backward_ends}

@@ -2,6 +2,7 @@ use Rattle.std.proofs.Common.{refl, sym, ◌∙◌, ap}
 use Rattle.flow_worlds.specs.declared.search.Visit.{Visit}
 use Rattle.flow_worlds.specs.Steps.{step_from}
 use Rattle.flow_worlds.specs.Arcs.{arc_at}
+use Rattle.flow_worlds.specs.Searches.{first_step}
 use Rattle.flow_worlds.proofs.Searching.{IsNext, gone_on, read_visit, flag_unmet}
 use Rattle.flow_worlds.proofs.search.go_over.Goals as goal
 
@@ -18,4 +19,4 @@ returns-clause-search c =
       opened = sym c.is_open.ensures ∙ c.if-not-is_open.false;
       unmet = flag_unmet c.args.search.now.reached.items c.step_from-step.result.end c.index-2.result.now c.index-2.ensures c.if-index.false;
     } in
-    gone_on c.args.task.now c.args.moves.now c.args.forward c.args.first visits c.push.new.self.items c.args.search.now.reached.items _ c.args.place c.args.cell c.step_from-step.result c.requires.task c.requires.asked c.requires.search next c.in_ok-push.ensures.items refl
+    gone_on c.args.task.now c.args.moves.now c.args.forward (first_step c.args.search.now) visits c.push.new.self.items c.args.search.now.reached.items _ c.args.place c.args.cell c.step_from-step.result c.requires.task c.requires.asked c.requires.search next c.in_ok-push.ensures.items refl

@@ -35,7 +35,6 @@ invariant_of-inquiry c =
     subst (λ (of : List (Option ℕ)). AreComponents c.args.system.now.relations c.args.hidden.now.flags of c.in_ok-grouping.grouping.sizes) (sym c.as_slice-of.ensures) c.in_ok-grouping.ensures in
     let size : c.len-size.result ≡ length c.in_ok-members.members.items = search rules in
     record {
-      one_each = c.requires.ground;
       met_are = c.list_of-met.ensures c.args.system.now.relations (length c.in_ok-grouping.grouping.sizes)
           (ap lists_in c.as_slice-rows.ensures.value ∙ c.in_ok-lists.ensures ∙ ap (λ (of : List (Option ℕ)). rows_of c.args.system.now.relations of (length c.in_ok-grouping.grouping.sizes)) (sym c.as_slice-of.ensures));
       within_most_members = omega (arith, size, ap (λ (xs : List ℕ). length xs) c.in_ok-members.ensures, c.if-size-gt-MOST_MEMBERS.false);

@@ -16,7 +16,7 @@ problem_over-requires-clause-met c = c.args.inquiry.now.met_are
 pub start-requires : goal.start-requires
 start-requires c =
     let group : Group = group_of c.args.inquiry.now.of.now c.args.inquiry.now.question.cell in
-    subst IsWellFormed (sym c.in_ok-problem.ensures) (problem_is c.args.inquiry.now.system.now c.args.inquiry.now.cells.now group c.args.inquiry.now.question c.args.inquiry.now.within_most_members)
+    subst IsWellFormed (sym c.in_ok-problem.ensures) (problem_is c.args.inquiry.now.pattern.system.now c.args.inquiry.now.pattern.cells.now group c.args.inquiry.now.question c.args.inquiry.now.within_most_members)
 
 pub finish-requires-2-clause-ended : goal.finish-requires-2-clause-ended
 finish-requires-2-clause-ended c =
@@ -25,18 +25,18 @@ finish-requires-2-clause-ended c =
 pub returns-clause-read : goal.returns-clause-read
 returns-clause-read c =
     let group : Group = group_of c.args.inquiry.now.of.now c.args.inquiry.now.question.cell in
-    if_ok_more (λ (answer : Answer). IsReadOff c.args.inquiry.now.system.now c.args.inquiry.now.cells.now group c.walk.tableau answer) (λ (answer : Answer). IsWalkAnswerIn c.args.inquiry.now.system.now c.args.inquiry.now.cells.now group c.args.inquiry.now.question answer)
+    if_ok_more (λ (answer : Answer). IsReadOff c.args.inquiry.now.pattern.system.now c.args.inquiry.now.pattern.cells.now group c.walk.tableau answer) (λ (answer : Answer). IsWalkAnswerIn c.args.inquiry.now.pattern.system.now c.args.inquiry.now.pattern.cells.now group c.args.inquiry.now.question answer)
     c.finish-2.result (λ answer own. (c.walk.tableau, c.read_state-2.ensures.walked, c.walk.invariant.problem, own)) c.finish-2.ensures.read
 
 pub returns-then-can_improve-clause-short : goal.returns-then-can_improve-clause-short
 returns-then-can_improve-clause-short c =
     let inquiry = c.args.inquiry.now in
     let past : c.args.limit ≤ c.walk.made = omega (arith, c.walk-test.false) in
-    limit_below inquiry.system.now inquiry.cells.now (group_of inquiry.of.now inquiry.question.cell) inquiry.question c.args.limit c.walk.made c.walk.tableau.improved c.walk.tableau.problem past c.walk.invariant.improved c.walk.invariant.problem c.read_state-2.ensures.short
+    limit_below inquiry.pattern.system.now inquiry.pattern.cells.now (group_of inquiry.of.now inquiry.question.cell) inquiry.question c.args.limit c.walk.made c.walk.tableau.improved c.walk.tableau.problem past c.walk.invariant.improved c.walk.invariant.problem c.read_state-2.ensures.short
 
 pub returns-clause-made : goal.returns-clause-made
 returns-clause-made c =
     let group : Group = group_of c.args.inquiry.now.of.now c.args.inquiry.now.question.cell in
     let most : c.walk.tableau.improved ≤ c.args.limit = omega (arith, c.walk.invariant.improved) in
-    if_ok_more (λ (answer : Answer). IsReadOff c.args.inquiry.now.system.now c.args.inquiry.now.cells.now group c.walk.tableau answer) (λ (answer : Answer). IsWalkAnswerWithin c.args.inquiry.now.system.now c.args.inquiry.now.cells.now group c.args.inquiry.now.question c.args.limit answer)
+    if_ok_more (λ (answer : Answer). IsReadOff c.args.inquiry.now.pattern.system.now c.args.inquiry.now.pattern.cells.now group c.walk.tableau answer) (λ (answer : Answer). IsWalkAnswerWithin c.args.inquiry.now.pattern.system.now c.args.inquiry.now.pattern.cells.now group c.args.inquiry.now.question c.args.limit answer)
     c.finish-2.result (λ answer own. (c.walk.tableau, c.read_state-2.ensures.walked, c.walk.invariant.problem, own, most)) c.finish-2.ensures.read

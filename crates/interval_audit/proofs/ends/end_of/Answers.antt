@@ -15,21 +15,21 @@ ask-requires-clause-hidden c = subst (λ (one : ℕ). is_hidden c.args.hidden.no
 pub returns-clause-right : goal.returns-clause-right
 returns-clause-right c =
     if_ok_more (λ (answer : Answer). IsTrueAnswer c.args.system.now c.args.cells.now c.args.hidden.now.flags c.end_question-question.result answer)
-    (λ (answer : Answer). IsTrueEnd c.args.system.now c.args.cells.now c.args.hidden.now.flags c.args.cell c.args.side answer)
+    (λ (answer : Answer). IsTrueEnd c.args.system.now c.args.cells.now c.args.hidden.now.flags c.args.asked.0 c.args.asked.1 answer)
     c.ask.result (λ answer own. (c.end_question-question.result, c.end_question-question.ensures, own)) c.ask.ensures.right
 
 pub returns-clause-read : goal.returns-clause-read
 returns-clause-read c =
     if_ok_more (λ (answer : Answer). IsAnswerOf c.args.system.now c.args.cells.now c.args.hidden.now.flags c.end_question-question.result answer)
-    (λ (answer : Answer). IsEndAnswer c.args.system.now c.args.cells.now c.args.hidden.now.flags c.args.cell c.args.side answer)
+    (λ (answer : Answer). IsEndAnswer c.args.system.now c.args.cells.now c.args.hidden.now.flags c.args.asked.0 c.args.asked.1 answer)
     c.ask.result (λ answer own. (c.end_question-question.result, c.end_question-question.ensures, own)) c.ask.ensures.read
 
 pub returns-clause-whole : goal.returns-clause-whole
 returns-clause-whole c =
-    if_whole_end c.args.system.now c.args.cells.now c.args.hidden.now.flags c.args.cell c.args.side c.end_question-question.result c.ask.result c.end_question-question.ensures c.ask.ensures.right c.ask.ensures.read
+    if_whole_end c.args.system.now c.args.cells.now c.args.hidden.now.flags c.args.asked.0 c.args.asked.1 c.end_question-question.result c.ask.result c.end_question-question.ensures c.ask.ensures.right c.ask.ensures.read
 
 pub returns-clause-cause : goal.returns-clause-cause
 returns-clause-cause c =
     if_err_more (λ (fault : AskFault). IsCauseOf c.args.system.now c.args.cells.now c.args.hidden.now.flags c.end_question-question.result c.args.limit fault)
-    (λ (fault : AskFault). IsEndCause c.args.system.now c.args.cells.now c.args.hidden.now.flags c.args.cell c.args.side c.args.limit fault)
+    (λ (fault : AskFault). IsEndCause c.args.system.now c.args.cells.now c.args.hidden.now.flags c.args.asked.0 c.args.asked.1 c.args.limit fault)
     c.ask.result (λ fault own. (c.end_question-question.result, c.end_question-question.ensures, own)) c.ask.ensures.cause

@@ -10,7 +10,7 @@ use Rattle.interval_audit.proofs.finish.finish.Goals as goal
 pub returns-then-is_product-clause-right : goal.returns-then-is_product-clause-right
 returns-then-is_product-clause-right c =
     let group : Group = group_of c.args.inquiry.now.of.now c.args.inquiry.now.question.cell in
-    let read : IsWorldReading c.args.inquiry.now.system.now c.args.inquiry.now.cells.now c.args.inquiry.now.hidden.now.flags c.args.inquiry.now.question (state_of c.args.tableau) c.in_ok-world.world = read_off c.args.inquiry.now.system.now c.args.inquiry.now.cells.now c.args.inquiry.now.hidden.now.flags group c.args.inquiry.now.question (state_of c.args.tableau) c.in_ok-world.world c.args.inquiry.now.one_each.each_cell c.args.inquiry.now.group c.requires.problem c.read_state.ensures.stands c.in_ok-world.ensures.world in
+    let read : IsWorldReading c.args.inquiry.now.pattern.system.now c.args.inquiry.now.pattern.cells.now c.args.inquiry.now.pattern.hidden.now.flags c.args.inquiry.now.question (state_of c.args.tableau) c.in_ok-world.world = read_off c.args.inquiry.now.pattern.system.now c.args.inquiry.now.pattern.cells.now c.args.inquiry.now.pattern.hidden.now.flags group c.args.inquiry.now.question (state_of c.args.tableau) c.in_ok-world.world c.args.inquiry.now.pattern.one_each.each_cell c.args.inquiry.now.group c.requires.problem c.read_state.ensures.stands c.in_ok-world.ensures.world in
     let den : FitsSigned w128 c.in_ok-world.world.den = search rules in
     let num : FitsSigned w128 c.asked_in-num.result = search rules in
     let target : FitsSigned w128 c.args.inquiry.now.question.target = search rules in
@@ -20,21 +20,21 @@ returns-then-is_product-clause-right c =
 pub returns-then-is_product-clause-read : goal.returns-then-is_product-clause-read
 returns-then-is_product-clause-read c =
     let group : Group = group_of c.args.inquiry.now.of.now c.args.inquiry.now.question.cell in
-    let read : IsWorldReading c.args.inquiry.now.system.now c.args.inquiry.now.cells.now c.args.inquiry.now.hidden.now.flags c.args.inquiry.now.question (state_of c.args.tableau) c.in_ok-world.world = read_off c.args.inquiry.now.system.now c.args.inquiry.now.cells.now c.args.inquiry.now.hidden.now.flags group c.args.inquiry.now.question (state_of c.args.tableau) c.in_ok-world.world c.args.inquiry.now.one_each.each_cell c.args.inquiry.now.group c.requires.problem c.read_state.ensures.stands c.in_ok-world.ensures.world in
+    let read : IsWorldReading c.args.inquiry.now.pattern.system.now c.args.inquiry.now.pattern.cells.now c.args.inquiry.now.pattern.hidden.now.flags c.args.inquiry.now.question (state_of c.args.tableau) c.in_ok-world.world = read_off c.args.inquiry.now.pattern.system.now c.args.inquiry.now.pattern.cells.now c.args.inquiry.now.pattern.hidden.now.flags group c.args.inquiry.now.question (state_of c.args.tableau) c.in_ok-world.world c.args.inquiry.now.pattern.one_each.each_cell c.args.inquiry.now.group c.requires.problem c.read_state.ensures.stands c.in_ok-world.ensures.world in
     let ended : IsAtEnd (state_of c.args.tableau) = at_end c.args.tableau c.read_state.ensures.reached c.read_state.ensures.blocked c.requires.ended in
-    let reached = reached_where c.args.inquiry.now.system.now c.args.inquiry.now.cells.now c.args.inquiry.now.hidden.now.flags group c.args.inquiry.now.question (state_of c.args.tableau) c.in_ok-world.world c.requires.problem read ended ((returns-then-is_product-clause-right c).exactly) in
+    let reached = reached_where c.args.inquiry.now.pattern.system.now c.args.inquiry.now.pattern.cells.now c.args.inquiry.now.pattern.hidden.now.flags group c.args.inquiry.now.question (state_of c.args.tableau) c.in_ok-world.world c.requires.problem read ended ((returns-then-is_product-clause-right c).exactly) in
     (sym c.read_state.ensures.objective ∙ reached.reached, c.in_ok-world.ensures.world)
 
 pub stop-requires-clause-stuck : goal.stop-requires-clause-stuck
 stop-requires-clause-stuck c =
     let group : Group = group_of c.args.inquiry.now.of.now c.args.inquiry.now.question.cell in
-    let read : IsWorldReading c.args.inquiry.now.system.now c.args.inquiry.now.cells.now c.args.inquiry.now.hidden.now.flags c.args.inquiry.now.question (state_of c.args.tableau) c.in_ok-world.world = read_off c.args.inquiry.now.system.now c.args.inquiry.now.cells.now c.args.inquiry.now.hidden.now.flags group c.args.inquiry.now.question (state_of c.args.tableau) c.in_ok-world.world c.args.inquiry.now.one_each.each_cell c.args.inquiry.now.group c.requires.problem c.read_state.ensures.stands c.in_ok-world.ensures.world in
+    let read : IsWorldReading c.args.inquiry.now.pattern.system.now c.args.inquiry.now.pattern.cells.now c.args.inquiry.now.pattern.hidden.now.flags c.args.inquiry.now.question (state_of c.args.tableau) c.in_ok-world.world = read_off c.args.inquiry.now.pattern.system.now c.args.inquiry.now.pattern.cells.now c.args.inquiry.now.pattern.hidden.now.flags group c.args.inquiry.now.question (state_of c.args.tableau) c.in_ok-world.world c.args.inquiry.now.pattern.one_each.each_cell c.args.inquiry.now.group c.requires.problem c.read_state.ensures.stands c.in_ok-world.ensures.world in
     let ended : IsAtEnd (state_of c.args.tableau) = at_end c.args.tableau c.read_state.ensures.reached c.read_state.ensures.blocked c.requires.ended in
     let den : FitsSigned w128 c.in_ok-world.world.den = search rules in
     let num : FitsSigned w128 c.asked_in-num.result = search rules in
     let target : FitsSigned w128 c.args.inquiry.now.question.target = search rules in
     let no = simp to_z-of_z at c.is_product.ensures.no in
-    blocked_where c.args.inquiry.now.system.now c.args.inquiry.now.cells.now c.args.inquiry.now.hidden.now.flags group c.args.inquiry.now.question (state_of c.args.tableau) c.in_ok-world.world c.requires.problem read ended
+    blocked_where c.args.inquiry.now.pattern.system.now c.args.inquiry.now.pattern.cells.now c.args.inquiry.now.pattern.hidden.now.flags group c.args.inquiry.now.question (state_of c.args.tableau) c.in_ok-world.world c.requires.problem read ended
     (λ same. let yes : c.is_product.result ≡ true = no (c.asked_in-num.ensures ∙ same) in let clash : true ≡ false = sym yes ∙ c.if-is_product.false in absurd cc)
 
 pub stop-requires-clause-blocked : goal.stop-requires-clause-blocked

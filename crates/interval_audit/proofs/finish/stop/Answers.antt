@@ -12,29 +12,29 @@ use Rattle.interval_audit.proofs.finish.stop.Goals as goal
 pub wide_at-wide-requires-clause-positive : goal.wide_at-wide-requires-clause-positive
 wide_at-wide-requires-clause-positive c =
     let group : Group = group_of c.args.inquiry.now.of.now c.args.inquiry.now.question.cell in
-    let read : AreMultipliersOf c.args.inquiry.now.system.now c.args.inquiry.now.cells.now group c.args.tableau.table.den c.requires.stuck.weights c.in_ok-multipliers.multipliers = c.in_ok-multipliers.ensures c.requires.stuck in
+    let read : AreMultipliersOf c.args.inquiry.now.pattern.system.now c.args.inquiry.now.pattern.cells.now group c.args.tableau.table.den c.requires.stuck.weights c.in_ok-multipliers.multipliers = c.in_ok-multipliers.ensures c.requires.stuck in
     read.lowest.positive
 
 pub wide_at-wide-requires-clause-listed : goal.wide_at-wide-requires-clause-listed
 wide_at-wide-requires-clause-listed c =
     let group : Group = group_of c.args.inquiry.now.of.now c.args.inquiry.now.question.cell in
-    read_listed c.args.inquiry.now.system.now c.args.inquiry.now.cells.now group c.args.tableau.table.den c.requires.stuck.weights c.in_ok-multipliers.multipliers (c.in_ok-multipliers.ensures c.requires.stuck)
+    read_listed c.args.inquiry.now.pattern.system.now c.args.inquiry.now.pattern.cells.now group c.args.tableau.table.den c.requires.stuck.weights c.in_ok-multipliers.multipliers (c.in_ok-multipliers.ensures c.requires.stuck)
 
 pub wide_at-wide-requires-clause-bounded : goal.wide_at-wide-requires-clause-bounded
 wide_at-wide-requires-clause-bounded c =
     let group : Group = group_of c.args.inquiry.now.of.now c.args.inquiry.now.question.cell in
-    read_bounded c.args.inquiry.now.system.now c.args.inquiry.now.cells.now c.args.inquiry.now.hidden.now.flags group c.args.inquiry.now.question (state_of c.args.tableau) c.in_ok-multipliers.multipliers c.args.inquiry.now.one_each.each_cell c.args.inquiry.now.group c.requires.problem c.requires.stuck (c.in_ok-multipliers.ensures c.requires.stuck)
+    read_bounded c.args.inquiry.now.pattern.system.now c.args.inquiry.now.pattern.cells.now c.args.inquiry.now.pattern.hidden.now.flags group c.args.inquiry.now.question (state_of c.args.tableau) c.in_ok-multipliers.multipliers c.args.inquiry.now.pattern.one_each.each_cell c.args.inquiry.now.group c.requires.problem c.requires.stuck (c.in_ok-multipliers.ensures c.requires.stuck)
 
 pub returns-in-Some-clause-cause : goal.returns-in-Some-clause-cause
 returns-in-Some-clause-cause c = λ limit.
     let group : Group = group_of c.args.inquiry.now.of.now c.args.inquiry.now.question.cell in
-    let read = slacks_read c.args.inquiry.now.system.now c.args.inquiry.now.cells.now group c.args.tableau.table.den (slacks_of c.args.tableau.problem c.args.tableau.table) c.requires.stuck.weights c.in_ok-multipliers.multipliers (has_slacks c.args.inquiry.now.system.now c.args.inquiry.now.cells.now group c.args.inquiry.now.question (state_of c.args.tableau) c.requires.problem c.requires.stuck) (c.in_ok-multipliers.ensures c.requires.stuck) in
+    let read = slacks_read c.args.inquiry.now.pattern.system.now c.args.inquiry.now.pattern.cells.now group c.args.tableau.table.den (slacks_of c.args.tableau.problem c.args.tableau.table) c.requires.stuck.weights c.in_ok-multipliers.multipliers (has_slacks c.args.inquiry.now.pattern.system.now c.args.inquiry.now.pattern.cells.now group c.args.inquiry.now.question (state_of c.args.tableau) c.requires.problem c.requires.stuck) (c.in_ok-multipliers.ensures c.requires.stuck) in
     (refl, c.requires.problem, (c.requires.blocked, c.in_ok-multipliers.multipliers, read, c.in-Some.ensures.wide), c.args.inquiry.now.within_most_members, c.requires.walked)
 
 pub returns-clause-read : goal.returns-clause-read
 returns-clause-read c =
     let group : Group = group_of c.args.inquiry.now.of.now c.args.inquiry.now.question.cell in
-    let read = slacks_read c.args.inquiry.now.system.now c.args.inquiry.now.cells.now group c.args.tableau.table.den (slacks_of c.args.tableau.problem c.args.tableau.table) c.requires.stuck.weights c.in_ok-multipliers.multipliers (has_slacks c.args.inquiry.now.system.now c.args.inquiry.now.cells.now group c.args.inquiry.now.question (state_of c.args.tableau) c.requires.problem c.requires.stuck) (c.in_ok-multipliers.ensures c.requires.stuck) in
+    let read = slacks_read c.args.inquiry.now.pattern.system.now c.args.inquiry.now.pattern.cells.now group c.args.tableau.table.den (slacks_of c.args.tableau.problem c.args.tableau.table) c.requires.stuck.weights c.in_ok-multipliers.multipliers (has_slacks c.args.inquiry.now.pattern.system.now c.args.inquiry.now.pattern.cells.now group c.args.inquiry.now.question (state_of c.args.tableau) c.requires.problem c.requires.stuck) (c.in_ok-multipliers.ensures c.requires.stuck) in
     (c.requires.blocked, c.requires.world, read)
 
 pub returns-clause-right : goal.returns-clause-right
@@ -43,7 +43,7 @@ returns-clause-right c =
     let num : FitsSigned w128 c.args.num = c.ranges.num in
     let den : FitsSigned w128 c.args.world.den = search rules in
     let none : c.wide_at-wide.result ≡ None = none_else c.wide_at-wide.result (c.in_default.not-Some) in
-    does_stop c.args.inquiry.now.system.now c.args.inquiry.now.cells.now c.args.inquiry.now.hidden.now.flags group c.args.inquiry.now.question (state_of c.args.tableau) c.args.world c.in_ok-multipliers.multipliers
+    does_stop c.args.inquiry.now.pattern.system.now c.args.inquiry.now.pattern.cells.now c.args.inquiry.now.pattern.hidden.now.flags group c.args.inquiry.now.question (state_of c.args.tableau) c.args.world c.in_ok-multipliers.multipliers
     (record { num = to_z w128 (of_z w128 c.args.num); den = to_z w128 (of_z w128 c.args.world.den) })
-    c.args.inquiry.now.one_each.each_cell c.args.inquiry.now.group c.requires.problem c.requires.stuck c.requires.world (c.in_ok-multipliers.ensures c.requires.stuck)
+    c.args.inquiry.now.pattern.one_each.each_cell c.args.inquiry.now.group c.requires.problem c.requires.stuck c.requires.world (c.in_ok-multipliers.ensures c.requires.stuck)
     (to_z-of_z w128 c.args.world.den den) (to_z-of_z w128 c.args.num num ∙ c.requires.num) (c.wide_at-wide.ensures.sum none) (c.wide_at-wide.ensures.product none)

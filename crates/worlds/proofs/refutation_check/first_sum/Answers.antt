@@ -1,4 +1,4 @@
-use Rattle.std.proofs.Common.{◌≡◌, ◌∙◌, ℕ, sym, length, to_z, of_z, arith, Fits, FitsSigned, w32, rules}
+use Rattle.std.proofs.Common.{◌≡◌, ◌∙◌, ℕ, sym, length, to_z, of_z, arith, FitsSigned, rules}
 use Rattle.std.specs.Int.{w128}
 use Rattle.std.proofs.lemmas.Int.{to_z-of_z}
 use Rattle.sdc_base.specs.Forms.{coefficient}
@@ -14,8 +14,7 @@ gather-requires-clause-relations c = (listed_where_none (length c.as_slice-relat
 
 pub sum_shares-requires-clause-fewer_than_2_32 : goal.sum_shares-requires-clause-fewer_than_2_32
 sum_shares-requires-clause-fewer_than_2_32 c =
-    let fits : Fits w32 c.args.pattern.now.system.now.cells = search rules in
-    omega (arith, fits, c.args.pattern.now.one_each.each_cell)
+    omega (arith, c.args.pattern.now.system.now.below_2_32, c.args.pattern.now.one_each.each_cell)
 
 pub returns-clause-coefficients : goal.returns-clause-coefficients
 returns-clause-coefficients c =
