@@ -1,5 +1,5 @@
 -- Marks and priors side by side.
-use Rattle.std.proofs.Common.{◌≡◌, ◌<◌, ◌≤◌, ◌+◌, ◌++◌, ◌∷◌, [], ℕ, List, length, take, map, get_or, None, ap, sym, ◌∙◌, arith}
+use Rattle.std.proofs.Common.{◌≡◌, ◌<◌, ◌≤◌, ◌+◌, ◌++◌, ◌∷◌, [], ℕ, List, length, take, map, get_or, None, ap, sym, ◌∙◌, arith, refl, true, false, cond, ◌==◌, ◌||◌, is_some}
 use Rattle.std.specs.List.{zip}
 use Rattle.std.proofs.lemmas.List.{take_more, take_all, map-append, get_or-map, length-map}
 use Rattle.std.proofs.lemmas.List.Sums.{fold_more}
@@ -11,8 +11,10 @@ use Rattle.sdc_base.specs.declared.cell.Cell.{Cell}
 use Rattle.linked_tables.specs.declared.mark.Mark.{Mark}
 use Rattle.apriori.specs.declared.prior.Prior.{Prior}
 use Rattle.apriori.specs.Priors.{IsPriorOf, ArePriors}
-use Rattle.apriori.specs.Settling.{SettledCell, view_of_cell, told_of, settled_cell}
-use Rattle.apriori.specs.PrimaryShown.{clash_of, first_of, first_clash}
+use Rattle.apriori.specs.Settling.{SettledCell, view_of_cell, told_of, settled_cell, other_kind}
+use Rattle.apriori.specs.CellLevels.{is_primary}
+use Rattle.sdc_base.specs.declared.cell.Kind.TheVariants.{Primary, Free, Fixed}
+use Rattle.apriori.specs.PrimaryShown.{clash_of, clash_by_kind, first_of, first_clash}
 
 within : (figures : List Figures) (priors : List Prior) (cell : ℕ) → length priors ≡ length figures → cell < length priors → cell < length (zip figures priors)
 within marks priors cell same inside = let e = length-zip marks priors in omega (arith, same, inside, e)
@@ -22,6 +24,18 @@ pub prior_at : (marks : List Mark) (priors : List Prior) (cell : ℕ) (d : Mark)
 prior_at marks priors cell d e are inside =
     let known : cell < length marks = omega (arith, inside, are.one_each) in
     are.each cell (get_or marks cell d) (get_or priors cell e) (slice_get-get_or marks cell d known) (slice_get-get_or priors cell e inside)
+
+-- by its kind a settled cell has the line that its figures give
+pub clash_by_cell : (rules : Rules) (figures : Figures) (prior : Prior) (cell : Cell) → view_of_cell cell ≡ settled_cell rules figures prior → clash_by_kind cell.kind prior ≡ clash_of rules figures prior
+clash_by_cell rules figures prior cell is =
+    ap (λ (settled : SettledCell). clash_by_kind settled.kind prior) is
+    ∙ elim (is_primary rules figures prior) as (λ t. clash_by_kind (cond t Primary (other_kind figures prior)) prior ≡ cond t prior.keep None) [
+      | true ↦ refl
+      | false ↦ elim ((figures.freq == 0) || is_some prior.keep) as (λ t. clash_by_kind (cond t Fixed Free) prior ≡ None) [
+        | true ↦ refl
+        | false ↦ refl
+      ]
+    ]
 
 pub clash_more : (rules : Rules) (marks : List Mark) (priors : List Prior) (cell : ℕ) (d : Mark) (e : Prior) → length priors ≡ length marks → cell < length priors
     → first_clash rules (take (cell + 1) (zip (told_of marks) priors)) ≡ first_of (first_clash rules (take cell (zip (told_of marks) priors))) (clash_of rules (figures_of_facts (get_or marks cell d).facts) (get_or priors cell e))

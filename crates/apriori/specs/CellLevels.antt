@@ -1,6 +1,6 @@
 -- The protection levels of a cell: by the rules, by what is stated of it, and whether it is primary (handbook,
 -- sensitive cells and protection levels; a priori statements: own).
-use Rattle.std.specs.Prelude.{◌≤◌, Bool, is_some, if◌then◌else◌, Option, None, Some, unwrap_or, option_map, ℤ, pos, ◌≤ℤ◌, int_lt}
+use Rattle.std.specs.Prelude.{Bool, is_some, if◌then◌else◌, Option, None, Some, unwrap_or, option_map, ℤ, pos, ◌≤ℤ◌, int_lt}
 use Rattle.sdc_base.specs.RuleLevels.{Figures, level_of, manual_of}
 use Rattle.sdc_base.specs.declared.facts.Levels.{Levels}
 use Rattle.sdc_base.specs.declared.cell.Cell.{Cell}

@@ -1,6 +1,8 @@
 -- The line by which a primary cell is to be always shown, which is a fault (own).
 use Rattle.std.specs.Prelude.{◌==◌, ◌||◌, ◌&&◌, nat_lt, Bool, if◌then◌else◌, List, fold, Option, None, Some, Result, Ok, Err}
 use Rattle.sdc_base.specs.RuleLevels.{Figures}
+use Rattle.sdc_base.specs.declared.cell.Kind.{Kind}
+use Rattle.sdc_base.specs.declared.cell.Kind.TheVariants.{Primary}
 use Rattle.sdc_base.specs.declared.rule.Rules.{Rules}
 use Rattle.apriori.specs.declared.prior.Prior.{Prior}
 use Rattle.apriori.specs.declared.faults.PriorWhy.{PriorWhy}
@@ -21,6 +23,11 @@ first_of (Some one) (Some other) = Some (if is_before other one then other else 
 -- the line by which a primary cell is to be always shown
 abbrev pub clash_of : Rules → Figures → Prior → Option LineOf
 clash_of rules cell prior = if is_primary rules cell prior then prior.keep else None
+
+-- the same by the kind that the cell is of
+abbrev pub clash_by_kind : Kind → Prior → Option LineOf
+clash_by_kind Primary prior = prior.keep
+clash_by_kind other prior = None
 
 -- the first of these lines, over all cells
 abbrev pub first_clash : Rules → List (Figures × Prior) → Option LineOf

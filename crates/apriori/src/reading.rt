@@ -48,14 +48,14 @@ pub(crate) fn statement_of(
     Ok(Statement { line, cell, claim })
 }
 
-// How many variables a table spans.
+// How many variables a table spans; one that the book doesn't have spans none.
 fn width_of(book: &Book, table: u32) -> usize
     ensures { result ≡ length (known_cells.variables_of_table (basis_of book.now) table) }
 {
-    match book.spans(table) {
-        Some(spanned) => spanned.as_slice().len(),
-        None => 0,
-    }
+    let Some(spanned) = book.spans(table) else {
+        return 0;
+    };
+    spanned.as_slice().len()
 }
 
 // The keyword in front, behind which as many fields stand as it has.

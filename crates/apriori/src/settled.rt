@@ -7,8 +7,8 @@ ghost use Rattle.sdc_base.specs.Truths.{IsTruth};
 ghost use Rattle.apriori.specs.Priors.{CanBeLevels, AreBounds, IsPriorOf};
 ghost use Rattle.apriori.specs.Settling.{view_of_cell};
 ghost use Rattle.apriori.specs.CellLevels.{AreOpen, HasLevelsInRange};
+ghost use Rattle.apriori.specs.PrimaryShown.{clash_by_kind};
 ghost use Rattle.apriori.specs.Settling as spec;
-ghost use Rattle.apriori.specs.PrimaryShown as primary_shown;
 ghost use Rattle.apriori.specs.CellLevels as cell_levels;
 
 use crate::prior::{Prior, Status};
@@ -48,18 +48,14 @@ pub(crate) fn settled_cell(rules: &Rules, facts: &CellFacts, prior: &Prior) -> C
     }
 }
 
-/// The line by which a primary cell is to be always shown.
-pub(crate) fn clash_of(rules: &Rules, facts: &CellFacts, prior: &Prior) -> Option<(u32, u32)>
-    requires in_range { AreInRange rules.now }
-    requires truth { IsTruth facts.now.truth }
-    requires kept { keep_of rules.now.list ≤ facts.now.tops.keep }
-    requires prior { IsPriorOf facts.now prior.now }
-    ensures { result ≡ primary_shown.clash_of rules.now (figures_of_facts facts.now) prior.now }
+/// The line by which a cell is to be always shown, where it is primary.
+pub(crate) fn clash_of(cell: &Cell, prior: &Prior) -> Option<(u32, u32)>
+    ensures { result ≡ clash_by_kind cell.now.kind prior.now }
 {
-    if primary_levels(rules, facts, prior).is_some() {
-        prior.keep
-    } else {
-        None
+    match cell.kind {
+        Kind::Primary => prior.keep,
+        Kind::Fixed => None,
+        Kind::Free => None,
     }
 }
 
@@ -144,7 +140,7 @@ fn cut_at(truth: i128, levels: Levels) -> Levels
     }
 }
 
-// What an attacker knows that a cell is at least.
+// What an attacker knows that a cell is at least: where nothing is stated, that it isn't below 0.
 fn low_of(truth: i128, bounds: Option<(i128, i128)>) -> i128
     requires truth { IsTruth truth }
     requires bounds { ForSome bounds (AreBounds truth) }
@@ -152,10 +148,10 @@ fn low_of(truth: i128, bounds: Option<(i128, i128)>) -> i128
     ensures from_zero { pos 0 ≤ℤ result }
     ensures within { result ≤ℤ truth }
 {
-    match bounds {
-        Some(bounds) => bounds.0,
-        None => 0,
-    }
+    let Some(bounds) = bounds else {
+        return 0;
+    };
+    bounds.0
 }
 
 // What an attacker knows that a cell is at most, where anything is known.

@@ -27,7 +27,7 @@ use std::alloc::Global;
 /// It takes one prior for each cell, as [`blank_priors`](crate::blank_priors) and [`apply`](crate::apply) make them;
 /// rules in their ranges; and marks with a truth from 0 to `10^29` that keep as many contributions as the rules look
 /// at. `ProtectedPrimary` is given where a primary cell is stated to be always shown, for the first such line by table
-/// and line; want of memory is `Memory`. It looks at each cell twice, and at each rule each time.
+/// and line; want of memory is `Memory`. It looks at each cell once, and at each rule for it.
 ///
 /// Rules and levels are the handbook's (sensitivity rules and protection levels); what is stated beforehand is argus's
 /// own.
@@ -63,51 +63,42 @@ fn settle_cells(
     ensures one_each { IfOk result (λ cells. length cells.items ≡ length marks.now) }
     ensures levels { IfOk result (λ cells. All HasLevelsInRange cells.items) }
 {
-    if let Some((table, line)) = first_clash(marks, rules, priors) {
+    let (cells, clash) = cells_of(alloc, marks, rules, priors)?;
+    if let Some((table, line)) = clash {
         return Err(PriorError::At {
             table,
             line,
             why: PriorWhy::ProtectedPrimary,
         });
     }
-    cells_of(alloc, marks, rules, priors)
+    Ok(cells)
 }
 
-// The first line by which a primary cell is to be always shown.
-fn first_clash(marks: &[Mark], rules: &Rules, priors: &[Prior]) -> Option<(u32, u32)>
-    requires in_range { AreInRange rules.now }
-    requires ready { All (IsReadyFor rules.now) marks.now }
-    requires priors { ArePriors marks.now priors.now }
-    ensures { result ≡ primary_shown.first_clash rules.now (zip (told_of marks.now) priors.now) }
-{
-    let mut first = None;
-    'cells: for (cell, prior) in priors.iter().enumerate() {
-        let clash = clash_of(rules, &marks[cell].facts, prior);
-        first = first_line(first, clash);
-    }
-    first
-}
-
-// What each cell is.
+// What each cell is, with the first line by which a primary cell is to be always shown.
 fn cells_of(
     alloc: Global,
     marks: &[Mark],
     rules: &Rules,
     priors: &[Prior],
-) -> Result<Vec<Cell>, PriorError>
+) -> Result<(Vec<Cell>, Option<(u32, u32)>), PriorError>
     requires in_range { AreInRange rules.now }
     requires ready { All (IsReadyFor rules.now) marks.now }
     requires priors { ArePriors marks.now priors.now }
-    ensures exact { Gives fault_of (λ cells. map view_of_cell cells.items) result
+    ensures exact { Gives fault_of (λ settled. map view_of_cell settled.0.items) result
         (Ok (map (λ cell. spec.settled_cell rules.now cell.0 cell.1) (zip (told_of marks.now) priors.now))) }
-    ensures one_each { IfOk result (λ cells. length cells.items ≡ length marks.now) }
-    ensures levels { IfOk result (λ cells. All HasLevelsInRange cells.items) }
+    ensures clash { IfOk result (λ settled. settled.1
+        ≡ primary_shown.first_clash rules.now (zip (told_of marks.now) priors.now)) }
+    ensures one_each { IfOk result (λ settled. length settled.0.items ≡ length marks.now) }
+    ensures levels { IfOk result (λ settled. All HasLevelsInRange settled.0.items) }
 {
     let mut cells = Vec::new(alloc);
+    let mut clash = None;
     'cells: for (cell, prior) in priors.iter().enumerate() {
-        cells.push(settled_cell(rules, &marks[cell].facts, prior))?;
+        let settled = settled_cell(rules, &marks[cell].facts, prior);
+        clash = first_line(clash, clash_of(&settled, prior));
+        cells.push(settled)?;
     }
-    Ok(cells)
+    Ok((cells, clash))
 }
 
 // The first of two lines that may be there.

@@ -8,6 +8,14 @@ use linked_tables::Book;
 use sdc_base::{Corner, Edge, Few, Items, Memory, Place, with_code};
 use std::alloc::Global;
 
+// A layer of table t: the cells in which the variables behind those of the edges have these codes.
+#[derive(Drop)]
+struct Layer<'a> {
+    book: &'a Book,
+    t: u32,
+    codes: &'a [u32],
+}
+
 /// The corners along edges in table t, by the numbers of their cells upwards, where all further variables of the table
 /// have these codes.
 pub(crate) fn corners_of(
@@ -23,61 +31,52 @@ pub(crate) fn corners_of(
         ≡ spec.corners_of (cell_with_codes book.now t codes.now) edges.now) }
 {
     let mut corners = Vec::new(alloc);
-    add_corners(book, t, edges, codes, &Few::empty(), true, &mut corners)?;
+    let layer = Layer { book, t, codes };
+    add_corners(&layer, edges, &Few::empty(), true, &mut corners)?;
     Ok(Items::new(corners))
 }
 
 // Adds the corners at the places that begin so and go on along the edges that are left.
 fn add_corners(
-    book: &Book,
-    t: u32,
+    layer: &Layer,
     edges: &[Edge],
-    codes: &[u32],
     place: &Place,
     plus: bool,
     corners: &mut Vec<Corner>,
 ) -> Result<(), Memory>
     requires at_most_8 { length edges.now ≤ 8 }
-    requires fewer { length codes.now ≤ 8 }
+    requires fewer { length layer.now.codes.now ≤ 8 }
     ensures { OnOk result (corners.new.items
         ≡ with_corners corners.old.items
-        (corners_beyond (cell_with_codes book.now t codes.now) place.now plus (drop (length place.now) edges.now))) }
+        (corners_beyond (cell_with_codes layer.now.book.now layer.now.t layer.now.codes.now) place.now plus
+        (drop (length place.now) edges.now))) }
 {
     let k = place.len();
     if k >= edges.len() {
-        return add_corner(book, t, codes, place, plus, corners);
+        return add_corner(layer, place, plus, corners);
     }
     let edge = edges[k];
     let own = with_code(place.as_slice(), edge.code);
-    add_corners(book, t, edges, codes, &own, plus, corners)?;
+    add_corners(layer, edges, &own, plus, corners)?;
     let other = with_code(place.as_slice(), edge.other);
-    add_corners(
-        book,
-        t,
-        edges,
-        codes,
-        &other,
-        sign_over(edge, plus),
-        corners,
-    )
+    add_corners(layer, edges, &other, sign_over(edge, plus), corners)
 }
 
-// Adds the corner at a place that these codes complete, where a cell stands there.
+// Adds the corner at a place that the layer's codes complete, where a cell stands there.
 fn add_corner(
-    book: &Book,
-    t: u32,
-    codes: &[u32],
+    layer: &Layer,
     place: &Place,
     plus: bool,
     corners: &mut Vec<Corner>,
 ) -> Result<(), Memory>
-    requires fewer { length codes.now ≤ 8 }
+    requires fewer { length layer.now.codes.now ≤ 8 }
     ensures { OnOk result (corners.new.items
         ≡ with_corners corners.old.items
-        (option_to_list (spec.corner_at (cell_with_codes book.now t codes.now) (place.now, plus)))) }
+        (option_to_list (spec.corner_at (cell_with_codes layer.now.book.now layer.now.t layer.now.codes.now)
+        (place.now, plus)))) }
 {
-    let whole = place_with(place, codes);
-    if let Some(cell) = book.id(t, whole.as_slice()) {
+    let whole = place_with(place, layer.codes);
+    if let Some(cell) = layer.book.id(layer.t, whole.as_slice()) {
         put_in(corners, Corner { cell, plus })?;
     }
     Ok(())

@@ -102,8 +102,8 @@ fn add_edge(parent: u32, code: u32, other: u32, edges: &mut Vec<Edge>) -> Result
 fn code_at(name: &[u32], variable: u32) -> u32
     ensures { result ≡ slice_index name.now variable }
 {
-    match name.get(variable as usize) {
-        Some(code) => *code,
-        None => 0,
-    }
+    let Some(code) = name.get(variable as usize) else {
+        return 0;
+    };
+    *code
 }

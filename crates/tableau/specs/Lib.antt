@@ -18,3 +18,4 @@ pub mod Choices
 pub mod CommonDivisors
 pub mod NewRows
 pub mod FaultPlaces
+pub mod Columns

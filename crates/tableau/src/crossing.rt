@@ -37,19 +37,20 @@ fn crossed_number(e: i128, p: i128, f: i128, g: i128) -> Option<i128>
     Some(number)
 }
 
-// What a number of a row becomes, none where a product for it is wide.
+// What a number of a row becomes, none where a product for it is wide: the numbers at the place are the row's own and the
+// pivot's.
 fn number_outside(
     den: i128,
     p: i128,
     f: i128,
     column: u32,
     place: u32,
-    e: i128,
-    g: i128,
+    numbers: (i128, i128),
 ) -> Option<i128>
-    ensures crossed_value { IfSome result (λ number. number ≡ crossed_value den p f column place e g) }
-    ensures none { IfNone result (list_any is_wide (crossed_products den p f column place e g) ≡ true) }
+    ensures crossed_value { IfSome result (λ number. number ≡ crossed_value den p f column place numbers.0 numbers.1) }
+    ensures none { IfNone result (list_any is_wide (crossed_products den p f column place numbers.0 numbers.1) ≡ true) }
 {
+    let (e, g) = numbers;
     if place == column {
         let Some(product) = narrow_product(f, den) else {
             return None;
@@ -144,7 +145,7 @@ fn crossed_row(
         }
         let here = entry_here(own, i, place);
         let there = entry_here(pivot, j, place);
-        let Some(number) = number_outside(den, p, f, column, place, here.0, there.0) else {
+        let Some(number) = number_outside(den, p, f, column, place, (here.0, there.0)) else {
             return Err(RowFault::Wide(place as usize));
         };
         match put(&mut made, place, number) {
@@ -158,36 +159,50 @@ fn crossed_row(
     Ok(Items::new(made))
 }
 
+// The row and the column at which a table is exchanged, with that row without its den, its den, and its number in the
+// column, which is above 0.
+#[derive(Drop)]
+pub(crate) struct Pivot<'a> {
+    pub(crate) row: usize,
+    pub(crate) column: usize,
+    pub(crate) bare: &'a [(u32, i128)],
+    pub(crate) den: i128,
+    pub(crate) p: i128,
+}
+
 // The pivot's row after the exchange: its den and its number in the column change places.
 fn pivot_row(
     alloc: Global,
     table: &SparseTable,
-    bare: &[(u32, i128)],
-    den: i128,
-    p: i128,
-    row: usize,
-    column: usize,
+    pivot: &Pivot,
 ) -> Result<Items<(u32, i128)>, ExchangeFault>
     requires sound { IsSoundTable table.now }
-    requires row { row < length table.now.members.items }
-    requires column { column < length table.now.others.items }
-    requires pivot { IsPivot table.now row column bare.now den p }
-    ensures ok { IfOk result (λ made. IsNewRow table.now row column row made) }
-    ensures wide { (i j : ℕ) → result ≡ Err (ExchangeFault.Wide i j) → IsWidePlace (table_of table.now) row column i j }
+    requires row { pivot.now.row < length table.now.members.items }
+    requires column { pivot.now.column < length table.now.others.items }
+    requires pivot { IsPivot table.now pivot.now.row pivot.now.column pivot.now.bare.now pivot.now.den pivot.now.p }
+    ensures ok { IfOk result (λ made. IsNewRow table.now pivot.now.row pivot.now.column pivot.now.row made) }
+    ensures wide { (i j : ℕ) → result ≡ Err (ExchangeFault.Wide i j)
+        → IsWidePlace (table_of table.now) pivot.now.row pivot.now.column i j }
 {
     let width = table.others.len() as u32 + 1;
     match crossed_row(
         alloc,
-        den,
+        pivot.den,
         1,
         -1,
-        bare,
-        &[(width, p)],
-        column as u32,
+        pivot.bare,
+        &[(width, pivot.p)],
+        pivot.column as u32,
         width + 1,
     ) {
         Ok(made) => Ok(made),
-        Err(fault) => Err(at_place(row, row, column, table.others.len(), fault)),
+        Err(fault) => Err(at_place(
+            pivot.row,
+            pivot.row,
+            pivot.column,
+            table.others.len(),
+            fault,
+        )),
     }
 }
 
@@ -195,32 +210,40 @@ fn pivot_row(
 fn other_row(
     alloc: Global,
     table: &SparseTable,
-    bare: &[(u32, i128)],
-    den: i128,
-    p: i128,
+    pivot: &Pivot,
     f: i128,
-    row: usize,
-    column: usize,
     k: usize,
 ) -> Result<Items<(u32, i128)>, ExchangeFault>
     requires sound { IsSoundTable table.now }
-    requires row { row < length table.now.members.items }
-    requires column { column < length table.now.others.items }
-    requires pivot { IsPivot table.now row column bare.now den p }
+    requires row { pivot.now.row < length table.now.members.items }
+    requires column { pivot.now.column < length table.now.others.items }
+    requires pivot { IsPivot table.now pivot.now.row pivot.now.column pivot.now.bare.now pivot.now.den pivot.now.p }
     requires within { k ≤ length table.now.members.items }
-    requires other { k ≢ row }
-    requires number { f ≡ coefficient (slice_index_or table.now.rows.items k []) column }
-    ensures ok { IfOk result (λ made. IsNewRow table.now row column k made) }
-    ensures wide { (i j : ℕ) → result ≡ Err (ExchangeFault.Wide i j) → IsWidePlace (table_of table.now) row column i j }
+    requires other { k ≢ pivot.now.row }
+    requires number { f ≡ coefficient (slice_index_or table.now.rows.items k []) pivot.now.column }
+    ensures ok { IfOk result (λ made. IsNewRow table.now pivot.now.row pivot.now.column k made) }
+    ensures wide { (i j : ℕ) → result ≡ Err (ExchangeFault.Wide i j)
+        → IsWidePlace (table_of table.now) pivot.now.row pivot.now.column i j }
 {
     let width = table.others.len() as u32 + 1;
     let own = row_of(table, k);
-    let common = gcd(f.unsigned_abs(), p.unsigned_abs()) as i128;
-    let times = quotient(p, common);
+    let common = gcd(f.unsigned_abs(), pivot.p.unsigned_abs()) as i128;
+    let times = quotient(pivot.p, common);
     let less = quotient(f, common);
-    let whole = match crossed_row(alloc, den, times, less, bare, own, column as u32, width + 1) {
+    let whole = match crossed_row(
+        alloc,
+        pivot.den,
+        times,
+        less,
+        pivot.bare,
+        own,
+        pivot.column as u32,
+        width + 1,
+    ) {
         Ok(whole) => whole,
-        Err(fault) => return Err(at_place(k, row, column, table.others.len(), fault)),
+        Err(fault) => {
+            return Err(at_place(k, pivot.row, pivot.column, table.others.len(), fault));
+        }
     };
     match lowest_row(alloc, whole, width) {
         Ok(made) => Ok(made),
@@ -233,35 +256,32 @@ fn other_row(
 pub(crate) fn made_row(
     alloc: Global,
     table: &SparseTable,
-    bare: &[(u32, i128)],
-    den: i128,
-    p: i128,
+    pivot: &Pivot,
     numbers: &[i128],
-    row: usize,
-    column: usize,
     k: usize,
 ) -> Result<Option<Items<(u32, i128)>>, ExchangeFault>
     requires sound { IsSoundTable table.now }
-    requires row { row < length table.now.members.items }
-    requires column { column < length table.now.others.items }
-    requires pivot { IsPivot table.now row column bare.now den p }
-    requires numbers { numbers.now ≡ column_of table.now column }
+    requires row { pivot.now.row < length table.now.members.items }
+    requires column { pivot.now.column < length table.now.others.items }
+    requires pivot { IsPivot table.now pivot.now.row pivot.now.column pivot.now.bare.now pivot.now.den pivot.now.p }
+    requires numbers { numbers.now ≡ column_of table.now pivot.now.column }
     requires within { k ≤ length table.now.members.items }
-    ensures ok { IfOk result (λ new. IsNewRow table.now row column k
+    ensures ok { IfOk result (λ new. IsNewRow table.now pivot.now.row pivot.now.column k
         (placed_list (slice_index_or table.now.rows.items k []) new)) }
-    ensures wide { (i j : ℕ) → result ≡ Err (ExchangeFault.Wide i j) → IsWidePlace (table_of table.now) row column i j }
+    ensures wide { (i j : ℕ) → result ≡ Err (ExchangeFault.Wide i j)
+        → IsWidePlace (table_of table.now) pivot.now.row pivot.now.column i j }
 {
-    if k == row {
-        match pivot_row(alloc, table, bare, den, p, row, column) {
+    if k == pivot.row {
+        match pivot_row(alloc, table, pivot) {
             Ok(made) => return Ok(Some(made)),
             Err(fault) => return Err(fault),
         }
     }
-    let f = column_number(table, numbers, column, k);
+    let f = column_number(table, numbers, pivot.column, k);
     if f == 0 {
         return Ok(None);
     }
-    match other_row(alloc, table, bare, den, p, f, row, column, k) {
+    match other_row(alloc, table, pivot, f, k) {
         Ok(made) => Ok(Some(made)),
         Err(fault) => Err(fault),
     }

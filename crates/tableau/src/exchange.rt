@@ -6,7 +6,7 @@ ghost use Rattle.tableau.specs.Widths.{IsWidePlace};
 ghost use Rattle.tableau.specs.NewRows.{AreNewRows, AreExchanged, placed_lists};
 ghost use Rattle.tableau.specs.SparseTables.{table_of, width_of, column_of, IsSoundTable};
 
-use crate::crossing::made_row;
+use crate::crossing::{Pivot, made_row};
 use crate::faults::{ExchangeFault, at_place};
 use crate::multiples::{placed, rows_den};
 use crate::numbers_over::{row_numbers, values_over};
@@ -48,11 +48,18 @@ fn new_rows(
     let bare = bare_row(pivot, width);
     let den = den_of(pivot, width);
     let p = column_number(table, numbers, column, row);
+    let at = Pivot {
+        row,
+        column,
+        bare,
+        den,
+        p,
+    };
     let Ok(mut news) = Vec::with_capacity(alloc, table.rows.len()) else {
         return Err(ExchangeFault::Memory);
     };
     for k in 0..table.members.len() + 1 {
-        let new = match made_row(alloc, table, bare, den, p, numbers, row, column, k) {
+        let new = match made_row(alloc, table, &at, numbers, k) {
             Ok(new) => new,
             Err(fault) => return Err(fault),
         };

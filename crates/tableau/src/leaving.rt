@@ -3,8 +3,10 @@ ghost use Rattle.sdc_base.specs.Systems.{number_at};
 ghost use Rattle.tableau.specs.RowLists.{Leaves};
 ghost use Rattle.tableau.specs.Walks.{IsTableOf};
 ghost use Rattle.tableau.specs.Choices.{IsLeaving, AreSlackPlaces};
+ghost use Rattle.tableau.specs.Columns.{IsColumn};
 ghost use Rattle.tableau.specs.SparseTables.{table_of, column_of, IsSoundTable};
 
+use crate::column::Column;
 use crate::lists::compare_lists;
 use crate::problem::Problem;
 use crate::sparse_rows::member_number;
@@ -28,39 +30,34 @@ pub(crate) fn leaving_row(
         → number_at (slice_index_or (table_of table.now).rows k []) column ≤ℤ pos 0) }
     ensures leaves { IfSome result (λ row. Leaves problem.now (table_of table.now) row column) }
 {
+    let entering = Column {
+        problem,
+        table,
+        places,
+        numbers,
+        place: column,
+    };
     let mut best = None;
     for k in 0..table.members.len() {
-        best = choose_leaving(problem, table, places, numbers, column, best, k);
+        best = choose_leaving(&entering, best, k);
     }
     best
 }
 
 // Which row's member leaves among one row more.
-fn choose_leaving(
-    problem: &Problem,
-    table: &SparseTable,
-    places: &[u32],
-    numbers: &[i128],
-    column: usize,
-    best: Option<usize>,
-    k: usize,
-) -> Option<usize>
-    requires sound { IsSoundTable table.now }
-    requires kept { IsTableOf problem.now (table_of table.now) }
-    requires places { AreSlackPlaces problem.now (table_of table.now) places.now }
-    requires column { column < length table.now.others.items }
-    requires numbers { numbers.now ≡ column_of table.now column }
-    requires row { k < length table.now.members.items }
-    requires best { IsLeaving problem.now (table_of table.now) column k best }
-    ensures { IsLeaving problem.now (table_of table.now) column (k + 1) result }
+fn choose_leaving(column: &Column, best: Option<usize>, k: usize) -> Option<usize>
+    requires column { IsColumn column.now }
+    requires row { k < length column.now.table.now.members.items }
+    requires best { IsLeaving column.now.problem.now (table_of column.now.table.now) column.now.place k best }
+    ensures { IsLeaving column.now.problem.now (table_of column.now.table.now) column.now.place (k + 1) result }
 {
-    if member_number(table, numbers, column, k) <= 0 {
+    if member_number(column.table, column.numbers, column.place, k) <= 0 {
         return best;
     }
     let Some(row) = best else {
         return Some(k);
     };
-    match compare_lists(problem, table, places, numbers, column, k, row) {
+    match compare_lists(column, k, row) {
         Ordering::Less => Some(k),
         Ordering::Equal => Some(row),
         Ordering::Greater => Some(row),

@@ -1,6 +1,7 @@
 //! Integer pivoting: a linear problem, and its tables in whole numbers over one denominator.
 #![tactic(auto)]
 
+mod column;
 mod common_divisor;
 mod crossing;
 mod dividing;

@@ -1,11 +1,12 @@
-ghost use Rattle.std.specs.Prelude.{◌≡◌, ◌≢◌, ℕ, ◌+◌, ◌-◌, ◌<◌, ◌≤◌, [], length, slice_index, slice_index_or, pos, ◌*ℤ◌, ◌<ℤ◌, ◌≤ℤ◌, IfOk};
-ghost use Rattle.sdc_base.specs.Systems.{number_at};
-ghost use Rattle.tableau.specs.RowLists.{IsLexPositive, AreZeros, list_of, list_size, lead};
+ghost use Rattle.std.specs.Prelude.{◌≡◌, ◌≢◌, ℕ, ◌+◌, ◌-◌, ◌<◌, ◌≤◌, length, slice_index, pos, ◌*ℤ◌, ◌<ℤ◌, IfOk};
+ghost use Rattle.tableau.specs.RowLists.{IsLexPositive, AreZeros, list_of, list_size};
 ghost use Rattle.tableau.specs.Walks.{IsTableOf};
 ghost use Rattle.tableau.specs.ProblemForm.{IsWellFormed};
 ghost use Rattle.tableau.specs.Choices.{AreSlackPlaces};
-ghost use Rattle.tableau.specs.SparseTables.{table_of, factor_at, column_of, IsSoundTable};
+ghost use Rattle.tableau.specs.Columns.{IsColumn, AreComparable, lead_in};
+ghost use Rattle.tableau.specs.SparseTables.{table_of, factor_at, IsSoundTable};
 
+use crate::column::Column;
 use crate::entries::{entry_here, least_place, place_at};
 use crate::problem::Problem;
 use crate::products::compare_products;
@@ -66,35 +67,30 @@ fn list_number(
 }
 
 // How the number of one row's list at a place, divided by the row's number in a column, stands to that of another.
-fn compare_places(
-    problem: &Problem,
-    table: &SparseTable,
-    places: &[u32],
-    numbers: &[i128],
-    column: usize,
-    one: usize,
-    other: usize,
-    place: usize,
-) -> Ordering
-    requires sound { IsSoundTable table.now }
-    requires kept { IsTableOf problem.now (table_of table.now) }
-    requires places { AreSlackPlaces problem.now (table_of table.now) places.now }
-    requires column { column < length table.now.others.items }
-    requires numbers { numbers.now ≡ column_of table.now column }
-    requires one { one < length table.now.members.items }
-    requires other { other < length table.now.members.items }
-    requires above { pos 1 ≤ℤ number_at (slice_index_or (table_of table.now).rows one []) column }
-    requires other_above { pos 1 ≤ℤ number_at (slice_index_or (table_of table.now).rows other []) column }
-    requires place { place < list_size problem.now }
-    ensures less { result ≡ Ordering.Less → pos 0 <ℤ lead problem.now (table_of table.now) column one other place }
-    ensures equal { result ≡ Ordering.Equal → lead problem.now (table_of table.now) column other one place ≡ pos 0 }
-    ensures greater { result ≡ Ordering.Greater → pos 0 <ℤ lead problem.now (table_of table.now) column other one place }
+fn compare_places(column: &Column, one: usize, other: usize, place: usize) -> Ordering
+    requires column { IsColumn column.now }
+    requires rows { AreComparable column.now one other }
+    requires place { place < list_size column.now.problem.now }
+    ensures less { result ≡ Ordering.Less → pos 0 <ℤ lead_in column.now one other place }
+    ensures equal { result ≡ Ordering.Equal → lead_in column.now other one place ≡ pos 0 }
+    ensures greater { result ≡ Ordering.Greater → pos 0 <ℤ lead_in column.now other one place }
 {
-    let own = member_number(table, numbers, column, one);
-    let other_own = member_number(table, numbers, column, other);
-    let number = list_number(problem, table, places, one, place);
-    let other_number = list_number(problem, table, places, other, place);
+    let own = member_number(column.table, column.numbers, column.place, one);
+    let other_own = member_number(column.table, column.numbers, column.place, other);
+    let number = list_number(column.problem, column.table, column.places, one, place);
+    let other_number = list_number(column.problem, column.table, column.places, other, place);
     compare_products(number, other_own, other_number, own)
+}
+
+// The place of a slack's number in the lists by the slack's name, or the one behind their last where it is a column.
+fn list_place(problem: &Problem, table: &SparseTable, name: u32) -> usize
+    ensures column { name < problem.now.columns → result ≡ length table.now.members.items + 1 }
+    ensures slack { problem.now.columns ≤ name → result ≡ name - problem.now.columns + 1 }
+{
+    if name < problem.columns {
+        return table.members.len() + 1;
+    }
+    (name - problem.columns) as usize + 1
 }
 
 // The place of a member's own slack in the lists, or the one behind their last where it is a column.
@@ -105,18 +101,13 @@ fn own_place(problem: &Problem, table: &SparseTable, k: usize) -> usize
     ensures slack { problem.now.columns ≤ slice_index table.now.members.items k
         → result ≡ slice_index table.now.members.items k - problem.now.columns + 1 }
 {
-    let name = table.members[k];
-    if name < problem.columns {
-        return table.members.len() + 1;
-    }
-    (name - problem.columns) as usize + 1
+    list_place(problem, table, table.members[k])
 }
 
 // A place as far as which two lists are known to be the same, where they are known to be as far as another, and these are
-// the numbers at a column or slack.
+// the numbers at a place.
 fn nearer_place(
-    problem: &Problem,
-    name: u32,
+    place: usize,
     apart: usize,
     number: i128,
     times: i128,
@@ -126,13 +117,8 @@ fn nearer_place(
     requires times { pos 0 <ℤ times }
     requires other_times { pos 0 <ℤ other_times }
     ensures within { result ≤ apart }
-    ensures same { problem.now.columns ≤ name → name - problem.now.columns + 1 < result
-        → number *ℤ times ≡ other *ℤ other_times }
+    ensures same { place < result → number *ℤ times ≡ other *ℤ other_times }
 {
-    if name < problem.columns {
-        return apart;
-    }
-    let place = (name - problem.columns) as usize + 1;
     if apart <= place {
         return apart;
     }
@@ -145,29 +131,18 @@ fn nearer_place(
 
 // A place behind the value's before which the lists of two rows, each divided by its number in a column, are the same
 // but perhaps at the value.
-fn first_apart(
-    problem: &Problem,
-    table: &SparseTable,
-    numbers: &[i128],
-    column: usize,
-    one: usize,
-    other: usize,
-) -> usize
-    requires sound { IsSoundTable table.now }
-    requires kept { IsTableOf problem.now (table_of table.now) }
-    requires column { column < length table.now.others.items }
-    requires numbers { numbers.now ≡ column_of table.now column }
-    requires one { one < length table.now.members.items }
-    requires other { other < length table.now.members.items }
-    requires above { pos 1 ≤ℤ number_at (slice_index_or (table_of table.now).rows one []) column }
-    requires other_above { pos 1 ≤ℤ number_at (slice_index_or (table_of table.now).rows other []) column }
-    ensures within { result ≤ list_size problem.now }
-    ensures same { (i : ℕ) → i ≢ 0 → i < result → lead problem.now (table_of table.now) column other one i ≡ pos 0 }
+fn first_apart(column: &Column, one: usize, other: usize) -> usize
+    requires column { IsColumn column.now }
+    requires rows { AreComparable column.now one other }
+    ensures within { result ≤ list_size column.now.problem.now }
+    ensures same { (i : ℕ) → i ≢ 0 → i < result → lead_in column.now other one i ≡ pos 0 }
 {
+    let problem = column.problem;
+    let table = column.table;
     let entries = row_of(table, one);
     let other_entries = row_of(table, other);
-    let own = member_number(table, numbers, column, one);
-    let other_own = member_number(table, numbers, column, other);
+    let own = member_number(table, column.numbers, column.place, one);
+    let other_own = member_number(table, column.numbers, column.place, other);
     let width = table.others.len() as u32;
     let mut apart = own_place(problem, table, one).min(own_place(problem, table, other));
     let mut i = 0;
@@ -183,8 +158,8 @@ fn first_apart(
         }
         let here = entry_here(entries, i, place);
         let there = entry_here(other_entries, j, place);
-        let name = table.others[place as usize];
-        apart = nearer_place(problem, name, apart, here.0, other_own, there.0, own);
+        let at = list_place(problem, table, table.others[place as usize]);
+        apart = nearer_place(at, apart, here.0, other_own, there.0, own);
         i = here.1;
         j = there.1;
         next = place + 1;
@@ -193,39 +168,25 @@ fn first_apart(
 }
 
 // How the list of one row, divided by its number in a column, stands to that of another.
-pub(crate) fn compare_lists(
-    problem: &Problem,
-    table: &SparseTable,
-    places: &[u32],
-    numbers: &[i128],
-    column: usize,
-    one: usize,
-    other: usize,
-) -> Ordering
-    requires sound { IsSoundTable table.now }
-    requires kept { IsTableOf problem.now (table_of table.now) }
-    requires places { AreSlackPlaces problem.now (table_of table.now) places.now }
-    requires column { column < length table.now.others.items }
-    requires numbers { numbers.now ≡ column_of table.now column }
-    requires one { one < length table.now.members.items }
-    requires other { other < length table.now.members.items }
-    requires above { pos 1 ≤ℤ number_at (slice_index_or (table_of table.now).rows one []) column }
-    requires other_above { pos 1 ≤ℤ number_at (slice_index_or (table_of table.now).rows other []) column }
+pub(crate) fn compare_lists(column: &Column, one: usize, other: usize) -> Ordering
+    requires column { IsColumn column.now }
+    requires rows { AreComparable column.now one other }
     ensures less { result ≡ Ordering.Less
-        → IsLexPositive (list_size problem.now) 0 (lead problem.now (table_of table.now) column one other) }
+        → IsLexPositive (list_size column.now.problem.now) 0 (lead_in column.now one other) }
     ensures equal { result ≡ Ordering.Equal
-        → AreZeros (list_size problem.now) 0 (lead problem.now (table_of table.now) column other one) }
+        → AreZeros (list_size column.now.problem.now) 0 (lead_in column.now other one) }
     ensures greater { result ≡ Ordering.Greater
-        → IsLexPositive (list_size problem.now) 0 (lead problem.now (table_of table.now) column other one) }
+        → IsLexPositive (list_size column.now.problem.now) 0 (lead_in column.now other one) }
 {
-    match compare_places(problem, table, places, numbers, column, one, other, 0) {
+    match compare_places(column, one, other, 0) {
         Ordering::Less => return Ordering::Less,
         Ordering::Greater => return Ordering::Greater,
         Ordering::Equal => {}
     }
-    let first = first_apart(problem, table, numbers, column, one, other);
+    let table = column.table;
+    let first = first_apart(column, one, other);
     for place in first..table.members.len() + 1 {
-        match compare_places(problem, table, places, numbers, column, one, other, place) {
+        match compare_places(column, one, other, place) {
             Ordering::Less => return Ordering::Less,
             Ordering::Greater => return Ordering::Greater,
             Ordering::Equal => {}

@@ -9,7 +9,7 @@ use Rattle.hypercube.proofs.corners.+add_corners.Goals as goal
 
 pub returns : goal.returns
 returns t c =
-    let number = number_with_codes (cell_at c.args.book.now c.args.t) c.args.codes.now in
+    let number = number_with_codes (cell_at c.args.layer.now.book.now c.args.layer.now.t) c.args.layer.now.codes.now in
     let place : List ℕ = c.args.place.now in
     let edges = c.args.edges.now in
     let plus = c.args.plus in

@@ -1,4 +1,4 @@
-use Rattle.std.proofs.Common.{◌≡◌, ◌+◌, ◌<◌, ◌++◌, ◌∷◌, [], ℕ, List, length, take, slice_index_or, arith, subst, sym, ap}
+use Rattle.std.proofs.Common.{◌≡◌, ◌+◌, ◌<◌, ◌++◌, ◌∷◌, [], ℕ, List, length, take, slice_index_or, arith, subst, sym}
 use Rattle.std.proofs.lemmas.List.{length-take-le, take_more}
 use Rattle.sdc_base.specs.declared.cube.Edge.{Edge}
 use Rattle.hypercube.specs.declared.ranking.PricedEdge.{PricedEdge}

@@ -17,8 +17,8 @@ pub returns-then-f-eq0-clause-ok : goal.returns-then-f-eq0-clause-ok
 returns-then-f-eq0-clause-ok c =
     let s = c.args.table.now in
     let own : List Term = slice_index_or s.rows.items c.args.k [] in
-    let f_is : pos 0 ≡ coefficient own c.args.column = sym (ap (to_z w128) c.if-f-eq0.true) ∙ to_z-of_z w128 c.column_number-f.result (search rules) ∙ c.column_number-f.ensures in
-    kept_row s c.args.row c.args.column c.args.k c.requires.sound c.requires.row c.requires.column c.requires.within c.if-k-row.false
+    let f_is : pos 0 ≡ coefficient own c.args.pivot.now.column = sym (ap (to_z w128) c.if-f-eq0.true) ∙ to_z-of_z w128 c.column_number-f.result (search rules) ∙ c.column_number-f.ensures in
+    kept_row s c.args.pivot.now.row c.args.pivot.now.column c.args.k c.requires.sound c.requires.row c.requires.column c.requires.within c.if-k-pivot.false
     (sparse_at (length s.others.items + 2) (width_of s + 1) own (omega arith) (s.each c.args.k [] (omega (arith, c.requires.within, s.filled))))
     (sym f_is)
 

@@ -14,8 +14,8 @@ pub merge-init : goal.merge-init
 merge-init c =
     record {
       within = omega arith;
-      passed = from_start c.row_of-entries.result.now (ascend_of 0 (length c.args.table.now.others.items + 2) c.row_of-entries.result.now c.row_of-entries.ensures.sparse);
-      other_passed = from_start c.row_of-other_entries.result.now (ascend_of 0 (length c.args.table.now.others.items + 2) c.row_of-other_entries.result.now c.row_of-other_entries.ensures.sparse);
+      passed = from_start c.row_of-entries.result.now (ascend_of 0 (length c.args.column.now.table.now.others.items + 2) c.row_of-entries.result.now c.row_of-entries.ensures.sparse);
+      other_passed = from_start c.row_of-other_entries.result.now (ascend_of 0 (length c.args.column.now.table.now.others.items + 2) c.row_of-other_entries.result.now c.row_of-other_entries.ensures.sparse);
       short = omega (arith, c.min-apart.ensures, c.own_place.ensures.within);
       own_up = λ slack. omega (arith, c.min-apart.ensures, c.own_place.ensures.slack slack);
       other_up = λ slack. omega (arith, c.min-apart.ensures, c.own_place-2.ensures.slack slack);
@@ -42,13 +42,13 @@ pub nearer_place-apart-requires-clause-times : goal.nearer_place-apart-requires-
 nearer_place-apart-requires-clause-times c =
     let q : ℤ = c.member_number-other_own.result in
     let q_fits : FitsSigned w128 q = search rules in
-    omega (arith, ints, to_z-of_z w128 q q_fits, c.member_number-other_own.ensures.back c.requires.other_above)
+    omega (arith, ints, to_z-of_z w128 q q_fits, c.member_number-other_own.ensures.back c.requires.rows.other_above)
 
 pub nearer_place-apart-requires-clause-other_times : goal.nearer_place-apart-requires-clause-other_times
 nearer_place-apart-requires-clause-other_times c =
     let p : ℤ = c.member_number-own.result in
     let p_fits : FitsSigned w128 p = search rules in
-    omega (arith, ints, to_z-of_z w128 p p_fits, c.member_number-own.ensures.back c.requires.above)
+    omega (arith, ints, to_z-of_z w128 p p_fits, c.member_number-own.ensures.back c.requires.rows.one_above)
 
 pub merge-smaller : goal.merge-smaller
 merge-smaller c =
@@ -63,21 +63,21 @@ merge-smaller c =
 pub merge-preserved : goal.merge-preserved
 merge-preserved c =
     let l = c.merge in
-    let s = c.args.table.now in
-    let problem = c.args.problem.now in
+    let s = c.args.column.now.table.now in
+    let problem = c.args.column.now.problem.now in
     let entries : List Term = c.row_of-entries.result.now in
     let other_entries : List Term = c.row_of-other_entries.result.now in
     let row_is = c.row_of-entries.ensures.row_at in
     let other_is = c.row_of-other_entries.ensures.row_at in
     let p : ℤ = c.member_number-own.result in
     let q : ℤ = c.member_number-other_own.result in
-    let lead_at : ℕ → ℤ = λ k. lead problem (table_of s) c.args.column c.args.other c.args.one (slice_index s.others.items k - problem.columns + 1) in
+    let lead_at : ℕ → ℤ = λ k. lead problem (table_of s) c.args.column.now.place c.args.other c.args.one (slice_index s.others.items k - problem.columns + 1) in
     let place : ℕ = c.least_place-place.result in
     let one_up : place ≤ (slice_index_or entries l.i (c.len-width.result, pos 0)).0 = subst (λ n. place ≤ n) c.place_at.ensures c.least_place-place.ensures.one in
     let other_up : place ≤ (slice_index_or other_entries l.j (c.len-width.result, pos 0)).0 = subst (λ n. place ≤ n) c.place_at-in-merge.ensures c.least_place-place.ensures.other in
     let between : (k : ℕ) → l.next ≤ k → k < place → k < length s.others.items → problem.columns ≤ slice_index s.others.items k → lead_at k ≡ pos 0 =
     λ k from below inside slack.
-    slack_none problem s c.args.column c.args.one c.args.other k p q c.requires.kept c.requires.one c.requires.other inside slack
+    slack_none problem s c.args.column.now.place c.args.one c.args.other k p q c.requires.column.kept c.requires.rows.one_within c.requires.rows.other_within inside slack
     (ap (λ (e : List Term). coefficient e k) (sym row_is) ∙ from_none l.next l.i c.len-width.result k entries l.invariant.passed from (omega (arith, below, one_up)))
     (ap (λ (e : List Term). coefficient e k) (sym other_is) ∙ from_none l.next l.j c.len-width.result k other_entries l.invariant.other_passed from (omega (arith, below, other_up)))
     c.member_number-own.ensures.over c.member_number-other_own.ensures.over in
@@ -89,12 +89,12 @@ merge-preserved c =
     let q_fits : FitsSigned w128 q = search rules in
     let inside_place : place < length s.others.items = omega (arith, c.if-place-width.false, c.len-width.ensures) in
     let name : ℕ = slice_index s.others.items place in
-    let name_is : c.index-name.result.now ≡ name = get_or_read s.others.items place c.index-name.result.now inside_place c.index-name.ensures 0 in
+    let name_is : c.index.result.now ≡ name = get_or_read s.others.items place c.index.result.now inside_place c.index.ensures 0 in
     let nearer : c.nearer_place-apart.result ≤ l.apart = c.nearer_place-apart.ensures.within in
     let here : problem.columns ≤ name → name - problem.columns + 1 < c.nearer_place-apart.result → lead_at place ≡ pos 0 =
     λ slack near.
-    let told = c.nearer_place-apart.ensures.same (omega (arith, name_is, slack)) (omega (arith, name_is, near)) in
-    slack_same problem s c.args.column c.args.one c.args.other place p q x y c.requires.kept c.requires.one c.requires.other inside_place slack
+    let told = c.nearer_place-apart.ensures.same (omega (arith, name_is, near, c.list_place-at.ensures.slack (omega (arith, name_is, slack)))) in
+    slack_same problem s c.args.column.now.place c.args.one c.args.other place p q x y c.requires.column.kept c.requires.rows.one_within c.requires.rows.other_within inside_place slack
     (c.entry_here-here.ensures.number ∙ ap (λ (e : List Term). coefficient e place) row_is) (c.entry_here-there.ensures.number ∙ ap (λ (e : List Term). coefficient e place) other_is)
     c.member_number-own.ensures.over c.member_number-other_own.ensures.over (simp to_z-of_z at told) in
     record {
@@ -115,30 +115,30 @@ merge-preserved c =
 pub returns-clause-same : goal.returns-clause-same
 returns-clause-same c =
     let l = c.merge in
-    let s = c.args.table.now in
-    slacks_same c.args.problem.now (table_of s) c.args.column c.args.one c.args.other l.apart c.requires.kept c.requires.one c.requires.other l.invariant.own_up l.invariant.other_up
+    let s = c.args.column.now.table.now in
+    slacks_same c.args.column.now.problem.now (table_of s) c.args.column.now.place c.args.one c.args.other l.apart c.requires.column.kept c.requires.rows.one_within c.requires.rows.other_within l.invariant.own_up l.invariant.other_up
     (λ k inside. l.invariant.same k (omega (arith, inside, c.merge-test.false, c.len-width.ensures)) inside)
 
 pub returns-then-place-width-clause-same : goal.returns-then-place-width-clause-same
 returns-then-place-width-clause-same c =
     let l = c.merge in
-    let s = c.args.table.now in
-    let problem = c.args.problem.now in
+    let s = c.args.column.now.table.now in
+    let problem = c.args.column.now.problem.now in
     let entries : List Term = c.row_of-entries.result.now in
     let other_entries : List Term = c.row_of-other_entries.result.now in
     let row_is = c.row_of-entries.ensures.row_at in
     let other_is = c.row_of-other_entries.ensures.row_at in
     let p : ℤ = c.member_number-own.result in
     let q : ℤ = c.member_number-other_own.result in
-    let lead_at : ℕ → ℤ = λ k. lead problem (table_of s) c.args.column c.args.other c.args.one (slice_index s.others.items k - problem.columns + 1) in
+    let lead_at : ℕ → ℤ = λ k. lead problem (table_of s) c.args.column.now.place c.args.other c.args.one (slice_index s.others.items k - problem.columns + 1) in
     let place : ℕ = c.least_place-place.result in
     let one_up : place ≤ (slice_index_or entries l.i (c.len-width.result, pos 0)).0 = subst (λ n. place ≤ n) c.place_at.ensures c.least_place-place.ensures.one in
     let other_up : place ≤ (slice_index_or other_entries l.j (c.len-width.result, pos 0)).0 = subst (λ n. place ≤ n) c.place_at-in-merge.ensures c.least_place-place.ensures.other in
     let between : (k : ℕ) → l.next ≤ k → k < place → k < length s.others.items → problem.columns ≤ slice_index s.others.items k → lead_at k ≡ pos 0 =
     λ k from below inside slack.
-    slack_none problem s c.args.column c.args.one c.args.other k p q c.requires.kept c.requires.one c.requires.other inside slack
+    slack_none problem s c.args.column.now.place c.args.one c.args.other k p q c.requires.column.kept c.requires.rows.one_within c.requires.rows.other_within inside slack
     (ap (λ (e : List Term). coefficient e k) (sym row_is) ∙ from_none l.next l.i c.len-width.result k entries l.invariant.passed from (omega (arith, below, one_up)))
     (ap (λ (e : List Term). coefficient e k) (sym other_is) ∙ from_none l.next l.j c.len-width.result k other_entries l.invariant.other_passed from (omega (arith, below, other_up)))
     c.member_number-own.ensures.over c.member_number-other_own.ensures.over in
-    slacks_same problem (table_of s) c.args.column c.args.one c.args.other l.apart c.requires.kept c.requires.one c.requires.other l.invariant.own_up l.invariant.other_up
+    slacks_same problem (table_of s) c.args.column.now.place c.args.one c.args.other l.apart c.requires.column.kept c.requires.rows.one_within c.requires.rows.other_within l.invariant.own_up l.invariant.other_up
     (λ k inside slack near. by_less k l.next (λ under. l.invariant.same k under inside slack near) (λ over. between k over (omega (arith, inside, c.if-place-width.true, c.len-width.ensures)) inside slack))

@@ -12,7 +12,7 @@ invariant-merge l = record {
   short : l.apart ≤ list_size l.problem;
   own_up : l.problem.columns ≤ slice_index l.table.members.items l.one → l.apart ≤ slice_index l.table.members.items l.one - l.problem.columns + 1;
   other_up : l.problem.columns ≤ slice_index l.table.members.items l.other → l.apart ≤ slice_index l.table.members.items l.other - l.problem.columns + 1;
-  same : (k : ℕ) → k < l.next → k < length l.table.others.items → l.problem.columns ≤ slice_index l.table.others.items k → slice_index l.table.others.items k - l.problem.columns + 1 < l.apart → lead l.problem (table_of l.table) l.column l.other l.one (slice_index l.table.others.items k - l.problem.columns + 1) ≡ pos 0;
+  same : (k : ℕ) → k < l.next → k < length l.table.others.items → l.problem.columns ≤ slice_index l.table.others.items k → slice_index l.table.others.items k - l.problem.columns + 1 < l.apart → lead l.problem (table_of l.table) l.column.place l.other l.one (slice_index l.table.others.items k - l.problem.columns + 1) ≡ pos 0;
 }
 
 abbrev pub decreases-merge : goal.decreases-merge
