@@ -1,5 +1,5 @@
 -- Steps, refutations and complete tables that are written are read again, and those that are read are written so.
-use Rattle.std.proofs.Common.{◌≡◌, inl, ℕ, suc, ◌+◌, ◌-◌, ◌<◌, ◌≤◌, ◌==◌, not, true, false, cond, nat_lt, List, [], ◌∷◌, length, map, Ok, Err, ℤ, refl, ap, sym, ◌∙◌, subst, arith, decimal}
+use Rattle.std.proofs.Common.{◌≡◌, inl, ℕ, ◌+◌, ◌-◌, ◌<◌, ◌≤◌, ◌==◌, not, true, false, cond, nat_lt, List, [], ◌∷◌, length, map, Ok, Err, ℤ, refl, ap, sym, ◌∙◌, subst, arith, decimal}
 use Rattle.std.specs.Fmt.{signed_decimal}
 use Rattle.std.specs.List.{AllByRecursion, list_all, join_with_byte}
 use Rattle.std.specs.Str.{bytes_eq}

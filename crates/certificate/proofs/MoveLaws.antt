@@ -1,5 +1,5 @@
 -- Moves of complete tables that are written are read again, and those that are read are written so, in each version.
-use Rattle.std.proofs.Common.{◌≡◌, ◌≢◌, ℕ, suc, ◌==◌, not, true, false, List, [], ◌∷◌, length, map, Ok, pos, refl, ap, ◌∙◌, subst, arith}
+use Rattle.std.proofs.Common.{◌≡◌, ◌≢◌, ℕ, suc, ◌==◌, not, true, List, [], ◌∷◌, length, map, Ok, pos, refl, ap, ◌∙◌, subst, arith}
 use Rattle.std.specs.Fmt.{signed_decimal}
 use Rattle.std.specs.List.{AllByRecursion, list_all}
 use Rattle.std.proofs.lemmas.List.{length-map}

@@ -1,15 +1,15 @@
 ghost use Rattle.std.specs.Prelude.{◌≡◌, codes};
 ghost use Rattle.sdc_base.specs.Answers.{Gives};
 ghost use Rattle.certificate.specs.Faults.{why_of};
-ghost use Rattle.certificate.specs.LineReadings.{item_of};
 ghost use Rattle.certificate.specs.ExtraReadings as extra_readings;
 
 use crate::extra::ExtraNeed;
 use crate::faults::{CertWhy, LineError};
+use crate::line_kind::LineKind;
 use crate::lines::side_of;
 use crate::numerals::{are_ascending, denominator_of, natural_of};
 use crate::pieces::Pieces;
-use crate::tokens::{all_pairs, behind_word, terms_in};
+use crate::tokens::{all_pairs, terms_in};
 use std::alloc::Global;
 use worlds::Multipliers;
 
@@ -48,16 +48,31 @@ fn need_by(
     })
 }
 
-/// The need of a line.
-#[tactic(auto, unfolding(crate::specs::LineReadings::item_of, crate::specs::ExtraReadings::need_of))]
-pub(crate) fn need_in(alloc: Global, line: &[u8]) -> Result<ExtraNeed, LineError>
-    ensures { Gives why_of (λ need. need) result (item_of (codes "need") extra_readings.need_of line.now) }
-{
-    let mut tokens = behind_word(b"need", line)?;
-    let subject = tokens.first()?;
-    let row = tokens.first()?;
-    let cell = tokens.first()?;
-    let side = tokens.first()?;
-    let den = tokens.first()?;
-    need_by(alloc, subject, row, cell, side, den, &mut tokens)
+/// The line of a need.
+#[derive(Clone, Copy)]
+pub(crate) struct NeedLine;
+
+impl LineKind for NeedLine {
+    ghost use Rattle.std.specs.Prelude.{codes};
+    ghost use Rattle.certificate.specs.ExtraReadings.{need_of};
+
+    type Item = ExtraNeed;
+
+    ghost word = { λ _. codes "need" };
+
+    ghost meaning = { λ _. need_of };
+
+    fn first_word(&self) -> &[u8] {
+        b"need"
+    }
+
+    #[tactic(auto, unfolding(crate::specs::ExtraReadings::need_of))]
+    fn read(&self, alloc: Global, tokens: &mut Pieces<'_>) -> Result<ExtraNeed, LineError> {
+        let subject = tokens.first()?;
+        let row = tokens.first()?;
+        let cell = tokens.first()?;
+        let side = tokens.first()?;
+        let den = tokens.first()?;
+        need_by(alloc, subject, row, cell, side, den, tokens)
+    }
 }

@@ -1,18 +1,16 @@
-ghost use Rattle.std.specs.Prelude.{◌≡◌, IfOk, codes};
+ghost use Rattle.std.specs.Prelude.{◌≡◌, IfOk};
 ghost use Rattle.sdc_base.specs.Answers.{Gives};
 ghost use Rattle.certificate.specs.Faults.{fault_of};
-ghost use Rattle.certificate.specs.LineReadings.{hidden_of};
-ghost use Rattle.certificate.specs.Certificates.{item_at, items_at};
 ghost use Rattle.certificate.specs.ExtraReadings as extra_readings;
-ghost use Rattle.certificate.specs.ExtraReadings.{need_of, extra_of};
+ghost use Rattle.certificate.specs.ExtraReadings.{extra_of};
 ghost use Rattle.certificate.specs.ExtraTexts.{extra_text, IsExtraSpellable, IsExtraWithinTypes};
 
-use crate::extra::{Extra, ExtraNeed};
-use crate::extra_lines::need_in;
-use crate::faults::{CertError, error_at};
-use crate::lines::hidden_in;
+use crate::extra::Extra;
+use crate::extra_lines::NeedLine;
+use crate::faults::CertError;
+use crate::line_kind::{read_item, read_items};
+use crate::lines::{CellsLine, TableLine, WordLine};
 use crate::reader::{Reader, behind_heading};
-use crate::reading::{word_line, world_lines};
 use crate::version::Version;
 use sdc_base::Items;
 use std::alloc::Global;
@@ -42,9 +40,14 @@ fn extra_lines(alloc: Global, bytes: &[u8]) -> Result<Extra, CertError>
 {
     let mut reader = behind_heading(b"argus contributors 1", bytes)?;
     let cells = cells_at(alloc, &mut reader)?;
-    let needs = need_lines(alloc, &mut reader)?;
-    let guards = world_lines(alloc, b"guard", Version::Two, &[], &mut reader)?;
-    word_line(b"end", &mut reader)?;
+    let needs = read_items(alloc, &NeedLine, &mut reader)?;
+    let guard_line = TableLine {
+        word: b"guard",
+        version: Version::Two,
+        hidden: &[],
+    };
+    let guards = read_items(alloc, &guard_line, &mut reader)?;
+    read_item(alloc, &WordLine { word: b"end" }, &mut reader)?;
     reader.end()?;
     Ok(Extra {
         cells,
@@ -53,49 +56,13 @@ fn extra_lines(alloc: Global, bytes: &[u8]) -> Result<Extra, CertError>
     })
 }
 
-// The line of the extra cells.
-#[tactic(auto, unfolding(crate::specs::Certificates::item_at), using(crate::proofs::LineSteps::fails_at))]
-fn cells_line(alloc: Global, reader: &mut Reader<'_>) -> Result<Items<u32>, CertError>
-    ensures { Gives fault_of (λ cells. (cells, reader.new)) result (item_at (codes "extra") hidden_of reader.old) }
-{
-    let line = reader.next_line()?;
-    match hidden_in(alloc, b"extra", line.text) {
-        Ok(cells) => Ok(cells),
-        Err(error) => Err(error_at(line.number, error)),
-    }
-}
-
 // The extra cells, where there is a line of them.
 #[tactic(auto, unfolding(crate::specs::ExtraReadings::cells_at))]
 fn cells_at(alloc: Global, reader: &mut Reader<'_>) -> Result<Items<u32>, CertError>
     ensures { Gives fault_of (λ cells. (cells, reader.new)) result (extra_readings.cells_at reader.old) }
 {
     if reader.is_next(b"extra") {
-        return cells_line(alloc, reader);
+        return read_item(alloc, &CellsLine { word: b"extra" }, reader);
     }
     Ok(Items::empty(alloc))
-}
-
-// The line of a need.
-#[tactic(auto, unfolding(crate::specs::Certificates::item_at), using(crate::proofs::LineSteps::fails_at))]
-fn need_line(alloc: Global, reader: &mut Reader<'_>) -> Result<ExtraNeed, CertError>
-    ensures { Gives fault_of (λ need. (need, reader.new)) result (item_at (codes "need") need_of reader.old) }
-{
-    let line = reader.next_line()?;
-    match need_in(alloc, line.text) {
-        Ok(need) => Ok(need),
-        Err(error) => Err(error_at(line.number, error)),
-    }
-}
-
-// The lines of the needs.
-fn need_lines(alloc: Global, reader: &mut Reader<'_>) -> Result<Items<ExtraNeed>, CertError>
-    ensures { Gives fault_of (λ needs. (needs, reader.new)) result (items_at (codes "need") need_of reader.old) }
-{
-    let mut needs = Items::empty(alloc);
-    'lines: while reader.is_next(b"need") {
-        let need = need_line(alloc, reader)?;
-        needs.push(need)?;
-    }
-    Ok(needs)
 }

@@ -9,6 +9,7 @@ mod extra_reading;
 mod extra_writing;
 mod faults;
 mod laws;
+mod line_kind;
 mod lines;
 mod numerals;
 mod pieces;

@@ -1,17 +1,15 @@
-ghost use Rattle.std.specs.Prelude.{◌≡◌, codes};
+ghost use Rattle.std.specs.Prelude.{◌≡◌};
 ghost use Rattle.sdc_base.specs.Answers.{Gives};
 ghost use Rattle.certificate.specs.Faults.{fault_itself, why_of};
-ghost use Rattle.certificate.specs.TokenLists.{end_of};
 ghost use Rattle.certificate.specs.LineReadings as line_readings;
 ghost use Rattle.certificate.specs.MethodReadings as method_readings;
 
 use crate::certificate::WorldLine;
 use crate::faults::{CertWhy, LineError};
+use crate::line_kind::LineKind;
 use crate::numerals::{are_ascending, ascends, denominator_of, integer_of, natural_of};
 use crate::pieces::{Pieces, pieces_in};
-use crate::tokens::{
-    all_pairs, behind_word, have_form, is_word, moves_by, numbers_in, places_in, terms_in,
-};
+use crate::tokens::{all_pairs, have_form, is_word, moves_by, numbers_in, places_in, terms_in};
 use crate::version::Version;
 use sdc_base::{Items, Method, PlanStep, Side};
 use std::alloc::Global;
@@ -62,43 +60,91 @@ fn method_by(word: &[u8], tokens: &mut Pieces<'_>) -> Result<Method, CertWhy>
     Err(CertWhy::Shape)
 }
 
-/// The method of a line.
-#[tactic(auto, unfolding(crate::specs::LineReadings::item_of, crate::specs::MethodReadings::method_of))]
-pub(crate) fn method_in(line: &[u8]) -> Result<Method, CertWhy>
-    ensures { Gives fault_itself (λ method. method) result
-        (line_readings.item_of (codes "method") method_readings.method_of line.now) }
-{
-    let mut tokens = behind_word(b"method", line)?;
-    let word = tokens.first()?;
-    method_by(word, &mut tokens)
+/// The line of the method.
+#[derive(Clone, Copy)]
+pub(crate) struct MethodLine;
+
+impl LineKind for MethodLine {
+    ghost use Rattle.std.specs.Prelude.{codes};
+    ghost use Rattle.certificate.specs.MethodReadings.{method_of};
+
+    type Item = Method;
+
+    ghost word = { λ _. codes "method" };
+
+    ghost meaning = { λ _. method_of };
+
+    fn first_word(&self) -> &[u8] {
+        b"method"
+    }
+
+    #[tactic(auto, unfolding(crate::specs::MethodReadings::method_of))]
+    fn read(&self, _alloc: Global, tokens: &mut Pieces<'_>) -> Result<Method, LineError> {
+        let word = tokens.first()?;
+        let method = method_by(word, tokens)?;
+        Ok(method)
+    }
 }
 
-/// The count of a line by a word.
-#[tactic(auto, unfolding(crate::specs::LineReadings::item_of, crate::specs::MethodReadings::count_of))]
-pub(crate) fn count_in(word: &[u8], line: &[u8]) -> Result<u32, CertWhy>
-    ensures { Gives fault_itself (λ count. count) result
-        (line_readings.item_of word.now method_readings.count_of line.now) }
-{
-    let mut tokens = behind_word(word, line)?;
-    let token = tokens.only()?;
-    natural_of(0, token)
+/// The line of a count.
+#[derive(Clone, Copy)]
+pub(crate) struct CountLine<'a> {
+    /// The word in front.
+    pub word: &'a [u8],
 }
 
-/// The cells of a line by a word.
-#[tactic(auto, unfolding(crate::specs::LineReadings::item_of, crate::specs::LineReadings::hidden_of))]
-pub(crate) fn hidden_in(alloc: Global, word: &[u8], line: &[u8]) -> Result<Items<u32>, LineError>
-    ensures { Gives why_of (λ cells. cells) result
-        (line_readings.item_of word.now line_readings.hidden_of line.now) }
-{
-    let mut tokens = behind_word(word, line)?;
-    if tokens.is_count(0) {
-        return Err(LineError::Fault(CertWhy::Shape));
+impl<'a> LineKind for CountLine<'a> {
+    ghost use Rattle.certificate.specs.MethodReadings.{count_of};
+
+    type Item = u32;
+
+    ghost word = { λ s. s.word.now };
+
+    ghost meaning = { λ _. count_of };
+
+    fn first_word(&self) -> &[u8] {
+        self.word
     }
-    let cells = numbers_in(alloc, &mut tokens)?;
-    if !ascends(cells.as_slice()) {
-        return Err(LineError::Fault(CertWhy::Order));
+
+    #[tactic(auto, unfolding(crate::specs::MethodReadings::count_of))]
+    fn read(&self, _alloc: Global, tokens: &mut Pieces<'_>) -> Result<u32, LineError> {
+        let token = tokens.only()?;
+        let count = natural_of(0, token)?;
+        Ok(count)
     }
-    Ok(cells)
+}
+
+/// The line of some cells.
+#[derive(Clone, Copy)]
+pub(crate) struct CellsLine<'a> {
+    /// The word in front.
+    pub word: &'a [u8],
+}
+
+impl<'a> LineKind for CellsLine<'a> {
+    ghost use Rattle.certificate.specs.LineReadings.{hidden_of};
+
+    type Item = Items<u32>;
+
+    ghost word = { λ s. s.word.now };
+
+    ghost meaning = { λ _. hidden_of };
+
+    fn first_word(&self) -> &[u8] {
+        self.word
+    }
+
+    #[tactic(auto, unfolding(crate::specs::LineReadings::hidden_of))]
+    fn read(&self, alloc: Global, tokens: &mut Pieces<'_>) -> Result<Items<u32>, LineError> {
+        if tokens.is_count(0) {
+            return Err(LineError::Fault(CertWhy::Shape));
+        }
+        let cells = numbers_in(alloc, tokens)?;
+        if !ascends(cells.as_slice()) {
+            return Err(LineError::Fault(CertWhy::Order));
+        }
+        Ok(cells)
+    }
 }
 
 // A step by its four tokens.
@@ -138,17 +184,32 @@ fn step_by(
     })
 }
 
-/// The step of a line.
-#[tactic(auto, unfolding(crate::specs::LineReadings::item_of, crate::specs::LineReadings::step_of))]
-pub(crate) fn step_in(alloc: Global, line: &[u8]) -> Result<PlanStep, LineError>
-    ensures { Gives why_of (λ step. step) result (line_readings.item_of (codes "step") line_readings.step_of line.now) }
-{
-    let mut tokens = behind_word(b"step", line)?;
-    let table = tokens.first()?;
-    let parents = tokens.first()?;
-    let cell = tokens.first()?;
-    let corners = tokens.only()?;
-    step_by(alloc, table, parents, cell, corners)
+/// The line of a step.
+#[derive(Clone, Copy)]
+pub(crate) struct StepLine;
+
+impl LineKind for StepLine {
+    ghost use Rattle.std.specs.Prelude.{codes};
+    ghost use Rattle.certificate.specs.LineReadings.{step_of};
+
+    type Item = PlanStep;
+
+    ghost word = { λ _. codes "step" };
+
+    ghost meaning = { λ _. step_of };
+
+    fn first_word(&self) -> &[u8] {
+        b"step"
+    }
+
+    #[tactic(auto, unfolding(crate::specs::LineReadings::step_of))]
+    fn read(&self, alloc: Global, tokens: &mut Pieces<'_>) -> Result<PlanStep, LineError> {
+        let table = tokens.first()?;
+        let parents = tokens.first()?;
+        let cell = tokens.first()?;
+        let corners = tokens.only()?;
+        step_by(alloc, table, parents, cell, corners)
+    }
 }
 
 /// The side of a word.
@@ -196,41 +257,56 @@ fn refutation_by(
     })
 }
 
-/// The refutation of a line by a word.
-#[tactic(auto, unfolding(crate::specs::LineReadings::item_of, crate::specs::LineReadings::refutation_of))]
-pub(crate) fn refutation_in(alloc: Global, word: &[u8], line: &[u8]) -> Result<Refuted, LineError>
-    ensures { Gives why_of (λ refuted. refuted) result
-        (line_readings.item_of word.now line_readings.refutation_of line.now) }
-{
-    let mut tokens = behind_word(word, line)?;
-    let subject = tokens.first()?;
-    let cell = tokens.first()?;
-    let side = tokens.first()?;
-    let den = tokens.first()?;
-    refutation_by(alloc, subject, cell, side, den, &mut tokens)
+/// The line of a refutation.
+#[derive(Clone, Copy)]
+pub(crate) struct RefutationLine<'a> {
+    /// The word in front.
+    pub word: &'a [u8],
+}
+
+impl<'a> LineKind for RefutationLine<'a> {
+    ghost use Rattle.certificate.specs.LineReadings.{refutation_of};
+
+    type Item = Refuted;
+
+    ghost word = { λ s. s.word.now };
+
+    ghost meaning = { λ _. refutation_of };
+
+    fn first_word(&self) -> &[u8] {
+        self.word
+    }
+
+    #[tactic(auto, unfolding(crate::specs::LineReadings::refutation_of))]
+    fn read(&self, alloc: Global, tokens: &mut Pieces<'_>) -> Result<Refuted, LineError> {
+        let subject = tokens.first()?;
+        let cell = tokens.first()?;
+        let side = tokens.first()?;
+        let den = tokens.first()?;
+        refutation_by(alloc, subject, cell, side, den, tokens)
+    }
 }
 
 // A complete table by its tokens.
 #[tactic(auto, unfolding(crate::specs::LineReadings::world_by))]
 fn world_by(
     alloc: Global,
-    version: Version,
-    hidden: &[u32],
+    kind: &TableLine<'_>,
     cell: &[u8],
     side: &[u8],
     den: &[u8],
     tokens: &mut Pieces<'_>,
 ) -> Result<WorldLine, LineError>
     ensures { Gives why_of (λ world. world) result
-        (line_readings.world_by version hidden.now cell.now side.now den.now tokens.old) }
+        (line_readings.world_by kind.now.version kind.now.hidden.now cell.now side.now den.now tokens.old) }
 {
     let side = side_of(side)?;
-    if !have_form(version, hidden, tokens) {
+    if !have_form(kind.version, kind.hidden, tokens) {
         return Err(LineError::Fault(CertWhy::Shape));
     }
     let cell = natural_of(0, cell)?;
     let den = denominator_of(den)?;
-    let moves = moves_by(alloc, version, hidden, tokens)?;
+    let moves = moves_by(alloc, kind.version, kind.hidden, tokens)?;
     Ok(WorldLine {
         cell,
         side,
@@ -238,30 +314,61 @@ fn world_by(
     })
 }
 
-/// The complete table of a line by a word, in this version and with these hidden cells.
-#[tactic(auto, unfolding(crate::specs::LineReadings::item_of, crate::specs::LineReadings::world_of))]
-pub(crate) fn world_in(
-    alloc: Global,
-    word: &[u8],
-    version: Version,
-    hidden: &[u32],
-    line: &[u8],
-) -> Result<WorldLine, LineError>
-    ensures { Gives why_of (λ line. line) result
-        (line_readings.item_of word.now (line_readings.world_of version hidden.now) line.now) }
-{
-    let mut tokens = behind_word(word, line)?;
-    let cell = tokens.first()?;
-    let side = tokens.first()?;
-    let den = tokens.first()?;
-    world_by(alloc, version, hidden, cell, side, den, &mut tokens)
+/// The line of a complete table.
+#[derive(Clone, Copy)]
+pub(crate) struct TableLine<'a> {
+    /// The word in front.
+    pub word: &'a [u8],
+    /// How its moves are written.
+    pub version: Version,
+    /// The hidden cells.
+    pub hidden: &'a [u32],
 }
 
-/// A line of one word.
-#[tactic(auto, unfolding(crate::specs::LineReadings::item_of))]
-pub(crate) fn word_in(word: &[u8], line: &[u8]) -> Result<(), CertWhy>
-    ensures { Gives fault_itself (λ fine. fine) result (line_readings.item_of word.now end_of line.now) }
-{
-    let tokens = behind_word(word, line)?;
-    tokens.end()
+impl<'a> LineKind for TableLine<'a> {
+    ghost use Rattle.certificate.specs.LineReadings.{world_of};
+
+    type Item = WorldLine;
+
+    ghost word = { λ s. s.word.now };
+
+    ghost meaning = { λ s. world_of s.version s.hidden.now };
+
+    fn first_word(&self) -> &[u8] {
+        self.word
+    }
+
+    #[tactic(auto, unfolding(crate::specs::LineReadings::world_of))]
+    fn read(&self, alloc: Global, tokens: &mut Pieces<'_>) -> Result<WorldLine, LineError> {
+        let cell = tokens.first()?;
+        let side = tokens.first()?;
+        let den = tokens.first()?;
+        world_by(alloc, self, cell, side, den, tokens)
+    }
+}
+
+/// The line of a word alone.
+#[derive(Clone, Copy)]
+pub(crate) struct WordLine<'a> {
+    /// The word in front.
+    pub word: &'a [u8],
+}
+
+impl<'a> LineKind for WordLine<'a> {
+    ghost use Rattle.certificate.specs.TokenLists.{end_of};
+
+    type Item = ();
+
+    ghost word = { λ s. s.word.now };
+
+    ghost meaning = { λ _. end_of };
+
+    fn first_word(&self) -> &[u8] {
+        self.word
+    }
+
+    fn read(&self, _alloc: Global, tokens: &mut Pieces<'_>) -> Result<(), LineError> {
+        tokens.end()?;
+        Ok(())
+    }
 }

@@ -2,15 +2,18 @@ ghost use Rattle.std.specs.Prelude.{◌≡◌, IfOk, codes};
 ghost use Rattle.sdc_base.specs.Answers.{Gives};
 ghost use Rattle.certificate.specs.Faults.{fault_of};
 ghost use Rattle.certificate.specs.TokenLists.{end_of};
-ghost use Rattle.certificate.specs.LineReadings.{hidden_of, step_of, refutation_of, world_of};
+ghost use Rattle.certificate.specs.LineReadings.{step_of, refutation_of, world_of};
 ghost use Rattle.certificate.specs.MethodReadings.{method_of, count_of};
 ghost use Rattle.certificate.specs.Certificates as certificates;
 ghost use Rattle.certificate.specs.Certificates.{item_at, items_at, certificate_of};
 ghost use Rattle.certificate.specs.Spelling.{IsSpellable, IsTextOf, IsWithinTypes};
 
 use crate::certificate::{Certificate, WorldLine};
-use crate::faults::{CertError, LineError, error_at};
-use crate::lines::{count_in, hidden_in, method_in, refutation_in, step_in, word_in, world_in};
+use crate::faults::CertError;
+use crate::line_kind::{read_item, read_items};
+use crate::lines::{
+    CellsLine, CountLine, MethodLine, RefutationLine, StepLine, TableLine, WordLine,
+};
 use crate::reader::{Reader, behind_version};
 use crate::version::Version;
 use sdc_base::{Items, Method, PlanStep};
@@ -49,15 +52,15 @@ fn read_lines(alloc: Global, bytes: &[u8]) -> Result<Certificate, CertError>
     ensures { Gives fault_of (λ certificate. certificate) result (certificate_of bytes.now) }
 {
     let (version, mut reader) = behind_version(bytes)?;
-    let method = method_line(&mut reader)?;
-    let cells = count_line(b"cells", &mut reader)?;
-    let relations = count_line(b"relations", &mut reader)?;
+    let method = method_line(alloc, &mut reader)?;
+    let cells = count_line(alloc, b"cells", &mut reader)?;
+    let relations = count_line(alloc, b"relations", &mut reader)?;
     let hidden = hidden_at(alloc, &mut reader)?;
     let steps = step_lines(alloc, &mut reader)?;
     let repairs = refutation_lines(alloc, b"repair", &mut reader)?;
     let needs = refutation_lines(alloc, b"need", &mut reader)?;
-    let worlds = world_lines(alloc, b"world", version, hidden.as_slice(), &mut reader)?;
-    word_line(b"end", &mut reader)?;
+    let worlds = world_lines(alloc, version, hidden.as_slice(), &mut reader)?;
+    end_line(alloc, &mut reader)?;
     reader.end()?;
     Ok(Certificate {
         method,
@@ -71,115 +74,39 @@ fn read_lines(alloc: Global, bytes: &[u8]) -> Result<Certificate, CertError>
     })
 }
 
-// The line of the method.
-#[tactic(auto, unfolding(crate::specs::Certificates::item_at), using(crate::proofs::LineSteps::fails_with))]
-fn method_line(reader: &mut Reader<'_>) -> Result<Method, CertError>
-    ensures { Gives fault_of (λ method. (method, reader.new)) result (item_at (codes "method") method_of reader.old) }
-{
-    let line = reader.next_line()?;
-    match method_in(line.text) {
-        Ok(method) => Ok(method),
-        Err(why) => Err(CertError::At {
-            line: line.number,
-            why,
-        }),
-    }
-}
-
-// A line of a count, by its word.
-#[tactic(auto, unfolding(crate::specs::Certificates::item_at), using(crate::proofs::LineSteps::fails_with))]
-fn count_line(word: &[u8], reader: &mut Reader<'_>) -> Result<u32, CertError>
-    ensures { Gives fault_of (λ count. (count, reader.new)) result (item_at word.now count_of reader.old) }
-{
-    let line = reader.next_line()?;
-    match count_in(word, line.text) {
-        Ok(count) => Ok(count),
-        Err(why) => Err(CertError::At {
-            line: line.number,
-            why,
-        }),
-    }
-}
-
-/// A line that is a word.
-#[tactic(auto, unfolding(crate::specs::Certificates::item_at), using(crate::proofs::LineSteps::fails_with))]
-pub(crate) fn word_line(word: &[u8], reader: &mut Reader<'_>) -> Result<(), CertError>
-    ensures { Gives fault_of (λ fine. (fine, reader.new)) result (item_at word.now end_of reader.old) }
-{
-    let line = reader.next_line()?;
-    match word_in(word, line.text) {
-        Ok(()) => Ok(()),
-        Err(why) => Err(CertError::At {
-            line: line.number,
-            why,
-        }),
-    }
-}
-
-// The line of the hidden cells.
-#[tactic(auto, unfolding(crate::specs::Certificates::item_at), using(crate::proofs::LineSteps::fails_at))]
-fn hidden_line(alloc: Global, reader: &mut Reader<'_>) -> Result<Items<u32>, CertError>
-    ensures { Gives fault_of (λ cells. (cells, reader.new)) result (item_at (codes "hidden") hidden_of reader.old) }
-{
-    let line = reader.next_line()?;
-    match hidden_in(alloc, b"hidden", line.text) {
-        Ok(cells) => Ok(cells),
-        Err(error) => Err(error_at(line.number, error)),
-    }
-}
-
 // The hidden cells, where there is a line of them.
 #[tactic(auto, unfolding(crate::specs::Certificates::hidden_at))]
 fn hidden_at(alloc: Global, reader: &mut Reader<'_>) -> Result<Items<u32>, CertError>
     ensures { Gives fault_of (λ cells. (cells, reader.new)) result (certificates.hidden_at reader.old) }
 {
     if reader.is_next(b"hidden") {
-        return hidden_line(alloc, reader);
+        return read_item(alloc, &CellsLine { word: b"hidden" }, reader);
     }
     Ok(Items::empty(alloc))
 }
 
-// The line of a step.
-#[tactic(auto, unfolding(crate::specs::Certificates::item_at), using(crate::proofs::LineSteps::fails_at))]
-fn step_line(alloc: Global, reader: &mut Reader<'_>) -> Result<PlanStep, CertError>
-    ensures { Gives fault_of (λ step. (step, reader.new)) result (item_at (codes "step") step_of reader.old) }
+// The line of the method.
+fn method_line(alloc: Global, reader: &mut Reader<'_>) -> Result<Method, CertError>
+    ensures { Gives fault_of (λ method. (method, reader.new)) result (item_at (codes "method") method_of reader.old) }
 {
-    let line = reader.next_line()?;
-    match step_in(alloc, line.text) {
-        Ok(step) => Ok(step),
-        Err(error) => Err(error_at(line.number, error)),
-    }
+    read_item(alloc, &MethodLine, reader)
+}
+
+// A line of a count, by its word.
+fn count_line(alloc: Global, word: &[u8], reader: &mut Reader<'_>) -> Result<u32, CertError>
+    ensures { Gives fault_of (λ count. (count, reader.new)) result (item_at word.now count_of reader.old) }
+{
+    read_item(alloc, &CountLine { word }, reader)
 }
 
 // The lines of the steps.
 fn step_lines(alloc: Global, reader: &mut Reader<'_>) -> Result<Items<PlanStep>, CertError>
     ensures { Gives fault_of (λ steps. (steps, reader.new)) result (items_at (codes "step") step_of reader.old) }
 {
-    let mut steps = Items::empty(alloc);
-    'lines: while reader.is_next(b"step") {
-        let step = step_line(alloc, reader)?;
-        steps.push(step)?;
-    }
-    Ok(steps)
+    read_items(alloc, &StepLine, reader)
 }
 
-// The line of a refutation, by its word.
-#[tactic(auto, unfolding(crate::specs::Certificates::item_at), using(crate::proofs::LineSteps::fails_at))]
-fn refutation_line(
-    alloc: Global,
-    word: &[u8],
-    reader: &mut Reader<'_>,
-) -> Result<Refuted, CertError>
-    ensures { Gives fault_of (λ refuted. (refuted, reader.new)) result (item_at word.now refutation_of reader.old) }
-{
-    let line = reader.next_line()?;
-    match refutation_in(alloc, word, line.text) {
-        Ok(refuted) => Ok(refuted),
-        Err(error) => Err(error_at(line.number, error)),
-    }
-}
-
-// The lines of refutations by a word.
+// The lines of refutations, by their word.
 fn refutation_lines(
     alloc: Global,
     word: &[u8],
@@ -187,48 +114,30 @@ fn refutation_lines(
 ) -> Result<Items<Refuted>, CertError>
     ensures { Gives fault_of (λ all. (all, reader.new)) result (items_at word.now refutation_of reader.old) }
 {
-    let mut all = Items::empty(alloc);
-    'lines: while reader.is_next(word) {
-        let refuted = refutation_line(alloc, word, reader)?;
-        all.push(refuted)?;
-    }
-    Ok(all)
+    read_items(alloc, &RefutationLine { word }, reader)
 }
 
-// The line of a complete table by a word, in this version and with these hidden cells.
-#[tactic(auto, unfolding(crate::specs::Certificates::item_at), using(crate::proofs::LineSteps::fails_at))]
-fn world_line(
+// The lines of the complete tables, in this version and with these hidden cells.
+fn world_lines(
     alloc: Global,
-    word: &[u8],
-    version: Version,
-    hidden: &[u32],
-    reader: &mut Reader<'_>,
-) -> Result<WorldLine, CertError>
-    ensures { Gives fault_of (λ world. (world, reader.new)) result
-        (item_at word.now (world_of version hidden.now) reader.old) }
-{
-    let line = reader.next_line()?;
-    match world_in(alloc, word, version, hidden, line.text) {
-        Ok(world) => Ok(world),
-        Err(error) => Err(error_at(line.number, error)),
-    }
-}
-
-/// The lines of complete tables by a word, in this version and with these hidden cells.
-pub(crate) fn world_lines(
-    alloc: Global,
-    word: &[u8],
     version: Version,
     hidden: &[u32],
     reader: &mut Reader<'_>,
 ) -> Result<Items<WorldLine>, CertError>
     ensures { Gives fault_of (λ worlds. (worlds, reader.new)) result
-        (items_at word.now (world_of version hidden.now) reader.old) }
+        (items_at (codes "world") (world_of version hidden.now) reader.old) }
 {
-    let mut worlds = Items::empty(alloc);
-    'lines: while reader.is_next(word) {
-        let world = world_line(alloc, word, version, hidden, reader)?;
-        worlds.push(world)?;
-    }
-    Ok(worlds)
+    let kind = TableLine {
+        word: b"world",
+        version,
+        hidden,
+    };
+    read_items(alloc, &kind, reader)
+}
+
+// The last line.
+fn end_line(alloc: Global, reader: &mut Reader<'_>) -> Result<(), CertError>
+    ensures { Gives fault_of (λ fine. (fine, reader.new)) result (item_at (codes "end") end_of reader.old) }
+{
+    read_item(alloc, &WordLine { word: b"end" }, reader)
 }
