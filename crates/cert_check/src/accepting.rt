@@ -96,8 +96,6 @@ fn check_suppressed(
     requires counted { counts_fit case.now.system.now certificate.now ≡ true }
     ensures { Gives fault_of (λ u. u) result (suppressed_fault case.now release.now hidden.old.flags certificate.now) }
 {
-    // for the proof: read, so that it is known to be a number of 32 bits.
-    let _cells = case.system.cells;
     check_permitted(case.cells, hidden.flags.as_slice())?;
     check_release(alloc, case.book, hidden, case.names, case.decimals, release)?;
     check_shown(alloc, case, hidden, certificate)
@@ -117,14 +115,12 @@ pub(crate) fn check_shown(
     ensures exact { Gives fault_of (λ u. u) result (shown_fault case.now hidden.old.flags certificate.now) }
     ensures hidden { OnOk result (hidden.new.flags ≡ hidden.old.flags) }
 {
-    // for the proof: read, so that it is known to be a number of 32 bits.
-    let _cells = case.system.cells;
     let mut scratch = Vec::from_elem(alloc, 0, case.cells.len())?;
     check_hiding(alloc, case, hidden, certificate, &mut scratch)?;
     let worlds = certificate.worlds.as_slice();
-    check_worlds(alloc, case.system, case.cells, hidden, worlds, &mut scratch)?;
+    check_worlds(alloc, case, hidden, worlds, &mut scratch)?;
     let needs = certificate.needs.as_slice();
-    check_needs(alloc, case.system, case.cells, hidden, needs, &mut scratch)
+    check_needs(alloc, case, hidden, needs, &mut scratch)
 }
 
 // The first fault of what hides cells.
@@ -142,8 +138,6 @@ fn check_hiding(
     ensures exact { Gives fault_of (λ u. u) result (hiding_fault case.now hidden.now.flags certificate.now) }
     ensures length { length scratch.new ≡ length scratch.old }
 {
-    // for the proof: read, so that it is known to be a number of 32 bits.
-    let _cells = case.system.cells;
     check_steps(case.trail.steps.as_slice(), certificate.steps.as_slice())?;
     let mut wider = planned_hidden(alloc, case.cells, case.trail.steps.as_slice())?;
     check_repairs(

@@ -4,51 +4,50 @@ ghost use Rattle.sdc_base.specs.Answers.{Gives};
 ghost use Rattle.cert_check.specs.FirstFault.{fault_of};
 ghost use Rattle.cert_check.specs.WorldList as spec;
 
+use crate::case::Case;
 use crate::faults::CheckFault;
 use crate::numbering::number_of;
 use certificate::WorldLine;
 use repair::questions_of;
-use sdc_base::{Cell, Hidden, Side, System};
+use sdc_base::{Hidden, Side};
 use std::alloc::Global;
 use worlds::{check_world, reaches};
 
 /// Refuses worlds that aren't two for each primary cell by which the set protects it.
 pub(crate) fn check_worlds(
     alloc: Global,
-    system: &System,
-    cells: &[Cell],
+    case: &Case<'_>,
     hidden: &Hidden,
     lines: &[WorldLine],
     scratch: &mut [i128],
 ) -> Result<(), CheckFault>
-    requires ground { IsGround system.now cells.now hidden.now.flags }
-    requires scratch { length scratch.old ≡ system.now.cells }
-    ensures exact { Gives fault_of (λ u. u) result (spec.worlds_fault system.now cells.now hidden.now.flags lines.now) }
+    requires ground { IsGround case.now.system.now case.now.cells.now hidden.now.flags }
+    requires scratch { length scratch.old ≡ case.now.system.now.cells }
+    ensures exact { Gives fault_of (λ u. u) result
+        (spec.worlds_fault case.now.system.now case.now.cells.now hidden.now.flags lines.now) }
     ensures length { length scratch.new ≡ length scratch.old }
 {
-    // Read, so that it is known to be a number of 32 bits.
-    let _cells = system.cells;
-    let asked = questions_of(alloc, cells)?;
-    check_lines(system, cells, hidden, &asked, lines, scratch)
+    let asked = questions_of(alloc, case.cells)?;
+    check_lines(case, hidden, &asked, lines, scratch)
 }
 
 // The first fault of the lines, one for each that is asked.
 fn check_lines(
-    system: &System,
-    cells: &[Cell],
+    case: &Case<'_>,
     hidden: &Hidden,
     asked: &[(u32, Side)],
     lines: &[WorldLine],
     scratch: &mut [i128],
 ) -> Result<(), CheckFault>
-    requires ground { IsGround system.now cells.now hidden.now.flags }
-    requires scratch { length scratch.old ≡ system.now.cells }
-    requires asked { All (λ one. one.0 < system.now.cells) asked.now }
-    ensures exact { result ≡ spec.lines_fault system.now cells.now hidden.now.flags 0 asked.now lines.now }
+    requires ground { IsGround case.now.system.now case.now.cells.now hidden.now.flags }
+    requires scratch { length scratch.old ≡ case.now.system.now.cells }
+    requires asked { All (λ one. one.0 < case.now.system.now.cells) asked.now }
+    ensures exact { result ≡
+        spec.lines_fault case.now.system.now case.now.cells.now hidden.now.flags 0 asked.now lines.now }
     ensures length { length scratch.new ≡ length scratch.old }
 {
     for (place, line) in lines.iter().enumerate() {
-        check_place(system, cells, hidden, asked, place, line, scratch)?;
+        check_place(case, hidden, asked, place, line, scratch)?;
     }
     if lines.len() < asked.len() {
         return Err(CheckFault::WorldCell(number_of(lines.len())));
@@ -58,51 +57,51 @@ fn check_lines(
 
 // The fault of the line at a place.
 fn check_place(
-    system: &System,
-    cells: &[Cell],
+    case: &Case<'_>,
     hidden: &Hidden,
     asked: &[(u32, Side)],
     place: usize,
     line: &WorldLine,
     scratch: &mut [i128],
 ) -> Result<(), CheckFault>
-    requires ground { IsGround system.now cells.now hidden.now.flags }
-    requires scratch { length scratch.old ≡ system.now.cells }
-    requires asked { All (λ one. one.0 < system.now.cells) asked.now }
-    ensures exact { result ≡ spec.place_fault system.now cells.now hidden.now.flags place (slice_get asked.now place)
+    requires ground { IsGround case.now.system.now case.now.cells.now hidden.now.flags }
+    requires scratch { length scratch.old ≡ case.now.system.now.cells }
+    requires asked { All (λ one. one.0 < case.now.system.now.cells) asked.now }
+    ensures exact { result ≡
+        spec.place_fault case.now.system.now case.now.cells.now hidden.now.flags place (slice_get asked.now place)
         line.now }
     ensures length { length scratch.new ≡ length scratch.old }
 {
     match asked.get(place) {
-        Some(one) => check_line(system, cells, hidden, number_of(place), *one, line, scratch),
+        Some(one) => check_line(case, hidden, number_of(place), *one, line, scratch),
         None => Err(CheckFault::WorldCell(number_of(place))),
     }
 }
 
 // The fault of a line for what is asked.
 fn check_line(
-    system: &System,
-    cells: &[Cell],
+    case: &Case<'_>,
     hidden: &Hidden,
     number: u32,
     asked: (u32, Side),
     line: &WorldLine,
     scratch: &mut [i128],
 ) -> Result<(), CheckFault>
-    requires ground { IsGround system.now cells.now hidden.now.flags }
-    requires scratch { length scratch.old ≡ system.now.cells }
-    requires asked { asked.0 < system.now.cells }
-    ensures exact { result ≡ spec.line_fault system.now cells.now hidden.now.flags number asked line.now }
+    requires ground { IsGround case.now.system.now case.now.cells.now hidden.now.flags }
+    requires scratch { length scratch.old ≡ case.now.system.now.cells }
+    requires asked { asked.0 < case.now.system.now.cells }
+    ensures exact { result ≡
+        spec.line_fault case.now.system.now case.now.cells.now hidden.now.flags number asked line.now }
     ensures length { length scratch.new ≡ length scratch.old }
 {
     let (cell, side) = asked;
     if !is_for(cell, side, line) {
         return Err(CheckFault::WorldCell(number));
     }
-    if let Err(fault) = check_world(system, cells, hidden, &line.world, scratch) {
+    if let Err(fault) = check_world(case.system, case.cells, hidden, &line.world, scratch) {
         return Err(CheckFault::World(number, fault));
     }
-    if !reaches(&cells[cell as usize], side, cell, &line.world) {
+    if !reaches(&case.cells[cell as usize], side, cell, &line.world) {
         return Err(CheckFault::NotReached(cell, side));
     }
     Ok(())

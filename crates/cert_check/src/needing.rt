@@ -6,32 +6,31 @@ ghost use Rattle.repair.specs.Needs.{others_hidden};
 ghost use Rattle.cert_check.specs.FirstFault.{fault_of};
 ghost use Rattle.cert_check.specs.NeedList.{need_fault, place_fault, each_need_fault, needs_fault};
 
+use crate::case::Case;
 use crate::faults::CheckFault;
 use crate::numbering::number_of;
-use sdc_base::{Cell, Hidden, Memory, System};
+use sdc_base::{Cell, Hidden, Memory};
 use std::alloc::Global;
 use worlds::{Refuted, check_refutation};
 
 /// Refuses needs that aren't one for each hidden cell that isn't primary. The hidden set is as before.
 pub(crate) fn check_needs(
     alloc: Global,
-    system: &System,
-    cells: &[Cell],
+    case: &Case<'_>,
     hidden: &mut Hidden,
     needs: &[Refuted],
     scratch: &mut [i128],
 ) -> Result<(), CheckFault>
-    requires ground { IsGround system.now cells.now hidden.old.flags }
-    requires scratch { length scratch.old ≡ system.now.cells }
-    requires asked { All (λ need. need.cell < system.now.cells) needs.now }
-    ensures exact { Gives fault_of (λ u. u) result (needs_fault system.now cells.now hidden.old.flags needs.now) }
+    requires ground { IsGround case.now.system.now case.now.cells.now hidden.old.flags }
+    requires scratch { length scratch.old ≡ case.now.system.now.cells }
+    requires asked { All (λ need. need.cell < case.now.system.now.cells) needs.now }
+    ensures exact { Gives fault_of (λ u. u) result
+        (needs_fault case.now.system.now case.now.cells.now hidden.old.flags needs.now) }
     ensures hidden { OnOk result (hidden.new.flags ≡ hidden.old.flags) }
     ensures length { length scratch.new ≡ length scratch.old }
 {
-    // Read, so that it is known to be a number of 32 bits.
-    let _cells = system.cells;
-    let subjects = subjects_of(alloc, cells, hidden.flags.as_slice())?;
-    check_each(system, cells, hidden, &subjects, needs, scratch)
+    let subjects = subjects_of(alloc, case.cells, hidden.flags.as_slice())?;
+    check_each(case, hidden, &subjects, needs, scratch)
 }
 
 // The hidden cells that aren't primary.
@@ -65,23 +64,23 @@ fn add_subject(
 
 // The first fault of the needs, one for each subject.
 fn check_each(
-    system: &System,
-    cells: &[Cell],
+    case: &Case<'_>,
     hidden: &mut Hidden,
     subjects: &[u32],
     needs: &[Refuted],
     scratch: &mut [i128],
 ) -> Result<(), CheckFault>
-    requires ground { IsGround system.now cells.now hidden.old.flags }
-    requires scratch { length scratch.old ≡ system.now.cells }
-    requires subjects { subjects.now ≡ others_hidden hidden.old.flags 0 cells.now }
-    requires asked { All (λ need. need.cell < system.now.cells) needs.now }
-    ensures exact { result ≡ each_need_fault system.now cells.now hidden.old.flags 0 subjects.now needs.now }
+    requires ground { IsGround case.now.system.now case.now.cells.now hidden.old.flags }
+    requires scratch { length scratch.old ≡ case.now.system.now.cells }
+    requires subjects { subjects.now ≡ others_hidden hidden.old.flags 0 case.now.cells.now }
+    requires asked { All (λ need. need.cell < case.now.system.now.cells) needs.now }
+    ensures exact { result ≡
+        each_need_fault case.now.system.now case.now.cells.now hidden.old.flags 0 subjects.now needs.now }
     ensures hidden { OnOk result (hidden.new.flags ≡ hidden.old.flags) }
     ensures length { length scratch.new ≡ length scratch.old }
 {
     for (place, need) in needs.iter().enumerate() {
-        check_place(system, cells, hidden, subjects, place, need, scratch)?;
+        check_place(case, hidden, subjects, place, need, scratch)?;
     }
     if needs.len() < subjects.len() {
         return Err(CheckFault::NeedCell(number_of(needs.len())));
@@ -91,33 +90,25 @@ fn check_each(
 
 // The fault of the need at a place.
 fn check_place(
-    system: &System,
-    cells: &[Cell],
+    case: &Case<'_>,
     hidden: &mut Hidden,
     subjects: &[u32],
     place: usize,
     need: &Refuted,
     scratch: &mut [i128],
 ) -> Result<(), CheckFault>
-    requires ground { IsGround system.now cells.now hidden.old.flags }
-    requires scratch { length scratch.old ≡ system.now.cells }
-    requires subjects { subjects.now ≡ others_hidden hidden.old.flags 0 cells.now }
-    requires asked { need.now.cell < system.now.cells }
-    ensures exact { result ≡ place_fault system.now cells.now hidden.old.flags place (slice_get subjects.now place)
+    requires ground { IsGround case.now.system.now case.now.cells.now hidden.old.flags }
+    requires scratch { length scratch.old ≡ case.now.system.now.cells }
+    requires subjects { subjects.now ≡ others_hidden hidden.old.flags 0 case.now.cells.now }
+    requires asked { need.now.cell < case.now.system.now.cells }
+    ensures exact { result ≡
+        place_fault case.now.system.now case.now.cells.now hidden.old.flags place (slice_get subjects.now place)
         need.now }
     ensures hidden { OnOk result (hidden.new.flags ≡ hidden.old.flags) }
     ensures length { length scratch.new ≡ length scratch.old }
 {
     match subject_at(subjects, place) {
-        Some(subject) => check_need(
-            system,
-            cells,
-            hidden,
-            number_of(place),
-            subject,
-            need,
-            scratch,
-        ),
+        Some(subject) => check_need(case, hidden, number_of(place), subject, need, scratch),
         None => Err(CheckFault::NeedCell(number_of(place))),
     }
 }
@@ -132,20 +123,20 @@ fn subject_at(subjects: &[u32], place: usize) -> Option<u32>
 
 // The fault of a need with this subject, which is hidden.
 fn check_need(
-    system: &System,
-    cells: &[Cell],
+    case: &Case<'_>,
     hidden: &mut Hidden,
     number: u32,
     subject: u32,
     need: &Refuted,
     scratch: &mut [i128],
 ) -> Result<(), CheckFault>
-    requires ground { IsGround system.now cells.now hidden.old.flags }
-    requires scratch { length scratch.old ≡ system.now.cells }
-    requires within { subject < system.now.cells }
+    requires ground { IsGround case.now.system.now case.now.cells.now hidden.old.flags }
+    requires scratch { length scratch.old ≡ case.now.system.now.cells }
+    requires within { subject < case.now.system.now.cells }
     requires hidden { is_hidden hidden.old.flags subject ≡ true }
-    requires asked { need.now.cell < system.now.cells }
-    ensures exact { result ≡ need_fault system.now cells.now hidden.old.flags number subject need.now }
+    requires asked { need.now.cell < case.now.system.now.cells }
+    ensures exact { result ≡
+        need_fault case.now.system.now case.now.cells.now hidden.old.flags number subject need.now }
     ensures hidden { OnOk result (hidden.new.flags ≡ hidden.old.flags) }
     ensures length { length scratch.new ≡ length scratch.old }
 {
@@ -154,8 +145,8 @@ fn check_need(
     }
     hidden.flags.set(subject as usize, false);
     if let Err(fault) = check_refutation(
-        system,
-        cells,
+        case.system,
+        case.cells,
         hidden,
         need.cell,
         need.side,

@@ -57,8 +57,6 @@ fn check_values(
     requires from_zero { All (λ value. pos 0 ≤ℤ value) values.now }
     ensures { result ≡ spec.values_fault system.now cells.now base values.now }
 {
-    // for the proof: read, so that it is known to be a number of 32 bits.
-    let _cells = system.cells;
     if let Some(number) = first_unrounded(cells, base, values) {
         return Err(CheckFault::Rounded(number));
     }

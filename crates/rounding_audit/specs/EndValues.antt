@@ -5,6 +5,8 @@ use Rattle.sdc_base.specs.declared.cell.Cell.{Cell}
 use Rattle.sdc_base.specs.declared.side.Side.{Side}
 use Rattle.sdc_base.specs.declared.side.Side.TheVariants.{Above, Below}
 use Rattle.sdc_base.specs.declared.system.System.{System}
+use Rattle.interval_audit.specs.Ends.{IsWholeEnd}
+use Rattle.interval_audit.specs.declared.ends.TwoEnds.{TwoEnds}
 use Rattle.cell_intervals.specs.Intervals.{IsGreatestValue, IsLeastValue}
 use Rattle.cell_intervals.specs.declared.ratio.Ratio.{Ratio}
 
@@ -17,3 +19,9 @@ IsEndValueOf system known flags number cell Above value = IsGreatestValue system
 abbrev pub IsEndValue : System → List Cell → List Bool → ℕ → Side → Ratio → Type 0
 IsEndValue system known flags number side value =
     (cell : Cell) × (slice_get known number ≡ Some cell) × IsEndValueOf system known flags number cell side value
+
+-- the answers of a cell's two questions are both in whole units
+pub record AreWholeEnds (system : System) (known : List Cell) (flags : List Bool) (number : ℕ)
+    (ends : TwoEnds) : Type 0 where
+  pub below : IsWholeEnd system known flags number Below ends.below
+  pub above : IsWholeEnd system known flags number Above ends.above

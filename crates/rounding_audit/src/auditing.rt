@@ -8,7 +8,7 @@ ghost use Rattle.interval_audit.specs.WalkLimits.{HasNoWalk as HasNoQuestionWalk
 ghost use Rattle.cell_intervals.specs.IntervalFaults.{HasBothEnds, HasSmallComponent};
 ghost use Rattle.rounding_audit.specs.AuditFaults.{HasNoWalk, IsAuditFault, IsQuestionFault};
 ghost use Rattle.rounding_audit.specs.Audits.{HasWholeEnds, IsAudit, IsAuditedCell, IsAuditedEnd, IsWhole};
-ghost use Rattle.rounding_audit.specs.EndValues.{IsEndValue};
+ghost use Rattle.rounding_audit.specs.EndValues.{AreWholeEnds, IsEndValue};
 ghost use Rattle.rounding_audit.specs.ReaderFaults.{truths_of};
 ghost use Rattle.rounding_audit.specs.Readers as readers;
 
@@ -157,8 +157,7 @@ fn cell_from(reader: &Reader<'_>, number: u32, ends: TwoEnds) -> AuditedCell
     ensures number { result.cell ≡ number }
     ensures right { IsAuditedCell reader.now.system.now reader.now.cells.now reader.now.values.now reader.now.base
         result }
-    ensures whole { IsWholeEnd reader.now.system.now reader.now.known.now reader.now.hidden.now.flags number Below ends.below
-        → IsWholeEnd reader.now.system.now reader.now.known.now reader.now.hidden.now.flags number Above ends.above
+    ensures whole { AreWholeEnds reader.now.system.now reader.now.known.now reader.now.hidden.now.flags number ends
         → HasWholeEnds result }
 {
     let (low, high) = values_from(reader, number, &ends);
@@ -183,9 +182,7 @@ fn values_from(reader: &Reader<'_>, number: u32, ends: &TwoEnds) -> (Ratio, Rati
         result.0 }
     ensures high { IsEndValue reader.now.system.now reader.now.known.now reader.now.hidden.now.flags number Above
         result.1 }
-    ensures whole { IsWholeEnd reader.now.system.now reader.now.known.now reader.now.hidden.now.flags number Below
-        ends.now.below
-        → IsWholeEnd reader.now.system.now reader.now.known.now reader.now.hidden.now.flags number Above ends.now.above
+    ensures whole { AreWholeEnds reader.now.system.now reader.now.known.now reader.now.hidden.now.flags number ends.now
         → (result.0.den ≡ 1) × (result.1.den ≡ 1) }
 {
     let found = interval_from(

@@ -42,8 +42,6 @@ pub fn reader_cells(
     ensures rounded { IsOk result → IsRounding system.now (truths_of cells.now) base values.now }
     ensures fault { IfErr result (IsReaderFault system.now cells.now values.now base) }
 {
-    // for the proof: read, so that it is known to be a number of 32 bits.
-    let _cells = system.cells;
     if let Some(number) = first_unrounded(cells, values, &base) {
         return Err(ReaderFault::Rounded(number));
     }

@@ -17,4 +17,4 @@ returns-clause-ended c =
     })
 
 pub returns-clause-whole : goal.returns-clause-whole
-returns-clause-whole c = λ signs are. c.cell_from.ensures.whole (c.in_ok-ends.ensures.below_whole signs are) (c.in_ok-ends.ensures.above_whole signs are)
+returns-clause-whole c = λ signs are. c.cell_from.ensures.whole (record { below = c.in_ok-ends.ensures.below_whole signs are; above = c.in_ok-ends.ensures.above_whole signs are })

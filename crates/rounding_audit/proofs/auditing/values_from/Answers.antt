@@ -45,7 +45,7 @@ returns-clause-whole c =
     let found = c.interval_from-found in
     let told : IsWholeEnd r.system.now r.known.now r.hidden.now.flags c.args.number Below c.args.ends.now.below → IsWholeEnd r.system.now r.known.now r.hidden.now.flags c.args.number Above c.args.ends.now.above → HasWholeEnds r.system.now r.known.now r.hidden.now.flags found.result =
     subst (λ (own : System). IsWholeEnd own r.known.now r.hidden.now.flags c.args.number Below c.args.ends.now.below → IsWholeEnd own r.known.now r.hidden.now.flags c.args.number Above c.args.ends.now.above → HasWholeEnds own r.known.now r.hidden.now.flags found.result) c.system.ensures found.ensures.whole in
-    λ below above.
-    let whole = told below above in
+    λ ends.
+    let whole = told ends.below ends.above in
     let high = subst (λ (end : UpperEnd). IsWholeUpperEnd r.system.now r.known.now r.hidden.now.flags found.result.cell whole.cell end) c.in-At.is whole.high in
     (whole.low.0, high.0)

@@ -26,3 +26,6 @@ returns-clause-rounded c =
       adjacent = λ number inside. rounded number (omega (arith, inside, c.requires.each_cell));
       hold = subst (HoldOn (number_at c.args.values.now)) c.as_slice.ensures c.in_default-first_broken.ensures.none;
     }
+
+pub first_unrounded-requires-clause-fewer_than_2_32 : goal.first_unrounded-requires-clause-fewer_than_2_32
+first_unrounded-requires-clause-fewer_than_2_32 c = omega (arith, c.requires.each_cell, c.args.system.now.below_2_32)
