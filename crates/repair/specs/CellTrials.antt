@@ -1,6 +1,6 @@
 -- Hidden cells that aren't primary, tried as shown, and how far this has come (own).
-use Rattle.std.specs.Prelude.{◌≡◌, ◌≢◌, ℕ, ◌<◌, ◌&&◌, not, Bool, true, false, List, [], ◌∷◌, length, map, take, drop, slice_get, slice_set, All, Option, None, Some, ◌*ℤ◌, int_le, if◌then◌else◌}
-use Rattle.std.specs.List.{list_all}
+use Rattle.std.specs.Prelude.{◌≡◌, ◌≢◌, ℕ, ◌<◌, ◌&&◌, ◌||◌, not, Bool, true, false, List, [], ◌∷◌, ◌++◌, length, nat_lt, map, take, drop, slice_get, slice_set, All, Option, None, Some, ◌*ℤ◌, int_le, if◌then◌else◌}
+use Rattle.std.specs.List.{list_all, list_any}
 use Rattle.std.specs.Option.{option_map_or}
 use Rattle.sdc_base.specs.declared.cell.Cell.{Cell}
 use Rattle.sdc_base.specs.declared.cell.Kind.TheVariants.{Primary, Free}
@@ -36,6 +36,16 @@ abbrev pub serves_beside : Cell → ℕ × Side → List Bool → World → Bool
 serves_beside cell asked flags world =
     int_le (world.den *ℤ level asked.1 cell) (amount_toward asked.1 (number_given (terms_of world.moves) asked.0))
     && fits flags world
+
+-- whether a world at hand, kept or spare, does
+abbrev pub is_at_hand : Cell → ℕ × Side → List Bool → List World → List Spare → Bool
+is_at_hand cell asked flags worlds spares =
+    list_any (serves_beside cell asked flags) worlds
+    || list_any (λ spare. serves_beside cell asked flags spare.world) spares
+
+-- the spares with one more, where there are fewer than this number
+abbrev pub spares_with : List Spare → ℕ → Spare → List Spare
+spares_with spares most spare = if nat_lt (length spares) most then spares ++ spare ∷ [] else spares
 
 -- a world that serves a question for some hidden set
 abbrev pub IsKept : Case → ℕ × Side → World → Type 0

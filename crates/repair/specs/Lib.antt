@@ -10,5 +10,6 @@ pub mod Verdicts
 pub mod WholeVerdicts
 pub mod QuestionSteps
 pub mod CellTrials
+pub mod Attempts
 pub mod Laws
 pub mod Tasks

@@ -30,8 +30,6 @@ pub(crate) fn subject_of(
         (coefficients_for task.now.system.now asked multipliers.now) number) }
 {
     let system = task.system.system();
-    // for the proof: read, so that it is known to be a number of 32 bits
-    let _cells = system.cells;
     match check_refutation(
         system,
         task.cells,

@@ -5,12 +5,13 @@ ghost use Rattle.repair.specs.Tasks.{case_of};
 ghost use Rattle.repair.specs.CellTrials.{AreGuesses};
 ghost use Rattle.repair.specs.CellTrials as spec;
 
+use crate::attempt::Attempt;
 use crate::task::Task;
 use crate::trial::fits;
 use guessed_worlds::WorldSearch;
 use sdc_base::{Hidden, Side};
 use std::alloc::Global;
-use worlds::World;
+use worlds::{Pattern, World};
 
 /// A search for worlds, and for each question, in its order, the last world that it found, if any.
 #[derive(Drop)]
@@ -45,28 +46,30 @@ fn no_guesses(alloc: Global, count: usize) -> Vec<Option<World>>
 
 // Whether a guess serves the question at a place with hidden cells alone: the last one, or else a new one, which is
 // kept in its place.
-pub(crate) fn is_guessed(
+pub(crate) fn is_guessed<'p>(
     alloc: Global,
-    task: &Task<'_, '_>,
-    hidden: &Hidden,
+    attempt: &'p Attempt<'p, 'p, 'p>,
     place: usize,
     asked: (u32, Side),
     guesses: &mut Guesses,
 ) -> bool
-    requires each { length hidden.now.flags ≡ task.now.system.now.cells }
-    requires stands { StandsAt task.now.cells.now asked place }
-    requires guesses { AreGuesses (case_of task.now) guesses.old.last.items }
-    ensures guesses { AreGuesses (case_of task.now) guesses.new.last.items }
-    ensures protects { IsTrue result
-        → Protects task.now.system.now task.now.cells.now hidden.now.flags asked.0 asked.1 }
+    requires stands { StandsAt attempt.now.task.now.cells.now asked place }
+    requires guesses { AreGuesses (case_of attempt.now.task.now) guesses.old.last.items }
+    ensures guesses { AreGuesses (case_of attempt.now.task.now) guesses.new.last.items }
+    ensures protects { IsTrue result → Protects attempt.now.task.now.system.now attempt.now.task.now.cells.now
+        attempt.now.hidden.now.flags asked.0 asked.1 }
 {
+    let hidden = attempt.hidden;
     if is_fitting(guesses.last.as_slice(), place, hidden.flags.as_slice()) {
         return true;
     }
-    let system = task.system.system();
-    let found = guesses
-        .search
-        .world_for(alloc, system, task.cells, hidden, asked);
+    let task = attempt.task;
+    let pattern = Pattern {
+        system: task.system.system(),
+        cells: task.cells,
+        hidden,
+    };
+    let found = guesses.search.world_for(alloc, &pattern, asked);
     match found {
         Some(world) => {
             keep_guess(&mut guesses.last, place, world);

@@ -2,6 +2,7 @@
 //! be hidden.
 #![tactic(auto)]
 
+mod attempt;
 mod cheapest;
 mod guesses;
 mod laws;

@@ -5,11 +5,11 @@ ghost use Rattle.sdc_base.specs.HiddenSets.{MayHide};
 ghost use Rattle.sdc_base.specs.Signs.{AreSigns};
 ghost use Rattle.sdc_base.specs.Trails.{corners_of};
 ghost use Rattle.repair.specs.HidingOrder.{protected_case, prices_of, planned_set, ProtectsAll};
-ghost use Rattle.repair.specs.KeptWorlds.{HasModestLevels, AreServed};
+ghost use Rattle.repair.specs.KeptWorlds.{HasModestLevels};
 ghost use Rattle.repair.specs.Tasks.{case_of};
-ghost use Rattle.worlds.specs.ProtectFaults.{asked_of};
 ghost use Rattle.repair.specs.Stops.{IsStopAsTold};
 ghost use Rattle.repair.specs.QuestionSteps.{IsRepairedForAll};
+ghost use Rattle.repair.specs.Attempts.{IsServedSet};
 ghost use Rattle.repair.specs.Verdicts.{IsVerdict, IsNarrowed, is_cannot};
 ghost use Rattle.repair.specs.WholeVerdicts.{IsWholeVerdict, IsWholeStop};
 
@@ -96,8 +96,6 @@ pub fn protect<'a, F: TellsCosts>(
     ensures whole_stop { (signs : List Bool) → AreSigns system.now.relations signs
         → IfErr result (λ stopped. IsWholeStop stopped) }
 {
-    // for the proof: read, so that it is known to be a number of 32 bits
-    let _cells = system.cells;
     let Ok(prices) = list_prices(alloc, cells, marks, rule) else {
         return Err(out_of_memory(alloc));
     };
@@ -167,9 +165,7 @@ fn narrowed_verdict<'a>(
     scratch: &mut [i128],
 ) -> Result<Verdict<'a>, Stopped>
     requires scratch { length scratch.old ≡ task.now.system.now.cells }
-    requires each { length repaired.hidden.flags ≡ task.now.system.now.cells }
-    requires permitted { IsPermitted task.now.cells.now repaired.hidden.flags }
-    requires served { AreServed (case_of task.now) repaired.hidden.flags (asked_of 0 task.now.cells.now) repaired.worlds }
+    requires served { IsServedSet (case_of task.now) repaired.hidden.flags repaired.worlds }
     ensures verdict { IfOk result (λ verdict. (planned : List Bool) → IsRepairedForAll task.now planned repaired
         → IsVerdict (case_of task.now) task.now.prices.now planned verdict) }
     ensures stopped { IfErr result (λ stopped. (planned : List Bool) → IsRepairedForAll task.now planned repaired
@@ -189,7 +185,7 @@ fn narrowed_verdict<'a>(
     Ok(verdict_of(task, progress, tried.needs, scratch))
 }
 
-// The verdict that a hidden set protects, by the worlds that are kept for all task.questions.
+// The verdict that a hidden set protects, by the worlds that are kept for all questions.
 fn verdict_of<'a>(
     task: &Task<'a, '_>,
     progress: Progress,
@@ -197,9 +193,7 @@ fn verdict_of<'a>(
     scratch: &mut [i128],
 ) -> Verdict<'a>
     requires scratch { length scratch.old ≡ task.now.system.now.cells }
-    requires each { length progress.hidden.flags ≡ task.now.system.now.cells }
-    requires permitted { IsPermitted task.now.cells.now progress.hidden.flags }
-    requires served { AreServed (case_of task.now) progress.hidden.flags (asked_of 0 task.now.cells.now) progress.worlds }
+    requires served { IsServedSet (case_of task.now) progress.hidden.flags progress.worlds }
     ensures { (planned : List Bool) → IsNarrowed task.now planned progress needs
         → IsVerdict (case_of task.now) task.now.prices.now planned result }
 {

@@ -1,12 +1,11 @@
-ghost use Rattle.std.specs.Prelude.{◌≡◌, ◌<◌, ◌+◌, List, Bool, length, filter, take, IfErr, OnOk};
-ghost use Rattle.sdc_base.specs.HiddenSets.{IsPermitted};
+ghost use Rattle.std.specs.Prelude.{◌≡◌, ◌<◌, ◌+◌, length, filter, take, IfErr, OnOk};
 ghost use Rattle.worlds.specs.ProtectFaults.{asked_of};
-ghost use Rattle.worlds.specs.declared.refuted.Refuted.{Refuted as AnyRefuted};
 ghost use Rattle.repair.specs.HidingOrder.{ProtectsBefore};
 ghost use Rattle.repair.specs.Tasks.{case_of};
 ghost use Rattle.repair.specs.KeptWorlds.{AreServed, AreServedBefore};
-ghost use Rattle.repair.specs.CellTrials.{AreKept, AreSpare, AnswerOnWay, AnswerTrials, HasFault};
+ghost use Rattle.repair.specs.CellTrials.{AreKept, AreSpare, HasFault};
 ghost use Rattle.repair.specs.CellTrials as spec;
+ghost use Rattle.repair.specs.Attempts.{IsTriedSet, StayOnWay, StayOnWayWith};
 
 use crate::serving::level_question;
 use crate::task::Task;
@@ -25,17 +24,12 @@ pub(crate) fn renew_all(
     worlds: &mut Items<World>,
     spares: &mut Vec<Spare>,
 ) -> Result<(), AskFault>
-    requires each { length hidden.now.flags ≡ task.now.system.now.cells }
-    requires permitted { IsPermitted task.now.cells.now hidden.now.flags }
-    requires kept { AreKept (case_of task.now) (asked_of 0 task.now.cells.now) worlds.old }
+    requires set { IsTriedSet (case_of task.now) hidden.now.flags worlds.old }
     requires spares { AreSpare (case_of task.now) spares.old.items }
     requires protecting { ProtectsBefore (case_of task.now) hidden.now.flags (length task.now.questions.now) }
     ensures served { OnOk result (AreServed (case_of task.now) hidden.now.flags (asked_of 0 task.now.cells.now)
         worlds.new) }
-    ensures answers { (planned : List Bool) (repairs : List AnyRefuted)
-        → AnswerOnWay task.now planned repairs hidden.now.flags worlds.old
-        → AnswerTrials task.now planned repairs hidden.now.flags spares.old.items
-        → OnOk result (AnswerOnWay task.now planned repairs hidden.now.flags worlds.new) }
+    ensures answers { OnOk result (StayOnWayWith task.now hidden.now.flags spares.old.items worlds.old worlds.new) }
     ensures err { IfErr result (λ fault. HasFault (case_of task.now) hidden.now.flags task.now.limit fault) }
 {
     let flags = hidden.flags.as_slice();
@@ -56,10 +50,7 @@ fn take_over(
     requires kept { AreKept (case_of task.now) (asked_of 0 task.now.cells.now) worlds.old }
     requires spares { AreSpare (case_of task.now) spares.old.items }
     ensures kept { AreKept (case_of task.now) (asked_of 0 task.now.cells.now) worlds.new }
-    ensures answers { (planned : List Bool) (repairs : List AnyRefuted)
-        → AnswerOnWay task.now planned repairs flags.now worlds.old
-        → AnswerTrials task.now planned repairs flags.now spares.old.items
-        → AnswerOnWay task.now planned repairs flags.now worlds.new }
+    ensures answers { StayOnWayWith task.now flags.now spares.old.items worlds.old worlds.new }
 {
     'spares: while let Some(spare) = spares.pop() {
         offer(flags, worlds, spare);
@@ -90,18 +81,14 @@ fn renew_question(
     worlds: &mut Items<World>,
 ) -> Result<(), AskFault>
     requires place { place < length task.now.questions.now }
-    requires each { length hidden.now.flags ≡ task.now.system.now.cells }
-    requires permitted { IsPermitted task.now.cells.now hidden.now.flags }
-    requires kept { AreKept (case_of task.now) (asked_of 0 task.now.cells.now) worlds.old }
+    requires set { IsTriedSet (case_of task.now) hidden.now.flags worlds.old }
     requires protecting { ProtectsBefore (case_of task.now) hidden.now.flags (length task.now.questions.now) }
     requires count { length worlds.old ≡ length task.now.questions.now }
     requires served { AreServedBefore (case_of task.now) hidden.now.flags place (take place worlds.old) }
     ensures kept { OnOk result (AreKept (case_of task.now) (asked_of 0 task.now.cells.now) worlds.new) }
     ensures served { OnOk result (AreServedBefore (case_of task.now) hidden.now.flags (place + 1)
         (take (place + 1) worlds.new)) }
-    ensures answers { (planned : List Bool) (repairs : List AnyRefuted)
-        → AnswerOnWay task.now planned repairs hidden.now.flags worlds.old
-        → OnOk result (AnswerOnWay task.now planned repairs hidden.now.flags worlds.new) }
+    ensures answers { OnOk result (StayOnWay task.now hidden.now.flags worlds.old worlds.new) }
     ensures err { IfErr result (λ fault. HasFault (case_of task.now) hidden.now.flags task.now.limit fault) }
 {
     let kept = worlds.as_slice();

@@ -1,21 +1,21 @@
-ghost use Rattle.std.specs.Prelude.{◌≡◌, ◌||◌, ◌<◌, ◌+◌, ◌++◌, ◌∷◌, [], List, Bool, Some, slice_get, length, nat_lt, if◌then◌else◌, IfOk, IfErr, OnOk, OnErr};
+ghost use Rattle.std.specs.Prelude.{◌≡◌, ◌<◌, ◌+◌, Some, slice_get, length, IfOk, IfErr, OnOk, OnErr};
 ghost use Rattle.std.specs.List.{list_any};
-ghost use Rattle.sdc_base.specs.HiddenSets.{is_hidden, IsPermitted};
+ghost use Rattle.sdc_base.specs.HiddenSets.{is_hidden};
 ghost use Rattle.sdc_base.specs.declared.cell.Cell.{Cell as AnyCell};
 ghost use Rattle.sdc_base.specs.declared.cell.Kind.TheVariants.{Primary as PrimaryKind};
 ghost use Rattle.worlds.specs.ProtectFaults.{asked_of};
 ghost use Rattle.repair.specs.HidingOrder.{IsOfKind, ProtectsBefore};
 ghost use Rattle.repair.specs.Tasks.{case_of};
-ghost use Rattle.repair.specs.OnTheWay.{IsOfTrial};
 ghost use Rattle.repair.specs.Stops.{IsQuestion};
-ghost use Rattle.repair.specs.CellTrials.{AreKept, AreSpare, AreGuesses, AreTrialAnswers, ProtectsBeforeOr, HasFault};
+ghost use Rattle.repair.specs.CellTrials.{AreKept, AreSpare, AreGuesses, ProtectsBeforeOr, HasFault};
+ghost use Rattle.repair.specs.Attempts.{StayTrialAnswers};
 ghost use Rattle.repair.specs.CellTrials as spec;
 
+use crate::attempt::Attempt;
 use crate::guesses::{Guesses, is_guessed};
 use crate::serving::level_question;
-use crate::task::Task;
 use interval_audit::{Answer, AskFault};
-use sdc_base::{Cell, Hidden, Memory, Side};
+use sdc_base::{Cell, Memory, Side};
 use std::alloc::Global;
 use worlds::{Refuted, World, reaches};
 
@@ -26,34 +26,29 @@ pub(crate) struct Spare {
     pub(crate) world: World,
 }
 
-// The first question, with its multipliers, that no world serves with a cell shown, if there is one. Only what no world
+// The first question, with its multipliers, that no world serves with the cell shown, if there is one. Only what no world
 // at hand and no guess serves is asked, and the answers are kept as spares.
 pub(crate) fn first_refused(
     alloc: Global,
-    task: &Task<'_, '_>,
-    cell: u32,
-    hidden: &Hidden,
-    worlds: &[World],
+    attempt: &Attempt<'_, '_, '_>,
     spares: &mut Vec<Spare>,
     guesses: &mut Guesses,
 ) -> Result<Option<Refuted>, AskFault>
-    requires each { length hidden.now.flags ≡ task.now.system.now.cells }
-    requires permitted { IsPermitted task.now.cells.now hidden.now.flags }
-    requires kept { AreKept (case_of task.now) (asked_of 0 task.now.cells.now) worlds.now }
-    requires spares { AreSpare (case_of task.now) spares.old.items }
-    requires guesses { AreGuesses (case_of task.now) guesses.old.last.items }
-    ensures guesses { AreGuesses (case_of task.now) guesses.new.last.items }
-    ensures spares { IfOk result (λ _. AreSpare (case_of task.now) spares.new.items) }
-    ensures answers { (larger : List Bool)
-        → IsOfTrial (case_of task.now) larger (cell + 1) hidden.now.flags hidden.now.flags
-        → AreTrialAnswers (case_of task.now) larger (cell + 1) hidden.now.flags spares.old.items
-        → IfOk result (λ _. AreTrialAnswers (case_of task.now) larger (cell + 1) hidden.now.flags spares.new.items) }
-    ensures ok { IfOk result (λ need. ProtectsBeforeOr (case_of task.now) hidden.now.flags cell
-        (length task.now.questions.now) need) }
-    ensures err { IfErr result (λ fault. HasFault (case_of task.now) hidden.now.flags task.now.limit fault) }
+    requires kept { AreKept (case_of attempt.now.task.now) (asked_of 0 attempt.now.task.now.cells.now)
+        attempt.now.worlds.now }
+    requires spares { AreSpare (case_of attempt.now.task.now) spares.old.items }
+    requires guesses { AreGuesses (case_of attempt.now.task.now) guesses.old.last.items }
+    ensures guesses { AreGuesses (case_of attempt.now.task.now) guesses.new.last.items }
+    ensures spares { IfOk result (λ _. AreSpare (case_of attempt.now.task.now) spares.new.items) }
+    ensures answers { IfOk result (λ _. StayTrialAnswers (case_of attempt.now.task.now) (attempt.now.cell + 1)
+        attempt.now.hidden.now.flags spares.old.items spares.new.items) }
+    ensures ok { IfOk result (λ need. ProtectsBeforeOr (case_of attempt.now.task.now) attempt.now.hidden.now.flags
+        attempt.now.cell (length attempt.now.task.now.questions.now) need) }
+    ensures err { IfErr result (λ fault. HasFault (case_of attempt.now.task.now) attempt.now.hidden.now.flags
+        attempt.now.task.now.limit fault) }
 {
-    'places: for place in 0..task.questions.len() {
-        let need = refusal_of(alloc, task, place, cell, hidden, worlds, spares, guesses)?;
+    'places: for place in 0..attempt.task.questions.len() {
+        let need = refusal_of(alloc, attempt, place, spares, guesses)?;
         if let Some(need) = need {
             return Ok(Some(need));
         }
@@ -61,40 +56,38 @@ pub(crate) fn first_refused(
     Ok(None)
 }
 
-// The multipliers of the question at a place, where no world serves it with a cell shown.
+// The multipliers of the question at a place, where no world serves it with the cell shown.
 fn refusal_of(
     alloc: Global,
-    task: &Task<'_, '_>,
+    attempt: &Attempt<'_, '_, '_>,
     place: usize,
-    cell: u32,
-    hidden: &Hidden,
-    worlds: &[World],
     spares: &mut Vec<Spare>,
     guesses: &mut Guesses,
 ) -> Result<Option<Refuted>, AskFault>
-    requires place { place < length task.now.questions.now }
-    requires each { length hidden.now.flags ≡ task.now.system.now.cells }
-    requires permitted { IsPermitted task.now.cells.now hidden.now.flags }
-    requires kept { AreKept (case_of task.now) (asked_of 0 task.now.cells.now) worlds.now }
-    requires spares { AreSpare (case_of task.now) spares.old.items }
-    requires guesses { AreGuesses (case_of task.now) guesses.old.last.items }
-    requires count { length worlds.now ≡ length task.now.questions.now }
-    requires before { ProtectsBefore (case_of task.now) hidden.now.flags place }
-    ensures guesses { AreGuesses (case_of task.now) guesses.new.last.items }
-    ensures spares { IfOk result (λ _. AreSpare (case_of task.now) spares.new.items) }
-    ensures answers { (larger : List Bool)
-        → IsOfTrial (case_of task.now) larger (cell + 1) hidden.now.flags hidden.now.flags
-        → AreTrialAnswers (case_of task.now) larger (cell + 1) hidden.now.flags spares.old.items
-        → IfOk result (λ _. AreTrialAnswers (case_of task.now) larger (cell + 1) hidden.now.flags spares.new.items) }
-    ensures ok { IfOk result (λ need. ProtectsBeforeOr (case_of task.now) hidden.now.flags cell (place + 1) need) }
-    ensures err { IfErr result (λ fault. IsQuestion (case_of task.now) hidden.now.flags task.now.limit fault place) }
+    requires place { place < length attempt.now.task.now.questions.now }
+    requires count { length attempt.now.worlds.now ≡ length attempt.now.task.now.questions.now }
+    requires before { ProtectsBefore (case_of attempt.now.task.now) attempt.now.hidden.now.flags place }
+    requires kept { AreKept (case_of attempt.now.task.now) (asked_of 0 attempt.now.task.now.cells.now)
+        attempt.now.worlds.now }
+    requires spares { AreSpare (case_of attempt.now.task.now) spares.old.items }
+    requires guesses { AreGuesses (case_of attempt.now.task.now) guesses.old.last.items }
+    ensures guesses { AreGuesses (case_of attempt.now.task.now) guesses.new.last.items }
+    ensures spares { IfOk result (λ _. AreSpare (case_of attempt.now.task.now) spares.new.items) }
+    ensures answers { IfOk result (λ _. StayTrialAnswers (case_of attempt.now.task.now) (attempt.now.cell + 1)
+        attempt.now.hidden.now.flags spares.old.items spares.new.items) }
+    ensures ok { IfOk result (λ need. ProtectsBeforeOr (case_of attempt.now.task.now) attempt.now.hidden.now.flags
+        attempt.now.cell (place + 1) need) }
+    ensures err { IfErr result (λ fault. IsQuestion (case_of attempt.now.task.now) attempt.now.hidden.now.flags
+        attempt.now.task.now.limit fault place) }
 {
-    let flags = hidden.flags.as_slice();
+    let task = attempt.task;
+    let worlds = attempt.worlds;
+    let flags = attempt.hidden.flags.as_slice();
     if fits(&worlds[place], flags) {
         return Ok(None);
     }
     let asked = task.questions[place];
-    if is_guessed(alloc, task, hidden, place, asked, guesses) {
+    if is_guessed(alloc, attempt, place, asked, guesses) {
         return Ok(None);
     }
     if is_at_hand(task.cells, asked, flags, worlds, spares.as_slice()) {
@@ -103,7 +96,7 @@ fn refusal_of(
     let question = level_question(task.cells, asked);
     let answer = task
         .system
-        .ask(alloc, task.cells, hidden, question, task.limit)?;
+        .ask(alloc, task.cells, attempt.hidden, question, task.limit)?;
     match answer {
         Answer::Reaches(world) => {
             let Ok(()) = keep_spare(spares, Spare { place, world }, task.questions.len()) else {
@@ -112,7 +105,7 @@ fn refusal_of(
             Ok(None)
         }
         Answer::Stops { multipliers, .. } => Ok(Some(Refuted {
-            subject: cell,
+            subject: attempt.cell,
             cell: asked.0,
             side: asked.1,
             multipliers,
@@ -130,8 +123,7 @@ fn is_at_hand(
 ) -> bool
     requires primary { IsOfKind cells.now asked.0 PrimaryKind }
     ensures { (cell : AnyCell) → slice_get cells.now asked.0 ≡ Some cell
-        → result ≡ (list_any (spec.serves_beside cell asked flags.now) worlds.now
-        || list_any (λ spare. spec.serves_beside cell asked flags.now spare.world) spares.now) }
+        → result ≡ spec.is_at_hand cell asked flags.now worlds.now spares.now }
 {
     let cell = &cells[asked.0 as usize];
     is_served(cell, asked, flags, worlds) || is_served_by_spare(cell, asked, flags, spares)
@@ -164,8 +156,7 @@ fn serves_beside(cell: &Cell, asked: (u32, Side), flags: &[bool], world: &World)
 
 // Keeps a spare, where there aren't as many already as there may be.
 fn keep_spare(spares: &mut Vec<Spare>, spare: Spare, most: usize) -> Result<(), Memory>
-    ensures ok { OnOk result (spares.new.items ≡ (if nat_lt (length spares.old.items) most
-        then spares.old.items ++ spare ∷ [] else spares.old.items)) }
+    ensures ok { OnOk result (spares.new.items ≡ spec.spares_with spares.old.items most spare) }
     ensures err { OnErr result (spares.new.items ≡ spares.old.items) }
 {
     if spares.len() < most {

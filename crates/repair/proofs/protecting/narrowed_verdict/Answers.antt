@@ -25,7 +25,7 @@ returns-clause-verdict c =
       within = subst (λ (f : List Bool). IsSubset flags f) larger tried.within;
       are_needs = subst (λ (f : List Bool). AreNeeds task flags f c.try_all-outcome.new.tried.needs) larger
           (all_needed task c.args.repaired.hidden.flags flags c.try_all-outcome.new.tried.needs c.try_all-outcome.new.tried.shown tried);
-      answers = subst (λ (r : List Refuted). AreAnswers task (IsOnWay task planned r flags) (asked_of 0 c.args.task.now.cells.now) c.try_all-outcome.new.progress.worlds) (sym same) (c.in_default.ensures.answers planned is.is_repaired.hidden_is is.answers);
+      answers = subst (λ (r : List Refuted). AreAnswers task (IsOnWay task planned r flags) (asked_of 0 c.args.task.now.cells.now) c.try_all-outcome.new.progress.worlds) (sym same) (c.in_default.ensures.answers planned is);
     })
 
 pub returns-in-Err-clause-stopped : goal.returns-in-Err-clause-stopped

@@ -31,7 +31,7 @@ returns-then-fits-clause-served c =
     let read : slice_get c.as_slice-kept.result.now c.args.place ≡ Some c.index-kept-place.result = slice_get_read c.as_slice-kept.result.now (length c.args.worlds.now) c.args.place c.index-kept-place.result (ap (λ (l : List World). length l) (sym c.as_slice-kept.ensures)) within c.index-kept-place.is in
     let kept : slice_get c.args.worlds.now c.args.place ≡ Some c.index-kept-place.result = subst (λ (l : List World). slice_get l c.args.place ≡ Some c.index-kept-place.result) c.as_slice-kept.ensures read in
     let fit : fits flags c.index-kept-place.result ≡ true = subst (λ (f : List Bool). fits f c.index-kept-place.result ≡ true) c.as_slice.ensures (sym c.fits.ensures ∙ c.if-fits.true) in
-    let own : IsKept task asked c.index-kept-place.result = kept_at task (asked_of 0 c.args.task.now.cells.now) c.args.worlds.now c.args.place asked c.index-kept-place.result stands kept c.requires.kept in
+    let own : IsKept task asked c.index-kept-place.result = kept_at task (asked_of 0 c.args.task.now.cells.now) c.args.worlds.now c.args.place asked c.index-kept-place.result stands kept c.requires.set.kept in
     served_next task flags c.args.worlds.now c.args.place asked c.index-kept-place.result stands kept (fitting_serves task flags asked c.index-kept-place.result fit own) c.requires.served
 
 pub level_question-question-requires-clause-primary : goal.level_question-question-requires-clause-primary
@@ -42,7 +42,7 @@ pub ask-requires-clause-hidden : goal.ask-requires-clause-hidden
 ask-requires-clause-hidden c =
     let asked : ℕ × Side = get_or c.args.task.now.questions.now c.args.place (0, Above) in
     let is : IsOfKind c.args.task.now.cells.now asked.0 Primary = asked_primary c.args.task.now.cells.now c.args.place asked (stands_there c.args.task.now.cells.now c.args.task.now.questions.now c.args.place (0, Above) c.args.task.now.fits.in_order c.requires.place) in
-    subst (λ n. is_hidden c.args.hidden.now.flags n ≡ true) (sym c.level_question-question.ensures.cell_is) (c.requires.permitted.primary_hidden asked.0 is.cell is.found is.is_kind)
+    subst (λ n. is_hidden c.args.hidden.now.flags n ≡ true) (sym c.level_question-question.ensures.cell_is) (c.requires.set.permitted.primary_hidden asked.0 is.cell is.found is.is_kind)
 
 pub returns-in_err-answer-clause-err : goal.returns-in_err-answer-clause-err
 returns-in_err-answer-clause-err c =
@@ -68,7 +68,7 @@ returns-clause-kept c =
     subst (IsTrueAnswer c.args.task.now.system.now c.args.task.now.cells.now flags c.level_question-question.result) c.in-Reaches.is c.in_ok-answer.ensures.right in
     let serving : IsServing task flags asked c.in-Reaches.world = serving_by task flags c.args.place asked c.level_question-question.result c.in-Reaches.world stands c.level_question-question.ensures reaching in
     subst (AreKept task (asked_of 0 c.args.task.now.cells.now)) (sym c.set.ensures)
-    (kept_set task (asked_of 0 c.args.task.now.cells.now) c.args.worlds.now c.args.place asked c.in-Reaches.world stands (flags, serving) c.requires.kept)
+    (kept_set task (asked_of 0 c.args.task.now.cells.now) c.args.worlds.now c.args.place asked c.in-Reaches.world stands (flags, serving) c.requires.set.kept)
 
 pub returns-clause-served : goal.returns-clause-served
 returns-clause-served c =

@@ -9,8 +9,8 @@ use Rattle.repair.proofs.trial.first_refused.Goals as goal
 
 pub refusal_of-requires-clause-count : goal.refusal_of-requires-clause-count
 refusal_of-requires-clause-count c =
-    kept_length (protected_case c.args.task.now.system.now c.args.task.now.cells.now) (asked_of 0 c.args.task.now.cells.now) c.args.worlds.now c.requires.kept
-    ∙ ap (λ (l : List (ℕ × Side)). length l) (sym c.args.task.now.fits.in_order)
+    kept_length (protected_case c.args.attempt.now.task.now.system.now c.args.attempt.now.task.now.cells.now) (asked_of 0 c.args.attempt.now.task.now.cells.now) c.args.attempt.now.worlds.now c.requires.kept
+    ∙ ap (λ (l : List (ℕ × Side)). length l) (sym c.args.attempt.now.task.now.fits.in_order)
 
 pub returns-in_err-need-clause-err : goal.returns-in_err-need-clause-err
 returns-in_err-need-clause-err c =
@@ -19,18 +19,18 @@ returns-in_err-need-clause-err c =
 
 pub returns-clause-ok : goal.returns-clause-ok
 returns-clause-ok c =
-    let task : Case = protected_case c.args.task.now.system.now c.args.task.now.cells.now in
-    let last : c.places.place ≡ length c.args.task.now.questions.now = omega (arith, c.places-test.false, c.places.auto.place-end) in
-    subst (ProtectsBefore task c.args.hidden.now.flags) last c.places.invariant.before
+    let task : Case = protected_case c.args.attempt.now.task.now.system.now c.args.attempt.now.task.now.cells.now in
+    let last : c.places.place ≡ length c.args.attempt.now.task.now.questions.now = omega (arith, c.places-test.false, c.places.auto.place-end) in
+    subst (ProtectsBefore task c.args.attempt.now.hidden.now.flags) last c.places.invariant.before
 
 pub returns-in-Some-clause-answers : goal.returns-in-Some-clause-answers
 returns-in-Some-clause-answers c = λ larger now before. c.in_ok-need.ensures.answers larger now (c.places.invariant.answers larger now before)
 
 pub places-preserved : goal.places-preserved
 places-preserved c =
-    let task : Case = protected_case c.args.task.now.system.now c.args.task.now.cells.now in
+    let task : Case = protected_case c.args.attempt.now.task.now.system.now c.args.attempt.now.task.now.cells.now in
     record {
-      before = subst (ProtectsBeforeOr task c.args.hidden.now.flags c.args.cell (c.places.place + 1)) c.in_default.is c.in_ok-need.ensures.ok;
+      before = subst (ProtectsBeforeOr task c.args.attempt.now.hidden.now.flags c.args.attempt.now.cell (c.places.place + 1)) c.in_default.is c.in_ok-need.ensures.ok;
       answers = λ larger now before. c.in_ok-need.ensures.answers larger now (c.places.invariant.answers larger now before);
       spares = c.in_ok-need.ensures.spares;
       guesses = c.refusal_of.ensures.guesses;

@@ -1,11 +1,15 @@
-use Rattle.std.proofs.Common.{◌≡◌, ◌==◌, ◌∙◌, [], false, ℕ, List, Bool, length, ap, sym, subst, arith, refl}
+use Rattle.std.proofs.Common.{◌≡◌, ◌==◌, ◌∙◌, [], ◌+◌, false, ℕ, List, Bool, length, ap, sym, subst, arith, refl}
 use Rattle.std.proofs.lemmas.List.Elements.{All-nil}
 use Rattle.worlds.specs.declared.refuted.Refuted.{Refuted}
 use Rattle.worlds.specs.ProtectFaults.{asked_of}
+use Rattle.worlds.proofs.TrueTests.{ok_more}
+use Rattle.sdc_base.specs.declared.side.Side.{Side}
 use Rattle.repair.specs.HidingOrder.{Case, protected_case, hide_subjects}
 use Rattle.repair.specs.CellTrials.{AreSpare, IsSpare, IsTrialAnswer, AreTrialAnswers, AnswerTrials, AnswerOnWay, IsTried}
 use Rattle.repair.specs.OnTheWay.{IsOfFirst, AreAnswers}
-use Rattle.repair.proofs.OnTheWay.{answers_first}
+use Rattle.repair.proofs.OnTheWay.{answers_first, trials_later}
+use Rattle.repair.specs.Attempts.{is_open_at}
+use Rattle.repair.proofs.Attempts.{one_closed, open_says}
 use Rattle.repair.proofs.AtHand.{kept_by}
 use Rattle.repair.proofs.Growing.{served_protect}
 use Rattle.repair.proofs.Tries.{none_tried, some_shown, end_stop, tries_stop, on_err_from}
@@ -15,21 +19,50 @@ pub cells-init : goal.cells-init
 cells-init c =
     let task : Case = protected_case c.args.task.now.system.now c.args.task.now.cells.now in
     let flags : List Bool = c.args.progress.now.hidden.flags in
+    let all : List (ℕ × Side) = asked_of 0 c.args.task.now.cells.now in
     record {
-      each = c.requires.each;
-      permitted = c.requires.permitted;
       repairs = refl;
       worlds = refl;
-      kept = kept_by task flags (asked_of 0 c.args.task.now.cells.now) c.args.progress.now.worlds c.requires.served;
-      spares = subst (AreSpare task) (sym c.requires.no_spares) (All-nil (IsSpare task));
-      guesses = c.requires.guesses;
+      ready = record {
+        set = record {
+          each = c.requires.served.each;
+          permitted = c.requires.served.permitted;
+          kept = kept_by task flags all c.args.progress.now.worlds c.requires.served.served;
+        };
+        spares = subst (AreSpare task) (sym c.requires.untried.no_spares) (All-nil (IsSpare task));
+        guesses = c.requires.untried.guesses;
+      };
       tried = record {
-        are_tried = subst (λ (ns : List Refuted). IsTried task flags 0 flags ns c.args.tried.now.shown) (sym c.requires.no_needs)
-            (subst (λ (l : List ℕ). IsTried task flags 0 flags [] l) (sym c.requires.none_shown)
-            (none_tried task flags (served_protect task flags (asked_of 0 c.args.task.now.cells.now) c.args.progress.now.worlds c.requires.served)));
-        answers = subst (AreTrialAnswers task flags 0 flags) (sym c.requires.no_spares) (All-nil (IsTrialAnswer task flags 0 flags));
+        are_tried = subst (λ (ns : List Refuted). IsTried task flags 0 flags ns c.args.tried.now.shown) (sym c.requires.untried.no_needs)
+            (subst (λ (l : List ℕ). IsTried task flags 0 flags [] l) (sym c.requires.untried.none_shown)
+            (none_tried task flags (served_protect task flags all c.args.progress.now.worlds c.requires.served.served)));
+        answers = subst (AreTrialAnswers task flags 0 flags) (sym c.requires.untried.no_spares) (All-nil (IsTrialAnswer task flags 0 flags));
       };
     }
+
+pub cells-preserved-then-not-is_open : goal.cells-preserved-then-not-is_open
+cells-preserved-then-not-is_open c =
+    let task : Case = protected_case c.args.task.now.system.now c.args.task.now.cells.now in
+    let larger : List Bool = c.args.progress.now.hidden.flags in
+    let flags : List Bool = c.cells.progress.hidden.flags in
+    let number : ℕ = c.cells.number in
+    let before = c.cells.invariant.tried in
+    record {
+      repairs = c.cells.invariant.repairs;
+      worlds = c.cells.invariant.worlds;
+      ready = c.cells.invariant.ready;
+      tried = record {
+        are_tried = one_closed task larger number flags c.cells.tried.needs c.cells.tried.shown c.cells-test.true c.cells.invariant.ready.set.permitted
+            (ap (λ (f : List Bool). is_open_at c.args.task.now.cells.now f c.cells.number) (sym c.as_slice.ensures) ∙ sym c.is_open.ensures ∙ c.if-not-is_open.true) before.are_tried;
+        answers = trials_later task larger number (number + 1) flags c.cells.tried.spares.items (omega arith) before.answers;
+      };
+    }
+
+pub try_one-requires-clause-is_free : goal.try_one-requires-clause-is_free
+try_one-requires-clause-is_free c = (open_says c.args.task.now.cells.now c.cells.progress.hidden.flags c.cells.number (ap (λ (f : List Bool). is_open_at c.args.task.now.cells.now f c.cells.number) (sym c.as_slice.ensures) ∙ sym c.is_open.ensures ∙ c.if-not-is_open.false)).0
+
+pub try_one-requires-clause-hidden : goal.try_one-requires-clause-hidden
+try_one-requires-clause-hidden c = (open_says c.args.task.now.cells.now c.cells.progress.hidden.flags c.cells.number (ap (λ (f : List Bool). is_open_at c.args.task.now.cells.now f c.cells.number) (sym c.as_slice.ensures) ∙ sym c.is_open.ensures ∙ c.if-not-is_open.false)).1
 
 pub returns-clause-err : goal.returns-clause-err
 returns-clause-err c =
@@ -37,7 +70,7 @@ returns-clause-err c =
     let larger : List Bool = c.args.progress.now.hidden.flags in
     let flags : List Bool = c.cells.progress.hidden.flags in
     let shown : List ℕ = c.cells.tried.shown in
-    let none : (length shown == 0) ≡ false = ap (λ (l : List ℕ). length l == 0) (sym c.as_slice.ensures) ∙ sym c.is_empty.ensures ∙ c.if-is_empty.false in
+    let none : (length shown == 0) ≡ false = ap (λ (l : List ℕ). length l == 0) (sym c.as_slice-2.ensures) ∙ sym c.is_empty.ensures ∙ c.if-is_empty.false in
     let last : c.cells.number ≡ length c.args.task.now.cells.now = omega (arith, c.cells-test.false, c.cells.auto.number-end) in
     let all : IsTried task larger (length c.args.task.now.cells.now) flags c.cells.tried.needs shown = subst (λ n. IsTried task larger n flags c.cells.tried.needs shown) last c.cells.invariant.tried.are_tried in
     on_err_from c.renew_all.result (λ fault has. tries_stop task larger c.args.task.now.limit fault shown
@@ -45,21 +78,21 @@ returns-clause-err c =
 
 pub returns-then-is_empty-clause-answers : goal.returns-then-is_empty-clause-answers
 returns-then-is_empty-clause-answers c =
-    λ planned hidden_is are.
+    λ planned is.
     let task : Case = protected_case c.args.task.now.system.now c.args.task.now.cells.now in
     let repairs : List Refuted = c.args.progress.now.repairs in
-    answers_first task planned repairs c.cells.progress.hidden.flags c.cells.progress.worlds (subst (AreAnswers task (IsOfFirst planned repairs) (asked_of 0 c.args.task.now.cells.now)) (sym c.cells.invariant.worlds) are)
+    answers_first task planned repairs c.cells.progress.hidden.flags c.cells.progress.worlds (subst (AreAnswers task (IsOfFirst planned repairs) (asked_of 0 c.args.task.now.cells.now)) (sym c.cells.invariant.worlds) is.answers)
 
 pub returns-clause-answers : goal.returns-clause-answers
 returns-clause-answers c =
-    λ planned hidden_is are.
+    ok_more c.renew_all.result (λ stays planned is.
     let task : Case = protected_case c.args.task.now.system.now c.args.task.now.cells.now in
     let repairs : List Refuted = c.args.progress.now.repairs in
     let flags : List Bool = c.cells.progress.hidden.flags in
     let worlds : AnswerOnWay c.args.task.now planned repairs flags c.cells.progress.worlds =
-    answers_first task planned repairs flags c.cells.progress.worlds (subst (AreAnswers task (IsOfFirst planned repairs) (asked_of 0 c.args.task.now.cells.now)) (sym c.cells.invariant.worlds) are) in
+    answers_first task planned repairs flags c.cells.progress.worlds (subst (AreAnswers task (IsOfFirst planned repairs) (asked_of 0 c.args.task.now.cells.now)) (sym c.cells.invariant.worlds) is.answers) in
     let last : c.cells.number ≡ length c.args.task.now.cells.now = omega (arith, c.cells-test.false, c.cells.auto.number-end) in
     let spares : AnswerTrials c.args.task.now planned repairs flags c.cells.tried.spares.items =
     subst (λ n. AreTrialAnswers task (hide_subjects planned repairs) n flags c.cells.tried.spares.items) last
-    (subst (λ (l : List Bool). AreTrialAnswers task l c.cells.number flags c.cells.tried.spares.items) hidden_is c.cells.invariant.tried.answers) in
-    c.renew_all.ensures.answers planned repairs worlds spares
+    (subst (λ (l : List Bool). AreTrialAnswers task l c.cells.number flags c.cells.tried.spares.items) is.is_repaired.hidden_is c.cells.invariant.tried.answers) in
+    stays planned repairs worlds spares) c.renew_all.ensures.answers

@@ -1,7 +1,6 @@
 use Rattle.std.proofs.Common.{◌≡◌, ◌<◌, ◌+◌, ◌++◌, ◌∷◌, [], ◌∙◌, ℕ, List, Bool, true, length, ap, sym, subst, arith, None, Some}
 use Rattle.std.proofs.lemmas.Result.{err_from_is_err_and}
 use Rattle.std.proofs.lemmas.Option.{slice_get_within}
-use Rattle.sdc_base.specs.HiddenSets.{IsPermitted}
 use Rattle.worlds.specs.declared.refuted.Refuted.{Refuted}
 use Rattle.worlds.specs.declared.world.World.{World}
 use Rattle.worlds.specs.ProtectFaults.{asked_of}
@@ -13,18 +12,28 @@ use Rattle.repair.proofs.AtHand.{protects_all, spares_left}
 use Rattle.repair.specs.OnTheWay.{IsOfTrial}
 use Rattle.repair.proofs.OnTheWay.{trial_now, trials_set, trials_tried, trials_left}
 use Rattle.repair.proofs.Tries.{hidden_again, one_shown, one_needed, try_stop, tries_stop, on_ok_two}
+use Rattle.repair.specs.Attempts.{IsPermittedSet, IsTriedSet, IsReadyToTry}
+use Rattle.repair.proofs.Attempts.{tried_less}
 use Rattle.repair.proofs.trying.try_one.Goals as goal
+
+pub invariant_of-attempt : goal.invariant_of-attempt
+invariant_of-attempt c =
+    let task : Case = protected_case c.args.task.now.system.now c.args.task.now.cells.now in
+    let less : IsTriedSet task (show c.args.progress.now.hidden.flags c.args.cell) c.args.progress.now.worlds = tried_less task c.args.progress.now.hidden.flags c.args.progress.now.worlds c.args.cell c.requires.is_free c.requires.ready.set in
+    record {
+      set = subst (λ (f : List Bool). IsPermittedSet task f) (sym c.set.ensures) (record { each = less.each; permitted = less.permitted });
+    }
 
 pub first_refused-requires-clause-kept : goal.first_refused-requires-clause-kept
 first_refused-requires-clause-kept c =
     let task : Case = protected_case c.args.task.now.system.now c.args.task.now.cells.now in
-    subst (λ (ws : List World). AreKept task (asked_of 0 c.args.task.now.cells.now) ws) (sym c.as_slice.ensures) c.requires.kept
+    subst (λ (ws : List World). AreKept task (asked_of 0 c.args.task.now.cells.now) ws) (sym c.as_slice.ensures) c.requires.ready.set.kept
 
 pub returns-in_err-found-clause-err : goal.returns-in_err-found-clause-err
 returns-in_err-found-clause-err c =
     let task : Case = protected_case c.args.task.now.system.now c.args.task.now.cells.now in
     let flags : List Bool = c.args.progress.now.hidden.flags in
-    let inside : c.args.cell < length flags = omega (arith, c.requires.each, c.args.task.now.fits.one_each, slice_get_within c.args.task.now.cells.now c.args.cell c.requires.is_free.cell c.requires.is_free.found) in
+    let inside : c.args.cell < length flags = omega (arith, c.requires.ready.set.each, c.args.task.now.fits.one_each, slice_get_within c.args.task.now.cells.now c.args.cell c.requires.is_free.cell c.requires.is_free.found) in
     let has : HasFault task (show flags c.args.cell) c.args.task.now.limit c.in_err-found.field-0.0 = subst (λ (f : List Bool). HasFault task f c.args.task.now.limit c.in_err-found.field-0.0) c.set.ensures c.in_err-found.ensures.err in
     let p = err_from_is_err_and c.from_residual.result c.from_residual.ensures.1 in
     rw (p.1, p.2) (λ larger before.
@@ -32,17 +41,22 @@ returns-in_err-found-clause-err c =
     (subst (λ (l : List ℕ). IsTryStop task larger c.args.task.now.limit c.in_err-found.field-0.0 l) (sym c.in-Ok.ensures.ok)
     (try_stop task larger c.args.cell flags c.args.tried.now.needs c.args.tried.now.shown c.args.task.now.limit c.in_err-found.field-0.0 c.args.task.now.fits.one_each inside c.requires.hidden c.requires.is_free has before.are_tried)))
 
-pub returns-in-None-clause-spares : goal.returns-in-None-clause-spares
-returns-in-None-clause-spares c =
+pub returns-in-None-clause-ready : goal.returns-in-None-clause-ready
+returns-in-None-clause-ready c =
     let task : Case = protected_case c.args.task.now.system.now c.args.task.now.cells.now in
-    subst (AreSpare task) (sym c.drop_unfit.ensures) (spares_left task c.as_slice-in-None.result.now c.first_refused.new.spares.items c.in_ok-found.ensures.spares)
+    record {
+      set = subst (λ (f : List Bool). IsTriedSet task f c.args.progress.now.worlds) (sym c.set.ensures)
+          (tried_less task c.args.progress.now.hidden.flags c.args.progress.now.worlds c.args.cell c.requires.is_free c.requires.ready.set);
+      spares = subst (AreSpare task) (sym c.drop_unfit.ensures) (spares_left task c.as_slice-in-None.result.now c.first_refused.new.spares.items c.in_ok-found.ensures.spares);
+      guesses = c.first_refused.ensures.guesses;
+    }
 
 pub returns-in-None-clause-ok : goal.returns-in-None-clause-ok
 returns-in-None-clause-ok c =
     λ larger before.
     let task : Case = protected_case c.args.task.now.system.now c.args.task.now.cells.now in
     let flags : List Bool = c.args.progress.now.hidden.flags in
-    let inside : c.args.cell < length flags = omega (arith, c.requires.each, c.args.task.now.fits.one_each, slice_get_within c.args.task.now.cells.now c.args.cell c.requires.is_free.cell c.requires.is_free.found) in
+    let inside : c.args.cell < length flags = omega (arith, c.requires.ready.set.each, c.args.task.now.fits.one_each, slice_get_within c.args.task.now.cells.now c.args.cell c.requires.is_free.cell c.requires.is_free.found) in
     let told : ProtectsBeforeOr task c.set.new.self c.args.cell (length c.args.task.now.questions.now) None = subst (ProtectsBeforeOr task c.set.new.self c.args.cell (length c.args.task.now.questions.now)) c.in-None.is c.in_ok-found.ensures.ok in
     let all : ProtectsAll task (show flags c.args.cell) = subst (ProtectsAll task) c.set.ensures (protects_all task c.set.new.self (length c.args.task.now.questions.now) (ap (λ (l : List (ℕ × Side)). length l) c.args.task.now.fits.in_order) told) in
     let now : IsOfTrial task larger (c.args.cell + 1) (show flags c.args.cell) (show flags c.args.cell) = trial_now task larger c.args.cell flags inside before.are_tried.rest c.requires.is_free (before.are_tried.within c.args.cell c.requires.hidden) in
@@ -55,29 +69,24 @@ returns-in-None-clause-ok c =
       answers = subst (AreTrialAnswers task larger (c.args.cell + 1) c.set.new.self) (sym c.drop_unfit.ensures) (trials_left task larger (c.args.cell + 1) c.set.new.self c.as_slice-in-None.result.now c.first_refused.new.spares.items answers);
     }
 
-pub returns-in-Some-clause-permitted : goal.returns-in-Some-clause-permitted
-returns-in-Some-clause-permitted c =
+pub returns-in-Some-clause-ready : goal.returns-in-Some-clause-ready
+returns-in-Some-clause-ready c =
+    let task : Case = protected_case c.args.task.now.system.now c.args.task.now.cells.now in
     let flags : List Bool = c.args.progress.now.hidden.flags in
-    let inside : c.args.cell < length flags = omega (arith, c.requires.each, c.args.task.now.fits.one_each, slice_get_within c.args.task.now.cells.now c.args.cell c.requires.is_free.cell c.requires.is_free.found) in
+    let inside : c.args.cell < length flags = omega (arith, c.requires.ready.set.each, c.args.task.now.fits.one_each, slice_get_within c.args.task.now.cells.now c.args.cell c.requires.is_free.cell c.requires.is_free.found) in
     let same : c.put_back.new.progress.hidden.flags ≡ flags = c.put_back.ensures.flags ∙ ap (λ (f : List Bool). hide f c.args.cell) c.set.ensures ∙ hidden_again flags c.args.cell inside c.requires.hidden in
-    on_ok (IsPermitted c.args.task.now.cells.now c.put_back.new.progress.hidden.flags) c.put_back.result (subst (IsPermitted c.args.task.now.cells.now) (sym same) c.requires.permitted)
-
-pub returns-in-Some-clause-spares : goal.returns-in-Some-clause-spares
-returns-in-Some-clause-spares c =
-    let task : Case = protected_case c.args.task.now.system.now c.args.task.now.cells.now in
-    on_ok (AreSpare task c.put_back.new.tried.spares.items) c.put_back.result
-    (subst (λ spares. AreSpare task spares.items) (sym c.put_back.ensures.spares) c.in_ok-found.ensures.spares)
-
-pub returns-in-Some-clause-guesses : goal.returns-in-Some-clause-guesses
-returns-in-Some-clause-guesses c =
-    let task : Case = protected_case c.args.task.now.system.now c.args.task.now.cells.now in
-    subst (λ guesses. AreGuesses task guesses.last.items) (sym c.put_back.ensures.guesses) c.first_refused.ensures.guesses
+    on_ok (IsReadyToTry c.args.task.now c.put_back.new.progress c.put_back.new.tried) c.put_back.result (record {
+      set = subst (λ (f : List Bool). IsTriedSet task f c.put_back.new.progress.worlds) (sym same)
+          (subst (λ (ws : List World). IsTriedSet task flags ws) (sym c.put_back.ensures.worlds) c.requires.ready.set);
+      spares = subst (λ spares. AreSpare task spares.items) (sym c.put_back.ensures.spares) c.in_ok-found.ensures.spares;
+      guesses = subst (λ guesses. AreGuesses task guesses.last.items) (sym c.put_back.ensures.guesses) c.first_refused.ensures.guesses;
+    })
 
 pub returns-in-Some-clause-ok : goal.returns-in-Some-clause-ok
 returns-in-Some-clause-ok c =
     let task : Case = protected_case c.args.task.now.system.now c.args.task.now.cells.now in
     let flags : List Bool = c.args.progress.now.hidden.flags in
-    let inside : c.args.cell < length flags = omega (arith, c.requires.each, c.args.task.now.fits.one_each, slice_get_within c.args.task.now.cells.now c.args.cell c.requires.is_free.cell c.requires.is_free.found) in
+    let inside : c.args.cell < length flags = omega (arith, c.requires.ready.set.each, c.args.task.now.fits.one_each, slice_get_within c.args.task.now.cells.now c.args.cell c.requires.is_free.cell c.requires.is_free.found) in
     let same : c.put_back.new.progress.hidden.flags ≡ flags = c.put_back.ensures.flags ∙ ap (λ (f : List Bool). hide f c.args.cell) c.set.ensures ∙ hidden_again flags c.args.cell inside c.requires.hidden in
     let told : ProtectsBeforeOr task c.set.new.self c.args.cell (length c.args.task.now.questions.now) (Some c.in-Some.need) = subst (ProtectsBeforeOr task c.set.new.self c.args.cell (length c.args.task.now.questions.now)) c.in-Some.is c.in_ok-found.ensures.ok in
     let refuted : IsRefuted task (show flags c.args.cell) c.in-Some.need = subst (λ (f : List Bool). IsRefuted task f c.in-Some.need) c.set.ensures told.1 in

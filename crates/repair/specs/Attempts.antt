@@ -1,0 +1,98 @@
+-- Attempts to show hidden cells, one after another, and what they keep (own).
+use Rattle.std.specs.Prelude.{◌≡◌, ℕ, ◌+◌, ◌&&◌, Bool, false, List, [], length, slice_get}
+use Rattle.std.specs.Option.{option_map_or}
+use Rattle.sdc_base.specs.declared.cell.Cell.{Cell}
+use Rattle.sdc_base.specs.HiddenSets.{is_hidden, IsPermitted}
+use Rattle.sdc_base.specs.Kinds.{is_free}
+use Rattle.worlds.specs.ProtectFaults.{asked_of}
+use Rattle.worlds.specs.declared.refuted.Refuted.{Refuted}
+use Rattle.worlds.specs.declared.world.World.{World}
+use Rattle.interval_audit.specs.declared.answer.AskFault.{AskFault}
+use Rattle.repair.specs.declared.progress.Progress.{Progress}
+use Rattle.repair.specs.declared.task.Task.{Task}
+use Rattle.repair.specs.declared.trial.Spare.{Spare}
+use Rattle.repair.specs.declared.trying.Findings.{Findings}
+use Rattle.repair.specs.HidingOrder.{Case}
+use Rattle.repair.specs.KeptWorlds.{AreServed}
+use Rattle.repair.specs.OnTheWay.{IsOfTrial}
+use Rattle.repair.specs.QuestionSteps.{IsRepairedForAll}
+use Rattle.repair.specs.CellTrials.{AreKept, AreSpare, AreGuesses, AreTrialAnswers, AnswerOnWay, AnswerTrials, IsTried, HasTried, TriesStopFor}
+use Rattle.repair.specs.Tasks.{case_of}
+
+-- a hidden set of which may be asked: it is permitted, and there is a flag of it for each cell of the system
+pub record IsPermittedSet (c : Case) (flags : List Bool) : Type 0 where
+  pub each : length flags ≡ c.system.cells
+  pub permitted : IsPermitted c.cells flags
+
+-- A hidden set that serves all that is asked: it is permitted, there is a flag of it for each cell of the system, and
+-- each question has its world.
+pub record IsServedSet (c : Case) (flags : List Bool) (worlds : List World) : Type 0 where
+  pub each : length flags ≡ c.system.cells
+  pub permitted : IsPermitted c.cells flags
+  pub served : AreServed c flags (asked_of 0 c.cells) worlds
+
+-- A hidden set with which a cell may be tried: it is permitted, there is a flag of it for each cell of the system, and
+-- each question has a world that serves it for some hidden set.
+pub record IsTriedSet (c : Case) (flags : List Bool) (worlds : List World) : Type 0 where
+  pub each : length flags ≡ c.system.cells
+  pub permitted : IsPermitted c.cells flags
+  pub kept : AreKept c (asked_of 0 c.cells) worlds
+
+-- nothing is found of the cells yet
+pub record IsUntried (task : Task) (tried : Findings) : Type 0 where
+  pub no_needs : tried.needs ≡ []
+  pub none_shown : tried.shown ≡ []
+  pub no_spares : tried.spares.items ≡ []
+  pub guesses : AreGuesses (case_of task) tried.guesses.last.items
+
+-- a protection is ready to try a cell, with the worlds that are kept, the spare ones and the guesses
+pub record IsReadyToTry (task : Task) (progress : Progress) (tried : Findings) : Type 0 where
+  pub set : IsTriedSet (case_of task) progress.hidden.flags progress.worlds
+  pub spares : AreSpare (case_of task) tried.spares.items
+  pub guesses : AreGuesses (case_of task) tried.guesses.last.items
+
+-- whether the cell with this number is free and hidden
+abbrev pub is_open_at : List Cell → List Bool → ℕ → Bool
+is_open_at cells flags number =
+    option_map_or (λ cell. is_free cell.kind) (slice_get cells number) false && is_hidden flags number
+
+-- from whatever set the cells below a number had been tried, those up to it have been
+abbrev pub StaysTried : Task → ℕ → Progress → Findings → Progress → Findings → Type 0
+StaysTried task cell before tried after found =
+    (larger : List Bool) → HasTried task larger cell before tried → HasTried task larger (cell + 1) after found
+
+-- from whatever set the cells below a number had been tried, trying stops with the fault
+abbrev pub StopsTrying : Task → ℕ → Progress → Findings → AskFault → List ℕ → Type 0
+StopsTrying task cell before tried fault shown =
+    (larger : List Bool) → HasTried task larger cell before tried
+    → TriesStopFor (case_of task) larger task.limit fault shown
+
+-- all cells have been tried, from this set on
+abbrev pub HasTriedAll : Task → List Bool → Progress → Findings → Type 0
+HasTriedAll task larger progress tried =
+    IsTried (case_of task) larger (length task.cells.now) progress.hidden.flags tried.needs tried.shown
+
+-- where spare worlds are answers of trials of the cells below a number, the last of them with this set, the later ones
+-- are too
+abbrev pub StayTrialAnswers : Case → ℕ → List Bool → List Spare → List Spare → Type 0
+StayTrialAnswers c n flags spares later =
+    (larger : List Bool) → IsOfTrial c larger n flags flags → AreTrialAnswers c larger n flags spares
+    → AreTrialAnswers c larger n flags later
+
+-- where worlds are answers for sets on the way to these flags, the later ones are too
+abbrev pub StayOnWay : Task → List Bool → List World → List World → Type 0
+StayOnWay task flags worlds later =
+    (planned : List Bool) (repairs : List Refuted) → AnswerOnWay task planned repairs flags worlds
+    → AnswerOnWay task planned repairs flags later
+
+-- the same, where spare worlds are answers of trials on that way
+abbrev pub StayOnWayWith : Task → List Bool → List Spare → List World → List World → Type 0
+StayOnWayWith task flags spares worlds later =
+    (planned : List Bool) (repairs : List Refuted) → AnswerOnWay task planned repairs flags worlds
+    → AnswerTrials task planned repairs flags spares → AnswerOnWay task planned repairs flags later
+
+-- where a protection has repaired for all that is asked, its worlds are answers for sets on the way to the later set
+abbrev pub KeepsAnswers : Task → Progress → Progress → Type 0
+KeepsAnswers task before after =
+    (planned : List Bool) → IsRepairedForAll task planned before
+    → AnswerOnWay task planned before.repairs after.hidden.flags after.worlds
