@@ -1,47 +1,17 @@
-ghost use Rattle.std.specs.Prelude.{◌≡◌, ◌++◌, ◌∷◌, [], if◌then◌else◌, length, IfOk, OnOk};
+ghost use Rattle.std.specs.Prelude.{◌≡◌, ◌++◌, ◌∷◌, ◌<◌, ◌^◌, [], if◌then◌else◌, length, IfOk, OnOk};
 ghost use Rattle.sdc_base.specs.HiddenSets as sets;
-ghost use Rattle.cell_protection.specs.Certifying.{hidden_numbers, world_line, world_lines, certificate_made};
+ghost use Rattle.worlds.specs.ProtectFaults.{asked_of};
+ghost use Rattle.cell_protection.specs.Certifying as spec;
+ghost use Rattle.cell_protection.specs.Certifying.{hidden_numbers, world_line};
 
-use certificate::{Certificate, WorldLine};
+use certificate::WorldLine;
 use repair::questions_of;
-use sdc_base::{Cell, Items, Memory, Method, Side, System, Trail, is_hidden};
+use sdc_base::{Cell, Items, Memory, Side, is_hidden};
 use std::alloc::Global;
-use worlds::{Protected, Refuted, World};
+use worlds::World;
 
-/// The certificate of a hidden set: the method, how many cells and relations there are, the hidden cells, the steps of
-/// the trail, the repairs and needs, and the complete tables that show each primary cell open to both sides.
-pub(crate) fn certificate_for(
-    alloc: Global,
-    method: Method,
-    system: &System,
-    cells: &[Cell],
-    protected: &Protected<'_>,
-    trail: Trail,
-    repairs: Items<Refuted>,
-    needs: Items<Refuted>,
-) -> Result<Certificate, Memory>
-    requires one_each { length cells.now ≡ system.now.cells }
-    ensures { IfOk result (λ certificate. certificate
-        ≡ certificate_made method system.now cells.now protected.now trail.steps repairs needs) }
-{
-    let count = system.cells;
-    let hidden = hidden_cell_numbers(alloc, count, protected.hidden().flags.as_slice())?;
-    let questions = questions_of(alloc, cells)?;
-    let worlds = lines_of(alloc, questions.as_slice(), protected.worlds())?;
-    Ok(Certificate {
-        method,
-        cells: count,
-        relations: system.relations.as_slice().len() as u32,
-        hidden,
-        steps: trail.steps,
-        repairs,
-        needs,
-        worlds,
-    })
-}
-
-// The numbers of the hidden cells among so many, ascending.
-fn hidden_cell_numbers(alloc: Global, count: u32, flags: &[bool]) -> Result<Items<u32>, Memory>
+/// The numbers of the hidden cells among so many, ascending.
+pub(crate) fn hidden_cells(alloc: Global, count: u32, flags: &[bool]) -> Result<Items<u32>, Memory>
     ensures { IfOk result (λ numbers. numbers ≡ hidden_numbers count flags.now) }
 {
     let mut numbers = Items::empty(alloc);
@@ -62,13 +32,26 @@ fn add_hidden(numbers: &mut Items<u32>, flags: &[bool], cell: u32) -> Result<(),
     Ok(())
 }
 
+/// The complete tables of a protection, each with the primary cell and the side for which it stands.
+pub(crate) fn world_lines(
+    alloc: Global,
+    cells: &[Cell],
+    worlds: &[World],
+) -> Result<Items<WorldLine>, Memory>
+    requires { length cells.now < 2 ^ 32 }
+    ensures { IfOk result (λ lines. lines ≡ spec.world_lines (asked_of 0 cells.now) worlds.now) }
+{
+    let questions = questions_of(alloc, cells)?;
+    lines_of(alloc, questions.as_slice(), worlds)
+}
+
 // The lines of complete tables, each with the question for which it stands.
 fn lines_of(
     alloc: Global,
     questions: &[(u32, Side)],
     worlds: &[World],
 ) -> Result<Items<WorldLine>, Memory>
-    ensures { IfOk result (λ lines. lines ≡ world_lines questions.now worlds.now) }
+    ensures { IfOk result (λ lines. lines ≡ spec.world_lines questions.now worlds.now) }
 {
     let mut lines = Items::empty(alloc);
     'worlds: for (k, world) in worlds.iter().enumerate() {

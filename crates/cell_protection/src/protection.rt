@@ -1,16 +1,20 @@
-ghost use Rattle.std.specs.Prelude.{◌≡◌, ◌≤◌, length, All, IfOk};
+ghost use Rattle.std.specs.Prelude.{◌≡◌, ◌≤◌, length, All, IfOk, IfErr};
 ghost use Rattle.apriori.specs.CellLevels.{HasLevelsInRange};
 ghost use Rattle.cost_rule.specs.Costs.{AreCosted, IsTold};
 ghost use Rattle.modular_plan.specs.Plans.{trail_of, IsSameButHidden};
-ghost use Rattle.repair.specs.HidingOrder.{protected_case, prices_of};
+ghost use Rattle.repair.specs.HidingOrder.{planned_set, protected_case, prices_of};
+ghost use Rattle.repair.specs.Stops.{IsStopAsTold};
+ghost use Rattle.repair.specs.Verdicts.{IsVerdict};
+ghost use Rattle.sdc_base.specs.HiddenSets.{MayHide};
+ghost use Rattle.sdc_base.specs.Trails.{corners_of};
 ghost use Rattle.cell_protection.specs.Protections.{AreNarrow, HasText, IsProtectionOf, protection_by};
 ghost use Rattle.modular_plan.specs.Methods.{passes_of};
 
-use crate::certifying::certificate_for;
+use crate::certifying::{hidden_cells, world_lines};
 use certificate::Certificate;
 use cost_rule::{CostKind, CostRule, TellsCosts};
-use linked_tables::Book;
-use modular_plan::{passes_in, plan};
+use linked_tables::{Book, Mark};
+use modular_plan::trail_for;
 use repair::{Stopped, Verdict, protect};
 use sdc_base::{Cell, CellFacts, Memory, Method, Side, System, Trail};
 use std::alloc::Global;
@@ -65,40 +69,66 @@ pub fn protect_cells<'a>(
     ensures text { IfOk result HasText }
     ensures same { IsSameButHidden book.old book.new }
 {
+    // for the proof: what holds of every book
+    let _known = book.cells();
+    let trail = trail_for(alloc, book, cells, method, cost)?;
+    let costed = CostedCells {
+        system,
+        cells,
+        marks: book.marks(),
+        cost,
+    };
     let f = |facts: &CellFacts| cost.cost(facts);
-    protect_by(alloc, book, system, cells, method, cost, f, limit)
-}
-
-// The same, where `f` tells the costs.
-fn protect_by<'a, F: TellsCosts + Drop>(
-    alloc: Global,
-    book: &mut Book,
-    system: &'a System,
-    cells: &'a [Cell],
-    method: Method,
-    cost: CostKind,
-    f: F,
-    limit: u64,
-) -> Result<Protection<'a>, Memory>
-    requires told { IsTold F.may_ask F.may_say f cost }
-    requires one_each { length cells.now ≡ system.now.cells }
-    requires marks { length cells.now ≡ length book.old.marks }
-    requires narrow { AreNarrow book.old.tables }
-    requires costed { All (λ mark. AreCosted mark.facts) book.old.marks }
-    requires levels { All HasLevelsInRange cells.now }
-    requires limit { 1 ≤ limit }
-    ensures outcome { IfOk result (IsProtectionOf (protected_case system.now cells.now)
-        (prices_of cost cells.now book.old.marks) method (trail_of book.old cells.now cost (passes_of method)) limit) }
-    ensures text { IfOk result HasText }
-    ensures same { IsSameButHidden book.old book.new }
-{
-    let rule = CostRule::new(cost, f);
-    let trail = plan(alloc, book, cells, &rule, passes_in(method))?;
-    let outcome = protect(alloc, system, cells, book.marks(), &rule, &trail, limit);
+    let outcome = verdict_by(alloc, &costed, &trail, f, limit);
     match outcome {
         Ok(verdict) => certificate_of(alloc, method, system, cells, trail, verdict),
         Err(stopped) => Ok(Protection::Undecided(stopped)),
     }
+}
+
+// Cells with their relations, and what hiding each of them costs: their marks and the kind of the costs.
+#[derive(Clone, Copy)]
+struct CostedCells<'a, 'b> {
+    system: &'a System,
+    cells: &'a [Cell],
+    marks: &'b [Mark],
+    cost: CostKind,
+}
+
+// The verdict on cells from a trail on, where `f` tells their costs.
+fn verdict_by<'a, F: TellsCosts + Drop>(
+    alloc: Global,
+    costed: &CostedCells<'a, '_>,
+    trail: &Trail,
+    f: F,
+    limit: u64,
+) -> Result<Verdict<'a>, Stopped>
+    requires told { IsTold F.may_ask F.may_say f costed.now.cost }
+    requires one_each { length costed.now.cells.now ≡ costed.now.system.now.cells }
+    requires marks { length costed.now.marks.now ≡ length costed.now.cells.now }
+    requires costed { All (λ mark. AreCosted mark.facts) costed.now.marks.now }
+    requires levels { All HasLevelsInRange costed.now.cells.now }
+    requires corners { All (MayHide costed.now.cells.now) (corners_of trail.now.steps) }
+    requires limit { 1 ≤ limit }
+    ensures verdict { IfOk result (λ verdict. IsVerdict
+        (protected_case costed.now.system.now costed.now.cells.now)
+        (prices_of costed.now.cost costed.now.cells.now costed.now.marks.now)
+        (planned_set costed.now.cells.now (corners_of trail.now.steps)) verdict) }
+    ensures stopped { IfErr result (λ stopped. IsStopAsTold
+        (protected_case costed.now.system.now costed.now.cells.now)
+        (prices_of costed.now.cost costed.now.cells.now costed.now.marks.now)
+        (planned_set costed.now.cells.now (corners_of trail.now.steps)) limit stopped) }
+{
+    let rule = CostRule::new(costed.cost, f);
+    protect(
+        alloc,
+        costed.system,
+        costed.cells,
+        costed.marks,
+        &rule,
+        trail,
+        limit,
+    )
 }
 
 // A verdict with the certificate of its hidden set, where there is one.
@@ -120,9 +150,18 @@ fn certificate_of<'a>(
             repairs,
             needs,
         } => {
-            let certificate = certificate_for(
-                alloc, method, system, cells, &protected, trail, repairs, needs,
-            )?;
+            let hidden = hidden_cells(alloc, system.cells, protected.hidden().flags.as_slice())?;
+            let worlds = world_lines(alloc, cells, protected.worlds())?;
+            let certificate = Certificate {
+                method,
+                cells: system.cells,
+                relations: system.relations.as_slice().len() as u32,
+                hidden,
+                steps: trail.steps,
+                repairs,
+                needs,
+                worlds,
+            };
             Ok(Protection::Protected {
                 protected,
                 certificate,

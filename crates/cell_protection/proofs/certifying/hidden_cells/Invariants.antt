@@ -2,7 +2,7 @@ use Rattle.std.proofs.Common.{◌≡◌, ◌-◌, ◌++◌, filter}
 use Rattle.std.specs.List.{range_with_len}
 use Rattle.sdc_base.specs.HiddenSets.{is_hidden}
 use Rattle.cell_protection.specs.Certifying.{hidden_numbers}
-use Rattle.cell_protection.proofs.certifying.hidden_cell_numbers.Given as goal
+use Rattle.cell_protection.proofs.certifying.hidden_cells.Given as goal
 
 abbrev pub invariant-cells : goal.invariant-cells
 invariant-cells l = record {

@@ -2,7 +2,7 @@ use Rattle.std.proofs.Common.{◌++◌, List, ℕ, ◌+◌, ◌-◌, filter, ap,
 use Rattle.std.specs.List.{range_with_len}
 use Rattle.sdc_base.specs.HiddenSets.{is_hidden}
 use Rattle.cell_protection.proofs.CertificateLists.{numbers-next}
-use Rattle.cell_protection.proofs.certifying.hidden_cell_numbers.Goals as goal
+use Rattle.cell_protection.proofs.certifying.hidden_cells.Goals as goal
 
 pub cells-preserved : goal.cells-preserved
 cells-preserved c =
