@@ -4,10 +4,11 @@ use Rattle.sdc_base.specs.declared.method.Method.{Method}
 use Rattle.sdc_base.specs.declared.rows.Row.{Row}
 use Rattle.sdc_base.specs.declared.side.Side.{Side}
 use Rattle.sdc_base.specs.declared.trail.PlanStep.{PlanStep}
+use Rattle.cost_rule.specs.declared.kind.CostKind.{CostKind}
 use Rattle.linked_tables.specs.BookCells.{cells}
 use Rattle.linked_tables.specs.BookViews.{BookView}
 use Rattle.worlds.specs.Protection.{Protection as HiddenSet}
-use Rattle.repair.specs.HidingOrder.{Case}
+use Rattle.repair.specs.HidingOrder.{Case, protected_case, prices_of}
 use Rattle.repair.specs.declared.stopped.Stopped.{Stopped}
 use Rattle.certificate.specs.ExtraTexts.{IsExtraSpellable}
 use Rattle.certificate.specs.declared.certificate.Certificate.{Certificate}
@@ -23,8 +24,17 @@ use Rattle.attackers.specs.declared.extra.Against.{Against}
 use Rattle.cell_protection.specs.Protections.{IsProtectedWith}
 use Rattle.cell_guards.specs.ShownAgain.{shown_again}
 use Rattle.cell_guards.specs.declared.guarding.GuardedCells.{GuardedCells}
+use Rattle.cell_guards.specs.declared.guarding.ProtectedCells.{ProtectedCells}
 use Rattle.cell_guards.specs.declared.guarding.Unguarded.{Unguarded}
 use Rattle.cell_guards.specs.declared.guarding.Unguarded.TheVariants as unguarded
+
+-- the case of protected cells
+abbrev pub case_of : ProtectedCells → Case
+case_of protected = protected_case protected.system.now protected.cells.now
+
+-- what hiding each of them costs, by this kind
+abbrev pub prices_in : CostKind → ProtectedCells → List ℕ
+prices_in cost protected = prices_of cost protected.cells.now protected.book.now.marks
 
 -- a hidden set protects, and this is its certificate, by whatever method, prices and planned steps
 pub record IsCertified (c : Case) (protected : HiddenSet) (certificate : Certificate) : Type 0 where

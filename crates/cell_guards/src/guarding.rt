@@ -1,11 +1,14 @@
-ghost use Rattle.std.specs.Prelude.{◌≡◌, ◌^◌, ◌<◌, ◌≤◌, List, Bool, length, All, IfOk};
+ghost use Rattle.std.specs.Prelude.{◌≡◌, ◌^◌, ◌<◌, ◌≤◌, List, Bool, length, All, IfOk, IfErr};
 ghost use Rattle.apriori.specs.CellLevels.{HasLevelsInRange};
 ghost use Rattle.attackers.specs.Alone.{TellFrequencies};
+ghost use Rattle.attackers.specs.AttackOrder.{attacks_of};
+ghost use Rattle.attackers.specs.Guarding.{IsGuarded};
+ghost use Rattle.attackers.specs.GuardStops.{IsStopAsTold};
+ghost use Rattle.attackers.specs.WholeGuards.{IsWholeGuarded, IsWholeGuardStop};
 ghost use Rattle.cost_rule.specs.Costs.{AreCosted, IsTold};
 ghost use Rattle.linked_tables.specs.BookCells.{cells as cells_in};
-ghost use Rattle.repair.specs.HidingOrder.{protected_case, prices_of};
 ghost use Rattle.sdc_base.specs.Signs.{AreSigns};
-ghost use Rattle.cell_guards.specs.Guards.{IsCertified, IsGuardOf, HasExtraText};
+ghost use Rattle.cell_guards.specs.Guards.{case_of, prices_in, IsCertified, IsGuardOf, HasExtraText};
 ghost use Rattle.cell_guards.specs.GuardParts.{IsMadeOf, IsStopOf};
 ghost use Rattle.cell_guards.specs.WholeOutcomes.{IsWholeOutcome};
 
@@ -20,6 +23,21 @@ use repair::Stopped;
 use sdc_base::{Cell, CellFacts, Hidden, Memory, Row, Side, System};
 use std::alloc::{AllocError, Global};
 use worlds::{Multipliers, Protected};
+
+/// Cells that a hidden set protects, with the tables and the records that they are of.
+#[derive(Clone, Copy)]
+pub struct ProtectedCells<'a> {
+    /// The tables of the cells, with a mark for each cell.
+    pub book: &'a Book,
+    /// The records of the tables.
+    pub rows: &'a [Row],
+    /// The relations between the cells.
+    pub system: &'a System,
+    /// The cells, by their numbers.
+    pub cells: &'a [Cell],
+    /// The hidden set that protects them, with its complete tables.
+    pub hidden_set: &'a Protected<'a>,
+}
 
 /// A hidden set that is guarded against contributors.
 #[derive(Drop)]
@@ -79,13 +97,13 @@ impl From<AllocError> for Unguarded {
 /// one of a cell: hides further cells until each primary cell stays open to both sides by its levels against each
 /// contributor that doesn't know it, and shows those that needn't be hidden.
 ///
-/// There is one cell for each cell of the system and for each mark of the book, whose marks tell how many of these
+/// There is one cell for each cell of the system and for each mark of the book, whose marks tell how many of the
 /// records, fewer than `2^32`, fall in each cell; levels are within the limits of a job. The certificate is that of the
-/// protected set. The costs are those of the kind that a job names, but for a cell's own price; a question takes at most
+/// hidden set. The costs are those of the kind that a job names, but for a cell's own price; a question takes at most
 /// `limit` improvements, 1 or more.
 ///
 /// It refuses where no hidden set guards against some contributor, where a question stopped short, and for want of
-/// memory. The book stays as it was.
+/// memory.
 ///
 /// Where the relations have signs all its denominators are 1, and no question stops short but for its size.
 ///
@@ -93,88 +111,72 @@ impl From<AllocError> for Unguarded {
 /// contributor knows its cell is the handbook's, extra cells are argus's own.
 pub fn guard_cells(
     alloc: Global,
-    book: &Book,
-    rows: &[Row],
-    system: &System,
-    cells: &[Cell],
-    cost: CostKind,
-    protected: &Protected<'_>,
+    protected: &ProtectedCells<'_>,
     certificate: Certificate,
+    cost: CostKind,
     limit: u64,
 ) -> Result<GuardedCells, Unguarded>
-    requires one_each { length cells.now ≡ system.now.cells }
-    requires named { length cells.now ≡ length (cells_in book.now) }
-    requires marks { length cells.now ≡ length book.now.marks }
-    requires costed { All (λ mark. AreCosted mark.facts) book.now.marks }
-    requires levels { All HasLevelsInRange cells.now }
-    requires told { TellFrequencies book.now rows.now }
-    requires fewer_than_2_32 { length rows.now < 2 ^ 32 }
-    requires certified { IsCertified (protected_case system.now cells.now) protected.now certificate }
+    requires one_each { length protected.now.cells.now ≡ protected.now.system.now.cells }
+    requires named { length protected.now.cells.now ≡ length (cells_in protected.now.book.now) }
+    requires marks { length protected.now.cells.now ≡ length protected.now.book.now.marks }
+    requires costed { All (λ mark. AreCosted mark.facts) protected.now.book.now.marks }
+    requires levels { All HasLevelsInRange protected.now.cells.now }
+    requires told { TellFrequencies protected.now.book.now protected.now.rows.now }
+    requires fewer_than_2_32 { length protected.now.rows.now < 2 ^ 32 }
+    requires certified { IsCertified (case_of protected.now) protected.now.hidden_set.now certificate }
     requires limit { 1 ≤ limit }
-    ensures outcome { IsGuardOf book.now rows.now (protected_case system.now cells.now)
-        (prices_of cost cells.now book.now.marks) limit protected.now certificate result }
+    ensures outcome { IsGuardOf protected.now.book.now protected.now.rows.now (case_of protected.now)
+        (prices_in cost protected.now) limit protected.now.hidden_set.now certificate result }
     ensures text { IfOk result HasExtraText }
-    ensures whole { (signs : List Bool) → AreSigns system.now.relations signs → IsWholeOutcome result }
+    ensures whole { (signs : List Bool) → AreSigns protected.now.system.now.relations signs → IsWholeOutcome result }
 {
+    let alone = soles(alloc, protected.book, protected.rows)?;
     let f = |facts: &CellFacts| cost.cost(facts);
-    guard_by(
-        alloc,
-        book,
-        rows,
-        system,
-        cells,
-        cost,
-        f,
-        protected,
-        certificate,
-        limit,
-    )
+    let outcome = answer_by(alloc, protected, &alone, cost, f, limit);
+    match outcome {
+        Ok(answer) => guarded_by(alloc, protected.hidden_set.hidden(), certificate, answer),
+        Err(stop) => Err(stopped_by(alloc, protected, certificate, stop)),
+    }
 }
 
-// The same, where `f` tells the costs.
-fn guard_by<F: TellsCosts + Drop>(
+// What guarding against those that alone make up cells comes to, where `f` tells the costs.
+fn answer_by<F: TellsCosts + Drop>(
     alloc: Global,
-    book: &Book,
-    rows: &[Row],
-    system: &System,
-    cells: &[Cell],
+    protected: &ProtectedCells<'_>,
+    alone: &[Option<u32>],
     cost: CostKind,
     f: F,
-    protected: &Protected<'_>,
-    certificate: Certificate,
     limit: u64,
-) -> Result<GuardedCells, Unguarded>
+) -> Result<Guarded, GuardStop>
     requires told_costs { IsTold F.may_ask F.may_say f cost }
-    requires one_each { length cells.now ≡ system.now.cells }
-    requires named { length cells.now ≡ length (cells_in book.now) }
-    requires marks { length cells.now ≡ length book.now.marks }
-    requires costed { All (λ mark. AreCosted mark.facts) book.now.marks }
-    requires levels { All HasLevelsInRange cells.now }
-    requires told { TellFrequencies book.now rows.now }
-    requires fewer_than_2_32 { length rows.now < 2 ^ 32 }
-    requires certified { IsCertified (protected_case system.now cells.now) protected.now certificate }
+    requires one_each { length protected.now.cells.now ≡ protected.now.system.now.cells }
+    requires marks { length protected.now.cells.now ≡ length protected.now.book.now.marks }
+    requires costed { All (λ mark. AreCosted mark.facts) protected.now.book.now.marks }
+    requires levels { All HasLevelsInRange protected.now.cells.now }
+    requires of_system { protected.now.hidden_set.now.system ≡ protected.now.system.now }
+    requires of_cells { protected.now.hidden_set.now.cells ≡ protected.now.cells.now }
+    requires each_flag { length protected.now.hidden_set.now.hidden.flags ≡ length protected.now.cells.now }
     requires limit { 1 ≤ limit }
-    ensures outcome { IsGuardOf book.now rows.now (protected_case system.now cells.now)
-        (prices_of cost cells.now book.now.marks) limit protected.now certificate result }
-    ensures text { IfOk result HasExtraText }
-    ensures whole { (signs : List Bool) → AreSigns system.now.relations signs → IsWholeOutcome result }
+    ensures guarded { IfOk result (IsGuarded (case_of protected.now) alone.now
+        protected.now.hidden_set.now.hidden.flags protected.now.hidden_set.now.worlds) }
+    ensures stopped { IfErr result (IsStopAsTold (case_of protected.now) alone.now (prices_in cost protected.now)
+        (attacks_of protected.now.cells.now alone.now) protected.now.hidden_set.now.hidden.flags limit) }
+    ensures whole { (signs : List Bool) → AreSigns protected.now.system.now.relations signs
+        → IfOk result IsWholeGuarded }
+    ensures whole_stop { (signs : List Bool) → AreSigns protected.now.system.now.relations signs
+        → IfErr result IsWholeGuardStop }
 {
-    let alone = soles(alloc, book, rows)?;
     let rule = CostRule::new(cost, f);
-    let outcome = guard(
+    guard(
         alloc,
-        system,
-        cells,
-        book.marks(),
+        protected.system,
+        protected.cells,
+        protected.book.marks(),
         &rule,
-        &alone,
-        protected,
+        alone,
+        protected.hidden_set,
         limit,
-    );
-    match outcome {
-        Ok(answer) => guarded_by(alloc, protected.hidden(), certificate, answer),
-        Err(stop) => Err(stopped_by(alloc, system, cells, certificate, protected.hidden(), stop)),
-    }
+    )
 }
 
 // The guarded set of an answer, with its certificate, or that no set guards.
@@ -212,16 +214,21 @@ fn guarded_by(
 // Why guarding stopped, with the repairs of the hidden set and the cells that were shown again.
 fn stopped_by(
     alloc: Global,
-    system: &System,
-    cells: &[Cell],
+    protected: &ProtectedCells<'_>,
     certificate: Certificate,
-    hidden: &Hidden,
     stop: GuardStop,
 ) -> Unguarded
-    requires { length cells.now ≡ system.now.cells }
-    ensures { IsStopOf (protected_case system.now cells.now) certificate hidden.now.flags stop result }
+    requires { length protected.now.cells.now ≡ protected.now.system.now.cells }
+    ensures { IsStopOf (case_of protected.now) certificate protected.now.hidden_set.now.hidden.flags stop result }
 {
-    let Ok(shown) = shown_again(alloc, system, cells, &certificate, hidden) else {
+    let hidden = protected.hidden_set.hidden();
+    let Ok(shown) = shown_again(
+        alloc,
+        protected.system,
+        protected.cells,
+        &certificate,
+        hidden,
+    ) else {
         return Unguarded::Memory;
     };
     let GuardStop { fault, against } = stop;

@@ -5,4 +5,4 @@ mod guarding;
 mod sets;
 mod shown_again;
 
-pub use guarding::{GuardedCells, Unguarded, guard_cells};
+pub use guarding::{GuardedCells, ProtectedCells, Unguarded, guard_cells};

@@ -14,7 +14,7 @@ use Rattle.relations.proofs.SignedTables.{one_or_two_way_has_signs}
 use Rattle.cert_check.specs.FirstFault.{fault_of}
 use Rattle.cert_check.specs.declared.faults.CheckFault.{CheckFault}
 use Rattle.cert_check.specs.declared.faults.CheckFault.TheVariants as check
-use Rattle.job_inputs.specs.Reading.{HasCause as HasInputCause, HasComeTo as HasInputComeTo}
+use Rattle.job_inputs.specs.Reading.{HasCause, HasComeTo}
 use Rattle.job_inputs.specs.SoundJobs.{AreSound}
 use Rattle.job_inputs.specs.declared.faults.Fault.{Fault}
 use Rattle.job_inputs.specs.declared.file_ref.FileRef.{FileRef}
@@ -23,7 +23,7 @@ use Rattle.job_inputs.specs.declared.stop.InputStop.{InputStop}
 use Rattle.job_inputs.specs.declared.stop.InputStop.TheVariants as input
 use Rattle.job_audit.specs.Finding.{AnswersAudit, ComesFromValues, IsFound, IsStuckAt}
 use Rattle.shelved_tables.specs.TablesOnShelf.{ShelvedTables}
-use Rattle.job_audit.specs.Stops.{memory_stop, table_stop, reader_stop, question_stop, audit_stop, HasCause, HasComeTo}
+use Rattle.job_audit.specs.Stops.{memory_stop, table_stop, reader_stop, question_stop, audit_stop, reading_of}
 use Rattle.job_audit.specs.ShownValues.{base_of_job}
 use Rattle.rounding_audit.specs.AuditFaults.{HasNoWalk as HasNoAuditWalk, IsAuditFault, IsUndecidedBy}
 use Rattle.rounding_audit.specs.Laws.{SizeIsLarge}
@@ -34,15 +34,22 @@ use Rattle.job_audit.specs.declared.audit_file.AuditFile.{AuditFile}
 use Rattle.job_audit.specs.declared.stop.AuditStop.{AuditStop}
 use Rattle.job_audit.specs.declared.stop.AuditStop.TheVariants as stop
 
--- ---- want of memory
+-- ---- reading that names no file
 
--- it needs no cause
-pub memory_cause : {X : Type 0} (old new : ShelfState) → HasInputCause {X = X} (Err input.Memory) old new
+-- want of memory needs no cause
+pub memory_cause : {X : Type 0} (old new : ShelfState) → HasCause {X = X} (Err input.Memory) old new
 memory_cause old new = record { absent = λ f is. absurd cc; too_long = λ f is. absurd cc; read_fault = λ f is. absurd cc; tree = λ f is. absurd cc }
 
 -- and came at no file
-pub memory_comes : {X : Type 0} (comes : FileRef → List ℕ → Type 0) (files : Files) (new : ShelfState) → HasInputComeTo {X = X} comes (Err input.Memory) files new
+pub memory_comes : {X : Type 0} (comes : FileRef → List ℕ → Type 0) (files : Files) (new : ShelfState) → HasComeTo {X = X} comes (Err input.Memory) files new
 memory_comes comes files new = λ f is. absurd cc
+
+-- nor does what was read to its end
+pub read_cause : (old new : ShelfState) → HasCause {X = Unit {0}} (Ok tt) old new
+read_cause old new = record { absent = λ f is. absurd cc; too_long = λ f is. absurd cc; read_fault = λ f is. absurd cc; tree = λ f is. absurd cc }
+
+pub read_comes : (comes : FileRef → List ℕ → Type 0) (files : Files) (new : ShelfState) → HasComeTo {X = Unit {0}} comes (Ok tt) files new
+read_comes comes files new = λ f is. absurd cc
 
 -- ---- faults of the tables
 
@@ -82,20 +89,19 @@ table_found {A} meant e fails make = elim (table_is e) [
   | inr own ↦ rw (own.0) (make e (subst (λ (o : Option CheckFault). Fails o meant) own.1 fails))
 ]
 
--- where it stops the inputs, that is for want of memory
-pub table_memory : (e : CheckFault) (why : InputStop) → table_stop e ≡ stop.Inputs why → why ≡ input.Memory
-table_memory e why is = elim (table_is e) [
-  | inl memory ↦ (let same : stop.Inputs why ≡ stop.Inputs input.Memory = sym is ∙ memory in cc)
-  | inr own ↦ (let same : stop.Inputs why ≡ stop.NotAccepted e = sym is ∙ own.0 in absurd cc)
+-- it needs no cause of the shelf
+pub table_cause : (e : CheckFault) (old new : ShelfState) → HasCause (reading_of (Err (table_stop e))) old new
+table_cause e old new = elim (table_is e) [
+  | inl memory ↦ rw memory (memory_cause old new)
+  | inr own ↦ rw (own.0) (read_cause old new)
 ]
 
--- it needs no cause of the shelf
-pub table_cause : (e : CheckFault) (old new : ShelfState) → HasCause (Err (table_stop e)) old new
-table_cause e old new = λ why is. (let same : table_stop e ≡ stop.Inputs why = cc in rw (table_memory e why same) (memory_cause old new))
-
 -- and came at no file
-pub table_comes_to : (e : CheckFault) (comes : FileRef → List ℕ → Type 0) (files : Files) (new : ShelfState) → HasComeTo comes (Err (table_stop e)) files new
-table_comes_to e comes files new = λ why is. (let same : table_stop e ≡ stop.Inputs why = cc in rw (table_memory e why same) (memory_comes comes files new))
+pub table_comes_to : (e : CheckFault) (comes : FileRef → List ℕ → Type 0) (files : Files) (new : ShelfState) → HasComeTo comes (reading_of (Err (table_stop e))) files new
+table_comes_to e comes files new = elim (table_is e) [
+  | inl memory ↦ rw memory (memory_comes comes files new)
+  | inr own ↦ rw (own.0) (read_comes comes files new)
+]
 
 -- ---- faults of the audit
 
@@ -121,19 +127,20 @@ audit_stops job system values (audit.Question (ask.Wide walk place)) is_book is 
 audit_stops job system values (audit.Question (ask.Size asked hidden)) is_book is fault size signed = stuck_at job system values (ask.Size asked hidden) is_book is fault size signed
 audit_stops job system values audit.Memory is_book is fault size signed = tt
 
--- where the answer for values stops the inputs, that is for want of memory
-pub values_memory : (job : SettledJob) (values : List ℤ) (r : Result AuditFile AuditStop) (why : InputStop) → ComesFromValues job values r → r ≡ Err (stop.Inputs why) → why ≡ input.Memory
-values_memory job values (Ok file) why comes is = absurd cc
-values_memory job values (Err (stop.Inputs (input.Refused f))) why comes is = absurd comes
-values_memory job values (Err (stop.Inputs (input.ReadFault f))) why comes is = absurd comes
-values_memory job values (Err (stop.Inputs input.Memory)) why comes is = cc
-values_memory job values (Err (stop.NotAccepted e)) why comes is = absurd cc
-values_memory job values (Err (stop.Undecided e)) why comes is = absurd cc
-
--- so it needs no cause of the shelf
-pub values_cause : (job : SettledJob) (values : List ℤ) (r : Result AuditFile AuditStop) (old new : ShelfState) → ComesFromValues job values r → HasCause r old new
-values_cause job values r old new comes = λ why is. rw (values_memory job values r why comes is) (memory_cause old new)
+-- what stops the finding for values needs no cause of the shelf
+pub values_cause : (job : SettledJob) (values : List ℤ) (r : Result AuditFile AuditStop) (old new : ShelfState) → ComesFromValues job values r → HasCause (reading_of r) old new
+values_cause job values (Ok file) old new comes = read_cause old new
+values_cause job values (Err (stop.Inputs (input.Refused f))) old new comes = absurd comes
+values_cause job values (Err (stop.Inputs (input.ReadFault f))) old new comes = absurd comes
+values_cause job values (Err (stop.Inputs input.Memory)) old new comes = memory_cause old new
+values_cause job values (Err (stop.NotAccepted e)) old new comes = read_cause old new
+values_cause job values (Err (stop.Undecided e)) old new comes = read_cause old new
 
 -- and came at no file
-pub values_come_to : (job : SettledJob) (values : List ℤ) (r : Result AuditFile AuditStop) (to : FileRef → List ℕ → Type 0) (files : Files) (new : ShelfState) → ComesFromValues job values r → HasComeTo to r files new
-values_come_to job values r to files new comes = λ why is. rw (values_memory job values r why comes is) (memory_comes to files new)
+pub values_come_to : (job : SettledJob) (values : List ℤ) (r : Result AuditFile AuditStop) (to : FileRef → List ℕ → Type 0) (files : Files) (new : ShelfState) → ComesFromValues job values r → HasComeTo to (reading_of r) files new
+values_come_to job values (Ok file) to files new comes = read_comes to files new
+values_come_to job values (Err (stop.Inputs (input.Refused f))) to files new comes = absurd comes
+values_come_to job values (Err (stop.Inputs (input.ReadFault f))) to files new comes = absurd comes
+values_come_to job values (Err (stop.Inputs input.Memory)) to files new comes = memory_comes to files new
+values_come_to job values (Err (stop.NotAccepted e)) to files new comes = read_comes to files new
+values_come_to job values (Err (stop.Undecided e)) to files new comes = read_comes to files new

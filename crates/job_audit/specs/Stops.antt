@@ -1,7 +1,5 @@
--- Why there is no audit of a job, and the cause of it on the shelf (own).
-use Rattle.std.specs.Prelude.{◌≡◌, ℕ, List, Result, Err}
-use Rattle.office_io.specs.Files.{Files}
-use Rattle.office_io.specs.Shelves.{ShelfState}
+-- Why there is no audit of a job (own).
+use Rattle.std.specs.Prelude.{Result, Ok, Err}
 use Rattle.interval_audit.specs.declared.answer.AskFault.{AskFault}
 use Rattle.interval_audit.specs.declared.answer.AskFault.TheVariants as ask
 use Rattle.cert_check.specs.declared.faults.CheckFault.{CheckFault}
@@ -10,8 +8,6 @@ use Rattle.rounding_audit.specs.declared.audit_fault.AuditFault.{AuditFault}
 use Rattle.rounding_audit.specs.declared.audit_fault.AuditFault.TheVariants as audit
 use Rattle.rounding_audit.specs.declared.reader_fault.ReaderFault.{ReaderFault}
 use Rattle.rounding_audit.specs.declared.reader_fault.ReaderFault.TheVariants as reader
-use Rattle.job_inputs.specs.Reading.{HasCause as HasInputCause, HasComeTo as HasInputComeTo}
-use Rattle.job_inputs.specs.declared.file_ref.FileRef.{FileRef}
 use Rattle.job_inputs.specs.declared.stop.InputStop.{InputStop}
 use Rattle.job_inputs.specs.declared.stop.InputStop.TheVariants as input
 use Rattle.job_audit.specs.declared.audit_file.AuditFile.{AuditFile}
@@ -44,12 +40,7 @@ audit_stop (audit.Reader why) = reader_stop why
 audit_stop (audit.Question why) = question_stop why
 audit_stop audit.Memory = memory_stop
 
--- where inputs, the name of the file to be put or the tables' files are refused, that has its cause on the shelf
-abbrev pub HasCause : Result AuditFile AuditStop → ShelfState → ShelfState → Type 0
-HasCause result old new =
-    (why : InputStop) → result ≡ Err (stop.Inputs why) → HasInputCause {X = AuditFile} (Err why) old new
-
--- where the shelf fails at a file, it is one that the run came to by its name, and was the last one looked for
-abbrev pub HasComeTo : (FileRef → List ℕ → Type 0) → Result AuditFile AuditStop → Files → ShelfState → Type 0
-HasComeTo comes result files new =
-    (why : InputStop) → result ≡ Err (stop.Inputs why) → HasInputComeTo {X = AuditFile} comes (Err why) files new
+-- what the answer says of the reading of the inputs and the tables: what stopped it, if that did
+abbrev pub reading_of : Result AuditFile AuditStop → Result (Unit {0}) InputStop
+reading_of (Err (stop.Inputs why)) = Err why
+reading_of other = Ok tt

@@ -4,6 +4,7 @@ use Rattle.linked_tables.specs.BookCells.{cells}
 use Rattle.job_inputs.specs.SoundJobs.{IsSoundJob}
 use Rattle.job_inputs.specs.TabulatedBooks.{IsBookOf, IsReadyFor}
 use Rattle.job_inputs.specs.declared.counted.CountedJob.{CountedJob}
+use Rattle.job_inputs.specs.declared.file_ref.FileRef.{FileRef}
 use Rattle.job_inputs.specs.declared.inputs.Inputs.{Inputs}
 use Rattle.sdc_base.specs.Answers.{Gives}
 use Rattle.sdc_base.specs.RuleLevels.{keep_of}
@@ -11,7 +12,8 @@ use Rattle.tabulate.specs.TabulatedMarks.{AreTabulated}
 use Rattle.office_io.specs.Files.{Files}
 use Rattle.apriori.specs.Priors.{ArePriors}
 use Rattle.apriori.specs.declared.prior.Prior.{Prior}
-use Rattle.job_inputs.specs.PriorStatements.{prior_line, with_file}
+use Rattle.job_inputs.specs.Looks.{ComesToStatements}
+use Rattle.job_inputs.specs.PriorStatements.{prior_line, priors_of, with_file}
 use Rattle.job_inputs.specs.Reading.{stopped_for}
 use Rattle.job_inputs.specs.declared.stop.InputStop.{InputStop}
 
@@ -46,3 +48,14 @@ abbrev pub StatesFile : CountedJob → ℕ → List Prior → List Prior → Fil
 StatesFile counted t before after files answer =
     (inputs : Inputs) → IsCountedOf inputs counted
     → Gives stopped_for (λ fine. after) answer (with_file files inputs t (prior_line t counted.described.job.priors) before)
+
+-- The answer is what the a priori files of all tables state, or the first fault of one of them: for these files, and of
+-- inputs whose records are counted so.
+abbrev pub StatesFiles : CountedJob → Files → Result (List Prior) InputStop → Type 0
+StatesFiles counted files answer =
+    (inputs : Inputs) → IsCountedOf inputs counted
+    → Gives stopped_for (λ priors. priors) answer (priors_of files inputs)
+
+-- the a priori files of inputs whose records are counted so are read up to this one, which has this name
+abbrev pub PriorsComeTo : CountedJob → Files → FileRef → List ℕ → Type 0
+PriorsComeTo counted files f held = (inputs : Inputs) → IsCountedOf inputs counted → ComesToStatements files inputs f held

@@ -1,12 +1,12 @@
 ghost use Rattle.std.specs.Prelude.{◌≡◌, ◌<◌, ◌≤◌, IfErr, OnOk, length, option_map};
 ghost use Rattle.sdc_base.specs.Answers.{Gives};
 ghost use Rattle.apriori.specs.Priors.{ArePriors};
-ghost use Rattle.job_inputs.specs.CountedRecords.{IsCountedOf, IsReadyCount, StatesFile, CanState};
+ghost use Rattle.job_inputs.specs.CountedRecords.{IsCountedOf, IsReadyCount, StatesFile, StatesFiles, CanState, PriorsComeTo};
 ghost use Rattle.job_inputs.specs.ReadFiles.{limit};
-ghost use Rattle.job_inputs.specs.Looks.{IsPriorFileOf, ComesToStatements};
-ghost use Rattle.job_inputs.specs.Reading.{stopped_for, HasLookedAt};
+ghost use Rattle.job_inputs.specs.Looks.{IsPriorFileOf};
+ghost use Rattle.job_inputs.specs.Reading.{HasLookedAt};
 ghost use Rattle.job_inputs.specs.Refusals.{refused_for, IsForContents};
-ghost use Rattle.job_inputs.specs.PriorStatements.{with_file, priors_of};
+ghost use Rattle.job_inputs.specs.PriorStatements.{with_file};
 ghost use Rattle.job_inputs.specs.PriorStatements as spec;
 ghost use Rattle.job_inputs.specs.declared.inputs.Inputs.{Inputs as AnyInputs};
 
@@ -30,11 +30,8 @@ pub(crate) fn read_priors<S: Shelf>(
     counted: &CountedJob,
 ) -> Result<Items<Prior>, InputStop>
     requires { IsReadyCount counted.now }
-    ensures { HasLookedAt
-        (λ fs answer. (inputs : AnyInputs) → IsCountedOf inputs counted.now
-        → Gives stopped_for (λ priors. priors) answer (priors_of fs inputs))
-        (λ fs f held. (inputs : AnyInputs) → IsCountedOf inputs counted.now → ComesToStatements fs inputs f held)
-        (ArePriors counted.now.book.marks) limit result (S.state shelf.old) (S.state shelf.new) }
+    ensures { HasLookedAt (StatesFiles counted.now) (PriorsComeTo counted.now) (ArePriors counted.now.book.marks) limit
+        result (S.state shelf.old) (S.state shelf.new) }
 {
     let mut priors = blank_priors(alloc, counted.book.cells())?;
     let tables = counted.described.job.tables.as_slice();

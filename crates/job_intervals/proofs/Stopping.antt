@@ -16,7 +16,7 @@ use Rattle.relations.proofs.SignedTables.{one_or_two_way_has_signs}
 use Rattle.cert_check.specs.FirstFault.{fault_of}
 use Rattle.cert_check.specs.declared.faults.CheckFault.{CheckFault}
 use Rattle.cert_check.specs.declared.faults.CheckFault.TheVariants as check
-use Rattle.job_inputs.specs.Reading.{HasCause as HasInputCause, HasComeTo as HasInputComeTo}
+use Rattle.job_inputs.specs.Reading.{HasCause, HasComeTo}
 use Rattle.job_inputs.specs.SoundJobs.{AreSound}
 use Rattle.job_inputs.specs.declared.faults.Fault.{Fault}
 use Rattle.job_inputs.specs.declared.file_ref.FileRef.{FileRef}
@@ -25,20 +25,27 @@ use Rattle.job_inputs.specs.declared.stop.InputStop.{InputStop}
 use Rattle.job_inputs.specs.declared.stop.InputStop.TheVariants as input
 use Rattle.job_intervals.specs.Finding.{AnswersIntervals, ComesFromSet, IsFound}
 use Rattle.shelved_tables.specs.TablesOnShelf.{ShelvedTables}
-use Rattle.job_intervals.specs.Stops.{memory_stop, table_stop, question_stop, HasCause, HasComeTo}
+use Rattle.job_intervals.specs.Stops.{memory_stop, table_stop, question_stop, reading_of}
 use Rattle.job_intervals.specs.declared.interval_file.IntervalFile.{IntervalFile}
 use Rattle.job_intervals.specs.declared.stop.IntervalStop.{IntervalStop}
 use Rattle.job_intervals.specs.declared.stop.IntervalStop.TheVariants as stop
 
--- ---- want of memory
+-- ---- reading that names no file
 
--- it needs no cause
-pub memory_cause : {X : Type 0} (old new : ShelfState) → HasInputCause {X = X} (Err input.Memory) old new
+-- want of memory needs no cause
+pub memory_cause : {X : Type 0} (old new : ShelfState) → HasCause {X = X} (Err input.Memory) old new
 memory_cause old new = record { absent = λ f is. absurd cc; too_long = λ f is. absurd cc; read_fault = λ f is. absurd cc; tree = λ f is. absurd cc }
 
 -- and came at no file
-pub memory_comes : {X : Type 0} (comes : FileRef → List ℕ → Type 0) (files : Files) (new : ShelfState) → HasInputComeTo {X = X} comes (Err input.Memory) files new
+pub memory_comes : {X : Type 0} (comes : FileRef → List ℕ → Type 0) (files : Files) (new : ShelfState) → HasComeTo {X = X} comes (Err input.Memory) files new
 memory_comes comes files new = λ f is. absurd cc
+
+-- nor does what was read to its end
+pub read_cause : (old new : ShelfState) → HasCause {X = Unit {0}} (Ok tt) old new
+read_cause old new = record { absent = λ f is. absurd cc; too_long = λ f is. absurd cc; read_fault = λ f is. absurd cc; tree = λ f is. absurd cc }
+
+pub read_comes : (comes : FileRef → List ℕ → Type 0) (files : Files) (new : ShelfState) → HasComeTo {X = Unit {0}} comes (Ok tt) files new
+read_comes comes files new = λ f is. absurd cc
 
 -- ---- faults of the tables
 
@@ -78,20 +85,19 @@ table_found {A} meant e fails make = elim (table_is e) [
   | inr own ↦ rw (own.0) (make e (subst (λ (o : Option CheckFault). Fails o meant) own.1 fails))
 ]
 
--- where it stops the inputs, that is for want of memory
-pub table_memory : (e : CheckFault) (why : InputStop) → table_stop e ≡ stop.Inputs why → why ≡ input.Memory
-table_memory e why is = elim (table_is e) [
-  | inl memory ↦ (let same : stop.Inputs why ≡ stop.Inputs input.Memory = sym is ∙ memory in cc)
-  | inr own ↦ (let same : stop.Inputs why ≡ stop.NotAccepted e = sym is ∙ own.0 in absurd cc)
+-- it needs no cause of the shelf
+pub table_cause : (e : CheckFault) (old new : ShelfState) → HasCause (reading_of (Err (table_stop e))) old new
+table_cause e old new = elim (table_is e) [
+  | inl memory ↦ rw memory (memory_cause old new)
+  | inr own ↦ rw (own.0) (read_cause old new)
 ]
 
--- it needs no cause of the shelf
-pub table_cause : (e : CheckFault) (old new : ShelfState) → HasCause (Err (table_stop e)) old new
-table_cause e old new = λ why is. (let same : table_stop e ≡ stop.Inputs why = cc in rw (table_memory e why same) (memory_cause old new))
-
 -- and came at no file
-pub table_comes_to : (e : CheckFault) (comes : FileRef → List ℕ → Type 0) (files : Files) (new : ShelfState) → HasComeTo comes (Err (table_stop e)) files new
-table_comes_to e comes files new = λ why is. (let same : table_stop e ≡ stop.Inputs why = cc in rw (table_memory e why same) (memory_comes comes files new))
+pub table_comes_to : (e : CheckFault) (comes : FileRef → List ℕ → Type 0) (files : Files) (new : ShelfState) → HasComeTo comes (reading_of (Err (table_stop e))) files new
+table_comes_to e comes files new = elim (table_is e) [
+  | inl memory ↦ rw memory (memory_comes comes files new)
+  | inr own ↦ rw (own.0) (read_comes comes files new)
+]
 
 -- ---- questions without an answer
 
@@ -123,19 +129,20 @@ question_stops job system flags (ask.Size question hidden) is_book is fault size
   signed = λ shape. tt;
 }
 
--- where the answer for a hidden set stops the inputs, that is for want of memory
-pub set_memory : (job : SettledJob) (flags : List Bool) (r : Result IntervalFile IntervalStop) (why : InputStop) → ComesFromSet job flags r → r ≡ Err (stop.Inputs why) → why ≡ input.Memory
-set_memory job flags (Ok file) why comes is = absurd cc
-set_memory job flags (Err (stop.Inputs (input.Refused f))) why comes is = absurd comes
-set_memory job flags (Err (stop.Inputs (input.ReadFault f))) why comes is = absurd comes
-set_memory job flags (Err (stop.Inputs input.Memory)) why comes is = cc
-set_memory job flags (Err (stop.NotAccepted e)) why comes is = absurd comes
-set_memory job flags (Err (stop.Undecided e)) why comes is = absurd cc
-
--- so it needs no cause of the shelf
-pub set_cause : (job : SettledJob) (flags : List Bool) (r : Result IntervalFile IntervalStop) (old new : ShelfState) → ComesFromSet job flags r → HasCause r old new
-set_cause job flags r old new comes = λ why is. rw (set_memory job flags r why comes is) (memory_cause old new)
+-- what stops the finding for a hidden set needs no cause of the shelf
+pub set_cause : (job : SettledJob) (flags : List Bool) (r : Result IntervalFile IntervalStop) (old new : ShelfState) → ComesFromSet job flags r → HasCause (reading_of r) old new
+set_cause job flags (Ok file) old new comes = read_cause old new
+set_cause job flags (Err (stop.Inputs (input.Refused f))) old new comes = absurd comes
+set_cause job flags (Err (stop.Inputs (input.ReadFault f))) old new comes = absurd comes
+set_cause job flags (Err (stop.Inputs input.Memory)) old new comes = memory_cause old new
+set_cause job flags (Err (stop.NotAccepted e)) old new comes = absurd comes
+set_cause job flags (Err (stop.Undecided e)) old new comes = read_cause old new
 
 -- and came at no file
-pub set_comes_to : (job : SettledJob) (flags : List Bool) (r : Result IntervalFile IntervalStop) (to : FileRef → List ℕ → Type 0) (files : Files) (new : ShelfState) → ComesFromSet job flags r → HasComeTo to r files new
-set_comes_to job flags r to files new comes = λ why is. rw (set_memory job flags r why comes is) (memory_comes to files new)
+pub set_comes_to : (job : SettledJob) (flags : List Bool) (r : Result IntervalFile IntervalStop) (to : FileRef → List ℕ → Type 0) (files : Files) (new : ShelfState) → ComesFromSet job flags r → HasComeTo to (reading_of r) files new
+set_comes_to job flags (Ok file) to files new comes = read_comes to files new
+set_comes_to job flags (Err (stop.Inputs (input.Refused f))) to files new comes = absurd comes
+set_comes_to job flags (Err (stop.Inputs (input.ReadFault f))) to files new comes = absurd comes
+set_comes_to job flags (Err (stop.Inputs input.Memory)) to files new comes = memory_comes to files new
+set_comes_to job flags (Err (stop.NotAccepted e)) to files new comes = absurd comes
+set_comes_to job flags (Err (stop.Undecided e)) to files new comes = read_comes to files new

@@ -1,13 +1,9 @@
--- Why there are no intervals of a job, and the cause of it on the shelf (own).
-use Rattle.std.specs.Prelude.{◌≡◌, ℕ, List, Result, Err}
-use Rattle.office_io.specs.Files.{Files}
-use Rattle.office_io.specs.Shelves.{ShelfState}
+-- Why there are no intervals of a job (own).
+use Rattle.std.specs.Prelude.{Result, Ok, Err}
 use Rattle.interval_audit.specs.declared.answer.AskFault.{AskFault}
 use Rattle.interval_audit.specs.declared.answer.AskFault.TheVariants as ask
 use Rattle.cert_check.specs.declared.faults.CheckFault.{CheckFault}
 use Rattle.cert_check.specs.declared.faults.CheckFault.TheVariants as check
-use Rattle.job_inputs.specs.Reading.{HasCause as HasInputCause, HasComeTo as HasInputComeTo}
-use Rattle.job_inputs.specs.declared.file_ref.FileRef.{FileRef}
 use Rattle.job_inputs.specs.declared.stop.InputStop.{InputStop}
 use Rattle.job_inputs.specs.declared.stop.InputStop.TheVariants as input
 use Rattle.job_intervals.specs.declared.interval_file.IntervalFile.{IntervalFile}
@@ -28,12 +24,7 @@ abbrev pub question_stop : AskFault → IntervalStop
 question_stop ask.Memory = memory_stop
 question_stop why = stop.Undecided why
 
--- where inputs, the name of the file to be put or the tables' files are refused, that has its cause on the shelf
-abbrev pub HasCause : Result IntervalFile IntervalStop → ShelfState → ShelfState → Type 0
-HasCause result old new =
-    (why : InputStop) → result ≡ Err (stop.Inputs why) → HasInputCause {X = IntervalFile} (Err why) old new
-
--- where the shelf fails at a file, it is one that the run came to by its name, and was the last one looked for
-abbrev pub HasComeTo : (FileRef → List ℕ → Type 0) → Result IntervalFile IntervalStop → Files → ShelfState → Type 0
-HasComeTo comes result files new =
-    (why : InputStop) → result ≡ Err (stop.Inputs why) → HasInputComeTo {X = IntervalFile} comes (Err why) files new
+-- what the answer says of the reading of the inputs and the tables: what stopped it, if that did
+abbrev pub reading_of : Result IntervalFile IntervalStop → Result (Unit {0}) InputStop
+reading_of (Err (stop.Inputs why)) = Err why
+reading_of other = Ok tt

@@ -1,10 +1,10 @@
 ghost use Rattle.std.specs.Prelude.{◌≡◌, length};
 ghost use Rattle.sdc_base.specs.WhereTold.{WhereTold};
 ghost use Rattle.job_inputs.specs.ReadFiles.{output_limit};
-ghost use Rattle.job_inputs.specs.Reading.{HasOnlyLooked};
+ghost use Rattle.job_inputs.specs.Reading.{HasCause, HasComeTo, HasOnlyLooked};
 ghost use Rattle.job_intervals.specs.Finding.{AnswersIntervals, ComesFromSet, IsFound};
 ghost use Rattle.shelved_tables.specs.TablesOnShelf.{shelved_of, IntervalsComeTo, IsReadyShelved};
-ghost use Rattle.job_intervals.specs.Stops.{HasCause, HasComeTo};
+ghost use Rattle.job_intervals.specs.Stops.{reading_of};
 
 use crate::interval_file::IntervalFile;
 use crate::showing::hidden_in;
@@ -55,13 +55,13 @@ pub fn find_intervals<S: Shelf>(
 
     // Where the shelf fails at a file, the run came to it and nothing before it has a fault.
     ensures came_to { WhereTold (S.state shelf.old).files
-        (λ fs. HasComeTo (IntervalsComeTo fs name.now out.now) result fs (S.state shelf.new)) }
+        (λ fs. HasComeTo (IntervalsComeTo fs name.now out.now) (reading_of result) fs (S.state shelf.new)) }
 
     // The shelf was only looked at: its files stay, and no file was read without end.
     ensures shelf { HasOnlyLooked output_limit (S.state shelf.old) (S.state shelf.new) }
 
     // That a file is absent or too long and a fault of the shelf have their cause, whatever the shelf tells.
-    ensures cause { HasCause result (S.state shelf.old) (S.state shelf.new) }
+    ensures cause { HasCause (reading_of result) (S.state shelf.old) (S.state shelf.new) }
 {
     let shelved = read_shelved(alloc, shelf, name, out, Purpose::Intervals)?;
     let hidden = hidden_in(alloc, &shelved)?;

@@ -8,7 +8,7 @@ use Rattle.office_io.specs.Files.{Files}
 use Rattle.office_io.specs.Shelves.{ShelfState}
 use Rattle.office_io.specs.Trays.{TrayState, HasPut, HasPutInPart}
 use Rattle.job_inputs.specs.ReadFiles.{output_limit}
-use Rattle.job_inputs.specs.Reading.{HasOnlyLooked, stopped_for, HasComeTo}
+use Rattle.job_inputs.specs.Reading.{HasOnlyLooked, stopped_for, HasCause, HasComeTo}
 use Rattle.job_inputs.specs.declared.faults.Fault.{Fault}
 use Rattle.job_inputs.specs.declared.file_ref.FileRef.{FileRef}
 use Rattle.job_inputs.specs.declared.file_ref.FileRef.TheVariants as file
@@ -17,7 +17,7 @@ use Rattle.job_inputs.specs.declared.stop.InputStop.TheVariants as input
 use Rattle.job_audit.specs.Finding.{AnswersAudit, IsFileOf, IsUndecidedFor}
 use Rattle.job_inputs.specs.declared.purpose.Purpose.TheVariants.{Audit}
 use Rattle.shelved_tables.specs.TablesOnShelf.{ShelvedTables, shelved_for, ComesFor}
-use Rattle.job_audit.specs.Stops.{HasCause as HasFindingCause, HasComeTo as HasFindingComeTo}
+use Rattle.job_audit.specs.Stops.{reading_of as finding_of}
 use Rattle.job_audit.specs.declared.audit_file.AuditFile.{AuditFile}
 use Rattle.job_audit.specs.declared.stop.AuditStop.{AuditStop}
 use Rattle.job_audit.specs.declared.stop.AuditStop.TheVariants as stop
@@ -78,13 +78,13 @@ stop-leaves-all (stop.Inputs why) tray = inputs-leave-all why tray
 stop-leaves-all (stop.NotAccepted why) tray = refl
 stop-leaves-all (stop.Undecided why) tray = question-leaves-all why tray
 
-pub stop-cause : (e : AuditStop) (old new : ShelfState) (tray : TrayState) → HasFindingCause (Err e) old new → FaultsHaveCauses (stop_report e) old new tray tray
-stop-cause (stop.Inputs why) old new tray cause = inputs-cause why old new tray (cause why refl)
+pub stop-cause : (e : AuditStop) (old new : ShelfState) (tray : TrayState) → HasCause (finding_of (Err e)) old new → FaultsHaveCauses (stop_report e) old new tray tray
+stop-cause (stop.Inputs why) old new tray cause = inputs-cause why old new tray cause
 stop-cause (stop.NotAccepted why) old new tray cause = no-fault _ old new tray tray refl (λ f is. absurd cc)
 stop-cause (stop.Undecided why) old new tray cause = question-cause why old new tray
 
-stop-comes : (e : AuditStop) (comes : FileRef → List ℕ → Type 0) (files : Files) (new : ShelfState) → HasFindingComeTo comes (Err e) files new → HasComeTo comes (reading_of (stop_report e)) files new
-stop-comes (stop.Inputs why) comes files new come = inputs-come why comes files new (come why refl)
+stop-comes : (e : AuditStop) (comes : FileRef → List ℕ → Type 0) (files : Files) (new : ShelfState) → HasComeTo comes (finding_of (Err e)) files new → HasComeTo comes (reading_of (stop_report e)) files new
+stop-comes (stop.Inputs why) comes files new come = inputs-come why comes files new come
 stop-comes (stop.NotAccepted why) comes files new come = read-comes comes files new
 stop-comes (stop.Undecided why) comes files new come = question-comes why comes files new
 
@@ -148,7 +148,7 @@ settles report.NoRounding outcome h no_read no_write = absurd h
 
 -- what holds of how it went on holds of a run that finds no audit
 pub stopped-run : (name out : List ℕ) (e : AuditStop) (old new : ShelfState) (tray : TrayState) → WhereTold old.files (λ fs. AnswersAudit (shelved_for Audit fs name out) (Err e))
-    → WhereTold old.files (λ fs. HasFindingComeTo (ComesFor Audit fs name out) (Err e) fs new) → HasFindingCause (Err e) old new → HasOnlyLooked output_limit old new → IsAuditRunOf name out (stop_report e) old new tray tray
+    → WhereTold old.files (λ fs. HasComeTo (ComesFor Audit fs name out) (finding_of (Err e)) fs new) → HasCause (finding_of (Err e)) old new → HasOnlyLooked output_limit old new → IsAuditRunOf name out (stop_report e) old new tray tray
 stopped-run name out e old new tray told come cause shelf = record {
   answers = stop-answers e;
   told = λ fs held. stop-meets e (shelved_for Audit fs name out) (told fs held);
@@ -162,15 +162,15 @@ stopped-run name out e old new tray told come cause shelf = record {
 
 -- the same of a run that went on so, and reports it
 pub stopped-run-of : (name out : List ℕ) (r : Result AuditFile AuditStop) (e : AuditStop) (answer : Report) (old new : ShelfState) (tray : TrayState) → r ≡ Err e → answer ≡ stop_report e → WhereTold old.files (λ fs. AnswersAudit (shelved_for Audit fs name out) r)
-    → WhereTold old.files (λ fs. HasFindingComeTo (ComesFor Audit fs name out) r fs new) → HasFindingCause r old new → HasOnlyLooked output_limit old new → IsAuditRunOf name out answer old new tray tray
+    → WhereTold old.files (λ fs. HasComeTo (ComesFor Audit fs name out) (finding_of r) fs new) → HasCause (finding_of r) old new → HasOnlyLooked output_limit old new → IsAuditRunOf name out answer old new tray tray
 stopped-run-of name out r e answer old new tray is same told come cause shelf =
     subst (λ (a : Report). IsAuditRunOf name out a old new tray tray) (sym same)
     (stopped-run name out e old new tray (λ fs held. subst (λ (o : Result AuditFile AuditStop). AnswersAudit (shelved_for Audit fs name out) o) is (told fs held))
-    (λ fs held. subst (λ (o : Result AuditFile AuditStop). HasFindingComeTo (ComesFor Audit fs name out) o fs new) is (come fs held)) (subst (λ (o : Result AuditFile AuditStop). HasFindingCause o old new) is cause) shelf)
+    (λ fs held. subst (λ (o : Result AuditFile AuditStop). HasComeTo (ComesFor Audit fs name out) (finding_of o) fs new) is (come fs held)) (subst (λ (o : Result AuditFile AuditStop). HasCause (finding_of o) old new) is cause) shelf)
 
-pub stopped-cause-of : (r : Result AuditFile AuditStop) (e : AuditStop) (answer : Report) (old new : ShelfState) (tray : TrayState) → r ≡ Err e → answer ≡ stop_report e → HasFindingCause r old new → FaultsHaveCauses answer old new tray tray
+pub stopped-cause-of : (r : Result AuditFile AuditStop) (e : AuditStop) (answer : Report) (old new : ShelfState) (tray : TrayState) → r ≡ Err e → answer ≡ stop_report e → HasCause (finding_of r) old new → FaultsHaveCauses answer old new tray tray
 stopped-cause-of r e answer old new tray is same cause =
-    subst (λ (a : Report). FaultsHaveCauses a old new tray tray) (sym same) (stop-cause e old new tray (subst (λ (o : Result AuditFile AuditStop). HasFindingCause o old new) is cause))
+    subst (λ (a : Report). FaultsHaveCauses a old new tray tray) (sym same) (stop-cause e old new tray (subst (λ (o : Result AuditFile AuditStop). HasCause (finding_of o) old new) is cause))
 
 -- ---- an audit was found
 

@@ -7,6 +7,7 @@ use Rattle.sdc_base.specs.declared.system.System.{System}
 use Rattle.certificate.specs.Certificates.{certificate_of}
 use Rattle.certificate.specs.Texts.{text_of}
 use Rattle.certificate.specs.declared.certificate.Certificate.{Certificate}
+use Rattle.cell_guards.specs.declared.guarding.ProtectedCells.{ProtectedCells}
 use Rattle.cell_protection.specs.Protections.{IsProtectionOf}
 use Rattle.cell_protection.specs.WholeProtections.{IsWholeProtection}
 use Rattle.modular_plan.specs.Methods.{passes_of}
@@ -64,16 +65,17 @@ ProtectionStopsShort settled fault repairs shown =
 
 -- The job of these parts is that of settled inputs and hides cells, and this hidden set protects them, planned in this
 -- book.
-pub record IsProtectedJob (settled : SettledInputs) (described : DescribedJob) (book : BookView) (cells : List Cell)
-    (rows : List Row) (system : System) (hidden_set : HiddenSet) (certificate : Certificate) : Type 0 where
+pub record IsProtectedJob (settled : SettledInputs) (described : DescribedJob) (protected : ProtectedCells)
+    (certificate : Certificate) : Type 0 where
   pub before : BookView
   pub records : ℕ
   pub skipped : ℕ
   pub hides : job_base described ≡ None
-  pub is_of : IsSettledOf settled (job_of described before cells rows records skipped)
+  pub is_of : IsSettledOf settled (job_of described before protected.cells.now protected.rows.now records skipped)
   pub is_book : IsBook before
-  pub is_system : IsSystemOf before system
-  pub same : IsSameButHidden before book
-  pub protects : IsProtectionOf (protected_case system cells) (prices_of described.job.cost cells before.marks)
-      described.job.method (trail_of before cells described.job.cost (passes_of described.job.method))
-      described.job.steps (protection.Protected hidden_set certificate)
+  pub is_system : IsSystemOf before protected.system.now
+  pub same : IsSameButHidden before protected.book.now
+  pub protects : IsProtectionOf (protected_case protected.system.now protected.cells.now)
+      (prices_of described.job.cost protected.cells.now before.marks) described.job.method
+      (trail_of before protected.cells.now described.job.cost (passes_of described.job.method)) described.job.steps
+      (protection.Protected protected.hidden_set.now certificate)

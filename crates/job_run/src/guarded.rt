@@ -1,6 +1,6 @@
 ghost use Rattle.std.specs.Prelude.{◌≡◌, ◌<◌, ◌^◌, ℕ, None, Some, option_map, IfOk, length};
 ghost use Rattle.certificate.specs.Spelling.{IsSpellable};
-ghost use Rattle.cell_guards.specs.Guards.{IsCertified};
+ghost use Rattle.cell_guards.specs.Guards.{case_of, IsCertified};
 ghost use Rattle.job_inputs.specs.SettledJobs.{IsReadyJob, IsSettledOf, SettledInputs};
 ghost use Rattle.job_run.specs.Books.{CanBeReleased, IsPlannedBook, job_of};
 ghost use Rattle.job_run.specs.FileCounts.{file_count};
@@ -9,21 +9,19 @@ ghost use Rattle.job_run.specs.Protections.{IsProtectedJob};
 ghost use Rattle.job_run.specs.Releases.{summary_of};
 ghost use Rattle.job_run.specs.Reports.{ComesToRelease};
 ghost use Rattle.job_run.specs.Roundings as roundings;
-ghost use Rattle.repair.specs.HidingOrder.{protected_case};
 
 use crate::guarded_texts::guarded_puts;
 use crate::numbers::unhidden_summary;
 use crate::put::Release;
 use crate::report::{Report, Summary};
-use cell_guards::guard_cells;
+use cell_guards::{ProtectedCells, guard_cells};
 use cell_protection::{Protection, protect_cells};
 use certificate::Certificate;
 use job_inputs::{DescribedJob, SettledJob};
 use linked_tables::Book;
 use relations::relations_of;
-use sdc_base::{Cell, Row, System, Text};
+use sdc_base::{Cell, Row, Text};
 use std::alloc::Global;
-use worlds::Protected;
 
 /// The release of a job that hides cells and guards them against contributors, whose file has this name.
 pub(crate) fn guarded_release(alloc: Global, job: SettledJob, name: Text) -> Result<Release, Report>
@@ -86,18 +84,23 @@ fn guard_parts(
         Protection::Protected {
             protected,
             certificate,
-        } => guard_protected(
-            alloc,
-            described,
-            book,
-            cells,
-            rows,
-            name,
-            &system,
-            &protected,
-            certificate,
-            summary,
-        ),
+        } => {
+            let protected_cells = ProtectedCells {
+                book,
+                rows,
+                system: &system,
+                cells,
+                hidden_set: &protected,
+            };
+            guard_protected(
+                alloc,
+                described,
+                &protected_cells,
+                name,
+                certificate,
+                summary,
+            )
+        }
         Protection::Cannot {
             cell,
             side,
@@ -115,37 +118,24 @@ fn guard_parts(
 fn guard_protected(
     alloc: Global,
     described: &DescribedJob,
-    book: &Book,
-    cells: &[Cell],
-    rows: &[Row],
+    protected: &ProtectedCells<'_>,
     name: Text,
-    system: &System,
-    protected: &Protected<'_>,
     certificate: Certificate,
     summary: Summary,
 ) -> Result<Release, Report>
-    requires planned { IsPlannedBook described.now book.now cells.now rows.now }
-    requires one_each { length cells.now ≡ system.now.cells }
-    requires certified { IsCertified (protected_case system.now cells.now) protected.now certificate }
+    requires planned { IsPlannedBook described.now protected.now.book.now protected.now.cells.now
+        protected.now.rows.now }
+    requires one_each { length protected.now.cells.now ≡ protected.now.system.now.cells }
+    requires certified { IsCertified (case_of protected.now) protected.now.hidden_set.now certificate }
     requires text { IsSpellable certificate }
     requires named { option_map (λ line. line.file) described.now.job.contributors ≡ Some name }
-    ensures comes { (settled : SettledInputs)
-        → IsProtectedJob settled described.now book.now cells.now rows.now system.now protected.now certificate
+    ensures comes { (settled : SettledInputs) → IsProtectedJob settled described.now protected.now certificate
         → summary ≡ summary_of settled 0 → ComesToRelease settled result }
     ensures each_file { IfOk result (λ release. length release.puts ≡ file_count described.now.job) }
 {
-    let guarded = guard_cells(
-        alloc,
-        book,
-        rows,
-        system,
-        cells,
-        described.job.cost,
-        protected,
-        certificate,
-        described.job.steps,
-    )?;
-    let puts = guarded_puts(alloc, described, book, name, &guarded)?;
+    let cost = described.job.cost;
+    let guarded = guard_cells(alloc, protected, certificate, cost, described.job.steps)?;
+    let puts = guarded_puts(alloc, described, protected.book, name, &guarded)?;
     let hidden = count_hidden(guarded.hidden.flags.as_slice());
     Ok(Release {
         puts,

@@ -10,7 +10,7 @@ ghost use Rattle.job_inputs.specs.SettledJobs.{IsSettledOf, SettledInputs};
 ghost use Rattle.job_inputs.specs.SoundJobs.{IsSoundJob};
 ghost use Rattle.job_inputs.specs.TabulatedBooks.{IsBookOf, IsReadyFor};
 ghost use Rattle.job_inputs.specs.declared.inputs.Inputs.{Inputs as AnyInputs};
-ghost use Rattle.job_run.specs.Books.{CanBeReleased, IsHidingBook};
+ghost use Rattle.job_run.specs.Books.{CanBeReleased, IsHidingBook, job_of};
 ghost use Rattle.job_run.specs.FileCounts.{file_count};
 ghost use Rattle.job_run.specs.Releases.{puts_of, shown_in, summary_of};
 ghost use Rattle.job_run.specs.Reports.{ComesToRelease};
@@ -111,14 +111,8 @@ fn suppress_parts(
     requires hides { roundings.job_base described.now ≡ None }
     requires unnamed { described.now.job.contributors ≡ None }
     ensures comes { (rows : List AnyRow) → (records skipped : ℕ) → (settled : SettledInputs)
-        → IsSettledOf settled (record {
-          described = described.now;
-          book = book.old;
-          cells = cells.now;
-          rows = rows;
-          records = records;
-          skipped = skipped;
-        }) → summary ≡ summary_of settled 0 → ComesToRelease settled result }
+        → IsSettledOf settled (job_of described.now book.old cells.now rows records skipped)
+        → summary ≡ summary_of settled 0 → ComesToRelease settled result }
     ensures one_more_than_tables { IfOk result
         (λ release. length release.puts ≡ 1 + length described.now.job.tables) }
 {

@@ -1,13 +1,27 @@
 use Rattle.std.proofs.Common.{List, Ok, refl, subst, ℤ}
 use Rattle.std.proofs.lemmas.Result.{err_from_is_err_and}
+use Rattle.job_inputs.proofs.Causes.{cause-as, come-on}
 use Rattle.job_audit.proofs.Answering.{refused_for, values_come, values_found}
 use Rattle.shelved_tables.proofs.Coming.{ok_and}
 use Rattle.job_audit.proofs.Stopping.{table_stops, table_found, table_cause, table_comes_to, values_cause, values_come_to}
-use Rattle.shelved_tables.specs.TablesOnShelf.{shelved_for, IsShelvedOf}
+use Rattle.shelved_tables.specs.TablesOnShelf.{shelved_for, ComesFor, IsShelvedOf}
 use Rattle.job_audit.specs.Finding.{ComesFromValues}
 use Rattle.job_audit.specs.ShownValues.{values_read}
 use Rattle.job_inputs.specs.declared.purpose.Purpose.TheVariants.{Audit}
 use Rattle.job_audit.proofs.finding.find_audit.Goals as goal
+
+-- ---- the inputs and the tables' files
+
+pub returns-in_err-shelved-clause-came_to : goal.returns-in_err-shelved-clause-came_to
+returns-in_err-shelved-clause-came_to g c =
+    λ fs told.
+    let p = err_from_is_err_and c.from_residual.result c.from_residual.ensures.1 in
+    rw (p.1, p.2) (come-on c.in_err-shelved.field-0.0 (ComesFor Audit fs c.args.name.now c.args.out.now) (ComesFor Audit fs c.args.name.now c.args.out.now) fs (g.S.Shelf.state c.read_shelved.new.shelf) (λ f held is. is) (c.in_err-shelved.ensures.came_to fs told))
+
+pub returns-in_err-shelved-clause-cause : goal.returns-in_err-shelved-clause-cause
+returns-in_err-shelved-clause-cause g c =
+    let p = err_from_is_err_and c.from_residual.result c.from_residual.ensures.1 in
+    rw (p.1, p.2) (cause-as c.in_err-shelved.field-0.0 (g.S.Shelf.state c.args.shelf.now) (g.S.Shelf.state c.read_shelved.new.shelf) c.in_err-shelved.ensures.cause)
 
 -- ---- the tables
 

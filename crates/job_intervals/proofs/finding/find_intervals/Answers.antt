@@ -1,11 +1,25 @@
 use Rattle.std.proofs.Common.{Ok, refl}
 use Rattle.std.proofs.lemmas.Result.{err_from_is_err_and}
+use Rattle.job_inputs.proofs.Causes.{cause-as, come-on}
 use Rattle.job_intervals.proofs.Answering.{refused_for, set_comes, set_found}
 use Rattle.shelved_tables.proofs.Coming.{ok_and}
 use Rattle.job_intervals.proofs.Stopping.{table_stops, table_found, table_cause, table_comes_to, set_cause, set_comes_to}
-use Rattle.shelved_tables.specs.TablesOnShelf.{shelved_of, IsShelvedOf}
+use Rattle.shelved_tables.specs.TablesOnShelf.{shelved_of, IntervalsComeTo, IsShelvedOf}
 use Rattle.job_intervals.specs.ShownTables.{flags_in}
 use Rattle.job_intervals.proofs.finding.find_intervals.Goals as goal
+
+-- ---- the inputs and the tables' files
+
+pub returns-in_err-shelved-clause-came_to : goal.returns-in_err-shelved-clause-came_to
+returns-in_err-shelved-clause-came_to g c =
+    λ fs told.
+    let p = err_from_is_err_and c.from_residual.result c.from_residual.ensures.1 in
+    rw (p.1, p.2) (come-on c.in_err-shelved.field-0.0 (IntervalsComeTo fs c.args.name.now c.args.out.now) (IntervalsComeTo fs c.args.name.now c.args.out.now) fs (g.S.Shelf.state c.read_shelved.new.shelf) (λ f held is. is) (c.in_err-shelved.ensures.came_to fs told))
+
+pub returns-in_err-shelved-clause-cause : goal.returns-in_err-shelved-clause-cause
+returns-in_err-shelved-clause-cause g c =
+    let p = err_from_is_err_and c.from_residual.result c.from_residual.ensures.1 in
+    rw (p.1, p.2) (cause-as c.in_err-shelved.field-0.0 (g.S.Shelf.state c.args.shelf.now) (g.S.Shelf.state c.read_shelved.new.shelf) c.in_err-shelved.ensures.cause)
 
 -- ---- the tables
 

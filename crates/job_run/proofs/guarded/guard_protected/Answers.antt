@@ -26,18 +26,18 @@ pub guard_cells-requires-clause-named : goal.guard_cells-requires-clause-named
 guard_cells-requires-clause-named c =
     let ready = c.requires.planned.ready in
     ready.settled ∙ ready.one_each
-    ∙ ap (λ (names : List Name). length names) (sym (same-cells c.requires.planned.before c.args.book.now c.requires.planned.same))
+    ∙ ap (λ (names : List Name). length names) (sym (same-cells c.requires.planned.before c.args.protected.now.book.now c.requires.planned.same))
 
 pub guard_cells-requires-clause-marks : goal.guard_cells-requires-clause-marks
 guard_cells-requires-clause-marks c =
-    c.requires.planned.ready.settled ∙ sym (as-many-marks c.requires.planned.before c.args.book.now c.requires.planned.same)
+    c.requires.planned.ready.settled ∙ sym (as-many-marks c.requires.planned.before c.args.protected.now.book.now c.requires.planned.same)
 
 pub guard_cells-requires-clause-costed : goal.guard_cells-requires-clause-costed
-guard_cells-requires-clause-costed c = (still-ready c.args.described.now c.requires.planned.before c.args.book.now c.requires.planned.same c.requires.planned.ready.book).costed
+guard_cells-requires-clause-costed c = (still-ready c.args.described.now c.requires.planned.before c.args.protected.now.book.now c.requires.planned.same c.requires.planned.ready.book).costed
 
 pub guard_cells-requires-clause-told : goal.guard_cells-requires-clause-told
 guard_cells-requires-clause-told c =
-    still-told c.requires.planned.before c.args.book.now c.args.rows.now (keep_of c.args.described.now.job.rules.list) c.args.described.now.bound.scale c.requires.planned.same c.requires.planned.ready.told
+    still-told c.requires.planned.before c.args.protected.now.book.now c.args.protected.now.rows.now (keep_of c.args.described.now.job.rules.list) c.args.described.now.bound.scale c.requires.planned.same c.requires.planned.ready.told
 
 pub guard_cells-requires-clause-fewer_than_2_32 : goal.guard_cells-requires-clause-fewer_than_2_32
 guard_cells-requires-clause-fewer_than_2_32 c =
@@ -49,24 +49,24 @@ pub guarded_puts-requires-clause-shown : goal.guarded_puts-requires-clause-shown
 guarded_puts-requires-clause-shown c =
     let ready = c.requires.planned.ready in
     let certified = c.requires.certified in
-    let flags = each-flag _ certified.prices certified.method certified.steps 0 (protection.Protected c.args.protected.now c.args.certificate) c.args.protected.now c.args.certificate refl certified.protects in
-    let each = each-guarded _ _ _ _ _ c.args.protected.now c.args.certificate c.in_ok-guarded.guarded c.in_ok-guarded.ensures.outcome in
+    let flags = each-flag _ certified.prices certified.method certified.steps 0 (protection.Protected c.args.protected.now.hidden_set.now c.args.certificate) c.args.protected.now.hidden_set.now c.args.certificate refl certified.protects in
+    let each = each-guarded _ _ _ _ _ c.args.protected.now.hidden_set.now c.args.certificate c.in_ok-guarded.guarded c.in_ok-guarded.ensures.outcome in
     record {
       sound = ready.sound;
-      ready = still-ready c.args.described.now c.requires.planned.before c.args.book.now c.requires.planned.same ready.book;
-      each_flag = each ∙ flags ∙ ready.settled ∙ sym (as-many-marks c.requires.planned.before c.args.book.now c.requires.planned.same);
+      ready = still-ready c.args.described.now c.requires.planned.before c.args.protected.now.book.now c.requires.planned.same ready.book;
+      each_flag = each ∙ flags ∙ ready.settled ∙ sym (as-many-marks c.requires.planned.before c.args.protected.now.book.now c.requires.planned.same);
     }
 
 pub guarded_puts-requires-clause-text : goal.guarded_puts-requires-clause-text
 guarded_puts-requires-clause-text c =
-    subst IsSpellable (sym (certificate-kept _ _ _ _ _ c.args.protected.now c.args.certificate c.in_ok-guarded.guarded c.in_ok-guarded.ensures.outcome)) c.requires.text
+    subst IsSpellable (sym (certificate-kept _ _ _ _ _ c.args.protected.now.hidden_set.now c.args.certificate c.in_ok-guarded.guarded c.in_ok-guarded.ensures.outcome)) c.requires.text
 
 pub count_hidden-hidden-requires : goal.count_hidden-hidden-requires
 count_hidden-hidden-requires c =
     let ready = c.requires.planned.ready in
     let certified = c.requires.certified in
-    let flags = each-flag _ certified.prices certified.method certified.steps 0 (protection.Protected c.args.protected.now c.args.certificate) c.args.protected.now c.args.certificate refl certified.protects in
-    let each = each-guarded _ _ _ _ _ c.args.protected.now c.args.certificate c.in_ok-guarded.guarded c.in_ok-guarded.ensures.outcome in
+    let flags = each-flag _ certified.prices certified.method certified.steps 0 (protection.Protected c.args.protected.now.hidden_set.now c.args.certificate) c.args.protected.now.hidden_set.now c.args.certificate refl certified.protects in
+    let each = each-guarded _ _ _ _ _ c.args.protected.now.hidden_set.now c.args.certificate c.in_ok-guarded.guarded c.in_ok-guarded.ensures.outcome in
     let listed = ap (λ (flags : List Bool). length flags) c.as_slice.ensures in
     omega (arith, listed, each, flags, ready.fewer_than_2_32)
 
@@ -74,15 +74,15 @@ count_hidden-hidden-requires c =
 
 pub returns-clause-comes : goal.returns-clause-comes
 returns-clause-comes c = λ settled is numbers.
-    let job = job_of c.args.described.now is.before c.args.cells.now c.args.rows.now is.records is.skipped in
+    let job = job_of c.args.described.now is.before c.args.protected.now.cells.now c.args.protected.now.rows.now is.records is.skipped in
     let guarded = c.in_ok-guarded.guarded in
-    let guards = guard-for settled job c.args.system.now c.args.book.now c.args.cells.now c.args.rows.now c.args.name (protection.Protected c.args.protected.now c.args.certificate) c.args.protected.now c.args.certificate (Ok guarded)
+    let guards = guard-for settled job c.args.protected.now.system.now c.args.protected.now.book.now c.args.protected.now.cells.now c.args.protected.now.rows.now c.args.name (protection.Protected c.args.protected.now.hidden_set.now c.args.certificate) c.args.protected.now.hidden_set.now c.args.certificate (Ok guarded)
     is.hides c.requires.named is.is_of is.is_book is.is_system refl refl refl is.same is.protects c.in_ok-guarded.ensures.outcome c.in_ok-guarded.ensures.whole in
     guarded-comes settled job c.args.name _ is.hides c.requires.named is.is_of
-    (guarded-is settled _ c.args.protected.now c.args.certificate guarded c.args.name guards (file-named settled job c.args.name is.is_of c.requires.named)
-    (certificate-kept _ _ _ _ _ c.args.protected.now c.args.certificate guarded c.in_ok-guarded.ensures.outcome)
+    (guarded-is settled _ c.args.protected.now.hidden_set.now c.args.certificate guarded c.args.name guards (file-named settled job c.args.name is.is_of c.requires.named)
+    (certificate-kept _ _ _ _ _ c.args.protected.now.hidden_set.now c.args.certificate guarded c.in_ok-guarded.ensures.outcome)
     c.in_ok-puts.ensures.read_back c.in_ok-puts.ensures.extra_read_back
-    (c.in_ok-puts.ensures.puts settled.inputs (sym is.is_of.described) (still-book settled.inputs is.before c.args.book.now is.same is.is_of.book))
+    (c.in_ok-puts.ensures.puts settled.inputs (sym is.is_of.described) (still-book settled.inputs is.before c.args.protected.now.book.now is.same is.is_of.book))
     (with-hidden settled c.args.summary c.count_hidden-hidden.result _ numbers (c.count_hidden-hidden.ensures ∙ ap (λ (flags : List Bool). count_hidden flags) c.as_slice.ensures))
     refl)
 
@@ -91,9 +91,9 @@ returns-clause-each_file c = named-files c.args.described.now.job _ c.args.name 
 
 pub returns-in_err-guarded-clause-comes : goal.returns-in_err-guarded-clause-comes
 returns-in_err-guarded-clause-comes c = λ settled is numbers.
-    let job = job_of c.args.described.now is.before c.args.cells.now c.args.rows.now is.records is.skipped in
+    let job = job_of c.args.described.now is.before c.args.protected.now.cells.now c.args.protected.now.rows.now is.records is.skipped in
     let p = err_from_is_err_and c.from_residual.result c.from_residual.ensures.1 in
     let why = c.in_err-guarded.field-0.0 in
-    let guards = guard-for settled job c.args.system.now c.args.book.now c.args.cells.now c.args.rows.now c.args.name (protection.Protected c.args.protected.now c.args.certificate) c.args.protected.now c.args.certificate (Err why)
+    let guards = guard-for settled job c.args.protected.now.system.now c.args.protected.now.book.now c.args.protected.now.cells.now c.args.protected.now.rows.now c.args.name (protection.Protected c.args.protected.now.hidden_set.now c.args.certificate) c.args.protected.now.hidden_set.now c.args.certificate (Err why)
     is.hides c.requires.named is.is_of is.is_book is.is_system refl refl refl is.same is.protects c.in_err-guarded.ensures.outcome c.in_err-guarded.ensures.whole in
-    rw (p.1, p.2) (unguarded-comes settled c.args.protected.now c.args.certificate why guards)
+    rw (p.1, p.2) (unguarded-comes settled c.args.protected.now.hidden_set.now c.args.certificate why guards)

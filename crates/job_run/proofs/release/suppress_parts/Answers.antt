@@ -1,7 +1,7 @@
 use Rattle.std.proofs.Common.{◌≡◌, arith, refl, length, Bool, List, ℕ, ap, sym, subst, ◌∙◌}
 use Rattle.cell_protection.specs.Protections.{HasText}
 use Rattle.cell_protection.specs.declared.protection.Protection.TheVariants as protection
-use Rattle.job_inputs.specs.declared.settled.SettledJob.{SettledJob}
+use Rattle.job_run.specs.Books.{job_of}
 use Rattle.job_run.proofs.SameBook.{as-many-marks, narrow, still-book, still-ready}
 use Rattle.job_run.proofs.Releasing.{outcome-for, few-hidden, each-flag, with-hidden, stopped-comes, suppressed-comes}
 use Rattle.job_run.proofs.release.suppress_parts.Goals as goal
@@ -31,14 +31,7 @@ hidden_release-requires-clause-few c =
 
 pub returns-in-Protected-clause-comes : goal.returns-in-Protected-clause-comes
 returns-in-Protected-clause-comes c = λ rows records skipped settled is numbers.
-    let job : SettledJob = record {
-      described = c.args.described.now;
-      book = c.args.book.now;
-      cells = c.args.cells.now;
-      rows = rows;
-      records = records;
-      skipped = skipped;
-    } in
+    let job = job_of c.args.described.now c.args.book.now c.args.cells.now rows records skipped in
     let made = c.in_ok-release-in-Protected.ensures in
     suppressed-comes settled job _ c.requires.hides c.requires.unnamed is (record {
       hidden_set = c.in-Protected.protected;
@@ -53,14 +46,7 @@ returns-in-Protected-clause-comes c = λ rows records skipped settled is numbers
 
 pub returns-in-Cannot-clause-comes : goal.returns-in-Cannot-clause-comes
 returns-in-Cannot-clause-comes c = λ rows records skipped settled is numbers.
-    let job : SettledJob = record {
-      described = c.args.described.now;
-      book = c.args.book.now;
-      cells = c.args.cells.now;
-      rows = rows;
-      records = records;
-      skipped = skipped;
-    } in (
+    let job = job_of c.args.described.now c.args.book.now c.args.cells.now rows records skipped in (
       tt,
       outcome-for settled job c.in_ok-system.system c.args.cells.now c.in_ok-protection.protection (protection.Cannot c.in-Cannot.cell c.in-Cannot.side c.in-Cannot.multipliers) c.requires.hides is c.cells-known.ensures.book
           (record { cells = c.in_ok-system.ensures.cells; relations = c.in_ok-system.ensures.exact }) refl c.in-Cannot.is c.in_ok-protection.ensures.outcome,
@@ -68,14 +54,7 @@ returns-in-Cannot-clause-comes c = λ rows records skipped settled is numbers.
 
 pub returns-clause-comes : goal.returns-clause-comes
 returns-clause-comes c = λ rows records skipped settled is numbers.
-    let job : SettledJob = record {
-      described = c.args.described.now;
-      book = c.args.book.now;
-      cells = c.args.cells.now;
-      rows = rows;
-      records = records;
-      skipped = skipped;
-    } in
+    let job = job_of c.args.described.now c.args.book.now c.args.cells.now rows records skipped in
     let stopped = outcome-for settled job c.in_ok-system.system c.args.cells.now c.in_ok-protection.protection (protection.Undecided c.in-Undecided.stopped) c.requires.hides is c.cells-known.ensures.book
     (record { cells = c.in_ok-system.ensures.cells; relations = c.in_ok-system.ensures.exact }) refl c.in-Undecided.is c.in_ok-protection.ensures.outcome in
     rw (c.from.ensures) (stopped-comes settled c.in-Undecided.stopped stopped)
