@@ -1,13 +1,13 @@
 -- Which words ask for which listing.
 use Rattle.std.proofs.Common.{◌≡◌, ℕ, List, [], ◌∷◌, None, Some, refl}
-use Rattle.cell_listing.specs.Asked.{asked_stop, released_named}
+use Rattle.cell_listing.specs.Asked.{asked_stop, release_named}
 use Rattle.cell_listing.specs.Calls.{job_named}
 use Rattle.cell_listing.specs.declared.asked.AskStop.TheVariants as asked
 use Rattle.cell_listing.specs.declared.calls.ListStop.{ListStop}
 use Rattle.cell_listing.specs.declared.calls.ListStop.TheVariants as list
 
 -- words that name a release name no job alone
-pub one_of_both : (words : List (List ℕ)) (name : List ℕ) → released_named words ≡ Some name → job_named words ≡ None
+pub one_of_both : (words : List (List ℕ)) (name : List ℕ) → release_named words ≡ Some name → job_named words ≡ None
 one_of_both [] name is = refl
 one_of_both ([] ∷ []) name is = refl
 one_of_both ((b ∷ rest) ∷ []) name is = absurd cc

@@ -17,7 +17,7 @@ use Rattle.job_inputs.specs.Cells.{cells, figures}
 use Rattle.job_inputs.specs.SettledJobs.{SettledInputs, IsReadyJob, IsSettledOf}
 use Rattle.job_inputs.specs.TabulatedBooks.{IsBookOf}
 use Rattle.job_inputs.specs.declared.settled.SettledJob.{SettledJob}
-use Rattle.cell_listing.specs.Laws.{CellsAreCounted, ShownAreValues}
+use Rattle.cell_listing.specs.Laws.{ListingsCountAsReports, ShownAreValues}
 use Rattle.cell_listing.specs.ListedCells.{ListedCell, listed_cells}
 use Rattle.cell_listing.proofs.LawsOfCells.{count-primary}
 use Rattle.cell_listing.proofs.Numbered.{as_many, was_number}
@@ -31,8 +31,8 @@ all-settled : (job : SettledJob) (settled : SettledInputs) → IsReadyJob job �
 all-settled job settled ready is =
     ap (λ (all : List SettledCell). length all) (sym is.cells) ∙ length-map job.cells view_of_cell ∙ ready.settled ∙ ready.one_each ∙ ap (λ (all : List Name). length all) (same-cells job settled is)
 
-pub cells_are_counted : CellsAreCounted
-cells_are_counted settled job ready is =
+pub listings_count_as_reports : ListingsCountAsReports
+listings_count_as_reports settled job ready is =
     let inputs = settled.inputs in
     let known : length (figures inputs) ≡ length (cells inputs) = length-map (cells inputs) (λ (name : Name). figures_in inputs.records.trees name inputs.records.rows inputs.described.bound.scale) in
     let all = all-settled job settled ready is in

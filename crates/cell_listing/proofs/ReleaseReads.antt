@@ -4,7 +4,7 @@ use Rattle.certificate.specs.declared.certificate.Certificate.{Certificate}
 use Rattle.certificate.specs.declared.extra.Extra.{Extra}
 use Rattle.cert_check.specs.Methods.{rounds_cells}
 use Rattle.job_inputs.specs.declared.faults.Fault.{Fault}
-use Rattle.job_check.specs.Accepted.{AnswersAccepted, IsAcceptedAs}
+use Rattle.job_check.specs.Accepted.{AnswersReadRelease, IsAcceptedAs}
 use Rattle.job_check.specs.Answers.{IsAcceptedWith}
 use Rattle.job_check.specs.Contributors.{AreForJob}
 use Rattle.job_check.specs.Reading.{IsReadyRelease, IsReleasedOf}
@@ -16,12 +16,12 @@ use Rattle.job_check.specs.declared.reading.ReadRelease.{ReadRelease}
 use Rattle.cell_listing.specs.ListedCells.{listed_cells, told_cells}
 use Rattle.cell_listing.specs.ReleasedCells.{amounts_in, AreReleasedIn}
 use Rattle.cell_listing.specs.ReleasedListings.{outcome_at, released_listing, released_text}
-use Rattle.cell_listing.specs.Releases.{IsListingOf, ShowWhatIsListed}
+use Rattle.cell_listing.specs.Releases.{IsListingOf, TablesShowListing}
 use Rattle.cell_listing.specs.declared.released_cells.ReleasedCells.{ReleasedCells}
 use Rattle.cell_listing.specs.declared.released_cells.ReleasedCells.TheVariants as cells
 use Rattle.cell_listing.proofs.Alike.{released_alike}
 use Rattle.cell_listing.proofs.HiddenRows.{hidden_exactly, hiding_of}
-use Rattle.cell_listing.proofs.LawsOfJobs.{cells_are_counted}
+use Rattle.cell_listing.proofs.LawsOfJobs.{listings_count_as_reports}
 use Rattle.cell_listing.proofs.ShownRows.{rounded_shown, suppressed_shown}
 
 -- a release with extra cells doesn't round
@@ -37,7 +37,7 @@ apart released read ready is (Some own) some accepted =
     ap rounds_cells same ∙ hides
 
 -- the tables show what is listed, whichever the release made of its cells
-tables_show : (released : ReleasedFiles) (read : ReadRelease) (made : ReleasedCells) → IsAcceptedAs released read → AreReleasedIn read made → ShowWhatIsListed released (amounts_in made)
+tables_show : (released : ReleasedFiles) (read : ReadRelease) (made : ReleasedCells) → IsAcceptedAs released read → AreReleasedIn read made → TablesShowListing released (amounts_in made)
 tables_show released read (cells.Suppressed flags) got are =
     let hides : rounds_cells released.certificate.method ≡ false = ap (λ (c : Certificate). rounds_cells c.method) (sym got.is.certificate) ∙ are.0 in
     let it = hiding_of released.extra released refl got.accepted hides in
@@ -56,12 +56,12 @@ is_listing released read made text ready are is got =
       text_is =
           is ∙ released_alike read.certificate read.extra amounts read.job released.settled ready.job got.is.settled
           ∙ ap₂ (λ (c : Certificate) (extra : Option Extra). released_text inputs.described inputs.records.trees (outcome_at c extra amounts) (listed_cells released.settled)) got.is.certificate got.is.extra;
-      counts = cells_are_counted released.settled read.job ready.job got.is.settled;
+      counts = listings_count_as_reports released.settled read.job ready.job got.is.settled;
       hidden = hidden_exactly released amounts got.accepted (apart released read ready got.is released.extra got.is.extra got.accepted);
       tables = tables_show released read made got are;
     }
 
 -- the listing of what a check accepts answers
-pub listing_answers : (outcome : Result ReleasedFiles Fault) (read : ReadRelease) (text : List ℕ) → ((released : ReleasedFiles) → IsAcceptedAs released read → IsListingOf released text) → AnswersAccepted outcome (Ok read) → IsOkAnd outcome (λ released. IsListingOf released text)
+pub listing_answers : (outcome : Result ReleasedFiles Fault) (read : ReadRelease) (text : List ℕ) → ((released : ReleasedFiles) → IsAcceptedAs released read → IsListingOf released text) → AnswersReadRelease outcome (Ok read) → IsOkAnd outcome (λ released. IsListingOf released text)
 listing_answers (Ok released) read text over h = over released h
 listing_answers (Err fault) read text over h = absurd h

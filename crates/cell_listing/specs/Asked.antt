@@ -13,9 +13,9 @@ use Rattle.cell_listing.specs.declared.calls.ListStop.{ListStop}
 use Rattle.cell_listing.specs.declared.calls.ListStop.TheVariants as list
 
 -- the name of a job, of one byte or more, where `--released` stands behind it, and nothing else
-abbrev pub released_named : List (List ℕ) → Option (List ℕ)
-released_named ((b ∷ name) ∷ word ∷ []) = if bytes_eq word (codes "--released") then Some (b ∷ name) else None
-released_named words = None
+abbrev pub release_named : List (List ℕ) → Option (List ℕ)
+release_named ((b ∷ name) ∷ word ∷ []) = if bytes_eq word (codes "--released") then Some (b ∷ name) else None
+release_named words = None
 
 -- why there is no listing of a job, as an answer to words
 abbrev pub asked_stop : ListStop → AskStop

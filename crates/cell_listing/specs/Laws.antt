@@ -38,8 +38,8 @@ PricesAreCosts =
     → price_by kind own (figures_of_facts facts) ≡ price_of kind own facts
 
 -- a listing has as many cells, and as many primary ones, as the report of a release counts
-abbrev pub CellsAreCounted : Type 0
-CellsAreCounted =
+abbrev pub ListingsCountAsReports : Type 0
+ListingsCountAsReports =
     (settled : SettledInputs) (job : SettledJob) → IsReadyJob job → IsSettledOf settled job → CountsAsReport settled
 
 -- where a release shows a cell, it shows what stands as the value in the cell's line

@@ -35,7 +35,7 @@ shows cell (outcome.Hidden by) = None
 shows cell (outcome.Rounded amount) = Some amount
 
 -- the tables of a release are texts in which each cell shows what its line says
-pub record ShowWhatIsListed (released : ReleasedFiles) (amounts : List ℤ) : Type 0 where
+pub record TablesShowListing (released : ReleasedFiles) (amounts : List ℤ) : Type 0 where
   pub book : BookView
   pub is_book : IsBookOf released.settled.inputs book
   pub shown : ℕ → Option ℤ
@@ -55,10 +55,10 @@ pub record IsListingOf (released : ReleasedFiles) (text : List ℕ) : Type 0 whe
   pub hidden : (number : ℕ) → IsListedHidden released amounts number ↔
       ((is_listed_hidden released.certificate released.extra number ≡ true)
       × (number < length (listed_cells released.settled)))
-  pub tables : ShowWhatIsListed released amounts
+  pub tables : TablesShowListing released amounts
 
 -- The answer to the name of a job whose files come to a release or to a first fault: the listing of the release, and
 -- where a check doesn't accept it, what the check answers.
-abbrev pub AnswersReleased : Result ReleasedFiles Fault → Result (Vec ℕ Global) CheckStop → Type 0
-AnswersReleased meant (Ok bytes) = IsOkAnd meant (λ released. IsListingOf released bytes.items)
-AnswersReleased meant (Err stop) = AnswersRelease meant (Err stop)
+abbrev pub AnswersReleaseListing : Result ReleasedFiles Fault → Result (Vec ℕ Global) CheckStop → Type 0
+AnswersReleaseListing meant (Ok bytes) = IsOkAnd meant (λ released. IsListingOf released bytes.items)
+AnswersReleaseListing meant (Err stop) = AnswersRelease meant (Err stop)

@@ -57,17 +57,17 @@ pub fn list_asked<S: Shelf>(
     words: &[Text],
     shelf: &mut S,
 ) -> Result<Vec<u8>, AskStop>
-    ensures usage { (result ≡ Err AskStop.Usage) ↔ ((job_named words.now ≡ None) × (spec.released_named words.now ≡ None)) }
+    ensures usage { (result ≡ Err AskStop.Usage) ↔ ((job_named words.now ≡ None) × (spec.release_named words.now ≡ None)) }
     // The name of a job alone.
     ensures cells { WhereTold (job_named words.now)
         (λ name. AnswersCells name result (S.state shelf.old) (S.state shelf.new)) }
     // The name of a job, and `--released`.
-    ensures released { WhereTold (spec.released_named words.now)
+    ensures released { WhereTold (spec.release_named words.now)
         (λ name. AnswersReleases name result (S.state shelf.old) (S.state shelf.new)) }
     // It was only read from, and no more than was wanted.
     ensures shelf { HasOnlyLooked output_limit (S.state shelf.old) (S.state shelf.new) }
 {
-    match released_named(words) {
+    match release_named(words) {
         Some(name) => asked_release(alloc, shelf, name),
         None => asked_cells(alloc, words, shelf),
     }
@@ -94,8 +94,8 @@ fn asked_cells<S: Shelf>(alloc: Global, words: &[Text], shelf: &mut S) -> Result
 }
 
 // The name of a job, where `--released` stands behind it, and nothing else.
-fn released_named(words: &[Text]) -> Option<&Text>
-    ensures { option_map (λ name. name.now) result ≡ spec.released_named words.now }
+fn release_named(words: &[Text]) -> Option<&Text>
+    ensures { option_map (λ name. name.now) result ≡ spec.release_named words.now }
 {
     if words.len() == 2
         && !words[0].as_slice().is_empty()

@@ -1,6 +1,6 @@
 //! Laws of listings, each the contract of a function with an empty body.
 
-ghost use Rattle.cell_listing.specs.Laws.{UnnamedAreDeclared, NamedAreDeclared, PricesAreCosts, CellsAreCounted, ShownAreValues};
+ghost use Rattle.cell_listing.specs.Laws.{UnnamedAreDeclared, NamedAreDeclared, PricesAreCosts, ListingsCountAsReports, ShownAreValues};
 
 /// A cell with `u` is declared unsafe; one that a rule names though it isn't primary is declared safe.
 pub fn reasons_are_true()
@@ -17,6 +17,6 @@ pub fn prices_are_costs()
 /// A listing has as many cells, and as many primary ones, as the report of a release counts, and where a release shows a
 /// cell, it shows the value in its line.
 pub fn listings_are_of_releases()
-    ensures counts { CellsAreCounted }
+    ensures counts { ListingsCountAsReports }
     ensures values { ShownAreValues }
 {}

@@ -12,7 +12,7 @@ use Rattle.job_inputs.specs.SoundJobs.{IsSoundJob}
 use Rattle.job_inputs.specs.TabulatedBooks.{IsReadyFor}
 use Rattle.job_inputs.specs.declared.described.DescribedJob.{DescribedJob}
 use Rattle.job_inputs.specs.declared.faults.Fault.{Fault}
-use Rattle.job_check.specs.Accepted.{AnswersAccepted, IsSameRelease}
+use Rattle.job_check.specs.Accepted.{AnswersReadRelease, IsSameRelease}
 use Rattle.job_check.specs.Answers.{AnswersRelease}
 use Rattle.job_check.specs.Contributors.{AreForJob}
 use Rattle.job_check.specs.Reading.{IsReadyRelease, IsReleasedOf}
@@ -63,6 +63,6 @@ still-judged old new same ready = record {
 }
 
 -- a release that is accepted so answers the check
-pub answers-accepted : (outcome : Result ReleasedFiles Fault) (read : ReadRelease) → AnswersAccepted outcome (Ok read) → AnswersRelease outcome (Ok tt)
-answers-accepted (Ok released) read h = h.accepted
-answers-accepted (Err fault) read h = absurd h
+pub answers-read-release : (outcome : Result ReleasedFiles Fault) (read : ReadRelease) → AnswersReadRelease outcome (Ok read) → AnswersRelease outcome (Ok tt)
+answers-read-release (Ok released) read h = h.accepted
+answers-read-release (Err fault) read h = absurd h

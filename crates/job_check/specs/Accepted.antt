@@ -40,6 +40,6 @@ pub record IsAcceptedRead (read : ReadRelease) : Type 0 where
   pub sound : AreSound released.settled.inputs
 
 -- the answer of a check that gives what it accepts; where it doesn't accept, it is that of a check
-abbrev pub AnswersAccepted : Result ReleasedFiles Fault → Result ReadRelease CheckStop → Type 0
-AnswersAccepted outcome (Ok read) = IsOkAnd outcome (λ released. IsAcceptedAs released read)
-AnswersAccepted outcome (Err stop) = AnswersRelease outcome (Err stop)
+abbrev pub AnswersReadRelease : Result ReleasedFiles Fault → Result ReadRelease CheckStop → Type 0
+AnswersReadRelease outcome (Ok read) = IsOkAnd outcome (λ released. IsAcceptedAs released read)
+AnswersReadRelease outcome (Err stop) = AnswersRelease outcome (Err stop)

@@ -3,7 +3,7 @@ ghost use Rattle.sdc_base.specs.WhereTold.{WhereTold};
 ghost use Rattle.job_inputs.specs.ReadFiles.{output_limit};
 ghost use Rattle.job_inputs.specs.Reading.{HasCause, HasComeTo, HasOnlyLooked};
 ghost use Rattle.job_inputs.specs.declared.stop.InputStop.{InputStop as AnyStop};
-ghost use Rattle.job_check.specs.Accepted.{AnswersAccepted, IsAcceptedRead};
+ghost use Rattle.job_check.specs.Accepted.{AnswersReadRelease, IsAcceptedRead};
 ghost use Rattle.job_check.specs.Answers.{AnswersRelease};
 ghost use Rattle.job_check.specs.Reading.{ReleaseComesTo};
 ghost use Rattle.job_check.specs.ReleaseFiles.{released_of};
@@ -66,7 +66,7 @@ pub fn accepted_release<S: Shelf>(
     name: &Text,
 ) -> Result<ReadRelease, CheckStop>
     // The answer is what the told files come to.
-    ensures told { WhereTold (S.state shelf.old).files (λ fs. AnswersAccepted (released_of fs name.now) result) }
+    ensures told { WhereTold (S.state shelf.old).files (λ fs. AnswersReadRelease (released_of fs name.now) result) }
 
     // Where the shelf failed at a file, it is one to which the check came with no fault before it.
     ensures came_to { WhereTold (S.state shelf.old).files (λ fs. (e : AnyStop) → result ≡ Err (CheckStop.Inputs e)

@@ -17,7 +17,7 @@ use Rattle.job_inputs.specs.declared.file_ref.FileRef.TheVariants as file
 use Rattle.job_inputs.specs.declared.stop.InputStop.{InputStop}
 use Rattle.job_inputs.specs.declared.stop.InputStop.TheVariants as input
 use Rattle.job_inputs.proofs.Causes.{nothing-looked, read-wider}
-use Rattle.job_run.specs.Migrations.{migrating_of, IsPutAgain, IsMigrationAnswer, MeetsMigration, MigrationLeaves, SettlesMigration, ComesTo, IsMigrationOf}
+use Rattle.job_run.specs.Migrations.{migrating_of, IsPutAgain, IsMigrationAnswer, MeetsMigration, MigrationLeaves, SettlesMigration, MigrationComesTo, IsMigrationOf}
 use Rattle.job_run.specs.Reporting.{inputs_report}
 use Rattle.job_run.specs.Reports.{FaultsHaveCauses, LeavesAll, reading_of}
 use Rattle.job_run.specs.declared.report.Report.{Report}
@@ -36,7 +36,7 @@ other-names files old new apart = rw apart refl
 
 -- equal names are refused before the shelf is looked at
 pub names-refused : (old new : List ℕ) (state : ShelfState) → bytes_eq old new ≡ true
-    → IsReadFrom {X = Certificate} (λ certificate. certificate) (λ fs. migrating_of fs old new) (λ fs. ComesTo old new) IsSoundCertificate output_limit (Err (input.Refused fault.OutName)) state state
+    → IsReadFrom {X = Certificate} (λ certificate. certificate) (λ fs. migrating_of fs old new) (λ fs. MigrationComesTo old new) IsSoundCertificate output_limit (Err (input.Refused fault.OutName)) state state
 names-refused old new state is = record {
   told = λ fs told. same-names fs old new is;
   came_to = λ fs told f stops. absurd cc;
@@ -48,9 +48,9 @@ names-refused old new state is = record {
 -- with other names the file is looked at
 pub file-read : (old new : List ℕ) (result : Result Certificate InputStop) (before after : ShelfState) → bytes_eq old new ≡ false
     → IsReadFrom (λ certificate. certificate) (λ fs. certificate_in fs old) (λ fs. IsFile file.Certificate old) IsSoundCertificate output_limit result before after
-    → IsReadFrom (λ certificate. certificate) (λ fs. migrating_of fs old new) (λ fs. ComesTo old new) IsSoundCertificate output_limit result before after
+    → IsReadFrom (λ certificate. certificate) (λ fs. migrating_of fs old new) (λ fs. MigrationComesTo old new) IsSoundCertificate output_limit result before after
 file-read old new result before after apart read =
-    read-wider (λ certificate. certificate) (λ fs. certificate_in fs old) (λ fs. migrating_of fs old new) (λ fs. IsFile file.Certificate old) (λ fs. ComesTo old new) result before after
+    read-wider (λ certificate. certificate) (λ fs. certificate_in fs old) (λ fs. migrating_of fs old new) (λ fs. IsFile file.Certificate old) (λ fs. MigrationComesTo old new) result before after
     (λ fs. other-names fs old new apart) (λ fs f held is. record { apart = apart; is_file = is }) read
 
 -- ---- no certificate was read
@@ -99,7 +99,7 @@ settles (report.Undecided why repairs shown against) outcome h no_read no_write 
 
 -- what stopped the reading is reported, and nothing is put
 pub stopped-migration : (old new : List ℕ) (e : InputStop) (shelf shelved : ShelfState) (tray : TrayState)
-    → IsReadFrom {X = Certificate} (λ certificate. certificate) (λ fs. migrating_of fs old new) (λ fs. ComesTo old new) IsSoundCertificate output_limit (Err e) shelf shelved
+    → IsReadFrom {X = Certificate} (λ certificate. certificate) (λ fs. migrating_of fs old new) (λ fs. MigrationComesTo old new) IsSoundCertificate output_limit (Err e) shelf shelved
     → IsMigrationOf old new (inputs_report e) shelf shelved tray tray
 stopped-migration old new e shelf shelved tray read =
     let cause = inputs-cause e shelf shelved tray read.cause in
@@ -108,7 +108,7 @@ stopped-migration old new e shelf shelved tray read =
       told = λ fs held. inputs-meet e (migrating_of fs old new) (read.told fs held);
       left = λ fs held. inputs-leave e (migrating_of fs old new) new tray;
       complete = λ fs held no_read no_write. settles (inputs_report e) (migrating_of fs old new) (inputs-meet e (migrating_of fs old new) (read.told fs held)) (λ f is. no_read (read-counted (inputs_report e) shelf shelved tray tray f cause is)) (λ f is. no_write (cause.write_fault f is));
-      came_to = λ fs held. inputs-come e (ComesTo old new) fs shelved (read.came_to fs held);
+      came_to = λ fs held. inputs-come e (MigrationComesTo old new) fs shelved (read.came_to fs held);
       one_put = λ is. absurd (inputs-put-none e is);
       looked = read.shelf;
     }
@@ -164,7 +164,7 @@ not-read certificate new answer before after h f is = subst (λ (a : Report). Is
 
 -- the certificate was put again, in part, or not at all
 pub put-migration : (old new : List ℕ) (certificate : Certificate) (answer : Report) (shelf shelved : ShelfState) (before after : TrayState)
-    → IsReadFrom {X = Certificate} (λ certificate. certificate) (λ fs. migrating_of fs old new) (λ fs. ComesTo old new) IsSoundCertificate output_limit (Ok certificate) shelf shelved
+    → IsReadFrom {X = Certificate} (λ certificate. certificate) (λ fs. migrating_of fs old new) (λ fs. MigrationComesTo old new) IsSoundCertificate output_limit (Ok certificate) shelf shelved
     → IsPutAgain certificate new answer before after → IsMigrationOf old new answer shelf shelved before after
 put-migration old new certificate answer shelf shelved before after read h = record {
   answers = put-answers certificate new answer before after h;
@@ -173,7 +173,7 @@ put-migration old new certificate answer shelf shelved before after read h = rec
   complete = λ fs held no_read no_write.
       settles answer (migrating_of fs old new) (put-meets certificate new answer before after (migrating_of fs old new) (read.told fs held) h) (not-read certificate new answer before after h)
       (λ f is. no_write ((put-cause certificate new answer shelf shelved before after h).write_fault f is));
-  came_to = λ fs held. put-comes certificate new answer before after (ComesTo old new) fs shelved h;
+  came_to = λ fs held. put-comes certificate new answer before after (MigrationComesTo old new) fs shelved h;
   one_put = λ is. (certificate, subst (λ (a : Report). IsPutAgain certificate new a before after) is h);
   looked = read.shelf;
 }

@@ -74,7 +74,7 @@ SettlesMigration answer (Ok certificate) = (answer ≡ report.Migrated) ⊎ (ans
 SettlesMigration answer (Err reason) = (answer ≡ report.Refused reason) ⊎ (answer ≡ report.Memory)
 
 -- the file of the certificate alone is come to, where its name isn't the new one
-pub record ComesTo (old new : List ℕ) (f : FileRef) (held : List ℕ) : Type 0 where
+pub record MigrationComesTo (old new : List ℕ) (f : FileRef) (held : List ℕ) : Type 0 where
   pub apart : bytes_eq old new ≡ false
   pub is_file : IsFile file.Certificate old f held
 
@@ -88,7 +88,7 @@ pub record IsMigrationOf (old new : List ℕ) (answer : Report) (shelf shelved :
   pub left : WhereTold shelf.files (λ fs. MigrationLeaves answer (migrating_of fs old new) new before after)
   pub complete : WhereTold shelf.files (λ fs. ¬ HasRisen shelf.faults shelved.faults
       → ¬ HasRisen before.faults after.faults → SettlesMigration answer (migrating_of fs old new))
-  pub came_to : WhereTold shelf.files (λ fs. HasComeTo (ComesTo old new) (reading_of answer) fs shelved)
+  pub came_to : WhereTold shelf.files (λ fs. HasComeTo (MigrationComesTo old new) (reading_of answer) fs shelved)
   pub one_put : answer ≡ report.Migrated → (certificate : Certificate)
       × IsPutAgain certificate new report.Migrated before after
   pub looked : HasOnlyLooked output_limit shelf shelved

@@ -3,7 +3,7 @@ ghost use Rattle.certificate.specs.Spelling.{IsSpellable};
 ghost use Rattle.job_inputs.specs.CertificateFile.{IsSoundCertificate};
 ghost use Rattle.job_inputs.specs.ReadFiles.{output_limit};
 ghost use Rattle.job_inputs.specs.Reading.{IsReadFrom};
-ghost use Rattle.job_run.specs.Migrations.{migrating_of, ComesTo, IsMigrationOf, IsPutAgain};
+ghost use Rattle.job_run.specs.Migrations.{migrating_of, MigrationComesTo, IsMigrationOf, IsPutAgain};
 ghost use Rattle.job_run.specs.Reports.{FaultsHaveCauses, LeavesAll};
 
 use crate::report::Report;
@@ -41,7 +41,8 @@ fn read_old<S: Shelf>(
     shelf: &mut S,
 ) -> Result<Certificate, InputStop>
     ensures { IsReadFrom (λ certificate. certificate) (λ fs. migrating_of fs old.now new.now)
-        (λ fs. ComesTo old.now new.now) IsSoundCertificate output_limit result (S.state shelf.old) (S.state shelf.new) }
+        (λ fs. MigrationComesTo old.now new.now) IsSoundCertificate output_limit result (S.state shelf.old)
+        (S.state shelf.new) }
 {
     if old.equals(new) {
         return Err(InputStop::Refused(Fault::OutName));

@@ -9,7 +9,7 @@ use Rattle.cell_listing.specs.Columns.{column_names}
 use Rattle.cell_listing.specs.ListedCells.{told_cells}
 use Rattle.cell_listing.specs.Listings.{lines_of, listing_text, IsCellListing}
 use Rattle.cell_listing.proofs.Alike.{listed_alike}
-use Rattle.cell_listing.proofs.LawsOfJobs.{cells_are_counted}
+use Rattle.cell_listing.proofs.LawsOfJobs.{listings_count_as_reports}
 use Rattle.cell_listing.proofs.listing.listing_for.Goals as goal
 
 pub returns-clause-over_records : goal.returns-clause-over_records
@@ -23,5 +23,5 @@ returns-clause-over_records c =
     (λ bytes is settled of.
     let both : Some bytes.items ≡ Some text = is ∙ all in
     let same : bytes.items ≡ text = cc in
-    record { text_is = same ∙ listed_alike job settled c.requires.ready of; counts = cells_are_counted settled job c.requires.ready of })
+    record { text_is = same ∙ listed_alike job settled c.requires.ready of; counts = listings_count_as_reports settled job c.requires.ready of })
     c.bytes_of.ensures.text

@@ -4,7 +4,7 @@ use Rattle.job_inputs.specs.declared.faults.Fault.{Fault}
 use Rattle.job_check.proofs.Accepting.{still-judged, still-released}
 use Rattle.job_check.proofs.Judgements.{flaw-comes, judged-cause, judged-comes-to}
 use Rattle.job_check.proofs.ReleaseReading.{ok-and}
-use Rattle.job_check.specs.Accepted.{AnswersAccepted}
+use Rattle.job_check.specs.Accepted.{AnswersReadRelease}
 use Rattle.job_check.specs.Answers.{AnswersRelease, stop_of}
 use Rattle.job_check.specs.Reading.{ReleaseComesTo, IsReleasedOf}
 use Rattle.job_check.specs.ReleaseFiles.{ReleasedFiles, released_of}
@@ -42,7 +42,7 @@ pub returns-clause-told : goal.returns-clause-told
 returns-clause-told g c =
     λ fs told.
     let it = ok-and (λ released. IsReleasedOf released c.in_ok-read.read) (released_of fs c.args.name.now) (c.in_ok-read.ensures.looked.told fs told) in
-    subst (λ (o : Result ReleasedFiles Fault). AnswersAccepted o (Ok c.judge.new.read)) (sym it.1)
+    subst (λ (o : Result ReleasedFiles Fault). AnswersReadRelease o (Ok c.judge.new.read)) (sym it.1)
     (record { is = still-released it.0 c.in_ok-read.read c.judge.new.read c.in_ok-judge.ensures.same it.2; accepted = c.in_ok-judge.ensures.judged it.0 it.2 })
 
 pub returns-clause-accepted : goal.returns-clause-accepted
