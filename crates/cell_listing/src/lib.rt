@@ -3,8 +3,6 @@
 
 mod amounts;
 mod asked;
-#[cfg(test)]
-mod asked_tests;
 mod calls;
 mod csv_line;
 mod fields;

@@ -31,10 +31,6 @@ pub const TWO_WAY: &str =
 /// All margins are always shown.
 pub const MARGINS: &str = "Total,Total,p\nTotal,b1,p\nTotal,b2,p\na1,Total,p\na2,Total,p\n";
 
-/// What a run says where one cell is primary and three more are hidden for it.
-pub const TWO_WAY_SAID: &str =
-    "0 released: 13 records, 0 skipped, 0 passed over, 9 cells, 1 primary, 4 hidden\n";
-
 /// A job of a table by industries, which have two levels, with its metadata and its records of 14 bytes.
 pub const BY_INDUSTRY: &str =
     "<OPENMICRODATA> \"m.asc\"\n<OPENMETADATA> \"m.rda\"\n<SPECIFYTABLE> \"Ind\"|\"Turn\"\n<SAFETYRULE> FREQ(3,30)|P(10)\n<SUPPRESS> MOD()\n<WRITETABLE> (1,\"t.csv\")\n<CERTIFICATE> \"t.cert\"\n";
@@ -72,10 +68,6 @@ pub const TWO_VARIABLES: &str = "A 1 1\n<RECODEABLE>\nB 2 1\n<RECODEABLE>\nV 3 2
 /// Records of two variables.
 pub const FOUR_RECORDS: &str = "11 3\n12 4\n21 6\n22 2\n";
 
-/// What is said where their table is rounded to multiples of 5.
-pub const FOUR_SAID: &str =
-    "0 released: 4 records, 0 skipped, 0 passed over, 9 cells, 8 primary, 0 hidden\n";
-
 /// The certificate that is put then.
 pub const FOUR_CERTIFICATE: &str = "argus certificate 2\nmethod RND 5\ncells 9\nrelations 6\nend\n";
 
@@ -87,10 +79,34 @@ pub const FOUR_TABLE: &str =
 pub const LINKED: &str =
     "<OPENMICRODATA> \"m.asc\"\n<OPENMETADATA> \"m.rda\"\n<SPECIFYTABLE> \"A\"\"B\"|\"V\"\n<SPECIFYTABLE> \"A\"\"C\"|\"V\"\n<SAFETYRULE> FREQ(1,30)\n<SUPPRESS> MOD()\n<WRITETABLE> (1,\"t.csv\")\n<WRITETABLE> (2,\"u.csv\")\n<CERTIFICATE> \"t.cert\"\n";
 
-/// The two tables of the thirteen records.
-pub const BY_B_AND_BY_C: &str =
-    "A,B,V\nTotal,Total,140\nTotal,b1,50\nTotal,b2,90\na1,Total,70\na1,b1,20\na1,b2,50\na2,Total,70\na2,b1,30\na2,b2,40\nA,C,V\nTotal,Total,140\nTotal,c1,55\nTotal,c2,85\na1,Total,70\na1,c1,30\na1,c2,40\na2,Total,70\na2,c1,25\na2,c2,45\n";
-
 /// Metadata of a variable of three bytes, whose codes are in a hierarchy file, and of the response.
 pub const LISTED: &str =
     "A 1 3\n<RECODEABLE>\n<CODELIST> \"a.cdl\"\n<HIERARCHICAL>\n<HIERCODELIST> \"a.hrc\"\nV 4 3\n<NUMERIC>\n";
+
+/// The job of one table with a file for contributors.
+pub const ONE_TABLE_GUARDED: &str =
+    "<OPENMICRODATA> \"m.asc\"\n<OPENMETADATA> \"m.rda\"\n<SPECIFYTABLE> \"A\"|\"V\"\n<SAFETYRULE> FREQ(3,30)\n<READMICRODATA>\n<SUPPRESS> MOD()\n<WRITETABLE> (1,\"t.csv\")\n<CONTRIBUTORS> \"t.con\"\n<CERTIFICATE> \"t.cert\"\n";
+
+/// What a run of the two-way job says and puts.
+pub const TWO_WAY_RELEASED: &str =
+    "0 released: 13 records, 0 skipped, 0 passed over, 9 cells, 1 primary, 4 hidden\nargus certificate 2\nmethod MOD\ncells 9\nrelations 6\nhidden 4 5 7 8\nstep 1 0,0 4 4,5,7,8\nneed 5 4 above 1 4:1\nneed 7 4 above 1 2:1\nneed 8 4 above 1 2:1 5:-1\nworld 4 above 1 4:6 5:-6 7:-6 8:6\nworld 4 below 1 4:-6 5:6 7:6 8:-6\nend\nA,B,V\nTotal,Total,140\nTotal,b1,50\nTotal,b2,90\na1,Total,70\na1,b1,x\na1,b2,x\na2,Total,70\na2,b1,x\na2,b2,x\n";
+
+/// The two-way job with a second table by the first variable and another.
+pub const TWO_TABLES: &str =
+    "<OPENMICRODATA> \"m.asc\"\n<OPENMETADATA> \"m.rda\"\n<SPECIFYTABLE> \"A\"\"B\"|\"V\"\n<SPECIFYTABLE> \"A\"\"C\"|\"V\"\n<WRITETABLE> (2,\"u.csv\")\n<SAFETYRULE> FREQ(3,30)\n<APRIORI> \"p.hst\",1,\",\"\n<SUPPRESS> MOD()\n<WRITETABLE> (1,\"t.csv\")\n<CERTIFICATE> \"t.cert\"\n";
+
+/// What a run of the job by industries says and puts.
+pub const FIRMS_RELEASED: &str =
+    "0 released: 9 records, 1 skipped, 2 passed over, 6 cells, 2 primary, 4 hidden\nargus certificate 2\nmethod MOD\ncells 6\nrelations 3\nhidden 1 3 4 5\nstep 1 0 4 1,4\nstep 1 1 1 1,3\nneed 1 4 above 1 0:1\nneed 3 4 above 1 0:1 1:1\nworld 4 above 1 1:-3 3:-3 4:3 5:3\nworld 4 below 1 1:3 3:3 4:-3 5:-3\nworld 5 above 1 1:-3 3:-3 4:3 5:3\nworld 5 below 1 1:3 3:3 4:-3 5:-3\nend\nInd,Turn\nTotal,117\n1,x\n11,60\n12,x\n2,x\n21,x\n";
+
+/// A job of a two-way table that is rounded to multiples of 5.
+pub const FOUR_ROUNDED: &str =
+    "<OPENMICRODATA> \"m.asc\"\n<OPENMETADATA> \"m.rda\"\n<SPECIFYTABLE> \"A\"\"B\"|\"V\"\n<SAFETYRULE> FREQ(3,30)\n<WRITETABLE> (1,\"t.csv\")\n<CERTIFICATE> \"t.cert\"\n<SUPPRESS> RND(5)\n";
+
+/// What a run of it over the four records says and puts.
+pub const FOUR_RELEASED: &str =
+    "0 released: 4 records, 0 skipped, 0 passed over, 9 cells, 8 primary, 0 hidden\nargus certificate 2\nmethod RND 5\ncells 9\nrelations 6\nend\nA,B,V\nTotal,Total,15\nTotal,1,10\nTotal,2,5\n1,Total,10\n1,1,5\n1,2,5\n2,Total,5\n2,1,5\n2,2,0\n";
+
+/// A job of two linked tables that are rounded to multiples of 10.
+pub const LINKED_ROUNDED: &str =
+    "<OPENMICRODATA> \"m.asc\"\n<OPENMETADATA> \"m.rda\"\n<SPECIFYTABLE> \"A\"\"B\"|\"V\"\n<SAFETYRULE> FREQ(3,30)\n<WRITETABLE> (1,\"t.csv\")\n<CERTIFICATE> \"t.cert\"\n<SPECIFYTABLE> \"A\"\"C\"|\"V\"\n<WRITETABLE> (2,\"u.csv\")\n<SUPPRESS> RND(10)\n";

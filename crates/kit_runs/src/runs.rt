@@ -43,8 +43,8 @@ pub fn status_and_text(alloc: Global, report: &Report) -> Result<String, Memory>
     Ok(format!(in alloc; "{status} {line}")?)
 }
 
-/// The bytes that the tray holds for the certificate, the contributors' file, the two tables and the intervals.
-pub fn bytes_on(alloc: Global, tray: &MemoryTray) -> Result<String, Memory> {
+// The bytes that the tray holds for the certificate, the contributors' file, the two tables and the intervals.
+fn bytes_on(alloc: Global, tray: &MemoryTray) -> Result<String, Memory> {
     let mut held = String::new(alloc);
     for name in ["t.cert", "t.con", "t.csv", "u.csv", "out.csv"] {
         let name = Text::from_slice(alloc, name.as_bytes())?;
@@ -131,6 +131,16 @@ pub fn run_either_way(alloc: Global, files: &[(&str, &str)]) -> Result<String, M
 pub fn run_over(alloc: Global, words: &[&str], files: &[(&str, &str)]) -> Result<String, Memory> {
     let mut tray = MemoryTray::new(alloc, Vec::new(alloc));
     run_words(alloc, words, files, WHOLE_FILES, &mut tray)
+}
+
+/// What the job `r.job` says and leaves on an empty tray.
+pub fn run_job(alloc: Global, files: &[(&str, &str)]) -> Result<String, Memory> {
+    run_over(alloc, &["run", "r.job"], files)
+}
+
+/// What a check of the job `r.job` says.
+pub fn check_job(alloc: Global, files: &[(&str, &str)]) -> Result<String, Memory> {
+    run_over(alloc, &["check", "r.job"], files)
 }
 
 /// What a check of the job `r.job` says of what its own run puts, over a shelf that holds the run's tray beside the same

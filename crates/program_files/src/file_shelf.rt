@@ -123,50 +123,80 @@ mod tests {
     use crate::test_folder::TestFolder;
     use office_io::{FileFault, Shelf, read_all};
     use sdc_base::Text;
+    use std::alloc::Global;
     use std::fs;
     use std::test::Fail;
 
-    // The file has 9,000 bytes, so it is read in several pieces. Each row has a name, the fault that
-    // is wanted, and the counts of faults, of absences and of bytes taken that are wanted after it.
-    #[test]
-    fn real_files(rt: HostRuntime) -> Result<(), Fail> {
-        let alloc = rt.alloc();
-        let folder = TestFolder::make(&rt, "shelf")?;
+    // What reading a file comes to: whether it gave the whole file, its fault, and the counts of faults, of absences and
+    // of bytes taken after it.
+    type Outcome = (bool, Option<FileFault>, u64, u64, u64);
+
+    // By its name in the folder, what reading a file comes to, one after another.
+    const READS: [(&str, Outcome); 6] = [
+        ("missing", (false, Some(FileFault::Absent), 0, 1, 0)),
+        ("nowhere/long", (false, Some(FileFault::Absent), 0, 2, 0)),
+        ("long", (true, None, 0, 2, 9_000)),
+        ("inner", (false, Some(FileFault::Failed), 1, 2, 0)),
+        ("long\0", (false, Some(FileFault::Failed), 2, 2, 0)),
+        ("long", (true, None, 2, 2, 9_000)),
+    ];
+
+    // The bytes of the long file, which is read in several pieces.
+    fn long_bytes(alloc: Global) -> Result<Vec<u8>, Fail> {
         let mut bytes = Vec::new(alloc);
         for i in 0..9_000u64 {
             bytes.push((i * i % 251) as u8)?;
         }
-        fs::write(&rt, folder.path(&rt, "long")?.as_str(), bytes.as_slice())?;
-        fs::create_dir(&rt, folder.path(&rt, "inner")?.as_str())?;
-        let rows = [
-            ("missing", Some(FileFault::Absent), 0, 1, 0),
-            ("nowhere/long", Some(FileFault::Absent), 0, 2, 0),
-            ("long", None, 0, 2, 9_000),
-            ("inner", Some(FileFault::Failed), 1, 2, 0),
-            ("long\0", Some(FileFault::Failed), 2, 2, 0),
-            ("long", None, 2, 2, 9_000),
-        ];
+        Ok(bytes)
+    }
+
+    // A folder with the long file and a folder in it.
+    fn folder_of_files(rt: &HostRuntime) -> Result<TestFolder, Fail> {
+        let folder = TestFolder::make(rt, "shelf")?;
+        let bytes = long_bytes(rt.alloc())?;
+        fs::write(rt, folder.path(rt, "long")?.as_str(), bytes.as_slice())?;
+        fs::create_dir(rt, folder.path(rt, "inner")?.as_str())?;
+        Ok(folder)
+    }
+
+    // What reading a file of this name comes to.
+    fn outcome_of(
+        alloc: Global,
+        shelf: &mut FileShelf<'_, HostRuntime>,
+        name: &Text,
+        whole: &[u8],
+    ) -> Outcome {
+        let (is_whole, fault) = match read_all(alloc, shelf, name, 9_000) {
+            Ok(read) => (read.as_slice() == whole, None),
+            Err(why) => (false, Some(why)),
+        };
+        (is_whole, fault, shelf.faults, shelf.absences, shelf.taken)
+    }
+
+    #[test]
+    fn real_files(rt: HostRuntime) -> Result<(), Fail> {
+        let folder = folder_of_files(&rt)?;
+        let whole = long_bytes(rt.alloc())?;
         let files = RealFiles::new(&rt, "argus");
         let mut shelf = FileShelf::new(&files);
-        for (file, fault, faults, absences, taken) in rows {
-            match read_all(alloc, &mut shelf, &folder.name(&rt, file)?, 9_000) {
-                Ok(read) => {
-                    assert_eq!(rt; fault, None, "{file}");
-                    assert_eq!(rt; read.as_slice(), bytes.as_slice());
-                }
-                Err(why) => assert_eq!(rt; Some(why), fault, "{file}"),
-            }
-            assert_eq!(rt; shelf.faults, faults, "{file}");
-            assert_eq!(rt; shelf.absences, absences, "{file}");
-            assert_eq!(rt; shelf.taken, taken, "{file}");
+        for (file, want) in &READS {
+            let name = folder.name(&rt, file)?;
+            let got = outcome_of(rt.alloc(), &mut shelf, &name, whole.as_slice());
+            assert_eq!(rt; got, *want);
         }
-        let stray = Text::new(vec![in alloc; 255u8]?);
-        let got = read_all(alloc, &mut shelf, &stray, 9_000);
-        assert_eq!(rt; got.err(), Some(FileFault::Failed));
-        assert_eq!(rt; shelf.faults, 3);
-        // nothing is chosen after a refusal
+        folder.remove(&rt)
+    }
+
+    // Nothing is chosen after a refusal.
+    #[test]
+    fn name_that_is_no_text(rt: HostRuntime) -> Result<(), Fail> {
+        let files = RealFiles::new(&rt, "argus");
+        let mut shelf = FileShelf::new(&files);
+        let stray = Text::new(vec![in rt.alloc(); 255u8]?);
+        let got = outcome_of(rt.alloc(), &mut shelf, &stray, b"");
+        assert_eq!(rt; got, (false, Some(FileFault::Failed), 1, 0, 0));
         let mut buffer = [0u8; 4];
         assert_eq!(rt; shelf.read(&mut buffer).ok(), Some(0));
-        folder.remove(&rt)
+        Ok(())
     }
 }

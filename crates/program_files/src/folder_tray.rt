@@ -64,35 +64,52 @@ mod tests {
     use std::fs;
     use std::test::Fail;
 
-    // Each row is a run of its own: a name, the bytes that are put, the fault that is wanted, and
-    // what the file `table` then holds.
+    // A run of its own each: a name, the bytes that are put, the fault that is wanted, and what the file `table` then
+    // holds.
+    const PUTS: [(&str, &str, Option<PutFault>, &str); 6] = [
+        ("table", "first", None, "first"),
+        ("nowhere/table", "x", Some(PutFault::Failed), "first"),
+        ("table", "2", None, "2"),
+        ("inner", "x", Some(PutFault::Failed), "2"),
+        ("other", "", None, "2"),
+        ("table", "replaced", None, "replaced"),
+    ];
+
+    // The fault of one put by a tray of its own, and how many faults that tray has counted.
+    fn put_alone(rt: &HostRuntime, name: &Text, bytes: &str) -> (Option<PutFault>, u64) {
+        let files = RealFiles::new(rt, "argus");
+        let mut tray = FolderTray::new(&files);
+        let put = tray.put(name, bytes.as_bytes());
+        (put.err(), tray.faults)
+    }
+
+    // Whether a file of the folder holds this.
+    fn holds(rt: &HostRuntime, folder: &TestFolder, file: &str, want: &str) -> Result<bool, Fail> {
+        let bytes = fs::read(rt, folder.path(rt, file)?.as_str())?;
+        Ok(bytes.as_slice() == want.as_bytes())
+    }
+
     #[test]
     fn real_files(rt: HostRuntime) -> Result<(), Fail> {
         let folder = TestFolder::make(&rt, "tray")?;
         fs::create_dir(&rt, folder.path(&rt, "inner")?.as_str())?;
-        let rows = [
-            ("table", "first", None, "first"),
-            ("nowhere/table", "x", Some(PutFault::Failed), "first"),
-            ("table", "2", None, "2"),
-            ("inner", "x", Some(PutFault::Failed), "2"),
-            ("other", "", None, "2"),
-            ("table", "replaced", None, "replaced"),
-        ];
-        for (file, bytes, fault, held) in rows {
-            let files = RealFiles::new(&rt, "argus");
-            let mut tray = FolderTray::new(&files);
-            let put = tray.put(&folder.name(&rt, file)?, bytes.as_bytes());
-            assert_eq!(rt; put.err(), fault, "{file}");
-            assert_eq!(rt; tray.faults, fault.is_some() as u64, "{file}");
-            let table = fs::read(&rt, folder.path(&rt, "table")?.as_str())?;
-            assert_eq!(rt; table.as_slice(), held.as_bytes(), "{file}");
+        for (file, bytes, fault, held) in &PUTS {
+            let name = folder.name(&rt, file)?;
+            let (got, faults) = put_alone(&rt, &name, bytes);
+            let is_held = holds(&rt, &folder, "table", held)?;
+            assert_eq!(rt;
+                (got, faults, is_held),
+                (*fault, fault.is_some() as u64, true)
+            );
         }
-        assert!(rt; fs::read(&rt, folder.path(&rt, "other")?.as_str())?.is_empty());
-        let stray = Text::new(vec![in rt.alloc(); 255u8]?);
-        let files = RealFiles::new(&rt, "argus");
-        let mut tray = FolderTray::new(&files);
-        assert_eq!(rt; tray.put(&stray, b"x").err(), Some(PutFault::Failed));
-        assert_eq!(rt; tray.faults, 1);
+        assert!(rt; holds(&rt, &folder, "other", "")?);
         folder.remove(&rt)
+    }
+
+    #[test]
+    fn name_that_is_no_text(rt: HostRuntime) -> Result<(), Fail> {
+        let stray = Text::new(vec![in rt.alloc(); 255u8]?);
+        assert_eq!(rt; put_alone(&rt, &stray, "x"), (Some(PutFault::Failed), 1));
+        Ok(())
     }
 }

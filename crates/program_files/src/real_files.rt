@@ -187,12 +187,19 @@ mod tests {
         "device",
     ];
 
-    fn make_names(rt: &HostRuntime, folder: &TestFolder) -> Result<(), Fail> {
+    // A folder with a file and other names of it, a link to a device, one to a file that isn't there, and an older file.
+    fn folder_of_names(rt: &HostRuntime) -> Result<TestFolder, Fail> {
+        let folder = TestFolder::make(rt, "opened")?;
         let firms = folder.path(rt, "firms")?;
         fs::write(rt, firms.as_str(), "held")?;
         fs::create_dir(rt, folder.path(rt, "inner")?.as_str())?;
         fs::hard_link(rt, firms.as_str(), folder.path(rt, "hard")?.as_str())?;
         unix::fs::symlink(rt, "firms", folder.path(rt, "link")?.as_str())?;
+        make_other_links(rt, &folder)?;
+        Ok(folder)
+    }
+
+    fn make_other_links(rt: &HostRuntime, folder: &TestFolder) -> Result<(), Fail> {
         unix::fs::symlink(rt, ".", folder.path(rt, "way")?.as_str())?;
         unix::fs::symlink(rt, "/dev/full", folder.path(rt, "device")?.as_str())?;
         unix::fs::symlink(rt, "new", folder.path(rt, "ahead")?.as_str())?;
@@ -200,35 +207,78 @@ mod tests {
         Ok(())
     }
 
+    // Whether a file of the folder holds this.
     fn holds(rt: &HostRuntime, folder: &TestFolder, file: &str, want: &str) -> Result<bool, Fail> {
         let bytes = fs::read(rt, folder.path(rt, file)?.as_str())?;
         Ok(bytes.as_slice() == want.as_bytes())
     }
 
+    // The fault of a put under this name.
+    fn fault_of(
+        rt: &HostRuntime,
+        tray: &mut FolderTray<'_, HostRuntime>,
+        folder: &TestFolder,
+        file: &str,
+        bytes: &str,
+    ) -> Result<Option<PutFault>, Fail> {
+        let name = folder.name(rt, file)?;
+        Ok(tray.put(&name, bytes.as_bytes()).err())
+    }
+
+    // Whether a put under this name fails, and leaves the file that was read and the one that was put as they were.
+    fn is_refused(
+        rt: &HostRuntime,
+        tray: &mut FolderTray<'_, HostRuntime>,
+        folder: &TestFolder,
+        file: &str,
+    ) -> Result<bool, Fail> {
+        let fault = fault_of(rt, tray, folder, file, "x")?;
+        let is_kept = holds(rt, folder, "firms", "held")? && holds(rt, folder, "table", "first")?;
+        Ok(fault == Some(PutFault::Failed) && is_kept)
+    }
+
+    // Whether all of these names are refused.
+    fn are_refused(
+        rt: &HostRuntime,
+        tray: &mut FolderTray<'_, HostRuntime>,
+        folder: &TestFolder,
+    ) -> Result<bool, Fail> {
+        for file in &REFUSED {
+            if !is_refused(rt, tray, folder, file)? {
+                return Ok(false);
+            }
+        }
+        Ok(true)
+    }
+
     #[test]
     fn no_opened_file_is_written_to(rt: HostRuntime) -> Result<(), Fail> {
-        let folder = TestFolder::make(&rt, "opened")?;
-        make_names(&rt, &folder)?;
+        let folder = folder_of_names(&rt)?;
         let files = RealFiles::new(&rt, "argus");
         let mut shelf = FileShelf::new(&files);
         let mut tray = FolderTray::new(&files);
-        assert!(rt; read_all(rt.alloc(), &mut shelf, &folder.name(&rt, "way/link")?, 9).is_ok());
-        assert!(rt; tray.put(&folder.name(&rt, "table")?, b"first").is_ok());
-        for file in REFUSED {
-            let put = tray.put(&folder.name(&rt, file)?, b"x");
-            assert_eq!(rt; put.err(), Some(PutFault::Failed), "{file}");
-            assert!(rt; holds(&rt, &folder, "firms", "held")?, "{file}");
-            assert!(rt; holds(&rt, &folder, "table", "first")?, "{file}");
+        let name = folder.name(&rt, "way/link")?;
+        assert!(rt; read_all(rt.alloc(), &mut shelf, &name, 9).is_ok());
+        assert_eq!(rt; fault_of(&rt, &mut tray, &folder, "table", "first")?, None);
+        assert!(rt; are_refused(&rt, &mut tray, &folder)?);
+        folder.remove(&rt)
+    }
+
+    // A file of an earlier run is replaced, and a link to a file that isn't there makes it, which is then one that was
+    // put.
+    #[test]
+    fn other_files_are_written_to(rt: HostRuntime) -> Result<(), Fail> {
+        let folder = folder_of_names(&rt)?;
+        let files = RealFiles::new(&rt, "argus");
+        let mut tray = FolderTray::new(&files);
+        for (file, place) in [("older", "older"), ("ahead", "new")] {
+            assert_eq!(rt; fault_of(&rt, &mut tray, &folder, file, "whole")?, None);
+            assert!(rt; holds(&rt, &folder, place, "whole")?);
         }
-        for file in ["older", "ahead"] {
-            assert!(rt;
-                tray.put(&folder.name(&rt, file)?, b"whole").is_ok(),
-                "{file}"
-            );
-        }
-        assert!(rt; holds(&rt, &folder, "older", "whole")?);
-        assert!(rt; holds(&rt, &folder, "new", "whole")?);
-        assert!(rt; tray.put(&folder.name(&rt, "new")?, b"x").is_err());
+        assert_eq!(rt;
+            fault_of(&rt, &mut tray, &folder, "new", "x")?,
+            Some(PutFault::Failed)
+        );
         folder.remove(&rt)
     }
 }

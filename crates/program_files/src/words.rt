@@ -62,6 +62,8 @@ mod tests {
 
     const LONG: usize = 5;
 
+    const WORDS: [&[u8]; 5] = [b"run", b"\xc3\xa9", b"", b"", &[b'x'; 600]];
+
     #[derive(Drop)]
     struct Given;
 
@@ -97,11 +99,9 @@ mod tests {
     #[test]
     fn each_argument_is_a_word(rt: HostRuntime) -> Result<(), Fail> {
         let words = words_of(&Given, rt.alloc())?;
-        let long = [b'x'; 600];
-        let wanted = [b"run".as_slice(), b"\xc3\xa9", b"", b"", &long];
-        assert_eq!(rt; words.len(), wanted.len());
-        for (word, want) in words.iter().zip(wanted) {
-            assert_eq!(rt; word.as_slice(), want);
+        assert_eq!(rt; words.len(), WORDS.len());
+        for (word, want) in words.iter().zip(&WORDS) {
+            assert_eq!(rt; word.as_slice(), *want);
         }
         Ok(())
     }

@@ -1,4 +1,4 @@
-use crate::apriori_tests::{added, are_ready, book_of, frequency_rule};
+use crate::apriori_tests::{MARGINS, added, are_ready, book_of, frequency_rule};
 use apriori::{blank_priors, settle};
 use kit_cells::hidden_of;
 use linked_tables::Book;
@@ -12,9 +12,6 @@ use worlds::{
     check_refutation, check_world, reaches,
 };
 
-// All margins of the first table are always shown.
-const MARGINS: &str = "Total,Total,p\nTotal,b1,p\nTotal,b2,p\na1,Total,p\na2,Total,p\n";
-
 // The four inner cells of the first table, of which the first is primary.
 const INNER: [u32; 4] = [4, 5, 7, 8];
 
@@ -25,17 +22,17 @@ struct Settled {
     cells: Vec<Cell>,
 }
 
-// The same, by the frequency rule and with the margins shown; none where they can't be settled so.
-fn thirteen_records(alloc: Global) -> Result<Option<Settled>, Fail> {
+// The same, by the frequency rule and with the margins shown.
+fn thirteen_records(alloc: Global) -> Result<Settled, Fail> {
     let book = book_of(alloc, false)?;
     let Some(cells) = cells_in(alloc, &book)? else {
-        return Ok(None);
+        return Err(Fail::new("the cells can't be settled"));
     };
     let system = relations_of(alloc, &book)?;
-    Ok(Some(Settled { system, cells }))
+    Ok(Settled { system, cells })
 }
 
-// The settled cells of this book.
+// The settled cells of this book; none where they can't be settled so.
 fn cells_in(alloc: Global, book: &Book) -> Result<Option<Vec<Cell>>, Fail> {
     let mut priors = blank_priors(alloc, book.cells())?;
     if added(alloc, book, &mut priors, (0, MARGINS), b',', 0) != Some(Ok(())) {
@@ -87,24 +84,25 @@ fn world_answers(
     Ok(Some((answer, reaches(&cells[4], Side::Above, 4, &world))))
 }
 
+// How far each of the inner cells moves.
+type Moves = [(u32, i128); 4];
+
 // The level of the primary cell, of two records that make up 20, is 6: a world that takes it there; one in which its
-// column doesn't add up; and one that stops before.
+// column doesn't add up; and one that stops before. Each with its fault, and whether it takes the cell there.
+const WORLDS: [(Moves, (Result<(), WorldFault>, bool)); 3] = [
+    ([(4, 6), (5, -6), (7, -6), (8, 6)], (Ok(()), true)),
+    (
+        [(4, 7), (5, -7), (7, -6), (8, 6)],
+        (Err(WorldFault::Relation(3)), true),
+    ),
+    ([(4, 5), (5, -5), (7, -5), (8, 5)], (Ok(()), false)),
+];
+
 #[test]
 fn worlds_of_settled_cells(rt: HostRuntime) -> Result<(), Fail> {
-    let alloc = rt.alloc();
-    let Some(settled) = thirteen_records(alloc)? else {
-        assert!(rt; false, "the cells are settled");
-        return Ok(());
-    };
-    for (moves, wanted) in [
-        ([(4, 6), (5, -6), (7, -6), (8, 6)], (Ok(()), true)),
-        (
-            [(4, 7), (5, -7), (7, -6), (8, 6)],
-            (Err(WorldFault::Relation(3)), true),
-        ),
-        ([(4, 5), (5, -5), (7, -5), (8, 5)], (Ok(()), false)),
-    ] {
-        assert_eq!(rt; world_answers(alloc, &settled, &moves)?, Some(wanted));
+    let settled = thirteen_records(rt.alloc())?;
+    for (moves, wanted) in &WORLDS {
+        assert_eq!(rt; world_answers(rt.alloc(), &settled, moves)?, Some(*wanted));
     }
     Ok(())
 }
@@ -143,17 +141,20 @@ fn refutation_answer(
 }
 
 // Hidden with its row alone the primary cell can't move, as its column shows; hidden with its column too it can.
+const REFUTATIONS: [(&[u32], Result<(), RefutationFault>); 2] = [
+    (&[4, 5], Ok(())),
+    (&[4, 5, 7, 8], Err(RefutationFault::NotBelow)),
+];
+
 #[test]
 fn refutations_of_settled_cells(rt: HostRuntime) -> Result<(), Fail> {
-    let alloc = rt.alloc();
-    let Some(settled) = thirteen_records(alloc)? else {
-        assert!(rt; false, "the cells are settled");
-        return Ok(());
-    };
-    let row = refutation_answer(alloc, &settled, &[4, 5])?;
-    assert_eq!(rt; row, Some(Ok(())));
-    let inner = refutation_answer(alloc, &settled, &INNER)?;
-    assert_eq!(rt; inner, Some(Err(RefutationFault::NotBelow)));
+    let settled = thirteen_records(rt.alloc())?;
+    for (hidden, wanted) in &REFUTATIONS {
+        assert_eq!(rt;
+            refutation_answer(rt.alloc(), &settled, hidden)?,
+            Some(*wanted)
+        );
+    }
     Ok(())
 }
 
@@ -181,18 +182,24 @@ fn protected_by(
     }
 }
 
+const UP: Moves = [(4, 6), (5, -6), (7, -6), (8, 6)];
+
+const DOWN: Moves = [(4, -6), (5, 6), (7, 6), (8, -6)];
+
 // The inner cells protect the primary one, as two worlds show; one of them doesn't show it twice.
+const PROTECTED: [(Moves, Moves, Result<(), ProtectFault>); 2] = [
+    (UP, DOWN, Ok(())),
+    (UP, UP, Err(ProtectFault::NotReached(4, Side::Below))),
+];
+
 #[test]
 fn settled_cells_are_protected(rt: HostRuntime) -> Result<(), Fail> {
-    let alloc = rt.alloc();
-    let Some(settled) = thirteen_records(alloc)? else {
-        assert!(rt; false, "the cells are settled");
-        return Ok(());
-    };
-    let up = [(4, 6), (5, -6), (7, -6), (8, 6)];
-    let down = [(4, -6), (5, 6), (7, 6), (8, -6)];
-    assert_eq!(rt; protected_by(alloc, &settled, &up, &down)?, Some(Ok(())));
-    let twice = protected_by(alloc, &settled, &up, &up)?;
-    assert_eq!(rt; twice, Some(Err(ProtectFault::NotReached(4, Side::Below))));
+    let settled = thirteen_records(rt.alloc())?;
+    for (above, below, wanted) in &PROTECTED {
+        assert_eq!(rt;
+            protected_by(rt.alloc(), &settled, above, below)?,
+            Some(*wanted)
+        );
+    }
     Ok(())
 }

@@ -3,7 +3,7 @@ ghost use Rattle.cost_rule.specs.Costs.{AreCosted, IsTold};
 ghost use Rattle.repair.specs.KeptWorlds.{HasModestLevels};
 ghost use Rattle.worlds.specs.WorldFaults.{IsGivenWorld};
 
-use attackers::{Extra, ExtraFault, Guarded, accept_extra, guard};
+use attackers::{Extra, ExtraFault, ExtraNeed, Guarded, accept_extra, guard};
 use certificate::WorldLine;
 use cost_rule::{CostKind, CostRule, TellsCosts};
 use interval_audit::AskFault;
@@ -19,16 +19,23 @@ use worlds::{Move, Multipliers, Protected, World, check_world};
 // that alone makes it up.
 type Row = (u32, Kind, u8, u32, Option<u32>);
 
-// Codes a, b, c, d below a total: a and b of one record each.
-fn lone_codes(other: Kind) -> [Row; 5] {
-    [
-        (150, other, 0, 9, None),
-        (40, Kind::Primary, 12, 1, Some(0)),
-        (30, Kind::Primary, 9, 1, Some(1)),
-        (30, other, 0, 3, None),
-        (50, other, 0, 4, None),
-    ]
-}
+// Codes a, b, c, d below a total: a and b of one record each, and the others free.
+const LONE_CODES: [Row; 5] = [
+    (150, Kind::Free, 0, 9, None),
+    (40, Kind::Primary, 12, 1, Some(0)),
+    (30, Kind::Primary, 9, 1, Some(1)),
+    (30, Kind::Free, 0, 3, None),
+    (50, Kind::Free, 0, 4, None),
+];
+
+// The same, where all others are shown.
+const LONE_CODES_ALONE: [Row; 5] = [
+    (150, Kind::Fixed, 0, 9, None),
+    (40, Kind::Primary, 12, 1, Some(0)),
+    (30, Kind::Primary, 9, 1, Some(1)),
+    (30, Kind::Fixed, 0, 3, None),
+    (50, Kind::Fixed, 0, 4, None),
+];
 
 // The total and its four parts.
 const FLAT: [(u32, &[u32]); 1] = [(0, &[1, 2, 3, 4])];
@@ -121,34 +128,49 @@ fn side_name(side: Side) -> &'static str {
     }
 }
 
-// The lines of an extra, as the contributors' file has them.
-fn extra_lines(alloc: Global, extra: &Extra) -> Result<String, Fail> {
-    let mut text = String::new(alloc);
+fn add_cells(alloc: Global, text: &mut String, cells: &[u32]) -> Result<(), Fail> {
     text.push_str("extra")?;
-    for cell in extra.cells.as_slice() {
+    for cell in cells {
         let number = *cell;
         text.push_str(&format!(in alloc; " {number}")?)?;
     }
     text.push_str("\n")?;
-    for need in extra.needs.as_slice() {
+    Ok(())
+}
+
+fn add_needs(alloc: Global, text: &mut String, needs: &[ExtraNeed]) -> Result<(), Fail> {
+    for need in needs {
         let subject = need.subject;
         let row = need.row;
         let cell = need.cell;
         let side = side_name(need.side);
         text.push_str(&format!(in alloc; "need {subject} {row} {cell} {side}")?)?;
-        add_multipliers(alloc, &mut text, &need.multipliers)?;
+        add_multipliers(alloc, text, &need.multipliers)?;
     }
+    Ok(())
+}
+
+fn add_guard(alloc: Global, text: &mut String, line: &WorldLine) -> Result<(), Fail> {
+    let cell = line.cell;
+    let side = side_name(line.side);
+    let den = line.world.den;
+    text.push_str(&format!(in alloc; "guard {cell} {side} {den}")?)?;
+    for one in line.world.moves.as_slice() {
+        let moved = one.cell;
+        let by = one.by;
+        text.push_str(&format!(in alloc; " {moved}:{by}")?)?;
+    }
+    text.push_str("\n")?;
+    Ok(())
+}
+
+// The lines of an extra, as the contributors' file has them.
+fn extra_lines(alloc: Global, extra: &Extra) -> Result<String, Fail> {
+    let mut text = String::new(alloc);
+    add_cells(alloc, &mut text, extra.cells.as_slice())?;
+    add_needs(alloc, &mut text, extra.needs.as_slice())?;
     for line in extra.guards.as_slice() {
-        let cell = line.cell;
-        let side = side_name(line.side);
-        let den = line.world.den;
-        text.push_str(&format!(in alloc; "guard {cell} {side} {den}")?)?;
-        for one in line.world.moves.as_slice() {
-            let moved = one.cell;
-            let by = one.by;
-            text.push_str(&format!(in alloc; " {moved}:{by}")?)?;
-        }
-        text.push_str("\n")?;
+        add_guard(alloc, &mut text, line)?;
     }
     Ok(text)
 }
@@ -174,6 +196,31 @@ fn guarded_lines(alloc: Global, guarded: &Guarded) -> Result<String, Fail> {
     }
 }
 
+// A total and its parts: the system, the cells, the rows that alone make them up, and which are hidden.
+#[derive(Drop)]
+struct Trial {
+    system: System,
+    cells: Vec<Cell>,
+    soles: Vec<Option<u32>>,
+    hidden: Hidden,
+}
+
+// The trial of these codes, the two primary ones hidden; none where it has no system.
+fn trial_of(alloc: Global, rows: &[Row]) -> Result<Option<Trial>, Fail> {
+    let Some(system) = system_of(alloc, rows.len(), &FLAT)? else {
+        return Ok(None);
+    };
+    let cells = cells_of(alloc, rows)?;
+    let soles = soles_of(alloc, rows)?;
+    let hidden = hidden_of(alloc, rows.len(), &[1, 2])?;
+    Ok(Some(Trial {
+        system,
+        cells,
+        soles,
+        hidden,
+    }))
+}
+
 // What guarding the two primary codes comes to, none where something lacks.
 fn guard_by<F: TellsCosts + Drop>(
     alloc: Global,
@@ -184,14 +231,18 @@ fn guard_by<F: TellsCosts + Drop>(
     requires { IsTold F.may_ask F.may_say f CostKind.Value }
 {
     let rule = CostRule::new(CostKind::Value, f);
-    let Some(system) = system_of(alloc, rows.len(), &FLAT)? else {
+    let marks = marks_of(alloc, rows)?;
+    let worlds = Items::new(worlds_of(alloc)?);
+    let mut scratch = vec![in alloc; 0; rows.len()]?;
+    let Some(trial) = trial_of(alloc, rows)? else {
         return Ok(None);
     };
-    let cells = cells_of(alloc, rows)?;
-    let marks = marks_of(alloc, rows)?;
-    let soles = soles_of(alloc, rows)?;
-    let hidden = hidden_of(alloc, rows.len(), &[1, 2])?;
-    let mut scratch = vec![in alloc; 0; rows.len()]?;
+    let Trial {
+        system,
+        cells,
+        soles,
+        hidden,
+    } = trial;
     let size = system.cells as usize;
     if cells.len() != size || marks.len() != size || limit == 0 {
         return Ok(None);
@@ -202,7 +253,6 @@ fn guard_by<F: TellsCosts + Drop>(
     if !marks.iter().all(is_costed) || !cells.iter().all(is_modest) {
         return Ok(None);
     }
-    let worlds = Items::new(worlds_of(alloc)?);
     let Ok(protected) = Protected::new(&system, &cells, hidden, worlds, &mut scratch) else {
         return Ok(None);
     };
@@ -219,31 +269,31 @@ fn guarded(alloc: Global, rows: &[Row]) -> Result<Option<Guarded>, Fail> {
     guard_by(alloc, |facts: &CellFacts| kind.cost(facts), rows, 1000)
 }
 
-// Each of two contributors would know the other's cell, but for a third cell that is hidden too.
+// The lines of what guarding comes to.
+fn lines_guarding(alloc: Global, rows: &[Row]) -> Result<Option<String>, Fail> {
+    match guarded(alloc, rows)? {
+        Some(found) => Ok(Some(guarded_lines(alloc, &found)?)),
+        None => Ok(None),
+    }
+}
+
+// Codes, and the lines of what guarding them comes to.
+const GUARDED: [(&[Row], &str); 2] = [
+    // each of two contributors would know the other's cell, but for a third cell that is hidden too
+    (
+        &LONE_CODES,
+        "extra 3\nneed 3 0 2 above 1 0:1\nguard 1 above 1 1:12 3:-12\nguard 1 below 1 1:-12 3:12\nguard 2 above 1 2:9 3:-9\nguard 2 below 1 2:-9 3:9\n",
+    ),
+    // where all other cells are shown, nothing can be hidden against the first contributor
+    (&LONE_CODES_ALONE, "cannot 2 above from 0: 1 0:1\n"),
+];
+
 #[test]
 fn lone_contributors_need_an_extra_cell(rt: HostRuntime) -> Result<(), Fail> {
     let alloc = rt.alloc();
-    let found = guarded(alloc, &lone_codes(Kind::Free))?;
-    let lines = match &found {
-        Some(one) => guarded_lines(alloc, one)?,
-        None => String::new(alloc),
-    };
-    let meant =
-        "extra 3\nneed 3 0 2 above 1 0:1\nguard 1 above 1 1:12 3:-12\nguard 1 below 1 1:-12 3:12\nguard 2 above 1 2:9 3:-9\nguard 2 below 1 2:-9 3:9\n";
-    assert_eq!(rt; lines.as_str(), meant);
-    Ok(())
-}
-
-// Where all other cells are shown, nothing can be hidden against the first contributor.
-#[test]
-fn fixed_cells_leave_a_contributor_unguarded(rt: HostRuntime) -> Result<(), Fail> {
-    let alloc = rt.alloc();
-    let found = guarded(alloc, &lone_codes(Kind::Fixed))?;
-    let lines = match &found {
-        Some(one) => guarded_lines(alloc, one)?,
-        None => String::new(alloc),
-    };
-    assert_eq!(rt; lines.as_str(), "cannot 2 above from 0: 1 0:1\n");
+    for (rows, lines) in &GUARDED {
+        assert!(rt; lines_guarding(alloc, rows)?.as_deref() == Some(*lines));
+    }
     Ok(())
 }
 
@@ -282,45 +332,77 @@ fn is_world(
     check_world(system, cells, hidden, &line.world, &mut scratch).is_ok()
 }
 
+// What accepting an extra with these worlds answers; none where the trial can't be asked so.
+fn accepted_in(
+    alloc: Global,
+    trial: &Trial,
+    lines: &[WorldLine],
+    extra: &Extra,
+) -> Option<Result<(), ExtraFault>> {
+    let Trial {
+        system,
+        cells,
+        soles,
+        hidden,
+    } = trial;
+    let size = system.cells as usize;
+    if cells.len() != size || hidden.flags.as_slice().len() != size {
+        return None;
+    }
+    if !lines
+        .iter()
+        .all(|line| is_world(alloc, system, cells, hidden, line))
+    {
+        return None;
+    }
+    Some(accept_extra(alloc, system, cells, soles, hidden, lines, extra))
+}
+
 // What accepting an extra for the two primary codes answers, none where something lacks.
 fn accepted(
     alloc: Global,
     rows: &[Row],
     extra: &Extra,
 ) -> Result<Option<Result<(), ExtraFault>>, Fail> {
-    let Some(system) = system_of(alloc, rows.len(), &FLAT)? else {
-        return Ok(None);
-    };
-    let cells = cells_of(alloc, rows)?;
-    let soles = soles_of(alloc, rows)?;
-    let hidden = hidden_of(alloc, rows.len(), &[1, 2])?;
     let lines = lines_of(alloc)?;
-    let size = system.cells as usize;
-    if cells.len() != size || hidden.flags.as_slice().len() != size {
-        return Ok(None);
+    match trial_of(alloc, rows)? {
+        Some(trial) => Ok(accepted_in(alloc, &trial, &lines, extra)),
+        None => Ok(None),
     }
-    if !lines
-        .iter()
-        .all(|line| is_world(alloc, &system, &cells, &hidden, line))
-    {
-        return Ok(None);
-    }
-    Ok(Some(accept_extra(alloc, &system, &cells, &soles, &hidden, &lines, extra)))
 }
 
-// What was found is accepted, and not without its last guard.
+// What was found for the codes.
+fn found_extra(alloc: Global) -> Result<Option<Extra>, Fail> {
+    match guarded(alloc, &LONE_CODES)? {
+        Some(Guarded::Guards(extra)) => Ok(Some(extra)),
+        _ => Ok(None),
+    }
+}
+
+// What was found is accepted.
+#[test]
+fn guards_that_are_found_are_accepted(rt: HostRuntime) -> Result<(), Fail> {
+    let alloc = rt.alloc();
+    let found = match found_extra(alloc)? {
+        Some(extra) => accepted(alloc, &LONE_CODES, &extra)?,
+        None => None,
+    };
+    assert!(rt; matches!(found, Some(Ok(()))));
+    Ok(())
+}
+
+// What accepting answers where the last guard is missing.
+fn accepted_without_the_last(alloc: Global) -> Result<Option<Result<(), ExtraFault>>, Fail> {
+    let Some(mut less) = found_extra(alloc)? else {
+        return Ok(None);
+    };
+    less.guards.pop();
+    accepted(alloc, &LONE_CODES, &less)
+}
+
 #[test]
 fn missing_guard_leaves_an_attack_open(rt: HostRuntime) -> Result<(), Fail> {
-    let alloc = rt.alloc();
-    let rows = lone_codes(Kind::Free);
-    let Some(Guarded::Guards(extra)) = guarded(alloc, &rows)? else {
-        assert!(rt; false);
-        return Ok(());
-    };
-    assert!(rt; matches!(accepted(alloc, &rows, &extra)?, Some(Ok(()))));
-    let mut less = extra;
-    less.guards.pop();
-    let found = accepted(alloc, &rows, &less)?;
+    let found = accepted_without_the_last(rt.alloc())?;
     assert!(rt;
         matches!(
             found,

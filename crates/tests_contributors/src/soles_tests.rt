@@ -85,22 +85,40 @@ fn soles_of(alloc: Global, book: &mut Book, rows: &[Row]) -> Result<Vec<Option<u
     Ok(soles(alloc, book, rows)?)
 }
 
-// Two linked tables over three variables: records that alone make up an inner cell of one of them, and no others.
-#[test]
-fn lone_records_make_up_inner_cells(rt: HostRuntime) -> Result<(), Fail> {
-    let alloc = rt.alloc();
+// The soles of thirteen records in two linked tables over three variables.
+fn soles_of_thirteen(alloc: Global) -> Result<Vec<Option<u32>>, Fail> {
     let trees = pairs(alloc, 3)?;
     let tables = places(alloc, &[&[0, 1, 2], &[0, 2]])?;
     let mut book = Book::new(alloc, trees, tables)?;
     let records = rows(alloc, &thirteen())?;
-    let found = soles_of(alloc, &mut book, &records)?;
-    assert_eq!(rt; found.len(), 27);
-    let mut alone = Vec::new(alloc);
-    for (cell, sole) in found.iter().enumerate() {
+    soles_of(alloc, &mut book, &records)
+}
+
+// The cells that one row alone makes up, each with its row.
+fn alone(alloc: Global, soles: &[Option<u32>]) -> Result<Vec<(usize, u32)>, Fail> {
+    let mut all = Vec::new(alloc);
+    for (cell, sole) in soles.iter().enumerate() {
         if let Some(row) = sole {
-            alone.push((cell, *row))?;
+            all.push((cell, *row))?;
         }
     }
-    assert_eq!(rt; alone.as_slice(), [(13, 0), (14, 1), (25, 10)].as_slice());
+    Ok(all)
+}
+
+#[test]
+fn each_cell_is_looked_at(rt: HostRuntime) -> Result<(), Fail> {
+    assert_eq!(rt; soles_of_thirteen(rt.alloc())?.len(), 27);
+    Ok(())
+}
+
+// Records that alone make up an inner cell of one of the tables, and no others.
+const LONE_RECORDS: [(usize, u32); 3] = [(13, 0), (14, 1), (25, 10)];
+
+#[test]
+fn lone_records_make_up_inner_cells(rt: HostRuntime) -> Result<(), Fail> {
+    let alloc = rt.alloc();
+    let found = soles_of_thirteen(alloc)?;
+    let lone = alone(alloc, &found)?;
+    assert_eq!(rt; lone.as_slice(), LONE_RECORDS.as_slice());
     Ok(())
 }

@@ -1,4 +1,5 @@
-use kit_runs::{ONE_VARIABLE, job_with, run_over};
+use crate::raised::{digit_raised, digits_in, raised, refusal_at};
+use kit_runs::{ONE_TABLE_GUARDED, ONE_VARIABLE, check_job};
 use sdc_base::Memory;
 use std::alloc::Global;
 use std::rt::HostRuntime;
@@ -21,25 +22,23 @@ const TABLE: &str = "A,V\nTotal,150\na,x\nb,x\nc,x\nd,50\n";
 
 // What a check of the job says where this stands for its contributors' file.
 fn checked(alloc: Global, contributors: &str) -> Result<String, Memory> {
-    let job = job_with(
-        alloc,
-        "<CERTIFICATE>",
-        "<CONTRIBUTORS> \"t.con\"\n<CERTIFICATE>",
-    )?;
-    checked_job(alloc, job.as_str(), contributors)
-}
-
-// The same of this job.
-fn checked_job<'x>(alloc: Global, job: &'x str, contributors: &'x str) -> Result<String, Memory> {
     let files = [
-        ("r.job", job),
+        ("r.job", ONE_TABLE_GUARDED),
         ("m.rda", ONE_VARIABLE),
         ("m.asc", RECORDS),
         ("t.cert", CERTIFICATE),
         ("t.con", contributors),
         ("t.csv", TABLE),
     ];
-    run_over(alloc, &["check", "r.job"], &files)
+    check_job(alloc, &files)
+}
+
+// As it stands it is accepted.
+#[test]
+fn whole_contributors_file(rt: HostRuntime) -> Result<(), Fail> {
+    let got = checked(rt.alloc(), CONTRIBUTORS)?;
+    assert_eq!(rt; got.as_str(), "0 accepted\n");
+    Ok(())
 }
 
 // What is said of the contributors' file with one of its digits raised by one, digit by digit.
@@ -94,43 +93,44 @@ const RAISED: [&str; 36] = [
     "2 refused: contributors line 7: Number\n",
 ];
 
-// The contributors' file with one of its bytes raised by one.
-fn raised(alloc: Global, at: usize, byte: u8) -> Result<String, Memory> {
-    let before = CONTRIBUTORS.get(..at).unwrap_or("");
-    let byte = byte.saturating_add(1) as char;
-    let after = CONTRIBUTORS.get(at.saturating_add(1)..).unwrap_or("");
-    Ok(format!(in alloc; "{before}{byte}{after}")?)
+// The same of the digit of this number.
+fn checked_with_digit(alloc: Global, number: usize) -> Result<String, Memory> {
+    let contributors = digit_raised(alloc, CONTRIBUTORS, number)?;
+    checked(alloc, contributors.as_str())
 }
 
+// The list has an answer for each digit.
+#[test]
+fn digits_of_contributors(rt: HostRuntime) -> Result<(), Fail> {
+    assert_eq!(rt; digits_in(CONTRIBUTORS), RAISED.len());
+    Ok(())
+}
+
+// The digits are those of numbers in the file, and the version's.
 #[test]
 fn raised_digits_of_contributors(rt: HostRuntime) -> Result<(), Fail> {
-    let got = checked(rt.alloc(), CONTRIBUTORS)?;
-    assert_eq!(rt; got.as_str(), "0 accepted\n");
-    let mut wanted = RAISED.iter();
-    for (at, byte) in CONTRIBUTORS.bytes().enumerate() {
-        if !byte.is_ascii_digit() {
-            continue;
-        }
-        let want = wanted.next().copied().unwrap_or("");
-        let got = checked(rt.alloc(), raised(rt.alloc(), at, byte)?.as_str())?;
-        assert_eq!(rt; got.as_str(), want, "byte {at}");
+    for (number, want) in RAISED.iter().enumerate() {
+        let got = checked_with_digit(rt.alloc(), number)?;
+        assert_eq!(rt; got.as_str(), *want);
     }
-    assert!(rt; wanted.next().is_none());
     Ok(())
+}
+
+// Whether the line of this byte is refused with the byte raised by one.
+fn line_is_refused(alloc: Global, at: usize, byte: u8) -> Result<bool, Memory> {
+    let contributors = raised(alloc, CONTRIBUTORS, at, byte)?;
+    let got = checked(alloc, contributors.as_str())?;
+    let want = refusal_at(alloc, "contributors", CONTRIBUTORS, at)?;
+    Ok(got.starts_with(want.as_str()))
 }
 
 // With any other byte raised by one its line is none of a contributors' file.
 #[test]
 fn other_raised_bytes_of_contributors(rt: HostRuntime) -> Result<(), Fail> {
     for (at, byte) in CONTRIBUTORS.bytes().enumerate() {
-        if byte.is_ascii_digit() {
-            continue;
+        if !byte.is_ascii_digit() {
+            assert!(rt; line_is_refused(rt.alloc(), at, byte)?);
         }
-        let before = CONTRIBUTORS.get(..at).unwrap_or("");
-        let line = before.split('\n').count();
-        let want = format!(in rt.alloc(); "2 refused: contributors line {line}: ")?;
-        let got = checked(rt.alloc(), raised(rt.alloc(), at, byte)?.as_str())?;
-        assert!(rt; got.starts_with(want.as_str()), "byte {at}");
     }
     Ok(())
 }

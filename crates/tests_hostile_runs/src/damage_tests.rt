@@ -1,6 +1,6 @@
+use crate::raised::{digit_raised, digits_in, raised, refusal_at};
 use kit_runs::{
-    BY_INDUSTRY, FIRMS, FIRMS_CERTIFICATE, FIRMS_SAID, FIRMS_TABLE, SURVEY, WHOLE_FILES, run_alone,
-    run_over,
+    BY_INDUSTRY, FIRMS, FIRMS_CERTIFICATE, FIRMS_SAID, FIRMS_TABLE, SURVEY, check_job, run_job,
 };
 use sdc_base::Memory;
 use std::alloc::Global;
@@ -16,7 +16,7 @@ fn checked(alloc: Global, certificate: &str) -> Result<String, Memory> {
         ("t.cert", certificate),
         ("t.csv", FIRMS_TABLE),
     ];
-    run_over(alloc, &["check", "r.job"], &files)
+    check_job(alloc, &files)
 }
 
 // Why a front part of the certificate is none: it ends before the line `end`, or its last line has no end, which in the
@@ -33,15 +33,26 @@ fn refusal_of_front(alloc: Global, front: &str) -> Result<String, Memory> {
     Ok(format!(in alloc; "2 refused: certificate line {line}: {kind}\n")?)
 }
 
-// Every front part of the certificate but the whole, which is accepted.
+// Whether the certificate is refused that ends before this byte.
+fn is_cut_refused(alloc: Global, at: usize) -> Result<bool, Memory> {
+    let front = FIRMS_CERTIFICATE.get(..at).unwrap_or("");
+    let want = refusal_of_front(alloc, front)?;
+    let got = checked(alloc, front)?;
+    Ok(got.as_str() == want.as_str())
+}
+
+// Every front part of the certificate but the whole.
 #[test]
 fn cut_certificates(rt: HostRuntime) -> Result<(), Fail> {
     for (at, _) in FIRMS_CERTIFICATE.char_indices() {
-        let front = FIRMS_CERTIFICATE.get(..at).unwrap_or("");
-        let want = refusal_of_front(rt.alloc(), front)?;
-        let got = checked(rt.alloc(), front)?;
-        assert_eq!(rt; got.as_str(), want.as_str());
+        assert!(rt; is_cut_refused(rt.alloc(), at)?);
     }
+    Ok(())
+}
+
+// As it stands it is accepted.
+#[test]
+fn whole_certificate(rt: HostRuntime) -> Result<(), Fail> {
     let got = checked(rt.alloc(), FIRMS_CERTIFICATE)?;
     assert_eq!(rt; got.as_str(), "0 accepted\n");
     Ok(())
@@ -137,28 +148,35 @@ const RAISED: [&str; 69] = [
     "3 not accepted: World 3 Relation 2\n",
 ];
 
-// The certificate with one of its bytes raised by one.
-fn raised(alloc: Global, at: usize, byte: u8) -> Result<String, Memory> {
-    let before = FIRMS_CERTIFICATE.get(..at).unwrap_or("");
-    let byte = byte.saturating_add(1) as char;
-    let after = FIRMS_CERTIFICATE.get(at.saturating_add(1)..).unwrap_or("");
-    Ok(format!(in alloc; "{before}{byte}{after}")?)
+// The same of the digit of this number.
+fn checked_with_digit(alloc: Global, number: usize) -> Result<String, Memory> {
+    let certificate = digit_raised(alloc, FIRMS_CERTIFICATE, number)?;
+    checked(alloc, certificate.as_str())
+}
+
+// The list has an answer for each digit.
+#[test]
+fn digits_of_a_certificate(rt: HostRuntime) -> Result<(), Fail> {
+    assert_eq!(rt; digits_in(FIRMS_CERTIFICATE), RAISED.len());
+    Ok(())
 }
 
 // The digits are those of numbers in the certificate, and the version's.
 #[test]
 fn raised_digits(rt: HostRuntime) -> Result<(), Fail> {
-    let mut wanted = RAISED.iter();
-    for (at, byte) in FIRMS_CERTIFICATE.bytes().enumerate() {
-        if !byte.is_ascii_digit() {
-            continue;
-        }
-        let want = wanted.next().copied().unwrap_or("");
-        let got = checked(rt.alloc(), raised(rt.alloc(), at, byte)?.as_str())?;
-        assert_eq!(rt; got.as_str(), want, "byte {at}");
+    for (number, want) in RAISED.iter().enumerate() {
+        let got = checked_with_digit(rt.alloc(), number)?;
+        assert_eq!(rt; got.as_str(), *want);
     }
-    assert!(rt; wanted.next().is_none());
     Ok(())
+}
+
+// Whether the line of this byte is refused with the byte raised by one.
+fn line_is_refused(alloc: Global, at: usize, byte: u8) -> Result<bool, Memory> {
+    let certificate = raised(alloc, FIRMS_CERTIFICATE, at, byte)?;
+    let got = checked(alloc, certificate.as_str())?;
+    let want = refusal_at(alloc, "certificate", FIRMS_CERTIFICATE, at)?;
+    Ok(got.starts_with(want.as_str()))
 }
 
 // With any other byte raised by one its line is none of a certificate: its first word is another, a token is missing, a
@@ -166,14 +184,9 @@ fn raised_digits(rt: HostRuntime) -> Result<(), Fail> {
 #[test]
 fn other_raised_bytes(rt: HostRuntime) -> Result<(), Fail> {
     for (at, byte) in FIRMS_CERTIFICATE.bytes().enumerate() {
-        if byte.is_ascii_digit() {
-            continue;
+        if !byte.is_ascii_digit() {
+            assert!(rt; line_is_refused(rt.alloc(), at, byte)?);
         }
-        let before = FIRMS_CERTIFICATE.get(..at).unwrap_or("");
-        let line = before.split('\n').count();
-        let want = format!(in rt.alloc(); "2 refused: certificate line {line}: ")?;
-        let got = checked(rt.alloc(), raised(rt.alloc(), at, byte)?.as_str())?;
-        assert!(rt; got.starts_with(want.as_str()), "byte {at}");
     }
     Ok(())
 }
@@ -232,38 +245,53 @@ fn ran_over(alloc: Global, records: &str) -> Result<String, Memory> {
         ("m.rda", SURVEY),
         ("m.asc", records),
     ];
-    run_alone(alloc, &files, WHOLE_FILES, 0)
+    run_job(alloc, &files)
 }
 
-// Every front part of the microdata that ends with a whole record, with the line's end and without: it is released.
+// Whether a run over so many bytes of the microdata says and puts this.
+fn releases(alloc: Global, bytes: usize, said: &str, table: &str) -> Result<bool, Memory> {
+    let got = ran_over(alloc, FIRMS.get(..bytes).unwrap_or(""))?;
+    Ok(got.starts_with(said) && got.ends_with(table))
+}
+
+// Every front part of the microdata that ends with a whole record and the line's end: it is released.
 #[test]
 fn first_records(rt: HostRuntime) -> Result<(), Fail> {
-    let mut end = 0usize;
-    for (said, table) in FIRST_RECORDS {
-        for end in [end, end.saturating_sub(1)] {
-            let front = FIRMS.get(..end).unwrap_or("");
-            let got = ran_over(rt.alloc(), front)?;
-            assert!(rt; got.starts_with(said), "{end} bytes");
-            assert!(rt; got.ends_with(table), "{end} bytes");
-        }
-        end = end.saturating_add(15);
+    for (records, (said, table)) in FIRST_RECORDS.iter().enumerate() {
+        let bytes = records.saturating_mul(15);
+        assert!(rt; releases(rt.alloc(), bytes, said, table)?);
     }
     Ok(())
+}
+
+// The same without the line's end.
+#[test]
+fn first_records_without_their_end(rt: HostRuntime) -> Result<(), Fail> {
+    for (records, (said, table)) in FIRST_RECORDS.iter().enumerate() {
+        let bytes = records.saturating_mul(15).saturating_sub(1);
+        assert!(rt; releases(rt.alloc(), bytes, said, table)?);
+    }
+    Ok(())
+}
+
+// Whether a last record that ends before this byte is refused, or it is whole or there is none.
+fn is_short_or_whole(alloc: Global, at: usize) -> Result<bool, Memory> {
+    let front = FIRMS.get(..at).unwrap_or("");
+    let record = front.split('\n').count();
+    let last = front.rsplit('\n').next().unwrap_or("");
+    if last.is_empty() || last.len() == 14 {
+        return Ok(true);
+    }
+    let want = format!(in alloc; "2 refused: record {record}: Short\n")?;
+    let got = ran_over(alloc, front)?;
+    Ok(got.as_str() == want.as_str())
 }
 
 // Every other front part of the microdata: its last record is too short, and nothing is put.
 #[test]
 fn cut_records(rt: HostRuntime) -> Result<(), Fail> {
     for (at, _) in FIRMS.char_indices() {
-        let front = FIRMS.get(..at).unwrap_or("");
-        let record = front.split('\n').count();
-        let last = front.rsplit('\n').next().unwrap_or("");
-        if last.is_empty() || last.len() == 14 {
-            continue;
-        }
-        let want = format!(in rt.alloc(); "2 refused: record {record}: Short\n")?;
-        let got = ran_over(rt.alloc(), front)?;
-        assert_eq!(rt; got.as_str(), want.as_str());
+        assert!(rt; is_short_or_whole(rt.alloc(), at)?);
     }
     Ok(())
 }

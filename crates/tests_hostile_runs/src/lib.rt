@@ -9,3 +9,5 @@ mod damage_tests;
 mod fault_tests;
 #[cfg(test)]
 mod limit_tests;
+#[cfg(test)]
+mod raised;

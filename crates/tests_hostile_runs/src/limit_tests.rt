@@ -1,5 +1,5 @@
 use kit_runs::{
-    ONE_TABLE, ONE_TABLE_RELEASED, ONE_VARIABLE, Pieces, SEVEN_RECORDS, WHOLE_FILES, run_alone,
+    ONE_TABLE, ONE_TABLE_RELEASED, ONE_VARIABLE, Pieces, SEVEN_RECORDS, run_alone, run_job,
 };
 use sdc_base::Memory;
 use std::alloc::Global;
@@ -13,6 +13,13 @@ const REST: &str =
 // Nine codes, each below the one before it.
 const NINE_DEEP: &str = "1\n@2\n@@3\n@@@4\n@@@@5\n@@@@@6\n@@@@@@7\n@@@@@@@8\n@@@@@@@@9\n";
 
+// Further levels of one code each.
+const TEN_DEEP: &str =
+    "1\n@2\n@@3\n@@@4\n@@@@5\n@@@@@6\n@@@@@@7\n@@@@@@@8\n@@@@@@@@9\n@@@@@@@@@a\n";
+
+const ELEVEN_DEEP: &str =
+    "1\n@2\n@@3\n@@@4\n@@@@5\n@@@@@6\n@@@@@@7\n@@@@@@@8\n@@@@@@@@9\n@@@@@@@@@a\n@@@@@@@@@@b\n";
+
 // What a run says and puts by this hierarchy, over three records of its ninth code.
 fn ran_by_tree(alloc: Global, hierarchy: &str) -> Result<String, Memory> {
     let metadata =
@@ -23,24 +30,25 @@ fn ran_by_tree(alloc: Global, hierarchy: &str) -> Result<String, Memory> {
         ("a.hrc", hierarchy),
         ("m.asc", "9 10\n9 20\n9 30\n"),
     ];
-    run_alone(alloc, &files, WHOLE_FILES, 0)
+    run_job(alloc, &files)
 }
+
+const DEPTHS: [(&str, &str); 3] = [
+    (
+        NINE_DEEP,
+        "0 released: 3 records, 0 skipped, 0 passed over, 10 cells, 0 primary, 0 hidden\nargus certificate 2\nmethod MOD\ncells 10\nrelations 9\nend\nA,V\nTotal,60\n1,60\n2,60\n3,60\n4,60\n5,60\n6,60\n7,60\n8,60\n9,60\n",
+    ),
+    (TEN_DEEP, "2 refused: hierarchy 1 line 10: TooDeep\n"),
+    (ELEVEN_DEEP, "2 refused: hierarchy 1 line 10: TooDeep\n"),
+];
 
 // A hierarchy has at most nine levels below the total; the first code of a tenth one is refused.
 #[test]
 fn deep_hierarchies(rt: HostRuntime) -> Result<(), Fail> {
-    let alloc = rt.alloc();
-    let released =
-        "0 released: 3 records, 0 skipped, 0 passed over, 10 cells, 0 primary, 0 hidden\nargus certificate 2\nmethod MOD\ncells 10\nrelations 9\nend\nA,V\nTotal,60\n1,60\n2,60\n3,60\n4,60\n5,60\n6,60\n7,60\n8,60\n9,60\n";
-    let refused = "2 refused: hierarchy 1 line 10: TooDeep\n";
-    let got = ran_by_tree(alloc, NINE_DEEP)?;
-    assert_eq!(rt; got.as_str(), released);
-    let ten = format!(in alloc; "{NINE_DEEP}@@@@@@@@@a\n")?;
-    let got = ran_by_tree(alloc, ten.as_str())?;
-    assert_eq!(rt; got.as_str(), refused);
-    let eleven = format!(in alloc; "{ten}@@@@@@@@@@b\n")?;
-    let got = ran_by_tree(alloc, eleven.as_str())?;
-    assert_eq!(rt; got.as_str(), refused);
+    for (hierarchy, want) in &DEPTHS {
+        let got = ran_by_tree(rt.alloc(), hierarchy)?;
+        assert_eq!(rt; got.as_str(), *want);
+    }
     Ok(())
 }
 
@@ -66,17 +74,35 @@ fn ran_with_end(alloc: Global, count: u32, end: &str, bytes: u32) -> Result<Stri
     run_alone(alloc, &files, Pieces { bytes, failing: 0 }, 0)
 }
 
+// The end of a line, and how many bytes a piece of the file has.
+const ENDS: [(&str, u32); 9] = [
+    ("", 1),
+    ("\n", 1),
+    ("\r\n", 1),
+    ("", 1000),
+    ("\n", 1000),
+    ("\r\n", 1000),
+    ("", 4096),
+    ("\n", 4096),
+    ("\r\n", 4096),
+];
+
 // A record has at most 1,000 bytes, without the end of its line.
 #[test]
 fn long_records(rt: HostRuntime) -> Result<(), Fail> {
-    let refused = "2 refused: record 7: TooLong\n";
-    for bytes in [1, 1000, 4096] {
-        for end in ["", "\n", "\r\n"] {
-            let got = ran_with_end(rt.alloc(), 996, end, bytes)?;
-            assert_eq!(rt; got.as_str(), ONE_TABLE_RELEASED);
-            let got = ran_with_end(rt.alloc(), 997, end, bytes)?;
-            assert_eq!(rt; got.as_str(), refused);
-        }
+    for (end, bytes) in &ENDS {
+        let got = ran_with_end(rt.alloc(), 996, end, *bytes)?;
+        assert_eq!(rt; got.as_str(), ONE_TABLE_RELEASED);
+    }
+    Ok(())
+}
+
+// One of 1,001 bytes is too long.
+#[test]
+fn longer_records(rt: HostRuntime) -> Result<(), Fail> {
+    for (end, bytes) in &ENDS {
+        let got = ran_with_end(rt.alloc(), 997, end, *bytes)?;
+        assert_eq!(rt; got.as_str(), "2 refused: record 7: TooLong\n");
     }
     Ok(())
 }
@@ -99,27 +125,32 @@ fn job_of(alloc: Global, tables: u32) -> Result<String, Memory> {
     Ok(job)
 }
 
+// What that job says and leaves.
+fn ran_with_tables(alloc: Global, tables: u32) -> Result<String, Memory> {
+    let job = job_of(alloc, tables)?;
+    let files = [
+        ("r.job", job.as_str()),
+        ("m.rda", ONE_VARIABLE),
+        ("m.asc", SEVEN_RECORDS),
+    ];
+    run_job(alloc, &files)
+}
+
+const MANY_TABLES: [(u32, &str); 2] = [
+    (
+        8,
+        "0 released: 7 records, 0 skipped, 0 passed over, 3 cells, 0 primary, 0 hidden\nargus certificate 2\nmethod MOD\ncells 3\nrelations 1\nend\nA,V\nTotal,150\na,60\nb,90\nA,V\nTotal,150\na,60\nb,90\n",
+    ),
+    (9, "2 refused: job line 14: TooMany\n"),
+];
+
 // A job has at most eight tables; the ninth one's line is refused.
 #[test]
 fn many_tables(rt: HostRuntime) -> Result<(), Fail> {
-    let alloc = rt.alloc();
-    let released = format!(in alloc; "{ONE_TABLE_RELEASED}A,V\nTotal,150\na,60\nb,90\n")?;
-    let eight = job_of(alloc, 8)?;
-    let files = [
-        ("r.job", eight.as_str()),
-        ("m.rda", ONE_VARIABLE),
-        ("m.asc", SEVEN_RECORDS),
-    ];
-    let got = run_alone(alloc, &files, WHOLE_FILES, 0)?;
-    assert_eq!(rt; got.as_str(), released.as_str());
-    let nine = job_of(alloc, 9)?;
-    let files = [
-        ("r.job", nine.as_str()),
-        ("m.rda", ONE_VARIABLE),
-        ("m.asc", SEVEN_RECORDS),
-    ];
-    let got = run_alone(alloc, &files, WHOLE_FILES, 0)?;
-    assert_eq!(rt; got.as_str(), "2 refused: job line 14: TooMany\n");
+    for (tables, want) in &MANY_TABLES {
+        let got = ran_with_tables(rt.alloc(), *tables)?;
+        assert_eq!(rt; got.as_str(), *want);
+    }
     Ok(())
 }
 
@@ -130,28 +161,40 @@ const SIX_CODES: &str =
 const SEVEN_VARIABLES: &str =
     "A 1 1\n<RECODEABLE>\nB 2 1\n<RECODEABLE>\nC 3 1\n<RECODEABLE>\nD 4 1\n<RECODEABLE>\nE 5 1\n<RECODEABLE>\nF 6 1\n<RECODEABLE>\nG 1 1\n<RECODEABLE>\nV 7 2\n<NUMERIC>\n";
 
-// What a run over these records says and puts.
-fn ran_over_six(alloc: Global, job: &str) -> Result<String, Memory> {
-    let files = [
-        ("r.job", job),
-        ("m.rda", SEVEN_VARIABLES),
-        ("m.asc", SIX_CODES),
-    ];
-    run_alone(alloc, &files, WHOLE_FILES, 0)
-}
+// The files of a table by six variables of two codes each, and of one by seven.
+const BY_SIX: [(&str, &str); 3] = [
+    (
+        "r.job",
+        "<OPENMICRODATA> \"m.asc\"\n<OPENMETADATA> \"m.rda\"\n<SPECIFYTABLE> \"A\"\"B\"\"C\"\"D\"\"E\"\"F\"|\"V\"\n<SAFETYRULE> FREQ(1,30)\n<READMICRODATA>\n<SUPPRESS> MOD()\n<WRITETABLE> (1,\"t.csv\")\n<CERTIFICATE> \"t.cert\"\n",
+    ),
+    ("m.rda", SEVEN_VARIABLES),
+    ("m.asc", SIX_CODES),
+];
 
-// A table by six variables of two codes each is released; a seventh variable is one too many.
+const BY_SEVEN: [(&str, &str); 3] = [
+    (
+        "r.job",
+        "<OPENMICRODATA> \"m.asc\"\n<OPENMETADATA> \"m.rda\"\n<SPECIFYTABLE> \"A\"\"B\"\"C\"\"D\"\"E\"\"F\"\"G\"|\"V\"\n<SAFETYRULE> FREQ(1,30)\n<READMICRODATA>\n<SUPPRESS> MOD()\n<WRITETABLE> (1,\"t.csv\")\n<CERTIFICATE> \"t.cert\"\n",
+    ),
+    ("m.rda", SEVEN_VARIABLES),
+    ("m.asc", SIX_CODES),
+];
+
+// How what is said and put of the first begins.
+const SIX_RELEASED: &str =
+    "0 released: 64 records, 0 skipped, 0 passed over, 729 cells, 0 primary, 0 hidden\nargus certificate 2\nmethod MOD\ncells 729\nrelations 1458\nend\nA,B,C,D,E,F,V\nTotal,Total,Total,Total,Total,Total,64\n";
+
 #[test]
 fn six_variables(rt: HostRuntime) -> Result<(), Fail> {
-    let alloc = rt.alloc();
-    let six = ONE_TABLE.replace(alloc, "\"A\"", "\"A\"\"B\"\"C\"\"D\"\"E\"\"F\"")?;
-    let six = six.replace(alloc, "FREQ(3,30)", "FREQ(1,30)")?;
-    let seven = six.replace(alloc, "\"F\"", "\"F\"\"G\"")?;
-    let released =
-        "0 released: 64 records, 0 skipped, 0 passed over, 729 cells, 0 primary, 0 hidden\nargus certificate 2\nmethod MOD\ncells 729\nrelations 1458\nend\nA,B,C,D,E,F,V\nTotal,Total,Total,Total,Total,Total,64\n";
-    let got = ran_over_six(alloc, six.as_str())?;
-    assert!(rt; got.starts_with(released));
-    let got = ran_over_six(alloc, seven.as_str())?;
+    let got = run_job(rt.alloc(), &BY_SIX)?;
+    assert!(rt; got.starts_with(SIX_RELEASED));
+    Ok(())
+}
+
+// A seventh variable is one too many.
+#[test]
+fn seven_variables(rt: HostRuntime) -> Result<(), Fail> {
+    let got = run_job(rt.alloc(), &BY_SEVEN)?;
     assert_eq!(rt; got.as_str(), "2 refused: job line 3: BadValue\n");
     Ok(())
 }

@@ -3,6 +3,7 @@ ghost use Rattle.std.specs.Prelude.{◌≤◌, All, IfOk, length};
 use hierarchy::{CodeTree, TreeFault, flat, from_lead, from_levels, read_codes, with_missing};
 use sdc_base::Text;
 use std::alloc::{AllocError, Global};
+use std::rt::HostRuntime;
 use std::test::Fail;
 
 // The texts that are no longer than the most.
@@ -45,8 +46,11 @@ fn shown(alloc: Global, tree: &CodeTree) -> Result<Vec<u8>, TreeFault> {
     Ok(text)
 }
 
+// A tree or codes as a text, or what is wrong with them.
+type Expected = Result<&'static str, TreeFault>;
+
 // Whether the answer is the expected tree or fault.
-fn agrees(answer: Result<Vec<u8>, TreeFault>, expected: Result<&str, TreeFault>) -> bool {
+fn agrees(answer: Result<Vec<u8>, TreeFault>, expected: &Expected) -> bool {
     match answer {
         Ok(text) => match expected {
             Ok(tree) => text.as_slice() == tree.as_bytes(),
@@ -54,7 +58,7 @@ fn agrees(answer: Result<Vec<u8>, TreeFault>, expected: Result<&str, TreeFault>)
         },
         Err(fault) => match expected {
             Ok(_) => false,
-            Err(other) => fault == other,
+            Err(other) => fault == *other,
         },
     }
 }
@@ -65,8 +69,13 @@ fn tree_shown(alloc: Global, made: Result<CodeTree, TreeFault>) -> Result<Vec<u8
     shown(alloc, &tree)
 }
 
-// `from_lead`, where it may be called.
-fn lead_shown(alloc: Global, lead: &str, bytes: &str) -> Result<Result<Vec<u8>, TreeFault>, Fail> {
+// Whether `from_lead` may be called and makes of the bytes what is expected.
+fn is_read_by_lead(
+    alloc: Global,
+    lead: &str,
+    bytes: &str,
+    expected: &Expected,
+) -> Result<bool, Fail> {
     let (lead, total) = (
         Text::from_slice(alloc, lead.as_bytes())?,
         Text::from_slice(alloc, b"Total")?,
@@ -74,127 +83,128 @@ fn lead_shown(alloc: Global, lead: &str, bytes: &str) -> Result<Result<Vec<u8>, 
     if lead.as_slice().is_empty() || bytes.len() > 1000 {
         return Err(Fail::new("no lead, or too many bytes"));
     }
-    Ok(tree_shown(alloc, from_lead(alloc, bytes.as_bytes(), &lead, &total)))
+    let made = from_lead(alloc, bytes.as_bytes(), &lead, &total);
+    Ok(agrees(tree_shown(alloc, made), expected))
 }
+
+// The leads and the bytes of hierarchy files, and what they make.
+const HIERARCHY_FILES: [(&str, &str, Expected); 15] = [
+    (
+        "@",
+        "Nr\n@1\n@2\nOs\n@3\n",
+        Ok("Total:-01- Nr:0124 1:12-3 2:12-- Os:015- 3:42-- "),
+    ),
+    ("@", "", Ok("Total:-0-- ")),
+    ("@", "Nr\n@@1", Err(TreeFault::Jump(2))),
+    ("@", "@1", Err(TreeFault::Jump(1))),
+    // blank lines are passed over, and blanks round a code are dropped after the leads
+    ("@", "a\r\n\r\n \t\r\n@ b ", Ok("Total:-01- a:012- b:12-- ")),
+    ("@", "a\n @b", Ok("Total:-01- a:01-2 @b:01-- ")),
+    // nine levels, and ten
+    (
+        "@",
+        "a\n@b\n@@c\n@@@d\n@@@@e\n@@@@@f\n@@@@@@g\n@@@@@@@h\n@@@@@@@@i",
+        Ok("Total:-01- a:012- b:123- c:234- d:345- e:456- f:567- g:678- h:789- i:89-- "),
+    ),
+    (
+        "@",
+        "a\n@b\n@@c\n@@@d\n@@@@e\n@@@@@f\n@@@@@@g\n@@@@@@@h\n@@@@@@@@i\n@@@@@@@@@j",
+        Err(TreeFault::TooDeep(10)),
+    ),
+    // leads of two bytes, and a code that begins with half a lead
+    (
+        "--",
+        "a\n--b\n---c",
+        Ok("Total:-01- a:012- b:12-3 -c:12-- "),
+    ),
+    // the faults of a line in their order
+    ("@", "Nr\n@ \n", Err(TreeFault::NoCode(2))),
+    ("@", "@", Err(TreeFault::NoCode(1))),
+    ("@", "@Total", Err(TreeFault::Jump(1))),
+    ("@", "Nr\n Total", Err(TreeFault::IsTotal(2))),
+    ("@", "Nr\n\n@Nr\n", Err(TreeFault::Twice(3))),
+    ("@", "Nr\n@1\nOs\n@1", Err(TreeFault::Twice(4))),
+];
 
 #[test]
 fn hierarchy_files(rt: HostRuntime) -> Result<(), Fail> {
-    let alloc = rt.alloc();
-    for (lead, bytes, expected) in [
-        (
-            "@",
-            "Nr\n@1\n@2\nOs\n@3\n",
-            Ok("Total:-01- Nr:0124 1:12-3 2:12-- Os:015- 3:42-- "),
-        ),
-        ("@", "", Ok("Total:-0-- ")),
-        ("@", "Nr\n@@1", Err(TreeFault::Jump(2))),
-        ("@", "@1", Err(TreeFault::Jump(1))),
-        // blank lines are passed over, and blanks round a code are dropped after the leads
-        ("@", "a\r\n\r\n \t\r\n@ b ", Ok("Total:-01- a:012- b:12-- ")),
-        ("@", "a\n @b", Ok("Total:-01- a:01-2 @b:01-- ")),
-        // nine levels, and ten
-        (
-            "@",
-            "a\n@b\n@@c\n@@@d\n@@@@e\n@@@@@f\n@@@@@@g\n@@@@@@@h\n@@@@@@@@i",
-            Ok("Total:-01- a:012- b:123- c:234- d:345- e:456- f:567- g:678- h:789- i:89-- "),
-        ),
-        (
-            "@",
-            "a\n@b\n@@c\n@@@d\n@@@@e\n@@@@@f\n@@@@@@g\n@@@@@@@h\n@@@@@@@@i\n@@@@@@@@@j",
-            Err(TreeFault::TooDeep(10)),
-        ),
-        // leads of two bytes, and a code that begins with half a lead
-        (
-            "--",
-            "a\n--b\n---c",
-            Ok("Total:-01- a:012- b:12-3 -c:12-- "),
-        ),
-        // the faults of a line in their order
-        ("@", "Nr\n@ \n", Err(TreeFault::NoCode(2))),
-        ("@", "@", Err(TreeFault::NoCode(1))),
-        ("@", "@Total", Err(TreeFault::Jump(1))),
-        ("@", "Nr\n Total", Err(TreeFault::IsTotal(2))),
-        ("@", "Nr\n\n@Nr\n", Err(TreeFault::Twice(3))),
-        ("@", "Nr\n@1\nOs\n@1", Err(TreeFault::Twice(4))),
-    ] {
-        assert_eq!(rt;
-            agrees(lead_shown(alloc, lead, bytes)?, expected),
-            true,
-            "{bytes}"
-        );
+    for (lead, bytes, expected) in &HIERARCHY_FILES {
+        assert!(rt; is_read_by_lead(rt.alloc(), lead, bytes, expected)?);
     }
     Ok(())
 }
 
-// `from_levels` with two widths, where it may be called.
-fn level_shown(
+// Whether `from_levels` with two widths may be called and makes of the codes what is expected.
+fn is_made_by_levels(
     alloc: Global,
     first: u8,
     second: u8,
     codes: &[&str],
-) -> Result<Result<Vec<u8>, TreeFault>, Fail> {
+    expected: &Expected,
+) -> Result<bool, Fail> {
     let total = Text::from_slice(alloc, b"T")?;
     if first == 0 || second == 0 {
         return Err(Fail::new("a width of 0"));
     }
     let codes = texts(alloc, codes, first as usize + second as usize)?;
-    Ok(tree_shown(alloc, from_levels(alloc, &codes, &[first, second], &total)))
+    let made = from_levels(alloc, &codes, &[first, second], &total);
+    Ok(agrees(tree_shown(alloc, made), expected))
 }
+
+// Two widths, codes, and what they make.
+const LEVEL_CODES: [(u8, u8, [&str; 3], Expected); 9] = [
+    (
+        1,
+        1,
+        ["11", "12", "21"],
+        Ok("T:-01- 1:0124 11:12-3 12:12-- 2:015- 21:42-- "),
+    ),
+    (
+        1,
+        1,
+        ["21", "12", "11"],
+        Ok("T:-01- 1:0124 11:12-3 12:12-- 2:015- 21:42-- "),
+    ),
+    // the empty code is a child of the total
+    (1, 1, ["", "a", "ab"], Ok("T:-01- :01-2 a:013- ab:22-- ")),
+    // a code that ends between two boundaries is no parent
+    (
+        2,
+        2,
+        ["1", "12", "123"],
+        Ok("T:-01- 1:01-2 12:013- 123:22-- "),
+    ),
+    // the faults of a code in their order
+    (1, 1, ["a", "b ", "T"], Err(TreeFault::Blank(2))),
+    (1, 1, ["a", "T ", "b"], Err(TreeFault::Blank(2))),
+    (1, 1, ["a", "b", "Tb"], Err(TreeFault::IsTotal(3))),
+    (1, 1, ["T", "T", "b"], Err(TreeFault::IsTotal(1))),
+    (1, 1, ["ab", "b", "ab"], Err(TreeFault::Twice(3))),
+];
 
 #[test]
 fn level_codes(rt: HostRuntime) -> Result<(), Fail> {
-    let alloc = rt.alloc();
-    for (first, second, codes, expected) in [
-        (
-            1,
-            1,
-            ["11", "12", "21"],
-            Ok("T:-01- 1:0124 11:12-3 12:12-- 2:015- 21:42-- "),
-        ),
-        (
-            1,
-            1,
-            ["21", "12", "11"],
-            Ok("T:-01- 1:0124 11:12-3 12:12-- 2:015- 21:42-- "),
-        ),
-        // the empty code is a child of the total
-        (1, 1, ["", "a", "ab"], Ok("T:-01- :01-2 a:013- ab:22-- ")),
-        // a code that ends between two boundaries is no parent
-        (
-            2,
-            2,
-            ["1", "12", "123"],
-            Ok("T:-01- 1:01-2 12:013- 123:22-- "),
-        ),
-        // the faults of a code in their order
-        (1, 1, ["a", "b ", "T"], Err(TreeFault::Blank(2))),
-        (1, 1, ["a", "T ", "b"], Err(TreeFault::Blank(2))),
-        (1, 1, ["a", "b", "Tb"], Err(TreeFault::IsTotal(3))),
-        (1, 1, ["T", "T", "b"], Err(TreeFault::IsTotal(1))),
-        (1, 1, ["ab", "b", "ab"], Err(TreeFault::Twice(3))),
-    ] {
-        assert_eq!(rt;
-            agrees(level_shown(alloc, first, second, &codes)?, expected),
-            true,
-            "{first} {second}"
-        );
+    for (first, second, codes, expected) in &LEVEL_CODES {
+        assert!(rt; is_made_by_levels(rt.alloc(), *first, *second, codes, expected)?);
     }
     Ok(())
 }
 
-// `flat`, and then `with_missing`.
-fn completed(
+// Whether `flat` and then `with_missing` make of the codes what is expected.
+fn is_completed(
     alloc: Global,
     codes: &[&str],
     missing: &[&str],
-) -> Result<Result<Vec<u8>, TreeFault>, Fail> {
+    expected: &Expected,
+) -> Result<bool, Fail> {
     let missing = texts(alloc, missing, 9)?;
     if missing.len() > 9 {
         return Err(Fail::new("too many missing codes"));
     }
     let codes = texts(alloc, codes, 9)?;
     let flat = flat(alloc, &codes, &Text::from_slice(alloc, b"T")?);
-    Ok(tree_shown(alloc, completed_by(alloc, flat, &missing)))
+    let made = completed_by(alloc, flat, &missing);
+    Ok(agrees(tree_shown(alloc, made), expected))
 }
 
 // A tree that was made with these missing codes, where there is one.
@@ -209,23 +219,25 @@ fn completed_by(
     with_missing(alloc, tree, missing)
 }
 
+// Codes, missing codes, and what they make.
+const COMPLETED_CODES: [([&str; 2], [&str; 2], Expected); 6] = [
+    (
+        ["b", "a"],
+        ["x", "y"],
+        Ok("T:-01- b:01-2 a:01-3 x:01-4 y:01-- "),
+    ),
+    // a missing code that is there stays where it is
+    (["b", "a"], ["a", "y"], Ok("T:-01- b:01-2 a:01-3 y:01-- ")),
+    (["b", "a"], ["y", "y"], Ok("T:-01- b:01-2 a:01-3 y:01-- ")),
+    (["b", "a"], ["b", "T"], Err(TreeFault::IsTotal(2))),
+    (["b", "T"], ["b", "T"], Err(TreeFault::IsTotal(2))),
+    (["b", "b"], ["T", "T"], Err(TreeFault::Twice(2))),
+];
+
 #[test]
 fn flat_and_missing_codes(rt: HostRuntime) -> Result<(), Fail> {
-    let alloc = rt.alloc();
-    for (codes, missing, expected) in [
-        (
-            ["b", "a"],
-            ["x", "y"],
-            Ok("T:-01- b:01-2 a:01-3 x:01-4 y:01-- "),
-        ),
-        // a missing code that is there stays where it is
-        (["b", "a"], ["a", "y"], Ok("T:-01- b:01-2 a:01-3 y:01-- ")),
-        (["b", "a"], ["y", "y"], Ok("T:-01- b:01-2 a:01-3 y:01-- ")),
-        (["b", "a"], ["b", "T"], Err(TreeFault::IsTotal(2))),
-        (["b", "T"], ["b", "T"], Err(TreeFault::IsTotal(2))),
-        (["b", "b"], ["T", "T"], Err(TreeFault::Twice(2))),
-    ] {
-        assert_eq!(rt; agrees(completed(alloc, &codes, &missing)?, expected), true);
+    for (codes, missing, expected) in &COMPLETED_CODES {
+        assert!(rt; is_completed(rt.alloc(), codes, missing, expected)?);
     }
     Ok(())
 }
@@ -250,6 +262,33 @@ fn joined(alloc: Global, read: Result<Vec<Text>, TreeFault>) -> Result<Vec<u8>, 
     Ok(joined)
 }
 
+// Whether these codes are read of the code list, or this is its fault.
+fn is_list_of(alloc: Global, bytes: &[u8], expected: &Expected) -> Result<bool, Fail> {
+    Ok(agrees(listed(alloc, bytes)?, expected))
+}
+
+// Code lists, and the codes that are read of each.
+const CODE_LISTS: [(&str, Expected); 5] = [
+    ("a,A\nb,B\n", Ok("a|b|")),
+    (" a \t,x\r\nb", Ok("a|b|")),
+    // one pair of quotes is taken off, and the code ends at the first comma
+    (
+        "\"a\",x\n\" b \",x\n\"\"c\"\",x\n\"d,e\",x",
+        Ok("a| b |\"c\"|\"d|"),
+    ),
+    ("\",\n", Ok("\"|")),
+    // an empty code, the total's and a repeated one are passed over
+    ("b,x\n,none\n\nTotal,all\n\"\",x\nb\nc,x", Ok("b|c|")),
+];
+
+#[test]
+fn code_lists(rt: HostRuntime) -> Result<(), Fail> {
+    for (bytes, expected) in &CODE_LISTS {
+        assert!(rt; is_list_of(rt.alloc(), bytes.as_bytes(), expected)?);
+    }
+    Ok(())
+}
+
 // Codes of four digits each, the numbers from the first one on and before the last one, with this byte behind each.
 fn numbered(alloc: Global, first: u32, past: u32, end: u8) -> Result<Vec<u8>, AllocError> {
     let mut lines = Vec::new(alloc);
@@ -263,37 +302,27 @@ fn numbered(alloc: Global, first: u32, past: u32, end: u8) -> Result<Vec<u8>, Al
     Ok(lines)
 }
 
+// Whether all codes before the last one are read of a list of them, from 0001 on.
+fn are_listed(alloc: Global, past: u32) -> Result<bool, Fail> {
+    let lines = numbered(alloc, 1, past, b'\n')?;
+    let read = listed(alloc, lines.as_slice())??;
+    let codes = numbered(alloc, 1, past, b'|')?;
+    Ok(read.as_slice() == codes.as_slice())
+}
+
+// 0001 to 2000, and as many codes as there may be.
 #[test]
-fn code_lists(rt: HostRuntime) -> Result<(), Fail> {
-    let alloc = rt.alloc();
-    for (bytes, expected) in [
-        ("a,A\nb,B\n", Ok("a|b|")),
-        (" a \t,x\r\nb", Ok("a|b|")),
-        // one pair of quotes is taken off, and the code ends at the first comma
-        (
-            "\"a\",x\n\" b \",x\n\"\"c\"\",x\n\"d,e\",x",
-            Ok("a| b |\"c\"|\"d|"),
-        ),
-        ("\",\n", Ok("\"|")),
-        // an empty code, the total's and a repeated one are passed over
-        ("b,x\n,none\n\nTotal,all\n\"\",x\nb\nc,x", Ok("b|c|")),
-    ] {
-        assert_eq!(rt;
-            agrees(listed(alloc, bytes.as_bytes())?, expected),
-            true,
-            "{bytes}"
-        );
-    }
-    // 0001 to 2000, and as many codes as there may be
+fn long_code_lists(rt: HostRuntime) -> Result<(), Fail> {
     for past in [2001, 5001] {
-        let read = listed(alloc, numbered(alloc, 1, past, b'\n')?.as_slice())??;
-        let codes = numbered(alloc, 1, past, b'|')?;
-        assert_eq!(rt; read.as_slice() == codes.as_slice(), true);
+        assert!(rt; are_listed(rt.alloc(), past)?);
     }
-    let more = agrees(
-        listed(alloc, numbered(alloc, 0, 5001, b'\n')?.as_slice())?,
-        Err(TreeFault::TooMany(5001)),
-    );
-    assert_eq!(rt; more, true);
+    Ok(())
+}
+
+#[test]
+fn too_long_code_list(rt: HostRuntime) -> Result<(), Fail> {
+    let lines = numbered(rt.alloc(), 0, 5001, b'\n')?;
+    let expected = Err(TreeFault::TooMany(5001));
+    assert!(rt; is_list_of(rt.alloc(), lines.as_slice(), &expected)?);
     Ok(())
 }

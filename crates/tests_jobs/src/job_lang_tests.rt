@@ -1,3 +1,7 @@
+use JobWhy::{
+    BadLine, BadValue, Missing, NoSuchTable, NoSuchVariable, NoWeight, NotNumeric, NotSpanning,
+    OtherResponse, SameName, TooMany, Twice, UnknownCommand,
+};
 use job_lang::{Command, JobError, JobWhy, OutputLine, bind, metadata_fit, read_job};
 use rda_meta::read_meta;
 use std::alloc::Global;
@@ -19,249 +23,260 @@ fn answer(alloc: Global, text: &[u8]) -> Option<Answer> {
     }
 }
 
+// Jobs, and what reading each gives.
+const WHOLE_JOBS: [(&str, Answer); 16] = [
+    // in any order of the lines, with CR and LF, without the last end
+    (
+        "<CERTIFICATE> \"c\"\r\n<WRITETABLE>(1,\"t\")\r\n<SUPPRESS>mod( )\r\n<SAFETYRULE>p(10)\r\n<SPECIFYTABLE>\"A\"|\"V\"\r\n<OPENMETADATA>\"m\"\r\n<OPENMICRODATA>\"d\"",
+        Ok((1, 1)),
+    ),
+    // two outputs of one name: the earlier line
+    (
+        "<OPENMICRODATA> \"d\"\n<OPENMETADATA> \"m\"\n<SPECIFYTABLE> \"A\"|\"V\"\n<SPECIFYTABLE> \"B\"|\"V\"\n<WRITETABLE> (2,\"t\")\n<WRITETABLE> (1,\"t\")\n",
+        Err((5, SameName)),
+    ),
+    (
+        "<CERTIFICATE> \"t\"\n<SPECIFYTABLE> \"A\"|\"V\"\n<WRITETABLE> (1,\"t\")\n",
+        Err((1, SameName)),
+    ),
+    (
+        "<WRITETABLE> (1,\"d\")\n<SPECIFYTABLE> \"A\"|\"V\"\n<OPENMICRODATA> \"d\"\n",
+        Err((1, SameName)),
+    ),
+    // what is missing
+    ("", Err((0, Missing(Command::OpenMicrodata)))),
+    (
+        "<OPENMICRODATA> \"d\"",
+        Err((0, Missing(Command::OpenMetadata))),
+    ),
+    (
+        "<OPENMICRODATA> \"d\"\n<OPENMETADATA> \"d\"\n",
+        Err((0, Missing(Command::SpecifyTable))),
+    ),
+    (
+        "<OPENMICRODATA> \"d\"\n<OPENMETADATA> \"m\"\n<SPECIFYTABLE> \"A\"|\"V\"",
+        Err((0, Missing(Command::SafetyRule))),
+    ),
+    (
+        "<OPENMICRODATA> \"d\"\n<OPENMETADATA> \"m\"\n<SPECIFYTABLE> \"A\"|\"V\"\n<SAFETYRULE> P(1)",
+        Err((0, Missing(Command::Suppress))),
+    ),
+    (
+        "<OPENMICRODATA> \"d\"\n<OPENMETADATA> \"m\"\n<SPECIFYTABLE> \"A\"|\"V\"\n<SAFETYRULE> P(1)\n<SUPPRESS> GH(8)",
+        Err((0, Missing(Command::WriteTable))),
+    ),
+    (
+        "<OPENMICRODATA> \"d\"\n<OPENMETADATA> \"m\"\n<SPECIFYTABLE> \"A\"|\"V\"\n<SAFETYRULE> P(1)\n<SUPPRESS> RND(1000000000)\n<WRITETABLE> (1,\"t\")",
+        Err((0, Missing(Command::Certificate))),
+    ),
+    // eight different variables, and one more
+    (
+        "<SPECIFYTABLE> \"A\"\"B\"\"C\"\"D\"|\"V\"\n<SPECIFYTABLE> \"E\"\"F\"\"G\"\"H\"|\"V\"\n<SPECIFYTABLE> \"A\"\"H\"|\"V\"",
+        Err((0, Missing(Command::OpenMicrodata))),
+    ),
+    (
+        "<SPECIFYTABLE> \"A\"\"B\"\"C\"\"D\"|\"V\"\n<SPECIFYTABLE> \"E\"\"F\"\"G\"\"H\"|\"V\"\n<SPECIFYTABLE> \"I\"|\"W\"\nx",
+        Err((3, TooMany)),
+    ),
+    (
+        "<SPECIFYTABLE> \"A\"|\"V\"\n<SPECIFYTABLE> \"B\"|\"v\"\nx",
+        Err((2, OtherResponse)),
+    ),
+    // eight tables, and one more
+    (
+        "<SPECIFYTABLE>\"A\"|\"V\"\n<SPECIFYTABLE>\"A\"|\"V\"\n<SPECIFYTABLE>\"A\"|\"V\"\n<SPECIFYTABLE>\"A\"|\"V\"\n<SPECIFYTABLE>\"A\"|\"V\"\n<SPECIFYTABLE>\"A\"|\"V\"\n<SPECIFYTABLE>\"A\"|\"V\"\n<SPECIFYTABLE>\"A\"|\"V\"\nx",
+        Err((9, BadLine)),
+    ),
+    (
+        "<SPECIFYTABLE>\"A\"|\"V\"\n<SPECIFYTABLE>\"A\"|\"V\"\n<SPECIFYTABLE>\"A\"|\"V\"\n<SPECIFYTABLE>\"A\"|\"V\"\n<SPECIFYTABLE>\"A\"|\"V\"\n<SPECIFYTABLE>\"A\"|\"V\"\n<SPECIFYTABLE>\"A\"|\"V\"\n<SPECIFYTABLE>\"A\"|\"V\"\n<SPECIFYTABLE>\"A\"|\"V\"\n",
+        Err((9, TooMany)),
+    ),
+];
+
 #[test]
 fn whole_jobs(rt: HostRuntime) {
-    use JobWhy::{BadLine, Missing, OtherResponse, SameName, TooMany};
-    let rows = [
-        // in any order of the lines, with CR and LF, without the last end
-        (
-            "<CERTIFICATE> \"c\"\r\n<WRITETABLE>(1,\"t\")\r\n<SUPPRESS>mod( )\r\n<SAFETYRULE>p(10)\r\n<SPECIFYTABLE>\"A\"|\"V\"\r\n<OPENMETADATA>\"m\"\r\n<OPENMICRODATA>\"d\"",
-            Ok((1, 1)),
-        ),
-        // two outputs of one name: the earlier line
-        (
-            "<OPENMICRODATA> \"d\"\n<OPENMETADATA> \"m\"\n<SPECIFYTABLE> \"A\"|\"V\"\n<SPECIFYTABLE> \"B\"|\"V\"\n<WRITETABLE> (2,\"t\")\n<WRITETABLE> (1,\"t\")\n",
-            Err((5, SameName)),
-        ),
-        (
-            "<CERTIFICATE> \"t\"\n<SPECIFYTABLE> \"A\"|\"V\"\n<WRITETABLE> (1,\"t\")\n",
-            Err((1, SameName)),
-        ),
-        (
-            "<WRITETABLE> (1,\"d\")\n<SPECIFYTABLE> \"A\"|\"V\"\n<OPENMICRODATA> \"d\"\n",
-            Err((1, SameName)),
-        ),
-        // what is missing
-        ("", Err((0, Missing(Command::OpenMicrodata)))),
-        (
-            "<OPENMICRODATA> \"d\"",
-            Err((0, Missing(Command::OpenMetadata))),
-        ),
-        (
-            "<OPENMICRODATA> \"d\"\n<OPENMETADATA> \"d\"\n",
-            Err((0, Missing(Command::SpecifyTable))),
-        ),
-        (
-            "<OPENMICRODATA> \"d\"\n<OPENMETADATA> \"m\"\n<SPECIFYTABLE> \"A\"|\"V\"",
-            Err((0, Missing(Command::SafetyRule))),
-        ),
-        (
-            "<OPENMICRODATA> \"d\"\n<OPENMETADATA> \"m\"\n<SPECIFYTABLE> \"A\"|\"V\"\n<SAFETYRULE> P(1)",
-            Err((0, Missing(Command::Suppress))),
-        ),
-        (
-            "<OPENMICRODATA> \"d\"\n<OPENMETADATA> \"m\"\n<SPECIFYTABLE> \"A\"|\"V\"\n<SAFETYRULE> P(1)\n<SUPPRESS> GH(8)",
-            Err((0, Missing(Command::WriteTable))),
-        ),
-        (
-            "<OPENMICRODATA> \"d\"\n<OPENMETADATA> \"m\"\n<SPECIFYTABLE> \"A\"|\"V\"\n<SAFETYRULE> P(1)\n<SUPPRESS> RND(1000000000)\n<WRITETABLE> (1,\"t\")",
-            Err((0, Missing(Command::Certificate))),
-        ),
-        // eight different variables, and one more
-        (
-            "<SPECIFYTABLE> \"A\"\"B\"\"C\"\"D\"|\"V\"\n<SPECIFYTABLE> \"E\"\"F\"\"G\"\"H\"|\"V\"\n<SPECIFYTABLE> \"A\"\"H\"|\"V\"",
-            Err((0, Missing(Command::OpenMicrodata))),
-        ),
-        (
-            "<SPECIFYTABLE> \"A\"\"B\"\"C\"\"D\"|\"V\"\n<SPECIFYTABLE> \"E\"\"F\"\"G\"\"H\"|\"V\"\n<SPECIFYTABLE> \"I\"|\"W\"\nx",
-            Err((3, TooMany)),
-        ),
-        (
-            "<SPECIFYTABLE> \"A\"|\"V\"\n<SPECIFYTABLE> \"B\"|\"v\"\nx",
-            Err((2, OtherResponse)),
-        ),
-        // eight tables, and one more
-        (
-            "<SPECIFYTABLE>\"A\"|\"V\"\n<SPECIFYTABLE>\"A\"|\"V\"\n<SPECIFYTABLE>\"A\"|\"V\"\n<SPECIFYTABLE>\"A\"|\"V\"\n<SPECIFYTABLE>\"A\"|\"V\"\n<SPECIFYTABLE>\"A\"|\"V\"\n<SPECIFYTABLE>\"A\"|\"V\"\n<SPECIFYTABLE>\"A\"|\"V\"\nx",
-            Err((9, BadLine)),
-        ),
-        (
-            "<SPECIFYTABLE>\"A\"|\"V\"\n<SPECIFYTABLE>\"A\"|\"V\"\n<SPECIFYTABLE>\"A\"|\"V\"\n<SPECIFYTABLE>\"A\"|\"V\"\n<SPECIFYTABLE>\"A\"|\"V\"\n<SPECIFYTABLE>\"A\"|\"V\"\n<SPECIFYTABLE>\"A\"|\"V\"\n<SPECIFYTABLE>\"A\"|\"V\"\n<SPECIFYTABLE>\"A\"|\"V\"\n",
-            Err((9, TooMany)),
-        ),
-    ];
-    for (text, expected) in &rows {
-        let found = answer(rt.alloc(), text.as_bytes());
-        assert_eq!(rt; found, Some(*expected));
+    for (text, expected) in &WHOLE_JOBS {
+        assert_eq!(rt; answer(rt.alloc(), text.as_bytes()), Some(*expected));
+    }
+}
+
+// Rules, and whether they are accepted.
+const RULES: [(&str, bool); 51] = [
+    ("FREQ(1,0)", true),
+    ("FREQ(1000000,1000)", true),
+    ("FREQ(0,30)", false),
+    ("FREQ(1000001,30)", false),
+    ("FREQ(3,1001)", false),
+    ("NK(1,1)", true),
+    ("NK(10,100)", true),
+    ("NK(0,1)", false),
+    ("NK(11,1)", false),
+    ("NK(1,0)", false),
+    ("NK(1,101)", false),
+    ("P(0)", false),
+    ("P(1)", true),
+    ("P(1000)", true),
+    ("P(1001)", false),
+    ("P(10,1)", true),
+    ("P(10,2)", false),
+    ("P(10,)", false),
+    ("PQ(1,1)", true),
+    ("PQ(1000,1000)", true),
+    ("pq ( 011 , 100 )", true),
+    ("PQ(0,1)", false),
+    ("PQ(1,0)", false),
+    ("PQ(1001,1)", false),
+    ("PQ(1,1001)", false),
+    ("PQ(10)", false),
+    ("PQ(10,100)|PQ(1,2)", true),
+    ("ZERO(1)", true),
+    ("Zero(1000000000)", true),
+    ("ZERO(0)", false),
+    ("ZERO(1000000001)", false),
+    ("ZERO(1,1)", false),
+    ("ZERO(5)|ZERO(5)", false),
+    ("ZERO(5)|FREQ(3,30)|MAN(20)|WGT(1)", true),
+    ("ZERO(5)|P(1)|P(1)|P(1)|P(1)|P(1)|P(1)|PQ(1,1)", true),
+    ("ZERO(5)|P(1)|P(1)|P(1)|P(1)|P(1)|P(1)|P(1)|PQ(1,1)", false),
+    ("P(1)|MAN(0)", true),
+    ("P(1)|MAN(1001)", false),
+    ("P(1)|MAN(1)|MAN(1)", false),
+    ("MAN(20)", false),
+    ("P(1)|WGT(1)", true),
+    ("P(1)|WGT(2)", false),
+    ("P(1)|WGT(0)|WGT(1)", false),
+    ("FREQ(3,30)|FREQ(3,30)", false),
+    ("freq ( 003 , 30 ) | wgt ( 1 )", true),
+    ("P(1)|P(1)|P(1)|P(1)|P(1)|P(1)|P(1)|P(1)", true),
+    ("P(1)|P(1)|P(1)|P(1)|P(1)|P(1)|P(1)|P(1)|P(1)", false),
+    ("P(1)|", false),
+    ("P(1) P(2)", false),
+    ("P 1", false),
+    ("", false),
+];
+
+// Whether the rules are accepted, as the line of them alone shows; nothing where it shows something else.
+fn are_rules(alloc: Global, rules: &str) -> Result<Option<bool>, Fail> {
+    let text = format!(in alloc; "<SAFETYRULE> {rules}\n")?;
+    match answer(alloc, text.as_bytes()) {
+        Some(Err((0, Missing(Command::OpenMicrodata)))) => Ok(Some(true)),
+        Some(Err((1, BadValue))) => Ok(Some(false)),
+        _ => Ok(None),
     }
 }
 
 #[test]
 fn rules_and_their_bounds(rt: HostRuntime) -> Result<(), Fail> {
-    let rows = [
-        ("FREQ(1,0)", true),
-        ("FREQ(1000000,1000)", true),
-        ("FREQ(0,30)", false),
-        ("FREQ(1000001,30)", false),
-        ("FREQ(3,1001)", false),
-        ("NK(1,1)", true),
-        ("NK(10,100)", true),
-        ("NK(0,1)", false),
-        ("NK(11,1)", false),
-        ("NK(1,0)", false),
-        ("NK(1,101)", false),
-        ("P(0)", false),
-        ("P(1)", true),
-        ("P(1000)", true),
-        ("P(1001)", false),
-        ("P(10,1)", true),
-        ("P(10,2)", false),
-        ("P(10,)", false),
-        ("PQ(1,1)", true),
-        ("PQ(1000,1000)", true),
-        ("pq ( 011 , 100 )", true),
-        ("PQ(0,1)", false),
-        ("PQ(1,0)", false),
-        ("PQ(1001,1)", false),
-        ("PQ(1,1001)", false),
-        ("PQ(10)", false),
-        ("PQ(10,100)|PQ(1,2)", true),
-        ("ZERO(1)", true),
-        ("Zero(1000000000)", true),
-        ("ZERO(0)", false),
-        ("ZERO(1000000001)", false),
-        ("ZERO(1,1)", false),
-        ("ZERO(5)|ZERO(5)", false),
-        ("ZERO(5)|FREQ(3,30)|MAN(20)|WGT(1)", true),
-        ("ZERO(5)|P(1)|P(1)|P(1)|P(1)|P(1)|P(1)|PQ(1,1)", true),
-        ("ZERO(5)|P(1)|P(1)|P(1)|P(1)|P(1)|P(1)|P(1)|PQ(1,1)", false),
-        ("P(1)|MAN(0)", true),
-        ("P(1)|MAN(1001)", false),
-        ("P(1)|MAN(1)|MAN(1)", false),
-        ("MAN(20)", false),
-        ("P(1)|WGT(1)", true),
-        ("P(1)|WGT(2)", false),
-        ("P(1)|WGT(0)|WGT(1)", false),
-        ("FREQ(3,30)|FREQ(3,30)", false),
-        ("freq ( 003 , 30 ) | wgt ( 1 )", true),
-        ("P(1)|P(1)|P(1)|P(1)|P(1)|P(1)|P(1)|P(1)", true),
-        ("P(1)|P(1)|P(1)|P(1)|P(1)|P(1)|P(1)|P(1)|P(1)", false),
-        ("P(1)|", false),
-        ("P(1) P(2)", false),
-        ("P 1", false),
-        ("", false),
-    ];
-    for (rules, accepted) in &rows {
-        let text = format!(in rt.alloc(); "<SAFETYRULE> {rules}\n")?;
-        let expected = if *accepted {
-            Err((0, JobWhy::Missing(Command::OpenMicrodata)))
-        } else {
-            Err((1, JobWhy::BadValue))
-        };
-        let found = answer(rt.alloc(), text.as_bytes());
-        assert_eq!(rt; found, Some(expected));
+    for (rules, accepted) in &RULES {
+        assert_eq!(rt; are_rules(rt.alloc(), rules)?, Some(*accepted));
     }
     Ok(())
 }
 
+// Lines behind the eight of a job, and what reading them all gives.
+const NINTH_LINES: [(&str, Answer); 63] = [
+    (" \t", Ok((1, 1))),
+    ("  // <x", Ok((1, 1))),
+    ("/ x", Err((9, BadLine))),
+    ("STEPS 1", Err((9, BadLine))),
+    ("<STEPS 1", Err((9, BadLine))),
+    ("<>", Err((9, BadLine))),
+    ("< STEPS> 1", Err((9, UnknownCommand))),
+    ("<RECODE> \"A\"", Err((9, UnknownCommand))),
+    ("<steps>001", Ok((1, 1))),
+    ("<STEPS> 0", Err((9, BadValue))),
+    ("<STEPS> 1000000000000", Ok((1, 1))),
+    ("<STEPS> 1000000000001", Err((9, BadValue))),
+    ("<NODES> 1 1", Err((9, BadValue))),
+    ("<NODES> -1", Err((9, BadValue))),
+    ("<COST> unit", Ok((1, 1))),
+    ("<COST> price", Err((9, BadValue))),
+    ("<OPENMICRODATA> \"x\"", Err((9, Twice))),
+    ("<OPENMICRODATA> x", Err((9, BadValue))),
+    ("<OPENMETADATA> \"x\"", Err((9, Twice))),
+    ("<OPENMETADATA> \"\"", Err((9, BadValue))),
+    ("<SAFETYRULE> P(1)", Err((9, Twice))),
+    ("<READMICRODATA>", Err((9, Twice))),
+    ("<READMICRODATA> x", Err((9, BadValue))),
+    ("<SUPPRESS> GH(1)", Err((9, Twice))),
+    ("<SUPPRESS> GH(9)", Err((9, BadValue))),
+    ("<SUPPRESS> RND(0)", Err((9, BadValue))),
+    ("<SUPPRESS> OPT(1)", Err((9, BadValue))),
+    ("<CERTIFICATE> \"c\"", Err((9, Twice))),
+    ("<CONTRIBUTORS> \"g\"", Ok((1, 1))),
+    ("<contributors>\"g\" ", Ok((1, 1))),
+    ("<CONTRIBUTORS>", Err((9, BadValue))),
+    ("<CONTRIBUTORS> g", Err((9, BadValue))),
+    ("<CONTRIBUTORS> \"\"", Err((9, BadValue))),
+    ("<CONTRIBUTORS> \"g\" \"h\"", Err((9, BadValue))),
+    ("<CONTRIBUTOR> \"g\"", Err((9, UnknownCommand))),
+    (
+        "<CONTRIBUTORS> \"g\"\n<CONTRIBUTORS> \"g\"",
+        Err((10, Twice)),
+    ),
+    ("<CONTRIBUTORS> \"m.asc\"", Err((9, SameName))),
+    ("<CONTRIBUTORS> \"t.csv\"", Err((7, SameName))),
+    ("<CONTRIBUTORS> \"t.cert\"", Err((8, SameName))),
+    ("<WRITETABLE> (01,\"u\")", Err((9, Twice))),
+    ("<WRITETABLE> (2,\"u\")", Err((9, NoSuchTable))),
+    ("<WRITETABLE> (0,\"u\")", Err((9, NoSuchTable))),
+    (
+        "<WRITETABLE> (99999999999999999999,\"u\")",
+        Err((9, NoSuchTable)),
+    ),
+    ("<APRIORI> \"p\",1,\",\"", Ok((1, 1))),
+    ("<APRIORI> \"p\" , 1 , \";\"", Ok((1, 1))),
+    ("<APRIORI> \"p\",1,\"\t\"", Err((9, BadValue))),
+    ("<APRIORI> \"p\",1,\"'\"", Ok((1, 1))),
+    ("<APRIORI> \"p\",1,\"5\"", Err((9, BadValue))),
+    ("<APRIORI> \"p\",1,\".\"", Err((9, BadValue))),
+    ("<APRIORI> \"p\",1,\" \"", Err((9, BadValue))),
+    ("<APRIORI> \"p\",1,\";;\"", Err((9, BadValue))),
+    ("<APRIORI> \"p\",2,\",\"", Err((9, NoSuchTable))),
+    ("<APRIORI> \"t.csv\",1,\",\"", Err((7, SameName))),
+    ("<APRIORI> \"t.cert\",1,\",\"", Err((8, SameName))),
+    ("<SPECIFYTABLE> \"B\"|\"W\"", Err((9, OtherResponse))),
+    (
+        "<SPECIFYTABLE> \"B\"|\"V\"",
+        Err((0, Missing(Command::WriteTable))),
+    ),
+    (
+        "<SPECIFYTABLE> \"B\"\"C\"\"D\"\"E\"\"F\"\"G\"|\"V\"|\"V\"|\"\"||",
+        Err((0, Missing(Command::WriteTable))),
+    ),
+    ("<SPECIFYTABLE> \"B\"|\"V\"|\"B\"", Err((9, BadValue))),
+    ("<SPECIFYTABLE> \"B\"|\"V\"||\"V\"", Err((9, BadValue))),
+    ("<SPECIFYTABLE> \"B\"|\"V\" \"\"", Err((9, BadValue))),
+    ("<SPECIFYTABLE> \"B\"\"C\"\"B\"|\"V\"", Err((9, BadValue))),
+    (
+        "<SPECIFYTABLE> \"B\"\"C\"\"D\"\"E\"\"F\"\"G\"\"H\"|\"V\"",
+        Err((9, BadValue)),
+    ),
+    ("<SPECIFYTABLE> |\"V\"", Err((9, BadValue))),
+];
+
+// What reading a job of eight lines gives with these behind them.
+fn answer_behind_eight(alloc: Global, lines: &str) -> Result<Option<Answer>, Fail> {
+    let text = format!(in alloc;
+        "<OPENMICRODATA> \"m.asc\"\n<OPENMETADATA> \"m.rda\"\n<SPECIFYTABLE> \"A\"|\"V\"\n<SAFETYRULE> FREQ(3,30)\n<READMICRODATA>\n<SUPPRESS> MOD()\n<WRITETABLE> (1,\"t.csv\")\n<CERTIFICATE> \"t.cert\"\n{lines}\n"
+    )?;
+    Ok(answer(alloc, text.as_bytes()))
+}
+
 #[test]
 fn a_ninth_line(rt: HostRuntime) -> Result<(), Fail> {
-    use JobWhy::{
-        BadLine, BadValue, Missing, NoSuchTable, OtherResponse, SameName, Twice, UnknownCommand,
-    };
-    let rows = [
-        (" \t", Ok((1, 1))),
-        ("  // <x", Ok((1, 1))),
-        ("/ x", Err((9, BadLine))),
-        ("STEPS 1", Err((9, BadLine))),
-        ("<STEPS 1", Err((9, BadLine))),
-        ("<>", Err((9, BadLine))),
-        ("< STEPS> 1", Err((9, UnknownCommand))),
-        ("<RECODE> \"A\"", Err((9, UnknownCommand))),
-        ("<steps>001", Ok((1, 1))),
-        ("<STEPS> 0", Err((9, BadValue))),
-        ("<STEPS> 1000000000000", Ok((1, 1))),
-        ("<STEPS> 1000000000001", Err((9, BadValue))),
-        ("<NODES> 1 1", Err((9, BadValue))),
-        ("<NODES> -1", Err((9, BadValue))),
-        ("<COST> unit", Ok((1, 1))),
-        ("<COST> price", Err((9, BadValue))),
-        ("<OPENMICRODATA> \"x\"", Err((9, Twice))),
-        ("<OPENMICRODATA> x", Err((9, BadValue))),
-        ("<OPENMETADATA> \"x\"", Err((9, Twice))),
-        ("<OPENMETADATA> \"\"", Err((9, BadValue))),
-        ("<SAFETYRULE> P(1)", Err((9, Twice))),
-        ("<READMICRODATA>", Err((9, Twice))),
-        ("<READMICRODATA> x", Err((9, BadValue))),
-        ("<SUPPRESS> GH(1)", Err((9, Twice))),
-        ("<SUPPRESS> GH(9)", Err((9, BadValue))),
-        ("<SUPPRESS> RND(0)", Err((9, BadValue))),
-        ("<SUPPRESS> OPT(1)", Err((9, BadValue))),
-        ("<CERTIFICATE> \"c\"", Err((9, Twice))),
-        ("<CONTRIBUTORS> \"g\"", Ok((1, 1))),
-        ("<contributors>\"g\" ", Ok((1, 1))),
-        ("<CONTRIBUTORS>", Err((9, BadValue))),
-        ("<CONTRIBUTORS> g", Err((9, BadValue))),
-        ("<CONTRIBUTORS> \"\"", Err((9, BadValue))),
-        ("<CONTRIBUTORS> \"g\" \"h\"", Err((9, BadValue))),
-        ("<CONTRIBUTOR> \"g\"", Err((9, UnknownCommand))),
-        (
-            "<CONTRIBUTORS> \"g\"\n<CONTRIBUTORS> \"g\"",
-            Err((10, Twice)),
-        ),
-        ("<CONTRIBUTORS> \"m.asc\"", Err((9, SameName))),
-        ("<CONTRIBUTORS> \"t.csv\"", Err((7, SameName))),
-        ("<CONTRIBUTORS> \"t.cert\"", Err((8, SameName))),
-        ("<WRITETABLE> (01,\"u\")", Err((9, Twice))),
-        ("<WRITETABLE> (2,\"u\")", Err((9, NoSuchTable))),
-        ("<WRITETABLE> (0,\"u\")", Err((9, NoSuchTable))),
-        (
-            "<WRITETABLE> (99999999999999999999,\"u\")",
-            Err((9, NoSuchTable)),
-        ),
-        ("<APRIORI> \"p\",1,\",\"", Ok((1, 1))),
-        ("<APRIORI> \"p\" , 1 , \";\"", Ok((1, 1))),
-        ("<APRIORI> \"p\",1,\"\t\"", Err((9, BadValue))),
-        ("<APRIORI> \"p\",1,\"'\"", Ok((1, 1))),
-        ("<APRIORI> \"p\",1,\"5\"", Err((9, BadValue))),
-        ("<APRIORI> \"p\",1,\".\"", Err((9, BadValue))),
-        ("<APRIORI> \"p\",1,\" \"", Err((9, BadValue))),
-        ("<APRIORI> \"p\",1,\";;\"", Err((9, BadValue))),
-        ("<APRIORI> \"p\",2,\",\"", Err((9, NoSuchTable))),
-        ("<APRIORI> \"t.csv\",1,\",\"", Err((7, SameName))),
-        ("<APRIORI> \"t.cert\",1,\",\"", Err((8, SameName))),
-        ("<SPECIFYTABLE> \"B\"|\"W\"", Err((9, OtherResponse))),
-        (
-            "<SPECIFYTABLE> \"B\"|\"V\"",
-            Err((0, Missing(Command::WriteTable))),
-        ),
-        (
-            "<SPECIFYTABLE> \"B\"\"C\"\"D\"\"E\"\"F\"\"G\"|\"V\"|\"V\"|\"\"||",
-            Err((0, Missing(Command::WriteTable))),
-        ),
-        ("<SPECIFYTABLE> \"B\"|\"V\"|\"B\"", Err((9, BadValue))),
-        ("<SPECIFYTABLE> \"B\"|\"V\"||\"V\"", Err((9, BadValue))),
-        ("<SPECIFYTABLE> \"B\"|\"V\" \"\"", Err((9, BadValue))),
-        ("<SPECIFYTABLE> \"B\"\"C\"\"B\"|\"V\"", Err((9, BadValue))),
-        (
-            "<SPECIFYTABLE> \"B\"\"C\"\"D\"\"E\"\"F\"\"G\"\"H\"|\"V\"",
-            Err((9, BadValue)),
-        ),
-        ("<SPECIFYTABLE> |\"V\"", Err((9, BadValue))),
-    ];
-    for (line, expected) in &rows {
-        let text = format!(in rt.alloc();
-            "<OPENMICRODATA> \"m.asc\"\n<OPENMETADATA> \"m.rda\"\n<SPECIFYTABLE> \"A\"|\"V\"\n<SAFETYRULE> FREQ(3,30)\n<READMICRODATA>\n<SUPPRESS> MOD()\n<WRITETABLE> (1,\"t.csv\")\n<CERTIFICATE> \"t.cert\"\n{line}\n"
-        )?;
-        let found = answer(rt.alloc(), text.as_bytes());
-        assert_eq!(rt; found, Some(*expected));
+    for (line, expected) in &NINTH_LINES {
+        assert_eq!(rt; answer_behind_eight(rt.alloc(), line)?, Some(*expected));
     }
     Ok(())
 }
 
 // The line of a job's contributors' file, where the job names `g.txt`; or the line of its first fault and what is wrong
-// with it. Nothing where memory wants or the file has another name.
-fn contributors_of(alloc: Global, text: &[u8]) -> Option<Result<Option<u32>, (u32, JobWhy)>> {
+// with it.
+type Contributors = Result<Option<u32>, (u32, JobWhy)>;
+
+// What the text says of its contributors' file; nothing where memory wants or the file has another name than `g.txt`.
+fn contributors_of(alloc: Global, text: &[u8]) -> Option<Contributors> {
     if text.len() > 10000 {
         return None;
     }
@@ -286,40 +301,52 @@ fn named_line(contributors: &Option<OutputLine>) -> Option<Option<u32>> {
     }
 }
 
+// Methods, lines behind the eight of a job, and what these say of its contributors' file.
+const CONTRIBUTORS_BY_METHOD: [(&str, &str, Contributors); 9] = [
+    ("MOD()", "", Ok(None)),
+    ("MOD()", "<CONTRIBUTORS> \"g.txt\"", Ok(Some(9))),
+    ("GH(1)", "\n <contributors>\"g.txt\"", Ok(Some(10))),
+    (
+        "MOD()",
+        "<CONTRIBUTORS> \"g.txt\"\n<WRITETABLE> (2,\"u\")",
+        Err((10, NoSuchTable)),
+    ),
+    ("RND(5)", "", Ok(None)),
+    ("RND(5)", "<CONTRIBUTORS> \"g.txt\"", Err((9, BadValue))),
+    // before the number of no table on a line above it, and before its own name meets another
+    (
+        "RND(5)",
+        "<WRITETABLE> (2,\"u\")\n<CONTRIBUTORS> \"g.txt\"",
+        Err((10, BadValue)),
+    ),
+    ("RND(5)", "<CONTRIBUTORS> \"m.asc\"", Err((9, BadValue))),
+    // behind the fault of a line below it
+    (
+        "RND(5)",
+        "<CONTRIBUTORS> \"g.txt\"\n<RECODE> \"A\"",
+        Err((10, UnknownCommand)),
+    ),
+];
+
+// What a job of eight lines with this method says of its contributors' file, with these lines behind them.
+fn contributors_behind_eight(
+    alloc: Global,
+    method: &str,
+    lines: &str,
+) -> Result<Option<Contributors>, Fail> {
+    let text = format!(in alloc;
+        "<OPENMICRODATA> \"m.asc\"\n<OPENMETADATA> \"m.rda\"\n<SPECIFYTABLE> \"A\"|\"V\"\n<SAFETYRULE> FREQ(3,30)\n<READMICRODATA>\n<SUPPRESS> {method}\n<WRITETABLE> (1,\"t.csv\")\n<CERTIFICATE> \"t.cert\"\n{lines}\n"
+    )?;
+    Ok(contributors_of(alloc, text.as_bytes()))
+}
+
 #[test]
 fn contributors_by_method(rt: HostRuntime) -> Result<(), Fail> {
-    use JobWhy::{BadValue, NoSuchTable, UnknownCommand};
-    let rows = [
-        ("MOD()", "", Ok(None)),
-        ("MOD()", "<CONTRIBUTORS> \"g.txt\"", Ok(Some(9))),
-        ("GH(1)", "\n <contributors>\"g.txt\"", Ok(Some(10))),
-        (
-            "MOD()",
-            "<CONTRIBUTORS> \"g.txt\"\n<WRITETABLE> (2,\"u\")",
-            Err((10, NoSuchTable)),
-        ),
-        ("RND(5)", "", Ok(None)),
-        ("RND(5)", "<CONTRIBUTORS> \"g.txt\"", Err((9, BadValue))),
-        // before the number of no table on a line above it, and before its own name meets another
-        (
-            "RND(5)",
-            "<WRITETABLE> (2,\"u\")\n<CONTRIBUTORS> \"g.txt\"",
-            Err((10, BadValue)),
-        ),
-        ("RND(5)", "<CONTRIBUTORS> \"m.asc\"", Err((9, BadValue))),
-        // behind the fault of a line below it
-        (
-            "RND(5)",
-            "<CONTRIBUTORS> \"g.txt\"\n<RECODE> \"A\"",
-            Err((10, UnknownCommand)),
-        ),
-    ];
-    for (method, lines, expected) in &rows {
-        let text = format!(in rt.alloc();
-            "<OPENMICRODATA> \"m.asc\"\n<OPENMETADATA> \"m.rda\"\n<SPECIFYTABLE> \"A\"|\"V\"\n<SAFETYRULE> FREQ(3,30)\n<READMICRODATA>\n<SUPPRESS> {method}\n<WRITETABLE> (1,\"t.csv\")\n<CERTIFICATE> \"t.cert\"\n{lines}\n"
-        )?;
-        let found = contributors_of(rt.alloc(), text.as_bytes());
-        assert_eq!(rt; found, Some(*expected));
+    for (method, lines, expected) in &CONTRIBUTORS_BY_METHOD {
+        assert_eq!(rt;
+            contributors_behind_eight(rt.alloc(), method, lines)?,
+            Some(*expected)
+        );
     }
     Ok(())
 }
@@ -352,83 +379,92 @@ fn places(alloc: Global, job: &[u8], meta: &[u8]) -> Option<Places> {
     }
 }
 
+// A job of one variable.
+const FLAT: &str =
+    "<OPENMICRODATA> \"m.asc\"\n<OPENMETADATA> \"m.rda\"\n<SPECIFYTABLE> \"A\"|\"V\"\n<SAFETYRULE> FREQ(3,30)\n<SUPPRESS> MOD()\n<WRITETABLE> (1,\"t.csv\")\n<CERTIFICATE> \"t.cert\"\n";
+
+// The same with a contributors' file, in its first line.
+const GUARDED: &str =
+    "<CONTRIBUTORS> \"g.txt\"\n<OPENMICRODATA> \"m.asc\"\n<OPENMETADATA> \"m.rda\"\n<SPECIFYTABLE> \"A\"|\"V\"\n<SAFETYRULE> FREQ(3,30)\n<SUPPRESS> MOD()\n<WRITETABLE> (1,\"t.csv\")\n<CERTIFICATE> \"t.cert\"\n";
+
+// A job of two variables whose records have weights.
+const WEIGHTED: &str =
+    "<WRITETABLE> (1,\"t.csv\")\n<SAFETYRULE> P(10)|WGT(1)\n<OPENMICRODATA> \"m.asc\"\n<OPENMETADATA> \"m.rda\"\n<SPECIFYTABLE> \"B\"\"A\"|\"V\"\n<SUPPRESS> MOD()\n<CERTIFICATE> \"t.cert\"\n";
+
+// Jobs, metadata, and what binding the one to the other gives.
+const BOUND_JOBS: [(&str, &str, Places); 16] = [
+    (FLAT, "A 1 1\nV 2 3\n<NUMERIC>\n", Ok((1, 1, 0, 1))),
+    (
+        FLAT,
+        "V 2 3\n<NUMERIC>\n<DECIMALS> 2\nW 5 1\n<WEIGHT>\n<DECIMALS> 3\nA 1 1\n",
+        Ok((1, 0, 2, 1)),
+    ),
+    (FLAT, "a 1 1\nV 2 3\n<NUMERIC>\n", Err((3, NoSuchVariable))),
+    (
+        FLAT,
+        "A 1 1\n<NUMERIC>\nW 2 3\n<NUMERIC>\n",
+        Err((3, NoSuchVariable)),
+    ),
+    (FLAT, "A 1 1\n<NUMERIC>\nV 2 3\n", Err((3, NotSpanning))),
+    (FLAT, "A 1 1\nV 2 3\n", Err((3, NotNumeric))),
+    (
+        FLAT,
+        "A 1 1\n<CODELIST> t.csv\nV 2 3\n<NUMERIC>\n",
+        Err((6, SameName)),
+    ),
+    (
+        FLAT,
+        "A 1 1\n<HIERCODELIST> t.cert\nV 2 3\n<NUMERIC>\n",
+        Err((7, SameName)),
+    ),
+    (
+        FLAT,
+        "A 1 1\nB 1 1\n<CODELIST> t.csv\nV 2 3\n<NUMERIC>\n<CODELIST> t.csv\n",
+        Ok((1, 2, 0, 1)),
+    ),
+    (
+        GUARDED,
+        "A 1 1\n<CODELIST> c.txt\nV 2 3\n<NUMERIC>\n<CODELIST> g.txt\n",
+        Ok((1, 1, 0, 1)),
+    ),
+    (
+        GUARDED,
+        "A 1 1\n<CODELIST> g.txt\nV 2 3\n<NUMERIC>\n",
+        Err((1, SameName)),
+    ),
+    (
+        GUARDED,
+        "A 1 1\n<HIERCODELIST> g.txt\nV 2 3\n",
+        Err((1, SameName)),
+    ),
+    (
+        WEIGHTED,
+        "A 1 1\nB 1 1\nV 2 3\n<NUMERIC>\n",
+        Err((2, NoWeight)),
+    ),
+    (
+        WEIGHTED,
+        "A 1 1\n<CODELIST> t.csv\nB 1 1\nV 2 3\n<NUMERIC>\n",
+        Err((1, SameName)),
+    ),
+    (
+        WEIGHTED,
+        "A 1 1\nC 1 1\nV 2 3\n<NUMERIC>\nW 5 3\n<WEIGHT>\n",
+        Err((5, NoSuchVariable)),
+    ),
+    (
+        WEIGHTED,
+        "A 1 1\nB 1 1\nV 2 3\n<NUMERIC>\n<DECIMALS> 1\nW 5 3\n<WEIGHT>\n<DECIMALS> 2\n",
+        Ok((2, 2, 3, 100)),
+    ),
+];
+
 #[test]
 fn jobs_bound_to_metadata(rt: HostRuntime) {
-    use JobWhy::{NoSuchVariable, NoWeight, NotNumeric, NotSpanning, SameName};
-    let flat =
-        "<OPENMICRODATA> \"m.asc\"\n<OPENMETADATA> \"m.rda\"\n<SPECIFYTABLE> \"A\"|\"V\"\n<SAFETYRULE> FREQ(3,30)\n<SUPPRESS> MOD()\n<WRITETABLE> (1,\"t.csv\")\n<CERTIFICATE> \"t.cert\"\n";
-    let guarded =
-        "<CONTRIBUTORS> \"g.txt\"\n<OPENMICRODATA> \"m.asc\"\n<OPENMETADATA> \"m.rda\"\n<SPECIFYTABLE> \"A\"|\"V\"\n<SAFETYRULE> FREQ(3,30)\n<SUPPRESS> MOD()\n<WRITETABLE> (1,\"t.csv\")\n<CERTIFICATE> \"t.cert\"\n";
-    let weighted =
-        "<WRITETABLE> (1,\"t.csv\")\n<SAFETYRULE> P(10)|WGT(1)\n<OPENMICRODATA> \"m.asc\"\n<OPENMETADATA> \"m.rda\"\n<SPECIFYTABLE> \"B\"\"A\"|\"V\"\n<SUPPRESS> MOD()\n<CERTIFICATE> \"t.cert\"\n";
-    let rows = [
-        (flat, "A 1 1\nV 2 3\n<NUMERIC>\n", Ok((1, 1, 0, 1))),
-        (
-            flat,
-            "V 2 3\n<NUMERIC>\n<DECIMALS> 2\nW 5 1\n<WEIGHT>\n<DECIMALS> 3\nA 1 1\n",
-            Ok((1, 0, 2, 1)),
-        ),
-        (flat, "a 1 1\nV 2 3\n<NUMERIC>\n", Err((3, NoSuchVariable))),
-        (
-            flat,
-            "A 1 1\n<NUMERIC>\nW 2 3\n<NUMERIC>\n",
-            Err((3, NoSuchVariable)),
-        ),
-        (flat, "A 1 1\n<NUMERIC>\nV 2 3\n", Err((3, NotSpanning))),
-        (flat, "A 1 1\nV 2 3\n", Err((3, NotNumeric))),
-        (
-            flat,
-            "A 1 1\n<CODELIST> t.csv\nV 2 3\n<NUMERIC>\n",
-            Err((6, SameName)),
-        ),
-        (
-            flat,
-            "A 1 1\n<HIERCODELIST> t.cert\nV 2 3\n<NUMERIC>\n",
-            Err((7, SameName)),
-        ),
-        (
-            flat,
-            "A 1 1\nB 1 1\n<CODELIST> t.csv\nV 2 3\n<NUMERIC>\n<CODELIST> t.csv\n",
-            Ok((1, 2, 0, 1)),
-        ),
-        (
-            guarded,
-            "A 1 1\n<CODELIST> c.txt\nV 2 3\n<NUMERIC>\n<CODELIST> g.txt\n",
-            Ok((1, 1, 0, 1)),
-        ),
-        (
-            guarded,
-            "A 1 1\n<CODELIST> g.txt\nV 2 3\n<NUMERIC>\n",
-            Err((1, SameName)),
-        ),
-        (
-            guarded,
-            "A 1 1\n<HIERCODELIST> g.txt\nV 2 3\n",
-            Err((1, SameName)),
-        ),
-        (
-            weighted,
-            "A 1 1\nB 1 1\nV 2 3\n<NUMERIC>\n",
-            Err((2, NoWeight)),
-        ),
-        (
-            weighted,
-            "A 1 1\n<CODELIST> t.csv\nB 1 1\nV 2 3\n<NUMERIC>\n",
-            Err((1, SameName)),
-        ),
-        (
-            weighted,
-            "A 1 1\nC 1 1\nV 2 3\n<NUMERIC>\nW 5 3\n<WEIGHT>\n",
-            Err((5, NoSuchVariable)),
-        ),
-        (
-            weighted,
-            "A 1 1\nB 1 1\nV 2 3\n<NUMERIC>\n<DECIMALS> 1\nW 5 3\n<WEIGHT>\n<DECIMALS> 2\n",
-            Ok((2, 2, 3, 100)),
-        ),
-    ];
-    for (job, meta, expected) in &rows {
-        let found = places(rt.alloc(), job.as_bytes(), meta.as_bytes());
-        assert_eq!(rt; found, Some(*expected));
+    for (job, meta, expected) in &BOUND_JOBS {
+        assert_eq!(rt;
+            places(rt.alloc(), job.as_bytes(), meta.as_bytes()),
+            Some(*expected)
+        );
     }
 }

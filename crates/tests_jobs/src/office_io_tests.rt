@@ -3,6 +3,7 @@ use office_io::{
 };
 use sdc_base::Text;
 use std::alloc::{AllocError, Global};
+use std::rt::HostRuntime;
 use std::test::Fail;
 
 // Each byte is the remainder of its place's square by 251, so a byte that is skipped or given
@@ -29,34 +30,54 @@ fn shelf_of(
     Ok(MemoryShelf::new(files, failing.to_vec(alloc)?, piece.max(1)))
 }
 
+// Whether a read of the long file from pieces of this size fails at this call or, where it makes fewer calls, gives the
+// bytes of the file.
+fn fails_at(
+    alloc: Global,
+    bytes: &[u8],
+    piece: u32,
+    calls: u64,
+    failing: u64,
+) -> Result<bool, AllocError> {
+    let mut shelf = shelf_of(alloc, bytes, &[failing], piece)?;
+    let got = read_all(
+        alloc,
+        &mut shelf,
+        &Text::from_slice(alloc, b"long")?,
+        20_000,
+    );
+    if failing <= calls {
+        return Ok(got.err() == Some(FileFault::Failed));
+    }
+    Ok(got.is_ok_and(|read| read.as_slice() == bytes))
+}
+
+// Whether a read of pieces of this size is tried with this call failing.
+fn is_tried(piece: u32, failing: u64) -> bool {
+    piece != 1 || failing <= 3 || failing >= 10_000 || failing % 997 == 0
+}
+
+// Whether a read of the long file fails at each call that is tried.
+fn fails_at_each(alloc: Global, bytes: &[u8], piece: u32, calls: u64) -> Result<bool, AllocError> {
+    for failing in 1..calls.saturating_add(2) {
+        if is_tried(piece, failing) && !fails_at(alloc, bytes, piece, calls, failing)? {
+            return Ok(false);
+        }
+    }
+    Ok(true)
+}
+
+// The sizes of pieces, and how many calls a read of the long file makes by each.
+const CALLS: [(u32, u64); 3] = [(4096, 5), (7, 1431), (1, 10_002)];
+
 // A read of 10,000 bytes makes one call to begin, one for each piece, and one that finds the end.
 // A piece is never longer than 4,096 bytes. By pieces of one byte the first calls fail in turn, the
 // last ones, and every 997th between them, since all would take minutes.
 #[test]
 fn each_call_fails_in_turn(rt: HostRuntime) -> Result<(), Fail> {
-    let alloc = rt.alloc();
-    let bytes = long_file(alloc)?;
-    let long = Text::from_slice(alloc, b"long")?;
-    for (piece, calls) in [(4096u32, 5u64), (7, 1431), (1, 10_002)] {
-        for failing in 1..calls + 2 {
-            if piece == 1 && failing > 3 && failing < 10_000 && failing % 997 != 0 {
-                continue;
-            }
-            let mut shelf = shelf_of(alloc, &bytes, &[failing], piece)?;
-            let got = read_all(alloc, &mut shelf, &long, 20_000);
-            if failing <= calls {
-                assert_eq!(rt;
-                    got.err(),
-                    Some(FileFault::Failed),
-                    "call {failing} by {piece}"
-                );
-            } else {
-                assert!(rt;
-                    got.is_ok_and(|v| v == bytes),
-                    "no call of {calls} by {piece}"
-                );
-            }
-        }
+    let bytes = long_file(rt.alloc())?;
+    for (piece, calls) in &CALLS {
+        assert!(rt; fails_at_each(rt.alloc(), &bytes, *piece, *calls)?);
     }
     Ok(())
 }
@@ -81,56 +102,142 @@ fn answer(
     }
 }
 
+// Whether the shelf answers this.
+fn answers(
+    alloc: Global,
+    shelf: &mut MemoryShelf,
+    name: Option<&[u8]>,
+    want: &[u8],
+) -> Result<bool, AllocError> {
+    let got = answer(alloc, shelf, name)?;
+    Ok(got.as_slice() == want)
+}
+
+// The names by which files are begun or, with no name, the reads of a shelf, and what it answers.
+const ANSWERS: [(Option<&[u8]>, &[u8]); 12] = [
+    (Some(b"short"), b"failed"),
+    (None, b""),
+    (Some(b"missing"), b"failed"),
+    (Some(b"short"), b"begun"),
+    (None, b"ab"),
+    (None, b"c"),
+    (None, b""),
+    (None, b"failed"),
+    (Some(b"missing"), b"absent"),
+    (None, b""),
+    (Some(b"short"), b"begun"),
+    (None, b"ab"),
+];
+
 // Every answer of a shelf that fails at calls 1, 3 and 8, over both functions, by pieces of 2.
 #[test]
 fn calls_are_counted_over_both(rt: HostRuntime) -> Result<(), Fail> {
-    let alloc = rt.alloc();
-    let mut shelf = shelf_of(alloc, b"", &[8, 1, 3], 2)?;
-    let short = Some(b"short".as_slice());
-    let rows = [
-        (short, b"failed".as_slice()),
-        (None, b"".as_slice()),
-        (Some(b"missing".as_slice()), b"failed".as_slice()),
-        (short, b"begun".as_slice()),
-        (None, b"ab".as_slice()),
-        (None, b"c".as_slice()),
-        (None, b"".as_slice()),
-        (None, b"failed".as_slice()),
-        (Some(b"missing".as_slice()), b"absent".as_slice()),
-        (None, b"".as_slice()),
-        (short, b"begun".as_slice()),
-        (None, b"ab".as_slice()),
-    ];
-    for (name, want) in rows {
-        let got = answer(alloc, &mut shelf, name)?;
-        assert_eq!(rt; got.as_slice(), want);
+    let mut shelf = shelf_of(rt.alloc(), b"", &[8, 1, 3], 2)?;
+    for (name, want) in &ANSWERS {
+        assert!(rt; answers(rt.alloc(), &mut shelf, *name, want)?);
     }
     Ok(())
 }
 
-#[test]
-fn limits(rt: HostRuntime) -> Result<(), Fail> {
-    let alloc = rt.alloc();
-    let bytes = long_file(alloc)?;
-    let rows = [
-        (b"long".as_slice(), 9_999, Some(FileFault::TooLong)),
-        (b"long".as_slice(), 10_000, None),
-        (b"long".as_slice(), 10_001, None),
-        (b"short".as_slice(), 2, Some(FileFault::TooLong)),
-        (b"short".as_slice(), 3, None),
-        (b"short".as_slice(), 0, Some(FileFault::TooLong)),
-        (b"empty".as_slice(), 0, None),
-        (b"missing".as_slice(), 10, Some(FileFault::Absent)),
-        (b"shor".as_slice(), 10, Some(FileFault::Absent)),
-    ];
-    for piece in [1, 7, 4_096, 100_000] {
-        let mut shelf = shelf_of(alloc, &bytes, &[], piece)?;
-        for (name, limit, fault) in rows {
-            let got = read_all(alloc, &mut shelf, &Text::from_slice(alloc, name)?, limit);
-            assert_eq!(rt; got.err(), fault, "limit {limit} by {piece}");
+// The names of files, the most bytes that are read, and the fault.
+const LIMITS: [(&[u8], u32, Option<FileFault>); 9] = [
+    (b"long", 9_999, Some(FileFault::TooLong)),
+    (b"long", 10_000, None),
+    (b"long", 10_001, None),
+    (b"short", 2, Some(FileFault::TooLong)),
+    (b"short", 3, None),
+    (b"short", 0, Some(FileFault::TooLong)),
+    (b"empty", 0, None),
+    (b"missing", 10, Some(FileFault::Absent)),
+    (b"shor", 10, Some(FileFault::Absent)),
+];
+
+// Whether a shelf with pieces of this size keeps to the limits, each file read behind the one before it.
+fn are_limited(alloc: Global, bytes: &[u8], piece: u32) -> Result<bool, AllocError> {
+    let mut shelf = shelf_of(alloc, bytes, &[], piece)?;
+    for (name, limit, fault) in &LIMITS {
+        let got = read_all(
+            alloc,
+            &mut shelf,
+            &Text::from_slice(alloc, name)?,
+            u64::from(*limit),
+        );
+        if got.err() != *fault {
+            return Ok(false);
         }
     }
+    Ok(true)
+}
+
+const PIECES: [u32; 4] = [1, 7, 4_096, 100_000];
+
+#[test]
+fn limits(rt: HostRuntime) -> Result<(), Fail> {
+    let bytes = long_file(rt.alloc())?;
+    for piece in &PIECES {
+        assert!(rt; are_limited(rt.alloc(), &bytes, *piece)?);
+    }
     Ok(())
+}
+
+// Whether the file of this name holds these bytes, or isn't there.
+fn holds(
+    alloc: Global,
+    tray: &MemoryTray,
+    name: &str,
+    held: Option<&[u8]>,
+) -> Result<bool, AllocError> {
+    let name = Text::from_slice(alloc, name.as_bytes())?;
+    Ok(tray.file(&name) == held)
+}
+
+// The name and the bytes that are put, the fault, and what the table then holds.
+#[derive(Clone, Copy)]
+struct Put {
+    name: &'static str,
+    bytes: &'static str,
+    fault: Option<PutFault>,
+    held: &'static str,
+}
+
+const PUTS: [Put; 5] = [
+    Put {
+        name: "table",
+        bytes: "first",
+        fault: None,
+        held: "first",
+    },
+    Put {
+        name: "report",
+        bytes: "",
+        fault: None,
+        held: "first",
+    },
+    Put {
+        name: "table",
+        bytes: "replace",
+        fault: Some(PutFault::Failed),
+        held: "rep",
+    },
+    Put {
+        name: "table",
+        bytes: "replaced",
+        fault: None,
+        held: "replaced",
+    },
+    Put {
+        name: "report",
+        bytes: "x",
+        fault: Some(PutFault::Failed),
+        held: "replaced",
+    },
+];
+
+// Puts the bytes, and says whether the answer is this and the table holds this.
+fn is_put(alloc: Global, tray: &mut MemoryTray, put: &Put) -> Result<bool, AllocError> {
+    let name = Text::from_slice(alloc, put.name.as_bytes())?;
+    let answer = tray.put(&name, put.bytes.as_bytes());
+    Ok(answer.err() == put.fault && holds(alloc, tray, "table", Some(put.held.as_bytes()))?)
 }
 
 // Puts 3 and 5 fail: they keep the first half of the bytes, rounded down.
@@ -138,22 +245,10 @@ fn limits(rt: HostRuntime) -> Result<(), Fail> {
 fn puts(rt: HostRuntime) -> Result<(), Fail> {
     let alloc = rt.alloc();
     let mut tray = MemoryTray::new(alloc, vec![in alloc; 5u64, 3]?);
-    let table = Text::from_slice(alloc, b"table")?;
-    let report = Text::from_slice(alloc, b"report")?;
-    assert!(rt; tray.file(&table).is_none());
-    // the name and the bytes that are put, the fault, and what the table then holds
-    let rows = [
-        ("table", "first", None, "first"),
-        ("report", "", None, "first"),
-        ("table", "replace", Some(PutFault::Failed), "rep"),
-        ("table", "replaced", None, "replaced"),
-        ("report", "x", Some(PutFault::Failed), "replaced"),
-    ];
-    for (name, bytes, fault, held) in rows {
-        let put = tray.put(&Text::from_slice(alloc, name.as_bytes())?, bytes.as_bytes());
-        assert_eq!(rt; put.err(), fault);
-        assert_eq!(rt; tray.file(&table), Some(held.as_bytes()));
+    assert!(rt; holds(alloc, &tray, "table", None)?);
+    for put in &PUTS {
+        assert!(rt; is_put(alloc, &mut tray, put)?);
     }
-    assert_eq!(rt; tray.file(&report), Some(b"".as_slice()));
+    assert!(rt; holds(alloc, &tray, "report", Some(b""))?);
     Ok(())
 }

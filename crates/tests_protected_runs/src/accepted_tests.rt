@@ -1,44 +1,62 @@
 use kit_runs::{
-    BY_INDUSTRY, FIRMS, FOUR_CERTIFICATE, FOUR_RECORDS, FOUR_SAID, FOUR_TABLE, MARGINS,
-    ONE_VARIABLE, SURVEY, THIRTEEN_RECORDS, THREE_VARIABLES, TWO_VARIABLES, TWO_WAY, job_with,
-    rounding_job, run_over, run_then_check,
+    BY_INDUSTRY, FIRMS, FOUR_CERTIFICATE, FOUR_RECORDS, FOUR_RELEASED, FOUR_ROUNDED, FOUR_TABLE,
+    LINKED_ROUNDED, MARGINS, ONE_TABLE_GUARDED, ONE_VARIABLE, SURVEY, THIRTEEN_RECORDS,
+    THREE_VARIABLES, TWO_TABLES, TWO_VARIABLES, TWO_WAY, run_over, run_then_check,
 };
+use sdc_base::Memory;
+use std::alloc::Global;
 use std::rt::HostRuntime;
 use std::test::Fail;
 
-// A second table by the first variable and another.
-const SECOND: &str = "<SPECIFYTABLE> \"A\"\"C\"|\"V\"\n<WRITETABLE> (2,\"u.csv\")\n";
+// What an office states of a cell of the thirteen records.
+const BOUNDED: &str = "a1,b2,b,48,52\n";
 
-// What a run puts, a check of the job with the same files accepts: a two-way table and one by a variable of two levels
-// that hide cells, a rounded one, and two tables with common cells, hidden or rounded.
+// The files of a two-way table and of one by a variable of two levels that hide cells, of a rounded one, and of two tables
+// with common cells, hidden or rounded.
+const ACCEPTED: [[(&str, &str); 4]; 6] = [
+    [
+        ("r.job", TWO_WAY),
+        ("m.rda", THREE_VARIABLES),
+        ("m.asc", THIRTEEN_RECORDS),
+        ("p.hst", MARGINS),
+    ],
+    [
+        ("r.job", TWO_WAY),
+        ("m.rda", THREE_VARIABLES),
+        ("m.asc", THIRTEEN_RECORDS),
+        ("p.hst", BOUNDED),
+    ],
+    [
+        ("r.job", BY_INDUSTRY),
+        ("m.rda", SURVEY),
+        ("m.asc", FIRMS),
+        ("p.hst", ""),
+    ],
+    [
+        ("r.job", FOUR_ROUNDED),
+        ("m.rda", TWO_VARIABLES),
+        ("m.asc", FOUR_RECORDS),
+        ("p.hst", ""),
+    ],
+    [
+        ("r.job", TWO_TABLES),
+        ("m.rda", THREE_VARIABLES),
+        ("m.asc", THIRTEEN_RECORDS),
+        ("p.hst", BOUNDED),
+    ],
+    [
+        ("r.job", LINKED_ROUNDED),
+        ("m.rda", THREE_VARIABLES),
+        ("m.asc", THIRTEEN_RECORDS),
+        ("p.hst", ""),
+    ],
+];
+
+// What a run puts, a check of the job with the same files accepts.
 #[test]
 fn runs_that_are_accepted(rt: HostRuntime) -> Result<(), Fail> {
-    let alloc = rt.alloc();
-    let bounded = "a1,b2,b,48,52\n";
-    let linked = TWO_WAY.replace(
-        alloc,
-        "<SAFETYRULE>",
-        &format!(in alloc; "{SECOND}<SAFETYRULE>")?,
-    )?;
-    let rounded = rounding_job(alloc, "\"A\"\"B\"", "<SUPPRESS> RND(5)\n")?;
-    let method = format!(in alloc; "{SECOND}<SUPPRESS> RND(10)\n")?;
-    let both = rounding_job(alloc, "\"A\"\"B\"", &method)?;
-    let rows = [
-        (TWO_WAY, THREE_VARIABLES, THIRTEEN_RECORDS, MARGINS),
-        (TWO_WAY, THREE_VARIABLES, THIRTEEN_RECORDS, bounded),
-        (BY_INDUSTRY, SURVEY, FIRMS, ""),
-        (rounded.as_str(), TWO_VARIABLES, FOUR_RECORDS, ""),
-        (linked.as_str(), THREE_VARIABLES, THIRTEEN_RECORDS, bounded),
-        (both.as_str(), THREE_VARIABLES, THIRTEEN_RECORDS, ""),
-    ];
-    for (job, metadata, microdata, statements) in rows {
-        let files = [
-            ("r.job", job),
-            ("m.rda", metadata),
-            ("m.asc", microdata),
-            ("p.hst", statements),
-        ];
-        let got = run_then_check(alloc, &files)?;
+    for files in &ACCEPTED {
+        let got = run_then_check(rt.alloc(), files)?;
         assert_eq!(rt; got.as_str(), "0 accepted\n");
     }
     Ok(())
@@ -58,58 +76,74 @@ const TWO_LEVELS: &str =
 const TWO_ALONE: &str =
     "N1A1 40\nN1B2 30\nN2A1 50\nN2A2 50\nN2B1 50\nN2B2 50\nS1A1 50\nS1A2 50\nS1B1 50\nS1B2 50\n";
 
-// The same of jobs with a file for contributors: one code each of two firms, and two linked tables over levels.
+// The files of jobs with a file for contributors: one code each of two firms, and two linked tables over levels.
+const GUARDED: [[(&str, &str); 3]; 2] = [
+    [
+        ("r.job", ONE_TABLE_GUARDED),
+        ("m.rda", ONE_VARIABLE),
+        (
+            "m.asc",
+            "a 40\nb 30\nc 10\nc 10\nc 10\nd 20\nd 10\nd 10\nd 10\n",
+        ),
+    ],
+    [
+        ("r.job", REGIONS),
+        ("m.rda", TWO_LEVELS),
+        ("m.asc", TWO_ALONE),
+    ],
+];
+
+// What runs of these jobs put, their checks accept too.
 #[test]
 fn guarded_runs_that_are_accepted(rt: HostRuntime) -> Result<(), Fail> {
-    let alloc = rt.alloc();
-    let one = job_with(
-        alloc,
-        "<CERTIFICATE>",
-        "<CONTRIBUTORS> \"t.con\"\n<CERTIFICATE>",
-    )?;
-    let alone = "a 40\nb 30\nc 10\nc 10\nc 10\nd 20\nd 10\nd 10\nd 10\n";
-    let rows = [
-        (one.as_str(), ONE_VARIABLE, alone),
-        (REGIONS, TWO_LEVELS, TWO_ALONE),
-    ];
-    for (job, metadata, microdata) in rows {
-        let files = [("r.job", job), ("m.rda", metadata), ("m.asc", microdata)];
-        let got = run_then_check(alloc, &files)?;
+    for files in &GUARDED {
+        let got = run_then_check(rt.alloc(), files)?;
         assert_eq!(rt; got.as_str(), "0 accepted\n");
     }
     Ok(())
 }
 
-// A job that rounds to multiples of 5, over one and the same files: what its run puts; and of three tables under its
-// name a check says that two are roundings, and of that of the nearest multiples in which relation it doesn't add up.
-#[test]
-fn roundings_of_one_job(rt: HostRuntime) -> Result<(), Fail> {
-    let alloc = rt.alloc();
-    let job = rounding_job(alloc, "\"A\"\"B\"", "<SUPPRESS> RND(5)\n")?;
-    let said = format!(in alloc; "{FOUR_SAID}{FOUR_CERTIFICATE}{FOUR_TABLE}")?;
-    let rows = [
-        (FOUR_TABLE, "0 accepted\n"),
-        (
-            "A,B,V\nTotal,Total,15\nTotal,1,10\nTotal,2,5\n1,Total,5\n1,1,5\n1,2,0\n2,Total,10\n2,1,5\n2,2,5\n",
-            "0 accepted\n",
-        ),
-        (
-            "A,B,V\nTotal,Total,15\nTotal,1,10\nTotal,2,5\n1,Total,5\n1,1,5\n1,2,5\n2,Total,10\n2,1,5\n2,2,0\n",
-            "3 not accepted: Relation 4\n",
-        ),
+// Tables under the name of that of a job that rounds to multiples of 5, and what a check says of each: two are roundings,
+// and that of the nearest multiples doesn't add up in one relation.
+const ROUNDINGS: [(&str, &str); 3] = [
+    (FOUR_TABLE, "0 accepted\n"),
+    (
+        "A,B,V\nTotal,Total,15\nTotal,1,10\nTotal,2,5\n1,Total,5\n1,1,5\n1,2,0\n2,Total,10\n2,1,5\n2,2,5\n",
+        "0 accepted\n",
+    ),
+    (
+        "A,B,V\nTotal,Total,15\nTotal,1,10\nTotal,2,5\n1,Total,5\n1,1,5\n1,2,5\n2,Total,10\n2,1,5\n2,2,0\n",
+        "3 not accepted: Relation 4\n",
+    ),
+];
+
+// What is said and put where this word is asked of the job, and this is its table.
+fn answer_beside<'x>(alloc: Global, word: &'x str, table: &'x str) -> Result<String, Memory> {
+    let files = [
+        ("r.job", FOUR_ROUNDED),
+        ("m.rda", TWO_VARIABLES),
+        ("m.asc", FOUR_RECORDS),
+        ("t.cert", FOUR_CERTIFICATE),
+        ("t.csv", table),
     ];
-    for (table, want) in rows {
-        let files = [
-            ("r.job", job.as_str()),
-            ("m.rda", TWO_VARIABLES),
-            ("m.asc", FOUR_RECORDS),
-            ("t.cert", FOUR_CERTIFICATE),
-            ("t.csv", table),
-        ];
-        let ran = run_over(alloc, &["run", "r.job"], &files)?;
-        assert_eq!(rt; ran.as_str(), said.as_str());
-        let got = run_over(alloc, &["check", "r.job"], &files)?;
-        assert_eq!(rt; got.as_str(), want);
+    run_over(alloc, &[word, "r.job"], &files)
+}
+
+// A run puts the same whatever stands under the name of its table.
+#[test]
+fn run_beside_each_rounding(rt: HostRuntime) -> Result<(), Fail> {
+    for (table, _) in &ROUNDINGS {
+        let got = answer_beside(rt.alloc(), "run", table)?;
+        assert_eq!(rt; got.as_str(), FOUR_RELEASED);
+    }
+    Ok(())
+}
+
+#[test]
+fn check_of_each_rounding(rt: HostRuntime) -> Result<(), Fail> {
+    for (table, want) in &ROUNDINGS {
+        let got = answer_beside(rt.alloc(), "check", table)?;
+        assert_eq!(rt; got.as_str(), *want);
     }
     Ok(())
 }

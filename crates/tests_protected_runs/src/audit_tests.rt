@@ -49,6 +49,12 @@ fn audit_over<'x>(
     run_over(alloc, &["audit", "r.job", out], &files)
 }
 
+// The same where one text stands in the place of another in the rounded table.
+fn audit_of_altered<'x>(alloc: Global, from: &'x str, to: &'x str) -> Result<String, Memory> {
+    let table = ROUNDED.replace(alloc, from, to)?;
+    audit_of(alloc, "RND(5)", table.as_str(), "out.csv")
+}
+
 // What is said of the four inner cells, and their ends. Five of their eight sides are covered, and three of the cells are
 // exposed. A cell that shows 0 to base 5 is at most 4.
 const FOUR_ENDS: &str =
@@ -74,34 +80,46 @@ const FOUR_HEADS: [&str; 16] = [
     "stop 8 above ",
 ];
 
+// Whether the lines of a text are as many as these, and each begins so.
+fn lines_begin(text: &str, heads: &[&str]) -> bool {
+    if text.lines().count() != heads.len() {
+        return false;
+    }
+    for (line, head) in text.lines().zip(heads.iter()) {
+        if !line.starts_with(head) {
+            return false;
+        }
+    }
+    true
+}
+
+// The audit of the rounded table.
 #[test]
 fn four_cells(rt: HostRuntime) -> Result<(), Fail> {
     let got = audit_of(rt.alloc(), "RND(5)", ROUNDED, "out.csv")?;
-    let Some(behind) = got.as_str().strip_prefix(FOUR_ENDS) else {
-        assert_eq!(rt; got.as_str(), FOUR_ENDS);
-        return Ok(());
-    };
-    assert_eq!(rt; behind.lines().count(), FOUR_HEADS.len());
-    for (line, head) in behind.lines().zip(FOUR_HEADS.iter()) {
-        assert!(&rt; line.starts_with(head));
-    }
+    let behind = got.as_str().strip_prefix(FOUR_ENDS).unwrap_or("");
+    assert!(rt; lines_begin(behind, &FOUR_HEADS));
     Ok(())
 }
+
+// The files of the job of one code.
+const ONE_CODE_FILES: [(&str, &str); 5] = [
+    ("r.job", ONE_CODE),
+    ("m.rda", "A 1 1\n<RECODEABLE>\nV 2 2\n<NUMERIC>\n"),
+    ("m.asc", "a 7\n"),
+    ("p.hst", "a,b,4,8\n"),
+    ("t.csv", "A,V\nTotal,5\na,5\n"),
+];
+
+// What is said and put of its audit.
+const ONE_CODE_AUDIT: &str =
+    "0 audited: 2 primary, 2 exposed\ncell,low,high,below,above\n0,4,8,no,no\n1,4,8,no,no\nworld 0 below 1 0:-3 1:-3\nstop 0 below 1 0:1\nworld 0 above 1 0:1 1:1\nstop 0 above 1 0:-1\nworld 1 below 1 0:-3 1:-3\nstop 1 below 1\nworld 1 above 1 0:1 1:1\nstop 1 above 1\n";
 
 // One code, of which all is fixed by what is stated: its value is from 4 to 8, and so is the total, which is the same.
 #[test]
 fn stated_bounds_cut_both_ends(rt: HostRuntime) -> Result<(), Fail> {
-    let files = [
-        ("r.job", ONE_CODE),
-        ("m.rda", "A 1 1\n<RECODEABLE>\nV 2 2\n<NUMERIC>\n"),
-        ("m.asc", "a 7\n"),
-        ("p.hst", "a,b,4,8\n"),
-        ("t.csv", "A,V\nTotal,5\na,5\n"),
-    ];
-    let got = run_over(rt.alloc(), &["audit", "r.job", "out.csv"], &files)?;
-    let want =
-        "0 audited: 2 primary, 2 exposed\ncell,low,high,below,above\n0,4,8,no,no\n1,4,8,no,no\nworld 0 below 1 0:-3 1:-3\nstop 0 below 1 0:1\nworld 0 above 1 0:1 1:1\nstop 0 above 1 0:-1\nworld 1 below 1 0:-3 1:-3\nstop 1 below 1\nworld 1 above 1 0:1 1:1\nstop 1 above 1\n";
-    assert_eq!(rt; got.as_str(), want);
+    let got = run_over(rt.alloc(), &["audit", "r.job", "out.csv"], &ONE_CODE_FILES)?;
+    assert_eq!(rt; got.as_str(), ONE_CODE_AUDIT);
     Ok(())
 }
 
@@ -140,93 +158,103 @@ fn audit_beside<'x>(
     run_over(alloc, &["audit", "r.job", "out.csv"], &files)
 }
 
+// Its tables rounded to base 5 and to base 10.
+const FIVES: &str = "A,V\nTotal,100\na,25\nb,45\nc,30\n";
+
+const TENS: &str = "A,V\nTotal,100\na,20\nb,50\nc,30\n";
+
+// By the method, what is stated and the table: how what is said begins.
+const MULTIPLES: [(&str, &str, &str, &str); 3] = [
+    (
+        "RND(5)",
+        "",
+        FIVES,
+        "0 audited: 1 primary, 1 exposed\ncell,low,high,below,above\n3,26,34,no,no\n",
+    ),
+    (
+        "RND(10)",
+        "",
+        TENS,
+        "0 audited: 1 primary, 0 exposed\ncell,low,high,below,above\n3,21,39,yes,yes\n",
+    ),
+    (
+        "RND(10)",
+        KNOWN,
+        TENS,
+        "0 audited: 1 primary, 1 exposed\ncell,low,high,below,above\n3,26,34,no,no\nworld 3 below 1 1:2 2:2 3:-4\nstop 3 below 1 0:-1\nworld 3 above 1 1:-2 2:-2 3:4\nstop 3 above 1 0:1\n",
+    ),
+];
+
 // A sensitive cell that is a multiple of the base shows its truth, and is open by less than the base. A higher base covers
 // it, by exactly its levels; with what is known of the other cells it doesn't.
 #[test]
 fn multiple_of_the_base(rt: HostRuntime) -> Result<(), Fail> {
-    let fives = "A,V\nTotal,100\na,25\nb,45\nc,30\n";
-    let tens = "A,V\nTotal,100\na,20\nb,50\nc,30\n";
-    let rows = [
-        (
-            "RND(5)",
-            "",
-            fives,
-            "0 audited: 1 primary, 1 exposed\ncell,low,high,below,above\n3,26,34,no,no\n",
-        ),
-        (
-            "RND(10)",
-            "",
-            tens,
-            "0 audited: 1 primary, 0 exposed\ncell,low,high,below,above\n3,21,39,yes,yes\n",
-        ),
-        (
-            "RND(10)",
-            KNOWN,
-            tens,
-            "0 audited: 1 primary, 1 exposed\ncell,low,high,below,above\n3,26,34,no,no\nworld 3 below 1 1:2 2:2 3:-4\nstop 3 below 1 0:-1\nworld 3 above 1 1:-2 2:-2 3:4\nstop 3 above 1 0:1\n",
-        ),
-    ];
-    for (method, statements, table, want) in rows {
+    for (method, statements, table, want) in &MULTIPLES {
         let got = audit_of_three(rt.alloc(), method, statements, table)?;
-        assert!(rt; got.starts_with(want), "{method}");
+        assert!(rt; got.starts_with(want));
     }
     Ok(())
 }
 
-// Tables that are no rounding of the truths, or no texts of numbers at all, and jobs that hide.
+// By the method and the table: the first fault.
+const OTHERS: [(&str, &str, &str); 3] = [
+    ("RND(5)", NEAREST, "3 not accepted: Relation 4\n"),
+    ("MOD()", ROUNDED, "2 refused: job line 0: BadValue\n"),
+    ("GH(2)", ROUNDED, "2 refused: job line 0: BadValue\n"),
+];
+
+// A table that is no rounding of the truths, and jobs that hide.
 #[test]
 fn other_tables_and_jobs(rt: HostRuntime) -> Result<(), Fail> {
-    let alloc = rt.alloc();
-    let far = ROUNDED.replace(alloc, "2,2,5", "2,2,10")?;
-    let short = ROUNDED.replace(alloc, "2,2,5\n", "")?;
-    let twice = ROUNDED.replace(alloc, "1,1,5", "1,1,5.0")?;
-    let rows = [
-        ("RND(5)", NEAREST, "3 not accepted: Relation 4\n"),
-        ("RND(5)", far.as_str(), "3 not accepted: Rounded 8\n"),
-        ("RND(5)", short.as_str(), "3 not accepted: Release 1 10\n"),
-        ("RND(5)", twice.as_str(), "3 not accepted: Release 1 6\n"),
-        ("MOD()", ROUNDED, "2 refused: job line 0: BadValue\n"),
-        ("GH(2)", ROUNDED, "2 refused: job line 0: BadValue\n"),
-    ];
-    for (method, table, want) in rows {
-        let got = audit_of(alloc, method, table, "out.csv")?;
-        assert_eq!(rt; got.as_str(), want);
+    for (method, table, want) in &OTHERS {
+        let got = audit_of(rt.alloc(), method, table, "out.csv")?;
+        assert_eq!(rt; got.as_str(), *want);
     }
     Ok(())
 }
 
 // The table with one line other than it was, line by line: the line where it has no text of a number or another name; else
-// the first cell that shows no multiple of the base next to its truth; else the first sum that doesn't hold.
+// the first cell that shows no multiple of the base next to its truth; else the first sum that doesn't hold. The last
+// three are further ones in which no number, another number or no line stands.
 //
 // The truths are 15, 9, 6, 7, 3, 4, 8, 6 and 2, line by line. Sums 0 and 1 are those of the total, by rows and by columns,
 // 2 and 3 those of the two columns.
+const ALTERED: [(&str, &str, &str); 13] = [
+    ("A,B,V", "A,B,W", "3 not accepted: Release 1 1\n"),
+    (
+        "Total,Total,15",
+        "Total,Total,20",
+        "3 not accepted: Rounded 0\n",
+    ),
+    ("Total,1,10", "Total,1,9", "3 not accepted: Rounded 1\n"),
+    ("Total,2,5", "Total,2,10", "3 not accepted: Relation 1\n"),
+    ("1,Total,5", "1,Total,10", "3 not accepted: Relation 0\n"),
+    ("1,1,5", "1,1,0", "3 not accepted: Relation 2\n"),
+    ("1,2,0", "1,2,5", "3 not accepted: Relation 3\n"),
+    ("2,Total,10", "2,Total,x", "3 not accepted: Release 1 8\n"),
+    ("2,1,5", "1,2,5", "3 not accepted: Release 1 9\n"),
+    ("2,2,5", "2,2,-5", "3 not accepted: Release 1 10\n"),
+    ("1,1,5", "1,1,5.0", "3 not accepted: Release 1 6\n"),
+    ("2,2,5", "2,2,10", "3 not accepted: Rounded 8\n"),
+    ("2,2,5\n", "", "3 not accepted: Release 1 10\n"),
+];
+
 #[test]
 fn altered_lines(rt: HostRuntime) -> Result<(), Fail> {
-    let rows = [
-        ("A,B,V", "A,B,W", "Release 1 1"),
-        ("Total,Total,15", "Total,Total,20", "Rounded 0"),
-        ("Total,1,10", "Total,1,9", "Rounded 1"),
-        ("Total,2,5", "Total,2,10", "Relation 1"),
-        ("1,Total,5", "1,Total,10", "Relation 0"),
-        ("1,1,5", "1,1,0", "Relation 2"),
-        ("1,2,0", "1,2,5", "Relation 3"),
-        ("2,Total,10", "2,Total,x", "Release 1 8"),
-        ("2,1,5", "1,2,5", "Release 1 9"),
-        ("2,2,5", "2,2,-5", "Release 1 10"),
-    ];
-    for (from, to, kind) in rows {
-        let table = ROUNDED.replace(rt.alloc(), from, to)?;
-        let got = audit_of(rt.alloc(), "RND(5)", table.as_str(), "out.csv")?;
-        let want = format!(in rt.alloc(); "3 not accepted: {kind}\n")?;
-        assert_eq!(rt; got.as_str(), want.as_str());
+    for (from, to, want) in &ALTERED {
+        let got = audit_of_altered(rt.alloc(), from, to)?;
+        assert_eq!(rt; got.as_str(), *want);
     }
     Ok(())
 }
 
-// The audit isn't put over the job, one of its files, its table or its certificate.
+// The files of the job, its table and its certificate.
+const TAKEN_NAMES: [&str; 5] = ["r.job", "m.rda", "m.asc", "t.csv", "t.cert"];
+
+// The audit isn't put over any of them.
 #[test]
 fn names_of_audits(rt: HostRuntime) -> Result<(), Fail> {
-    for out in ["r.job", "m.rda", "m.asc", "t.csv", "t.cert"] {
+    for out in &TAKEN_NAMES {
         let got = audit_of(rt.alloc(), "RND(5)", ROUNDED, out)?;
         assert_eq!(rt; got.as_str(), "2 refused: out: OutName\n");
     }

@@ -1,6 +1,6 @@
 use kit_runs::{
     MARGINS, THIRTEEN_RECORDS, THREE_VARIABLES, TWO_WAY, TWO_WAY_CERTIFICATE, TWO_WAY_TABLE,
-    run_over,
+    check_job, run_over,
 };
 use sdc_base::Memory;
 use std::alloc::Global;
@@ -17,7 +17,7 @@ fn check_of<'x>(alloc: Global, certificate: &'x str, table: &'x str) -> Result<S
         ("t.cert", certificate),
         ("t.csv", table),
     ];
-    run_over(alloc, &["check", "r.job"], &files)
+    check_job(alloc, &files)
 }
 
 // What is said, and put, of the intervals of a job whose table this is.
@@ -33,94 +33,131 @@ fn intervals_of<'x>(alloc: Global, job: &'x str, table: &'x str) -> Result<Strin
     run_over(alloc, &["intervals", "r.job", "out.csv"], &files)
 }
 
-// By the certificate and the table that stand on the shelf: whether they are accepted, or their first fault.
+// Tables: the one of the certificate, one that shows a hidden cell, the same with a value that isn't its, and one that
+// hides a margin.
+const SHOWN_CELL: &str =
+    "A,B,V\nTotal,Total,140\nTotal,b1,50\nTotal,b2,90\na1,Total,70\na1,b1,20\na1,b2,x\na2,Total,70\na2,b1,x\na2,b2,x\n";
+
+const WRONG_CELL: &str =
+    "A,B,V\nTotal,Total,140\nTotal,b1,50\nTotal,b2,90\na1,Total,70\na1,b1,21\na1,b2,x\na2,Total,70\na2,b1,x\na2,b2,x\n";
+
+const HIDDEN_MARGIN: &str =
+    "A,B,V\nTotal,Total,140\nTotal,b1,x\nTotal,b2,90\na1,Total,70\na1,b1,x\na1,b2,x\na2,Total,70\na2,b1,x\na2,b2,x\n";
+
+// By the table that stands on the shelf: whether it is accepted, or its first fault.
+const CHECKED_TABLES: [(&str, &str); 2] = [
+    (TWO_WAY_TABLE, "0 accepted\n"),
+    (SHOWN_CELL, "3 not accepted: Release 1 6\n"),
+];
+
 #[test]
-fn checks(rt: HostRuntime) -> Result<(), Fail> {
-    let alloc = rt.alloc();
-    let moved = TWO_WAY_CERTIFICATE.replace(alloc, "above 1 4:6 5:-6", "above 1 4:7 5:-6")?;
-    let other = TWO_WAY_CERTIFICATE.replace(alloc, "certificate 2", "certificate 3")?;
-    let shown = TWO_WAY_TABLE.replace(alloc, "a1,b1,x", "a1,b1,20")?;
-    let rows = [
-        (TWO_WAY_CERTIFICATE, TWO_WAY_TABLE, "0 accepted\n"),
-        (
-            &moved,
-            TWO_WAY_TABLE,
-            "3 not accepted: World 0 Relation 2\n",
-        ),
-        (TWO_WAY_CERTIFICATE, &shown, "3 not accepted: Release 1 6\n"),
-        (
-            &other,
-            TWO_WAY_TABLE,
-            "2 refused: certificate line 1: Version\n",
-        ),
-    ];
-    for (certificate, table, want) in rows {
-        let got = check_of(alloc, certificate, table)?;
-        assert_eq!(rt; got.as_str(), want);
+fn checked_tables(rt: HostRuntime) -> Result<(), Fail> {
+    for (table, want) in &CHECKED_TABLES {
+        let got = check_of(rt.alloc(), TWO_WAY_CERTIFICATE, table)?;
+        assert_eq!(rt; got.as_str(), *want);
     }
     Ok(())
 }
+
+// What a check says of the certificate with one text in the place of another.
+fn check_of_altered<'x>(alloc: Global, from: &'x str, to: &'x str) -> Result<String, Memory> {
+    let certificate = TWO_WAY_CERTIFICATE.replace(alloc, from, to)?;
+    check_of(alloc, certificate.as_str(), TWO_WAY_TABLE)
+}
+
+// By what stands in the certificate in place of another text: its first fault.
+const CHECKED_CERTIFICATES: [(&str, &str, &str); 2] = [
+    (
+        "above 1 4:6 5:-6",
+        "above 1 4:7 5:-6",
+        "3 not accepted: World 0 Relation 2\n",
+    ),
+    (
+        "certificate 2",
+        "certificate 3",
+        "2 refused: certificate line 1: Version\n",
+    ),
+];
+
+#[test]
+fn checked_certificates(rt: HostRuntime) -> Result<(), Fail> {
+    for (from, to, want) in &CHECKED_CERTIFICATES {
+        let got = check_of_altered(rt.alloc(), from, to)?;
+        assert_eq!(rt; got.as_str(), *want);
+    }
+    Ok(())
+}
+
+// The two-way job by another method.
+const ROUNDS: &str =
+    "<OPENMICRODATA> \"m.asc\"\n<OPENMETADATA> \"m.rda\"\n<SPECIFYTABLE> \"A\"\"B\"|\"V\"\n<SAFETYRULE> FREQ(3,30)\n<APRIORI> \"p.hst\",1,\",\"\n<SUPPRESS> RND(5)\n<WRITETABLE> (1,\"t.csv\")\n<CERTIFICATE> \"t.cert\"\n";
 
 // The interval of each cell that the table hides; a table that no choice of hidden cells gives; a cell that is always
 // to be shown; and a job that rounds.
+const INTERVALS: [(&str, &str, &str); 4] = [
+    (
+        TWO_WAY,
+        TWO_WAY_TABLE,
+        "0 intervals: 4 cells\ncell,low,high\n4,0,50\n5,20,70\n7,0,50\n8,20,70\n",
+    ),
+    (TWO_WAY, WRONG_CELL, "3 not accepted: Release 1 6\n"),
+    (TWO_WAY, HIDDEN_MARGIN, "3 not accepted: FixedHidden 1\n"),
+    (ROUNDS, TWO_WAY_TABLE, "2 refused: job line 0: BadValue\n"),
+];
+
 #[test]
 fn intervals(rt: HostRuntime) -> Result<(), Fail> {
-    let alloc = rt.alloc();
-    let rounds = TWO_WAY.replace(alloc, "MOD()", "RND(5)")?;
-    let wrong = TWO_WAY_TABLE.replace(alloc, "a1,b1,x", "a1,b1,21")?;
-    let margin = TWO_WAY_TABLE.replace(alloc, "Total,b1,50", "Total,b1,x")?;
-    let rows = [
-        (
-            TWO_WAY,
-            TWO_WAY_TABLE,
-            "0 intervals: 4 cells\ncell,low,high\n4,0,50\n5,20,70\n7,0,50\n8,20,70\n",
-        ),
-        (TWO_WAY, &wrong, "3 not accepted: Release 1 6\n"),
-        (TWO_WAY, &margin, "3 not accepted: FixedHidden 1\n"),
-        (&rounds, TWO_WAY_TABLE, "2 refused: job line 0: BadValue\n"),
-    ];
-    for (job, table, want) in rows {
-        let got = intervals_of(alloc, job, table)?;
-        assert_eq!(rt; got.as_str(), want);
+    for (job, table, want) in &INTERVALS {
+        let got = intervals_of(rt.alloc(), job, table)?;
+        assert_eq!(rt; got.as_str(), *want);
     }
     Ok(())
+}
+
+// What is said of the intervals of the job whose table has this in place of its last line.
+fn intervals_by_line(alloc: Global, line: &str) -> Result<String, Memory> {
+    let table = TWO_WAY_TABLE.replace(alloc, "a2,b2,x\n", line)?;
+    intervals_of(alloc, TWO_WAY, table.as_str())
 }
 
 // Tables whose last line is missing, stands twice, ends otherwise or has quotes: the line in which they first differ.
+const LAST_LINES: [(&str, &str); 4] = [
+    ("", "3 not accepted: Release 1 10\n"),
+    ("a2,b2,x\na2,b2,x\n", "3 not accepted: Release 1 11\n"),
+    ("a2,b2,x\r\n", "3 not accepted: Release 1 10\n"),
+    ("\"a2\",b2,x\n", "3 not accepted: Release 1 10\n"),
+];
+
 #[test]
 fn altered_tables(rt: HostRuntime) -> Result<(), Fail> {
-    let rows = [
-        ("", "3 not accepted: Release 1 10\n"),
-        ("a2,b2,x\na2,b2,x\n", "3 not accepted: Release 1 11\n"),
-        ("a2,b2,x\r\n", "3 not accepted: Release 1 10\n"),
-        ("\"a2\",b2,x\n", "3 not accepted: Release 1 10\n"),
-    ];
-    for (line, want) in rows {
-        let table = TWO_WAY_TABLE.replace(rt.alloc(), "a2,b2,x\n", line)?;
-        let got = intervals_of(rt.alloc(), TWO_WAY, table.as_str())?;
-        assert_eq!(rt; got.as_str(), want);
+    for (line, want) in &LAST_LINES {
+        let got = intervals_by_line(rt.alloc(), line)?;
+        assert_eq!(rt; got.as_str(), *want);
     }
     Ok(())
 }
 
-// The intervals aren't put over the job, one of its files, its table or its contributors' file.
+// The files of the job with a file for contributors.
+const WITH_CONTRIBUTORS: [(&str, &str); 6] = [
+    (
+        "r.job",
+        "<OPENMICRODATA> \"m.asc\"\n<OPENMETADATA> \"m.rda\"\n<SPECIFYTABLE> \"A\"\"B\"|\"V\"\n<SAFETYRULE> FREQ(3,30)\n<APRIORI> \"p.hst\",1,\",\"\n<SUPPRESS> MOD()\n<WRITETABLE> (1,\"t.csv\")\n<CONTRIBUTORS> \"g.txt\"\n<CERTIFICATE> \"t.cert\"\n",
+    ),
+    ("m.rda", THREE_VARIABLES),
+    ("m.asc", THIRTEEN_RECORDS),
+    ("p.hst", MARGINS),
+    ("t.cert", ""),
+    ("t.csv", TWO_WAY_TABLE),
+];
+
+// The job, one of its files, its table and its contributors' file.
+const TAKEN_NAMES: [&str; 4] = ["r.job", "p.hst", "t.csv", "g.txt"];
+
+// The intervals aren't put over any of them.
 #[test]
 fn names_of_intervals(rt: HostRuntime) -> Result<(), Fail> {
-    let job = TWO_WAY.replace(
-        rt.alloc(),
-        "<CERTIFICATE>",
-        "<CONTRIBUTORS> \"g.txt\"\n<CERTIFICATE>",
-    )?;
-    let files = [
-        ("r.job", job.as_str()),
-        ("m.rda", THREE_VARIABLES),
-        ("m.asc", THIRTEEN_RECORDS),
-        ("p.hst", MARGINS),
-        ("t.cert", ""),
-        ("t.csv", TWO_WAY_TABLE),
-    ];
-    for out in ["r.job", "p.hst", "t.csv", "g.txt"] {
-        let got = run_over(rt.alloc(), &["intervals", "r.job", out], &files)?;
+    for out in &TAKEN_NAMES {
+        let got = run_over(rt.alloc(), &["intervals", "r.job", out], &WITH_CONTRIBUTORS)?;
         assert_eq!(rt; got.as_str(), "2 refused: out: OutName\n");
     }
     Ok(())

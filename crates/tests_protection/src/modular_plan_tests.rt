@@ -2,11 +2,12 @@ ghost use Rattle.std.specs.Prelude.{◌≡◌, true, All};
 ghost use Rattle.cost_rule.specs.Costs.{IsTold};
 ghost use Rattle.cost_rule.specs.declared.kind.CostKind.TheVariants as Kinds;
 
+use crate::books::book_of;
 use crate::costs::are_costed;
 use cost_rule::{CostKind, CostRule, TellsCosts};
 use hierarchy::{CodeTree, from_lead};
-use kit_cells::{LINKED, bounded_cell, cell_of, set_truth};
-use kit_records::{place, two_codes};
+use kit_cells::{LINKED, bounded_cell, cell_of};
+use kit_records::{pairs, two_codes};
 use linked_tables::Book;
 use modular_plan::plan;
 use sdc_base::{Cell, CellFacts, Kind, PlanStep, Text, Trail};
@@ -31,36 +32,9 @@ fn industries(alloc: Global) -> Result<CodeTree, Fail> {
     Ok(from_lead(alloc, bytes, &lead, &total)?)
 }
 
-// The book of tables over these trees, whose cells have these truths.
-fn book_of(
-    alloc: Global,
-    trees: Vec<CodeTree>,
-    tables: &[&[u32]],
-    truths: &[u32],
-) -> Result<Book, Fail> {
-    let mut spanned = Vec::new(alloc);
-    for table in tables {
-        spanned.push(place(table))?;
-    }
-    if trees.len() > 8 || spanned.len() > 100 {
-        return Err(Fail::new("too many trees or tables for a book"));
-    }
-    let mut book = Book::new(alloc, trees, spanned)?;
-    for (cell, truth) in truths.iter().enumerate() {
-        if cell < 100 {
-            set_truth(&mut book, cell as u32, *truth);
-        }
-    }
-    Ok(book)
-}
-
 // A book of these tables over three variables with two codes each.
 fn linked(alloc: Global, tables: &[&[u32]]) -> Result<Book, Fail> {
-    let mut trees = Vec::new(alloc);
-    for _ in 0..3u8 {
-        trees.push(two_codes(alloc)?)?;
-    }
-    book_of(alloc, trees, tables, &LINKED)
+    book_of(alloc, pairs(alloc, 3)?, tables, &LINKED)
 }
 
 // The first cells of the linked tables: cell 4 is primary with levels of 6.
@@ -141,29 +115,37 @@ fn are_hidden(book: &Book, cells: &[u32]) -> bool {
         == cells.iter().any(|cell| *cell as usize == number))
 }
 
-// Whether the trail through these tables has these steps, and exactly these cells are hidden then.
-fn is_trail(
-    alloc: Global,
-    tables: &[&[u32]],
-    cells: &[Cell],
-    meant: &[Step<'_>],
-    hidden: &[u32],
-) -> Result<bool, Fail> {
-    is_trail_in(alloc, tables, cells, 1, meant, hidden)
+// What is asked of tables, and the trail that it makes: the tables, the passes, the steps, and the cells that are
+// hidden then.
+#[derive(Clone, Copy)]
+struct PlannedTrail {
+    tables: &'static [&'static [u32]],
+    passes: u32,
+    steps: &'static [Step<'static>],
+    hidden: &'static [u32],
 }
 
-// The same for so many passes.
-fn is_trail_in(
-    alloc: Global,
-    tables: &[&[u32]],
-    cells: &[Cell],
-    passes: u32,
-    meant: &[Step<'_>],
-    hidden: &[u32],
-) -> Result<bool, Fail> {
-    let mut book = linked(alloc, tables)?;
-    let trail = planned(alloc, &mut book, cells, passes)?;
-    Ok(are_steps(&trail, meant) && are_hidden(&book, hidden))
+// Whether the trail through these tables has these steps, and exactly these cells are hidden then.
+fn is_trail(alloc: Global, cells: &[Cell], meant: &PlannedTrail) -> Result<bool, Fail> {
+    let mut book = linked(alloc, meant.tables)?;
+    let trail = planned(alloc, &mut book, cells, meant.passes)?;
+    Ok(are_steps(&trail, meant.steps) && are_hidden(&book, meant.hidden))
+}
+
+const INNER_CELLS: PlannedTrail = PlannedTrail {
+    tables: &[&[0, 1]],
+    passes: 1,
+    steps: &[(0, &[0, 0], 4, &[4, 5, 7, 8])],
+    hidden: &[4, 5, 7, 8],
+};
+
+// The margins are always shown.
+#[test]
+fn margins_always_shown(rt: HostRuntime) -> Result<(), Fail> {
+    let alloc = rt.alloc();
+    let cells = linked_cells(alloc, 9, Kind::Fixed)?;
+    assert!(rt; is_trail(alloc, cells.as_slice(), &INNER_CELLS)?);
+    Ok(())
 }
 
 // The first cells of the linked tables, of which that of the codes a1 and b2 is known to be from 48 to 52.
@@ -175,44 +157,47 @@ fn bounded_cells(alloc: Global, count: usize) -> Result<Vec<Cell>, Fail> {
     Ok(cells)
 }
 
-// The margins are always shown.
-#[test]
-fn margins_always_shown(rt: HostRuntime) -> Result<(), Fail> {
-    let alloc = rt.alloc();
-    let cells = linked_cells(alloc, 9, Kind::Fixed)?;
-    let first: Step<'_> = (0, &[0, 0], 4, &[4, 5, 7, 8]);
-    let is = is_trail(alloc, &[&[0, 1]], cells.as_slice(), &[first], &[4, 5, 7, 8])?;
-    assert_eq!(rt; is, true);
-    Ok(())
+// How many cells there are, one of which can't move by 6, and the trail.
+const BESIDE_A_BOUND: [(usize, PlannedTrail); 2] = [
+    (
+        9,
+        PlannedTrail {
+            tables: &[&[0, 1]],
+            passes: 1,
+            steps: &[(0, &[0, 0], 4, &[3, 4, 6, 7])],
+            hidden: &[3, 4, 6, 7],
+        },
+    ),
+    // in a second table the cells that both have need partners too
+    (
+        15,
+        PlannedTrail {
+            tables: &[&[0, 1], &[0, 2]],
+            passes: 1,
+            steps: &[
+                (0, &[0, 0], 4, &[3, 4, 6, 7]),
+                (1, &[0, 0], 3, &[3, 6, 11, 13]),
+            ],
+            hidden: &[3, 4, 6, 7, 11, 13],
+        },
+    ),
+];
+
+fn is_trail_beside_a_bound(
+    alloc: Global,
+    count: usize,
+    meant: &PlannedTrail,
+) -> Result<bool, Fail> {
+    let cells = bounded_cells(alloc, count)?;
+    is_trail(alloc, cells.as_slice(), meant)
 }
 
-// One cell can't move by 6.
 #[test]
 fn bounded_corner(rt: HostRuntime) -> Result<(), Fail> {
     let alloc = rt.alloc();
-    let cells = bounded_cells(alloc, 9)?;
-    let first: Step<'_> = (0, &[0, 0], 4, &[3, 4, 6, 7]);
-    let is = is_trail(alloc, &[&[0, 1]], cells.as_slice(), &[first], &[3, 4, 6, 7])?;
-    assert_eq!(rt; is, true);
-    Ok(())
-}
-
-// In a second table the cells that both have need partners too.
-#[test]
-fn linked_tables(rt: HostRuntime) -> Result<(), Fail> {
-    let alloc = rt.alloc();
-    let cells = bounded_cells(alloc, 15)?;
-    let first: Step<'_> = (0, &[0, 0], 4, &[3, 4, 6, 7]);
-    let second: Step<'_> = (1, &[0, 0], 3, &[3, 6, 11, 13]);
-    let hidden: &[u32] = &[3, 4, 6, 7, 11, 13];
-    let is = is_trail(
-        alloc,
-        &[&[0, 1], &[0, 2]],
-        cells.as_slice(),
-        &[first, second],
-        hidden,
-    )?;
-    assert_eq!(rt; is, true);
+    for (count, meant) in &BESIDE_A_BOUND {
+        assert!(rt; is_trail_beside_a_bound(alloc, *count, meant)?);
+    }
     Ok(())
 }
 
@@ -230,42 +215,38 @@ fn cells_of_the_second(alloc: Global) -> Result<Vec<Cell>, Fail> {
     Ok(cells)
 }
 
-// The second table hides cells of the first, which had its turn before, so they have no partners there after one pass.
-#[test]
-fn one_pass(rt: HostRuntime) -> Result<(), Fail> {
-    let alloc = rt.alloc();
+const FROM_THE_SECOND: [PlannedTrail; 2] = [
+    // the second table hides cells of the first, which had its turn before, so they have no partners there after one
+    // pass
+    PlannedTrail {
+        tables: &[&[0, 1], &[0, 2]],
+        passes: 1,
+        steps: &[(1, &[0, 0], 11, &[3, 6, 11, 13])],
+        hidden: &[3, 6, 11, 13],
+    },
+    // they have them after a second pass, for 21 and 31 against 51 and 41
+    PlannedTrail {
+        tables: &[&[0, 1], &[0, 2]],
+        passes: 2,
+        steps: &[
+            (1, &[0, 0], 11, &[3, 6, 11, 13]),
+            (0, &[0, 0], 3, &[3, 4, 6, 7]),
+        ],
+        hidden: &[3, 4, 6, 7, 11, 13],
+    },
+];
+
+fn is_trail_from_the_second(alloc: Global, meant: &PlannedTrail) -> Result<bool, Fail> {
     let cells = cells_of_the_second(alloc)?;
-    let first: Step<'_> = (1, &[0, 0], 11, &[3, 6, 11, 13]);
-    let hidden: &[u32] = &[3, 6, 11, 13];
-    let is = is_trail_in(
-        alloc,
-        &[&[0, 1], &[0, 2]],
-        cells.as_slice(),
-        1,
-        &[first],
-        hidden,
-    )?;
-    assert_eq!(rt; is, true);
-    Ok(())
+    is_trail(alloc, cells.as_slice(), meant)
 }
 
-// They have them after a second pass, for 21 and 31 against 51 and 41.
 #[test]
 fn second_pass_hides_more(rt: HostRuntime) -> Result<(), Fail> {
     let alloc = rt.alloc();
-    let cells = cells_of_the_second(alloc)?;
-    let first: Step<'_> = (1, &[0, 0], 11, &[3, 6, 11, 13]);
-    let second: Step<'_> = (0, &[0, 0], 3, &[3, 4, 6, 7]);
-    let hidden: &[u32] = &[3, 4, 6, 7, 11, 13];
-    let is = is_trail_in(
-        alloc,
-        &[&[0, 1], &[0, 2]],
-        cells.as_slice(),
-        2,
-        &[first, second],
-        hidden,
-    )?;
-    assert_eq!(rt; is, true);
+    for meant in &FROM_THE_SECOND {
+        assert!(rt; is_trail_from_the_second(alloc, meant)?);
+    }
     Ok(())
 }
 
@@ -275,22 +256,25 @@ fn industry_book(alloc: Global) -> Result<Book, Fail> {
     book_of(alloc, trees, &[&[0]], &INDUSTRIES)
 }
 
-// Whether so many passes through the industries have two steps; the subtable of 2 hides nothing new.
+// The two steps through the industries; the subtable of 2 hides nothing new.
+const INDUSTRY_STEPS: [Step<'static>; 2] = [(0, &[0], 4, &[1, 4]), (0, &[1], 1, &[1, 3])];
+
+// Whether so many passes through the industries have these steps.
 fn is_trail_of_industries(alloc: Global, passes: u32) -> Result<bool, Fail> {
     let cells = industry_cells(alloc)?;
     let mut book = industry_book(alloc)?;
     let trail = planned(alloc, &mut book, cells.as_slice(), passes)?;
-    let first: Step<'_> = (0, &[0], 4, &[1, 4]);
-    let second: Step<'_> = (0, &[1], 1, &[1, 3]);
-    Ok(are_steps(&trail, &[first, second]) && are_hidden(&book, &[1, 3, 4, 5]))
+    Ok(are_steps(&trail, &INDUSTRY_STEPS) && are_hidden(&book, &[1, 3, 4, 5]))
 }
 
 // Two levels of codes, in one pass and in two.
+const PASSES: [u32; 2] = [1, 2];
+
 #[test]
 fn two_levels(rt: HostRuntime) -> Result<(), Fail> {
     let alloc = rt.alloc();
-    let one = is_trail_of_industries(alloc, 1)?;
-    let two = is_trail_of_industries(alloc, 2)?;
-    assert_eq!(rt; one && two, true);
+    for passes in &PASSES {
+        assert!(rt; is_trail_of_industries(alloc, *passes)?);
+    }
     Ok(())
 }

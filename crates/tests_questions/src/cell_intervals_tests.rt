@@ -1,6 +1,6 @@
 ghost use Rattle.std.specs.Prelude.{◌≡◌, ◌≤◌, ◌≤ℤ◌, ◌^◌, All, true, pos};
 
-use crate::cases::{Case, case_of, ring_of_three, two_by_two};
+use crate::cases::{Case, FOUR_HIDDEN, RING_OF_THREE, Sketch, case_of, parts_hidden};
 use cell_intervals::{CellInterval, interval_text, intervals_of};
 use interval_audit::AskFault;
 use sdc_base::{Cell, Items};
@@ -34,67 +34,62 @@ fn intervals_in(
 }
 
 // Whether the file of the intervals of a case is this one, with a limit of 100.
-fn has_text(alloc: Global, case: Option<Case>, wanted: &[u8]) -> Result<bool, Fail> {
-    let Some(case) = case else {
-        return Ok(false);
-    };
-    let Some(Ok(intervals)) = intervals_in(alloc, &case, 100) else {
-        return Ok(false);
+fn has_text(alloc: Global, case: &Case, wanted: &[u8]) -> bool {
+    let Some(Ok(intervals)) = intervals_in(alloc, case, 100) else {
+        return false;
     };
     let Ok(text) = interval_text(alloc, intervals.as_slice()) else {
-        return Ok(false);
+        return false;
     };
-    Ok(text.as_slice() == wanted)
+    text.as_slice() == wanted
 }
 
-// All four cells move together: by 20 at most until cell 4 is 0, and by 30 at most until cell 7 is.
-#[test]
-fn four_cells_of_a_table(rt: HostRuntime) -> Result<(), Fail> {
-    let alloc = rt.alloc();
-    let text = b"cell,low,high\n4,0,50\n5,20,70\n7,0,50\n8,20,70\n".as_slice();
-    assert!(&rt; has_text(alloc, two_by_two(alloc, (5, 0, None), &[4, 5, 7, 8])?, text)?);
-    Ok(())
+// The same for what a sketch is of.
+fn is_text_of(alloc: Global, sketch: Sketch<'_>, wanted: &[u8]) -> Result<bool, Fail> {
+    let Some(case) = case_of(alloc, sketch)? else {
+        return Ok(false);
+    };
+    Ok(has_text(alloc, &case, wanted))
 }
 
 // A cell in no relation, without an upper bound, beside one that has bounds and is shown.
-#[test]
-fn cell_without_upper_bound_is_open(rt: HostRuntime) -> Result<(), Fail> {
-    let alloc = rt.alloc();
-    let case = case_of(alloc, &[], &[5, 7], (0, 3, Some(8)), &[1])?;
-    let text = b"cell,low,high\n1,0,open\n".as_slice();
-    assert!(&rt; has_text(alloc, case, text)?);
-    Ok(())
-}
+const ONE_OPEN: Sketch<'static> = Sketch {
+    relations: &[],
+    truths: &[5, 7],
+    bounded: (0, 3, Some(8)),
+    hidden: &[1],
+};
 
-// Cells 3, 4 and 5 in a ring: 3 and 4, and 4 and 5, have shown sums, so 4 moves against 3, and 5 moves with it; cell 2,
-// the sum of 3 and 5, moves by twice as much, and it may rise by 1 and fall by 2. So 3 and 5 fall by 1 and rise by a
-// half.
-#[test]
-fn ring_of_three_ends_at_halves(rt: HostRuntime) -> Result<(), Fail> {
-    let alloc = rt.alloc();
-    let case = ring_of_three(alloc)?;
-    let text = b"cell,low,high\n2,18,21\n3,9,21/2\n4,19/2,11\n5,9,21/2\n".as_slice();
-    assert!(&rt; has_text(alloc, case, text)?);
-    Ok(())
-}
+// Cases and the files of their intervals.
+const TEXTS: [(Sketch<'static>, &[u8]); 3] = [
+    // all four cells move together: by 20 at most until cell 4 is 0, and by 30 at most until cell 7 is
+    (
+        FOUR_HIDDEN,
+        b"cell,low,high\n4,0,50\n5,20,70\n7,0,50\n8,20,70\n",
+    ),
+    // a cell without an upper bound is open
+    (ONE_OPEN, b"cell,low,high\n1,0,open\n"),
+    // cells 3, 4 and 5 in a ring: 3 and 4, and 4 and 5, have shown sums, so 4 moves against 3, and 5 moves with it;
+    // cell 2, the sum of 3 and 5, moves by twice as much, and it may rise by 1 and fall by 2. So 3 and 5 fall by 1 and
+    // rise by a half
+    (
+        RING_OF_THREE,
+        b"cell,low,high\n2,18,21\n3,9,21/2\n4,19/2,11\n5,9,21/2\n",
+    ),
+];
 
-// A total with so many parts, of which all but the total are hidden.
-fn parts_hidden(alloc: Global, parts: u32) -> Result<Option<Case>, Fail> {
-    let mut numbers = Vec::new(alloc);
-    let mut truths = Vec::new(alloc);
-    truths.push(i128::from(parts))?;
-    for part in 1..=parts {
-        numbers.push(part)?;
-        truths.push(1)?;
+#[test]
+fn files_of_intervals(rt: HostRuntime) -> Result<(), Fail> {
+    let alloc = rt.alloc();
+    for (sketch, text) in &TEXTS {
+        assert!(rt; is_text_of(alloc, *sketch, text)?);
     }
-    let hidden = numbers.as_slice();
-    let relations = [(0, hidden)];
-    case_of(alloc, &relations, truths.as_slice(), (0, 0, None), hidden)
+    Ok(())
 }
 
 // The cell of the first question that has no answer, where that is for the size of its component.
 fn cell_too_large(alloc: Global, parts: u32) -> Result<Option<u32>, Fail> {
-    let Some(large) = parts_hidden(alloc, parts)? else {
+    let Some(large) = parts_hidden(alloc, parts, (0, 0, None))? else {
         return Ok(None);
     };
     match intervals_in(alloc, &large, 1) {
@@ -107,7 +102,7 @@ fn cell_too_large(alloc: Global, parts: u32) -> Result<Option<u32>, Fail> {
 
 // The cell of the first question of the ring that takes more than one improvement.
 fn cell_cut_off(alloc: Global) -> Result<Option<u32>, Fail> {
-    let Some(ring) = ring_of_three(alloc)? else {
+    let Some(ring) = case_of(alloc, RING_OF_THREE)? else {
         return Ok(None);
     };
     match intervals_in(alloc, &ring, 1) {
@@ -117,9 +112,13 @@ fn cell_cut_off(alloc: Global) -> Result<Option<u32>, Fail> {
 }
 
 #[test]
-fn first_question_without_an_answer_is_named(rt: HostRuntime) -> Result<(), Fail> {
-    let alloc = rt.alloc();
-    assert_eq!(&rt; cell_too_large(alloc, 4001)?, Some(1));
-    assert_eq!(&rt; cell_cut_off(alloc)?, Some(2));
+fn first_question_of_a_component_too_large_is_named(rt: HostRuntime) -> Result<(), Fail> {
+    assert_eq!(rt; cell_too_large(rt.alloc(), 4001)?, Some(1));
+    Ok(())
+}
+
+#[test]
+fn first_question_that_is_cut_off_is_named(rt: HostRuntime) -> Result<(), Fail> {
+    assert_eq!(rt; cell_cut_off(rt.alloc())?, Some(2));
     Ok(())
 }

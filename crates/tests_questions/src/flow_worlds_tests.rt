@@ -1,6 +1,6 @@
 ghost use Rattle.std.specs.Prelude.{◌<◌, true};
 
-use crate::cases::{Case, case_of, two_by_two};
+use crate::cases::{Case, FOUR_HIDDEN, Sketch, case_of};
 use flow_worlds::{FlowAnswer, flow};
 use sdc_base::{Side, signs};
 use std::alloc::Global;
@@ -79,75 +79,98 @@ fn stops_at(
         && multipliers.by_relation.as_slice() == by_relation
 }
 
-// All four cells move together: cell 7 falls by 30 at most.
-#[test]
-fn four_cells_go_round(rt: HostRuntime) -> Result<(), Fail> {
-    let alloc = rt.alloc();
-    let Some(case) = two_by_two(alloc, (5, 0, None), &[4, 5, 7, 8])? else {
-        assert!(&rt; false);
-        return Ok(());
+// A case, the cell and the side that are asked about, and the target.
+type Asked = (Sketch<'static>, u32, Side, i128);
+
+// What a question about a case is answered with; none where it can't be asked so.
+fn answer_of(alloc: Global, asked: &Asked) -> Result<Option<FlowAnswer>, Fail> {
+    let (sketch, cell, side, target) = *asked;
+    let Some(case) = case_of(alloc, sketch)? else {
+        return Ok(None);
     };
-    let far = flow_of(alloc, &case, 4, Side::Above, 1 << 110);
-    let moves = [(4, 30), (5, -30), (7, -30), (8, 30)];
-    assert!(&rt; stops_at(far, 30, moves.as_slice(), [(2, 1)].as_slice()));
-    let near = flow_of(alloc, &case, 4, Side::Above, 6);
-    let moves = [(4, 6), (5, -6), (7, -6), (8, 6)];
-    assert!(&rt; reaches_in(near, moves.as_slice()));
+    Ok(flow_of(alloc, &case, cell, side, target))
+}
+
+// A total and its part, which is hidden alone.
+const ONE_PART: Sketch<'static> = Sketch {
+    relations: &[(0, &[1])],
+    truths: &[100, 100],
+    bounded: (0, 0, None),
+    hidden: &[1],
+};
+
+// A total and its two parts, all of them hidden. The second part may rise by 1 and fall by 2.
+const TOTAL_AND_PARTS: Sketch<'static> = Sketch {
+    relations: &[(0, &[1, 2])],
+    truths: &[50, 20, 30],
+    bounded: (2, 28, Some(31)),
+    hidden: &[0, 1, 2],
+};
+
+// Two cells in no relation, of which the first may rise by 3 and fall by 2.
+const NO_RELATION: Sketch<'static> = Sketch {
+    relations: &[],
+    truths: &[5, 7],
+    bounded: (0, 3, Some(8)),
+    hidden: &[0, 1],
+};
+
+// A question that stops: the best value, the moves that attain it, and its multipliers.
+type Stop = (Asked, i128, &'static [(u32, i128)], &'static [(u32, i128)]);
+
+const STOPS: [Stop; 5] = [
+    // all four cells move together: cell 7 falls by 30 at most
+    (
+        (FOUR_HIDDEN, 4, Side::Above, 1 << 110),
+        30,
+        &[(4, 30), (5, -30), (7, -30), (8, 30)],
+        &[(2, 1)],
+    ),
+    // a cell below its total alone doesn't move where the total is shown
+    ((ONE_PART, 1, Side::Above, 5), 0, &[], &[(0, 1)]),
+    // cells in one relation alone go through the outside point: the total falls by 20 with the first part and by 2 with
+    // the second
+    (
+        (TOTAL_AND_PARTS, 0, Side::Below, 100),
+        22,
+        &[(0, -22), (1, -20), (2, -2)],
+        &[(0, 1)],
+    ),
+    // and the second rises by 1, its own bound
+    (
+        (TOTAL_AND_PARTS, 2, Side::Above, 1 << 110),
+        1,
+        &[(0, 1), (2, 1)],
+        &[],
+    ),
+    // a cell in no relation moves as far as its bounds let it
+    ((NO_RELATION, 0, Side::Above, 4), 3, &[(0, 3)], &[]),
+];
+
+#[test]
+fn cells_stop_at_their_best(rt: HostRuntime) -> Result<(), Fail> {
+    let alloc = rt.alloc();
+    for (asked, best, moves, by_relation) in &STOPS {
+        assert!(rt; stops_at(answer_of(alloc, asked)?, *best, moves, by_relation));
+    }
     Ok(())
 }
 
-// A cell below its total alone doesn't move where the total is shown.
-#[test]
-fn one_cell_below_its_total(rt: HostRuntime) -> Result<(), Fail> {
-    let alloc = rt.alloc();
-    let relations = [(0, [1].as_slice())];
-    let Some(case) = case_of(alloc, &relations, &[100, 100], (0, 0, None), &[1])? else {
-        assert!(&rt; false);
-        return Ok(());
-    };
-    let above = flow_of(alloc, &case, 1, Side::Above, 5);
-    assert!(&rt; stops_at(above, 0, [].as_slice(), [(0, 1)].as_slice()));
-    Ok(())
-}
+// Questions whose targets are reached, and the moves that reach them.
+const REACHED: [(Asked, &[(u32, i128)]); 3] = [
+    (
+        (FOUR_HIDDEN, 4, Side::Above, 6),
+        &[(4, 6), (5, -6), (7, -6), (8, 6)],
+    ),
+    ((NO_RELATION, 1, Side::Above, 1 << 110), &[(1, 1 << 110)]),
+    ((NO_RELATION, 1, Side::Above, 0), &[]),
+];
 
-// A total and its two parts are hidden, each in one relation alone, so that they go through the outside point. The total
-// falls by 20 with the first part and by 2 with the second, and the second rises by 1, its own bound.
 #[test]
-fn cells_in_one_relation_go_through_the_outside(rt: HostRuntime) -> Result<(), Fail> {
+fn cells_reach_their_targets(rt: HostRuntime) -> Result<(), Fail> {
     let alloc = rt.alloc();
-    let relations = [(0, [1, 2].as_slice())];
-    let Some(case) = case_of(
-        alloc,
-        &relations,
-        &[50, 20, 30],
-        (2, 28, Some(31)),
-        &[0, 1, 2],
-    )?
-    else {
-        assert!(&rt; false);
-        return Ok(());
-    };
-    let below = flow_of(alloc, &case, 0, Side::Below, 100);
-    let moves = [(0, -22), (1, -20), (2, -2)];
-    assert!(&rt; stops_at(below, 22, moves.as_slice(), [(0, 1)].as_slice()));
-    let above = flow_of(alloc, &case, 2, Side::Above, 1 << 110);
-    assert!(&rt; stops_at(above, 1, [(0, 1), (2, 1)].as_slice(), [].as_slice()));
-    Ok(())
-}
-
-// A cell in no relation moves as far as its bounds let it.
-#[test]
-fn cell_in_no_relation(rt: HostRuntime) -> Result<(), Fail> {
-    let alloc = rt.alloc();
-    let Some(case) = case_of(alloc, &[], &[5, 7], (0, 3, Some(8)), &[0, 1])? else {
-        assert!(&rt; false);
-        return Ok(());
-    };
-    let bounded = flow_of(alloc, &case, 0, Side::Above, 4);
-    assert!(&rt; stops_at(bounded, 3, [(0, 3)].as_slice(), [].as_slice()));
-    let open = flow_of(alloc, &case, 1, Side::Above, 1 << 110);
-    assert!(&rt; reaches_in(open, [(1, 1 << 110)].as_slice()));
-    let nothing = flow_of(alloc, &case, 1, Side::Above, 0);
-    assert!(&rt; reaches_in(nothing, [].as_slice()));
+    for (asked, moves) in &REACHED {
+        assert!(rt; reaches_in(answer_of(alloc, asked)?, moves));
+    }
     Ok(())
 }

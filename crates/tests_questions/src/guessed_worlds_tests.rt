@@ -6,7 +6,7 @@ use sdc_base::{Cell, Hidden, Kind, Side, System};
 use std::alloc::{AllocError, Global};
 use std::rt::HostRuntime;
 use std::test::Fail;
-use worlds::World;
+use worlds::{Pattern, World};
 
 // The relations of a table of three variables with two codes each: the cell of places a, b and c has the number
 // 9 a + 3 b + c, and the place 0 is the total.
@@ -63,42 +63,30 @@ fn cells_of(alloc: Global, level: u8) -> Result<Vec<Cell>, AllocError> {
     Ok(cells)
 }
 
-// A table, and a search over its cells within.
-#[derive(Drop)]
-struct Trial {
-    system: System,
-    cells: Vec<Cell>,
-    search: WorldSearch,
+// The system of the table, where it can be made.
+fn table(alloc: Global) -> Result<Option<System>, AllocError> {
+    system_of(alloc, TRUTHS.len(), TWO_BY_TWO_BY_TWO.as_slice())
 }
 
-// The search, with this level.
-fn trial_of(alloc: Global, level: u8) -> Result<Option<Trial>, AllocError> {
-    let cells = cells_of(alloc, level)?;
-    let Some(system) = system_of(alloc, cells.len(), TWO_BY_TWO_BY_TWO.as_slice())? else {
-        return Ok(None);
-    };
-    let hidden = hidden_of(alloc, cells.len(), CORNERS.as_slice())?;
-    let search = WorldSearch::new(alloc, &system, &cells, &hidden);
-    Ok(Some(Trial {
-        system,
-        cells,
-        search,
-    }))
-}
-
-// What is found for the first cell within while these cells are hidden.
-fn found_of(alloc: Global, trial: &mut Trial, side: Side, hidden: &Hidden) -> Option<World> {
-    let size = trial.system.cells as usize;
-    let flags = hidden.flags.as_slice();
-    if trial.cells.len() != size || flags.len() != size || size <= 13 {
+// What a search finds for the first cell within while these cells are hidden.
+fn found_of<'p>(
+    alloc: Global,
+    search: &mut WorldSearch,
+    system: &'p System,
+    cells: &'p [Cell],
+    hidden: &'p Hidden,
+    side: Side,
+) -> Option<World> {
+    let size = system.cells as usize;
+    if cells.len() != size || hidden.flags.as_slice().len() != size || size <= 13 {
         return None;
     }
-    let Trial {
+    let pattern = Pattern {
         system,
         cells,
-        search,
-    } = trial;
-    search.world_for(alloc, system, cells.as_slice(), hidden, (13, side))
+        hidden,
+    };
+    search.world_for(alloc, &pattern, (13, side))
 }
 
 // Whether a world has the denominator 1 and these moves of the cells within.
@@ -117,38 +105,69 @@ fn has_moves(found: &Option<World>, moves: [i128; 8]) -> bool {
 }
 
 // Cells within move together, by turns up and down, and no further than the 10 that each has.
+const TURNS: [(Side, [i128; 8]); 2] = [
+    (Side::Above, [6, -6, -6, 6, -6, 6, 6, -6]),
+    (Side::Below, [-6, 6, 6, -6, 6, -6, -6, 6]),
+];
+
+// Whether one search finds both.
+fn moves_by_turns<'p>(
+    alloc: Global,
+    search: &mut WorldSearch,
+    system: &'p System,
+    cells: &'p [Cell],
+    hidden: &'p Hidden,
+) -> bool {
+    for (side, moves) in &TURNS {
+        let found = found_of(alloc, search, system, cells, hidden, *side);
+        if !has_moves(&found, *moves) {
+            return false;
+        }
+    }
+    true
+}
+
+// Whether the search over the cells within finds them.
+fn are_turns_found(alloc: Global) -> Result<bool, Fail> {
+    let hidden = hidden_of(alloc, 27, CORNERS.as_slice())?;
+    let cells = cells_of(alloc, 6)?;
+    let Some(system) = table(alloc)? else {
+        return Ok(false);
+    };
+    let mut search = WorldSearch::new(alloc, &system, &cells, &hidden);
+    Ok(moves_by_turns(alloc, &mut search, &system, &cells, &hidden))
+}
+
 #[test]
 fn eight_cells_move_by_turns(rt: HostRuntime) -> Result<(), Fail> {
-    let alloc = rt.alloc();
-    let hidden = hidden_of(alloc, 27, CORNERS.as_slice())?;
-    let Some(mut trial) = trial_of(alloc, 6)? else {
-        assert!(&rt; false);
-        return Ok(());
-    };
-    let above = found_of(alloc, &mut trial, Side::Above, &hidden);
-    assert!(&rt; has_moves(&above, [6, -6, -6, 6, -6, 6, 6, -6]));
-    let below = found_of(alloc, &mut trial, Side::Below, &hidden);
-    assert!(&rt; has_moves(&below, [-6, 6, 6, -6, 6, -6, -6, 6]));
+    assert!(rt; are_turns_found(rt.alloc())?);
     Ok(())
 }
 
-// None is found where there is none: the others can't fall by 11, and with one of the eight shown no other moves.
+// Whether a search over the cells within, at this level, finds nothing while these cells are hidden.
+fn is_none_found(alloc: Global, level: u8, hidden: &[u32]) -> Result<bool, Fail> {
+    let within = hidden_of(alloc, 27, CORNERS.as_slice())?;
+    let hidden = hidden_of(alloc, 27, hidden)?;
+    let cells = cells_of(alloc, level)?;
+    let Some(system) = table(alloc)? else {
+        return Ok(false);
+    };
+    let mut search = WorldSearch::new(alloc, &system, &cells, &within);
+    let found = found_of(alloc, &mut search, &system, &cells, &hidden, Side::Above);
+    Ok(found.is_none())
+}
+
+// The others can't fall by 11, and with one of the eight shown no other moves.
+const NONE_TO_FIND: [(u8, &[u32]); 2] = [
+    (11, &[13, 14, 16, 17, 22, 23, 25, 26]),
+    (6, &[13, 14, 16, 17, 22, 23, 25]),
+];
+
 #[test]
 fn no_world_where_there_is_none(rt: HostRuntime) -> Result<(), Fail> {
     let alloc = rt.alloc();
-    let hidden = hidden_of(alloc, 27, CORNERS.as_slice())?;
-    let Some(mut far) = trial_of(alloc, 11)? else {
-        assert!(&rt; false);
-        return Ok(());
-    };
-    let above = found_of(alloc, &mut far, Side::Above, &hidden);
-    assert!(&rt; above.is_none());
-    let fewer = hidden_of(alloc, 27, &CORNERS[..7])?;
-    let Some(mut near) = trial_of(alloc, 6)? else {
-        assert!(&rt; false);
-        return Ok(());
-    };
-    let above = found_of(alloc, &mut near, Side::Above, &fewer);
-    assert!(&rt; above.is_none());
+    for (level, hidden) in &NONE_TO_FIND {
+        assert!(rt; is_none_found(alloc, *level, hidden)?);
+    }
     Ok(())
 }

@@ -16,4 +16,6 @@ mod rounding_audit_tests;
 #[cfg(test)]
 mod rounding_tests;
 #[cfg(test)]
+mod signed_system_tests;
+#[cfg(test)]
 mod worlds_tests;

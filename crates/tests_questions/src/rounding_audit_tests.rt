@@ -24,9 +24,6 @@ const CELLS: [(u32, u8); 9] = [
 // A rounding of these truths to base 5.
 const ROUNDED: [i128; 9] = [15, 10, 5, 5, 5, 0, 10, 5, 5];
 
-// Each truth at its nearest multiple of 5, which is no rounding: cell 3 isn't the sum of cells 4 and 5.
-const NEAREST: [i128; 9] = [15, 10, 5, 5, 5, 5, 10, 5, 0];
-
 fn cells_in(alloc: Global) -> Result<Vec<Cell>, Fail> {
     let mut cells = Vec::new(alloc);
     for (truth, level) in &CELLS {
@@ -60,19 +57,35 @@ fn audit_in(
     Some(audit_of(alloc, system, cells, values, 5, 100))
 }
 
-// How many of the cells of an audit aren't covered on some side, and its text; none where there is no audit.
-fn text_in(alloc: Global, values: &[i128]) -> Result<Option<(usize, Items<u8>)>, Fail> {
+// The audited cells of the rounding; none where there is no audit.
+fn audited_cells(alloc: Global) -> Result<Option<Items<AuditedCell>>, Fail> {
     let Some(system) = system_of(alloc, 9, &TWO_BY_TWO)? else {
         return Ok(None);
     };
     let cells = cells_in(alloc)?;
-    let Some(Ok(audited)) = audit_in(alloc, &system, cells.as_slice(), values) else {
+    match audit_in(alloc, &system, cells.as_slice(), &ROUNDED) {
+        Some(Ok(audited)) => Ok(Some(audited)),
+        _ => Ok(None),
+    }
+}
+
+// How many of the cells of the rounding aren't covered on some side; none where there is no audit.
+fn exposed_cells(alloc: Global) -> Result<Option<usize>, Fail> {
+    match audited_cells(alloc)? {
+        Some(audited) => Ok(Some(exposed_in(audited.as_slice()))),
+        None => Ok(None),
+    }
+}
+
+// The file of the rounding's audit; none where there is no audit.
+fn audited_text(alloc: Global) -> Result<Option<Items<u8>>, Fail> {
+    let Some(audited) = audited_cells(alloc)? else {
         return Ok(None);
     };
-    let Ok(text) = audit_text(alloc, audited.as_slice()) else {
-        return Ok(None);
-    };
-    Ok(Some((exposed_in(audited.as_slice()), text)))
+    match audit_text(alloc, audited.as_slice()) {
+        Ok(text) => Ok(Some(text)),
+        Err(_) => Ok(None),
+    }
 }
 
 // Why values have no audit; none where they have one.
@@ -87,35 +100,56 @@ fn fault_in(alloc: Global, values: &[i128]) -> Result<Option<ReaderFault>, Fail>
     }
 }
 
-// Of the sides of the four cells five are covered, so that three cells are exposed. A reader knows that cell 5 is at most
-// 4, since it shows 0 to base 5; that is its truth, so the table that attains it moves nothing.
+// Of the sides of the four cells five are covered, so that three cells are exposed.
 #[test]
-fn four_cells_are_audited(rt: HostRuntime) -> Result<(), Fail> {
-    let alloc = rt.alloc();
-    let Some((exposed, text)) = text_in(alloc, &ROUNDED)? else {
-        assert!(&rt; false);
-        return Ok(());
-    };
-    let ends =
-        b"cell,low,high,below,above\n4,1,9,yes,yes\n5,0,4,yes,no\n7,1,9,yes,no\n8,1,9,no,yes\n".as_slice();
-    let still = b"\nworld 5 above 1\nstop 5 above 1\n".as_slice();
-    let bytes = text.as_slice();
-    assert_eq!(&rt; exposed, 3);
-    assert!(&rt; bytes.starts_with(ends));
-    assert!(&rt; bytes.windows(still.len()).any(|part| part == still));
-    assert_eq!(&rt; bytes.iter().filter(|b| **b == b'\n').count(), 21);
+fn three_cells_are_exposed(rt: HostRuntime) -> Result<(), Fail> {
+    assert_eq!(rt; exposed_cells(rt.alloc())?, Some(3));
     Ok(())
 }
 
-// The nearest multiples are no rounding, and neither are values of which one isn't a multiple, or lies a base away.
+// Whether a text starts with the lines of the four cells, and has 21 lines in all. A reader knows that cell 5 is at
+// most 4, since it shows 0 to base 5; that is its truth, so the table that attains it moves nothing.
+fn is_audit(text: &[u8]) -> bool {
+    let ends =
+        b"cell,low,high,below,above\n4,1,9,yes,yes\n5,0,4,yes,no\n7,1,9,yes,no\n8,1,9,no,yes\n".as_slice();
+    let still = b"\nworld 5 above 1\nstop 5 above 1\n".as_slice();
+    text.starts_with(ends)
+        && text.windows(still.len()).any(|part| part == still)
+        && text.iter().filter(|byte| **byte == b'\n').count() == 21
+}
+
+#[test]
+fn four_cells_are_audited(rt: HostRuntime) -> Result<(), Fail> {
+    let text = audited_text(rt.alloc())?;
+    assert!(rt; matches!(&text, Some(text) if is_audit(text.as_slice())));
+    Ok(())
+}
+
+// Values of the table, and why they have no audit.
+const REFUSED: [([i128; 9], Option<ReaderFault>); 4] = [
+    // each truth at its nearest multiple of 5, which is no rounding: cell 3 isn't the sum of cells 4 and 5
+    (
+        [15, 10, 5, 5, 5, 5, 10, 5, 0],
+        Some(ReaderFault::Relation(4)),
+    ),
+    // one value isn't a multiple
+    (
+        [15, 10, 5, 5, 4, 0, 10, 5, 5],
+        Some(ReaderFault::Rounded(4)),
+    ),
+    // one value lies a base away
+    (
+        [15, 10, 5, 5, 5, 0, 10, 5, 10],
+        Some(ReaderFault::Rounded(8)),
+    ),
+    (ROUNDED, None),
+];
+
 #[test]
 fn other_values_have_no_audit(rt: HostRuntime) -> Result<(), Fail> {
     let alloc = rt.alloc();
-    assert_eq!(&rt; fault_in(alloc, &NEAREST)?, Some(ReaderFault::Relation(4)));
-    let uneven = [15, 10, 5, 5, 4, 0, 10, 5, 5];
-    assert_eq!(&rt; fault_in(alloc, &uneven)?, Some(ReaderFault::Rounded(4)));
-    let far = [15, 10, 5, 5, 5, 0, 10, 5, 10];
-    assert_eq!(&rt; fault_in(alloc, &far)?, Some(ReaderFault::Rounded(8)));
-    assert_eq!(&rt; fault_in(alloc, &ROUNDED)?, None);
+    for (values, why) in &REFUSED {
+        assert_eq!(rt; fault_in(alloc, values)?, *why);
+    }
     Ok(())
 }

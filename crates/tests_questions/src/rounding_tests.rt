@@ -187,72 +187,93 @@ fn values_of(
     }
 }
 
+// What becomes of a rounding of a table; nothing where it can't be asked for.
+fn rounded_in(
+    alloc: Global,
+    table: Table<'_>,
+    base: i128,
+    nodes: u64,
+) -> Result<Option<Result<Vec<i128>, RoundFault>>, Fail> {
+    let Some(system) = system_in(alloc, table)? else {
+        return Ok(None);
+    };
+    values_of(alloc, &system, table.truths, base, nodes)
+}
+
+// Whether values are a rounding of a table, looked at anew; to the base 1 they are its truths.
+fn is_rounding_in(
+    alloc: Global,
+    table: Table<'_>,
+    values: &[i128],
+    base: i128,
+) -> Result<bool, Fail> {
+    let Some(system) = system_in(alloc, table)? else {
+        return Ok(false);
+    };
+    Ok(is_rounding(&system, table.truths, values, base) && (base != 1 || values == table.truths))
+}
+
+// Whether a table is rounded.
+fn is_rounded(alloc: Global, table: Table<'_>, base: i128, nodes: u64) -> Result<bool, Fail> {
+    match rounded_in(alloc, table, base, nodes)? {
+        Some(Ok(values)) => is_rounding_in(alloc, table, values.as_slice(), base),
+        _ => Ok(false),
+    }
+}
+
+// Tables with their bases and the most nodes that are looked at.
+const ROUNDED: [(Table<'static>, i128, u64); 3] = [
+    (COUNTS, 5, 512),
+    (COUNTS, 1, 2),
+    (GREATEST, 10_000_000_000_000_000_000_000, 8),
+];
+
 #[test]
 fn tables_with_roundings(rt: HostRuntime) -> Result<(), Fail> {
     let alloc = rt.alloc();
-    for (table, base, nodes) in [
-        (COUNTS, 5, 512),
-        (COUNTS, 1, 2),
-        (GREATEST, 10_000_000_000_000_000_000_000, 8),
-    ] {
-        let Some(system) = system_in(alloc, table)? else {
-            assert!(rt; false, "no system");
-            return Ok(());
-        };
-        let Some(Ok(values)) = values_of(alloc, &system, table.truths, base, nodes)? else {
-            assert!(rt; false, "{base}");
-            return Ok(());
-        };
-        assert!(rt;
-            is_rounding(&system, table.truths, values.as_slice(), base),
-            "{base}"
-        );
-        assert!(rt; base != 1 || values.as_slice() == table.truths);
+    for (table, base, nodes) in &ROUNDED {
+        assert!(rt; is_rounded(alloc, *table, *base, *nodes)?);
     }
     Ok(())
 }
 
+const ROUNDED_ONES: [i128; 9] = [4, 2, 2, 2, 2, 0, 2, 0, 2];
+
 // The first cell that isn't a multiple goes up, and then down, up and down round the other three: no list is looked at.
 #[test]
 fn ones_go_round_once(rt: HostRuntime) -> Result<(), Fail> {
-    let alloc = rt.alloc();
-    let Some(system) = system_in(alloc, ONES)? else {
-        assert!(rt; false, "no system");
-        return Ok(());
-    };
-    let Some(Ok(values)) = values_of(alloc, &system, ONES.truths, 2, 1)? else {
-        assert!(rt; false, "no rounding");
-        return Ok(());
-    };
-    let wanted: [i128; 9] = [4, 2, 2, 2, 2, 0, 2, 0, 2];
-    assert!(rt; values.as_slice() == wanted.as_slice());
+    let found = rounded_in(rt.alloc(), ONES, 2, 1)?;
+    assert!(rt; matches!(&found, Some(Ok(values)) if values.as_slice() == ROUNDED_ONES.as_slice()));
     Ok(())
 }
 
-// Each cell at its nearest multiple of 5: the first row has 5, and 5 and 5 in it.
+// Values of the counts to base 5, and whether they are a rounding. Each at its nearest multiple isn't: the first row
+// has 5, and 5 and 5 in it.
+const JUDGED: [([i128; 9], bool); 2] = [
+    ([15, 10, 5, 5, 5, 5, 10, 5, 0], false),
+    ([15, 10, 5, 5, 5, 0, 10, 5, 5], true),
+];
+
 #[test]
 fn nearest_multiples_are_none(rt: HostRuntime) -> Result<(), Fail> {
-    let Some(system) = system_in(rt.alloc(), COUNTS)? else {
-        assert!(rt; false, "no system");
-        return Ok(());
-    };
-    let nearest: [i128; 9] = [15, 10, 5, 5, 5, 5, 10, 5, 0];
-    let other: [i128; 9] = [15, 10, 5, 5, 5, 0, 10, 5, 5];
-    assert!(rt; !is_rounding(&system, COUNTS.truths, nearest.as_slice(), 5));
-    assert!(rt; is_rounding(&system, COUNTS.truths, other.as_slice(), 5));
+    let alloc = rt.alloc();
+    for (values, wanted) in &JUDGED {
+        assert_eq!(rt; is_rounding_in(alloc, COUNTS, values, 5)?, *wanted);
+    }
     Ok(())
 }
+
+// How many nodes are looked at, and why the odd cycle has no rounding to base 2.
+const NONE_OF_ODD_CYCLE: [(u64, RoundFault); 2] = [
+    (1, RoundFault::Nodes(1)),
+    (524_288, RoundFault::NoRounding),
+];
 
 #[test]
 fn odd_cycle_has_none(rt: HostRuntime) -> Result<(), Fail> {
     let alloc = rt.alloc();
-    let Some(system) = system_in(alloc, ODD_CYCLE)? else {
-        assert!(rt; false, "no system");
-        return Ok(());
-    };
-    for (nodes, wanted) in [(1, RoundFault::Nodes(1)), (524_288, RoundFault::NoRounding)] {
-        let found = values_of(alloc, &system, ODD_CYCLE.truths, 2, nodes)?;
-        assert!(rt; found == Some(Err(wanted)), "{nodes}");
+    for (nodes, why) in &NONE_OF_ODD_CYCLE {
+        assert!(rt; rounded_in(alloc, ODD_CYCLE, 2, *nodes)? == Some(Err(*why)));
     }
     Ok(())
 }

@@ -1,6 +1,6 @@
 use kit_runs::{
     LINKED, LISTED, ONE_VARIABLE, Pieces, SEVEN_RECORDS, THIRTEEN_RECORDS, THREE_VARIABLES,
-    WHOLE_FILES, job_with, run_alone, run_either_way, without_end,
+    job_with, run_alone, run_either_way, run_job,
 };
 use sdc_base::Memory;
 use std::alloc::Global;
@@ -13,11 +13,6 @@ const LEVELS: &str =
 
 // A command for an a priori file before the one for the method.
 const PRIOR_TOO: &str = "<APRIORI> \"p.hst\",1,\",\"\n<SUPPRESS>";
-
-// What is said of a refusal, and nothing put.
-fn refused(alloc: Global, why: &str) -> Result<String, Memory> {
-    Ok(format!(in alloc; "2 refused: {why}\n")?)
-}
 
 // The job of one table with these rules and this method.
 fn job_by(alloc: Global, rules: &str, method: &str) -> Result<String, Memory> {
@@ -44,167 +39,285 @@ fn answer_of<'x>(
     run_either_way(alloc, &files)
 }
 
-// By what stands in the place of the job's `FREQ(3,30)` and of its method, by the metadata and the
-// microdata: the first fault. No file of the name `none` is there.
+// What stands in the place of the job's rules and of its method, the metadata and the microdata, and what is said.
+#[derive(Clone, Copy)]
+struct Refusal {
+    rules: &'static str,
+    method: &'static str,
+    metadata: &'static str,
+    microdata: &'static str,
+    want: &'static str,
+}
+
+// The rules and the method of the job itself.
+const PLAIN: &str = "FREQ(3,30)";
+
+const MODULAR: &str = "MOD()";
+
+// Metadata by files that aren't there, and by a tree that leaves a level out.
+const NO_LIST: &str =
+    "A 1 1\n<CODELIST> \"none\"\n<HIERARCHICAL>\n<HIERCODELIST> \"none\"\nV 2 3\n<NUMERIC>\n";
+
+const NO_TREE: &str = "A 1 1\n<HIERARCHICAL>\n<HIERCODELIST> \"none\"\nV 2 3\n<NUMERIC>\n";
+
+const NO_RESPONSE: &str = "A 1 1\n<HIERARCHICAL>\n<HIERCODELIST> \"none\"\n";
+
+const JUMP: &str =
+    "A 1 1\n<CODELIST> \"a.cdl\"\n<HIERARCHICAL>\n<HIERCODELIST> \"j.hrc\"\nV 2 3\n<NUMERIC>\n";
+
+// The first fault of each. No file of the name `none` is there.
+const REFUSALS: [Refusal; 17] = [
+    Refusal {
+        rules: "FREQ(3,30",
+        method: MODULAR,
+        metadata: "",
+        microdata: "",
+        want: "2 refused: job line 4: BadValue\n",
+    },
+    Refusal {
+        rules: PLAIN,
+        method: "",
+        metadata: ONE_VARIABLE,
+        microdata: SEVEN_RECORDS,
+        want: "2 refused: job line 6: BadValue\n",
+    },
+    Refusal {
+        rules: "P(1)\n<WRONG>",
+        method: MODULAR,
+        metadata: "<X>",
+        microdata: "",
+        want: "2 refused: job line 5: UnknownCommand\n",
+    },
+    Refusal {
+        rules: PLAIN,
+        method: MODULAR,
+        metadata: "<X>",
+        microdata: "a",
+        want: "2 refused: metadata line 1: UnknownKeyword\n",
+    },
+    Refusal {
+        rules: PLAIN,
+        method: MODULAR,
+        metadata: "A 1 1\nV 2 3\n",
+        microdata: "a",
+        want: "2 refused: job line 3: NotNumeric\n",
+    },
+    Refusal {
+        rules: "P(1)|WGT(1)",
+        method: MODULAR,
+        metadata: ONE_VARIABLE,
+        microdata: "a",
+        want: "2 refused: job line 4: NoWeight\n",
+    },
+    Refusal {
+        rules: PLAIN,
+        method: MODULAR,
+        metadata: NO_RESPONSE,
+        microdata: "a",
+        want: "2 refused: job line 3: NoSuchVariable\n",
+    },
+    Refusal {
+        rules: PLAIN,
+        method: MODULAR,
+        metadata: NO_LIST,
+        microdata: "a",
+        want: "2 refused: codelist 1: Absent\n",
+    },
+    Refusal {
+        rules: PLAIN,
+        method: MODULAR,
+        metadata: NO_TREE,
+        microdata: "a",
+        want: "2 refused: hierarchy 1: Absent\n",
+    },
+    Refusal {
+        rules: PLAIN,
+        method: MODULAR,
+        metadata: JUMP,
+        microdata: "a",
+        want: "2 refused: hierarchy 1 line 2: Jump\n",
+    },
+    Refusal {
+        rules: PLAIN,
+        method: MODULAR,
+        metadata: ONE_VARIABLE,
+        microdata: "a 10\na 2\n",
+        want: "2 refused: record 2: Short\n",
+    },
+    Refusal {
+        rules: PLAIN,
+        method: MODULAR,
+        metadata: ONE_VARIABLE,
+        microdata: "a 10\na 20\na 30\nb 20\nb 20\nb 20\nb 3",
+        want: "2 refused: record 7: Short\n",
+    },
+    Refusal {
+        rules: PLAIN,
+        method: MODULAR,
+        metadata: ONE_VARIABLE,
+        microdata: "a 10\na -2\n",
+        want: "2 refused: record 2: Negative\n",
+    },
+    Refusal {
+        rules: PLAIN,
+        method: MODULAR,
+        metadata: LEVELS,
+        microdata: "A   1\nA1  1\n",
+        want: "2 refused: record 1: NotLeaf\n",
+    },
+    Refusal {
+        rules: PLAIN,
+        method: MODULAR,
+        metadata: LISTED,
+        microdata: "Nr   1\n",
+        want: "2 refused: record 1: NotLeaf\n",
+    },
+    Refusal {
+        rules: PLAIN,
+        method: MODULAR,
+        metadata: LISTED,
+        microdata: "4    1\n",
+        want: "2 refused: record 1: UnknownCode\n",
+    },
+    Refusal {
+        rules: PLAIN,
+        method: "RND(5)",
+        metadata: ONE_VARIABLE,
+        microdata: "a\n",
+        want: "2 refused: record 1: Short\n",
+    },
+];
+
+// What is said and left of it.
+fn answer_to(alloc: Global, given: &Refusal) -> Result<String, Memory> {
+    let job = job_by(alloc, given.rules, given.method)?;
+    answer_of(alloc, job.as_str(), given.metadata, given.microdata)
+}
+
 #[test]
 fn refusals(rt: HostRuntime) -> Result<(), Fail> {
-    let no_list =
-        "A 1 1\n<CODELIST> \"none\"\n<HIERARCHICAL>\n<HIERCODELIST> \"none\"\nV 2 3\n<NUMERIC>\n";
-    let no_tree = "A 1 1\n<HIERARCHICAL>\n<HIERCODELIST> \"none\"\nV 2 3\n<NUMERIC>\n";
-    let no_response = "A 1 1\n<HIERARCHICAL>\n<HIERCODELIST> \"none\"\n";
-    let jump =
-        "A 1 1\n<CODELIST> \"a.cdl\"\n<HIERARCHICAL>\n<HIERCODELIST> \"j.hrc\"\nV 2 3\n<NUMERIC>\n";
-    let (plain, method) = ("FREQ(3,30)", "MOD()");
-    let rows = [
-        ("FREQ(3,30", method, "", "", "job line 4: BadValue"),
-        (
-            plain,
-            "",
-            ONE_VARIABLE,
-            SEVEN_RECORDS,
-            "job line 6: BadValue",
-        ),
-        (
-            "P(1)\n<WRONG>",
-            method,
-            "<X>",
-            "",
-            "job line 5: UnknownCommand",
-        ),
-        (plain, method, "<X>", "a", "metadata line 1: UnknownKeyword"),
-        (
-            plain,
-            method,
-            "A 1 1\nV 2 3\n",
-            "a",
-            "job line 3: NotNumeric",
-        ),
-        (
-            "P(1)|WGT(1)",
-            method,
-            ONE_VARIABLE,
-            "a",
-            "job line 4: NoWeight",
-        ),
-        (
-            plain,
-            method,
-            no_response,
-            "a",
-            "job line 3: NoSuchVariable",
-        ),
-        (plain, method, no_list, "a", "codelist 1: Absent"),
-        (plain, method, no_tree, "a", "hierarchy 1: Absent"),
-        (plain, method, jump, "a", "hierarchy 1 line 2: Jump"),
-        (
-            plain,
-            method,
-            ONE_VARIABLE,
-            "a 10\na 2\n",
-            "record 2: Short",
-        ),
-        (
-            plain,
-            method,
-            ONE_VARIABLE,
-            without_end(SEVEN_RECORDS, 2),
-            "record 7: Short",
-        ),
-        (
-            plain,
-            method,
-            ONE_VARIABLE,
-            "a 10\na -2\n",
-            "record 2: Negative",
-        ),
-        (plain, method, LEVELS, "A   1\nA1  1\n", "record 1: NotLeaf"),
-        (plain, method, LISTED, "Nr   1\n", "record 1: NotLeaf"),
-        (plain, method, LISTED, "4    1\n", "record 1: UnknownCode"),
-        (plain, "RND(5)", ONE_VARIABLE, "a\n", "record 1: Short"),
-    ];
-    for (rules, method, metadata, microdata, want) in rows {
-        let job = job_by(rt.alloc(), rules, method)?;
-        let want = refused(rt.alloc(), want)?;
-        let got = answer_of(rt.alloc(), job.as_str(), metadata, microdata)?;
-        assert_eq!(rt; got.as_str(), want.as_str());
+    for given in &REFUSALS {
+        let got = answer_to(rt.alloc(), given)?;
+        assert_eq!(rt; got.as_str(), given.want);
     }
     Ok(())
 }
 
-// By what stands in the job in place of another text, the records: the job lacks a command, would overwrite its own
-// file, or names an a priori file that isn't there.
+// One text in the place of another, the records, and what is said.
+#[derive(Clone, Copy)]
+struct Changed {
+    from: &'static str,
+    to: &'static str,
+    microdata: &'static str,
+    want: &'static str,
+}
+
+// A job that lacks a command, would overwrite its own file, or names an a priori file that isn't there.
+const CHANGED_JOBS: [Changed; 9] = [
+    Changed {
+        from: "<CERTIFICATE> \"t.cert\"\n",
+        to: "",
+        microdata: "",
+        want: "2 refused: job line 0: Missing CERTIFICATE\n",
+    },
+    Changed {
+        from: "t.cert",
+        to: "r.job",
+        microdata: SEVEN_RECORDS,
+        want: "2 refused: out: OutName\n",
+    },
+    Changed {
+        from: "t.cert",
+        to: "r.job",
+        microdata: "a\n",
+        want: "2 refused: record 1: Short\n",
+    },
+    Changed {
+        from: "MOD()\n<WRITETABLE> (1,\"t.csv\")\n<CERTIFICATE> \"t.cert\"",
+        to: "RND(5)\n<WRITETABLE> (1,\"t.csv\")\n<CERTIFICATE> \"r.job\"",
+        microdata: SEVEN_RECORDS,
+        want: "2 refused: out: OutName\n",
+    },
+    Changed {
+        from: "t.csv",
+        to: "r.job",
+        microdata: SEVEN_RECORDS,
+        want: "2 refused: out: OutName\n",
+    },
+    Changed {
+        from: "<CERTIFICATE>",
+        to: "<CONTRIBUTORS> \"r.job\"\n<CERTIFICATE>",
+        microdata: SEVEN_RECORDS,
+        want: "2 refused: out: OutName\n",
+    },
+    Changed {
+        from: "<CERTIFICATE>",
+        to: "<CONTRIBUTORS> \"t.csv\"\n<CERTIFICATE>",
+        microdata: "",
+        want: "2 refused: job line 7: SameName\n",
+    },
+    Changed {
+        from: "<SUPPRESS>",
+        to: PRIOR_TOO,
+        microdata: "a\n",
+        want: "2 refused: record 1: Short\n",
+    },
+    Changed {
+        from: "<SUPPRESS>",
+        to: PRIOR_TOO,
+        microdata: SEVEN_RECORDS,
+        want: "2 refused: apriori table 1: Absent\n",
+    },
+];
+
+// What is said and left where the text of the job is changed.
+fn answer_to_job(alloc: Global, given: &Changed) -> Result<String, Memory> {
+    let job = job_with(alloc, given.from, given.to)?;
+    answer_of(alloc, job.as_str(), ONE_VARIABLE, given.microdata)
+}
+
 #[test]
 fn refusals_of_other_jobs(rt: HostRuntime) -> Result<(), Fail> {
-    let rows = [
-        (
-            "<CERTIFICATE> \"t.cert\"\n",
-            "",
-            "",
-            "job line 0: Missing CERTIFICATE",
-        ),
-        ("t.cert", "r.job", SEVEN_RECORDS, "out: OutName"),
-        ("t.cert", "r.job", "a\n", "record 1: Short"),
-        (
-            "MOD()\n<WRITETABLE> (1,\"t.csv\")\n<CERTIFICATE> \"t.cert\"",
-            "RND(5)\n<WRITETABLE> (1,\"t.csv\")\n<CERTIFICATE> \"r.job\"",
-            SEVEN_RECORDS,
-            "out: OutName",
-        ),
-        ("t.csv", "r.job", SEVEN_RECORDS, "out: OutName"),
-        (
-            "<CERTIFICATE>",
-            "<CONTRIBUTORS> \"r.job\"\n<CERTIFICATE>",
-            SEVEN_RECORDS,
-            "out: OutName",
-        ),
-        (
-            "<CERTIFICATE>",
-            "<CONTRIBUTORS> \"t.csv\"\n<CERTIFICATE>",
-            "",
-            "job line 7: SameName",
-        ),
-        ("<SUPPRESS>", PRIOR_TOO, "a\n", "record 1: Short"),
-        (
-            "<SUPPRESS>",
-            PRIOR_TOO,
-            SEVEN_RECORDS,
-            "apriori table 1: Absent",
-        ),
-    ];
-    for (from, to, microdata, want) in rows {
-        let job = job_with(rt.alloc(), from, to)?;
-        let want = refused(rt.alloc(), want)?;
-        let got = answer_of(rt.alloc(), job.as_str(), ONE_VARIABLE, microdata)?;
-        assert_eq!(rt; got.as_str(), want.as_str());
+    for given in &CHANGED_JOBS {
+        let got = answer_to_job(rt.alloc(), given)?;
+        assert_eq!(rt; got.as_str(), given.want);
     }
     Ok(())
 }
 
-// Linked tables of which a record is a byte short, or a file isn't there, by what stands in their metadata in place
-// of another text.
+// Linked tables of which a record is a byte short, or whose metadata name a file that isn't there.
+const CHANGED_METADATA: [Changed; 3] = [
+    Changed {
+        from: "B 3 2",
+        to: "B 3 2",
+        microdata: "a1b1c1 10\na1b1c2 10\na1b2c1 10\na1b2c1 10\na1b2c2 10\na1b2c2 20\na2b1c1  5\na2b1c1  5\na2b1c2 10\na2b1c2 10\na2b2c1 15\na2b2c2 10\na2b2c2 1",
+        want: "2 refused: record 13: Short\n",
+    },
+    Changed {
+        from: "B 3 2",
+        to: "B 3 2\n<CODELIST> \"none\"",
+        microdata: "a",
+        want: "2 refused: codelist 2: Absent\n",
+    },
+    Changed {
+        from: "A 1 2\n<RECODEABLE>\nB 3 2",
+        to: "A 1 2\n<HIERARCHICAL>\n<HIERCODELIST> \"none\"\n<RECODEABLE>\nB 3 2\n<CODELIST> \"none\"",
+        microdata: "a",
+        want: "2 refused: hierarchy 1: Absent\n",
+    },
+];
+
+// What is said and left where the metadata of linked tables are changed.
+fn answer_to_metadata(alloc: Global, given: &Changed) -> Result<String, Memory> {
+    let metadata = THREE_VARIABLES.replace(alloc, given.from, given.to)?;
+    answer_of(alloc, LINKED, metadata.as_str(), given.microdata)
+}
+
 #[test]
 fn refusals_of_linked_tables(rt: HostRuntime) -> Result<(), Fail> {
-    let short = without_end(THIRTEEN_RECORDS, 2);
-    let rows = [
-        ("B 3 2", "B 3 2", short, "record 13: Short"),
-        (
-            "B 3 2",
-            "B 3 2\n<CODELIST> \"none\"",
-            "a",
-            "codelist 2: Absent",
-        ),
-        (
-            "A 1 2\n<RECODEABLE>\nB 3 2",
-            "A 1 2\n<HIERARCHICAL>\n<HIERCODELIST> \"none\"\n<RECODEABLE>\nB 3 2\n<CODELIST> \"none\"",
-            "a",
-            "hierarchy 1: Absent",
-        ),
-    ];
-    for (from, to, microdata, want) in rows {
-        let metadata = THREE_VARIABLES.replace(rt.alloc(), from, to)?;
-        let want = refused(rt.alloc(), want)?;
-        let got = answer_of(rt.alloc(), LINKED, metadata.as_str(), microdata)?;
-        assert_eq!(rt; got.as_str(), want.as_str());
+    for given in &CHANGED_METADATA {
+        let got = answer_to_metadata(rt.alloc(), given)?;
+        assert_eq!(rt; got.as_str(), given.want);
     }
     Ok(())
 }
@@ -219,15 +332,15 @@ fn forty_codes(alloc: Global) -> Result<String, Memory> {
     Ok(codes)
 }
 
-// Three variables with the forty codes of a list: the table by two of them has 1,681 cells, and that by all three has
-// more than a job may have.
-#[test]
-fn too_many_cells(rt: HostRuntime) -> Result<(), Fail> {
-    let alloc = rt.alloc();
-    let job = LINKED.replace(alloc, "\"A\"\"C\"", "\"A\"\"B\"\"C\"")?;
+// A job of a table by two variables and of one by all three.
+const BY_TWO_AND_THREE: &str =
+    "<OPENMICRODATA> \"m.asc\"\n<OPENMETADATA> \"m.rda\"\n<SPECIFYTABLE> \"A\"\"B\"|\"V\"\n<SPECIFYTABLE> \"A\"\"B\"\"C\"|\"V\"\n<SAFETYRULE> FREQ(1,30)\n<SUPPRESS> MOD()\n<WRITETABLE> (1,\"t.csv\")\n<WRITETABLE> (2,\"u.csv\")\n<CERTIFICATE> \"t.cert\"\n";
+
+// What is said where the codes of the three are those of a list of forty.
+fn ran_by_list(alloc: Global) -> Result<String, Memory> {
     let codes = forty_codes(alloc)?;
     let files = [
-        ("r.job", job.as_str()),
+        ("r.job", BY_TWO_AND_THREE),
         (
             "m.rda",
             "A 1 2\n<CODELIST> \"a.cdl\"\nB 3 2\n<CODELIST> \"a.cdl\"\nC 5 2\n<CODELIST> \"a.cdl\"\nV 7 3\n<NUMERIC>\n",
@@ -235,7 +348,13 @@ fn too_many_cells(rt: HostRuntime) -> Result<(), Fail> {
         ("a.cdl", codes.as_str()),
         ("m.asc", THIRTEEN_RECORDS),
     ];
-    let got = run_alone(alloc, &files, WHOLE_FILES, 0)?;
+    run_job(alloc, &files)
+}
+
+// The table by two of them has 1,681 cells, and that by all three has more than a job may have.
+#[test]
+fn too_many_cells(rt: HostRuntime) -> Result<(), Fail> {
+    let got = ran_by_list(rt.alloc())?;
     assert_eq!(rt; got.as_str(), "2 refused: table 2: TooManyCells\n");
     Ok(())
 }
@@ -263,33 +382,73 @@ const SIX_FILES: [(&str, &str); 6] = [
     ("p.hst", "Total,p\n"),
 ];
 
+// What is said where the first of them is not there, where the first alone is, and so on.
+const ABSENT: [&str; 6] = [
+    "2 refused: job: Absent\n",
+    "2 refused: metadata: Absent\n",
+    "2 refused: codelist 1: Absent\n",
+    "2 refused: hierarchy 1: Absent\n",
+    "2 refused: microdata: Absent\n",
+    "2 refused: apriori table 1: Absent\n",
+];
+
+// What a run says where so many of the files are there.
+fn ran_over_first(alloc: Global, count: usize) -> Result<String, Memory> {
+    run_job(alloc, SIX_FILES.get(..count).unwrap_or(&SIX_FILES))
+}
+
 // Each file that isn't there, where those before it are.
 #[test]
 fn each_absent_file_in_turn(rt: HostRuntime) -> Result<(), Fail> {
-    for (k, name) in NAMES.iter().enumerate() {
-        let want = format!(in rt.alloc(); "2 refused: {name}: Absent\n")?;
-        let got = run_alone(rt.alloc(), &SIX_FILES[..k.min(6)], WHOLE_FILES, 0)?;
-        assert_eq!(rt; got.as_str(), want.as_str());
+    for (count, want) in ABSENT.iter().enumerate() {
+        let got = ran_over_first(rt.alloc(), count)?;
+        assert_eq!(rt; got.as_str(), *want);
     }
     Ok(())
 }
 
-// The calls to each file that fail: one begins it, one comes for each piece, and one finds the end.
+// The first of these calls whose failure isn't answered by a fault of the file of this name.
+fn first_wrong(
+    alloc: Global,
+    bytes: u32,
+    calls: [u64; 3],
+    name: &str,
+) -> Result<Option<u64>, Memory> {
+    let want = format!(in alloc; "5 read fault: {name}\n")?;
+    for failing in calls {
+        let got = run_alone(alloc, &SIX_FILES, Pieces { bytes, failing }, 0)?;
+        if got.as_str() != want.as_str() {
+            return Ok(Some(failing));
+        }
+    }
+    Ok(None)
+}
+
+// The first of all calls that fail whose failure is answered otherwise, where files come in pieces of so many bytes. Of
+// the calls to each file one begins it, one comes for each piece, and one finds the end.
+fn wrong_call(alloc: Global, bytes: u32) -> Result<Option<u64>, Memory> {
+    let mut before = 0u64;
+    for (name, file) in NAMES.iter().zip(SIX_FILES) {
+        let pieces = file.1.len().div_ceil(bytes.max(1) as usize) as u64;
+        let first = before.saturating_add(1);
+        let last = first.saturating_add(pieces).saturating_add(1);
+        let wrong = first_wrong(alloc, bytes, [first, first.saturating_add(1), last], name)?;
+        if wrong.is_some() {
+            return Ok(wrong);
+        }
+        before = last;
+    }
+    Ok(None)
+}
+
+const PIECES: [u32; 3] = [1, 1000, 4096];
+
+// The calls to each file that fail.
 #[test]
 fn each_file_in_turn(rt: HostRuntime) -> Result<(), Fail> {
-    for bytes in [1u32, 1000, 4096] {
-        let mut before = 0u64;
-        for (name, file) in NAMES.iter().zip(SIX_FILES) {
-            let pieces = file.1.len().div_ceil(bytes.max(1) as usize) as u64;
-            let want = format!(in rt.alloc(); "5 read fault: {name}\n")?;
-            let first = before.saturating_add(1);
-            let last = first.saturating_add(pieces).saturating_add(1);
-            for failing in [first, first.saturating_add(1), last] {
-                let got = run_alone(rt.alloc(), &SIX_FILES, Pieces { bytes, failing }, 0)?;
-                assert_eq!(rt; got.as_str(), want.as_str());
-            }
-            before = last;
-        }
+    for bytes in &PIECES {
+        let wrong = wrong_call(rt.alloc(), *bytes)?;
+        assert_eq!(rt; wrong, None);
     }
     Ok(())
 }

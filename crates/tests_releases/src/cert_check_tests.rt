@@ -10,7 +10,6 @@ use linked_tables::{Book, Mark};
 use relations::relations_of;
 use sdc_base::{Cell, Few, Items, Kind, Method, PlanStep, Side, System, Text, Trail};
 use std::alloc::Global;
-use std::process::Abort;
 use std::rt::HostRuntime;
 use std::test::Fail;
 use worlds::{RefutationFault, WorldFault};
@@ -199,36 +198,35 @@ fn plan_of(alloc: Global, rows: &[Row], is_planned: bool) -> Result<Plan, Fail> 
     })
 }
 
-// The first fault of a release of this table with its certificate, for a case.
-fn fault_for(
-    rt: &impl Abort,
-    alloc: Global,
-    case: &Case<'_>,
-    table: &str,
-    certificate: &Certificate,
-) -> Result<Option<CheckFault>, Fail> {
-    let release = texts(alloc, &[table.as_bytes()])?;
-    if !is_case(case, &release) {
-        assert!(*rt; false, "it is a case");
-        return Ok(None);
-    }
-    Ok(accept(alloc, case, &release, certificate).err())
-}
-
-// The first fault of a release of a table of two variables, and of its certificate, by a method and with a trail of one
-// step or none.
-fn fault_of(
-    rt: &impl Abort,
-    alloc: Global,
-    rows: &[Row],
+// What a release is judged by: the rows of its table, the method, and whether the trail has its one step.
+#[derive(Clone, Copy)]
+struct Job {
+    rows: &'static [Row],
     method: Method,
     is_planned: bool,
-    table: &str,
-    words: &str,
-) -> Result<Option<CheckFault>, Fail> {
-    let judged = table_of(alloc, rows)?;
-    let plan = plan_of(alloc, rows, is_planned)?;
-    let case = Case {
+}
+
+const PLANNED_JOB: Job = Job {
+    rows: &SHOWN_MARGINS,
+    method: Method::Modular,
+    is_planned: true,
+};
+
+const REPAIRED_JOB: Job = Job {
+    rows: &SHOWN_MARGINS,
+    method: Method::Modular,
+    is_planned: false,
+};
+
+const ROUNDING_JOB: Job = Job {
+    rows: &SMALL_COUNTS,
+    method: Method::Rnd(5),
+    is_planned: false,
+};
+
+// The case of a table and a plan by a method.
+fn case_of<'a>(judged: &'a Table, plan: &'a Plan, method: Method) -> Case<'a> {
+    Case {
         book: &judged.book,
         system: &judged.system,
         cells: &plan.cells,
@@ -237,219 +235,261 @@ fn fault_of(
         base: 5,
         names: &plan.names,
         decimals: 0,
-    };
-    let certificate = read_certificate(alloc, words.as_bytes()).expect(rt, "it is a certificate");
-    fault_for(rt, alloc, &case, table, &certificate)
+    }
 }
 
-// The first fault of the suppressed table with a certificate for the trail of one step.
-fn planned(
-    rt: &impl Abort,
+// The first fault of a release of this table with its certificate, for a case.
+fn fault_for(
     alloc: Global,
+    case: &Case<'_>,
     table: &str,
-    words: &str,
+    certificate: &Certificate,
 ) -> Result<Option<CheckFault>, Fail> {
-    fault_of(
-        rt,
+    let release = texts(alloc, &[table.as_bytes()])?;
+    if !is_case(case, &release) {
+        return Err(Fail::new("no case that a release may be judged by"));
+    }
+    Ok(accept(alloc, case, &release, certificate).err())
+}
+
+// The first fault of a release of a table, and of its certificate, for a job.
+fn fault_in(
+    alloc: Global,
+    job: Job,
+    table: &str,
+    certificate: &Certificate,
+) -> Result<Option<CheckFault>, Fail> {
+    let judged = table_of(alloc, job.rows)?;
+    let plan = plan_of(alloc, job.rows, job.is_planned)?;
+    fault_for(
         alloc,
-        &SHOWN_MARGINS,
-        Method::Modular,
-        true,
+        &case_of(&judged, &plan, job.method),
         table,
-        words,
+        certificate,
     )
 }
 
-// The first fault of a rounded table.
-fn rounded(rt: &impl Abort, alloc: Global, table: &str) -> Result<Option<CheckFault>, Fail> {
-    fault_of(
-        rt,
-        alloc,
-        &SMALL_COUNTS,
-        Method::Rnd(5),
-        false,
-        table,
-        ROUNDING,
-    )
+// The same where the words are those of a certificate.
+fn fault_of(alloc: Global, job: Job, table: &str, words: &str) -> Result<Option<CheckFault>, Fail> {
+    let Ok(certificate) = read_certificate(alloc, words.as_bytes()) else {
+        return Err(Fail::new("words that no certificate has"));
+    };
+    fault_in(alloc, job, table, &certificate)
 }
+
+// Jobs, their tables and their certificates.
+const ACCEPTED: [(Job, &str, &str); 3] = [
+    (PLANNED_JOB, SUPPRESSED, PLANNED),
+    (REPAIRED_JOB, SUPPRESSED, REPAIRED),
+    (ROUNDING_JOB, ROUNDED, ROUNDING),
+];
 
 #[test]
 fn accepted(rt: HostRuntime) -> Result<(), Fail> {
     let alloc = rt.alloc();
-    assert_eq!(rt; planned(&rt, alloc, SUPPRESSED, PLANNED)?, None);
-    let repaired = fault_of(
-        &rt,
-        alloc,
-        &SHOWN_MARGINS,
-        Method::Modular,
-        false,
-        SUPPRESSED,
-        REPAIRED,
-    )?;
-    assert_eq!(rt; repaired, None);
-    assert_eq!(rt; rounded(&rt, alloc, ROUNDED)?, None);
+    for (job, table, words) in &ACCEPTED {
+        assert_eq!(rt; fault_of(alloc, *job, table, words)?, None);
+    }
     Ok(())
 }
+
+// The first fault of the suppressed table where words of a certificate are replaced.
+fn fault_of_words(
+    alloc: Global,
+    job: Job,
+    words: &str,
+    old: &str,
+    new: &str,
+) -> Result<Option<CheckFault>, Fail> {
+    let replaced = words.replace(alloc, old, new)?;
+    fault_of(alloc, job, SUPPRESSED, &replaced)
+}
+
+// Words of the certificate of a plan, those in their place, and the fault.
+const FAULTS_OF_PLANS: [(&str, &str, CheckFault); 17] = [
+    ("cells 9", "cells 8", CheckFault::Counts),
+    ("need 5 4", "need 5 9", CheckFault::Counts),
+    ("method MOD", "method GH 1", CheckFault::Method),
+    ("step 1 0,0 4", "step 1 0,1 4", CheckFault::Step(0)),
+    ("step 1 0,0 4 4,5,7,8\n", "", CheckFault::Step(0)),
+    (
+        "need 5 4",
+        "step 1 0,0 4 4,5\nneed 5 4",
+        CheckFault::Step(1),
+    ),
+    (
+        "need 5 4",
+        "repair 5 4 above 1 4:1\nneed 5 4",
+        CheckFault::RepairCell(0),
+    ),
+    ("world 4 below", "world 4 above", CheckFault::WorldCell(1)),
+    (
+        "world 4 below 1 4:-6 5:6 7:6 8:-6\n",
+        "",
+        CheckFault::WorldCell(1),
+    ),
+    (
+        "above 1 4:6 5:-6",
+        "above 1 4:7 5:-6",
+        CheckFault::World(0, WorldFault::Relation(2)),
+    ),
+    (
+        "above 1 4:6",
+        "above 1 3:1 4:6",
+        CheckFault::World(0, WorldFault::Shown(3)),
+    ),
+    (
+        "7:-6 8:6\n",
+        "7:-6 9:6\n",
+        CheckFault::World(0, WorldFault::Order(3)),
+    ),
+    (
+        "below 1 4:-6 5:6 7:6 8:-6",
+        "below 1 4:-5 5:5 7:5 8:-5",
+        CheckFault::NotReached(4, Side::Below),
+    ),
+    (
+        "need 8 4 above 1 3:-1 4:1\nworld 4 above 1 4:6",
+        "world 4 above 1 4:7",
+        CheckFault::World(0, WorldFault::Relation(2)),
+    ),
+    ("need 7 4", "need 8 4", CheckFault::NeedCell(1)),
+    ("need 8 4 above 1 3:-1 4:1\n", "", CheckFault::NeedCell(2)),
+    (
+        "need 5 4 above 1 4:1",
+        "need 5 4 above 1 3:1",
+        CheckFault::Need(0, RefutationFault::Unbounded(4)),
+    ),
+];
 
 #[test]
 fn faults_of_certificates(rt: HostRuntime) -> Result<(), Fail> {
     let alloc = rt.alloc();
-    for (old, new, fault) in [
-        ("cells 9", "cells 8", CheckFault::Counts),
-        ("need 5 4", "need 5 9", CheckFault::Counts),
-        ("method MOD", "method GH 1", CheckFault::Method),
-        ("step 1 0,0 4", "step 1 0,1 4", CheckFault::Step(0)),
-        ("step 1 0,0 4 4,5,7,8\n", "", CheckFault::Step(0)),
-        (
-            "need 5 4",
-            "step 1 0,0 4 4,5\nneed 5 4",
-            CheckFault::Step(1),
-        ),
-        (
-            "need 5 4",
-            "repair 5 4 above 1 4:1\nneed 5 4",
-            CheckFault::RepairCell(0),
-        ),
-        ("world 4 below", "world 4 above", CheckFault::WorldCell(1)),
-        (
-            "world 4 below 1 4:-6 5:6 7:6 8:-6\n",
-            "",
-            CheckFault::WorldCell(1),
-        ),
-        (
-            "above 1 4:6 5:-6",
-            "above 1 4:7 5:-6",
-            CheckFault::World(0, WorldFault::Relation(2)),
-        ),
-        (
-            "above 1 4:6",
-            "above 1 3:1 4:6",
-            CheckFault::World(0, WorldFault::Shown(3)),
-        ),
-        (
-            "7:-6 8:6\n",
-            "7:-6 9:6\n",
-            CheckFault::World(0, WorldFault::Order(3)),
-        ),
-        (
-            "below 1 4:-6 5:6 7:6 8:-6",
-            "below 1 4:-5 5:5 7:5 8:-5",
-            CheckFault::NotReached(4, Side::Below),
-        ),
-        (
-            "need 8 4 above 1 3:-1 4:1\nworld 4 above 1 4:6",
-            "world 4 above 1 4:7",
-            CheckFault::World(0, WorldFault::Relation(2)),
-        ),
-        ("need 7 4", "need 8 4", CheckFault::NeedCell(1)),
-        ("need 8 4 above 1 3:-1 4:1\n", "", CheckFault::NeedCell(2)),
-        (
-            "need 5 4 above 1 4:1",
-            "need 5 4 above 1 3:1",
-            CheckFault::Need(0, RefutationFault::Unbounded(4)),
-        ),
-    ] {
-        let words = PLANNED.replace(alloc, old, new)?;
-        assert_eq!(rt; planned(&rt, alloc, SUPPRESSED, &words)?, Some(fault));
+    for (old, new, fault) in &FAULTS_OF_PLANS {
+        let found = fault_of_words(alloc, PLANNED_JOB, PLANNED, old, new)?;
+        assert_eq!(rt; found, Some(*fault));
     }
     Ok(())
 }
+
+// Words of the certificate of repairs alone, those in their place, and the fault.
+const FAULTS_OF_REPAIRS: [(&str, &str, CheckFault); 5] = [
+    ("repair 8 4", "repair 3 4", CheckFault::RepairCell(1)),
+    ("repair 8 4", "repair 5 4", CheckFault::RepairCell(1)),
+    (
+        "repair 5 4 above 1 4:1",
+        "repair 7 4 above 1 4:1",
+        CheckFault::RepairCell(0),
+    ),
+    (
+        "repair 5 4 above 1 4:1",
+        "repair 5 4 above 1 3:1",
+        CheckFault::Repair(0, RefutationFault::Unbounded(4)),
+    ),
+    (
+        "repair 7 4 above 1 3:-1 4:1 5:1\n",
+        "",
+        CheckFault::Outside(7),
+    ),
+];
 
 #[test]
 fn faults_of_repairs(rt: HostRuntime) -> Result<(), Fail> {
     let alloc = rt.alloc();
-    for (old, new, fault) in [
-        ("repair 8 4", "repair 3 4", CheckFault::RepairCell(1)),
-        ("repair 8 4", "repair 5 4", CheckFault::RepairCell(1)),
-        (
-            "repair 5 4 above 1 4:1",
-            "repair 7 4 above 1 4:1",
-            CheckFault::RepairCell(0),
-        ),
-        (
-            "repair 5 4 above 1 4:1",
-            "repair 5 4 above 1 3:1",
-            CheckFault::Repair(0, RefutationFault::Unbounded(4)),
-        ),
-        (
-            "repair 7 4 above 1 3:-1 4:1 5:1\n",
-            "",
-            CheckFault::Outside(7),
-        ),
-    ] {
-        let words = REPAIRED.replace(alloc, old, new)?;
-        let found = fault_of(
-            &rt,
-            alloc,
-            &SHOWN_MARGINS,
-            Method::Modular,
-            false,
-            SUPPRESSED,
-            &words,
-        )?;
-        assert_eq!(rt; found, Some(fault));
+    for (old, new, fault) in &FAULTS_OF_REPAIRS {
+        let found = fault_of_words(alloc, REPAIRED_JOB, REPAIRED, old, new)?;
+        assert_eq!(rt; found, Some(*fault));
     }
     Ok(())
 }
 
+// Certificates that hide too little and too much.
+const FAULTS_OF_HIDDEN_SETS: [(&str, CheckFault); 2] = [
+    (
+        "argus certificate 2\nmethod MOD\ncells 9\nrelations 6\nhidden 5 7 8\nend\n",
+        CheckFault::PrimaryShown(4),
+    ),
+    (
+        "argus certificate 2\nmethod MOD\ncells 9\nrelations 6\nhidden 3 4 5\nend\n",
+        CheckFault::FixedHidden(3),
+    ),
+];
+
 #[test]
-fn faults_of_hidden_sets_and_tables(rt: HostRuntime) -> Result<(), Fail> {
+fn faults_of_hidden_sets(rt: HostRuntime) -> Result<(), Fail> {
     let alloc = rt.alloc();
-    let shown = "argus certificate 2\nmethod MOD\ncells 9\nrelations 6\nhidden 5 7 8\nend\n";
-    assert_eq!(rt;
-        planned(&rt, alloc, SUPPRESSED, shown)?,
-        Some(CheckFault::PrimaryShown(4))
-    );
-    let hidden = "argus certificate 2\nmethod MOD\ncells 9\nrelations 6\nhidden 3 4 5\nend\n";
-    assert_eq!(rt;
-        planned(&rt, alloc, SUPPRESSED, hidden)?,
-        Some(CheckFault::FixedHidden(3))
-    );
-    for (old, new, line) in [
-        ("A,B,V", "A,B,W", 1),
-        ("Total,1,50", "Total,1,51", 3),
-        ("1,2,x", "1,2,x ", 7),
-        ("2,2,x\n", "", 10),
-        ("2,2,x\n", "2,2,x", 10),
-        ("2,2,x\n", "2,2,x\n\n", 11),
-    ] {
-        let table = SUPPRESSED.replace(alloc, old, new)?;
-        let found = planned(&rt, alloc, &table, PLANNED)?;
+    for (words, fault) in &FAULTS_OF_HIDDEN_SETS {
+        let found = fault_of(alloc, PLANNED_JOB, SUPPRESSED, words)?;
+        assert_eq!(rt; found, Some(*fault));
+    }
+    Ok(())
+}
+
+// The first fault where a part of a table is replaced.
+fn fault_of_table(
+    alloc: Global,
+    job: Job,
+    table: &str,
+    old: &str,
+    new: &str,
+    words: &str,
+) -> Result<Option<CheckFault>, Fail> {
+    let replaced = table.replace(alloc, old, new)?;
+    fault_of(alloc, job, &replaced, words)
+}
+
+// Parts of the suppressed table, those in their place, and the line at fault.
+const FAULTS_OF_TABLES: [(&str, &str, u32); 6] = [
+    ("A,B,V", "A,B,W", 1),
+    ("Total,1,50", "Total,1,51", 3),
+    ("1,2,x", "1,2,x ", 7),
+    ("2,2,x\n", "", 10),
+    ("2,2,x\n", "2,2,x", 10),
+    ("2,2,x\n", "2,2,x\n\n", 11),
+];
+
+#[test]
+fn faults_of_tables(rt: HostRuntime) -> Result<(), Fail> {
+    let alloc = rt.alloc();
+    for (old, new, line) in &FAULTS_OF_TABLES {
+        let found = fault_of_table(alloc, PLANNED_JOB, SUPPRESSED, old, new, PLANNED)?;
+        let line = *line;
         assert_eq!(rt; found, Some(CheckFault::Release { table: 0, line }));
     }
     Ok(())
 }
 
+// Parts of the rounded table, those in their place, and the fault.
+const FAULTS_OF_ROUNDINGS: [(&str, &str, CheckFault); 4] = [
+    (
+        "1,2,0\n2,Total,10\n2,1,5\n2,2,5",
+        "1,2,5\n2,Total,10\n2,1,5\n2,2,0",
+        CheckFault::Relation(4),
+    ),
+    ("2,2,5\n", "2,2,10\n", CheckFault::Rounded(8)),
+    ("2,2,5\n", "2,2,4\n", CheckFault::Rounded(8)),
+    (
+        "2,2,5\n",
+        "2,2,x\n",
+        CheckFault::Release { table: 0, line: 10 },
+    ),
+];
+
 #[test]
 fn faults_of_roundings(rt: HostRuntime) -> Result<(), Fail> {
     let alloc = rt.alloc();
-    for (old, new, fault) in [
-        (
-            "1,2,0\n2,Total,10\n2,1,5\n2,2,5",
-            "1,2,5\n2,Total,10\n2,1,5\n2,2,0",
-            CheckFault::Relation(4),
-        ),
-        ("2,2,5\n", "2,2,10\n", CheckFault::Rounded(8)),
-        ("2,2,5\n", "2,2,4\n", CheckFault::Rounded(8)),
-        (
-            "2,2,5\n",
-            "2,2,x\n",
-            CheckFault::Release { table: 0, line: 10 },
-        ),
-    ] {
-        let table = ROUNDED.replace(alloc, old, new)?;
-        assert_eq!(rt; rounded(&rt, alloc, &table)?, Some(fault));
+    for (old, new, fault) in &FAULTS_OF_ROUNDINGS {
+        let found = fault_of_table(alloc, ROUNDING_JOB, ROUNDED, old, new, ROUNDING)?;
+        assert_eq!(rt; found, Some(*fault));
     }
+    Ok(())
+}
+
+#[test]
+fn certificate_of_a_rounding_hides_nothing(rt: HostRuntime) -> Result<(), Fail> {
+    let alloc = rt.alloc();
     let words = ROUNDING.replace(alloc, "end", "hidden 4\nend")?;
-    let found = fault_of(
-        &rt,
-        alloc,
-        &SMALL_COUNTS,
-        Method::Rnd(5),
-        false,
-        ROUNDED,
-        &words,
-    )?;
+    let found = fault_of(alloc, ROUNDING_JOB, ROUNDED, &words)?;
     assert_eq!(rt; found, Some(CheckFault::Method));
     Ok(())
 }

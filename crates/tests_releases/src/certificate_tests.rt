@@ -1,7 +1,6 @@
 use certificate::{CertError, CertWhy, Certificate, read_certificate, write_certificate};
 use sdc_base::{Method, Side};
 use std::alloc::Global;
-use std::process::Abort;
 use std::rt::HostRuntime;
 use std::test::Fail;
 
@@ -106,8 +105,11 @@ fn lengths(certificate: &Certificate) -> [usize; 5] {
     ]
 }
 
+// The lengths of the lists of a certificate, or the line and the fault for which a text is none.
+type Reading = Result<[usize; 5], (u64, CertWhy)>;
+
 // The lengths of the lists of the certificate that a text is, or its first fault.
-fn answer(alloc: Global, text: &[u8]) -> Option<Result<[usize; 5], (u64, CertWhy)>> {
+fn answer(alloc: Global, text: &[u8]) -> Option<Reading> {
     match read_certificate(alloc, text) {
         Ok(certificate) => Some(Ok(lengths(&certificate))),
         Err(CertError::At { line, why }) => Some(Err((line, why))),
@@ -123,86 +125,99 @@ fn with_line(alloc: Global, version: u8, line: &str) -> Result<String, Fail> {
     Ok(text)
 }
 
-// The text of the certificate that a text is read as.
-fn written_again(alloc: Global, text: &[u8]) -> Option<Vec<u8>> {
-    let Ok(certificate) = read_certificate(alloc, text) else {
-        return None;
-    };
-    let Ok(bytes) = write_certificate(alloc, &certificate) else {
-        return None;
-    };
-    Some(bytes)
+// What is answered to that text.
+fn answer_to_line(alloc: Global, version: u8, line: &str) -> Result<Option<Reading>, Fail> {
+    let text = with_line(alloc, version, line)?;
+    Ok(answer(alloc, text.as_bytes()))
 }
 
-// Whether a text is written again as it was read.
-fn is_same_again(alloc: Global, text: &[u8]) -> bool {
-    match written_again(alloc, text) {
-        Some(bytes) => bytes.as_slice() == text,
-        None => false,
-    }
+// Whether a text is a certificate that is written as another text.
+fn is_written_as(alloc: Global, text: &str, wanted: &str) -> bool {
+    let Ok(certificate) = read_certificate(alloc, text.as_bytes()) else {
+        return false;
+    };
+    let Ok(bytes) = write_certificate(alloc, &certificate) else {
+        return false;
+    };
+    bytes.as_slice() == wanted.as_bytes()
 }
+
+const SECOND_VERSIONS: [&str; 5] = [FLAT, REPAIRED, PLANNED, REALISTIC, WIDE];
 
 #[test]
 fn certificates_are_written_as_they_were_read(rt: HostRuntime) {
     let alloc = rt.alloc();
-    for text in [FLAT, REPAIRED, PLANNED, REALISTIC, WIDE] {
-        assert!(rt; is_same_again(alloc, text.as_bytes()));
+    for text in &SECOND_VERSIONS {
+        assert!(rt; is_written_as(alloc, text, text));
     }
 }
+
+// Certificates in the first and in the second version.
+const BOTH_VERSIONS: [(&str, &str); 2] = [(REALISTIC_FIRST, REALISTIC), (WIDE_FIRST, WIDE)];
 
 #[test]
 fn first_versions_are_written_in_the_second(rt: HostRuntime) {
     let alloc = rt.alloc();
-    for (first, second) in [(REALISTIC_FIRST, REALISTIC), (WIDE_FIRST, WIDE)] {
-        let written = written_again(alloc, first.as_bytes());
-        let bytes = written.expect(&rt, "it is a certificate");
-        assert_eq!(rt; bytes.as_slice(), second.as_bytes());
+    for (first, second) in &BOTH_VERSIONS {
+        assert!(rt; is_written_as(alloc, first, second));
     }
 }
 
-// The second step, need and complete table of the realistic certificate.
-fn step_is(rt: &impl Abort, certificate: &Certificate) {
-    let steps = certificate.steps.as_slice();
-    let step = steps.get(1).expect(rt, "there are two steps");
-    assert_eq!(rt; (step.table, step.cell), (0, 1));
-    assert_eq!(rt; step.parents.as_slice(), [1].as_slice());
-    assert_eq!(rt; step.corners.as_slice(), [1, 3].as_slice());
+// Whether the head of the realistic certificate is read.
+fn has_head(certificate: &Certificate) -> bool {
+    certificate.method == Method::Modular
+        && (certificate.cells, certificate.relations) == (6, 3)
+        && certificate.hidden.as_slice() == [1, 3, 4, 5].as_slice()
 }
 
-fn need_is(rt: &impl Abort, certificate: &Certificate) {
-    let needs = certificate.needs.as_slice();
-    let need = needs.get(1).expect(rt, "there are two needs");
-    assert_eq!(rt; (need.subject, need.cell, need.side), (3, 4, Side::Above));
-    assert_eq!(rt; need.multipliers.den, 1);
-    assert_eq!(rt;
-        need.multipliers.by_relation.as_slice(),
-        [(0, 1), (1, 1)].as_slice()
-    );
+// Whether its second step, need and complete table are.
+fn has_step(certificate: &Certificate) -> bool {
+    let Some(step) = certificate.steps.as_slice().get(1) else {
+        return false;
+    };
+    (step.table, step.cell) == (0, 1)
+        && step.parents.as_slice() == [1].as_slice()
+        && step.corners.as_slice() == [1, 3].as_slice()
 }
 
-fn world_is(rt: &impl Abort, certificate: &Certificate) {
-    let worlds = certificate.worlds.as_slice();
-    let line = worlds.get(3).expect(rt, "there are four complete tables");
-    assert_eq!(rt; (line.cell, line.side, line.world.den), (5, Side::Below, 1));
+fn has_need(certificate: &Certificate) -> bool {
+    let Some(need) = certificate.needs.as_slice().get(1) else {
+        return false;
+    };
+    (need.subject, need.cell, need.side) == (3, 4, Side::Above)
+        && need.multipliers.den == 1
+        && need.multipliers.by_relation.as_slice() == [(0, 1), (1, 1)].as_slice()
+}
+
+fn has_world(certificate: &Certificate) -> bool {
+    let Some(line) = certificate.worlds.as_slice().get(3) else {
+        return false;
+    };
     let moves = line.world.moves.as_slice();
-    assert_eq!(rt; moves.len(), 4);
-    let one = moves.get(2).expect(rt, "there are four moves");
-    assert_eq!(rt; (one.cell, one.by), (4, -3));
+    let Some(one) = moves.get(2) else {
+        return false;
+    };
+    (line.cell, line.side, line.world.den) == (5, Side::Below, 1)
+        && moves.len() == 4
+        && (one.cell, one.by) == (4, -3)
+}
+
+// Whether a text is the realistic certificate in all of these.
+fn is_realistic(alloc: Global, text: &str) -> bool {
+    match read_certificate(alloc, text.as_bytes()) {
+        Ok(certificate) => {
+            has_head(&certificate)
+                && has_step(&certificate)
+                && has_need(&certificate)
+                && has_world(&certificate)
+        }
+        Err(_) => false,
+    }
 }
 
 #[test]
 fn what_a_certificate_says(rt: HostRuntime) {
-    let alloc = rt.alloc();
-    let certificate = read_certificate(alloc, REALISTIC.as_bytes()).expect(
-        &rt,
-        "it is a certificate",
-    );
-    assert_eq!(&rt; certificate.method, Method::Modular);
-    assert_eq!(&rt; (certificate.cells, certificate.relations), (6, 3));
-    assert_eq!(&rt; certificate.hidden.as_slice(), [1, 3, 4, 5].as_slice());
-    step_is(&rt, &certificate);
-    need_is(&rt, &certificate);
-    world_is(&rt, &certificate);
+    assert!(rt; is_realistic(rt.alloc(), REALISTIC));
 }
 
 // Whether it is the first line of a version.
@@ -222,206 +237,222 @@ fn fault_of_cut(text: &[u8]) -> (u64, CertWhy) {
     (ends.saturating_add(1), why)
 }
 
-// Each front part of this text is refused at its last line.
-fn cuts_are_refused(rt: &impl Abort, alloc: Global, text: &[u8]) {
+// Whether each front part of this text is refused at its last line.
+fn are_cuts_refused(alloc: Global, text: &[u8]) -> bool {
     for end in 0..text.len() {
         let cut = &text[..end];
-        assert_eq!(rt; answer(alloc, cut), Some(Err(fault_of_cut(cut))));
+        if answer(alloc, cut) != Some(Err(fault_of_cut(cut))) {
+            return false;
+        }
     }
+    true
 }
+
+#[test]
+fn whole_certificate_is_read(rt: HostRuntime) {
+    let found = answer(rt.alloc(), REALISTIC.as_bytes());
+    assert_eq!(rt; found, Some(Ok([4, 2, 0, 2, 4])));
+}
+
+const CUT: [&str; 2] = [REALISTIC, REALISTIC_FIRST];
 
 #[test]
 fn each_cut_of_a_certificate_is_refused_at_its_last_line(rt: HostRuntime) {
     let alloc = rt.alloc();
-    assert_eq!(&rt;
-        answer(alloc, REALISTIC.as_bytes()),
-        Some(Ok([4, 2, 0, 2, 4]))
-    );
-    cuts_are_refused(&rt, alloc, REALISTIC.as_bytes());
-    cuts_are_refused(&rt, alloc, REALISTIC_FIRST.as_bytes());
+    for text in &CUT {
+        assert!(rt; are_cuts_refused(alloc, text.as_bytes()));
+    }
 }
+
+// Texts and the answers to them.
+const TEXTS: [(&str, Reading); 34] = [
+    ("", Err((1, CertWhy::NoEnd))),
+    ("argus certificate 1", Err((1, CertWhy::Shape))),
+    ("argus certificate 1\n", Err((2, CertWhy::NoEnd))),
+    ("argus certificate 2", Err((1, CertWhy::Shape))),
+    ("argus certificate 2\n", Err((2, CertWhy::NoEnd))),
+    ("argus certificate 3\n", Err((1, CertWhy::Version))),
+    ("argus certificate 02\n", Err((1, CertWhy::Version))),
+    ("argus certificate 1\r\n", Err((1, CertWhy::Version))),
+    ("\n", Err((1, CertWhy::Version))),
+    ("argus certificate 1\nmethod MOD", Err((2, CertWhy::Shape))),
+    (
+        "argus certificate 1\nmethod MOD\n",
+        Err((3, CertWhy::NoEnd)),
+    ),
+    (
+        "argus certificate 1\nmethod mod\n",
+        Err((2, CertWhy::Shape)),
+    ),
+    (
+        "argus certificate 1\nmethod MOD 1\n",
+        Err((2, CertWhy::Shape)),
+    ),
+    ("argus certificate 1\nmethod GH\n", Err((2, CertWhy::Shape))),
+    (
+        "argus certificate 1\nmethod GH 4294967296\n",
+        Err((2, CertWhy::Number)),
+    ),
+    (
+        "argus certificate 1\nmethod GH 0\n",
+        Err((3, CertWhy::NoEnd)),
+    ),
+    (
+        "argus certificate 1\nmethod RND -5\n",
+        Err((3, CertWhy::NoEnd)),
+    ),
+    (
+        "argus certificate 1\nmethod RND -0\n",
+        Err((2, CertWhy::Number)),
+    ),
+    (
+        "argus certificate 1\nmethod RND -170141183460469231731687303715884105728\n",
+        Err((3, CertWhy::NoEnd)),
+    ),
+    (
+        "argus certificate 1\nmethod RND 170141183460469231731687303715884105728\n",
+        Err((2, CertWhy::Number)),
+    ),
+    (
+        "argus certificate 1\nmethod MOD\ncells 03\n",
+        Err((3, CertWhy::Number)),
+    ),
+    (
+        "argus certificate 1\nmethod MOD\ncells  3\n",
+        Err((3, CertWhy::Shape)),
+    ),
+    (
+        "argus certificate 1\nmethod MOD\ncells 3 \n",
+        Err((3, CertWhy::Shape)),
+    ),
+    (
+        "argus certificate 1\nmethod MOD\ncells 3\nend\n",
+        Err((4, CertWhy::Shape)),
+    ),
+    (
+        "argus certificate 1\nmethod MOD\ncells 3\nrelations 1\nend\n",
+        Ok([0, 0, 0, 0, 0]),
+    ),
+    (
+        "argus certificate 1\nmethod MOD\ncells 3\nrelations 1\nend",
+        Err((5, CertWhy::Shape)),
+    ),
+    (
+        "argus certificate 1\nmethod MOD\ncells 3\nrelations 1\n",
+        Err((5, CertWhy::NoEnd)),
+    ),
+    (
+        "argus certificate 1\nmethod MOD\ncells 3\nrelations 1\nend\n\n",
+        Err((6, CertWhy::Shape)),
+    ),
+    (
+        "argus certificate 1\nmethod MOD\ncells 3\nrelations 1\nend \n",
+        Err((5, CertWhy::Shape)),
+    ),
+    (
+        "argus certificate 1\nmethod MOD\ncells 3\nrelations 1\nhidden\nend\n",
+        Err((5, CertWhy::Shape)),
+    ),
+    (
+        "argus certificate 1\nmethod MOD\ncells 3\nrelations 1\nhidden \nend\n",
+        Err((5, CertWhy::Number)),
+    ),
+    (
+        "argus certificate 1\nmethod MOD\ncells 3\nrelations 1\nhidden 1  2\nend\n",
+        Err((5, CertWhy::Number)),
+    ),
+    (
+        "argus certificate 1\nmethod MOD\ncells 3\nrelations 1\nhidden 2 1 x\nend\n",
+        Err((5, CertWhy::Number)),
+    ),
+    (
+        "argus certificate 1\nmethod MOD\ncells 3\nrelations 1\nhidden 1 1\nend\n",
+        Err((5, CertWhy::Order)),
+    ),
+];
 
 #[test]
 fn texts_and_their_first_faults(rt: HostRuntime) {
-    use CertWhy::{NoEnd, Number, Order, Shape, Version};
     let alloc = rt.alloc();
-    let rows = [
-        ("", Err((1, NoEnd))),
-        ("argus certificate 1", Err((1, Shape))),
-        ("argus certificate 1\n", Err((2, NoEnd))),
-        ("argus certificate 2", Err((1, Shape))),
-        ("argus certificate 2\n", Err((2, NoEnd))),
-        ("argus certificate 3\n", Err((1, Version))),
-        ("argus certificate 02\n", Err((1, Version))),
-        ("argus certificate 1\r\n", Err((1, Version))),
-        ("\n", Err((1, Version))),
-        ("argus certificate 1\nmethod MOD", Err((2, Shape))),
-        ("argus certificate 1\nmethod MOD\n", Err((3, NoEnd))),
-        ("argus certificate 1\nmethod mod\n", Err((2, Shape))),
-        ("argus certificate 1\nmethod MOD 1\n", Err((2, Shape))),
-        ("argus certificate 1\nmethod GH\n", Err((2, Shape))),
-        (
-            "argus certificate 1\nmethod GH 4294967296\n",
-            Err((2, Number)),
-        ),
-        ("argus certificate 1\nmethod GH 0\n", Err((3, NoEnd))),
-        ("argus certificate 1\nmethod RND -5\n", Err((3, NoEnd))),
-        ("argus certificate 1\nmethod RND -0\n", Err((2, Number))),
-        (
-            "argus certificate 1\nmethod RND -170141183460469231731687303715884105728\n",
-            Err((3, NoEnd)),
-        ),
-        (
-            "argus certificate 1\nmethod RND 170141183460469231731687303715884105728\n",
-            Err((2, Number)),
-        ),
-        (
-            "argus certificate 1\nmethod MOD\ncells 03\n",
-            Err((3, Number)),
-        ),
-        (
-            "argus certificate 1\nmethod MOD\ncells  3\n",
-            Err((3, Shape)),
-        ),
-        (
-            "argus certificate 1\nmethod MOD\ncells 3 \n",
-            Err((3, Shape)),
-        ),
-        (
-            "argus certificate 1\nmethod MOD\ncells 3\nend\n",
-            Err((4, Shape)),
-        ),
-        (
-            "argus certificate 1\nmethod MOD\ncells 3\nrelations 1\nend\n",
-            Ok([0, 0, 0, 0, 0]),
-        ),
-        (
-            "argus certificate 1\nmethod MOD\ncells 3\nrelations 1\nend",
-            Err((5, Shape)),
-        ),
-        (
-            "argus certificate 1\nmethod MOD\ncells 3\nrelations 1\n",
-            Err((5, NoEnd)),
-        ),
-        (
-            "argus certificate 1\nmethod MOD\ncells 3\nrelations 1\nend\n\n",
-            Err((6, Shape)),
-        ),
-        (
-            "argus certificate 1\nmethod MOD\ncells 3\nrelations 1\nend \n",
-            Err((5, Shape)),
-        ),
-        (
-            "argus certificate 1\nmethod MOD\ncells 3\nrelations 1\nhidden\nend\n",
-            Err((5, Shape)),
-        ),
-        (
-            "argus certificate 1\nmethod MOD\ncells 3\nrelations 1\nhidden \nend\n",
-            Err((5, Number)),
-        ),
-        (
-            "argus certificate 1\nmethod MOD\ncells 3\nrelations 1\nhidden 1  2\nend\n",
-            Err((5, Number)),
-        ),
-        (
-            "argus certificate 1\nmethod MOD\ncells 3\nrelations 1\nhidden 2 1 x\nend\n",
-            Err((5, Number)),
-        ),
-        (
-            "argus certificate 1\nmethod MOD\ncells 3\nrelations 1\nhidden 1 1\nend\n",
-            Err((5, Order)),
-        ),
-    ];
-    for (text, wanted) in rows {
-        assert_eq!(rt; answer(alloc, text.as_bytes()), Some(wanted));
+    for (text, wanted) in &TEXTS {
+        assert_eq!(rt; answer(alloc, text.as_bytes()), Some(*wanted));
     }
 }
+
+// Lines of the first version behind the head, and the answers to them; the last two have kinds of lines out of order.
+const LINES: [(&str, Reading); 35] = [
+    ("step 1 0 4 1,4", Ok([2, 1, 0, 0, 0])),
+    ("step 1 0,1,2,3,4,5,6,7 4 1", Ok([2, 1, 0, 0, 0])),
+    ("step 1 0,1,2,3,4,5,6,7,8 4 1", Err((6, CertWhy::Shape))),
+    ("step 0 0 4 1", Err((6, CertWhy::Number))),
+    ("step 4294967295 0 4 1", Ok([2, 1, 0, 0, 0])),
+    ("step 4294967296 0 4 1", Err((6, CertWhy::Number))),
+    ("step 1  4 1", Err((6, CertWhy::Shape))),
+    ("step 1 0 4 ", Err((6, CertWhy::Shape))),
+    ("step 1 0 4", Err((6, CertWhy::Shape))),
+    ("step 1 0,,1 4 1", Err((6, CertWhy::Number))),
+    ("step 1 0 4 4,1", Err((6, CertWhy::Order))),
+    ("step x 0 4 4,1", Err((6, CertWhy::Number))),
+    ("step x 0 4 4,1 2", Err((6, CertWhy::Shape))),
+    ("hidden 1 3", Err((6, CertWhy::Shape))),
+    ("repair 1 4 above 1", Ok([2, 0, 1, 0, 0])),
+    ("repair 1 4 above 1 0:1 2:-3", Ok([2, 0, 1, 0, 0])),
+    ("repair 1 4 above 1 0:1 0:2", Err((6, CertWhy::Order))),
+    ("repair 1 4 above 1 0:0", Err((6, CertWhy::Number))),
+    ("repair 1 4 above 1 0", Err((6, CertWhy::Shape))),
+    ("repair x 4 above 1 0", Err((6, CertWhy::Shape))),
+    ("repair x 4 beyond 1 0:1", Err((6, CertWhy::Shape))),
+    ("repair 1 4 above 0 0:1", Err((6, CertWhy::Number))),
+    ("repair 1 4 above -1 0:1", Err((6, CertWhy::Number))),
+    ("repair 1 4 above 1 0:1:2", Err((6, CertWhy::Number))),
+    ("repair 1 4 above 1  0:1", Err((6, CertWhy::Shape))),
+    ("need 1 4 below 7 3:2", Ok([2, 0, 0, 1, 0])),
+    ("world 4 above 1 -3 0", Ok([2, 0, 0, 0, 1])),
+    ("world 4 above 1 -3", Err((6, CertWhy::Shape))),
+    ("world 4 above 1 -3 0 0", Err((6, CertWhy::Shape))),
+    ("world 4 above 1 -3 +1", Err((6, CertWhy::Number))),
+    ("world 4 above 1  -3", Err((6, CertWhy::Number))),
+    ("worlds 4 above 1 -3 0", Err((6, CertWhy::Shape))),
+    ("end", Err((7, CertWhy::Shape))),
+    ("repair 1 4 above 1\nstep 1 0 4 1", Err((7, CertWhy::Shape))),
+    (
+        "world 4 above 1 0 0\nneed 1 4 above 1",
+        Err((7, CertWhy::Shape)),
+    ),
+];
 
 #[test]
 fn lines_and_their_faults(rt: HostRuntime) -> Result<(), Fail> {
-    use CertWhy::{Number, Order, Shape};
     let alloc = rt.alloc();
-    let rows = [
-        ("step 1 0 4 1,4", Ok([2, 1, 0, 0, 0])),
-        ("step 1 0,1,2,3,4,5,6,7 4 1", Ok([2, 1, 0, 0, 0])),
-        ("step 1 0,1,2,3,4,5,6,7,8 4 1", Err((6, Shape))),
-        ("step 0 0 4 1", Err((6, Number))),
-        ("step 4294967295 0 4 1", Ok([2, 1, 0, 0, 0])),
-        ("step 4294967296 0 4 1", Err((6, Number))),
-        ("step 1  4 1", Err((6, Shape))),
-        ("step 1 0 4 ", Err((6, Shape))),
-        ("step 1 0 4", Err((6, Shape))),
-        ("step 1 0,,1 4 1", Err((6, Number))),
-        ("step 1 0 4 4,1", Err((6, Order))),
-        ("step x 0 4 4,1", Err((6, Number))),
-        ("step x 0 4 4,1 2", Err((6, Shape))),
-        ("hidden 1 3", Err((6, Shape))),
-        ("repair 1 4 above 1", Ok([2, 0, 1, 0, 0])),
-        ("repair 1 4 above 1 0:1 2:-3", Ok([2, 0, 1, 0, 0])),
-        ("repair 1 4 above 1 0:1 0:2", Err((6, Order))),
-        ("repair 1 4 above 1 0:0", Err((6, Number))),
-        ("repair 1 4 above 1 0", Err((6, Shape))),
-        ("repair x 4 above 1 0", Err((6, Shape))),
-        ("repair x 4 beyond 1 0:1", Err((6, Shape))),
-        ("repair 1 4 above 0 0:1", Err((6, Number))),
-        ("repair 1 4 above -1 0:1", Err((6, Number))),
-        ("repair 1 4 above 1 0:1:2", Err((6, Number))),
-        ("repair 1 4 above 1  0:1", Err((6, Shape))),
-        ("need 1 4 below 7 3:2", Ok([2, 0, 0, 1, 0])),
-        ("world 4 above 1 -3 0", Ok([2, 0, 0, 0, 1])),
-        ("world 4 above 1 -3", Err((6, Shape))),
-        ("world 4 above 1 -3 0 0", Err((6, Shape))),
-        ("world 4 above 1 -3 +1", Err((6, Number))),
-        ("world 4 above 1  -3", Err((6, Number))),
-        ("worlds 4 above 1 -3 0", Err((6, Shape))),
-        ("end", Err((7, Shape))),
-    ];
-    for (line, wanted) in rows {
-        let text = with_line(alloc, 1, line)?;
-        assert_eq!(rt; answer(alloc, text.as_bytes()), Some(wanted));
+    for (line, wanted) in &LINES {
+        assert_eq!(rt; answer_to_line(alloc, 1, line)?, Some(*wanted));
     }
     Ok(())
 }
 
-#[test]
-fn kinds_of_lines_in_order(rt: HostRuntime) -> Result<(), Fail> {
-    let alloc = rt.alloc();
-    let text = with_line(alloc, 1, "repair 1 4 above 1\nstep 1 0 4 1")?;
-    assert_eq!(rt;
-        answer(alloc, text.as_bytes()),
-        Some(Err((7, CertWhy::Shape)))
-    );
-    let text = with_line(alloc, 1, "world 4 above 1 0 0\nneed 1 4 above 1")?;
-    assert_eq!(rt;
-        answer(alloc, text.as_bytes()),
-        Some(Err((7, CertWhy::Shape)))
-    );
-    Ok(())
-}
+// Lines of complete tables in the second version.
+const COMPLETE_TABLES: [(&str, Reading); 14] = [
+    ("world 4 above 1", Ok([2, 0, 0, 0, 1])),
+    ("world 4 above 1 1:-3 4:2", Ok([2, 0, 0, 0, 1])),
+    ("world 4 above 1 4294967295:1", Ok([2, 0, 0, 0, 1])),
+    ("world 4 above 1 4294967296:1", Err((6, CertWhy::Number))),
+    ("world 4 above 1 1:0", Err((6, CertWhy::Number))),
+    ("world 4 above 1 1:-0", Err((6, CertWhy::Number))),
+    ("world 4 above 1 01:3", Err((6, CertWhy::Number))),
+    ("world 4 above 0 1:3", Err((6, CertWhy::Number))),
+    ("world 4 above 1 1:3 1:4", Err((6, CertWhy::Order))),
+    ("world 4 above 1 3:1 1:3", Err((6, CertWhy::Order))),
+    ("world 4 above 1 3:1 1:0", Err((6, CertWhy::Number))),
+    ("world 4 above 1 -3 0", Err((6, CertWhy::Shape))),
+    ("world x above 1 3:1 1", Err((6, CertWhy::Shape))),
+    ("world 4 above 1 ", Err((6, CertWhy::Shape))),
+];
 
 #[test]
 fn complete_tables_in_the_second_version(rt: HostRuntime) -> Result<(), Fail> {
-    use CertWhy::{Number, Order, Shape};
     let alloc = rt.alloc();
-    let rows = [
-        ("world 4 above 1", Ok([2, 0, 0, 0, 1])),
-        ("world 4 above 1 1:-3 4:2", Ok([2, 0, 0, 0, 1])),
-        ("world 4 above 1 4294967295:1", Ok([2, 0, 0, 0, 1])),
-        ("world 4 above 1 4294967296:1", Err((6, Number))),
-        ("world 4 above 1 1:0", Err((6, Number))),
-        ("world 4 above 1 1:-0", Err((6, Number))),
-        ("world 4 above 1 01:3", Err((6, Number))),
-        ("world 4 above 0 1:3", Err((6, Number))),
-        ("world 4 above 1 1:3 1:4", Err((6, Order))),
-        ("world 4 above 1 3:1 1:3", Err((6, Order))),
-        ("world 4 above 1 3:1 1:0", Err((6, Number))),
-        ("world 4 above 1 -3 0", Err((6, Shape))),
-        ("world x above 1 3:1 1", Err((6, Shape))),
-        ("world 4 above 1 ", Err((6, Shape))),
-    ];
-    for (line, wanted) in rows {
-        let text = with_line(alloc, 2, line)?;
-        assert_eq!(rt; answer(alloc, text.as_bytes()), Some(wanted));
+    for (line, wanted) in &COMPLETE_TABLES {
+        assert_eq!(rt; answer_to_line(alloc, 2, line)?, Some(*wanted));
     }
     Ok(())
 }

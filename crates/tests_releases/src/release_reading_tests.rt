@@ -2,6 +2,7 @@ ghost use Rattle.std.specs.Prelude.{◌≡◌, ◌≤◌, [], length, slice_inde
 ghost use Rattle.release_writer.specs.Sheets.{HaveNames};
 
 use crate::release_writer_tests::are_from_zero;
+use kit_cells::set_truth;
 use kit_records::{places, texts, tree};
 use linked_tables::Book;
 use release_writer::{ReleaseFault, hidden_of, rounded_of};
@@ -34,6 +35,33 @@ fn have_names(book: &Book, names: &[Items<Text>]) -> bool
     true
 }
 
+// A letter for each cell, that of a hidden one `x`.
+fn letters(alloc: Global, flags: &[bool]) -> Result<String, Fail> {
+    let mut read = String::new(alloc);
+    for flag in flags {
+        read.push(if *flag { 'x' } else { '.' })?;
+    }
+    Ok(read)
+}
+
+// A number for each cell.
+fn numerals(alloc: Global, numbers: &[i128]) -> Result<String, Fail> {
+    let mut read = String::new(alloc);
+    for number in numbers {
+        let number = *number;
+        read.push_str(&format!(in alloc; "{number},")?)?;
+    }
+    Ok(read)
+}
+
+// The bad line of a table.
+fn fault_line(alloc: Global, fault: ReleaseFault) -> Result<String, Fail> {
+    match fault {
+        ReleaseFault::At { table, line } => Ok(format!(in alloc; "table {table} line {line}")?),
+        ReleaseFault::Memory => Ok(format!(in alloc; "m")?),
+    }
+}
+
 // What the bytes of tables are read as: a letter or a number for each cell, or the bad line.
 fn hidden_read(
     alloc: Global,
@@ -41,27 +69,16 @@ fn hidden_read(
     names: &[Items<Text>],
     tables: &[Text],
 ) -> Result<String, Fail> {
-    let mut read = String::new(alloc);
     if !are_from_zero(book.marks())
         || !have_names(book, names)
         || tables.len() != book.tables() as usize
     {
-        return Ok(read);
+        return Ok(String::new(alloc));
     }
     match hidden_of(alloc, book, names, 0, tables) {
-        Ok(hidden) => {
-            for flag in hidden.flags.as_slice() {
-                read.push(if *flag { 'x' } else { '.' })?;
-            }
-        }
-        Err(ReleaseFault::At { table, line }) => {
-            return Ok(format!(in alloc; "table {table} line {line}")?);
-        }
-        Err(ReleaseFault::Memory) => {
-            read.push('m')?;
-        }
+        Ok(hidden) => letters(alloc, hidden.flags.as_slice()),
+        Err(fault) => fault_line(alloc, fault),
     }
-    Ok(read)
 }
 
 fn rounded_read(
@@ -71,29 +88,36 @@ fn rounded_read(
     decimals: u8,
     tables: &[Text],
 ) -> Result<String, Fail> {
-    let mut read = String::new(alloc);
     if !are_from_zero(book.marks())
         || !have_names(book, names)
         || tables.len() != book.tables() as usize
         || decimals > 13
     {
-        return Ok(read);
+        return Ok(String::new(alloc));
     }
     match rounded_of(alloc, book, names, decimals, tables) {
-        Ok(numbers) => {
-            for number in numbers.as_slice() {
-                let one = format!(in alloc; "{number},")?;
-                read.push_str(one.as_str())?;
-            }
-        }
-        Err(ReleaseFault::At { table, line }) => {
-            return Ok(format!(in alloc; "table {table} line {line}")?);
-        }
-        Err(ReleaseFault::Memory) => {
-            read.push('m')?;
-        }
+        Ok(numbers) => numerals(alloc, numbers.as_slice()),
+        Err(fault) => fault_line(alloc, fault),
     }
-    Ok(read)
+}
+
+// The truths of a two-way table.
+const TRUTHS: [(u32, u32); 9] = [
+    (0, 140),
+    (1, 50),
+    (2, 90),
+    (3, 70),
+    (4, 20),
+    (5, 50),
+    (6, 70),
+    (7, 30),
+    (8, 40),
+];
+
+fn set_truths(book: &mut Book) {
+    for (cell, truth) in &TRUTHS {
+        set_truth(book, *cell, *truth);
+    }
 }
 
 // The two-way table of A with a1 and a2, and of B with b1 and b2; and then the table of A.
@@ -102,21 +126,7 @@ fn two_way(alloc: Global) -> Result<Book, Fail> {
     trees.push(tree(alloc, &[b"a1", b"a2"])?)?;
     trees.push(tree(alloc, &[b"b1", b"b2"])?)?;
     let mut book = Book::new(alloc, trees, places(alloc, &[&[0, 1], &[0]])?)?;
-    for (cell, truth) in [
-        (0, 140),
-        (1, 50),
-        (2, 90),
-        (3, 70),
-        (4, 20),
-        (5, 50),
-        (6, 70),
-        (7, 30),
-        (8, 40),
-    ] {
-        if let Some(mark) = book.mark_mut(cell) {
-            mark.facts.truth = truth;
-        }
-    }
+    set_truths(&mut book);
     Ok(book)
 }
 
@@ -223,33 +233,39 @@ const ROUNDING: [(&[u8], &[u8], u8, &str); 10] = [
     ),
 ];
 
-// Two texts.
-fn two_texts(alloc: Global, first: &[u8], second: &[u8]) -> Result<Vec<Text>, Fail> {
-    Ok(texts(alloc, &[first, second])?)
+// What the bytes of both tables are read as where cells may be hidden.
+fn hidden_text(alloc: Global, first: &[u8], second: &[u8]) -> Result<String, Fail> {
+    let book = two_way(alloc)?;
+    let names = two_names(alloc)?;
+    let tables = texts(alloc, &[first, second])?;
+    hidden_read(alloc, &book, &names, &tables)
 }
 
 #[test]
 fn hidden_sets_are_read(rt: HostRuntime) -> Result<(), Fail> {
     let alloc = rt.alloc();
-    let book = two_way(alloc)?;
-    let names = two_names(alloc)?;
-    for (first, second, wanted) in HIDING {
-        let tables = two_texts(alloc, first, second)?;
-        let read = hidden_read(alloc, &book, &names, &tables)?;
-        assert_eq!(rt; read.as_str(), wanted);
+    for (first, second, wanted) in &HIDING {
+        assert_eq!(rt; hidden_text(alloc, first, second)?.as_str(), *wanted);
     }
     Ok(())
+}
+
+// What the bytes of both tables are read as where cells are rounded.
+fn rounded_text(alloc: Global, first: &[u8], second: &[u8], decimals: u8) -> Result<String, Fail> {
+    let book = two_way(alloc)?;
+    let names = two_names(alloc)?;
+    let tables = texts(alloc, &[first, second])?;
+    rounded_read(alloc, &book, &names, decimals, &tables)
 }
 
 #[test]
 fn rounded_numbers_are_read(rt: HostRuntime) -> Result<(), Fail> {
     let alloc = rt.alloc();
-    let book = two_way(alloc)?;
-    let names = two_names(alloc)?;
-    for (first, second, decimals, wanted) in ROUNDING {
-        let tables = two_texts(alloc, first, second)?;
-        let read = rounded_read(alloc, &book, &names, decimals, &tables)?;
-        assert_eq!(rt; read.as_str(), wanted);
+    for (first, second, decimals, wanted) in &ROUNDING {
+        assert_eq!(rt;
+            rounded_text(alloc, first, second, *decimals)?.as_str(),
+            *wanted
+        );
     }
     Ok(())
 }
@@ -275,15 +291,19 @@ const LINE_ENDS: [(&[u8], &str); 2] = [
     ),
 ];
 
+// What the bytes of that table are read as.
+fn text_of_line_ends(alloc: Global, bytes: &[u8]) -> Result<String, Fail> {
+    let book = one_way(alloc)?;
+    let names = names_with_a_line_end(alloc)?;
+    let tables = texts(alloc, &[bytes])?;
+    hidden_read(alloc, &book, &names, &tables)
+}
+
 #[test]
 fn line_ends_in_codes_are_read(rt: HostRuntime) -> Result<(), Fail> {
     let alloc = rt.alloc();
-    let book = one_way(alloc)?;
-    let names = names_with_a_line_end(alloc)?;
-    for (bytes, wanted) in LINE_ENDS {
-        let tables = texts(alloc, &[bytes])?;
-        let read = hidden_read(alloc, &book, &names, &tables)?;
-        assert_eq!(rt; read.as_str(), wanted);
+    for (bytes, wanted) in &LINE_ENDS {
+        assert_eq!(rt; text_of_line_ends(alloc, bytes)?.as_str(), *wanted);
     }
     Ok(())
 }

@@ -4,6 +4,7 @@ use crate::form_check::is_well_formed;
 use sdc_base::{Items, Memory};
 use std::alloc::Global;
 use std::rt::HostRuntime;
+use std::test::Fail;
 use tableau::{LinRow, Problem, Step, Tableau};
 
 fn row(alloc: Global, entries: &[(u32, i128)], bound: i128) -> Result<LinRow, Memory> {
@@ -28,30 +29,70 @@ fn problem(
     })
 }
 
+// The tableau that a well-formed problem starts with.
+fn started(alloc: Global, problem: Problem) -> Result<Tableau, Fail> {
+    if !is_well_formed(&problem) {
+        return Err(Fail::new("the problem isn't well formed"));
+    }
+    Ok(Tableau::start(alloc, problem)?)
+}
+
+// What the next step comes to, where it can be counted.
+fn next_step(tableau: &mut Tableau) -> Result<Step, Fail> {
+    if tableau.improved() == u64::MAX {
+        return Err(Fail::new("no more steps can be counted"));
+    }
+    Ok(tableau.improve()?)
+}
+
+// Whether the next steps come to these.
+fn makes_steps(tableau: &mut Tableau, steps: &[Step]) -> Result<bool, Fail> {
+    for wanted in steps {
+        if next_step(tableau)? != *wanted {
+            return Ok(false);
+        }
+    }
+    Ok(true)
+}
+
 // Whether this den, these values of the columns and these numbers at the slacks are read off.
 fn has_table(tableau: &Tableau, den: i128, values: &[i128], slacks: &[i128]) -> bool {
     tableau.den() == den && tableau.values() == values && tableau.slacks() == slacks
 }
 
-#[test]
-fn first_step_is_wide(rt: HostRuntime) {
-    let alloc = rt.alloc();
+// A table of a walk: what is read off of it, and what the step from it comes to.
+struct Table {
+    den: i128,
+    values: &'static [i128],
+    slacks: &'static [i128],
+    step: Step,
+}
+
+// Whether this is the table, and the next step comes to that.
+fn passes(tableau: &mut Tableau, table: &Table) -> Result<bool, Fail> {
+    let same = has_table(tableau, table.den, table.values, table.slacks);
+    Ok(same && next_step(tableau)? == table.step)
+}
+
+// Two rows whose exchange needs the square of 2^100.
+fn wide_rows(alloc: Global) -> Result<Problem, Memory> {
     let wide = 1i128 << 100;
     let mut rows = Vec::new(alloc);
-    let one = row(alloc, &[(0, wide), (1, 1)], 1).expect(&rt, "memory");
-    let other = row(alloc, &[(0, 1), (1, wide)], 1).expect(&rt, "memory");
-    assert!(&rt; rows.push(one).is_ok());
-    assert!(&rt; rows.push(other).is_ok());
-    let problem = problem(alloc, 2, rows, &[(0, 1), (1, 1)], wide).expect(&rt, "memory");
-    assert!(&rt; is_well_formed(&problem));
-    let mut tableau = Tableau::start(alloc, problem).expect(&rt, "memory");
-    let step = tableau.improve().expect(&rt, "memory");
-    assert!(&rt;
+    rows.push(row(alloc, &[(0, wide), (1, 1)], 1)?)?;
+    rows.push(row(alloc, &[(0, 1), (1, wide)], 1)?)?;
+    problem(alloc, 2, rows, &[(0, 1), (1, 1)], wide)
+}
+
+#[test]
+fn first_step_is_wide(rt: HostRuntime) -> Result<(), Fail> {
+    let mut tableau = started(rt.alloc(), wide_rows(rt.alloc())?)?;
+    let step = next_step(&mut tableau)?;
+    assert!(rt;
         step == Step::Wide { row: 3, column: 1 } || step == Step::Wide { row: 4, column: 5 }
     );
-    assert_eq!(&rt; tableau.improved(), 0);
-    assert!(&rt; tableau.can_improve());
-    assert!(&rt; has_table(&tableau, 1, &[0, 0], &[0, 0, 0]));
+    assert_eq!(rt; (tableau.improved(), tableau.can_improve()), (0, true));
+    assert!(rt; has_table(&tableau, 1, &[0, 0], &[0, 0, 0]));
+    Ok(())
 }
 
 fn one_row(alloc: Global, target: i128) -> Result<Problem, Memory> {
@@ -61,29 +102,22 @@ fn one_row(alloc: Global, target: i128) -> Result<Problem, Memory> {
 }
 
 #[test]
-fn target_is_reached(rt: HostRuntime) {
-    let alloc = rt.alloc();
-    let problem = one_row(alloc, 1).expect(&rt, "memory");
-    assert!(&rt; is_well_formed(&problem));
-    let mut tableau = Tableau::start(alloc, problem).expect(&rt, "memory");
-    assert!(&rt; tableau.can_improve());
-    assert!(&rt; tableau.improve().expect(&rt, "memory") == Step::Improved);
-    assert!(&rt; tableau.improve().expect(&rt, "memory") == Step::Reached);
-    assert_eq!(&rt; tableau.improved(), 1);
-    assert!(&rt; !tableau.can_improve());
-    assert!(&rt; has_table(&tableau, 1, &[1], &[0, 1]));
+fn target_is_reached(rt: HostRuntime) -> Result<(), Fail> {
+    let mut tableau = started(rt.alloc(), one_row(rt.alloc(), 1)?)?;
+    assert!(rt; tableau.can_improve());
+    assert!(rt; makes_steps(&mut tableau, &[Step::Improved, Step::Reached])?);
+    assert_eq!(rt; (tableau.improved(), tableau.can_improve()), (1, false));
+    assert!(rt; has_table(&tableau, 1, &[1], &[0, 1]));
+    Ok(())
 }
 
 #[test]
-fn blocked_below_the_target(rt: HostRuntime) {
-    let alloc = rt.alloc();
-    let problem = one_row(alloc, 3).expect(&rt, "memory");
-    assert!(&rt; is_well_formed(&problem));
-    let mut tableau = Tableau::start(alloc, problem).expect(&rt, "memory");
-    assert!(&rt; tableau.improve().expect(&rt, "memory") == Step::Improved);
-    assert!(&rt; tableau.improve().expect(&rt, "memory") == Step::Blocked);
-    assert!(&rt; !tableau.can_improve());
-    assert!(&rt; has_table(&tableau, 2, &[4], &[1, 0]));
+fn blocked_below_the_target(rt: HostRuntime) -> Result<(), Fail> {
+    let mut tableau = started(rt.alloc(), one_row(rt.alloc(), 3)?)?;
+    assert!(rt; makes_steps(&mut tableau, &[Step::Improved, Step::Blocked])?);
+    assert!(rt; !tableau.can_improve());
+    assert!(rt; has_table(&tableau, 2, &[4], &[1, 0]));
+    Ok(())
 }
 
 // 2 y0 + y1 <= 0, 2 y1 <= 0, -2 y0 + y1 <= 0; 3 y0 + 3 y1 is to come to 3. The slacks are 2, 3, 4 and 5. The tables of
@@ -109,18 +143,35 @@ fn degenerate(alloc: Global) -> Result<Problem, Memory> {
     problem(alloc, 2, rows, &[(0, 3), (1, 3)], 3)
 }
 
+// The tables of the walk above.
+const TIES: [Table; 3] = [
+    Table {
+        den: 1,
+        values: &[0, 0],
+        slacks: &[0, 0, 0, 0],
+        step: Step::Improved,
+    },
+    Table {
+        den: 2,
+        values: &[0, 0],
+        slacks: &[3, 0, 0, 0],
+        step: Step::Improved,
+    },
+    Table {
+        den: 4,
+        values: &[0, 0],
+        slacks: &[6, 3, 0, 0],
+        step: Step::Blocked,
+    },
+];
+
 #[test]
-fn ties_are_broken_by_the_slacks(rt: HostRuntime) {
-    let alloc = rt.alloc();
-    let problem = degenerate(alloc).expect(&rt, "memory");
-    assert!(&rt; is_well_formed(&problem));
-    let mut tableau = Tableau::start(alloc, problem).expect(&rt, "memory");
-    assert!(&rt; has_table(&tableau, 1, &[0, 0], &[0, 0, 0, 0]));
-    assert!(&rt; tableau.improve().expect(&rt, "memory") == Step::Improved);
-    assert!(&rt; has_table(&tableau, 2, &[0, 0], &[3, 0, 0, 0]));
-    assert!(&rt; tableau.improve().expect(&rt, "memory") == Step::Improved);
-    assert!(&rt; has_table(&tableau, 4, &[0, 0], &[6, 3, 0, 0]));
-    assert!(&rt; tableau.improve().expect(&rt, "memory") == Step::Blocked);
+fn ties_are_broken_by_the_slacks(rt: HostRuntime) -> Result<(), Fail> {
+    let mut tableau = started(rt.alloc(), degenerate(rt.alloc())?)?;
+    for table in &TIES {
+        assert!(rt; passes(&mut tableau, table)?);
+    }
+    Ok(())
 }
 
 // The form of a relation between two hidden cells, total less parts, at most 0, and its opposite. Both cells are parts;
@@ -153,30 +204,47 @@ fn four_cells(alloc: Global) -> Result<Problem, Memory> {
 
 // The tables are those that `bench/walks/exact.py` prints: it solves the rows for each basis by fractions, makes no
 // exchange, and knows the choice of what comes in and leaves from the definition alone.
+const THIRTEEN_RECORDS: [Table; 5] = [
+    Table {
+        den: 1,
+        values: &[0, 0, 0, 0, 0, 0, 0, 0],
+        slacks: &[0, 0, 0, 0, 0, 0, 0, 0, 0, 0, 0, 0, 0],
+        step: Step::Improved,
+    },
+    Table {
+        den: 1,
+        values: &[0, 0, 0, 0, 0, 0, 0, 0],
+        slacks: &[0, 0, 0, 0, 0, 0, 0, 0, 0, 1, 0, 0, 0],
+        step: Step::Improved,
+    },
+    Table {
+        den: 1,
+        values: &[0, 0, 0, 0, 0, 0, 0, 0],
+        slacks: &[0, 0, 0, 0, 0, 0, 1, 0, 0, 1, 0, 0, 0],
+        step: Step::Improved,
+    },
+    Table {
+        den: 1,
+        values: &[0, 0, 0, 0, 0, 0, 0, 0],
+        slacks: &[0, 0, 0, 0, 0, 0, 1, 0, 0, 1, 0, 1, 0],
+        step: Step::Improved,
+    },
+    Table {
+        den: 1,
+        values: &[6, 0, 0, 6, 0, 6, 6, 0],
+        slacks: &[0, 0, 0, 0, 0, 0, 0, 0, 0, 0, 0, 0, 1],
+        step: Step::Reached,
+    },
+];
+
 #[test]
-fn question_of_thirteen_records_is_walked(rt: HostRuntime) {
-    let alloc = rt.alloc();
-    let problem = four_cells(alloc).expect(&rt, "memory");
-    assert!(&rt; is_well_formed(&problem));
-    let mut tableau = Tableau::start(alloc, problem).expect(&rt, "memory");
-    let still = [0; 8];
-    let none = [0; 13];
-    assert!(&rt; has_table(&tableau, 1, &still, &none));
-    assert!(&rt; tableau.improve().expect(&rt, "memory") == Step::Improved);
-    let slacks = [0, 0, 0, 0, 0, 0, 0, 0, 0, 1, 0, 0, 0];
-    assert!(&rt; has_table(&tableau, 1, &still, &slacks));
-    assert!(&rt; tableau.improve().expect(&rt, "memory") == Step::Improved);
-    let slacks = [0, 0, 0, 0, 0, 0, 1, 0, 0, 1, 0, 0, 0];
-    assert!(&rt; has_table(&tableau, 1, &still, &slacks));
-    assert!(&rt; tableau.improve().expect(&rt, "memory") == Step::Improved);
-    let slacks = [0, 0, 0, 0, 0, 0, 1, 0, 0, 1, 0, 1, 0];
-    assert!(&rt; has_table(&tableau, 1, &still, &slacks));
-    assert!(&rt; tableau.improve().expect(&rt, "memory") == Step::Improved);
-    let moves = [6, 0, 0, 6, 0, 6, 6, 0];
-    let slacks = [0, 0, 0, 0, 0, 0, 0, 0, 0, 0, 0, 0, 1];
-    assert!(&rt; has_table(&tableau, 1, &moves, &slacks));
-    assert_eq!(&rt; tableau.improved(), 4);
-    assert!(&rt; tableau.improve().expect(&rt, "memory") == Step::Reached);
+fn question_of_thirteen_records_is_walked(rt: HostRuntime) -> Result<(), Fail> {
+    let mut tableau = started(rt.alloc(), four_cells(rt.alloc())?)?;
+    for table in &THIRTEEN_RECORDS {
+        assert!(rt; passes(&mut tableau, table)?);
+    }
+    assert_eq!(rt; tableau.improved(), 4);
+    Ok(())
 }
 
 // Row i is twice 10^(i - j) for each column j below i, and 1 at i itself, with the bound 100^(i - 1).
@@ -240,33 +308,30 @@ fn last_step(tableau: &mut Tableau) -> Result<Step, Memory> {
     Ok(Step::Improved)
 }
 
+// Whether the last column comes to 10^14.
+fn is_steepest(tableau: &Tableau) -> bool {
+    tableau.values().last().copied() == tableau.den().checked_mul(100000000000000)
+}
+
 // Of the 256 corners of a steep problem in 8 columns the rule of the least number passes every one (Klee and Minty
 // 1972).
 #[test]
-fn steep_problem_goes_through_all_corners(rt: HostRuntime) {
-    let alloc = rt.alloc();
-    let problem = steep(alloc, 100000000000001).expect(&rt, "memory");
-    assert!(&rt; is_well_formed(&problem));
-    let mut tableau = Tableau::start(alloc, problem).expect(&rt, "memory");
-    let last = last_step(&mut tableau).expect(&rt, "memory");
-    assert!(&rt; last == Step::Blocked);
-    assert_eq!(&rt; tableau.improved(), 255);
-    let best = tableau.den().checked_mul(100000000000000);
-    assert!(&rt; tableau.values().last().copied() == best);
+fn steep_problem_goes_through_all_corners(rt: HostRuntime) -> Result<(), Fail> {
+    let mut tableau = started(rt.alloc(), steep(rt.alloc(), 100000000000001)?)?;
+    assert!(rt; last_step(&mut tableau)? == Step::Blocked);
+    assert_eq!(rt; tableau.improved(), 255);
+    assert!(rt; is_steepest(&tableau));
+    Ok(())
 }
 
 // The best of the steep problem is 10^14, where its last column is 10^14 and all others are 0.
 #[test]
-fn steep_problem_reaches_its_best(rt: HostRuntime) {
-    let alloc = rt.alloc();
-    let problem = steep(alloc, 100000000000000).expect(&rt, "memory");
-    assert!(&rt; is_well_formed(&problem));
-    let mut tableau = Tableau::start(alloc, problem).expect(&rt, "memory");
-    let last = last_step(&mut tableau).expect(&rt, "memory");
-    assert!(&rt; last == Step::Reached);
-    assert!(&rt; tableau.improved() <= 131072);
-    let best = tableau.den().checked_mul(100000000000000);
-    assert!(&rt; tableau.values().last().copied() == best);
+fn steep_problem_reaches_its_best(rt: HostRuntime) -> Result<(), Fail> {
+    let mut tableau = started(rt.alloc(), steep(rt.alloc(), 100000000000000)?)?;
+    assert!(rt; last_step(&mut tableau)? == Step::Reached);
+    assert!(rt; tableau.improved() <= 131072);
+    assert!(rt; is_steepest(&tableau));
+    Ok(())
 }
 
 // A row for each column, which is to be at most 1; the first one is raised to 1.
@@ -284,12 +349,9 @@ fn wide_problem(alloc: Global, columns: u32) -> Result<Problem, Memory> {
 }
 
 #[test]
-fn million_columns_have_few_numbers(rt: HostRuntime) {
-    let alloc = rt.alloc();
-    let problem = wide_problem(alloc, 1000000).expect(&rt, "memory");
-    assert!(&rt; is_well_formed(&problem));
-    let mut tableau = Tableau::start(alloc, problem).expect(&rt, "memory");
-    assert!(&rt; tableau.improve().expect(&rt, "memory") == Step::Improved);
-    assert!(&rt; tableau.improve().expect(&rt, "memory") == Step::Reached);
-    assert_eq!(&rt; tableau.values().first().copied(), Some(1));
+fn million_columns_have_few_numbers(rt: HostRuntime) -> Result<(), Fail> {
+    let mut tableau = started(rt.alloc(), wide_problem(rt.alloc(), 1000000)?)?;
+    assert!(rt; makes_steps(&mut tableau, &[Step::Improved, Step::Reached])?);
+    assert_eq!(rt; tableau.values().first().copied(), Some(1));
+    Ok(())
 }

@@ -1,7 +1,7 @@
 use code_trees::{CodeTree, flat};
 use kit_records::place;
 use linked_tables::{Book, BookFault};
-use sdc_base::{Few, Text};
+use sdc_base::Text;
 use std::alloc::Global;
 use std::rt::HostRuntime;
 use std::test::Fail;
@@ -35,10 +35,95 @@ fn book_of(
     Ok(Book::new(alloc, trees, spanned))
 }
 
-// How many cells the book has, or why there is none.
-fn cells_of(made: Result<Book, BookFault>) -> Result<u32, BookFault> {
-    let book = made?;
-    Ok(book.cells())
+// How many cells the book of these tables has, or why there is none.
+fn cells_of(
+    alloc: Global,
+    sizes: &[u32],
+    tables: &[&[u32]],
+) -> Result<Result<u32, BookFault>, Fail> {
+    match book_of(alloc, sizes, tables)? {
+        Ok(book) => Ok(Ok(book.cells())),
+        Err(fault) => Ok(Err(fault)),
+    }
+}
+
+// The sizes of trees, the variables of tables, and how many cells these have or why there is no book of them.
+const BOOKS: [([u32; 4], &[&[u32]], Result<u32, BookFault>); 12] = [
+    ([3, 3, 3, 1], &[], Ok(0)),
+    // the total alone
+    ([3, 3, 3, 1], &[&[]], Ok(1)),
+    ([3, 3, 3, 1], &[&[0, 1]], Ok(9)),
+    // linked, turned, and apart
+    ([3, 3, 3, 1], &[&[0, 1], &[0, 2]], Ok(15)),
+    ([3, 3, 3, 1], &[&[0, 1], &[1, 0], &[0, 1]], Ok(9)),
+    ([3, 3, 3, 1], &[&[0], &[1]], Ok(5)),
+    (
+        [3, 3, 3, 1],
+        &[&[0, 1], &[1, 1], &[7]],
+        Err(BookFault::TwiceInTable(1)),
+    ),
+    (
+        [3, 3, 3, 1],
+        &[&[0, 1], &[4, 4], &[1, 1]],
+        Err(BookFault::NoSuchVariable(1)),
+    ),
+    // as many cells as there may be, and more
+    ([300, 200, 2, 1], &[&[0, 1]], Ok(60000)),
+    (
+        [300, 200, 2, 1],
+        &[&[0, 1], &[0], &[2], &[0, 0]],
+        Err(BookFault::TooManyCells(2)),
+    ),
+    ([5001, 1, 1, 1], &[&[0], &[1]], Ok(5001)),
+    (
+        [5001, 5001, 5001, 5001],
+        &[&[0, 1, 2, 3]],
+        Err(BookFault::TooManyCells(0)),
+    ),
+];
+
+#[test]
+fn cells_and_refusals(rt: HostRuntime) -> Result<(), Fail> {
+    for (sizes, tables, expected) in &BOOKS {
+        assert_eq!(rt; cells_of(rt.alloc(), sizes, tables)?, *expected);
+    }
+    Ok(())
+}
+
+// The book of the tables A by B, A by C, and C by A, each variable with a total and two codes.
+fn linked(alloc: Global) -> Result<Book, Fail> {
+    Ok(book_of(alloc, &[3, 3, 3], &[&[0, 1], &[0, 2], &[2, 0]])??)
+}
+
+// Tables, places of these, and the number of the cell there.
+const CELLS: [(u32, &[u32], Option<u32>); 17] = [
+    (0, &[0, 0], Some(0)),
+    (0, &[0, 2], Some(2)),
+    (0, &[1, 0], Some(3)),
+    (0, &[1, 1], Some(4)),
+    (0, &[2, 2], Some(8)),
+    (1, &[0, 0], Some(0)),
+    (1, &[1, 0], Some(3)),
+    (1, &[2, 0], Some(6)),
+    (1, &[0, 1], Some(9)),
+    (1, &[0, 2], Some(10)),
+    (1, &[1, 1], Some(11)),
+    (1, &[2, 2], Some(14)),
+    (2, &[2, 1], Some(12)),
+    (2, &[0, 3], None),
+    (3, &[0, 0], None),
+    // a code too few, and one too many
+    (0, &[0], None),
+    (0, &[0, 0, 0], None),
+];
+
+#[test]
+fn cells_of_linked_tables(rt: HostRuntime) -> Result<(), Fail> {
+    let book = linked(rt.alloc())?;
+    for (t, place, cell) in &CELLS {
+        assert_eq!(rt; book.id(*t, place), *cell);
+    }
+    Ok(())
 }
 
 // The codes of a cell's name.
@@ -49,106 +134,55 @@ fn name_of(book: &Book, cell: u32) -> &[u32] {
     }
 }
 
-#[test]
-fn cells_and_refusals(rt: HostRuntime) -> Result<(), Fail> {
-    let alloc = rt.alloc();
-    let no_tables: &[&[u32]] = &[];
-    let total_alone: &[&[u32]] = &[&[]];
-    let two_way: &[&[u32]] = &[&[0, 1]];
-    let linked: &[&[u32]] = &[&[0, 1], &[0, 2]];
-    let turned: &[&[u32]] = &[&[0, 1], &[1, 0], &[0, 1]];
-    let apart: &[&[u32]] = &[&[0], &[1]];
-    let twice: &[&[u32]] = &[&[0, 1], &[1, 1], &[7]];
-    let unknown: &[&[u32]] = &[&[0, 1], &[4, 4], &[1, 1]];
-    let two_ways_full: &[&[u32]] = &[&[0, 1]];
-    let one_more: &[&[u32]] = &[&[0, 1], &[0], &[2], &[0, 0]];
-    let wide: &[&[u32]] = &[&[0, 1, 2, 3]];
-    for (sizes, tables, expected) in [
-        ([3, 3, 3, 1], no_tables, Ok(0)),
-        ([3, 3, 3, 1], total_alone, Ok(1)),
-        ([3, 3, 3, 1], two_way, Ok(9)),
-        ([3, 3, 3, 1], linked, Ok(15)),
-        ([3, 3, 3, 1], turned, Ok(9)),
-        ([3, 3, 3, 1], apart, Ok(5)),
-        ([3, 3, 3, 1], twice, Err(BookFault::TwiceInTable(1))),
-        ([3, 3, 3, 1], unknown, Err(BookFault::NoSuchVariable(1))),
-        ([300, 200, 2, 1], two_ways_full, Ok(60000)),
-        ([300, 200, 2, 1], one_more, Err(BookFault::TooManyCells(2))),
-        ([5001, 1, 1, 1], apart, Ok(5001)),
-        (
-            [5001, 5001, 5001, 5001],
-            wide,
-            Err(BookFault::TooManyCells(0)),
-        ),
-    ] {
-        let made = book_of(alloc, sizes.as_slice(), tables)?;
-        assert_eq!(rt; cells_of(made), expected);
-    }
-    Ok(())
-}
+// Cells, and the codes of their names.
+const NAMES: [(u32, &[u32]); 3] = [(4, &[1, 1, 0]), (12, &[1, 0, 2]), (15, &[])];
 
-// The book of the tables A by B, A by C, and C by A, each variable with a total and two codes.
-fn linked(alloc: Global) -> Result<Result<Book, BookFault>, Fail> {
-    book_of(alloc, &[3, 3, 3], &[&[0, 1], &[0, 2], &[2, 0]])
-}
-
-// By a table and a place of it, the number of the cell.
-#[test]
-fn cells_of_linked_tables(rt: HostRuntime) -> Result<(), Fail> {
-    let Ok(book) = linked(rt.alloc())? else {
-        return Ok(assert_eq!(rt; true, false));
-    };
-    for (t, place, cell) in [
-        (0, [0, 0], Some(0)),
-        (0, [0, 2], Some(2)),
-        (0, [1, 0], Some(3)),
-        (0, [1, 1], Some(4)),
-        (0, [2, 2], Some(8)),
-        (1, [0, 0], Some(0)),
-        (1, [1, 0], Some(3)),
-        (1, [2, 0], Some(6)),
-        (1, [0, 1], Some(9)),
-        (1, [0, 2], Some(10)),
-        (1, [1, 1], Some(11)),
-        (1, [2, 2], Some(14)),
-        (2, [2, 1], Some(12)),
-        (2, [0, 3], None),
-        (3, [0, 0], None),
-    ] {
-        assert_eq!(rt; book.id(t, place.as_slice()), cell);
-    }
-    assert_eq!(rt; [book.id(0, &[0]), book.id(0, &[0, 0, 0])], [None, None]);
-    Ok(())
-}
-
-// The names of cells, and their numbers by these.
 #[test]
 fn names_of_cells(rt: HostRuntime) -> Result<(), Fail> {
-    let Ok(book) = linked(rt.alloc())? else {
-        return Ok(assert_eq!(rt; true, false));
-    };
-    assert_eq!(rt; name_of(&book, 4), [1, 1, 0].as_slice());
-    assert_eq!(rt; name_of(&book, 12), [1, 0, 2].as_slice());
-    assert_eq!(rt; name_of(&book, 15).len(), 0);
-    assert_eq!(rt; book.number(&Few::of(&[1, 0, 2])), Some(12));
-    assert_eq!(rt; book.number(&Few::of(&[1, 1, 1])), None);
+    let book = linked(rt.alloc())?;
+    for (cell, name) in &NAMES {
+        assert_eq!(rt; name_of(&book, *cell), *name);
+    }
     Ok(())
 }
 
-// How many cells, tables and variables there are, and that there is nothing behind the last of each.
+// Names, and the cells that have them.
+const NUMBERS: [(&[u32], Option<u32>); 2] = [(&[1, 0, 2], Some(12)), (&[1, 1, 1], None)];
+
+#[test]
+fn numbers_by_names(rt: HostRuntime) -> Result<(), Fail> {
+    let book = linked(rt.alloc())?;
+    for (name, cell) in &NUMBERS {
+        assert_eq!(rt; book.number(&place(name)), *cell);
+    }
+    Ok(())
+}
+
+// How many cells, tables and variables there are.
+#[test]
+fn sizes_of_a_book(rt: HostRuntime) -> Result<(), Fail> {
+    let book = linked(rt.alloc())?;
+    assert_eq!(rt; (book.cells(), book.tables(), book.variables()), (15, 3, 3));
+    Ok(())
+}
+
+// Whether the book says what the table of this number spans, and gives and lends it.
+fn has_table(book: &mut Book, t: u32) -> (bool, bool, bool) {
+    let spans = book.spans(t).is_some();
+    let gives = book.table(t).is_some();
+    let lends = book.lend(t).is_some();
+    (spans, gives, lends)
+}
+
+// There is nothing behind the last tree and the last table.
 #[test]
 fn ends_of_a_book(rt: HostRuntime) -> Result<(), Fail> {
-    let Ok(mut book) = linked(rt.alloc())? else {
-        return Ok(assert_eq!(rt; true, false));
-    };
-    assert_eq!(rt; (book.cells(), book.tables(), book.variables()), (15, 3, 3));
+    let mut book = linked(rt.alloc())?;
     assert_eq!(rt;
         (book.tree(2).is_some(), book.tree(3).is_some()),
         (true, false)
     );
-    assert_eq!(rt; book.spans(3).is_some(), false);
-    assert_eq!(rt; book.table(3).is_some(), false);
-    assert_eq!(rt; book.lend(3).is_some(), false);
+    assert_eq!(rt; has_table(&mut book, 3), (false, false, false));
     Ok(())
 }
 
@@ -164,17 +198,23 @@ fn mark_through_the_third(book: &mut Book, place: &[u32]) -> bool {
     true
 }
 
+// Whether this cell is hidden and no other one, and none has records.
+fn hides_alone(book: &Book, hidden: usize) -> bool {
+    for (cell, mark) in book.marks().iter().enumerate() {
+        if mark.hidden != (cell == hidden) || mark.facts.freq != 0 {
+            return false;
+        }
+    }
+    true
+}
+
 // A mark that is written through one table is that of the others.
 #[test]
 fn tables_share_their_marks(rt: HostRuntime) -> Result<(), Fail> {
-    let Ok(mut book) = linked(rt.alloc())? else {
-        return Ok(assert_eq!(rt; true, false));
-    };
+    let mut book = linked(rt.alloc())?;
     assert_eq!(rt; mark_through_the_third(&mut book, &[3, 0]), false);
     assert_eq!(rt; mark_through_the_third(&mut book, &[0, 2]), true);
-    for (cell, mark) in book.marks().iter().enumerate() {
-        assert_eq!(rt; (mark.hidden, mark.facts.freq), (cell == 6, 0));
-    }
+    assert!(rt; hides_alone(&book, 6));
     Ok(())
 }
 
@@ -192,13 +232,9 @@ fn lent_counts(book: &mut Book, t: u32) -> Option<(usize, usize)> {
 // The cells that a table is the first to name are lent by themselves.
 #[test]
 fn cells_are_lent(rt: HostRuntime) -> Result<(), Fail> {
-    let Ok(mut book) = linked(rt.alloc())? else {
-        return Ok(assert_eq!(rt; true, false));
-    };
+    let mut book = linked(rt.alloc())?;
     assert_eq!(rt; lent_counts(&mut book, 1), Some((9, 6)));
     assert_eq!(rt; lent_counts(&mut book, 2), Some((15, 0)));
-    for (cell, mark) in book.marks().iter().enumerate() {
-        assert_eq!(rt; mark.hidden, cell == 12);
-    }
+    assert!(rt; hides_alone(&book, 12));
     Ok(())
 }

@@ -21,6 +21,11 @@ fn are_relations(relations: &[Relation], sums: &[Sum<'_>]) -> bool {
         && relation.parts.as_slice() == sum.1)
 }
 
+// There are so many cells, and the relations are these, in this order.
+fn is_system(system: &System, cells: u32, sums: &[Sum<'_>]) -> bool {
+    system.cells == cells && are_relations(system.relations.as_slice(), sums)
+}
+
 // Whether the cell is one of these.
 fn is_among(cells: &[u32], cell: u32) -> bool {
     cells.iter().any(|one| *one == cell)
@@ -125,17 +130,23 @@ const TWO_WAY_GROUPS: [(&[u32], [Option<u32>; 9], &[u32]); 3] = [
     (&[], [None; 9], &[]),
 ];
 
+// The relations of the table of two variables.
+fn two_way(alloc: Global) -> Result<System, Fail> {
+    system_over(alloc, 2, &[&[0, 1]])
+}
+
 #[test]
 fn two_way_table(rt: HostRuntime) -> Result<(), Fail> {
-    let alloc = rt.alloc();
-    let system = system_over(alloc, 2, &[&[0, 1]])?;
-    assert_eq!(rt; system.cells, 9);
-    assert_eq!(rt;
-        are_relations(system.relations.as_slice(), &TWO_BY_TWO),
-        true
-    );
+    let system = two_way(rt.alloc())?;
+    assert!(rt; is_system(&system, 9, &TWO_BY_TWO));
+    Ok(())
+}
+
+#[test]
+fn components_of_a_two_way_table(rt: HostRuntime) -> Result<(), Fail> {
+    let system = two_way(rt.alloc())?;
     for (hidden, numbers, sizes) in &TWO_WAY_GROUPS {
-        assert_eq!(rt; are_grouped(alloc, &system, hidden, numbers, sizes)?, true);
+        assert!(rt; are_grouped(rt.alloc(), &system, hidden, numbers, sizes)?);
     }
     Ok(())
 }
@@ -173,17 +184,23 @@ const LINKED_GROUP: [Option<u32>; 15] = [
     None,
 ];
 
+// The relations of two tables that share a variable.
+fn linked(alloc: Global) -> Result<System, Fail> {
+    system_over(alloc, 3, &[&[0, 1], &[0, 2]])
+}
+
 #[test]
 fn linked_tables(rt: HostRuntime) -> Result<(), Fail> {
-    let alloc = rt.alloc();
-    let system = system_over(alloc, 3, &[&[0, 1], &[0, 2]])?;
-    assert_eq!(rt; system.cells, 15);
-    assert_eq!(rt; are_relations(system.relations.as_slice(), &LINKED), true);
+    let system = linked(rt.alloc())?;
+    assert!(rt; is_system(&system, 15, &LINKED));
+    Ok(())
+}
+
+#[test]
+fn components_of_linked_tables(rt: HostRuntime) -> Result<(), Fail> {
+    let system = linked(rt.alloc())?;
     let hidden = [3, 4, 6, 7, 11, 13];
-    assert_eq!(rt;
-        are_grouped(alloc, &system, &hidden, &LINKED_GROUP, &[6])?,
-        true
-    );
+    assert!(rt; are_grouped(rt.alloc(), &system, &hidden, &LINKED_GROUP, &[6])?);
     Ok(())
 }
 
@@ -195,29 +212,33 @@ fn system_of_regions(alloc: Global) -> Result<System, Fail> {
     Ok(relations_of(alloc, &book)?)
 }
 
+const REGIONS: [Sum<'static>; 3] = [(0, &[1, 4]), (1, &[2, 3]), (4, &[5])];
+
 #[test]
 fn two_levels(rt: HostRuntime) -> Result<(), Fail> {
-    let alloc = rt.alloc();
-    let system = system_of_regions(alloc)?;
-    let sums: &[Sum<'_>] = &[(0, &[1, 4]), (1, &[2, 3]), (4, &[5])];
-    assert_eq!(rt; system.cells, 6);
-    assert_eq!(rt; are_relations(system.relations.as_slice(), sums), true);
-    let below: &[Option<u32>] = &[None, None, Some(0), Some(0), None, Some(1)];
-    assert_eq!(rt;
-        are_grouped(alloc, &system, &[2, 3, 5], below, &[2, 1])?,
-        true
-    );
+    let system = system_of_regions(rt.alloc())?;
+    assert!(rt; is_system(&system, 6, &REGIONS));
     Ok(())
 }
 
+// The number of each region's component, where the regions below the others are hidden.
+const REGIONS_GROUP: [Option<u32>; 6] = [None, None, Some(0), Some(0), None, Some(1)];
+
+#[test]
+fn components_of_two_levels(rt: HostRuntime) -> Result<(), Fail> {
+    let system = system_of_regions(rt.alloc())?;
+    assert!(rt; are_grouped(rt.alloc(), &system, &[2, 3, 5], &REGIONS_GROUP, &[2, 1])?);
+    Ok(())
+}
+
+// The lines of one variable against those of the other.
+const SIGNS: [bool; 6] = [true, false, false, false, true, true];
+
 #[test]
 fn signs_of_two_flat_variables(rt: HostRuntime) -> Result<(), Fail> {
-    let alloc = rt.alloc();
-    let system = system_over(alloc, 2, &[&[0, 1]])?;
-    let found = signs(alloc, &system)?;
-    // the lines of one variable against those of the other
-    let wanted: &[bool] = &[true, false, false, false, true, true];
-    assert_eq!(rt; found.is_some_and(|signs| signs.as_slice() == wanted), true);
+    let system = two_way(rt.alloc())?;
+    let found = signs(rt.alloc(), &system)?;
+    assert!(rt; found.is_some_and(|signs| signs.as_slice() == SIGNS.as_slice()));
     Ok(())
 }
 
@@ -231,10 +252,12 @@ fn system_of_an_odd_cycle(alloc: Global) -> Result<System, Fail> {
 
 #[test]
 fn odd_cycle_has_no_signs(rt: HostRuntime) -> Result<(), Fail> {
-    let alloc = rt.alloc();
-    let system = system_of_an_odd_cycle(alloc)?;
-    assert_eq!(rt; system.relations.as_slice().len(), 33);
-    assert_eq!(rt; signs(alloc, &system)?.is_some(), false);
+    let system = system_of_an_odd_cycle(rt.alloc())?;
+    let found = signs(rt.alloc(), &system)?;
+    assert_eq!(rt;
+        (system.relations.as_slice().len(), found.is_some()),
+        (33, false)
+    );
     Ok(())
 }
 
@@ -249,14 +272,19 @@ fn are_rows(
     Ok(are_lists(lists.as_slice(), wanted))
 }
 
+// Hidden cells of a two-way table, and the relations of each component: the four inner cells; cell 2, and 3, 4 and 7;
+// none.
+const ROWS: [(&[u32], &[&[u32]]); 3] = [
+    (&[4, 5, 7, 8], &[&[2, 3, 4, 5]]),
+    (&[7, 4, 3, 2], &[&[1, 3], &[0, 2, 4, 5]]),
+    (&[], &[]),
+];
+
 #[test]
 fn rows_of_components(rt: HostRuntime) -> Result<(), Fail> {
-    let alloc = rt.alloc();
-    let system = system_over(alloc, 2, &[&[0, 1]])?;
-    // the four inner cells; cell 2, and 3, 4 and 7; nothing is hidden
-    let inner = are_rows(alloc, &system, &[4, 5, 7, 8], &[&[2, 3, 4, 5]])?;
-    let apart = are_rows(alloc, &system, &[7, 4, 3, 2], &[&[1, 3], &[0, 2, 4, 5]])?;
-    let none = are_rows(alloc, &system, &[], &[])?;
-    assert_eq!(rt; (inner, apart, none), (true, true, true));
+    let system = two_way(rt.alloc())?;
+    for (hidden, wanted) in &ROWS {
+        assert!(rt; are_rows(rt.alloc(), &system, hidden, wanted)?);
+    }
     Ok(())
 }

@@ -164,32 +164,46 @@ fn weighed_facts(
     ])
 }
 
+// 10 stands three times and 4 once: the sum is 3 * 10 + 4, the largest are 10, 10, 10 and 4.
+const STEPS: &[Record<'static>] = &[(&[1], 10, 3), (&[2], 4, 1)];
+
+const BY_STEPS: [Option<Facts>; 4] = [
+    Some((34, 2, [10, 20, 30, 34])),
+    Some((30, 1, [10, 20, 30, 30])),
+    Some((4, 1, [4, 4, 4, 4])),
+    None,
+];
+
+// 10 stands two and a half times, counted in tenths.
+const PART: &[Record<'static>] = &[(&[1], 10, 25)];
+
+const IN_TENTHS: [Option<Facts>; 4] = [
+    Some((250, 1, [100, 200, 250, 250])),
+    Some((250, 1, [100, 200, 250, 250])),
+    Some((0, 0, [0, 0, 0, 0])),
+    None,
+];
+
+// Records, whether they are turned, the scale, and the facts.
+const WEIGHED: [(&[Record<'static>], bool, u32, [Option<Facts>; 4]); 3] = [
+    (STEPS, false, 1, BY_STEPS),
+    (STEPS, true, 1, BY_STEPS),
+    (PART, false, 10, IN_TENTHS),
+];
+
 #[test]
 fn sums_and_largest_by_weight_steps(rt: HostRuntime) -> Result<(), Fail> {
-    // 10 stands three times and 4 once: the sum is 3 * 10 + 4, the largest are 10, 10, 10 and 4
-    let steps: &[Record<'_>] = &[(&[1], 10, 3), (&[2], 4, 1)];
-    let by_steps = [
-        Some((34, 2, [10, 20, 30, 34])),
-        Some((30, 1, [10, 20, 30, 30])),
-        Some((4, 1, [4, 4, 4, 4])),
-        None,
-    ];
-    assert_eq!(rt; weighed_facts(rt.alloc(), steps, false, 1)?, by_steps);
-    assert_eq!(rt; weighed_facts(rt.alloc(), steps, true, 1)?, by_steps);
-    // 10 stands two and a half times, counted in tenths
-    let part: &[Record<'_>] = &[(&[1], 10, 25)];
-    let in_tenths = [
-        Some((250, 1, [100, 200, 250, 250])),
-        Some((250, 1, [100, 200, 250, 250])),
-        Some((0, 0, [0, 0, 0, 0])),
-        None,
-    ];
-    assert_eq!(rt; weighed_facts(rt.alloc(), part, false, 10)?, in_tenths);
+    for (records, turned, scale, facts) in &WEIGHED {
+        assert_eq!(rt;
+            weighed_facts(rt.alloc(), records, *turned, *scale)?,
+            *facts
+        );
+    }
     Ok(())
 }
 
 // A book of the tables A by B, A by C, and C by A, of which cell 4 is hidden; given records.
-fn linked(alloc: Global, records: &[Record<'_>], turned: bool) -> Result<Option<Book>, Fail> {
+fn linked(alloc: Global, records: &[Record<'_>], turned: bool) -> Result<Book, Fail> {
     let tables = places(alloc, &[&[0, 1], &[0, 2], &[2, 0]])?;
     let mut book = Book::new(alloc, pairs(alloc, 3)?, tables)?;
     if let Some(mark) = book.mark_mut(4) {
@@ -197,9 +211,9 @@ fn linked(alloc: Global, records: &[Record<'_>], turned: bool) -> Result<Option<
     }
     let rows = rows_of(alloc, records, turned)?;
     if tabulated(&mut book, rows.as_slice(), 2, 1) {
-        Ok(Some(book))
+        Ok(book)
     } else {
-        Ok(None)
+        Err(Fail::new("no records to be tabulated"))
     }
 }
 
@@ -226,45 +240,72 @@ const WANTED: [(i128, u32, i128, i128); 15] = [
     (45, 4, 15, 25),
 ];
 
+// Whether each cell has the wanted facts.
+fn is_wanted(book: &Book) -> bool {
+    for (cell, (sum, number, first, both)) in WANTED.iter().enumerate() {
+        let wanted = Some((*sum, *number, [*first, *both, -1, -1]));
+        if facts_of(book, cell as u32) != wanted {
+            return false;
+        }
+    }
+    book.cells() == 15
+}
+
+// The tables of thirteen records, in their order or the other way round.
+fn linked_thirteen(alloc: Global, turned: bool) -> Result<Book, Fail> {
+    let records = thirteen();
+    linked(alloc, records.as_slice(), turned)
+}
+
 #[test]
 fn linked_tables_share_their_cells(rt: HostRuntime) -> Result<(), Fail> {
-    let records = thirteen();
-    for turned in [false, true] {
-        let made = linked(rt.alloc(), records.as_slice(), turned)?;
-        let Some(book) = made else {
-            return Ok(assert_eq!(rt; true, false));
-        };
-        assert_eq!(rt; book.cells(), 15);
-        for (cell, (sum, number, first, both)) in WANTED.iter().enumerate() {
-            let wanted = Some((*sum, *number, [*first, *both, -1, -1]));
-            assert_eq!(rt; facts_of(&book, cell as u32), wanted);
-        }
+    let book = linked_thirteen(rt.alloc(), false)?;
+    assert!(rt; is_wanted(&book));
+    Ok(())
+}
+
+#[test]
+fn turned_records_have_the_same_facts(rt: HostRuntime) -> Result<(), Fail> {
+    let book = linked_thirteen(rt.alloc(), true)?;
+    assert!(rt; is_wanted(&book));
+    Ok(())
+}
+
+// Places of the second table, the same of the third, which is the second one turned, and the sum there.
+const TURNED_PLACES: [([u32; 2], [u32; 2], i128); 9] = [
+    ([0, 0], [0, 0], 140),
+    ([0, 1], [1, 0], 55),
+    ([0, 2], [2, 0], 85),
+    ([1, 0], [0, 1], 70),
+    ([1, 1], [1, 1], 30),
+    ([1, 2], [2, 1], 40),
+    ([2, 0], [0, 2], 70),
+    ([2, 1], [1, 2], 25),
+    ([2, 2], [2, 2], 45),
+];
+
+// The sum at a place of the second table, where the facts at a place of the third one are the same.
+fn shared_sum(book: &Book, place: &[u32], turned_place: &[u32]) -> Option<i128> {
+    let facts = facts_at(book, 1, place)?;
+    if facts_at(book, 2, turned_place) != Some(facts) {
+        return None;
+    }
+    Some(facts.0)
+}
+
+#[test]
+fn turned_tables_have_the_same_facts(rt: HostRuntime) -> Result<(), Fail> {
+    let book = linked_thirteen(rt.alloc(), false)?;
+    for (place, turned_place, sum) in &TURNED_PLACES {
+        assert_eq!(rt; shared_sum(&book, place, turned_place), Some(*sum));
     }
     Ok(())
 }
 
-// The second table by its places, and the third, which is the second one turned. What was hidden stays so.
+// What was hidden stays so, and no other cell is.
 #[test]
-fn turned_tables_have_the_same_facts(rt: HostRuntime) -> Result<(), Fail> {
-    let records = thirteen();
-    let Some(book) = linked(rt.alloc(), records.as_slice(), false)? else {
-        return Ok(assert_eq!(rt; true, false));
-    };
-    for (place, turned_place, sum) in [
-        ([0, 0], [0, 0], 140),
-        ([0, 1], [1, 0], 55),
-        ([0, 2], [2, 0], 85),
-        ([1, 0], [0, 1], 70),
-        ([1, 1], [1, 1], 30),
-        ([1, 2], [2, 1], 40),
-        ([2, 0], [0, 2], 70),
-        ([2, 1], [1, 2], 25),
-        ([2, 2], [2, 2], 45),
-    ] {
-        let facts = facts_at(&book, 1, place.as_slice());
-        assert_eq!(rt; facts.map(|facts| facts.0), Some(sum));
-        assert_eq!(rt; facts_at(&book, 2, turned_place.as_slice()), facts);
-    }
+fn hidden_cells_stay_so(rt: HostRuntime) -> Result<(), Fail> {
+    let book = linked_thirteen(rt.alloc(), false)?;
     for (cell, mark) in book.marks().iter().enumerate() {
         assert_eq!(rt; mark.hidden, cell == 4);
     }
@@ -274,56 +315,59 @@ fn turned_tables_have_the_same_facts(rt: HostRuntime) -> Result<(), Fail> {
 // Without records all is 0.
 #[test]
 fn no_records_have_sums_of_0(rt: HostRuntime) -> Result<(), Fail> {
-    let Some(book) = linked(rt.alloc(), &[], false)? else {
-        return Ok(assert_eq!(rt; true, false));
-    };
+    let book = linked(rt.alloc(), &[], false)?;
     for cell in 0..15u32 {
         assert_eq!(rt; facts_of(&book, cell), Some((0, 0, [0, 0, -1, -1])));
     }
     Ok(())
 }
 
-// A book of one table of regions by two codes, given records of which each value is another power of 2, so that a sum
-// tells of which records it is.
-fn regional(alloc: Global) -> Result<Option<Book>, Fail> {
-    let records: &[Record<'_>] = &[
-        (&[2, 1], 1, 1),
-        (&[3, 1], 2, 1),
-        (&[3, 2], 4, 1),
-        (&[5, 2], 8, 1),
-        (&[1, 1], 16, 1),
-    ];
+// Records of which each value is another power of 2, so that a sum tells of which records it is.
+const POWERS: &[Record<'static>] = &[
+    (&[2, 1], 1, 1),
+    (&[3, 1], 2, 1),
+    (&[3, 2], 4, 1),
+    (&[5, 2], 8, 1),
+    (&[1, 1], 16, 1),
+];
+
+// A book of one table of regions by two codes, given these records.
+fn regional(alloc: Global) -> Result<Book, Fail> {
     let mut trees = Vec::new(alloc);
     trees.push(regions(alloc)?)?;
     trees.push(two_codes(alloc)?)?;
     let mut book = Book::new(alloc, trees, places(alloc, &[&[0, 1]])?)?;
-    let rows = rows_of(alloc, records, false)?;
+    let rows = rows_of(alloc, POWERS, false)?;
     if tabulated(&mut book, rows.as_slice(), 2, 1) {
-        Ok(Some(book))
+        Ok(book)
     } else {
-        Ok(None)
+        Err(Fail::new("no records to be tabulated"))
     }
 }
 
+// The sums and the numbers of records of a region by the total and two codes.
+fn counted(book: &Book, region: u32) -> Option<([i128; 3], [u32; 3])> {
+    let total = facts_at(book, 0, &[region, 0])?;
+    let one = facts_at(book, 0, &[region, 1])?;
+    let other = facts_at(book, 0, &[region, 2])?;
+    Some(([total.0, one.0, other.0], [total.1, one.1, other.1]))
+}
+
+// Regions, and the sums and the numbers of records of each by the total and two codes.
+const REGIONS: [(u32, [i128; 3], [u32; 3]); 6] = [
+    (0, [31, 19, 12], [5, 3, 2]),
+    (1, [23, 19, 4], [4, 3, 1]),
+    (2, [1, 1, 0], [1, 1, 0]),
+    (3, [6, 2, 4], [2, 1, 1]),
+    (4, [8, 0, 8], [1, 0, 1]),
+    (5, [8, 0, 8], [1, 0, 1]),
+];
+
 #[test]
 fn records_count_under_each_code_above(rt: HostRuntime) -> Result<(), Fail> {
-    let Some(book) = regional(rt.alloc())? else {
-        return Ok(assert_eq!(rt; true, false));
-    };
-    for (region, sums, numbers) in [
-        (0, [31, 19, 12], [5, 3, 2]),
-        (1, [23, 19, 4], [4, 3, 1]),
-        (2, [1, 1, 0], [1, 1, 0]),
-        (3, [6, 2, 4], [2, 1, 1]),
-        (4, [8, 0, 8], [1, 0, 1]),
-        (5, [8, 0, 8], [1, 0, 1]),
-    ] {
-        for code in 0..3u32 {
-            let facts = facts_at(&book, 0, [region, code].as_slice());
-            let sum = sums[code as usize];
-            let number = numbers[code as usize];
-            assert_eq!(rt; facts.map(|facts| (facts.0, facts.1)), Some((sum, number)));
-        }
+    let book = regional(rt.alloc())?;
+    for (region, sums, numbers) in &REGIONS {
+        assert_eq!(rt; counted(&book, *region), Some((*sums, *numbers)));
     }
     Ok(())
 }
@@ -349,20 +393,26 @@ fn facts_in_tenths(alloc: Global, rows: &[Row]) -> Result<[Option<Facts>; 3], Fa
     Ok([facts_of(&book, 0), facts_of(&book, 1), facts_of(&book, 2)])
 }
 
+// In tenths: 10 stands one and a half times; 8 stands once, two and a half times and 1.2 times, and only two of all are
+// kept, so that the order settles which.
+const TIED: &[Record<'static>] = &[(&[1], 10, 15), (&[1], 8, 10), (&[2], 8, 25), (&[2], 8, 12)];
+
+const FACTS_OF_TIED: [Option<Facts>; 3] = [
+    Some((526, 4, [100, 190, -1, -1])),
+    Some((230, 2, [100, 190, -1, -1])),
+    Some((296, 2, [80, 160, -1, -1])),
+];
+
+// The facts of the tied records in one of their orders.
+fn facts_in_order(alloc: Global, order: usize) -> Result<[Option<Facts>; 3], Fail> {
+    let rows = rows_in_order(alloc, TIED, order)?;
+    facts_in_tenths(alloc, rows.as_slice())
+}
+
 #[test]
 fn ties_of_other_weights_change_no_sum(rt: HostRuntime) -> Result<(), Fail> {
-    let alloc = rt.alloc();
-    // In tenths: 10 stands one and a half times; 8 stands once, two and a half times and 1.2 times, and only two of all
-    // are kept, so that the order settles which.
-    let records: &[Record<'_>] = &[(&[1], 10, 15), (&[1], 8, 10), (&[2], 8, 25), (&[2], 8, 12)];
     for order in 0..24usize {
-        let rows = rows_in_order(alloc, records, order)?;
-        let wanted = [
-            Some((526, 4, [100, 190, -1, -1])),
-            Some((230, 2, [100, 190, -1, -1])),
-            Some((296, 2, [80, 160, -1, -1])),
-        ];
-        assert_eq!(rt; facts_in_tenths(alloc, rows.as_slice())?, wanted);
+        assert_eq!(rt; facts_in_order(rt.alloc(), order)?, FACTS_OF_TIED);
     }
     Ok(())
 }

@@ -1,7 +1,7 @@
 use Rattle.std.proofs.Common.{◌≡◌, [], ◌∷◌, refl, ◌∙◌, arith}
 use Rattle.std.specs.List.{IsDistinct}
 use Rattle.std.specs.Str.{bytes_eq}
-use Rattle.tests_inputs.proofs.microdata_tests.flat_source.Goals as goal
+use Rattle.tests_inputs.proofs.record_layouts.flat_source.Goals as goal
 
 apart : IsDistinct bytes_eq ((84 ∷ 111 ∷ 116 ∷ 97 ∷ 108 ∷ []) ∷ (98 ∷ []) ∷ [])
 unfolding IsDistinct

@@ -1,6 +1,7 @@
-use crate::asked::{AskStop, list_asked};
+use crate::listed_tests::texts_of;
 use apriori::PriorWhy;
 use attackers::ExtraFault;
+use cell_listing::{AskStop, list_asked};
 use cert_check::CheckFault;
 use certificate::CertWhy;
 use job_check::CheckStop;
@@ -11,13 +12,14 @@ use office_io::MemoryShelf;
 use rda_meta::MetaWhy;
 use sdc_base::{Memory, Side, Text};
 use std::alloc::Global;
+use std::rt::HostRuntime;
 use std::test::Fail;
 
 // A file of a shelf: its name, and what it holds.
 type File = (&'static [u8], &'static [u8]);
 
 // A table by two variables, in which one cell is primary and the plan hides three more.
-const TWO_WAY: [File; 5] = [
+const TWO_WAY: &[File] = &[
     (
         b"r.job",
         b"<OPENMICRODATA> \"m.asc\"\n<OPENMETADATA> \"m.rda\"\n<SPECIFYTABLE> \"A\"\"B\"|\"V\"\n<SAFETYRULE> FREQ(3,30)\n<SUPPRESS> MOD()\n<WRITETABLE> (1,\"t.csv\")\n<CERTIFICATE> \"t.cert\"\n",
@@ -44,7 +46,7 @@ const TWO_WAY_LISTING: &[u8] =
     b"cell,tables,A,B,value,records,largest,second,status,rules,up,down,price,low,high,release,origin\n0,1,Total,Total,140,13,20,15,free,,0,0,141,0,,shown,\n1,1,Total,b1,50,6,10,10,free,,0,0,51,0,,shown,\n2,1,Total,b2,90,7,20,15,free,,0,0,91,0,,shown,\n3,1,a1,Total,70,6,20,10,free,,0,0,71,0,,shown,\n4,1,a1,b1,20,2,10,10,primary,FREQ,6,6,21,0,,hidden,primary\n5,1,a1,b2,50,4,20,10,free,,0,0,51,0,,hidden,step\n6,1,a2,Total,70,7,15,15,free,,0,0,71,0,,shown,\n7,1,a2,b1,30,4,10,10,free,,0,0,31,0,,hidden,step\n8,1,a2,b2,40,3,15,15,free,,0,0,41,0,,hidden,step\n";
 
 // Codes of two levels, with a price and a bound of the office. Two cells are primary, one below the other.
-const TWO_LEVELS: [File; 6] = [
+const TWO_LEVELS: &[File] = &[
     (
         b"r.job",
         b"<OPENMICRODATA> \"m.asc\"\n<OPENMETADATA> \"m.rda\"\n<SPECIFYTABLE> \"Ind\"|\"Turn\"\n<SAFETYRULE> FREQ(3,30)|P(10)\n<APRIORI> \"p.hst\",1,\";\"\n<SUPPRESS> MOD()\n<WRITETABLE> (1,\"t.csv\")\n<CERTIFICATE> \"t.cert\"\n",
@@ -72,7 +74,7 @@ const TWO_LEVELS_LISTING: &[u8] =
     b"cell,tables,Ind,value,records,largest,second,status,rules,up,down,price,low,high,release,origin\n0,1,Total,117,9,40,30,free,,0,0,118,0,,shown,\n1,1,1,75,6,30,20,free,,0,0,76,0,,hidden,step\n2,1,11,60,3,30,20,free,,0,0,70,0,,shown,\n3,1,12,15,3,5,5,free,,0,0,16,0,100,hidden,step\n4,1,2,42,3,40,1,primary,P,3,3,43,0,,hidden,primary\n5,1,21,42,3,40,1,primary,P,3,3,43,0,,hidden,primary\n";
 
 // Two tables that share their total, each with a primary cell.
-const LINKED: [File; 6] = [
+const LINKED: &[File] = &[
     (
         b"r.job",
         b"<OPENMICRODATA> \"m.asc\"\n<OPENMETADATA> \"m.rda\"\n<SPECIFYTABLE> \"A\"|\"V\"\n<SPECIFYTABLE> \"B\"|\"V\"\n<SAFETYRULE> FREQ(3,30)\n<SUPPRESS> MOD()\n<WRITETABLE> (1,\"t.csv\")\n<WRITETABLE> (2,\"u.csv\")\n<CERTIFICATE> \"t.cert\"\n",
@@ -97,7 +99,7 @@ const LINKED_LISTING: &[u8] =
     b"cell,tables,A,B,value,records,largest,second,status,rules,up,down,price,low,high,release,origin\n0,1 2,Total,Total,80,7,20,15,free,,0,0,81,0,,shown,\n1,1,a1,Total,20,2,10,10,primary,FREQ,6,6,21,0,,hidden,primary\n2,1,a2,Total,60,5,20,15,free,,0,0,61,0,,hidden,step\n3,2,Total,b1,30,2,20,10,primary,FREQ,9,9,31,0,,hidden,primary\n4,2,Total,b2,50,5,15,10,free,,0,0,51,0,,hidden,step\n";
 
 // The total is always shown, and no one cell can make room for the primary one: two repairs do.
-const REPAIRED: [File; 6] = [
+const REPAIRED: &[File] = &[
     (
         b"r.job",
         b"<OPENMICRODATA> \"m.asc\"\n<OPENMETADATA> \"m.rda\"\n<SPECIFYTABLE> \"A\"|\"V\"\n<SAFETYRULE> FREQ(3,30)\n<APRIORI> \"p.hst\",1,\";\"\n<SUPPRESS> MOD()\n<WRITETABLE> (1,\"t.csv\")\n<CERTIFICATE> \"t.cert\"\n",
@@ -119,7 +121,7 @@ const REPAIRED_LISTING: &[u8] =
     b"cell,tables,A,value,records,largest,second,status,rules,up,down,price,low,high,release,origin\n0,1,Total,28,8,10,10,fixed,,0,0,29,0,,shown,\n1,1,a,20,2,10,10,primary,FREQ,6,6,21,0,,hidden,primary\n2,1,b,4,3,2,1,free,,0,0,5,0,,hidden,repair\n3,1,c,4,3,2,1,free,,0,0,5,0,,hidden,repair\n";
 
 // A table that is rounded to tens.
-const ROUNDED: [File; 5] = [
+const ROUNDED: &[File] = &[
     (
         b"r.job",
         b"<OPENMICRODATA> \"m.asc\"\n<OPENMETADATA> \"m.rda\"\n<SPECIFYTABLE> \"A\"|\"V\"\n<SAFETYRULE> FREQ(1,30)\n<SUPPRESS> RND(10)\n<WRITETABLE> (1,\"t.csv\")\n<CERTIFICATE> \"t.cert\"\n",
@@ -140,7 +142,7 @@ const ROUNDED_LISTING: &[u8] =
     b"cell,tables,A,value,records,largest,second,status,rules,up,down,price,low,high,release,origin\n0,1,Total,25.5,2,13.0,12.5,free,,0.0,0.0,256,0.0,,30.0,\n1,1,a,12.5,1,12.5,0.0,free,,0.0,0.0,126,0.0,,10.0,\n2,1,b,13.0,1,13.0,0.0,free,,0.0,0.0,131,0.0,,20.0,\n";
 
 // Two cells are primary, each of one firm, which knows it: a third one is hidden against these firms.
-const GUARDED: [File; 6] = [
+const GUARDED: &[File] = &[
     (
         b"r.job",
         b"<OPENMICRODATA> \"m.asc\"\n<OPENMETADATA> \"m.rda\"\n<SPECIFYTABLE> \"A\"|\"V\"\n<SAFETYRULE> FREQ(3,30)\n<SUPPRESS> MOD()\n<WRITETABLE> (1,\"t.csv\")\n<CERTIFICATE> \"t.cert\"\n<CONTRIBUTORS> \"t.extra\"\n",
@@ -165,7 +167,7 @@ const GUARDED_LISTING: &[u8] =
     b"cell,tables,A,value,records,largest,second,status,rules,up,down,price,low,high,release,origin\n0,1,Total,150,9,40,30,free,,0,0,151,0,,shown,\n1,1,a,40,1,40,0,primary,FREQ,12,12,41,0,,hidden,primary\n2,1,b,30,1,30,0,primary,FREQ,9,9,31,0,,hidden,primary\n3,1,c,30,3,10,10,free,,0,0,31,0,,hidden,extra\n4,1,d,50,4,20,10,free,,0,0,51,0,,shown,\n";
 
 // Codes with a comma, with a quote and with bytes that aren't text, of which two are primary: each makes room for the other.
-const ODD_CODES: [File; 6] = [
+const ODD_CODES: &[File] = &[
     (
         b"r.job",
         b"<OPENMICRODATA> \"m.asc\"\n<OPENMETADATA> \"m.rda\"\n<SPECIFYTABLE> \"A\"|\"V\"\n<SAFETYRULE> FREQ(2,30)|P(10)\n<APRIORI> \"p.hst\",1,\";\"\n<SUPPRESS> MOD()\n<WRITETABLE> (1,\"t.csv\")\n<CERTIFICATE> \"t.cert\"\n",
@@ -194,7 +196,7 @@ const ODD_CODES_LISTING: &[u8] =
 
 // Codes of two levels, and all that an a priori file can state: one cell safe though a rule names it, one always shown, one
 // unsafe with a price and levels of its own, one with bounds, and one primary by a rule with levels of its own.
-const STATED: [File; 4] = [
+const STATED: &[File] = &[
     (
         b"r.job",
         b"<OPENMICRODATA> \"m.asc\"\n<OPENMETADATA> \"m.rda\"\n<SPECIFYTABLE> \"Ind\"|\"Turn\"\n<SAFETYRULE> FREQ(3,30)|P(10)|MAN(20)\n<APRIORI> \"p.hst\",1,\";\"\n<SUPPRESS> MOD()\n<WRITETABLE> (1,\"t.csv\")\n<CERTIFICATE> \"t.cert\"\n",
@@ -220,7 +222,7 @@ const LINKED_CELLS: &[u8] =
     b"cell,tables,A,B,value,records,largest,second,status,rules,up,down,price,low,high\n0,1 2,Total,Total,80,7,20,15,free,,0,0,81,0,\n1,1,a1,Total,20,2,10,10,primary,FREQ,6,6,21,0,\n2,1,a2,Total,60,5,20,15,free,,0,0,61,0,\n3,2,Total,b1,30,2,20,10,primary,FREQ,9,9,31,0,\n4,2,Total,b2,50,5,15,10,free,,0,0,51,0,\n";
 
 // A job that names every kind of file, of which the inputs alone are here.
-const NAMING_ALL: [File; 6] = [
+const NAMING_ALL: &[File] = &[
     (
         b"r.job",
         b"<OPENMICRODATA> \"m.asc\"\n<OPENMETADATA> \"m.rda\"\n<SPECIFYTABLE> \"A\"|\"V\"\n<SAFETYRULE> FREQ(3,30)\n<APRIORI> \"p.hst\",1,\";\"\n<SUPPRESS> MOD()\n<WRITETABLE> (1,\"t.csv\")\n<CERTIFICATE> \"t.cert\"\n<CONTRIBUTORS> \"t.extra\"\n",
@@ -236,9 +238,27 @@ const NAMING_ALL: [File; 6] = [
 ];
 
 // The words that ask for the cells of a job, and for those of its release.
-const CELLS: [&[u8]; 1] = [b"r.job"];
+const CELLS: &[&[u8]] = &[b"r.job"];
 
-const RELEASED: [&[u8]; 2] = [b"r.job", b"--released"];
+const RELEASED: &[&[u8]] = &[b"r.job", b"--released"];
+
+// A shelf with the files, and this in place of what one of them holds, where it is there.
+fn shelf_with(
+    alloc: Global,
+    files: &[File],
+    name: &[u8],
+    other: Option<&[u8]>,
+) -> Result<MemoryShelf, Memory> {
+    let mut held = Vec::new(alloc);
+    for (file, bytes) in files {
+        let holds = if *file == name { other } else { Some(*bytes) };
+        if let Some(holds) = holds {
+            let holds = Vec::from_slice(alloc, holds)?;
+            held.push((Text::from_slice(alloc, file)?, holds))?;
+        }
+    }
+    Ok(MemoryShelf::new(held, Vec::new(alloc), 7))
+}
 
 // What is said of the files to words, with this in place of what one of them holds, where it is there.
 fn answer(
@@ -248,240 +268,263 @@ fn answer(
     name: &[u8],
     other: Option<&[u8]>,
 ) -> Result<Result<Vec<u8>, AskStop>, Memory> {
-    let mut held = Vec::new(alloc);
-    for (file, bytes) in files {
-        let holds = if *file == name { other } else { Some(*bytes) };
-        if let Some(holds) = holds {
-            let holds = Vec::from_slice(alloc, holds)?;
-            held.push((Text::from_slice(alloc, file)?, holds))?;
-        }
-    }
-    let mut shelf = MemoryShelf::new(held, Vec::new(alloc), 7);
-    let mut words = Vec::new(alloc);
-    for word in asked {
-        words.push(Text::from_slice(alloc, word)?)?;
-    }
+    let words = texts_of(alloc, asked)?;
+    let mut shelf = shelf_with(alloc, files, name, other)?;
     Ok(list_asked(alloc, words.as_slice(), &mut shelf))
 }
 
+// Whether these words ask for this listing of the files.
+fn lists(alloc: Global, asked: &[&[u8]], files: &[File], listing: &[u8]) -> Result<bool, Memory> {
+    let said = answer(alloc, asked, files, b"", None)?;
+    Ok(said.is_ok_and(|bytes| bytes.as_slice() == listing))
+}
+
+// The files of jobs, and the listings of their cells.
+const LISTINGS_OF_JOBS: [(&[File], &[u8]); 2] = [(STATED, STATED_CELLS), (LINKED, LINKED_CELLS)];
+
 #[test]
 fn listings_of_jobs(rt: HostRuntime) -> Result<(), Fail> {
-    let alloc = rt.alloc();
-    let rows = [
-        (STATED.as_slice(), STATED_CELLS),
-        (LINKED.as_slice(), LINKED_CELLS),
-    ];
-    for (files, listing) in rows {
-        match answer(alloc, CELLS.as_slice(), files, b"", None)? {
-            Ok(bytes) => assert_eq!(rt; bytes.as_slice(), listing),
-            Err(stop) => assert_eq!(rt; Some(stop), None),
-        }
+    for (files, listing) in &LISTINGS_OF_JOBS {
+        assert!(rt; lists(rt.alloc(), CELLS, files, listing)?);
     }
     Ok(())
 }
+
+// The files of releases, and the listings of their cells.
+const LISTINGS_OF_RELEASES: [(&[File], &[u8]); 7] = [
+    (TWO_WAY, TWO_WAY_LISTING),
+    (TWO_LEVELS, TWO_LEVELS_LISTING),
+    (LINKED, LINKED_LISTING),
+    (REPAIRED, REPAIRED_LISTING),
+    (ROUNDED, ROUNDED_LISTING),
+    (GUARDED, GUARDED_LISTING),
+    (ODD_CODES, ODD_CODES_LISTING),
+];
 
 #[test]
-fn listings(rt: HostRuntime) -> Result<(), Fail> {
-    let alloc = rt.alloc();
-    let rows = [
-        (TWO_WAY.as_slice(), TWO_WAY_LISTING),
-        (TWO_LEVELS.as_slice(), TWO_LEVELS_LISTING),
-        (LINKED.as_slice(), LINKED_LISTING),
-        (REPAIRED.as_slice(), REPAIRED_LISTING),
-        (ROUNDED.as_slice(), ROUNDED_LISTING),
-        (GUARDED.as_slice(), GUARDED_LISTING),
-        (ODD_CODES.as_slice(), ODD_CODES_LISTING),
-    ];
-    for (files, listing) in rows {
-        match answer(alloc, RELEASED.as_slice(), files, b"", None)? {
-            Ok(bytes) => assert_eq!(rt; bytes.as_slice(), listing),
-            Err(stop) => assert_eq!(rt; Some(stop), None),
-        }
+fn listings_of_releases(rt: HostRuntime) -> Result<(), Fail> {
+    for (files, listing) in &LISTINGS_OF_RELEASES {
+        assert!(rt; lists(rt.alloc(), RELEASED, files, listing)?);
     }
     Ok(())
 }
 
-// Each row has files, one of them, what it holds, where it is there, and what the check says.
+// Files, one of them, what it holds, where it is there, and what the check says.
+const NO_RELEASES: [(&[File], &[u8], Option<&[u8]>, CheckStop); 8] = [
+    (
+        TWO_WAY,
+        b"t.cert",
+        None,
+        CheckStop::Inputs(InputStop::Refused(Fault::Absent(FileRef::Certificate))),
+    ),
+    (
+        TWO_WAY,
+        b"t.csv",
+        None,
+        CheckStop::Inputs(InputStop::Refused(Fault::Absent(FileRef::Table(0)))),
+    ),
+    (
+        TWO_WAY,
+        b"m.asc",
+        None,
+        CheckStop::Inputs(InputStop::Refused(Fault::Absent(FileRef::Microdata))),
+    ),
+    // Another number stands in the sixth line.
+    (
+        TWO_WAY,
+        b"t.csv",
+        Some(
+            b"A,B,V\nTotal,Total,140\nTotal,b1,50\nTotal,b2,90\na1,Total,70\na1,b1,20\na1,b2,x\na2,Total,70\na2,b1,x\na2,b2,x\n",
+        ),
+        CheckStop::NotAccepted(CheckFault::Release { table: 0, line: 6 }),
+    ),
+    // The certificate of the plan alone: nothing shows that its cells protect.
+    (
+        TWO_WAY,
+        b"t.cert",
+        Some(
+            b"argus certificate 2\nmethod MOD\ncells 9\nrelations 6\nhidden 4 5 7 8\nstep 1 0,0 4 4,5,7,8\nend\n",
+        ),
+        CheckStop::NotAccepted(CheckFault::WorldCell(0)),
+    ),
+    // The two parts make more than their total.
+    (
+        ROUNDED,
+        b"t.csv",
+        Some(b"A,V\nTotal,30.0\na,20.0\nb,20.0\n"),
+        CheckStop::NotAccepted(CheckFault::Relation(0)),
+    ),
+    // The extra cell is shown.
+    (
+        GUARDED,
+        b"t.csv",
+        Some(b"A,V\nTotal,150\na,x\nb,x\nc,30\nd,50\n"),
+        CheckStop::NotAccepted(CheckFault::Release { table: 0, line: 5 }),
+    ),
+    // No world keeps the second firm's cell open downwards against the first firm.
+    (
+        GUARDED,
+        b"t.extra",
+        Some(
+            b"argus contributors 1\nextra 3\nneed 3 1 2 above 1 0:1\nguard 1 above 1 1:12 3:-12\nguard 1 below 1 1:-12 3:12\nguard 2 above 1 2:9 3:-9\nend\n",
+        ),
+        CheckStop::NotGuarded(ExtraFault::Open {
+            row: 0,
+            cell: 2,
+            side: Side::Below,
+        }),
+    ),
+];
+
+// Why there is no listing of the files, with this in place of what one of them holds, where it is there.
+fn stop_of(
+    alloc: Global,
+    asked: &[&[u8]],
+    files: &[File],
+    name: &[u8],
+    other: Option<&[u8]>,
+) -> Result<Option<AskStop>, Memory> {
+    let said = answer(alloc, asked, files, name, other)?;
+    Ok(said.err())
+}
+
 #[test]
 fn no_release(rt: HostRuntime) -> Result<(), Fail> {
-    let alloc = rt.alloc();
-    let two_way = TWO_WAY.as_slice();
-    let rows = [
-        (
-            two_way,
-            b"t.cert".as_slice(),
-            None,
-            CheckStop::Inputs(InputStop::Refused(Fault::Absent(FileRef::Certificate))),
-        ),
-        (
-            two_way,
-            b"t.csv",
-            None,
-            CheckStop::Inputs(InputStop::Refused(Fault::Absent(FileRef::Table(0)))),
-        ),
-        (
-            two_way,
-            b"m.asc",
-            None,
-            CheckStop::Inputs(InputStop::Refused(Fault::Absent(FileRef::Microdata))),
-        ),
-        // Another number stands in the sixth line.
-        (
-            two_way,
-            b"t.csv",
-            Some(
-                b"A,B,V\nTotal,Total,140\nTotal,b1,50\nTotal,b2,90\na1,Total,70\na1,b1,20\na1,b2,x\na2,Total,70\na2,b1,x\na2,b2,x\n".as_slice(),
-            ),
-            CheckStop::NotAccepted(CheckFault::Release { table: 0, line: 6 }),
-        ),
-        // The certificate of the plan alone: nothing shows that its cells protect.
-        (
-            two_way,
-            b"t.cert",
-            Some(
-                b"argus certificate 2\nmethod MOD\ncells 9\nrelations 6\nhidden 4 5 7 8\nstep 1 0,0 4 4,5,7,8\nend\n".as_slice(),
-            ),
-            CheckStop::NotAccepted(CheckFault::WorldCell(0)),
-        ),
-        // The two parts make more than their total.
-        (
-            ROUNDED.as_slice(),
-            b"t.csv",
-            Some(b"A,V\nTotal,30.0\na,20.0\nb,20.0\n".as_slice()),
-            CheckStop::NotAccepted(CheckFault::Relation(0)),
-        ),
-        // The extra cell is shown.
-        (
-            GUARDED.as_slice(),
-            b"t.csv",
-            Some(b"A,V\nTotal,150\na,x\nb,x\nc,30\nd,50\n".as_slice()),
-            CheckStop::NotAccepted(CheckFault::Release { table: 0, line: 5 }),
-        ),
-        // No world keeps the second firm's cell open downwards against the first firm.
-        (
-            GUARDED.as_slice(),
-            b"t.extra",
-            Some(
-                b"argus contributors 1\nextra 3\nneed 3 1 2 above 1 0:1\nguard 1 above 1 1:12 3:-12\nguard 1 below 1 1:-12 3:12\nguard 2 above 1 2:9 3:-9\nend\n".as_slice(),
-            ),
-            CheckStop::NotGuarded(ExtraFault::Open {
-                row: 0,
-                cell: 2,
-                side: Side::Below,
-            }),
-        ),
-    ];
-    for (files, name, other, wanted) in rows {
-        let said = answer(alloc, RELEASED.as_slice(), files, name, other)?;
-        assert_eq!(rt; said.err(), Some(AskStop::Stopped(wanted)));
+    for (files, name, other, wanted) in &NO_RELEASES {
+        assert_eq!(rt;
+            stop_of(rt.alloc(), RELEASED, files, name, *other)?,
+            Some(AskStop::Stopped(*wanted))
+        );
     }
     Ok(())
 }
 
-// Each row has a file, what it holds, where it is there, and the fault that is wanted, of the cells and of a release.
+// One of the files that the job names, what it holds, where it is there, and the fault, of the cells and of a release.
+const FAULTS_OF_INPUTS: [(&[u8], Option<&[u8]>, Fault); 6] = [
+    (
+        b"r.job",
+        Some(b"<OPENMICRODATA> m.asc\n"),
+        Fault::Job {
+            line: 1,
+            why: JobWhy::BadValue,
+        },
+    ),
+    (
+        b"m.rda",
+        Some(b"A 1 0\n"),
+        Fault::Meta {
+            line: 1,
+            why: MetaWhy::BadPlace,
+        },
+    ),
+    (b"a.cdl", None, Fault::Absent(FileRef::CodeList(0))),
+    (b"a.hrc", None, Fault::Absent(FileRef::Hierarchy(0))),
+    (
+        b"m.asc",
+        Some(b"a 10\na\n"),
+        Fault::Row {
+            number: 2,
+            why: RowWhy::Short,
+        },
+    ),
+    (
+        b"p.hst",
+        Some(b"c;p\n"),
+        Fault::Prior {
+            table: 0,
+            line: 1,
+            why: PriorWhy::UnknownCode,
+        },
+    ),
+];
+
+// The fault of the files for which they are refused, with this in place of what one of them holds, where it is there.
+fn fault_of(
+    alloc: Global,
+    asked: &[&[u8]],
+    files: &[File],
+    name: &[u8],
+    other: Option<&[u8]>,
+) -> Result<Option<Fault>, Memory> {
+    match stop_of(alloc, asked, files, name, other)? {
+        Some(AskStop::Stopped(CheckStop::Inputs(InputStop::Refused(fault)))) => Ok(Some(fault)),
+        _ => Ok(None),
+    }
+}
+
 #[test]
 fn faults_of_inputs(rt: HostRuntime) -> Result<(), Fail> {
-    let alloc = rt.alloc();
-    let unquoted = Fault::Job {
-        line: 1,
-        why: JobWhy::BadValue,
-    };
-    let unplaced = Fault::Meta {
-        line: 1,
-        why: MetaWhy::BadPlace,
-    };
-    let short = Fault::Row {
-        number: 2,
-        why: RowWhy::Short,
-    };
-    let unknown = Fault::Prior {
-        table: 0,
-        line: 1,
-        why: PriorWhy::UnknownCode,
-    };
-    let rows = [
-        (
-            b"r.job".as_slice(),
-            Some(b"<OPENMICRODATA> m.asc\n".as_slice()),
-            unquoted,
-        ),
-        (b"m.rda", Some(b"A 1 0\n"), unplaced),
-        (b"a.cdl", None, Fault::Absent(FileRef::CodeList(0))),
-        (b"a.hrc", None, Fault::Absent(FileRef::Hierarchy(0))),
-        (b"m.asc", Some(b"a 10\na\n"), short),
-        (b"p.hst", Some(b"c;p\n"), unknown),
-    ];
-    for (name, other, fault) in rows {
-        let wanted = AskStop::Stopped(CheckStop::Inputs(InputStop::Refused(fault)));
-        for words in [CELLS.as_slice(), RELEASED.as_slice()] {
-            let said = answer(alloc, words, NAMING_ALL.as_slice(), name, other)?;
-            assert_eq!(rt; said.err(), Some(wanted));
-        }
+    for (name, other, fault) in &FAULTS_OF_INPUTS {
+        assert_eq!(rt;
+            fault_of(rt.alloc(), CELLS, NAMING_ALL, name, *other)?,
+            Some(*fault)
+        );
     }
     Ok(())
 }
 
-// Each row has a file of a release, what it holds, where it is there, and the fault that is wanted.
+#[test]
+fn faults_of_inputs_of_a_release(rt: HostRuntime) -> Result<(), Fail> {
+    for (name, other, fault) in &FAULTS_OF_INPUTS {
+        assert_eq!(rt;
+            fault_of(rt.alloc(), RELEASED, NAMING_ALL, name, *other)?,
+            Some(*fault)
+        );
+    }
+    Ok(())
+}
+
+// A file of a release, what it holds, where it is there, and the fault.
+const FAULTS_OF_A_RELEASE: [(&[u8], Option<&[u8]>, Fault); 4] = [
+    (
+        b"t.cert",
+        Some(b"argus certificate 9\n"),
+        Fault::Certificate {
+            line: 1,
+            why: CertWhy::Version,
+        },
+    ),
+    (b"t.extra", None, Fault::Absent(FileRef::Contributors)),
+    (
+        b"t.extra",
+        Some(b"argus contributors 1\nmore 3\nend\n"),
+        Fault::Contributors {
+            line: 2,
+            why: CertWhy::Shape,
+        },
+    ),
+    (b"t.csv", None, Fault::Absent(FileRef::Table(0))),
+];
+
 #[test]
 fn faults_of_a_release(rt: HostRuntime) -> Result<(), Fail> {
-    let alloc = rt.alloc();
-    let other_version = Fault::Certificate {
-        line: 1,
-        why: CertWhy::Version,
-    };
-    let other_word = Fault::Contributors {
-        line: 2,
-        why: CertWhy::Shape,
-    };
-    let rows = [
-        (
-            b"t.cert".as_slice(),
-            Some(b"argus certificate 9\n".as_slice()),
-            other_version,
-        ),
-        (b"t.extra", None, Fault::Absent(FileRef::Contributors)),
-        (
-            b"t.extra",
-            Some(b"argus contributors 1\nmore 3\nend\n"),
-            other_word,
-        ),
-        (b"t.csv", None, Fault::Absent(FileRef::Table(0))),
-    ];
-    for (name, other, fault) in rows {
-        let wanted = AskStop::Stopped(CheckStop::Inputs(InputStop::Refused(fault)));
-        let files = GUARDED.as_slice();
-        let said = answer(alloc, RELEASED.as_slice(), files, name, other)?;
-        assert_eq!(rt; said.err(), Some(wanted));
+    for (name, other, fault) in &FAULTS_OF_A_RELEASE {
+        assert_eq!(rt;
+            fault_of(rt.alloc(), RELEASED, GUARDED, name, *other)?,
+            Some(*fault)
+        );
     }
     Ok(())
 }
 
-// Each row has words, and whether they ask for a listing.
+const NO_JOB: AskStop = AskStop::Stopped(CheckStop::Inputs(InputStop::Refused(Fault::Absent(
+    FileRef::Job,
+))));
+
+// Words, and what is said to them where there are no files.
+const WORDS: [(&[&[u8]], AskStop); 6] = [
+    (&[], AskStop::Usage),
+    (&[b"", b"--released"], AskStop::Usage),
+    (&[b"r.job", b"--release"], AskStop::Usage),
+    (&[b"--released", b"r.job"], AskStop::Usage),
+    (&[b"r.job", b"--released", b"r.job"], AskStop::Usage),
+    (&[b"--released"], NO_JOB),
+];
+
 #[test]
 fn words(rt: HostRuntime) -> Result<(), Fail> {
-    let alloc = rt.alloc();
-    let rows: [(&[&[u8]], bool); 6] = [
-        (&[], true),
-        (&[b"", b"--released"], true),
-        (&[b"r.job", b"--release"], true),
-        (&[b"--released", b"r.job"], true),
-        (&[b"r.job", b"--released", b"r.job"], true),
-        (&[b"--released"], false),
-    ];
-    for (words, is_usage) in rows {
-        let mut texts = Vec::new(alloc);
-        for word in words {
-            texts.push(Text::from_slice(alloc, word)?)?;
-        }
-        let mut shelf = MemoryShelf::new(Vec::new(alloc), Vec::new(alloc), 7);
-        let said = list_asked(alloc, texts.as_slice(), &mut shelf);
-        let absent = InputStop::Refused(Fault::Absent(FileRef::Job));
-        let wanted = if is_usage {
-            AskStop::Usage
-        } else {
-            AskStop::Stopped(CheckStop::Inputs(absent))
-        };
-        assert_eq!(rt; said.err(), Some(wanted));
+    for (asked, wanted) in &WORDS {
+        assert_eq!(rt; stop_of(rt.alloc(), asked, &[], b"", None)?, Some(*wanted));
     }
     Ok(())
 }

@@ -1,0 +1,33 @@
+//! Books whose cells have stated truths, for tests.
+
+use code_trees::CodeTree;
+use kit_cells::set_truth;
+use kit_records::places;
+use linked_tables::Book;
+use std::alloc::Global;
+use std::test::Fail;
+
+// Gives the first cells of a book these truths.
+fn set_truths(book: &mut Book, truths: &[u32]) {
+    for (cell, truth) in truths.iter().enumerate() {
+        if cell < 100 {
+            set_truth(book, cell as u32, *truth);
+        }
+    }
+}
+
+// The book of tables over these trees, whose cells have these truths.
+pub(crate) fn book_of(
+    alloc: Global,
+    trees: Vec<CodeTree>,
+    tables: &[&[u32]],
+    truths: &[u32],
+) -> Result<Book, Fail> {
+    let spanned = places(alloc, tables)?;
+    if trees.len() > 8 || spanned.len() > 100 {
+        return Err(Fail::new("too many trees or tables for a book"));
+    }
+    let mut book = Book::new(alloc, trees, spanned)?;
+    set_truths(&mut book, truths);
+    Ok(book)
+}
