@@ -9,7 +9,7 @@ ghost use Rattle.rounding.specs.Namings.{IsNaming, IsNamingOf};
 ghost use Rattle.rounding.specs.Neighbours.{is_multiple};
 ghost use Rattle.rounding.specs.Tasks.{IsProper};
 
-use crate::numbers::{extremes_of, numbers_to, set_number};
+use crate::numbers::{CellForms, extremes_of, numbers_to, set_number};
 use sdc_base::{Items, Memory, Relation, System};
 use std::alloc::Global;
 use std::marker::Model;
@@ -146,13 +146,16 @@ impl<'a> Bounds<'a> {
     {
         self.fixes.push((cell, up))?;
         let relations = self.system.relations.as_slice();
+        let forms = CellForms {
+            relations,
+            named,
+            cell,
+        };
         if up {
             let to = self.upper[cell as usize];
             set_number(
-                relations,
-                named,
+                &forms,
                 &mut self.lower,
-                cell,
                 to,
                 &mut self.least,
                 &mut self.greatest,
@@ -161,10 +164,8 @@ impl<'a> Bounds<'a> {
         } else {
             let to = self.lower[cell as usize];
             set_number(
-                relations,
-                named,
+                &forms,
                 &mut self.upper,
-                cell,
                 to,
                 &mut self.greatest,
                 &mut self.least,
@@ -200,13 +201,16 @@ impl<'a> Bounds<'a> {
         let (cell, up) = fix;
         let named = naming[cell as usize].as_slice();
         let relations = self.system.relations.as_slice();
+        let forms = CellForms {
+            relations,
+            named,
+            cell,
+        };
         if up {
             let to = self.lower[cell as usize] - self.base;
             set_number(
-                relations,
-                named,
+                &forms,
                 &mut self.lower,
-                cell,
                 to,
                 &mut self.least,
                 &mut self.greatest,
@@ -214,10 +218,8 @@ impl<'a> Bounds<'a> {
         } else {
             let to = self.upper[cell as usize] + self.base;
             set_number(
-                relations,
-                named,
+                &forms,
                 &mut self.upper,
-                cell,
                 to,
                 &mut self.greatest,
                 &mut self.least,

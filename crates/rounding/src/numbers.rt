@@ -73,51 +73,53 @@ fn number_to(base: i128, truth: i128, side: bool) -> i128
     }
 }
 
+// The forms that name a cell, by the numbers of their relations.
+#[derive(Drop)]
+pub(crate) struct CellForms<'a> {
+    pub(crate) relations: &'a [Relation],
+    pub(crate) named: &'a [u32],
+    pub(crate) cell: u32,
+}
+
 // Sets the number of a cell to another near it, and the extremes of the forms that name it with it: the first ones take
 // these numbers for the cells that a form counts above 0 times, the second ones for the others.
 pub(crate) fn set_number(
-    relations: &[Relation],
-    named: &[u32],
+    forms: &CellForms,
     numbers: &mut Vec<i128>,
-    cell: u32,
     to: i128,
     first: &mut Vec<i128>,
     second: &mut Vec<i128>,
 )
-    requires { IsSettable relations.now named.now numbers.old.items cell to first.old.items second.old.items }
-    ensures numbers { numbers.new.items ≡ slice_set numbers.old.items cell to }
-    ensures first { (other : List ℤ) → AreExtremes numbers.old.items other relations.now first.old.items
-        → AreExtremes numbers.new.items other relations.now first.new.items }
-    ensures second { (other : List ℤ) → AreExtremes other numbers.old.items relations.now second.old.items
-        → AreExtremes other numbers.new.items relations.now second.new.items }
+    requires { IsSettable forms.now.relations.now forms.now.named.now numbers.old.items forms.now.cell to first.old.items
+        second.old.items }
+    ensures numbers { numbers.new.items ≡ slice_set numbers.old.items forms.now.cell to }
+    ensures first { (other : List ℤ) → AreExtremes numbers.old.items other forms.now.relations.now first.old.items
+        → AreExtremes numbers.new.items other forms.now.relations.now first.new.items }
+    ensures second { (other : List ℤ) → AreExtremes other numbers.old.items forms.now.relations.now second.old.items
+        → AreExtremes other numbers.new.items forms.now.relations.now second.new.items }
 {
-    let by = to - numbers[cell as usize];
-    numbers[cell as usize] = to;
-    move_sums(relations, named, first, cell, by, 0);
-    move_sums(relations, named, second, cell, 0, by);
+    let cell = forms.cell as usize;
+    let by = to - numbers[cell];
+    numbers[cell] = to;
+    move_sums(forms, first, by, 0);
+    move_sums(forms, second, 0, by);
 }
 
 // Moves the extremes of the forms that name a cell as its numbers move: by the first amount where a form counts it
 // above 0 times, else by the other one.
-fn move_sums(
-    relations: &[Relation],
-    named: &[u32],
-    sums: &mut Vec<i128>,
-    cell: u32,
-    one: i128,
-    other: i128,
-)
-    requires named { IsNamingOf relations.now cell named.now }
-    requires each { length sums.old.items ≡ length relations.now }
+fn move_sums(forms: &CellForms, sums: &mut Vec<i128>, one: i128, other: i128)
+    requires named { IsNamingOf forms.now.relations.now forms.now.cell forms.now.named.now }
+    requires each { length sums.old.items ≡ length forms.now.relations.now }
     requires small { AreSmall sums.old.items }
     requires one { (neg_ℤ (pos (2 ^ 74)) ≤ℤ one) × (one ≤ℤ pos (2 ^ 74)) }
     requires other { (neg_ℤ (pos (2 ^ 74)) ≤ℤ other) × (other ≤ℤ pos (2 ^ 74)) }
     ensures each { length sums.new.items ≡ length sums.old.items }
-    ensures moved { (number : ℕ) (r : AnyRelation) → slice_get relations.now number ≡ Some r
-        → number_at sums.new.items number ≡ number_at sums.old.items number +ℤ change r cell one other }
+    ensures moved { (number : ℕ) (r : AnyRelation) → slice_get forms.now.relations.now number ≡ Some r
+        → number_at sums.new.items number ≡ number_at sums.old.items number +ℤ change r forms.now.cell one other }
 {
-    'named: for number in named {
-        sums[*number as usize] += sum_change(&relations[*number as usize], cell, one, other);
+    let relations = forms.relations;
+    'named: for number in forms.named {
+        sums[*number as usize] += sum_change(&relations[*number as usize], forms.cell, one, other);
     }
 }
 

@@ -109,34 +109,47 @@ fn put_own(
     Ok(i)
 }
 
-// The entries of a row after the exchange: each number p times, less f times the pivot's.
+// The row and the column at which a table is exchanged, with that row without its den, its den, and its number in the
+// column, which is above 0.
+#[derive(Drop)]
+pub(crate) struct Pivot<'a> {
+    pub(crate) row: usize,
+    pub(crate) column: usize,
+    pub(crate) bare: &'a [(u32, i128)],
+    pub(crate) den: i128,
+    pub(crate) p: i128,
+}
+
+// The entries of a row after the exchange: each number so many times, less so many times the pivot's.
 fn crossed_row(
     alloc: Global,
-    den: i128,
-    p: i128,
-    f: i128,
-    pivot: &[(u32, i128)],
+    pivot: &Pivot,
     own: &[(u32, i128)],
-    column: u32,
+    times: i128,
+    less: i128,
     width: u32,
 ) -> Result<Items<(u32, i128)>, RowFault>
-    requires pivot { AscendFrom 0 pivot.now }
+    requires pivot { AscendFrom 0 pivot.now.bare.now }
     requires own { AscendFrom 0 own.now }
-    requires column { coefficient pivot.now column ≢ pos 0 }
-    ensures ok { IfOk result (λ made. AreEntriesBelow width (crossed_at den p f column pivot.now own.now) made) }
+    requires column { coefficient pivot.now.bare.now pivot.now.column ≢ pos 0 }
+    requires narrow { pivot.now.column < width }
+    ensures ok { IfOk result (λ made. AreEntriesBelow width
+        (crossed_at pivot.now.den times less pivot.now.column pivot.now.bare.now own.now) made) }
     ensures wide { (j : ℕ) → result ≡ Err (RowFault.Wide j)
-        → (j < width) × (list_any is_wide
-        (crossed_products den p f column j (coefficient own.now j) (coefficient pivot.now j)) ≡ true) }
+        → (j < width) × (list_any is_wide (crossed_products pivot.now.den times less pivot.now.column j
+        (coefficient own.now j) (coefficient pivot.now.bare.now j)) ≡ true) }
 {
-    let Ok(mut made) = Vec::with_capacity(alloc, own.len() + pivot.len()) else {
+    let bare = pivot.bare;
+    let column = pivot.column as u32;
+    let Ok(mut made) = Vec::with_capacity(alloc, own.len() + bare.len()) else {
         return Err(RowFault::Memory);
     };
     let mut i = 0;
     let mut j = 0;
     let mut next = 0u32;
     'merge: while next < width {
-        let place = least_place(place_at(pivot, j, width), width);
-        i = match put_own(&mut made, own, p, i, next, place) {
+        let place = least_place(place_at(bare, j, width), width);
+        i = match put_own(&mut made, own, times, i, next, place) {
             Ok(past) => past,
             Err(fault) => return Err(fault),
         };
@@ -144,8 +157,9 @@ fn crossed_row(
             return Ok(Items::new(made));
         }
         let here = entry_here(own, i, place);
-        let there = entry_here(pivot, j, place);
-        let Some(number) = number_outside(den, p, f, column, place, (here.0, there.0)) else {
+        let there = entry_here(bare, j, place);
+        let numbers = (here.0, there.0);
+        let Some(number) = number_outside(pivot.den, times, less, column, place, numbers) else {
             return Err(RowFault::Wide(place as usize));
         };
         match put(&mut made, place, number) {
@@ -157,17 +171,6 @@ fn crossed_row(
         next = place + 1;
     }
     Ok(Items::new(made))
-}
-
-// The row and the column at which a table is exchanged, with that row without its den, its den, and its number in the
-// column, which is above 0.
-#[derive(Drop)]
-pub(crate) struct Pivot<'a> {
-    pub(crate) row: usize,
-    pub(crate) column: usize,
-    pub(crate) bare: &'a [(u32, i128)],
-    pub(crate) den: i128,
-    pub(crate) p: i128,
 }
 
 // The pivot's row after the exchange: its den and its number in the column change places.
@@ -185,16 +188,7 @@ fn pivot_row(
         → IsWidePlace (table_of table.now) pivot.now.row pivot.now.column i j }
 {
     let width = table.others.len() as u32 + 1;
-    match crossed_row(
-        alloc,
-        pivot.den,
-        1,
-        -1,
-        pivot.bare,
-        &[(width, pivot.p)],
-        pivot.column as u32,
-        width + 1,
-    ) {
+    match crossed_row(alloc, pivot, &[(width, pivot.p)], 1, -1, width + 1) {
         Ok(made) => Ok(made),
         Err(fault) => Err(at_place(
             pivot.row,
@@ -230,16 +224,7 @@ fn other_row(
     let common = gcd(f.unsigned_abs(), pivot.p.unsigned_abs()) as i128;
     let times = quotient(pivot.p, common);
     let less = quotient(f, common);
-    let whole = match crossed_row(
-        alloc,
-        pivot.den,
-        times,
-        less,
-        pivot.bare,
-        own,
-        pivot.column as u32,
-        width + 1,
-    ) {
+    let whole = match crossed_row(alloc, pivot, own, times, less, width + 1) {
         Ok(whole) => whole,
         Err(fault) => {
             return Err(at_place(k, pivot.row, pivot.column, table.others.len(), fault));

@@ -71,7 +71,6 @@ returns-in-Err-clause-wide c i j is =
     let p_is : to_z w128 (of_z w128 c.args.pivot.now.p) ≡ c.args.pivot.now.p = to_z-of_z w128 c.args.pivot.now.p (search rules) in
     let f_is : to_z w128 (of_z w128 c.args.f) ≡ c.args.f = to_z-of_z w128 c.args.f c.ranges.f in
     let common = common_of c.gcd-common.result c.unsigned_abs.result c.unsigned_abs-2.result c.args.f c.args.pivot.now.p c.gcd-common.ensures.greatest (c.unsigned_abs.ensures.value ∙ ap unsigned_abs f_is) (c.unsigned_abs-2.ensures.value ∙ ap unsigned_abs p_is) c.requires.pivot.above (search rules) in
-    let den_is : to_z w128 (of_z w128 c.args.pivot.now.den) ≡ c.args.pivot.now.den = to_z-of_z w128 c.args.pivot.now.den (search rules) in
     let g : ℤ = to_z w128 c.gcd-common.result in
     let g_up : pos 1 ≤ℤ g = cast_up c.gcd-common.result common.small common.up in
     let times : ℤ = c.quotient-times.result in
@@ -90,7 +89,7 @@ returns-in-Err-clause-wide c i j is =
     let wide : (place : ℕ) → c.in-Err.fault ≡ faults.Wide place → (place < c.len.result + 1 + 1) × products c.args.pivot.now.den times less place =
     λ place place_is.
     let told = c.in-Err.ensures.wide place (ap Err place_is) in
-    (told.0, subst (λ d. products d times less place) den_is (subst (λ t. products (to_z w128 (of_z w128 c.args.pivot.now.den)) t less place) times_is (subst (λ l. products (to_z w128 (of_z w128 c.args.pivot.now.den)) (to_z w128 (of_z w128 times)) l place) less_is told.1))) in
+    (told.0, subst (λ t. products c.args.pivot.now.den t less place) times_is (subst (λ l. products c.args.pivot.now.den (to_z w128 (of_z w128 times)) l place) less_is told.1)) in
     fault_wide s c.args.pivot.now.row c.args.pivot.now.column c.args.k c.len-in-Err.result i j c.in-Err.fault (omega (arith, c.len-in-Err.ensures)) c.requires.row c.requires.column c.requires.within (c.at_place.ensures i j fault_is)
     (λ place place_is below. crossed_wide s c.args.pivot.now.row c.args.pivot.now.column c.args.k bare own c.args.pivot.now.den c.args.pivot.now.p c.args.f times less g c.requires.sound c.requires.row c.requires.column c.requires.within c.requires.other c.requires.pivot c.row_of-own.ensures.row_at c.requires.number p_times f_times g_up place below (wide place place_is).1)
     (λ place place_is over.
@@ -107,7 +106,6 @@ lowest_row-requires-clause-above c =
     let p_is : to_z w128 (of_z w128 c.args.pivot.now.p) ≡ c.args.pivot.now.p = to_z-of_z w128 c.args.pivot.now.p (search rules) in
     let f_is : to_z w128 (of_z w128 c.args.f) ≡ c.args.f = to_z-of_z w128 c.args.f c.ranges.f in
     let common = common_of c.gcd-common.result c.unsigned_abs.result c.unsigned_abs-2.result c.args.f c.args.pivot.now.p c.gcd-common.ensures.greatest (c.unsigned_abs.ensures.value ∙ ap unsigned_abs f_is) (c.unsigned_abs-2.ensures.value ∙ ap unsigned_abs p_is) c.requires.pivot.above (search rules) in
-    let den_is : to_z w128 (of_z w128 c.args.pivot.now.den) ≡ c.args.pivot.now.den = to_z-of_z w128 c.args.pivot.now.den (search rules) in
     let g : ℤ = to_z w128 c.gcd-common.result in
     let g_up : pos 1 ≤ℤ g = cast_up c.gcd-common.result common.small common.up in
     let times : ℤ = c.quotient-times.result in
@@ -122,7 +120,7 @@ lowest_row-requires-clause-above c =
     let bare : List Term = c.args.pivot.now.bare.now in
     let width : c.len.result + 1 ≡ width_of s = omega (arith, c.len.ensures) in
     let at : ℤ → ℤ → ℤ → ℕ → ℤ = λ d t l. crossed_at d t l c.args.pivot.now.column bare own in
-    let numbers_are : at (to_z w128 (of_z w128 c.args.pivot.now.den)) (to_z w128 (of_z w128 times)) (to_z w128 (of_z w128 less)) ≡ at c.args.pivot.now.den times less = ap (λ d. at d (to_z w128 (of_z w128 times)) (to_z w128 (of_z w128 less))) den_is ∙ ap (λ t. at c.args.pivot.now.den t (to_z w128 (of_z w128 less))) times_is ∙ ap (at c.args.pivot.now.den times) less_is in
+    let numbers_are : at c.args.pivot.now.den (to_z w128 (of_z w128 times)) (to_z w128 (of_z w128 less)) ≡ at c.args.pivot.now.den times less = ap (λ t. at c.args.pivot.now.den t (to_z w128 (of_z w128 less))) times_is ∙ ap (at c.args.pivot.now.den times) less_is in
     let den_here : own_den (c.len.result + 1) c.in-Ok.whole ≡ at c.args.pivot.now.den times less (width_of s) = c.in-Ok.ensures.ok.same (c.len.result + 1) (omega arith) ∙ ap (λ (n : ℕ → ℤ). n (c.len.result + 1)) numbers_are ∙ ap (at c.args.pivot.now.den times less) width in
     subst (λ x. pos 1 ≤ℤ x) (sym den_here) (crossed_den_up s c.args.pivot.now.row c.args.pivot.now.column c.args.k bare own c.args.pivot.now.den c.args.pivot.now.p c.args.f times less g c.requires.sound c.requires.row c.requires.column c.requires.within c.requires.other c.requires.pivot c.row_of-own.ensures.row_at c.requires.number p_times f_times g_up)
 
@@ -132,7 +130,6 @@ returns-in-Ok-lowest_row-clause-ok c =
     let p_is : to_z w128 (of_z w128 c.args.pivot.now.p) ≡ c.args.pivot.now.p = to_z-of_z w128 c.args.pivot.now.p (search rules) in
     let f_is : to_z w128 (of_z w128 c.args.f) ≡ c.args.f = to_z-of_z w128 c.args.f c.ranges.f in
     let common = common_of c.gcd-common.result c.unsigned_abs.result c.unsigned_abs-2.result c.args.f c.args.pivot.now.p c.gcd-common.ensures.greatest (c.unsigned_abs.ensures.value ∙ ap unsigned_abs f_is) (c.unsigned_abs-2.ensures.value ∙ ap unsigned_abs p_is) c.requires.pivot.above (search rules) in
-    let den_is : to_z w128 (of_z w128 c.args.pivot.now.den) ≡ c.args.pivot.now.den = to_z-of_z w128 c.args.pivot.now.den (search rules) in
     let g : ℤ = to_z w128 c.gcd-common.result in
     let g_up : pos 1 ≤ℤ g = cast_up c.gcd-common.result common.small common.up in
     let times : ℤ = c.quotient-times.result in
@@ -147,7 +144,7 @@ returns-in-Ok-lowest_row-clause-ok c =
     let bare : List Term = c.args.pivot.now.bare.now in
     let width : c.len.result + 1 ≡ width_of s = omega (arith, c.len.ensures) in
     let at : ℤ → ℤ → ℤ → ℕ → ℤ = λ d t l. crossed_at d t l c.args.pivot.now.column bare own in
-    let numbers_are : at (to_z w128 (of_z w128 c.args.pivot.now.den)) (to_z w128 (of_z w128 times)) (to_z w128 (of_z w128 less)) ≡ at c.args.pivot.now.den times less = ap (λ d. at d (to_z w128 (of_z w128 times)) (to_z w128 (of_z w128 less))) den_is ∙ ap (λ t. at c.args.pivot.now.den t (to_z w128 (of_z w128 less))) times_is ∙ ap (at c.args.pivot.now.den times) less_is in
+    let numbers_are : at c.args.pivot.now.den (to_z w128 (of_z w128 times)) (to_z w128 (of_z w128 less)) ≡ at c.args.pivot.now.den times less = ap (λ t. at c.args.pivot.now.den t (to_z w128 (of_z w128 less))) times_is ∙ ap (at c.args.pivot.now.den times) less_is in
     let made : AreEntriesBelow (width_of s + 1) (at c.args.pivot.now.den times less) c.in-Ok.whole =
     subst (λ n. AreEntriesBelow (n + 1) (at c.args.pivot.now.den times less) c.in-Ok.whole) width (subst (λ (n : ℕ → ℤ). AreEntriesBelow (c.len.result + 1 + 1) n c.in-Ok.whole) numbers_are c.in-Ok.ensures.ok) in
     let up : pos 1 ≤ℤ own_den (width_of s) c.in-Ok.whole = subst (λ x. pos 1 ≤ℤ x) (sym (made.same (width_of s) (omega arith))) (crossed_den_up s c.args.pivot.now.row c.args.pivot.now.column c.args.k bare own c.args.pivot.now.den c.args.pivot.now.p c.args.f times less g c.requires.sound c.requires.row c.requires.column c.requires.within c.requires.other c.requires.pivot c.row_of-own.ensures.row_at c.requires.number p_times f_times g_up) in

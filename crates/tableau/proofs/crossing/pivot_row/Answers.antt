@@ -25,10 +25,9 @@ returns-in-Ok-clause-ok c =
     let s = c.args.table.now in
     let bare : List Term = c.args.pivot.now.bare.now in
     let width : c.len.result + 1 ≡ width_of s = omega (arith, c.len.ensures) in
-    let den_is : to_z w128 (of_z w128 c.args.pivot.now.den) ≡ c.args.pivot.now.den = to_z-of_z w128 c.args.pivot.now.den (search rules) in
     let p_is : to_z w128 (of_z w128 c.args.pivot.now.p) ≡ c.args.pivot.now.p = to_z-of_z w128 c.args.pivot.now.p (search rules) in
     let Made : ℕ → ℤ → ℤ → Type 0 = λ w d p. AreEntriesBelow (w + 1) (crossed_at d (pos 1) (negsuc 0) c.args.pivot.now.column bare ((w, p) ∷ [])) c.in-Ok.made in
-    let made : Made (width_of s) c.args.pivot.now.den c.args.pivot.now.p = subst (λ p. Made (width_of s) c.args.pivot.now.den p) p_is (subst (λ d. Made (width_of s) d (to_z w128 (of_z w128 c.args.pivot.now.p))) den_is (subst (λ w. Made w (to_z w128 (of_z w128 c.args.pivot.now.den)) (to_z w128 (of_z w128 c.args.pivot.now.p))) width c.in-Ok.ensures.ok)) in
+    let made : Made (width_of s) c.args.pivot.now.den c.args.pivot.now.p = subst (λ p. Made (width_of s) c.args.pivot.now.den p) p_is (subst (λ w. Made w c.args.pivot.now.den (to_z w128 (of_z w128 c.args.pivot.now.p))) width c.in-Ok.ensures.ok) in
     pivot_row_is s c.args.pivot.now.row c.args.pivot.now.column bare c.args.pivot.now.den c.args.pivot.now.p c.requires.sound c.requires.row c.requires.column c.requires.pivot c.in-Ok.made made
 
 pub returns-in-Err-clause-wide : goal.returns-in-Err-clause-wide
@@ -36,14 +35,13 @@ returns-in-Err-clause-wide c i j is =
     let s = c.args.table.now in
     let bare : List Term = c.args.pivot.now.bare.now in
     let width : c.len.result + 1 ≡ width_of s = omega (arith, c.len.ensures) in
-    let den_is : to_z w128 (of_z w128 c.args.pivot.now.den) ≡ c.args.pivot.now.den = to_z-of_z w128 c.args.pivot.now.den (search rules) in
     let p_is : to_z w128 (of_z w128 c.args.pivot.now.p) ≡ c.args.pivot.now.p = to_z-of_z w128 c.args.pivot.now.p (search rules) in
     let fault_is : c.at_place.result ≡ exchange_faults.Wide i j = cc in
     let products : ℕ → ℤ → ℤ → ℕ → Type 0 = λ w d p place. list_any is_wide (crossed_products d (pos 1) (negsuc 0) c.args.pivot.now.column place (coefficient ((w, p) ∷ []) place) (coefficient bare place)) ≡ true in
     let wide : (place : ℕ) → c.in-Err.fault ≡ faults.Wide place → (place < c.len.result + 1 + 1) × products (width_of s) c.args.pivot.now.den c.args.pivot.now.p place =
     λ place place_is.
     let told = c.in-Err.ensures.wide place (ap Err place_is) in
-    (told.0, subst (λ p. products (width_of s) c.args.pivot.now.den p place) p_is (subst (λ d. products (width_of s) d (to_z w128 (of_z w128 c.args.pivot.now.p)) place) den_is (subst (λ w. products w (to_z w128 (of_z w128 c.args.pivot.now.den)) (to_z w128 (of_z w128 c.args.pivot.now.p)) place) width told.1))) in
+    (told.0, subst (λ p. products (width_of s) c.args.pivot.now.den p place) p_is (subst (λ w. products w c.args.pivot.now.den (to_z w128 (of_z w128 c.args.pivot.now.p)) place) width told.1)) in
     fault_wide s c.args.pivot.now.row c.args.pivot.now.column c.args.pivot.now.row c.len-in-Err.result i j c.in-Err.fault (omega (arith, c.len-in-Err.ensures)) c.requires.row c.requires.column (omega (arith, c.requires.row)) (c.at_place.ensures i j fault_is)
     (λ place place_is below. pivot_row_wide s c.args.pivot.now.row c.args.pivot.now.column bare c.args.pivot.now.den c.args.pivot.now.p c.requires.sound c.requires.row c.requires.column c.requires.pivot place below (wide place place_is).1)
     (λ place place_is over.

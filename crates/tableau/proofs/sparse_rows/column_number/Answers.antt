@@ -1,4 +1,4 @@
-use Rattle.std.proofs.Common.{◌≡◌, ◌<◌, ℤ, List, pos, length, slice_index_or, ap, ◌∙◌, arith, rules, FitsSigned}
+use Rattle.std.proofs.Common.{ℤ, List, pos, length, slice_index_or, ap, ◌∙◌, arith, rules, FitsSigned}
 use Rattle.std.specs.Int.{w128}
 use Rattle.std.proofs.lemmas.Int.{to_z-of_z}
 use Rattle.tableau.proofs.SparseTables.{column_at, length-column}
