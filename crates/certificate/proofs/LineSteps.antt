@@ -10,9 +10,10 @@ use Rattle.certificate.specs.declared.faults.CertWhy.{CertWhy}
 use Rattle.certificate.specs.declared.faults.CertWhy.TheVariants.{Shape}
 use Rattle.certificate.specs.declared.faults.CertError.{CertError}
 use Rattle.certificate.specs.declared.faults.CertError.TheVariants as cert_error
-use Rattle.certificate.specs.declared.faults.LineError.{LineError}
-use Rattle.certificate.specs.declared.faults.LineError.TheVariants as line_error
-use Rattle.certificate.specs.Faults.{why_of, fault_of, at_line, error_of}
+use Rattle.plain_text.specs.declared.stop.Stop.{Stop}
+use Rattle.plain_text.specs.declared.stop.Stop.TheVariants as stop
+use Rattle.plain_text.specs.Stops.{why_of}
+use Rattle.certificate.specs.Faults.{fault_of, at_line, error_of}
 use Rattle.certificate.specs.Remainder.{Remainder}
 use Rattle.certificate.specs.Pieces.{pieces}
 use Rattle.certificate.specs.LineReadings.{item_of}
@@ -20,9 +21,9 @@ use Rattle.certificate.specs.Certificates.{next_line, is_next, version_of, first
 use Rattle.certificate.proofs.PieceList.{piece_last, piece_first, piece_head, next-take}
 
 -- an error of a line keeps its fault when the line's number is put to it
-pub fails_at : {Y : Type 0} (line : ℕ) (e : LineError) (read : Result Y CertWhy) → Fails (why_of e) read → Fails (fault_of (error_of line e)) (at_line line read)
-fails_at line line_error.Memory read h = tt
-fails_at line (line_error.Fault why) read h = rw h refl
+pub fails_at : {Y : Type 0} (line : ℕ) (e : Stop CertWhy) (read : Result Y CertWhy) → Fails (why_of e) read → Fails (fault_of (error_of line e)) (at_line line read)
+fails_at line stop.Memory read h = tt
+fails_at line (stop.Fault why) read h = rw h refl
 
 -- the same, where the line takes no memory
 pub fails_with : {Y : Type 0} (line : ℕ) (why : CertWhy) (read : Result Y CertWhy) → read ≡ Err why → at_line line read ≡ Err (line, why)

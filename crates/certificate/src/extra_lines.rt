@@ -1,15 +1,16 @@
 ghost use Rattle.std.specs.Prelude.{◌≡◌, codes};
 ghost use Rattle.sdc_base.specs.Answers.{Gives};
-ghost use Rattle.certificate.specs.Faults.{why_of};
+ghost use Rattle.plain_text.specs.Stops.{why_of};
 ghost use Rattle.certificate.specs.ExtraReadings as extra_readings;
 
 use crate::extra::ExtraNeed;
-use crate::faults::{CertWhy, LineError};
+use crate::faults::CertWhy;
 use crate::line_kind::LineKind;
 use crate::lines::side_of;
 use crate::numerals::{are_ascending, denominator_of, natural_of};
 use crate::pieces::Pieces;
 use crate::tokens::{all_pairs, terms_in};
+use plain_text::Stop;
 use std::alloc::Global;
 use worlds::Multipliers;
 
@@ -23,21 +24,21 @@ fn need_by(
     side: &[u8],
     den: &[u8],
     pairs: &mut Pieces<'_>,
-) -> Result<ExtraNeed, LineError>
+) -> Result<ExtraNeed, Stop<CertWhy>>
     ensures { Gives why_of (λ need. need) result
         (extra_readings.need_by subject.now row.now cell.now side.now den.now pairs.old) }
 {
-    let side = side_of(side)?;
+    let side = side_of(side).map_err(Stop::Fault)?;
     if !all_pairs(pairs) {
-        return Err(LineError::Fault(CertWhy::Shape));
+        return Err(Stop::Fault(CertWhy::Shape));
     }
-    let subject = natural_of(0, subject)?;
-    let row = natural_of(1, row)?;
-    let cell = natural_of(0, cell)?;
-    let den = denominator_of(den)?;
+    let subject = natural_of(0, subject).map_err(Stop::Fault)?;
+    let row = natural_of(1, row).map_err(Stop::Fault)?;
+    let cell = natural_of(0, cell).map_err(Stop::Fault)?;
+    let den = denominator_of(den).map_err(Stop::Fault)?;
     let by_relation = terms_in(alloc, pairs)?;
     if !are_ascending(by_relation.as_slice()) {
-        return Err(LineError::Fault(CertWhy::Order));
+        return Err(Stop::Fault(CertWhy::Order));
     }
     Ok(ExtraNeed {
         subject,
@@ -67,12 +68,12 @@ impl LineKind for NeedLine {
     }
 
     #[tactic(auto, unfolding(crate::specs::ExtraReadings::need_of))]
-    fn read(&self, alloc: Global, tokens: &mut Pieces<'_>) -> Result<ExtraNeed, LineError> {
-        let subject = tokens.first()?;
-        let row = tokens.first()?;
-        let cell = tokens.first()?;
-        let side = tokens.first()?;
-        let den = tokens.first()?;
+    fn read(&self, alloc: Global, tokens: &mut Pieces<'_>) -> Result<ExtraNeed, Stop<CertWhy>> {
+        let subject = tokens.first().map_err(Stop::Fault)?;
+        let row = tokens.first().map_err(Stop::Fault)?;
+        let cell = tokens.first().map_err(Stop::Fault)?;
+        let side = tokens.first().map_err(Stop::Fault)?;
+        let den = tokens.first().map_err(Stop::Fault)?;
         need_by(alloc, subject, row, cell, side, den, tokens)
     }
 }

@@ -1,14 +1,16 @@
 ghost use Rattle.std.specs.Prelude.{◌≡◌, List, ℕ, Result};
 ghost use Rattle.sdc_base.specs.Answers.{Gives};
 ghost use Rattle.certificate.specs.Certificates.{item_at, items_at};
-ghost use Rattle.certificate.specs.Faults.{fault_of, why_of};
+ghost use Rattle.plain_text.specs.Stops.{why_of};
+ghost use Rattle.certificate.specs.Faults.{fault_of};
 ghost use Rattle.certificate.specs.LineReadings.{item_of};
 ghost use Rattle.certificate.specs.declared.faults.CertWhy.{CertWhy as Why};
 
-use crate::faults::{CertError, LineError, error_at};
+use crate::faults::{CertError, CertWhy, error_at};
 use crate::pieces::Pieces;
 use crate::reader::Reader;
 use crate::tokens::behind_word;
+use plain_text::Stop;
 use sdc_base::Items;
 use std::alloc::Global;
 
@@ -28,16 +30,16 @@ pub(crate) trait LineKind {
         ensures { result.now ≡ word self.now };
 
     /// What the tokens behind it say.
-    fn read(&self, alloc: Global, tokens: &mut Pieces<'_>) -> Result<Self::Item, LineError>
+    fn read(&self, alloc: Global, tokens: &mut Pieces<'_>) -> Result<Self::Item, Stop<CertWhy>>
         ensures { Gives why_of (λ item. item) result (meaning self.now tokens.old) };
 }
 
 // What a line of a kind says.
 #[tactic(auto, unfolding(crate::specs::LineReadings::item_of))]
-fn item_in<K: LineKind>(alloc: Global, kind: &K, line: &[u8]) -> Result<K::Item, LineError>
+fn item_in<K: LineKind>(alloc: Global, kind: &K, line: &[u8]) -> Result<K::Item, Stop<CertWhy>>
     ensures { Gives why_of (λ item. item) result (item_of (K.word kind.now) (K.meaning kind.now) line.now) }
 {
-    let mut tokens = behind_word(kind.first_word(), line)?;
+    let mut tokens = behind_word(kind.first_word(), line).map_err(Stop::Fault)?;
     kind.read(alloc, &mut tokens)
 }
 

@@ -1,16 +1,18 @@
 ghost use Rattle.std.specs.Prelude.{◌≡◌};
 ghost use Rattle.sdc_base.specs.Answers.{Gives};
-ghost use Rattle.certificate.specs.Faults.{fault_itself, why_of};
+ghost use Rattle.plain_text.specs.Stops.{why_of};
+ghost use Rattle.certificate.specs.Faults.{fault_itself};
 ghost use Rattle.certificate.specs.LineReadings as line_readings;
 ghost use Rattle.certificate.specs.MethodReadings as method_readings;
 
 use crate::certificate::WorldLine;
-use crate::faults::{CertWhy, LineError};
+use crate::faults::CertWhy;
 use crate::line_kind::LineKind;
 use crate::numerals::{are_ascending, ascends, denominator_of, integer_of, natural_of};
 use crate::pieces::{Pieces, pieces_in};
 use crate::tokens::{all_pairs, have_form, is_word, moves_by, numbers_in, places_in, terms_in};
 use crate::version::Version;
+use plain_text::Stop;
 use sdc_base::{Items, Method, PlanStep, Side};
 use std::alloc::Global;
 use worlds::{Multipliers, Refuted, World};
@@ -79,9 +81,9 @@ impl LineKind for MethodLine {
     }
 
     #[tactic(auto, unfolding(crate::specs::MethodReadings::method_of))]
-    fn read(&self, _alloc: Global, tokens: &mut Pieces<'_>) -> Result<Method, LineError> {
-        let word = tokens.first()?;
-        let method = method_by(word, tokens)?;
+    fn read(&self, _alloc: Global, tokens: &mut Pieces<'_>) -> Result<Method, Stop<CertWhy>> {
+        let word = tokens.first().map_err(Stop::Fault)?;
+        let method = method_by(word, tokens).map_err(Stop::Fault)?;
         Ok(method)
     }
 }
@@ -107,9 +109,9 @@ impl<'a> LineKind for CountLine<'a> {
     }
 
     #[tactic(auto, unfolding(crate::specs::MethodReadings::count_of))]
-    fn read(&self, _alloc: Global, tokens: &mut Pieces<'_>) -> Result<u32, LineError> {
-        let token = tokens.only()?;
-        let count = natural_of(0, token)?;
+    fn read(&self, _alloc: Global, tokens: &mut Pieces<'_>) -> Result<u32, Stop<CertWhy>> {
+        let token = tokens.only().map_err(Stop::Fault)?;
+        let count = natural_of(0, token).map_err(Stop::Fault)?;
         Ok(count)
     }
 }
@@ -135,13 +137,13 @@ impl<'a> LineKind for CellsLine<'a> {
     }
 
     #[tactic(auto, unfolding(crate::specs::LineReadings::hidden_of))]
-    fn read(&self, alloc: Global, tokens: &mut Pieces<'_>) -> Result<Items<u32>, LineError> {
+    fn read(&self, alloc: Global, tokens: &mut Pieces<'_>) -> Result<Items<u32>, Stop<CertWhy>> {
         if tokens.is_count(0) {
-            return Err(LineError::Fault(CertWhy::Shape));
+            return Err(Stop::Fault(CertWhy::Shape));
         }
         let cells = numbers_in(alloc, tokens)?;
         if !ascends(cells.as_slice()) {
-            return Err(LineError::Fault(CertWhy::Order));
+            return Err(Stop::Fault(CertWhy::Order));
         }
         Ok(cells)
     }
@@ -155,26 +157,26 @@ fn step_by(
     parents: &[u8],
     cell: &[u8],
     corners: &[u8],
-) -> Result<PlanStep, LineError>
+) -> Result<PlanStep, Stop<CertWhy>>
     ensures { Gives why_of (λ step. step) result (line_readings.step_by table.now parents.now cell.now corners.now) }
 {
     if parents.is_empty() {
-        return Err(LineError::Fault(CertWhy::Shape));
+        return Err(Stop::Fault(CertWhy::Shape));
     }
     let mut places = pieces_in(b',', parents);
     if places.is_past(8) {
-        return Err(LineError::Fault(CertWhy::Shape));
+        return Err(Stop::Fault(CertWhy::Shape));
     }
     if corners.is_empty() {
-        return Err(LineError::Fault(CertWhy::Shape));
+        return Err(Stop::Fault(CertWhy::Shape));
     }
-    let table = natural_of(1, table)?;
-    let parents = places_in(&mut places)?;
-    let cell = natural_of(0, cell)?;
+    let table = natural_of(1, table).map_err(Stop::Fault)?;
+    let parents = places_in(&mut places).map_err(Stop::Fault)?;
+    let cell = natural_of(0, cell).map_err(Stop::Fault)?;
     let mut others = pieces_in(b',', corners);
     let corners = numbers_in(alloc, &mut others)?;
     if !ascends(corners.as_slice()) {
-        return Err(LineError::Fault(CertWhy::Order));
+        return Err(Stop::Fault(CertWhy::Order));
     }
     Ok(PlanStep {
         table: table - 1,
@@ -203,11 +205,11 @@ impl LineKind for StepLine {
     }
 
     #[tactic(auto, unfolding(crate::specs::LineReadings::step_of))]
-    fn read(&self, alloc: Global, tokens: &mut Pieces<'_>) -> Result<PlanStep, LineError> {
-        let table = tokens.first()?;
-        let parents = tokens.first()?;
-        let cell = tokens.first()?;
-        let corners = tokens.only()?;
+    fn read(&self, alloc: Global, tokens: &mut Pieces<'_>) -> Result<PlanStep, Stop<CertWhy>> {
+        let table = tokens.first().map_err(Stop::Fault)?;
+        let parents = tokens.first().map_err(Stop::Fault)?;
+        let cell = tokens.first().map_err(Stop::Fault)?;
+        let corners = tokens.only().map_err(Stop::Fault)?;
         step_by(alloc, table, parents, cell, corners)
     }
 }
@@ -234,20 +236,20 @@ fn refutation_by(
     side: &[u8],
     den: &[u8],
     pairs: &mut Pieces<'_>,
-) -> Result<Refuted, LineError>
+) -> Result<Refuted, Stop<CertWhy>>
     ensures { Gives why_of (λ refuted. refuted) result
         (line_readings.refutation_by subject.now cell.now side.now den.now pairs.old) }
 {
-    let side = side_of(side)?;
+    let side = side_of(side).map_err(Stop::Fault)?;
     if !all_pairs(pairs) {
-        return Err(LineError::Fault(CertWhy::Shape));
+        return Err(Stop::Fault(CertWhy::Shape));
     }
-    let subject = natural_of(0, subject)?;
-    let cell = natural_of(0, cell)?;
-    let den = denominator_of(den)?;
+    let subject = natural_of(0, subject).map_err(Stop::Fault)?;
+    let cell = natural_of(0, cell).map_err(Stop::Fault)?;
+    let den = denominator_of(den).map_err(Stop::Fault)?;
     let by_relation = terms_in(alloc, pairs)?;
     if !are_ascending(by_relation.as_slice()) {
-        return Err(LineError::Fault(CertWhy::Order));
+        return Err(Stop::Fault(CertWhy::Order));
     }
     Ok(Refuted {
         subject,
@@ -278,11 +280,11 @@ impl<'a> LineKind for RefutationLine<'a> {
     }
 
     #[tactic(auto, unfolding(crate::specs::LineReadings::refutation_of))]
-    fn read(&self, alloc: Global, tokens: &mut Pieces<'_>) -> Result<Refuted, LineError> {
-        let subject = tokens.first()?;
-        let cell = tokens.first()?;
-        let side = tokens.first()?;
-        let den = tokens.first()?;
+    fn read(&self, alloc: Global, tokens: &mut Pieces<'_>) -> Result<Refuted, Stop<CertWhy>> {
+        let subject = tokens.first().map_err(Stop::Fault)?;
+        let cell = tokens.first().map_err(Stop::Fault)?;
+        let side = tokens.first().map_err(Stop::Fault)?;
+        let den = tokens.first().map_err(Stop::Fault)?;
         refutation_by(alloc, subject, cell, side, den, tokens)
     }
 }
@@ -296,16 +298,16 @@ fn world_by(
     side: &[u8],
     den: &[u8],
     tokens: &mut Pieces<'_>,
-) -> Result<WorldLine, LineError>
+) -> Result<WorldLine, Stop<CertWhy>>
     ensures { Gives why_of (λ world. world) result
         (line_readings.world_by kind.now.version kind.now.hidden.now cell.now side.now den.now tokens.old) }
 {
-    let side = side_of(side)?;
+    let side = side_of(side).map_err(Stop::Fault)?;
     if !have_form(kind.version, kind.hidden, tokens) {
-        return Err(LineError::Fault(CertWhy::Shape));
+        return Err(Stop::Fault(CertWhy::Shape));
     }
-    let cell = natural_of(0, cell)?;
-    let den = denominator_of(den)?;
+    let cell = natural_of(0, cell).map_err(Stop::Fault)?;
+    let den = denominator_of(den).map_err(Stop::Fault)?;
     let moves = moves_by(alloc, kind.version, kind.hidden, tokens)?;
     Ok(WorldLine {
         cell,
@@ -339,10 +341,10 @@ impl<'a> LineKind for TableLine<'a> {
     }
 
     #[tactic(auto, unfolding(crate::specs::LineReadings::world_of))]
-    fn read(&self, alloc: Global, tokens: &mut Pieces<'_>) -> Result<WorldLine, LineError> {
-        let cell = tokens.first()?;
-        let side = tokens.first()?;
-        let den = tokens.first()?;
+    fn read(&self, alloc: Global, tokens: &mut Pieces<'_>) -> Result<WorldLine, Stop<CertWhy>> {
+        let cell = tokens.first().map_err(Stop::Fault)?;
+        let side = tokens.first().map_err(Stop::Fault)?;
+        let den = tokens.first().map_err(Stop::Fault)?;
         world_by(alloc, self, cell, side, den, tokens)
     }
 }
@@ -367,8 +369,8 @@ impl<'a> LineKind for WordLine<'a> {
         self.word
     }
 
-    fn read(&self, _alloc: Global, tokens: &mut Pieces<'_>) -> Result<(), LineError> {
-        tokens.end()?;
+    fn read(&self, _alloc: Global, tokens: &mut Pieces<'_>) -> Result<(), Stop<CertWhy>> {
+        tokens.end().map_err(Stop::Fault)?;
         Ok(())
     }
 }

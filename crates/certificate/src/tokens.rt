@@ -3,17 +3,18 @@ ghost use Rattle.std.specs.Int.{w128};
 ghost use Rattle.std.specs.List.{list_all};
 ghost use Rattle.std.specs.Str.{bytes_eq};
 ghost use Rattle.sdc_base.specs.Answers.{Gives};
-ghost use Rattle.certificate.specs.Faults.{fault_itself, why_of};
+ghost use Rattle.plain_text.specs.Stops.{why_of};
+ghost use Rattle.certificate.specs.Faults.{fault_itself};
 ghost use Rattle.certificate.specs.Pieces.{pieces, space};
 ghost use Rattle.certificate.specs.TokenLists as token_lists;
 ghost use Rattle.certificate.specs.TokenLists.{token_numbers, terms_of, with_move, moves_of, move_of, paired_moves_of};
 
-use crate::faults::{CertWhy, LineError};
+use crate::faults::CertWhy;
 use crate::numerals::{are_ascending, integer_of, natural_of};
 use crate::pieces::{Pieces, pieces_in};
 use crate::version::Version;
 use arrayvec::ArrayVec;
-use plain_text::cut_at;
+use plain_text::{Stop, cut_at};
 use sdc_base::{Few, Items, Memory, Place};
 use std::alloc::Global;
 use worlds::Move;
@@ -40,12 +41,18 @@ pub(crate) fn behind_word<'a>(word: &[u8], line: &'a [u8]) -> Result<Pieces<'a>,
 }
 
 /// Each token as a number of a cell, a relation or a place.
-pub(crate) fn numbers_in(alloc: Global, tokens: &mut Pieces<'_>) -> Result<Items<u32>, LineError>
+pub(crate) fn numbers_in(
+    alloc: Global,
+    tokens: &mut Pieces<'_>,
+) -> Result<Items<u32>, Stop<CertWhy>>
     ensures { Gives why_of (λ numbers. numbers) result (token_numbers tokens.old) }
 {
     let mut numbers = Items::empty(alloc);
     'tokens: while let Some(token) = tokens.next_piece() {
-        let number = natural_of(0, token)?;
+        let number = match natural_of(0, token) {
+            Ok(number) => number,
+            Err(why) => return Err(Stop::Fault(why)),
+        };
         numbers.push(number)?;
     }
     Ok(numbers)
@@ -102,12 +109,15 @@ fn term_of(token: &[u8]) -> Result<(u32, i128), CertWhy>
 pub(crate) fn terms_in(
     alloc: Global,
     tokens: &mut Pieces<'_>,
-) -> Result<Items<(u32, i128)>, LineError>
+) -> Result<Items<(u32, i128)>, Stop<CertWhy>>
     ensures { Gives why_of (λ pairs. pairs) result (terms_of tokens.old) }
 {
     let mut terms = Items::empty(alloc);
     'tokens: while let Some(token) = tokens.next_piece() {
-        let term = term_of(token)?;
+        let term = match term_of(token) {
+            Ok(term) => term,
+            Err(why) => return Err(Stop::Fault(why)),
+        };
         terms.push(term)?;
     }
     Ok(terms)
@@ -138,12 +148,15 @@ fn moves_in(
     alloc: Global,
     hidden: &[u32],
     tokens: &mut Pieces<'_>,
-) -> Result<Items<Move>, LineError>
+) -> Result<Items<Move>, Stop<CertWhy>>
     ensures { Gives why_of (λ moves. moves) result (moves_of hidden.now tokens.old) }
 {
     let mut moves = Items::empty(alloc);
     'cells: for cell in hidden {
-        let by = first_integer(tokens)?;
+        let by = match first_integer(tokens) {
+            Ok(by) => by,
+            Err(why) => return Err(Stop::Fault(why)),
+        };
         add_move(&mut moves, *cell, by)?;
     }
     Ok(moves)
@@ -165,12 +178,12 @@ fn moves_of_terms(alloc: Global, terms: &[(u32, i128)]) -> Result<Items<Move>, M
 
 // Each token as a cell and the number by which it moves, the cells ascending.
 #[tactic(auto, unfolding(crate::specs::TokenLists::paired_moves_of))]
-fn paired_moves_in(alloc: Global, tokens: &mut Pieces<'_>) -> Result<Items<Move>, LineError>
+fn paired_moves_in(alloc: Global, tokens: &mut Pieces<'_>) -> Result<Items<Move>, Stop<CertWhy>>
     ensures { Gives why_of (λ moves. moves) result (paired_moves_of tokens.old) }
 {
     let terms = terms_in(alloc, tokens)?;
     if !are_ascending(terms.as_slice()) {
-        return Err(LineError::Fault(CertWhy::Order));
+        return Err(Stop::Fault(CertWhy::Order));
     }
     let moves = moves_of_terms(alloc, terms.as_slice())?;
     Ok(moves)
@@ -192,7 +205,7 @@ pub(crate) fn moves_by(
     version: Version,
     hidden: &[u32],
     tokens: &mut Pieces<'_>,
-) -> Result<Items<Move>, LineError>
+) -> Result<Items<Move>, Stop<CertWhy>>
     ensures { Gives why_of (λ moves. moves) result (token_lists.moves_by version hidden.now tokens.old) }
 {
     match version {

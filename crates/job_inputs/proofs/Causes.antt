@@ -8,12 +8,13 @@ use Rattle.office_io.proofs.Shelves.{only-read-on}
 use Rattle.office_io.specs.Files.{Files}
 use Rattle.office_io.specs.Shelves.{ShelfState, HasOnlyRead}
 use Rattle.job_inputs.specs.Reading.{stop_of, stopped_for, HasCause, HasComeTo, HasOnlyLooked, IsReadFrom}
-use Rattle.job_inputs.specs.Refusals.{refused_for, IsForContents}
+use Rattle.plain_text.specs.Stops.{why_of}
+use Rattle.job_inputs.specs.Refusals.{IsForContents}
 use Rattle.job_inputs.specs.declared.file_ref.FileRef.{FileRef}
 use Rattle.job_inputs.specs.declared.faults.Fault.{Fault}
 use Rattle.job_inputs.specs.declared.faults.Fault.TheVariants as fault
-use Rattle.job_inputs.specs.declared.refusal.Refusal.{Refusal}
-use Rattle.job_inputs.specs.declared.refusal.Refusal.TheVariants as refusal
+use Rattle.plain_text.specs.declared.stop.Stop.{Stop}
+use Rattle.plain_text.specs.declared.stop.Stop.TheVariants as refusal
 use Rattle.job_inputs.specs.declared.stop.InputStop.{InputStop}
 use Rattle.job_inputs.specs.declared.stop.InputStop.TheVariants as stop
 
@@ -67,32 +68,32 @@ cause-as e old new cause = record {
 }
 
 -- a refusal of contents needs no cause of the shelf
-pub contents-cause : {Y : Type 0} (r : Refusal) (old new : ShelfState) → IsForContents r → HasCause {X = Y} (Err (stop_of r)) old new
-contents-cause (refusal.Refused (fault.Absent f)) old new h = absurd h
-contents-cause (refusal.Refused (fault.TooLong f)) old new h = absurd h
-contents-cause (refusal.Refused (fault.Tree g why)) old new h = record {
+pub contents-cause : {Y : Type 0} (r : Stop Fault) (old new : ShelfState) → IsForContents r → HasCause {X = Y} (Err (stop_of r)) old new
+contents-cause (refusal.Fault (fault.Absent f)) old new h = absurd h
+contents-cause (refusal.Fault (fault.TooLong f)) old new h = absurd h
+contents-cause (refusal.Fault (fault.Tree g why)) old new h = record {
   absent = λ f is. absurd cc;
   too_long = λ f is. absurd cc;
   read_fault = λ f is. absurd cc;
   tree = λ f is. (let same : why ≡ tree.Memory = cc in absurd (rw same at h));
 }
-contents-cause (refusal.Refused (fault.Job line why)) old new h = record { absent = λ f is. absurd cc; too_long = λ f is. absurd cc; read_fault = λ f is. absurd cc; tree = λ f is. absurd cc }
-contents-cause (refusal.Refused (fault.Meta line why)) old new h = record { absent = λ f is. absurd cc; too_long = λ f is. absurd cc; read_fault = λ f is. absurd cc; tree = λ f is. absurd cc }
-contents-cause (refusal.Refused (fault.Row number why)) old new h = record { absent = λ f is. absurd cc; too_long = λ f is. absurd cc; read_fault = λ f is. absurd cc; tree = λ f is. absurd cc }
-contents-cause (refusal.Refused (fault.Cells t)) old new h = record { absent = λ f is. absurd cc; too_long = λ f is. absurd cc; read_fault = λ f is. absurd cc; tree = λ f is. absurd cc }
-contents-cause (refusal.Refused (fault.Prior t line why)) old new h = record { absent = λ f is. absurd cc; too_long = λ f is. absurd cc; read_fault = λ f is. absurd cc; tree = λ f is. absurd cc }
-contents-cause (refusal.Refused (fault.Certificate line why)) old new h = record { absent = λ f is. absurd cc; too_long = λ f is. absurd cc; read_fault = λ f is. absurd cc; tree = λ f is. absurd cc }
-contents-cause (refusal.Refused (fault.Contributors line why)) old new h = record { absent = λ f is. absurd cc; too_long = λ f is. absurd cc; read_fault = λ f is. absurd cc; tree = λ f is. absurd cc }
-contents-cause (refusal.Refused fault.OutName) old new h = record { absent = λ f is. absurd cc; too_long = λ f is. absurd cc; read_fault = λ f is. absurd cc; tree = λ f is. absurd cc }
+contents-cause (refusal.Fault (fault.Job line why)) old new h = record { absent = λ f is. absurd cc; too_long = λ f is. absurd cc; read_fault = λ f is. absurd cc; tree = λ f is. absurd cc }
+contents-cause (refusal.Fault (fault.Meta line why)) old new h = record { absent = λ f is. absurd cc; too_long = λ f is. absurd cc; read_fault = λ f is. absurd cc; tree = λ f is. absurd cc }
+contents-cause (refusal.Fault (fault.Row number why)) old new h = record { absent = λ f is. absurd cc; too_long = λ f is. absurd cc; read_fault = λ f is. absurd cc; tree = λ f is. absurd cc }
+contents-cause (refusal.Fault (fault.Cells t)) old new h = record { absent = λ f is. absurd cc; too_long = λ f is. absurd cc; read_fault = λ f is. absurd cc; tree = λ f is. absurd cc }
+contents-cause (refusal.Fault (fault.Prior t line why)) old new h = record { absent = λ f is. absurd cc; too_long = λ f is. absurd cc; read_fault = λ f is. absurd cc; tree = λ f is. absurd cc }
+contents-cause (refusal.Fault (fault.Certificate line why)) old new h = record { absent = λ f is. absurd cc; too_long = λ f is. absurd cc; read_fault = λ f is. absurd cc; tree = λ f is. absurd cc }
+contents-cause (refusal.Fault (fault.Contributors line why)) old new h = record { absent = λ f is. absurd cc; too_long = λ f is. absurd cc; read_fault = λ f is. absurd cc; tree = λ f is. absurd cc }
+contents-cause (refusal.Fault fault.OutName) old new h = record { absent = λ f is. absurd cc; too_long = λ f is. absurd cc; read_fault = λ f is. absurd cc; tree = λ f is. absurd cc }
 contents-cause refusal.Memory old new h = record { absent = λ f is. absurd cc; too_long = λ f is. absurd cc; read_fault = λ f is. absurd cc; tree = λ f is. absurd cc }
 
 -- nor does an output that would take the job's own name
 pub out-name-cause : {Y : Type 0} (reason : Fault) (overwrites : Bool) (old new : ShelfState) → Err reason ≡ refuse fault.OutName overwrites → HasCause {X = Y} (Err (stop.Refused reason)) old new
-out-name-cause reason true old new h = (let same : reason ≡ fault.OutName = cc in rw same (contents-cause (refusal.Refused fault.OutName) old new tt))
+out-name-cause reason true old new h = (let same : reason ≡ fault.OutName = cc in rw same (contents-cause (refusal.Fault fault.OutName) old new tt))
 out-name-cause reason false old new h = absurd cc
 
-pub stop-fails : {A : Type 0} (r : Refusal) (meant : Result A Fault) → Fails (refused_for r) meant → Fails (stopped_for (stop_of r)) meant
-stop-fails (refusal.Refused f) meant h = h
+pub stop-fails : {A : Type 0} (r : Stop Fault) (meant : Result A Fault) → Fails (why_of r) meant → Fails (stopped_for (stop_of r)) meant
+stop-fails (refusal.Fault f) meant h = h
 stop-fails refusal.Memory meant h = tt
 
 -- a file that was come to is come to on the way of the whole
@@ -100,8 +101,8 @@ pub come-on : {X Y : Type 0} (e : InputStop) (part whole : FileRef → List ℕ 
     → HasComeTo {X = X} part (Err e) files new → HasComeTo {X = Y} whole (Err e) files new
 come-on e part whole files new wider come = λ f is. let came = come f (err-as e _ is) in (came.0, wider f came.0 came.1, came.2)
 
-pub contents-come : {Y : Type 0} (r : Refusal) (whole : FileRef → List ℕ → Type 0) (files : Files) (new : ShelfState) → HasComeTo {X = Y} whole (Err (stop_of r)) files new
-contents-come (refusal.Refused g) whole files new = λ f is. absurd cc
+pub contents-come : {Y : Type 0} (r : Stop Fault) (whole : FileRef → List ℕ → Type 0) (files : Files) (new : ShelfState) → HasComeTo {X = Y} whole (Err (stop_of r)) files new
+contents-come (refusal.Fault g) whole files new = λ f is. absurd cc
 contents-come refusal.Memory whole files new = λ f is. absurd cc
 
 -- a look that stops, after others that did not, stops the whole
@@ -119,8 +120,8 @@ look-stops view view' part whole comes comes' e old mid new first look fails wid
 }
 
 -- contents that are refused stop the whole
-pub contents-stop : {X' Y' : Type 0} {P' : X' → Type 0} {most : ℕ} (view' : X' → Y') (whole : Files → Result Y' Fault) (comes' : Files → FileRef → List ℕ → Type 0) (r : Refusal) (old new : ShelfState)
-    → HasOnlyLooked most old new → IsForContents r → WhereTold old.files (λ fs. Fails (refused_for r) (whole fs)) → IsReadFrom view' whole comes' P' most (Err (stop_of r)) old new
+pub contents-stop : {X' Y' : Type 0} {P' : X' → Type 0} {most : ℕ} (view' : X' → Y') (whole : Files → Result Y' Fault) (comes' : Files → FileRef → List ℕ → Type 0) (r : Stop Fault) (old new : ShelfState)
+    → HasOnlyLooked most old new → IsForContents r → WhereTold old.files (λ fs. Fails (why_of r) (whole fs)) → IsReadFrom view' whole comes' P' most (Err (stop_of r)) old new
 contents-stop view' whole comes' r old new first contents fails = record {
   told = λ fs told. stop-fails r (whole fs) (fails fs told);
   came_to = λ fs told. contents-come r (comes' fs) fs new;

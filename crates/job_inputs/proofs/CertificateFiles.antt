@@ -12,11 +12,12 @@ use Rattle.certificate.specs.declared.faults.CertWhy.{CertWhy}
 use Rattle.job_inputs.proofs.Refusing.{fails-on}
 use Rattle.job_inputs.specs.CertificateFile.{certificate_fault, certificate_in, certificate_refusal}
 use Rattle.job_inputs.specs.ReadFiles.{bytes_of_file}
-use Rattle.job_inputs.specs.Refusals.{refused_for, IsForContents}
+use Rattle.plain_text.specs.Stops.{why_of}
+use Rattle.job_inputs.specs.Refusals.{IsForContents}
 use Rattle.job_inputs.specs.declared.file_ref.FileRef.TheVariants as file
 use Rattle.job_inputs.specs.declared.faults.Fault.{Fault}
 
-pub certificate_refuses : {A : Type 0} (e : CertError) (read : Result A (ℕ × CertWhy)) → Fails (fault_of e) read → Fails (refused_for (certificate_refusal e)) (map_fault certificate_fault read)
+pub certificate_refuses : {A : Type 0} (e : CertError) (read : Result A (ℕ × CertWhy)) → Fails (fault_of e) read → Fails (why_of (certificate_refusal e)) (map_fault certificate_fault read)
 certificate_refuses (error.At line why) read h = rw h refl
 certificate_refuses error.Memory read h = tt
 

@@ -12,11 +12,12 @@ use Rattle.certificate.specs.declared.faults.CertWhy.{CertWhy}
 use Rattle.job_inputs.proofs.Refusing.{fails-on}
 use Rattle.job_inputs.specs.ContributorsFile.{contributors_fault, extra_in, contributors_refusal}
 use Rattle.job_inputs.specs.ReadFiles.{bytes_of_file}
-use Rattle.job_inputs.specs.Refusals.{refused_for, IsForContents}
+use Rattle.plain_text.specs.Stops.{why_of}
+use Rattle.job_inputs.specs.Refusals.{IsForContents}
 use Rattle.job_inputs.specs.declared.file_ref.FileRef.TheVariants as file
 use Rattle.job_inputs.specs.declared.faults.Fault.{Fault}
 
-pub contributors_refuse : {A : Type 0} (e : CertError) (read : Result A (ℕ × CertWhy)) → Fails (fault_of e) read → Fails (refused_for (contributors_refusal e)) (map_fault contributors_fault read)
+pub contributors_refuse : {A : Type 0} (e : CertError) (read : Result A (ℕ × CertWhy)) → Fails (fault_of e) read → Fails (why_of (contributors_refusal e)) (map_fault contributors_fault read)
 contributors_refuse (error.At line why) read h = rw h refl
 contributors_refuse error.Memory read h = tt
 

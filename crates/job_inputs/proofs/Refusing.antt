@@ -26,26 +26,27 @@ use Rattle.apriori.specs.declared.faults.PriorError.TheVariants as prior_error
 use Rattle.apriori.specs.declared.faults.PriorWhy.{PriorWhy}
 use Rattle.job_inputs.specs.Cells.{cells_fault, prior_fault}
 use Rattle.job_inputs.specs.ReadFiles.{job_fault, meta_fault, row_fault}
-use Rattle.job_inputs.specs.Refusals.{refused_for, job_refusal, meta_refusal, row_refusal, tree_refusal, cells_refusal, prior_refusal, IsOfContents, IsForContents}
+use Rattle.plain_text.specs.Stops.{why_of}
+use Rattle.job_inputs.specs.Refusals.{job_refusal, meta_refusal, row_refusal, tree_refusal, cells_refusal, prior_refusal, IsOfContents, IsForContents}
 use Rattle.job_inputs.specs.declared.file_ref.FileRef.{FileRef}
 use Rattle.job_inputs.specs.declared.faults.Fault.{Fault}
 use Rattle.job_inputs.specs.declared.faults.Fault.TheVariants as fault
-use Rattle.job_inputs.specs.declared.refusal.Refusal.{Refusal}
-use Rattle.job_inputs.specs.declared.refusal.Refusal.TheVariants as refusal
+use Rattle.plain_text.specs.declared.stop.Stop.{Stop}
+use Rattle.plain_text.specs.declared.stop.Stop.TheVariants as refusal
 
-pub job_refuses : {A : Type 0} (e : JobError) (read : Result A (ℕ × JobWhy)) → Fails (job_fault_of e) read → Fails (refused_for (job_refusal e)) (map_fault job_fault read)
+pub job_refuses : {A : Type 0} (e : JobError) (read : Result A (ℕ × JobWhy)) → Fails (job_fault_of e) read → Fails (why_of (job_refusal e)) (map_fault job_fault read)
 job_refuses (job_error.At line why) read h = rw h refl
 job_refuses job_error.Memory read h = tt
 
-pub meta_refuses : {A : Type 0} (e : MetaError) (read : Result A (ℕ × MetaWhy)) → Fails (meta_fault_of e) read → Fails (refused_for (meta_refusal e)) (map_fault meta_fault read)
+pub meta_refuses : {A : Type 0} (e : MetaError) (read : Result A (ℕ × MetaWhy)) → Fails (meta_fault_of e) read → Fails (why_of (meta_refusal e)) (map_fault meta_fault read)
 meta_refuses (meta_error.At line why) read h = rw h refl
 meta_refuses meta_error.Memory read h = tt
 
-pub row_refuses : {A : Type 0} (e : RowError) (read : Result A (ℕ × RowWhy)) → Fails (row_fault_of e) read → Fails (refused_for (row_refusal e)) (map_fault row_fault read)
+pub row_refuses : {A : Type 0} (e : RowError) (read : Result A (ℕ × RowWhy)) → Fails (row_fault_of e) read → Fails (why_of (row_refusal e)) (map_fault row_fault read)
 row_refuses (row_error.At number why) read h = rw h refl
 row_refuses row_error.Memory read h = tt
 
-pub tree_refuses : {A : Type 0} (f : FileRef) (e : TreeFault) (read : Result A TreeFault) → Fails (tree_fault_of e) read → Fails (refused_for (tree_refusal f e)) (map_fault (fault.Tree f) read)
+pub tree_refuses : {A : Type 0} (f : FileRef) (e : TreeFault) (read : Result A TreeFault) → Fails (tree_fault_of e) read → Fails (why_of (tree_refusal f e)) (map_fault (fault.Tree f) read)
 tree_refuses f (tree.NoCode n) read h = rw h refl
 tree_refuses f (tree.Jump n) read h = rw h refl
 tree_refuses f (tree.TooDeep n) read h = rw h refl
@@ -55,13 +56,13 @@ tree_refuses f (tree.Twice n) read h = rw h refl
 tree_refuses f (tree.TooMany n) read h = rw h refl
 tree_refuses f tree.Memory read h = tt
 
-pub cells_refuse : {A : Type 0} (e : BookFault) (read : Result A BookFault) → Fails (book_fault_of e) read → Fails (refused_for (cells_refusal e)) (map_fault cells_fault read)
+pub cells_refuse : {A : Type 0} (e : BookFault) (read : Result A BookFault) → Fails (book_fault_of e) read → Fails (why_of (cells_refusal e)) (map_fault cells_fault read)
 cells_refuse (book.NoSuchVariable t) read h = rw h refl
 cells_refuse (book.TwiceInTable t) read h = rw h refl
 cells_refuse (book.TooManyCells t) read h = rw h refl
 cells_refuse book.Memory read h = tt
 
-pub prior_refuses : {A : Type 0} (e : PriorError) (read : Result A (LineOf × PriorWhy)) → Fails (prior_fault_of e) read → Fails (refused_for (prior_refusal e)) (map_fault prior_fault read)
+pub prior_refuses : {A : Type 0} (e : PriorError) (read : Result A (LineOf × PriorWhy)) → Fails (prior_fault_of e) read → Fails (why_of (prior_refusal e)) (map_fault prior_fault read)
 prior_refuses (prior_error.At table line why) read h = rw h refl
 prior_refuses prior_error.Memory read h = tt
 
@@ -89,15 +90,15 @@ of-fault : {A F : Type 0} (f : F → Fault) (read : Result A F) (is : Fault) →
 of-fault f (Ok x) is each h = absurd cc
 of-fault f (Err e) is each h = let same : f e ≡ is = cc in subst IsOfContents same (each e)
 
-for-fault : {A F : Type 0} (f : F → Fault) (r : Refusal) (read : Result A F) → ((x : F) → IsOfContents (f x)) → Fails (refused_for r) (map_fault f read) → IsForContents r
-for-fault f (refusal.Refused is) read each h = of-fault f read is each h
+for-fault : {A F : Type 0} (f : F → Fault) (r : Stop Fault) (read : Result A F) → ((x : F) → IsOfContents (f x)) → Fails (why_of r) (map_fault f read) → IsForContents r
+for-fault f (refusal.Fault is) read each h = of-fault f read is each h
 for-fault f refusal.Memory read each h = tt
 
 -- what is refused for what a job says is refused for contents, and so for metadata and cells
-pub job-is-for-contents : {A : Type 0} (r : Refusal) (read : Result A (ℕ × JobWhy)) → Fails (refused_for r) (map_fault job_fault read) → IsForContents r
+pub job-is-for-contents : {A : Type 0} (r : Stop Fault) (read : Result A (ℕ × JobWhy)) → Fails (why_of r) (map_fault job_fault read) → IsForContents r
 job-is-for-contents r read h = for-fault job_fault r read (λ at. tt) h
 
-pub meta-is-for-contents : {A : Type 0} (r : Refusal) (read : Result A (ℕ × MetaWhy)) → Fails (refused_for r) (map_fault meta_fault read) → IsForContents r
+pub meta-is-for-contents : {A : Type 0} (r : Stop Fault) (read : Result A (ℕ × MetaWhy)) → Fails (why_of r) (map_fault meta_fault read) → IsForContents r
 meta-is-for-contents r read h = for-fault meta_fault r read (λ at. tt) h
 
 cells-of-contents : (e : BookFault) → IsOfContents (cells_fault e)
@@ -106,7 +107,7 @@ cells-of-contents (book.TwiceInTable t) = tt
 cells-of-contents (book.TooManyCells t) = tt
 cells-of-contents book.Memory = tt
 
-pub cells-are-for-contents : {A : Type 0} (r : Refusal) (read : Result A BookFault) → Fails (refused_for r) (map_fault cells_fault read) → IsForContents r
+pub cells-are-for-contents : {A : Type 0} (r : Stop Fault) (read : Result A BookFault) → Fails (why_of r) (map_fault cells_fault read) → IsForContents r
 cells-are-for-contents r read h = for-fault cells_fault r read cells-of-contents h
 
 -- what a step fails with, both fail with

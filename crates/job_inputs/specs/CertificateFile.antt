@@ -12,8 +12,8 @@ use Rattle.job_inputs.specs.ReadFiles.{bytes_of_file}
 use Rattle.job_inputs.specs.declared.file_ref.FileRef.TheVariants as file
 use Rattle.job_inputs.specs.declared.faults.Fault.{Fault}
 use Rattle.job_inputs.specs.declared.faults.Fault.TheVariants as fault
-use Rattle.job_inputs.specs.declared.refusal.Refusal.{Refusal}
-use Rattle.job_inputs.specs.declared.refusal.Refusal.TheVariants as refusal
+use Rattle.plain_text.specs.declared.stop.Stop.{Stop}
+use Rattle.plain_text.specs.declared.stop.Stop.TheVariants as refusal
 
 -- what is wrong with a certificate, as a fault of the files
 abbrev pub certificate_fault : ℕ × CertWhy → Fault
@@ -26,8 +26,8 @@ certificate_in files name = do
   map_fault certificate_fault (certificate_of bytes)
 
 -- an error of the certificate as a refusal
-abbrev pub certificate_refusal : CertError → Refusal
-certificate_refusal (error.At line why) = refusal.Refused (fault.Certificate line why)
+abbrev pub certificate_refusal : CertError → Stop Fault
+certificate_refusal (error.At line why) = refusal.Fault (fault.Certificate line why)
 certificate_refusal error.Memory = refusal.Memory
 
 -- the certificate has a text, and its numbers are within their types

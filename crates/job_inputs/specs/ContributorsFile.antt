@@ -12,8 +12,8 @@ use Rattle.job_inputs.specs.ReadFiles.{bytes_of_file}
 use Rattle.job_inputs.specs.declared.file_ref.FileRef.TheVariants as file
 use Rattle.job_inputs.specs.declared.faults.Fault.{Fault}
 use Rattle.job_inputs.specs.declared.faults.Fault.TheVariants as fault
-use Rattle.job_inputs.specs.declared.refusal.Refusal.{Refusal}
-use Rattle.job_inputs.specs.declared.refusal.Refusal.TheVariants as refusal
+use Rattle.plain_text.specs.declared.stop.Stop.{Stop}
+use Rattle.plain_text.specs.declared.stop.Stop.TheVariants as refusal
 
 -- what is wrong with a contributors' file, as a fault of the files
 abbrev pub contributors_fault : ℕ × CertWhy → Fault
@@ -26,8 +26,8 @@ extra_in files name = do
   map_fault contributors_fault (extra_of bytes)
 
 -- an error of the contributors' file as a refusal
-abbrev pub contributors_refusal : CertError → Refusal
-contributors_refusal (error.At line why) = refusal.Refused (fault.Contributors line why)
+abbrev pub contributors_refusal : CertError → Stop Fault
+contributors_refusal (error.At line why) = refusal.Fault (fault.Contributors line why)
 contributors_refusal error.Memory = refusal.Memory
 
 -- the extra cells with their needs and guards have a text, and its numbers are within their types

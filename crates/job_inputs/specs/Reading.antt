@@ -11,17 +11,16 @@ use Rattle.job_inputs.specs.ReadFiles.{limit_of}
 use Rattle.job_inputs.specs.declared.file_ref.FileRef.{FileRef}
 use Rattle.job_inputs.specs.declared.faults.Fault.{Fault}
 use Rattle.job_inputs.specs.declared.faults.Fault.TheVariants as fault
-use Rattle.job_inputs.specs.declared.refusal.Refusal.{Refusal}
-use Rattle.job_inputs.specs.declared.refusal.Refusal.TheVariants as refusal
+use Rattle.plain_text.specs.Stops.{stop_error}
+use Rattle.plain_text.specs.declared.stop.Stop.{Stop}
 use Rattle.job_inputs.specs.declared.stop.InputStop.{InputStop}
 use Rattle.job_inputs.specs.declared.stop.InputStop.TheVariants as stop
 use Rattle.microdata.specs.Feeding.{ReaderView, HasRead}
 use Rattle.microdata.specs.declared.layout.Layout.{Layout}
 
 -- a refusal of contents as a stop
-abbrev pub stop_of : Refusal → InputStop
-stop_of (refusal.Refused fault) = stop.Refused fault
-stop_of refusal.Memory = stop.Memory
+abbrev pub stop_of : Stop Fault → InputStop
+stop_of = stop_error stop.Refused stop.Memory
 
 -- the fault for which inputs were refused; faults of the shelf and want of memory name none
 abbrev pub stopped_for : InputStop → Option Fault

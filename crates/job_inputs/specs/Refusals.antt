@@ -1,5 +1,5 @@
 -- The faults that errors of the readers name (own); want of memory names none.
-use Rattle.std.specs.Prelude.{Option, None, Some, Result, IfOk, IfErr}
+use Rattle.std.specs.Prelude.{Result, IfOk, IfErr}
 use Rattle.sdc_base.specs.Answers.{Gives}
 use Rattle.code_trees.specs.declared.tree_fault.TreeFault.{TreeFault}
 use Rattle.code_trees.specs.declared.tree_fault.TreeFault.TheVariants as tree
@@ -17,38 +17,34 @@ use Rattle.job_inputs.specs.Cells.{cells_fault}
 use Rattle.job_inputs.specs.declared.file_ref.FileRef.{FileRef}
 use Rattle.job_inputs.specs.declared.faults.Fault.{Fault}
 use Rattle.job_inputs.specs.declared.faults.Fault.TheVariants as fault
-use Rattle.job_inputs.specs.declared.refusal.Refusal.{Refusal}
-use Rattle.job_inputs.specs.declared.refusal.Refusal.TheVariants as refusal
-
--- the fault for which contents are refused
-abbrev pub refused_for : Refusal → Option Fault
-refused_for (refusal.Refused fault) = Some fault
-refused_for refusal.Memory = None
+use Rattle.plain_text.specs.Stops.{why_of}
+use Rattle.plain_text.specs.declared.stop.Stop.{Stop}
+use Rattle.plain_text.specs.declared.stop.Stop.TheVariants as refusal
 
 -- an error of the job as a refusal
-abbrev pub job_refusal : JobError → Refusal
-job_refusal (job_error.At line why) = refusal.Refused (fault.Job line why)
+abbrev pub job_refusal : JobError → Stop Fault
+job_refusal (job_error.At line why) = refusal.Fault (fault.Job line why)
 job_refusal job_error.Memory = refusal.Memory
 
 -- an error of the metadata as a refusal
-abbrev pub meta_refusal : MetaError → Refusal
-meta_refusal (meta_error.At line why) = refusal.Refused (fault.Meta line why)
+abbrev pub meta_refusal : MetaError → Stop Fault
+meta_refusal (meta_error.At line why) = refusal.Fault (fault.Meta line why)
 meta_refusal meta_error.Memory = refusal.Memory
 
 -- what is wrong with a file of codes as a refusal
-abbrev pub tree_refusal : FileRef → TreeFault → Refusal
+abbrev pub tree_refusal : FileRef → TreeFault → Stop Fault
 tree_refusal f tree.Memory = refusal.Memory
-tree_refusal f one = refusal.Refused (fault.Tree f one)
+tree_refusal f one = refusal.Fault (fault.Tree f one)
 
 -- an error of the microdata as a refusal
-abbrev pub row_refusal : RowError → Refusal
-row_refusal (row_error.At number why) = refusal.Refused (fault.Row number why)
+abbrev pub row_refusal : RowError → Stop Fault
+row_refusal (row_error.At number why) = refusal.Fault (fault.Row number why)
 row_refusal row_error.Memory = refusal.Memory
 
 -- why tables make no book, as a refusal
-abbrev pub cells_refusal : BookFault → Refusal
+abbrev pub cells_refusal : BookFault → Stop Fault
 cells_refusal book.Memory = refusal.Memory
-cells_refusal one = refusal.Refused (cells_fault one)
+cells_refusal one = refusal.Fault (cells_fault one)
 
 -- tables make no book for too many cells alone, or for want of memory
 abbrev pub IsForCells : BookFault → Type 0
@@ -57,8 +53,8 @@ IsForCells book.Memory = Unit {0}
 IsForCells other = ⊥
 
 -- an error of an a priori file as a refusal
-abbrev pub prior_refusal : PriorError → Refusal
-prior_refusal (prior_error.At table line why) = refusal.Refused (fault.Prior table line why)
+abbrev pub prior_refusal : PriorError → Stop Fault
+prior_refusal (prior_error.At table line why) = refusal.Fault (fault.Prior table line why)
 prior_refusal prior_error.Memory = refusal.Memory
 
 -- a fault that contents may have: they are not absent, not too long, and their codes don't want memory
@@ -69,14 +65,14 @@ IsOfContents (fault.Tree f tree.Memory) = ⊥
 IsOfContents other = Unit {0}
 
 -- a refusal names a fault that contents may have, or want of memory
-abbrev pub IsForContents : Refusal → Type 0
-IsForContents (refusal.Refused fault) = IsOfContents fault
+abbrev pub IsForContents : Stop Fault → Type 0
+IsForContents (refusal.Fault fault) = IsOfContents fault
 IsForContents refusal.Memory = Unit {0}
 
 -- What contents are read as: it is what they mean, or they are refused for their first fault, which is one that
 -- contents may have; what was read is sound.
 pub record IsReadAs {X Y : Type 0} (view : X → Y) (meant : Result Y Fault) (is_sound : X → Type 0)
-    (result : Result X Refusal) : Type 0 where
-  pub told : Gives refused_for view result meant
+    (result : Result X (Stop Fault)) : Type 0 where
+  pub told : Gives why_of view result meant
   pub sound : IfOk result is_sound
   pub contents : IfErr result IsForContents

@@ -11,10 +11,10 @@ ghost use Rattle.job_inputs.specs.Refusals.{IsReadAs};
 use crate::faults::Fault;
 use crate::file_ref::FileRef;
 use crate::loading::load;
-use crate::refusal::Refusal;
 use crate::stop::InputStop;
 use certificate::{CertError, Certificate, read_certificate};
 use office_io::Shelf;
+use plain_text::Stop;
 use sdc_base::Text;
 use std::alloc::Global;
 
@@ -43,7 +43,7 @@ pub fn read_certificate_file<S: Shelf>(
 
 // The certificate of which bytes are the text.
 #[tactic(auto, using(crate::proofs::CertificateFiles::certificate_refuses, crate::proofs::CertificateFiles::certificate_is_for_contents))]
-fn certificate_by(alloc: Global, bytes: &[u8]) -> Result<Certificate, Refusal>
+fn certificate_by(alloc: Global, bytes: &[u8]) -> Result<Certificate, Stop<Fault>>
     ensures { IsReadAs (λ certificate. certificate) (map_fault certificate_fault (certificate_of bytes.now))
         IsSoundCertificate result }
 {
@@ -54,11 +54,11 @@ fn certificate_by(alloc: Global, bytes: &[u8]) -> Result<Certificate, Refusal>
 }
 
 // An error of a certificate, as a refusal.
-fn certificate_refusal(error: CertError) -> Refusal
+fn certificate_refusal(error: CertError) -> Stop<Fault>
     ensures { result ≡ spec.certificate_refusal error }
 {
     match error {
-        CertError::At { line, why } => Refusal::Refused(Fault::Certificate { line, why }),
-        CertError::Memory => Refusal::Memory,
+        CertError::At { line, why } => Stop::Fault(Fault::Certificate { line, why }),
+        CertError::Memory => Stop::Memory,
     }
 }

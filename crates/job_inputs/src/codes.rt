@@ -13,10 +13,10 @@ ghost use Rattle.job_inputs.specs.Refusals.{IsReadAs};
 use crate::faults::Fault;
 use crate::file_ref::FileRef;
 use crate::loading::load;
-use crate::refusal::Refusal;
 use crate::stop::InputStop;
 use hierarchy::{CodeTree, TreeFault, from_lead, list_gives_its_codes, read_codes, with_missing};
 use office_io::Shelf;
+use plain_text::Stop;
 use rda_meta::Variable;
 use sdc_base::Text;
 use std::alloc::Global;
@@ -60,7 +60,12 @@ fn load_list<S: Shelf>(
 
 // The codes that the bytes of a list give.
 #[tactic(auto, using(crate::proofs::Refusing::tree_refuses, crate::proofs::Refusing::tree_is_for_contents))]
-fn codes_by(alloc: Global, file: FileRef, bytes: &[u8], total: &Text) -> Result<Vec<Text>, Refusal>
+fn codes_by(
+    alloc: Global,
+    file: FileRef,
+    bytes: &[u8],
+    total: &Text,
+) -> Result<Vec<Text>, Stop<Fault>>
     requires { length bytes.now < 2 ^ 32 }
     ensures { IsReadAs (λ codes. codes.items) (map_fault (Fault.Tree file) (codes_of total.now bytes.now))
         (λ codes. AreListed total.now codes.items) result }
@@ -102,7 +107,7 @@ fn tree_by(
     bytes: &[u8],
     lead: &Text,
     variable: &Variable,
-) -> Result<CodeTree, Refusal>
+) -> Result<CodeTree, Stop<Fault>>
     requires fewer_than_2_32 { length bytes.now < 2 ^ 32 }
     requires lead { 0 < length lead.now }
     requires missing { length variable.now.missing ≤ 2 }
@@ -123,7 +128,7 @@ fn lead_tree(
     bytes: &[u8],
     lead: &Text,
     total: &Text,
-) -> Result<CodeTree, Refusal>
+) -> Result<CodeTree, Stop<Fault>>
     requires fewer_than_2_32 { length bytes.now < 2 ^ 32 }
     requires lead { 0 < length lead.now }
     ensures { IsReadAs (λ tree. tree) (map_fault (Fault.Tree file) (lead_of lead.now total.now bytes.now))
@@ -136,11 +141,11 @@ fn lead_tree(
 }
 
 // What is wrong with a file of codes, as a refusal.
-fn tree_refusal(file: FileRef, fault: TreeFault) -> Refusal
+fn tree_refusal(file: FileRef, fault: TreeFault) -> Stop<Fault>
     ensures { result ≡ spec.tree_refusal file fault }
 {
     match fault {
-        TreeFault::Memory => Refusal::Memory,
-        other => Refusal::Refused(Fault::Tree(file, other)),
+        TreeFault::Memory => Stop::Memory,
+        other => Stop::Fault(Fault::Tree(file, other)),
     }
 }

@@ -11,10 +11,10 @@ ghost use Rattle.job_inputs.specs.Refusals.{IsReadAs};
 use crate::faults::Fault;
 use crate::file_ref::FileRef;
 use crate::loading::load;
-use crate::refusal::Refusal;
 use crate::stop::InputStop;
 use certificate::{CertError, Extra, read_extra};
 use office_io::Shelf;
+use plain_text::Stop;
 use sdc_base::Text;
 use std::alloc::Global;
 
@@ -43,7 +43,7 @@ pub fn read_contributors_file<S: Shelf>(
 
 // The extra cells of which bytes are the text.
 #[tactic(auto, using(crate::proofs::ContributorsFiles::contributors_refuse, crate::proofs::ContributorsFiles::contributors_are_for_contents))]
-fn extra_by(alloc: Global, bytes: &[u8]) -> Result<Extra, Refusal>
+fn extra_by(alloc: Global, bytes: &[u8]) -> Result<Extra, Stop<Fault>>
     ensures { IsReadAs (λ extra. extra) (map_fault contributors_fault (extra_of bytes.now)) IsSoundExtra result }
 {
     match read_extra(alloc, bytes) {
@@ -53,11 +53,11 @@ fn extra_by(alloc: Global, bytes: &[u8]) -> Result<Extra, Refusal>
 }
 
 // An error of a contributors' file, as a refusal.
-fn contributors_refusal(error: CertError) -> Refusal
+fn contributors_refusal(error: CertError) -> Stop<Fault>
     ensures { result ≡ spec.contributors_refusal error }
 {
     match error {
-        CertError::At { line, why } => Refusal::Refused(Fault::Contributors { line, why }),
-        CertError::Memory => Refusal::Memory,
+        CertError::At { line, why } => Stop::Fault(Fault::Contributors { line, why }),
+        CertError::Memory => Stop::Memory,
     }
 }

@@ -6,11 +6,12 @@ ghost use Rattle.job_inputs.specs.SoundJobs.{AreSound};
 ghost use Rattle.job_inputs.specs.Refusals.{IsReadAs};
 
 use crate::described::DescribedJob;
+use crate::faults::Fault;
 use crate::filled::{book_with_records, linked_book};
 use crate::inputs::Inputs;
-use crate::refusal::Refusal;
 use linked_tables::Book;
 use microdata::Records;
+use plain_text::Stop;
 use sdc_base::{Items, Row};
 use std::alloc::Global;
 
@@ -26,7 +27,7 @@ pub(crate) struct CountedJob {
 /// The inputs of a job with the records in the cells of its tables.
 ///
 /// It is refused with the first table up to which there are too many cells.
-pub(crate) fn count_records(alloc: Global, inputs: Inputs) -> Result<CountedJob, Refusal>
+pub(crate) fn count_records(alloc: Global, inputs: Inputs) -> Result<CountedJob, Stop<Fault>>
     requires { AreSound inputs }
     ensures { IsReadAs (λ counted. (counted.book.trees, counted.book.tables))
         (map_fault cells_fault (book_of inputs.records.trees inputs.described.bound.tables))

@@ -15,10 +15,11 @@ use crate::faults::Fault;
 use crate::file_ref::FileRef;
 use crate::loading::load;
 use crate::purpose::{Purpose, is_unfit};
-use crate::refusal::Refusal;
+use crate::refusal::{job_refusal, meta_refusal};
 use crate::stop::InputStop;
 use job_lang::{Bound, Job, JobWhy, bind, read_job};
 use office_io::Shelf;
+use plain_text::Stop;
 use rda_meta::{Meta, read_meta};
 use sdc_base::Text;
 use std::alloc::Global;
@@ -55,13 +56,16 @@ pub(crate) fn read_described<S: Shelf>(
 }
 
 // The job that the bytes state, for a purpose.
-fn job_in(alloc: Global, bytes: &[u8], purpose: Purpose) -> Result<Job, Refusal>
+fn job_in(alloc: Global, bytes: &[u8], purpose: Purpose) -> Result<Job, Stop<Fault>>
     requires { length bytes.now < 2 ^ 32 }
     ensures { IsReadAs (λ job. job) (job_for purpose bytes.now) IsJob result }
 {
-    let job = read_job(alloc, bytes)?;
+    let job = match read_job(alloc, bytes) {
+        Ok(job) => job,
+        Err(error) => return Err(job_refusal(error)),
+    };
     if is_unfit(purpose, job.method) {
-        return Err(Refusal::Refused(Fault::Job {
+        return Err(Stop::Fault(Fault::Job {
             line: 0,
             why: JobWhy::BadValue,
         }));
@@ -71,20 +75,26 @@ fn job_in(alloc: Global, bytes: &[u8], purpose: Purpose) -> Result<Job, Refusal>
 
 // The metadata that the bytes state.
 #[tactic(auto, using(crate::proofs::Refusing::meta_refuses))]
-fn meta_in(alloc: Global, bytes: &[u8]) -> Result<Meta, Refusal>
+fn meta_in(alloc: Global, bytes: &[u8]) -> Result<Meta, Stop<Fault>>
     requires { length bytes.now < 2 ^ 32 }
     ensures { IsReadAs (λ meta. meta) (map_fault meta_fault (meta_of bytes.now)) IsMeta result }
 {
-    Ok(read_meta(alloc, bytes)?)
+    match read_meta(alloc, bytes) {
+        Ok(meta) => Ok(meta),
+        Err(error) => Err(meta_refusal(error)),
+    }
 }
 
 // The job's variables in its metadata.
 #[tactic(auto, using(crate::proofs::Refusing::job_refuses, crate::proofs::Sounding::job_tables, crate::proofs::Sounding::meta_variables))]
-fn bound_in(alloc: Global, job: &Job, meta: &Meta) -> Result<Bound, Refusal>
+fn bound_in(alloc: Global, job: &Job, meta: &Meta) -> Result<Bound, Stop<Fault>>
     requires job { IsJob job.now }
     requires meta { IsMeta meta.now }
     ensures { IsReadAs (λ bound. bound) (map_fault job_fault (bound_of job.now meta.now))
         (IsBoundTo job.now meta.now.variables) result }
 {
-    Ok(bind(alloc, job, meta)?)
+    match bind(alloc, job, meta) {
+        Ok(bound) => Ok(bound),
+        Err(error) => Err(job_refusal(error)),
+    }
 }

@@ -11,9 +11,9 @@ ghost use Rattle.job_inputs.specs.TabulatedBooks.{IsBlankBook, HasRecords};
 
 use crate::described::DescribedJob;
 use crate::faults::Fault;
-use crate::refusal::Refusal;
 use code_trees::CodeTree;
 use linked_tables::{Book, BookFault};
+use plain_text::Stop;
 use primary_rules::keep;
 use sdc_base::{Items, Memory, Place, Row};
 use std::alloc::Global;
@@ -27,7 +27,7 @@ pub(crate) fn linked_book(
     alloc: Global,
     described: &DescribedJob,
     trees: Items<CodeTree>,
-) -> Result<Book, Refusal>
+) -> Result<Book, Stop<Fault>>
     requires sound { IsSoundJob described.now }
     requires as_many { length trees ≡ length described.now.bound.spanning }
     ensures { IsReadAs (λ book. (book.trees, book.tables))
@@ -53,13 +53,13 @@ fn copy_tables(alloc: Global, tables: &[Place]) -> Result<Vec<Place>, Memory>
 }
 
 // That there are too many cells, as a refusal; a bound job's tables have no other fault.
-fn cells_refusal(fault: BookFault) -> Refusal
+fn cells_refusal(fault: BookFault) -> Stop<Fault>
     requires { IsForCells fault }
     ensures { result ≡ refusals.cells_refusal fault }
 {
     match fault {
-        BookFault::TooManyCells(t) => Refusal::Refused(Fault::Cells(t)),
-        BookFault::Memory => Refusal::Memory,
+        BookFault::TooManyCells(t) => Stop::Fault(Fault::Cells(t)),
+        BookFault::Memory => Stop::Memory,
         _ => unreachable!(),
     }
 }

@@ -13,17 +13,19 @@ ghost use Rattle.job_inputs.specs.Inputs.{look_at_records, records_of_bytes};
 ghost use Rattle.job_inputs.specs.ReadFiles.{limit, row_fault};
 ghost use Rattle.job_inputs.specs.Looks.{IsFile};
 ghost use Rattle.job_inputs.specs.Reading.{IsReadFrom, HasCause, stopped_for, BeforeReading};
-ghost use Rattle.job_inputs.specs.Refusals.{refused_for, IsForContents};
+ghost use Rattle.plain_text.specs.Stops.{why_of};
+ghost use Rattle.job_inputs.specs.Refusals.{IsForContents};
 ghost use Rattle.job_inputs.specs.declared.file_ref.FileRef.{FileRef as AnyFile};
 ghost use Rattle.job_inputs.specs.SoundJobs.{AreRecordsOf};
 
 use crate::faults::Fault;
 use crate::file_ref::FileRef;
 use crate::loading::LIMIT;
-use crate::refusal::Refusal;
+use crate::refusal::row_refusal;
 use crate::stop::InputStop;
 use microdata::{Layout, Reader, Records, faults_stand, read_is_within_limits, rows_are_at_leaves};
 use office_io::{BeginFault, Shelf};
+use plain_text::Stop;
 use sdc_base::Text;
 use std::alloc::Global;
 
@@ -111,21 +113,24 @@ fn feed_all<S: Shelf>(shelf: &mut S, reader: &mut Reader) -> Result<(), InputSto
 
 // Feeds a reader with a piece.
 #[tactic(auto, using(crate::proofs::Refusing::row_refuses, crate::proofs::Refusing::row_is_for_contents))]
-fn feed_piece(reader: &mut Reader, piece: &[u8]) -> Result<(), Refusal>
+fn feed_piece(reader: &mut Reader, piece: &[u8]) -> Result<(), Stop<Fault>>
     ensures fed { OnOk result ((layout : AnyLayout) (bytes : List ℕ) → HasRead reader.old layout bytes
         → HasRead reader.new layout (bytes ++ piece.now)) }
     ensures exact { (layout : AnyLayout) (bytes : List ℕ) → HasRead reader.old layout bytes
-        → Gives refused_for (λ fine. fine) result (map_fault row_fault (fed_of layout (bytes ++ piece.now))) }
+        → Gives why_of (λ fine. fine) result (map_fault row_fault (fed_of layout (bytes ++ piece.now))) }
     ensures contents { IfErr result IsForContents }
 {
-    Ok(reader.feed(piece)?)
+    match reader.feed(piece) {
+        Ok(()) => Ok(()),
+        Err(error) => Err(row_refusal(error)),
+    }
 }
 
 // The records of a reader that was fed all bytes.
 #[tactic(auto, using(crate::proofs::Refusing::row_refuses, crate::proofs::Refusing::row_is_for_contents))]
-fn finish(reader: Reader) -> Result<Records, Refusal>
+fn finish(reader: Reader) -> Result<Records, Stop<Fault>>
     ensures exact { (layout : AnyLayout) (bytes : List ℕ) → HasRead reader layout bytes
-        → Gives refused_for (λ records. records) result (map_fault row_fault (records_of layout bytes)) }
+        → Gives why_of (λ records. records) result (map_fault row_fault (records_of layout bytes)) }
     ensures sound { IfOk result (λ records. (layout : AnyLayout) (bytes : List ℕ) → HasRead reader layout bytes
         → AreRecordsOf layout records) }
     ensures trees { IfOk result (λ records. AllByRecursion IsCodeTree records.trees) }
@@ -133,5 +138,8 @@ fn finish(reader: Reader) -> Result<Records, Refusal>
 {
     read_is_within_limits();
     rows_are_at_leaves();
-    Ok(reader.finish()?)
+    match reader.finish() {
+        Ok(records) => Ok(records),
+        Err(error) => Err(row_refusal(error)),
+    }
 }

@@ -1,109 +1,51 @@
+//! Errors of readers as refusals of the contents of a file; they know no shelf.
+
+ghost use Rattle.std.specs.Prelude.{◌≡◌};
+ghost use Rattle.job_inputs.specs.Refusals as spec;
+
 use crate::faults::Fault;
 use apriori::PriorError;
 use job_lang::JobError;
 use microdata::RowError;
+use plain_text::Stop;
 use rda_meta::MetaError;
-use sdc_base::Memory;
-use std::alloc::{AllocError, AllocFailed};
 
-/// Why the contents of a file are refused; they know no shelf.
-#[derive(Clone, Copy, Debug, PartialEq, Eq)]
-pub(crate) enum Refusal {
-    /// The inputs have this fault.
-    Refused(Fault),
-    /// There is no memory.
-    Memory,
-}
-
-impl From<Memory> for Refusal {
-    ghost use Rattle.std.specs.Prelude.{◌≡◌};
-    ghost use Rattle.job_inputs.specs.declared.refusal.Refusal.TheVariants as refusal;
-
-    ghost from_gives = { λ _ e. e ≡ refusal.Memory };
-
-    fn from(_: Memory) -> Self {
-        Refusal::Memory
+/// An error of the job, as a refusal.
+pub(crate) fn job_refusal(error: JobError) -> Stop<Fault>
+    ensures { result ≡ spec.job_refusal error }
+{
+    match error {
+        JobError::At { line, why } => Stop::Fault(Fault::Job { line, why }),
+        JobError::Memory => Stop::Memory,
     }
 }
 
-impl From<AllocError> for Refusal {
-    ghost use Rattle.std.specs.Prelude.{◌≡◌};
-    ghost use Rattle.job_inputs.specs.declared.refusal.Refusal.TheVariants as refusal;
-
-    ghost from_gives = { λ _ e. e ≡ refusal.Memory };
-
-    fn from(_: AllocError) -> Self {
-        Refusal::Memory
+/// An error of the metadata, as a refusal.
+pub(crate) fn meta_refusal(error: MetaError) -> Stop<Fault>
+    ensures { result ≡ spec.meta_refusal error }
+{
+    match error {
+        MetaError::At { line, why } => Stop::Fault(Fault::Meta { line, why }),
+        MetaError::Memory => Stop::Memory,
     }
 }
 
-impl<T: Drop> From<AllocFailed<T>> for Refusal {
-    ghost use Rattle.std.specs.Prelude.{◌≡◌};
-    ghost use Rattle.job_inputs.specs.declared.refusal.Refusal.TheVariants as refusal;
-
-    ghost from_gives = { λ _ e. e ≡ refusal.Memory };
-
-    fn from(_: AllocFailed<T>) -> Self {
-        Refusal::Memory
+/// An error of the microdata, as a refusal.
+pub(crate) fn row_refusal(error: RowError) -> Stop<Fault>
+    ensures { result ≡ spec.row_refusal error }
+{
+    match error {
+        RowError::At { number, why } => Stop::Fault(Fault::Row { number, why }),
+        RowError::Memory => Stop::Memory,
     }
 }
 
-impl From<JobError> for Refusal {
-    ghost use Rattle.std.specs.Prelude.{◌≡◌};
-    ghost use Rattle.job_inputs.specs.Refusals.{job_refusal};
-
-    ghost from_gives = { λ error e. e ≡ job_refusal error };
-
-    fn from(error: JobError) -> Self {
-        match error {
-            JobError::At { line, why } => Refusal::Refused(Fault::Job { line, why }),
-            JobError::Memory => Refusal::Memory,
-        }
-    }
-}
-
-impl From<MetaError> for Refusal {
-    ghost use Rattle.std.specs.Prelude.{◌≡◌};
-    ghost use Rattle.job_inputs.specs.Refusals.{meta_refusal};
-
-    ghost from_gives = { λ error e. e ≡ meta_refusal error };
-
-    fn from(error: MetaError) -> Self {
-        match error {
-            MetaError::At { line, why } => Refusal::Refused(Fault::Meta { line, why }),
-            MetaError::Memory => Refusal::Memory,
-        }
-    }
-}
-
-impl From<RowError> for Refusal {
-    ghost use Rattle.std.specs.Prelude.{◌≡◌};
-    ghost use Rattle.job_inputs.specs.Refusals.{row_refusal};
-
-    ghost from_gives = { λ error e. e ≡ row_refusal error };
-
-    fn from(error: RowError) -> Self {
-        match error {
-            RowError::At { number, why } => Refusal::Refused(Fault::Row { number, why }),
-            RowError::Memory => Refusal::Memory,
-        }
-    }
-}
-
-impl From<PriorError> for Refusal {
-    ghost use Rattle.std.specs.Prelude.{◌≡◌};
-    ghost use Rattle.job_inputs.specs.Refusals.{prior_refusal};
-
-    ghost from_gives = { λ error e. e ≡ prior_refusal error };
-
-    fn from(error: PriorError) -> Self {
-        match error {
-            PriorError::At { table, line, why } => Refusal::Refused(Fault::Prior {
-                table,
-                line,
-                why,
-            }),
-            PriorError::Memory => Refusal::Memory,
-        }
+/// An error of an a priori file, as a refusal.
+pub(crate) fn prior_refusal(error: PriorError) -> Stop<Fault>
+    ensures { result ≡ spec.prior_refusal error }
+{
+    match error {
+        PriorError::At { table, line, why } => Stop::Fault(Fault::Prior { table, line, why }),
+        PriorError::Memory => Stop::Memory,
     }
 }

@@ -4,7 +4,8 @@ ghost use Rattle.apriori.specs.Priors.{ArePriors};
 ghost use Rattle.apriori.specs.Settling.{view_of_cell};
 ghost use Rattle.job_inputs.specs.CountedRecords.{IsCountedOf, IsReadyCount};
 ghost use Rattle.job_inputs.specs.Looks.{InputsComeTo};
-ghost use Rattle.job_inputs.specs.Refusals.{refused_for, IsForContents};
+ghost use Rattle.plain_text.specs.Stops.{why_of};
+ghost use Rattle.job_inputs.specs.Refusals.{IsForContents};
 ghost use Rattle.job_inputs.specs.SettledJobs.{settled_of, IsReadyJob, IsSettledOf, AreSettled, SettledInputs, AreReadyCells};
 ghost use Rattle.job_inputs.specs.SettledJobs as spec;
 ghost use Rattle.job_inputs.specs.SoundJobs.{AreSound};
@@ -14,15 +15,17 @@ ghost use Rattle.job_inputs.specs.Reading.{HasLookedAt};
 
 use crate::counted::{CountedJob, count_records};
 use crate::described::DescribedJob;
+use crate::faults::Fault;
 use crate::inputs::read_inputs;
 use crate::outputs::check_outputs;
 use crate::purpose::Purpose;
-use crate::refusal::Refusal;
+use crate::refusal::prior_refusal;
 use crate::stated::read_priors;
 use crate::stop::InputStop;
 use apriori::{Prior, settle};
 use linked_tables::Book;
 use office_io::Shelf;
+use plain_text::Stop;
 use sdc_base::{Cell, Items, Row, Text};
 use std::alloc::Global;
 
@@ -81,14 +84,16 @@ fn settled_cells(
     alloc: Global,
     counted: &CountedJob,
     priors: &[Prior],
-) -> Result<Items<Cell>, Refusal>
+) -> Result<Items<Cell>, Stop<Fault>>
     requires ready { IsReadyCount counted.now }
     requires priors { ArePriors counted.now.book.marks priors.now }
     ensures gives { (inputs : AnyInputs) → IsCountedOf inputs counted.now
-        → Gives refused_for (λ cells. map view_of_cell cells) result (spec.settled_cells inputs priors.now) }
+        → Gives why_of (λ cells. map view_of_cell cells) result (spec.settled_cells inputs priors.now) }
     ensures ready { IfOk result (AreReadyCells counted.now.book.marks) }
     ensures contents { IfErr result IsForContents }
 {
-    let cells = settle(alloc, &counted.book, &counted.described.job.rules, priors)?;
-    Ok(Items::new(cells))
+    match settle(alloc, &counted.book, &counted.described.job.rules, priors) {
+        Ok(cells) => Ok(Items::new(cells)),
+        Err(error) => Err(prior_refusal(error)),
+    }
 }

@@ -5,19 +5,22 @@ ghost use Rattle.job_inputs.specs.CountedRecords.{IsCountedOf, IsReadyCount, Sta
 ghost use Rattle.job_inputs.specs.ReadFiles.{limit};
 ghost use Rattle.job_inputs.specs.Looks.{IsPriorFileOf};
 ghost use Rattle.job_inputs.specs.Reading.{HasLookedAt};
-ghost use Rattle.job_inputs.specs.Refusals.{refused_for, IsForContents};
+ghost use Rattle.plain_text.specs.Stops.{why_of};
+ghost use Rattle.job_inputs.specs.Refusals.{IsForContents};
 ghost use Rattle.job_inputs.specs.PriorStatements.{with_file};
 ghost use Rattle.job_inputs.specs.PriorStatements as spec;
 ghost use Rattle.job_inputs.specs.declared.inputs.Inputs.{Inputs as AnyInputs};
 
 use crate::counted::CountedJob;
+use crate::faults::Fault;
 use crate::file_ref::FileRef;
 use crate::loading::load;
-use crate::refusal::Refusal;
+use crate::refusal::prior_refusal;
 use crate::stop::InputStop;
 use apriori::{Prior, apply, blank_priors};
 use job_lang::PriorLine;
 use office_io::Shelf;
+use plain_text::Stop;
 use sdc_base::Items;
 use std::alloc::Global;
 
@@ -84,17 +87,17 @@ fn state(
     line: &PriorLine,
     priors: &mut Vec<Prior>,
     bytes: &[u8],
-) -> Result<(), Refusal>
+) -> Result<(), Stop<Fault>>
     requires can { CanState counted.now t priors.old.items }
     requires within_limit { length bytes.now ≤ limit }
     ensures told { (inputs : AnyInputs) → IsCountedOf inputs counted.now
-        → Gives refused_for (λ fine. priors.new.items) result
+        → Gives why_of (λ fine. priors.new.items) result
         (spec.with_bytes inputs t line.now priors.old.items bytes.now) }
     ensures fit { OnOk result (ArePriors counted.now.book.marks priors.new.items) }
     ensures contents { IfErr result IsForContents }
 {
     let decimals = counted.described.bound.decimals;
-    apply(
+    match apply(
         alloc,
         &counted.book,
         t,
@@ -102,6 +105,8 @@ fn state(
         bytes,
         line.separator,
         decimals,
-    )?;
-    Ok(())
+    ) {
+        Ok(()) => Ok(()),
+        Err(error) => Err(prior_refusal(error)),
+    }
 }

@@ -1,6 +1,6 @@
 use crate::faults::Fault;
 use crate::file_ref::FileRef;
-use crate::refusal::Refusal;
+use plain_text::Stop;
 use sdc_base::Memory;
 
 /// Why the inputs of a job were not read to their end.
@@ -14,16 +14,16 @@ pub enum InputStop {
     Memory,
 }
 
-impl From<Refusal> for InputStop {
+impl From<Stop<Fault>> for InputStop {
     ghost use Rattle.std.specs.Prelude.{◌≡◌};
     ghost use Rattle.job_inputs.specs.Reading.{stop_of};
 
     ghost from_gives = { λ refusal e. e ≡ stop_of refusal };
 
-    fn from(refusal: Refusal) -> Self {
+    fn from(refusal: Stop<Fault>) -> Self {
         match refusal {
-            Refusal::Refused(fault) => InputStop::Refused(fault),
-            Refusal::Memory => InputStop::Memory,
+            Stop::Fault(fault) => InputStop::Refused(fault),
+            Stop::Memory => InputStop::Memory,
         }
     }
 }

@@ -2,19 +2,20 @@
 use Rattle.std.proofs.Common.{◌≡◌, ℕ, ◌+◌, List, [], ◌∷◌, Result, Ok, refl}
 use Rattle.sdc_base.specs.Blanks.{trim}
 use Rattle.sdc_base.specs.Answers.{Fails}
-use Rattle.job_lang.specs.Faults.{why_of, fault_of, at_line, error_of}
+use Rattle.plain_text.specs.Stops.{why_of}
+use Rattle.job_lang.specs.Faults.{fault_of, at_line, error_of}
 use Rattle.job_lang.specs.Statements.{text_says, lines_say}
 use Rattle.job_lang.specs.declared.faults.JobWhy.{JobWhy}
-use Rattle.job_lang.specs.declared.faults.LineError.{LineError}
-use Rattle.job_lang.specs.declared.faults.LineError.TheVariants as line_error
+use Rattle.plain_text.specs.declared.stop.Stop.{Stop}
+use Rattle.plain_text.specs.declared.stop.Stop.TheVariants as stop
 use Rattle.job_lang.specs.declared.faults.JobError.{JobError}
 use Rattle.job_lang.specs.declared.faults.JobError.TheVariants as job_error
 use Rattle.job_lang.specs.declared.statement.Draft.{Draft}
 
 -- an error of a line keeps its fault when the line's number is put to it
-pub fails_at : {Y : Type 0} (line : ℕ) (e : LineError) (read : Result Y JobWhy) → Fails (why_of e) read → Fails (fault_of (error_of line e)) (at_line line read)
-fails_at line line_error.Memory read h = tt
-fails_at line (line_error.Fault why) read h = rw h refl
+pub fails_at : {Y : Type 0} (line : ℕ) (e : Stop JobWhy) (read : Result Y JobWhy) → Fails (why_of e) read → Fails (fault_of (error_of line e)) (at_line line read)
+fails_at line stop.Memory read h = tt
+fails_at line (stop.Fault why) read h = rw h refl
 
 pub lines_next : (before line given : ℕ) (draft next : Draft) (texts after : List (List ℕ)) (text : List ℕ) → texts ≡ text ∷ after → line ≡ before + 1 → given ≡ line
     → at_line line (text_says line draft (trim text)) ≡ Ok next → lines_say given next after ≡ lines_say before draft texts

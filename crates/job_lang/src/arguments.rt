@@ -1,19 +1,20 @@
 ghost use Rattle.std.specs.Prelude.{◌≡◌, ◌≤◌, ◌<◌, ◌^◌, IfOk};
 ghost use Rattle.std.specs.List.{list_any};
 ghost use Rattle.sdc_base.specs.Answers.{Gives};
-ghost use Rattle.job_lang.specs.Faults.{fault_itself, why_of};
+ghost use Rattle.plain_text.specs.Stops.{why_of};
+ghost use Rattle.job_lang.specs.Faults.{fault_itself};
 ghost use Rattle.job_lang.specs.Arguments as spec;
 ghost use Rattle.job_lang.specs.MethodTexts as method_texts;
 
 use crate::cursor::{Cursor, at_front};
-use crate::faults::{JobWhy, LineError};
+use crate::faults::JobWhy;
 use crate::keywords::spells;
 use crate::rule_texts::one_number;
 use crate::rules::rules_in;
 use crate::statement::{Instruction, Keyword};
 use crate::table_texts::table_argument;
 use cost_rule::CostKind;
-use plain_text::{is_blank_byte, is_file_name};
+use plain_text::{Stop, is_blank_byte, is_file_name};
 use sdc_base::{Method, Text};
 use std::alloc::Global;
 
@@ -26,7 +27,7 @@ pub(crate) fn argument_of(
     alloc: Global,
     keyword: Keyword,
     text: &[u8],
-) -> Result<Instruction, LineError>
+) -> Result<Instruction, Stop<JobWhy>>
     ensures { Gives why_of (λ said. said) result (spec.argument_of keyword text.now) }
 {
     match keyword {
@@ -36,10 +37,10 @@ pub(crate) fn argument_of(
         Keyword::SafetyRule => Ok(Instruction::Safety(rules_in(alloc, text)?)),
         Keyword::ReadMicrodata => nothing_more(text),
         Keyword::Apriori => prior_argument(alloc, text),
-        Keyword::Cost => Ok(Instruction::Cost(cost_argument(text)?)),
-        Keyword::Steps => Ok(Instruction::Steps(work_argument(text)?)),
-        Keyword::Nodes => Ok(Instruction::Nodes(work_argument(text)?)),
-        Keyword::Suppress => Ok(Instruction::Suppress(method_argument(text)?)),
+        Keyword::Cost => Ok(Instruction::Cost(cost_argument(text).map_err(Stop::Fault)?)),
+        Keyword::Steps => Ok(Instruction::Steps(work_argument(text).map_err(Stop::Fault)?)),
+        Keyword::Nodes => Ok(Instruction::Nodes(work_argument(text).map_err(Stop::Fault)?)),
+        Keyword::Suppress => Ok(Instruction::Suppress(method_argument(text).map_err(Stop::Fault)?)),
         Keyword::WriteTable => output_argument(alloc, text),
         Keyword::Certificate => Ok(Instruction::Certificate(only_file(alloc, text)?)),
         Keyword::Contributors => Ok(Instruction::Contributors(only_file(alloc, text)?)),
@@ -48,10 +49,10 @@ pub(crate) fn argument_of(
 
 // No token at all.
 #[tactic(auto, unfolding(crate::specs::Arguments::argument_of))]
-fn nothing_more(text: &[u8]) -> Result<Instruction, LineError>
+fn nothing_more(text: &[u8]) -> Result<Instruction, Stop<JobWhy>>
     ensures { Gives why_of (λ said. said) result (spec.argument_of Keyword.ReadMicrodata text.now) }
 {
-    at_front(text).end()?;
+    at_front(text).end().map_err(Stop::Fault)?;
     Ok(Instruction::Read)
 }
 
@@ -69,12 +70,12 @@ fn file_at<'a>(cursor: &mut Cursor<'a>) -> Result<&'a [u8], JobWhy>
 
 // A file name in quotes, and nothing behind it.
 #[tactic(auto, unfolding(crate::specs::Arguments::only_file))]
-fn only_file(alloc: Global, text: &[u8]) -> Result<Text, LineError>
+fn only_file(alloc: Global, text: &[u8]) -> Result<Text, Stop<JobWhy>>
     ensures { Gives why_of (λ file. file) result (spec.only_file text.now) }
 {
     let mut cursor = at_front(text);
-    let file = file_at(&mut cursor)?;
-    cursor.end()?;
+    let file = file_at(&mut cursor).map_err(Stop::Fault)?;
+    cursor.end().map_err(Stop::Fault)?;
     Ok(Text::from_slice(alloc, file)?)
 }
 
@@ -98,19 +99,19 @@ fn separator_of(word: &[u8]) -> Option<u8>
 
 // A file, the number of its table and its separator.
 #[tactic(auto, unfolding(crate::specs::Arguments::prior_argument))]
-fn prior_argument(alloc: Global, text: &[u8]) -> Result<Instruction, LineError>
+fn prior_argument(alloc: Global, text: &[u8]) -> Result<Instruction, Stop<JobWhy>>
     ensures { Gives why_of (λ said. said) result (spec.prior_argument text.now) }
 {
     let mut cursor = at_front(text);
-    let file = file_at(&mut cursor)?;
-    cursor.mark(b',')?;
-    let number = cursor.digits()?;
-    cursor.mark(b',')?;
-    let word = cursor.quoted_word()?;
+    let file = file_at(&mut cursor).map_err(Stop::Fault)?;
+    cursor.mark(b',').map_err(Stop::Fault)?;
+    let number = cursor.digits().map_err(Stop::Fault)?;
+    cursor.mark(b',').map_err(Stop::Fault)?;
+    let word = cursor.quoted_word().map_err(Stop::Fault)?;
     let Some(separator) = separator_of(word) else {
-        return Err(LineError::Fault(JobWhy::BadValue));
+        return Err(Stop::Fault(JobWhy::BadValue));
     };
-    cursor.end()?;
+    cursor.end().map_err(Stop::Fault)?;
     let file = Text::from_slice(alloc, file)?;
     let number = Text::from_slice(alloc, number)?;
     Ok(Instruction::Prior {
@@ -122,15 +123,15 @@ fn prior_argument(alloc: Global, text: &[u8]) -> Result<Instruction, LineError>
 
 // The number of a table and its file.
 #[tactic(auto, unfolding(crate::specs::Arguments::output_argument))]
-fn output_argument(alloc: Global, text: &[u8]) -> Result<Instruction, LineError>
+fn output_argument(alloc: Global, text: &[u8]) -> Result<Instruction, Stop<JobWhy>>
     ensures { Gives why_of (λ said. said) result (spec.output_argument text.now) }
 {
     let mut cursor = at_front(text);
-    cursor.mark(b'(')?;
-    let number = cursor.digits()?;
-    cursor.mark(b',')?;
-    let file = file_at(&mut cursor)?;
-    cursor.close()?;
+    cursor.mark(b'(').map_err(Stop::Fault)?;
+    let number = cursor.digits().map_err(Stop::Fault)?;
+    cursor.mark(b',').map_err(Stop::Fault)?;
+    let file = file_at(&mut cursor).map_err(Stop::Fault)?;
+    cursor.close().map_err(Stop::Fault)?;
     let number = Text::from_slice(alloc, number)?;
     let file = Text::from_slice(alloc, file)?;
     Ok(Instruction::Output { number, file })

@@ -1,8 +1,8 @@
 ghost use Rattle.std.specs.Prelude.{◌≡◌};
 ghost use Rattle.job_lang.specs.Faults.{error_of};
 
+use plain_text::Stop;
 use sdc_base::Memory;
-use std::alloc::AllocError;
 
 /// A command that a job must have.
 #[derive(Clone, Copy, Debug, PartialEq, Eq)]
@@ -57,43 +57,6 @@ pub enum JobError {
     Memory,
 }
 
-/// Why a line isn't taken in, whatever its number.
-#[derive(Clone, Copy, Debug, PartialEq, Eq)]
-pub(crate) enum LineError {
-    Fault(JobWhy),
-    Memory,
-}
-
-impl From<JobWhy> for LineError {
-    ghost use Rattle.job_lang.specs.declared.faults.LineError.TheVariants as line_error;
-
-    ghost from_gives = { λ why e. e ≡ line_error.Fault why };
-
-    fn from(why: JobWhy) -> Self {
-        LineError::Fault(why)
-    }
-}
-
-impl From<Memory> for LineError {
-    ghost use Rattle.job_lang.specs.declared.faults.LineError.TheVariants as line_error;
-
-    ghost from_gives = { λ _ e. e ≡ line_error.Memory };
-
-    fn from(_: Memory) -> Self {
-        LineError::Memory
-    }
-}
-
-impl From<AllocError> for LineError {
-    ghost use Rattle.job_lang.specs.declared.faults.LineError.TheVariants as line_error;
-
-    ghost from_gives = { λ _ e. e ≡ line_error.Memory };
-
-    fn from(_: AllocError) -> Self {
-        LineError::Memory
-    }
-}
-
 impl From<Memory> for JobError {
     ghost use Rattle.job_lang.specs.declared.faults.JobError.TheVariants as job_error;
 
@@ -105,11 +68,11 @@ impl From<Memory> for JobError {
 }
 
 /// The error of the line with this number.
-pub(crate) fn error_at(line: u32, error: LineError) -> JobError
+pub(crate) fn error_at(line: u32, error: Stop<JobWhy>) -> JobError
     ensures { result ≡ error_of line error }
 {
     match error {
-        LineError::Fault(why) => JobError::At { line, why },
-        LineError::Memory => JobError::Memory,
+        Stop::Fault(why) => JobError::At { line, why },
+        Stop::Memory => JobError::Memory,
     }
 }

@@ -3,17 +3,18 @@ ghost use Rattle.std.specs.List.{list_any};
 ghost use Rattle.sdc_base.specs.Answers.{Gives};
 ghost use Rattle.sdc_base.specs.Blanks as blanks_specs;
 ghost use Rattle.sdc_base.specs.Lines as lines_specs;
-ghost use Rattle.job_lang.specs.Faults.{why_of, fault_of, at_line};
+ghost use Rattle.plain_text.specs.Stops.{why_of};
+ghost use Rattle.job_lang.specs.Faults.{fault_of, at_line};
 ghost use Rattle.job_lang.specs.Statements.{lines_say, empty_draft};
 ghost use Rattle.job_lang.specs.Statements as statements;
 
 use crate::arguments::argument_of;
-use crate::faults::{JobError, JobWhy, LineError, error_at};
+use crate::faults::{JobError, JobWhy, error_at};
 use crate::job::TableLine;
 use crate::keywords::{keyword_of, word_in};
 use crate::statement::{Draft, Instruction, Keyword, Statement};
 use crate::texts::{add_texts, distinct_count};
-use plain_text::{lines, trim};
+use plain_text::{Stop, lines, trim};
 use sdc_base::{Items, Memory, Text};
 use std::alloc::Global;
 
@@ -52,7 +53,7 @@ fn read_line(alloc: Global, line: u32, text: &[u8], draft: &mut Draft) -> Result
 
 // What the bytes of a line say, without blanks at their ends.
 #[tactic(auto, unfolding(crate::specs::Statements::text_says))]
-fn text_says(alloc: Global, line: u32, text: &[u8], draft: &mut Draft) -> Result<(), LineError>
+fn text_says(alloc: Global, line: u32, text: &[u8], draft: &mut Draft) -> Result<(), Stop<JobWhy>>
     ensures { Gives why_of (λ _. draft.new) result (statements.text_says line draft.old text.now) }
 {
     if is_passed_over(text) {
@@ -76,12 +77,17 @@ fn is_passed_over(text: &[u8]) -> bool
 
 // A command and its argument.
 #[tactic(auto, unfolding(crate::specs::Statements::command_line))]
-fn command_line(alloc: Global, line: u32, text: &[u8], draft: &mut Draft) -> Result<(), LineError>
+fn command_line(
+    alloc: Global,
+    line: u32,
+    text: &[u8],
+    draft: &mut Draft,
+) -> Result<(), Stop<JobWhy>>
     ensures { Gives why_of (λ _. draft.new) result (statements.command_line line draft.old text.now) }
 {
-    let (word, rest) = word_in(text)?;
+    let (word, rest) = word_in(text).map_err(Stop::Fault)?;
     let Some(keyword) = keyword_of(word) else {
-        return Err(LineError::Fault(JobWhy::UnknownCommand));
+        return Err(Stop::Fault(JobWhy::UnknownCommand));
     };
     let said = argument_of(alloc, keyword, rest)?;
     take_said(alloc, line, draft, said)
@@ -94,7 +100,7 @@ fn take_said(
     line: u32,
     draft: &mut Draft,
     said: Instruction,
-) -> Result<(), LineError>
+) -> Result<(), Stop<JobWhy>>
     ensures { Gives why_of (λ _. draft.new) result (statements.with_said line draft.old said) }
 {
     match said {
@@ -114,14 +120,14 @@ fn take_table(
     draft: &mut Draft,
     variables: Items<Text>,
     response: Text,
-) -> Result<(), LineError>
+) -> Result<(), Stop<JobWhy>>
     ensures { Gives why_of (λ _. draft.new) result (statements.with_table line draft.old variables response) }
 {
     if is_past_room(alloc, variables.as_slice(), draft.tables.as_slice())? {
-        return Err(LineError::Fault(JobWhy::TooMany));
+        return Err(Stop::Fault(JobWhy::TooMany));
     }
     if is_other_response(&response, draft.tables.as_slice()) {
-        return Err(LineError::Fault(JobWhy::OtherResponse));
+        return Err(Stop::Fault(JobWhy::OtherResponse));
     }
     draft.tables.push(TableLine {
         line,
@@ -166,11 +172,11 @@ fn is_other_response(response: &Text, tables: &[TableLine]) -> bool
 
 // One statement more.
 #[tactic(auto, unfolding(crate::specs::Statements::with_statement))]
-fn take_statement(line: u32, draft: &mut Draft, said: Instruction) -> Result<(), LineError>
+fn take_statement(line: u32, draft: &mut Draft, said: Instruction) -> Result<(), Stop<JobWhy>>
     ensures { Gives why_of (λ _. draft.new) result (statements.with_statement line draft.old said) }
 {
     if is_again(&said, draft.said.as_slice()) {
-        return Err(LineError::Fault(JobWhy::Twice));
+        return Err(Stop::Fault(JobWhy::Twice));
     }
     draft.said.push(Statement { line, said })?;
     Ok(())

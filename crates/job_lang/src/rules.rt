@@ -1,29 +1,30 @@
 ghost use Rattle.std.specs.Prelude.{◌≡◌, ◌≤◌, length};
 ghost use Rattle.std.specs.List.{count_by};
 ghost use Rattle.sdc_base.specs.Answers.{Gives};
-ghost use Rattle.job_lang.specs.Faults.{why_of};
+ghost use Rattle.plain_text.specs.Stops.{why_of};
 ghost use Rattle.job_lang.specs.Pieces.{pieces};
 ghost use Rattle.job_lang.specs.RuleTexts.{named_in};
 ghost use Rattle.job_lang.specs.RuleTexts as spec;
 ghost use Rattle.job_lang.specs.RuleClauses as rule_clauses;
 
-use crate::faults::{JobWhy, LineError};
+use crate::faults::JobWhy;
 use crate::pieces::pieces_in;
 use crate::rule_clauses::RuleClause;
 use crate::rule_texts::clause_in;
 use arrayvec::ArrayVec;
+use plain_text::Stop;
 use sdc_base::{Few, Items, Rule, Rules};
 use std::alloc::Global;
 
 /// The rules that a text joins by bars.
 #[tactic(auto, unfolding(crate::specs::RuleTexts::rules_in))]
-pub(crate) fn rules_in(alloc: Global, text: &[u8]) -> Result<Rules, LineError>
+pub(crate) fn rules_in(alloc: Global, text: &[u8]) -> Result<Rules, Stop<JobWhy>>
     ensures { Gives why_of (λ rules. rules) result (spec.rules_in text.now) }
 {
     let clauses = clauses_in(alloc, text)?;
     let clauses = clauses.as_slice();
     if !are_rules(clauses) {
-        return Err(LineError::Fault(JobWhy::BadValue));
+        return Err(Stop::Fault(JobWhy::BadValue));
     }
     Ok(Rules {
         list: named_rules(clauses),
@@ -33,13 +34,16 @@ pub(crate) fn rules_in(alloc: Global, text: &[u8]) -> Result<Rules, LineError>
 }
 
 // Each piece of a text as a rule.
-fn clauses_in(alloc: Global, text: &[u8]) -> Result<Items<RuleClause>, LineError>
+fn clauses_in(alloc: Global, text: &[u8]) -> Result<Items<RuleClause>, Stop<JobWhy>>
     ensures { Gives why_of (λ clauses. clauses) result (rule_clauses.clauses_in (pieces text.now)) }
 {
     let mut pieces = pieces_in(text);
     let mut clauses = Items::empty(alloc);
     'pieces: while let Some(piece) = pieces.next_piece() {
-        let clause = clause_in(piece)?;
+        let clause = match clause_in(piece) {
+            Ok(clause) => clause,
+            Err(why) => return Err(Stop::Fault(why)),
+        };
         clauses.push(clause)?;
     }
     Ok(clauses)

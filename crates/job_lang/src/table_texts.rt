@@ -1,17 +1,18 @@
 ghost use Rattle.std.specs.Prelude.{◌≡◌};
 ghost use Rattle.std.specs.List.{list_all};
 ghost use Rattle.sdc_base.specs.Answers.{Gives};
-ghost use Rattle.job_lang.specs.Faults.{fault_itself, why_of};
+ghost use Rattle.plain_text.specs.Stops.{why_of};
+ghost use Rattle.job_lang.specs.Faults.{fault_itself};
 ghost use Rattle.job_lang.specs.Pieces.{pieces};
 ghost use Rattle.job_lang.specs.TableTexts.{most_variables, names_up_to};
 ghost use Rattle.job_lang.specs.TableTexts as spec;
 
 use crate::cursor::{Cursor, at_front};
-use crate::faults::{JobWhy, LineError};
+use crate::faults::JobWhy;
 use crate::pieces::pieces_in;
 use crate::statement::Instruction;
 use crate::texts::is_twice;
-use plain_text::trim;
+use plain_text::{Stop, trim};
 use sdc_base::{Items, Text};
 use std::alloc::Global;
 
@@ -20,22 +21,22 @@ const MOST_VARIABLES: usize = 6;
 
 /// The table that the text behind SPECIFYTABLE states.
 #[tactic(auto, unfolding(crate::specs::TableTexts::table_argument))]
-pub(crate) fn table_argument(alloc: Global, text: &[u8]) -> Result<Instruction, LineError>
+pub(crate) fn table_argument(alloc: Global, text: &[u8]) -> Result<Instruction, Stop<JobWhy>>
     ensures { Gives why_of (λ said. said) result (spec.table_argument text.now) }
 {
     let mut cursor = at_front(text);
     let variables = variables_at(alloc, &mut cursor)?;
     if variables.as_slice().is_empty() {
-        return Err(LineError::Fault(JobWhy::BadValue));
+        return Err(Stop::Fault(JobWhy::BadValue));
     }
     if is_twice(variables.as_slice()) {
-        return Err(LineError::Fault(JobWhy::BadValue));
+        return Err(Stop::Fault(JobWhy::BadValue));
     }
-    cursor.mark(b'|')?;
-    let word = cursor.quoted_word()?;
+    cursor.mark(b'|').map_err(Stop::Fault)?;
+    let word = cursor.quoted_word().map_err(Stop::Fault)?;
     let rest = behind_again(word, cursor.rest());
     if !are_free_parts(rest) {
-        return Err(LineError::Fault(JobWhy::BadValue));
+        return Err(Stop::Fault(JobWhy::BadValue));
     }
     let response = Text::from_slice(alloc, word)?;
     Ok(Instruction::Table {
@@ -45,7 +46,7 @@ pub(crate) fn table_argument(alloc: Global, text: &[u8]) -> Result<Instruction, 
 }
 
 // The words in quotes that stand next, at most six.
-fn variables_at(alloc: Global, cursor: &mut Cursor) -> Result<Items<Text>, LineError>
+fn variables_at(alloc: Global, cursor: &mut Cursor) -> Result<Items<Text>, Stop<JobWhy>>
     ensures { Gives why_of (λ names. (names, cursor.new)) result (names_up_to most_variables cursor.old) }
 {
     let mut names = Items::empty(alloc);
@@ -53,7 +54,10 @@ fn variables_at(alloc: Global, cursor: &mut Cursor) -> Result<Items<Text>, LineE
         if !cursor.is_next(b'"') {
             return Ok(names);
         }
-        let name = cursor.quoted_word()?;
+        let name = match cursor.quoted_word() {
+            Ok(name) => name,
+            Err(why) => return Err(Stop::Fault(why)),
+        };
         names.push(Text::from_slice(alloc, name)?)?;
     }
     Ok(names)

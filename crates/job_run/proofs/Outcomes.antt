@@ -22,8 +22,8 @@ use Rattle.job_run.specs.Puts.{SomeWhole, OneInPart}
 use Rattle.job_run.specs.Reporting.{inputs_report, puts_report}
 use Rattle.job_run.specs.Reports.{AgreesWith, IsEndWithoutRelease, FaultsHaveCauses, LeavesTray, LeavesAll, StopsRelease, reading_of}
 use Rattle.job_run.specs.declared.put.Release.{Release}
-use Rattle.job_run.specs.declared.puts.PutStop.{PutStop}
-use Rattle.job_run.specs.declared.puts.PutStop.TheVariants as puts
+use Rattle.plain_text.specs.declared.stop.Stop.{Stop}
+use Rattle.plain_text.specs.declared.stop.Stop.TheVariants as puts
 use Rattle.job_run.specs.declared.report.Report.{Report}
 use Rattle.job_run.specs.declared.report.Report.TheVariants as report
 use Rattle.job_run.specs.declared.report.Stuck.{Stuck}
@@ -157,32 +157,32 @@ end-comes e comes files new end =
 
 -- ---- what stopped the puts came after whole inputs
 
-pub puts-stop : (e : PutStop) → StopsRelease (puts_report e)
-puts-stop (puts.WriteFault f) = tt
+pub puts-stop : (e : Stop FileRef) → StopsRelease (puts_report e)
+puts-stop (puts.Fault f) = tt
 puts-stop puts.Memory = tt
 
-pub puts-meet : (e : PutStop) (outcome : Result SettledInputs Fault) (settled : SettledInputs) → outcome ≡ Ok settled → AgreesWith (puts_report e) outcome
-puts-meet (puts.WriteFault f) outcome settled is = rw is refl
+pub puts-meet : (e : Stop FileRef) (outcome : Result SettledInputs Fault) (settled : SettledInputs) → outcome ≡ Ok settled → AgreesWith (puts_report e) outcome
+puts-meet (puts.Fault f) outcome settled is = rw is refl
 puts-meet puts.Memory outcome settled is = tt
 
-pub puts-leave : (e : PutStop) (outcome : Result SettledInputs Fault) (settled : SettledInputs) (r : Release) (old new : TrayState) → outcome ≡ Ok settled → IsReleaseOf settled r
-    → ((f : FileRef) → IsErrOf {T = Unit {0}} (Err e) (puts.WriteFault f) → OneInPart r.puts f old new) → (IsErrOf {T = Unit {0}} (Err e) puts.Memory → SomeWhole r.puts old new) → LeavesTray (puts_report e) outcome old new
-puts-leave (puts.WriteFault f) outcome settled r old new is made part whole = rw is (r, made, part f refl)
+pub puts-leave : (e : Stop FileRef) (outcome : Result SettledInputs Fault) (settled : SettledInputs) (r : Release) (old new : TrayState) → outcome ≡ Ok settled → IsReleaseOf settled r
+    → ((f : FileRef) → IsErrOf {T = Unit {0}} (Err e) (puts.Fault f) → OneInPart r.puts f old new) → (IsErrOf {T = Unit {0}} (Err e) puts.Memory → SomeWhole r.puts old new) → LeavesTray (puts_report e) outcome old new
+puts-leave (puts.Fault f) outcome settled r old new is made part whole = rw is (r, made, part f refl)
 puts-leave puts.Memory outcome settled r old new is made part whole = inr (rw is (r, made, whole refl))
 
-pub puts-once : (e : PutStop) (r : Release) (old new : TrayState) → IsSomeRelease r → ((f : FileRef) → IsErrOf {T = Unit {0}} (Err e) (puts.WriteFault f) → OneInPart r.puts f old new) → (IsErrOf {T = Unit {0}} (Err e) puts.Memory → SomeWhole r.puts old new)
+pub puts-once : (e : Stop FileRef) (r : Release) (old new : TrayState) → IsSomeRelease r → ((f : FileRef) → IsErrOf {T = Unit {0}} (Err e) (puts.Fault f) → OneInPart r.puts f old new) → (IsErrOf {T = Unit {0}} (Err e) puts.Memory → SomeWhole r.puts old new)
     → PutsOnce (puts_report e) old new
-puts-once (puts.WriteFault f) r old new some part whole = (r, some, part f refl)
+puts-once (puts.Fault f) r old new some part whole = (r, some, part f refl)
 puts-once puts.Memory r old new some part whole = inr (r, some, whole refl)
 
-pub puts-leave-all : (e : PutStop) (old new : TrayState) → LeavesAll (puts_report e) old new
-puts-leave-all (puts.WriteFault f) old new = tt
+pub puts-leave-all : (e : Stop FileRef) (old new : TrayState) → LeavesAll (puts_report e) old new
+puts-leave-all (puts.Fault f) old new = tt
 puts-leave-all puts.Memory old new = tt
 
-pub puts-cause : (e : PutStop) (old new : ShelfState) (before after : TrayState) → ((f : FileRef) → IsErrOf {T = Unit {0}} (Err e) (puts.WriteFault f) → HasRisen before.faults after.faults) → FaultsHaveCauses (puts_report e) old new before after
-puts-cause (puts.WriteFault g) old new before after cause = record { reading = read-cause old new; write_fault = λ f is. cause g refl }
+pub puts-cause : (e : Stop FileRef) (old new : ShelfState) (before after : TrayState) → ((f : FileRef) → IsErrOf {T = Unit {0}} (Err e) (puts.Fault f) → HasRisen before.faults after.faults) → FaultsHaveCauses (puts_report e) old new before after
+puts-cause (puts.Fault g) old new before after cause = record { reading = read-cause old new; write_fault = λ f is. cause g refl }
 puts-cause puts.Memory old new before after cause = no-memory old new before after
 
-pub puts-come : (e : PutStop) (comes : FileRef → List ℕ → Type 0) (files : Files) (new : ShelfState) → HasComeTo comes (reading_of (puts_report e)) files new
-puts-come (puts.WriteFault g) comes files new = read-comes comes files new
+pub puts-come : (e : Stop FileRef) (comes : FileRef → List ℕ → Type 0) (files : Files) (new : ShelfState) → HasComeTo comes (reading_of (puts_report e)) files new
+puts-come (puts.Fault g) comes files new = read-comes comes files new
 puts-come puts.Memory comes files new = memory-comes comes files new

@@ -20,8 +20,8 @@ use Rattle.job_run.specs.ReleaseRuns.{IsReleaseRunOf}
 use Rattle.job_run.specs.Reporting.{inputs_report, puts_report}
 use Rattle.job_run.specs.Reports.{AgreesWith, ComesToRelease, FaultsHaveCauses, LeavesTray, StopsRelease, IsReleaseAnswer, reading_of}
 use Rattle.job_run.specs.declared.put.Release.{Release}
-use Rattle.job_run.specs.declared.puts.PutStop.{PutStop}
-use Rattle.job_run.specs.declared.puts.PutStop.TheVariants as puts
+use Rattle.plain_text.specs.declared.stop.Stop.{Stop}
+use Rattle.plain_text.specs.declared.stop.Stop.TheVariants as puts
 use Rattle.job_run.specs.declared.report.Report.{Report}
 use Rattle.job_run.specs.declared.report.Report.TheVariants as report
 use Rattle.job_run.specs.declared.report.Summary.{Summary}
@@ -87,10 +87,10 @@ end-run name job e some old new tray comes is told shelf =
     (λ fs held. end-leaves e (settled_of purpose.Release fs name) tray end) (end-puts-none e tray end) shelf (end-cause e old new tray end) (λ fs held. end-comes e (InputsComeTo purpose.Release fs name) fs new end)
 
 -- its release was put in part, or not at all
-pub puts-run : (name : List ℕ) (job : SettledJob) (release : Release) (e : PutStop) (old new : ShelfState) (before after : TrayState) → ((settled : SettledInputs) → IsSettledOf settled job → ComesToRelease settled (Ok release)) → IsSomeRelease release
+pub puts-run : (name : List ℕ) (job : SettledJob) (release : Release) (e : Stop FileRef) (old new : ShelfState) (before after : TrayState) → ((settled : SettledInputs) → IsSettledOf settled job → ComesToRelease settled (Ok release)) → IsSomeRelease release
     → WhereTold old.files (λ fs. IsOkAnd (settled_of purpose.Release fs name) (λ settled. IsSettledOf settled job)) → HasOnlyLooked limit old new
-    → ((f : FileRef) → IsErrOf {T = Unit {0}} (Err e) (puts.WriteFault f) → OneInPart release.puts f before after) → (IsErrOf {T = Unit {0}} (Err e) puts.Memory → SomeWhole release.puts before after)
-    → ((f : FileRef) → IsErrOf {T = Unit {0}} (Err e) (puts.WriteFault f) → HasRisen before.faults after.faults) → IsReleaseRunOf name (puts_report e) old new before after
+    → ((f : FileRef) → IsErrOf {T = Unit {0}} (Err e) (puts.Fault f) → OneInPart release.puts f before after) → (IsErrOf {T = Unit {0}} (Err e) puts.Memory → SomeWhole release.puts before after)
+    → ((f : FileRef) → IsErrOf {T = Unit {0}} (Err e) (puts.Fault f) → HasRisen before.faults after.faults) → IsReleaseRunOf name (puts_report e) old new before after
 puts-run name job release e old new before after comes some told shelf part whole cause =
     stopped-run name (puts_report e) old new before after (puts-stop e)
     (λ fs held. let read = ok-and (λ settled. IsSettledOf settled job) (settled_of purpose.Release fs name) (told fs held) in puts-meet e (settled_of purpose.Release fs name) read.0 read.1)

@@ -11,8 +11,9 @@ use Rattle.rounding.specs.declared.fault.RoundFault.TheVariants as round
 use Rattle.worlds.specs.declared.refuted.Refuted.{Refuted}
 use Rattle.job_inputs.specs.declared.stop.InputStop.{InputStop}
 use Rattle.job_inputs.specs.declared.stop.InputStop.TheVariants as input
-use Rattle.job_run.specs.declared.puts.PutStop.{PutStop}
-use Rattle.job_run.specs.declared.puts.PutStop.TheVariants as puts
+use Rattle.job_inputs.specs.declared.file_ref.FileRef.{FileRef}
+use Rattle.plain_text.specs.Stops.{stop_error}
+use Rattle.plain_text.specs.declared.stop.Stop.{Stop}
 use Rattle.job_run.specs.declared.report.Report.{Report}
 use Rattle.job_run.specs.declared.report.Report.TheVariants as report
 use Rattle.job_run.specs.declared.report.Stuck.TheVariants as stuck
@@ -24,9 +25,8 @@ inputs_report (input.ReadFault file) = report.ReadFault file
 inputs_report input.Memory = report.Memory
 
 -- what stopped the puts
-abbrev pub puts_report : PutStop → Report
-puts_report (puts.WriteFault file) = report.WriteFault file
-puts_report puts.Memory = report.Memory
+abbrev pub puts_report : Stop FileRef → Report
+puts_report = stop_error report.WriteFault report.Memory
 
 -- a question that stopped short, with the repairs and the shown cells until then, and against whom it is
 abbrev pub stuck_report : AskFault → List Refuted → List ℕ → Option Against → Report

@@ -7,39 +7,31 @@ ghost use Rattle.job_inputs.specs.declared.file_ref.FileRef.{FileRef as AnyFile}
 use crate::put::FilePut;
 use job_inputs::FileRef;
 use office_io::{PutFault, Tray};
+use plain_text::Stop;
 
-/// Why not all of a release was put.
-#[derive(Clone, Copy, Debug, PartialEq, Eq)]
-pub(crate) enum PutStop {
-    /// The tray failed at this file.
-    WriteFault(FileRef),
-    /// There was no memory.
-    Memory,
-}
-
-// Puts one file.
-fn put_file<T: Tray>(tray: &mut T, next: &FilePut) -> Result<(), PutStop>
+// Puts one file. The fault is that the tray failed at it.
+fn put_file<T: Tray>(tray: &mut T, next: &FilePut) -> Result<(), Stop<FileRef>>
     ensures has_put { OnOk result (HasPut next.now.name next.now.bytes (T.state tray.old) (T.state tray.new)) }
-    ensures part { (f : AnyFile) → IsErrOf result (PutStop.WriteFault f)
+    ensures part { (f : AnyFile) → IsErrOf result (Stop.Fault f)
         → (next.now.file ≡ f) × HasPutInPart next.now.name next.now.bytes (T.state tray.old) (T.state tray.new) }
-    ensures memory { IsErrOf result PutStop.Memory → T.state tray.new ≡ T.state tray.old }
+    ensures memory { IsErrOf result Stop.Memory → T.state tray.new ≡ T.state tray.old }
     ensures faults_stay { (T.state tray.old).faults ≤ (T.state tray.new).faults }
 {
     match tray.put(&next.name, next.bytes.as_slice()) {
         Ok(()) => Ok(()),
-        Err(PutFault::Failed) => Err(PutStop::WriteFault(next.file)),
-        Err(PutFault::Memory) => Err(PutStop::Memory),
+        Err(PutFault::Failed) => Err(Stop::Fault(next.file)),
+        Err(PutFault::Memory) => Err(Stop::Memory),
     }
 }
 
-/// Puts the files, each once and in their order, up to the first that fails.
-pub(crate) fn put_files<T: Tray>(tray: &mut T, puts: &[FilePut]) -> Result<(), PutStop>
+/// Puts the files, each once and in their order, up to the first at which the tray fails, which is the fault.
+pub(crate) fn put_files<T: Tray>(tray: &mut T, puts: &[FilePut]) -> Result<(), Stop<FileRef>>
     requires { 0 < length puts.now }
     ensures has_put_all { OnOk result (AllWhole puts.now (T.state tray.old) (T.state tray.new)) }
-    ensures part { (f : AnyFile) → IsErrOf result (PutStop.WriteFault f)
+    ensures part { (f : AnyFile) → IsErrOf result (Stop.Fault f)
         → OneInPart puts.now f (T.state tray.old) (T.state tray.new) }
-    ensures memory { IsErrOf result PutStop.Memory → SomeWhole puts.now (T.state tray.old) (T.state tray.new) }
-    ensures cause { (f : AnyFile) → IsErrOf result (PutStop.WriteFault f)
+    ensures memory { IsErrOf result Stop.Memory → SomeWhole puts.now (T.state tray.old) (T.state tray.new) }
+    ensures cause { (f : AnyFile) → IsErrOf result (Stop.Fault f)
         → HasRisen (T.state tray.old).faults (T.state tray.new).faults }
 {
     for next in puts {

@@ -1,12 +1,12 @@
 ghost use Rattle.std.specs.Prelude.{◌≡◌};
 ghost use Rattle.job_run.specs.Reporting as spec;
 
-use crate::puts::PutStop;
 use crate::report::{Report, Stuck};
 use attackers::Against;
 use cell_guards::Unguarded;
 use interval_audit::AskFault;
-use job_inputs::InputStop;
+use job_inputs::{FileRef, InputStop};
+use plain_text::Stop;
 use repair::Stopped;
 use rounding::RoundFault;
 use sdc_base::{Items, Memory};
@@ -74,16 +74,16 @@ impl From<Unguarded> for Report {
     }
 }
 
-impl From<PutStop> for Report {
+impl From<Stop<FileRef>> for Report {
     ghost use Rattle.std.specs.Prelude.{◌≡◌};
     ghost use Rattle.job_run.specs.Reporting.{puts_report};
 
     ghost from_gives = { λ stop e. e ≡ puts_report stop };
 
-    fn from(stop: PutStop) -> Self {
+    fn from(stop: Stop<FileRef>) -> Self {
         match stop {
-            PutStop::WriteFault(file) => Report::WriteFault(file),
-            PutStop::Memory => Report::Memory,
+            Stop::Fault(file) => Report::WriteFault(file),
+            Stop::Memory => Report::Memory,
         }
     }
 }

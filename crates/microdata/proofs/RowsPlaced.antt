@@ -5,14 +5,15 @@ use Rattle.sdc_base.specs.Answers.{Fails}
 use Rattle.sdc_base.specs.Steps.{◌>>=◌}
 use Rattle.sdc_base.specs.declared.rows.Row.{Row}
 use Rattle.microdata.specs.Closing.{leaves_of, row_of, rows_of}
-use Rattle.microdata.specs.Faults.{why_of, fault_of, at_record, error_of}
+use Rattle.plain_text.specs.Stops.{why_of}
+use Rattle.microdata.specs.Faults.{fault_of, at_record, error_of}
 use Rattle.microdata.specs.KeptRows.{KeptRow, kept_of, kept_rows}
 use Rattle.microdata.specs.declared.closing.ClosedVariable.{ClosedVariable}
 use Rattle.microdata.specs.declared.faults.RowError.{RowError}
 use Rattle.microdata.specs.declared.faults.RowError.TheVariants as row_error
 use Rattle.microdata.specs.declared.faults.RowWhy.{RowWhy}
-use Rattle.microdata.specs.declared.faults.RecordError.{RecordError}
-use Rattle.microdata.specs.declared.faults.RecordError.TheVariants as record_error
+use Rattle.plain_text.specs.declared.stop.Stop.{Stop}
+use Rattle.plain_text.specs.declared.stop.Stop.TheVariants as stop
 use Rattle.microdata.proofs.VariableSteps.{at_place, past_end}
 
 -- one record more
@@ -23,10 +24,10 @@ kept_more (one ∷ numbers) [] number row same = absurd (omega (arith, same))
 kept_more (one ∷ numbers) (first ∷ rows) number row same = ap (λ (kept : List KeptRow). kept_of one first ∷ kept) (kept_more numbers rows number row (omega (arith, same)))
 
 -- a row whose codes have no places has the fault of these, with the number of its record
-pub fails_placed : (number : ℕ) (e : RecordError) (closed : List ClosedVariable) (kept : KeptRow) → Fails (why_of e) (leaves_of closed kept.places) → Fails (fault_of (error_of number e)) (at_record number (row_of closed kept))
+pub fails_placed : (number : ℕ) (e : Stop RowWhy) (closed : List ClosedVariable) (kept : KeptRow) → Fails (why_of e) (leaves_of closed kept.places) → Fails (fault_of (error_of number e)) (at_record number (row_of closed kept))
 unfolding row_of
-fails_placed number record_error.Memory closed kept h = tt
-fails_placed number (record_error.Fault why) closed kept h = rw h refl
+fails_placed number stop.Memory closed kept h = tt
+fails_placed number (stop.Fault why) closed kept h = rw h refl
 
 -- these rows, and those that follow
 abbrev pub with_front : List Row → Result (List Row) (ℕ × RowWhy) → Result (List Row) (ℕ × RowWhy)

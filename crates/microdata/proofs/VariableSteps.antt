@@ -3,11 +3,11 @@ use Rattle.std.proofs.Common.{◌≡◌, ℕ, suc, ◌+◌, ◌≤◌, ◌<◌, 
 use Rattle.std.proofs.lemmas.List.{drop_all}
 use Rattle.sdc_base.specs.Answers.{Fails}
 use Rattle.sdc_base.specs.Steps.{◌>>=◌}
-use Rattle.microdata.specs.Faults.{why_of}
+use Rattle.plain_text.specs.Stops.{why_of}
 use Rattle.microdata.specs.OneRecord.{variable_says, variables_say}
 use Rattle.microdata.specs.declared.faults.RowWhy.{RowWhy}
-use Rattle.microdata.specs.declared.faults.RecordError.{RecordError}
-use Rattle.microdata.specs.declared.faults.RecordError.TheVariants as record_error
+use Rattle.plain_text.specs.declared.stop.Stop.{Stop}
+use Rattle.plain_text.specs.declared.stop.Stop.TheVariants as stop
 use Rattle.microdata.specs.declared.record.Variable.{Variable}
 
 -- these variables and places, and those that follow
@@ -24,11 +24,11 @@ pub fronts_next : (front : List Variable) (places : List ℕ) (variable next : V
 unfolding variables_say
 fronts_next front places variable next place rest line said = rw said (regrouped front places next place (variables_say rest line))
 
-pub fronts_stop : (e : RecordError) (front : List Variable) (places : List ℕ) (variable : Variable) (rest : List Variable) (line : List ℕ) → Fails (why_of e) (variable_says variable line)
+pub fronts_stop : (e : Stop RowWhy) (front : List Variable) (places : List ℕ) (variable : Variable) (rest : List Variable) (line : List ℕ) → Fails (why_of e) (variable_says variable line)
     → Fails (why_of e) (with_fronts front places (variables_say (variable ∷ rest) line))
 unfolding variables_say
-fronts_stop record_error.Memory front places variable rest line h = tt
-fronts_stop (record_error.Fault why) front places variable rest line h = rw h refl
+fronts_stop stop.Memory front places variable rest line h = tt
+fronts_stop (stop.Fault why) front places variable rest line h = rw h refl
 
 pub fronts_end : (front : List Variable) (places : List ℕ) (rest : List Variable) (line : List ℕ) → rest ≡ [] → with_fronts front places (variables_say rest line) ≡ Ok (front, places)
 unfolding variables_say

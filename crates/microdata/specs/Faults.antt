@@ -2,16 +2,11 @@
 -- names none.
 use Rattle.std.specs.Prelude.{ℕ, Option, None, Some, Result}
 use Rattle.sdc_base.specs.Steps.{map_fault}
+use Rattle.plain_text.specs.Stops.{stop_error}
+use Rattle.plain_text.specs.declared.stop.Stop.{Stop}
 use Rattle.microdata.specs.declared.faults.RowWhy.{RowWhy}
-use Rattle.microdata.specs.declared.faults.RecordError.{RecordError}
-use Rattle.microdata.specs.declared.faults.RecordError.TheVariants as record_error
 use Rattle.microdata.specs.declared.faults.RowError.{RowError}
 use Rattle.microdata.specs.declared.faults.RowError.TheVariants as row_error
-
--- the fault for which a record isn't taken in
-abbrev pub why_of : RecordError → Option RowWhy
-why_of record_error.Memory = None
-why_of (record_error.Fault why) = Some why
 
 -- the fault for which microdata aren't read, behind the number of its record
 abbrev pub fault_of : RowError → Option (ℕ × RowWhy)
@@ -23,6 +18,5 @@ abbrev pub at_record : {A : Type 0} → ℕ → Result A RowWhy → Result A (�
 at_record number given = map_fault (λ why. (number, why)) given
 
 -- the error of the record with this number
-abbrev pub error_of : ℕ → RecordError → RowError
-error_of number record_error.Memory = row_error.Memory
-error_of number (record_error.Fault why) = row_error.At number why
+abbrev pub error_of : ℕ → Stop RowWhy → RowError
+error_of number = stop_error (row_error.At number) row_error.Memory

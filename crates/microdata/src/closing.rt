@@ -7,14 +7,15 @@ ghost use Rattle.code_trees.specs.Levels.{boundaries, tree_of_codes, codes_with_
 ghost use Rattle.sdc_base.specs.Answers.{Gives};
 ghost use Rattle.microdata.specs.Closing.{closed_of, tree_of, places_in};
 ghost use Rattle.microdata.specs.Closing as closing;
-ghost use Rattle.microdata.specs.Faults.{fault_of, why_of, at_record};
+ghost use Rattle.plain_text.specs.Stops.{why_of};
+ghost use Rattle.microdata.specs.Faults.{fault_of, at_record};
 ghost use Rattle.microdata.specs.Keeping.{AreSeen, AreSoundRecords, IsVariable};
 ghost use Rattle.microdata.specs.KeptRows.{kept_of};
 ghost use Rattle.microdata.specs.Layouts.{IsSource};
 ghost use Rattle.microdata.specs.Microdata.{closed_records};
 
 use crate::ascending::Ascending;
-use crate::faults::{RecordError, RowError, RowWhy, error_at};
+use crate::faults::{RowError, RowWhy, error_at};
 use crate::kept_rows::KeptRows;
 use crate::layout::Source;
 use crate::record::{SoFar, Variable, Variables};
@@ -22,6 +23,7 @@ use crate::records::Records;
 use crate::taking::Seen;
 use arrayvec::ArrayVec;
 use code_trees::{CodeTree, TreeFault, flat, from_levels};
+use plain_text::Stop;
 use sdc_base::{Few, Items, Memory, Place, Row, Text};
 use std::alloc::Global;
 
@@ -166,7 +168,7 @@ fn place_codes(closed: &[ClosedVariable], number: u32, row: &mut Row) -> Result<
 
 // The places of a record's codes, where no others stand below them.
 #[tactic(auto, unfolding(crate::specs::Closing::leaves_of))]
-fn leaves_of(closed: &[ClosedVariable], numbers: &[u32]) -> Result<Place, RecordError>
+fn leaves_of(closed: &[ClosedVariable], numbers: &[u32]) -> Result<Place, Stop<RowWhy>>
     requires at_most_8 { length closed.now ≤ 8 }
     ensures { Gives why_of (λ places. places) result (closing.leaves_of closed.now numbers.now) }
 {
@@ -182,12 +184,12 @@ fn leaves_of(closed: &[ClosedVariable], numbers: &[u32]) -> Result<Place, Record
 }
 
 // The place of a code, where no others stand below it.
-fn leaf_of(closed: &ClosedVariable, number: u32) -> Result<u32, RecordError>
+fn leaf_of(closed: &ClosedVariable, number: u32) -> Result<u32, Stop<RowWhy>>
     ensures { Gives why_of (λ place. place) result (closing.leaf_of closed.now number) }
 {
     let place = tree_place(closed, number);
     if closed.tree.first_child(place).is_some() {
-        return Err(RecordError::Fault(RowWhy::NotLeaf));
+        return Err(Stop::Fault(RowWhy::NotLeaf));
     }
     Ok(place)
 }

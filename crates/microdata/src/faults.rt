@@ -1,6 +1,7 @@
 ghost use Rattle.std.specs.Prelude.{◌≡◌};
 ghost use Rattle.microdata.specs.Faults.{error_of};
 
+use plain_text::Stop;
 use sdc_base::Memory;
 use std::alloc::{AllocError, AllocFailed};
 
@@ -39,43 +40,6 @@ pub enum RowError {
     Memory,
 }
 
-/// Why a record isn't taken in, whatever its number.
-#[derive(Clone, Copy, Debug, PartialEq, Eq)]
-pub(crate) enum RecordError {
-    Fault(RowWhy),
-    Memory,
-}
-
-impl From<Memory> for RecordError {
-    ghost use Rattle.microdata.specs.declared.faults.RecordError.TheVariants as record_error;
-
-    ghost from_gives = { λ _ e. e ≡ record_error.Memory };
-
-    fn from(_: Memory) -> Self {
-        RecordError::Memory
-    }
-}
-
-impl From<AllocError> for RecordError {
-    ghost use Rattle.microdata.specs.declared.faults.RecordError.TheVariants as record_error;
-
-    ghost from_gives = { λ _ e. e ≡ record_error.Memory };
-
-    fn from(_: AllocError) -> Self {
-        RecordError::Memory
-    }
-}
-
-impl<T: Drop> From<AllocFailed<T>> for RecordError {
-    ghost use Rattle.microdata.specs.declared.faults.RecordError.TheVariants as record_error;
-
-    ghost from_gives = { λ _ e. e ≡ record_error.Memory };
-
-    fn from(_: AllocFailed<T>) -> Self {
-        RecordError::Memory
-    }
-}
-
 impl From<Memory> for RowError {
     ghost use Rattle.microdata.specs.declared.faults.RowError.TheVariants as row_error;
 
@@ -107,11 +71,11 @@ impl<T: Drop> From<AllocFailed<T>> for RowError {
 }
 
 /// The error of the record with this number.
-pub(crate) fn error_at(number: u64, error: RecordError) -> RowError
+pub(crate) fn error_at(number: u64, error: Stop<RowWhy>) -> RowError
     ensures { result ≡ error_of number error }
 {
     match error {
-        RecordError::Fault(why) => RowError::At { number, why },
-        RecordError::Memory => RowError::Memory,
+        Stop::Fault(why) => RowError::At { number, why },
+        Stop::Memory => RowError::Memory,
     }
 }

@@ -2,14 +2,14 @@ ghost use Rattle.std.specs.Prelude.{◌≡◌, ◌+◌, ◌≤◌, ◌<◌, ◌^
 ghost use Rattle.std.specs.List.{list_any};
 ghost use Rattle.std.specs.Str.{bytes_eq};
 ghost use Rattle.sdc_base.specs.Answers.{Gives};
-ghost use Rattle.microdata.specs.Faults.{why_of};
+ghost use Rattle.plain_text.specs.Stops.{why_of};
 ghost use Rattle.microdata.specs.Fields as spec;
 ghost use Rattle.microdata.specs.Layouts.{IsNumber, IsWeight};
 
-use crate::faults::{RecordError, RowWhy};
+use crate::faults::RowWhy;
 use crate::fields::field;
 use crate::layout::NumberField;
-use plain_text::read_units;
+use plain_text::{Stop, read_units};
 use sdc_base::Text;
 
 // The first response that is too large, in units.
@@ -37,14 +37,14 @@ fn is_among(text: &[u8], codes: &[Text]) -> bool
 
 /// The response in the text of its field, in units.
 #[tactic(auto, unfolding(crate::specs::Fields::value_in))]
-pub(crate) fn value_in(response: &NumberField, text: &[u8]) -> Result<u64, RecordError>
+pub(crate) fn value_in(response: &NumberField, text: &[u8]) -> Result<u64, Stop<RowWhy>>
     requires decimals { response.now.decimals ≤ 9 }
     requires at_most_1000 { length text.now ≤ 1000 }
     ensures value { Gives why_of (λ value. value) result (spec.value_in response.now text.now) }
     ensures small { IfOk result (λ value. value < 10 ^ 15) }
 {
     if is_negative(text) {
-        return Err(RecordError::Fault(RowWhy::Negative));
+        return Err(Stop::Fault(RowWhy::Negative));
     }
     number_in(TOO_LARGE, response.decimals, text)
 }
@@ -61,7 +61,7 @@ fn is_negative(bytes: &[u8]) -> bool
 
 /// The weight of a record, in steps.
 #[tactic(auto, unfolding(crate::specs::Fields::weight_of))]
-pub(crate) fn weight_of(weight: &Option<NumberField>, line: &[u8]) -> Result<u32, RecordError>
+pub(crate) fn weight_of(weight: &Option<NumberField>, line: &[u8]) -> Result<u32, Stop<RowWhy>>
     requires number { IsWeight (length line.now) weight.now }
     requires at_most_1000 { length line.now ≤ 1000 }
     ensures { Gives why_of (λ steps. steps) result (spec.weight_of weight.now line.now) }
@@ -74,7 +74,7 @@ pub(crate) fn weight_of(weight: &Option<NumberField>, line: &[u8]) -> Result<u32
 
 // The weight in a record's field.
 #[tactic(auto, unfolding(crate::specs::Fields::weight_of))]
-fn steps_of(weight: &NumberField, line: &[u8]) -> Result<u32, RecordError>
+fn steps_of(weight: &NumberField, line: &[u8]) -> Result<u32, Stop<RowWhy>>
     requires number { IsNumber (length line.now) 4 weight.now }
     requires at_most_1000 { length line.now ≤ 1000 }
     ensures { Gives why_of (λ steps. steps) result (spec.weight_of (Some weight.now) line.now) }
@@ -82,7 +82,7 @@ fn steps_of(weight: &NumberField, line: &[u8]) -> Result<u32, RecordError>
     let text = field(weight.first, weight.width, line);
     let steps = number_in(TOO_HEAVY, weight.decimals, text)?;
     if steps < scale_of(weight.decimals) {
-        return Err(RecordError::Fault(RowWhy::LightWeight));
+        return Err(Stop::Fault(RowWhy::LightWeight));
     }
     Ok(steps as u32)
 }
@@ -96,17 +96,17 @@ fn scale_of(decimals: u8) -> u64
 }
 
 // The number in a text, in units of so many decimals, below a limit.
-fn number_in(limit: u64, decimals: u8, text: &[u8]) -> Result<u64, RecordError>
+fn number_in(limit: u64, decimals: u8, text: &[u8]) -> Result<u64, Stop<RowWhy>>
     requires decimals { decimals ≤ 9 }
     requires at_most_1000 { length text.now ≤ 1000 }
     ensures value { Gives why_of (λ value. value) result (spec.number_in limit decimals text.now) }
     ensures small { IfOk result (λ value. value < limit) }
 {
     let Ok(units) = read_units(text, decimals) else {
-        return Err(RecordError::Fault(RowWhy::BadNumber));
+        return Err(Stop::Fault(RowWhy::BadNumber));
     };
     if units >= i128::from(limit) {
-        return Err(RecordError::Fault(RowWhy::BadNumber));
+        return Err(Stop::Fault(RowWhy::BadNumber));
     }
     Ok(units as u64)
 }

@@ -1,17 +1,19 @@
 ghost use Rattle.std.specs.Prelude.{◌≡◌, ◌+◌, ◌<◌, ◌≤◌, ◌^◌, All, length, pos, OnOk};
 ghost use Rattle.sdc_base.specs.Answers.{Gives};
-ghost use Rattle.microdata.specs.Faults.{fault_of, why_of, at_record};
+ghost use Rattle.plain_text.specs.Stops.{why_of};
+ghost use Rattle.microdata.specs.Faults.{fault_of, at_record};
 ghost use Rattle.microdata.specs.Fields as spec;
 ghost use Rattle.microdata.specs.Keeping.{IsVariable, AreSoundRecords};
 ghost use Rattle.microdata.specs.OneRecord.{line_says, record_says, response_says, variable_says, variables_say, with_skipped};
 
-use crate::faults::{RecordError, RowError, RowWhy, error_at};
+use crate::faults::{RowError, RowWhy, error_at};
 use crate::fields::field;
 use crate::kept_rows::KeptRows;
 use crate::layout::{Field, Measures};
 use crate::numbers::{has_no_response_in, value_in, weight_of};
 use crate::taking::{Seen, take_code};
 use arrayvec::ArrayVec;
+use plain_text::Stop;
 use sdc_base::{Few, Place, Row};
 use std::alloc::Global;
 use std::marker::Model;
@@ -60,7 +62,7 @@ impl Variables {
     }
 
     // Takes in the codes of a record, each at its variable, and says where they stand.
-    fn take_codes(&mut self, alloc: Global, needed: u32, line: &[u8]) -> Result<Place, RecordError>
+    fn take_codes(&mut self, alloc: Global, needed: u32, line: &[u8]) -> Result<Place, Stop<RowWhy>>
         requires variables { All (IsVariable needed) self.old }
         requires at_most_8 { length self.old ≤ 8 }
         requires long_enough { needed ≤ length line.now }
@@ -111,19 +113,19 @@ fn take_record(
     measures: &Measures,
     so_far: &mut SoFar,
     line: &[u8],
-) -> Result<(), RecordError>
+) -> Result<(), Stop<RowWhy>>
     requires { AreSoundRecords measures.now so_far.old }
     ensures said { Gives why_of (λ _. so_far.new) result (record_says measures.now so_far.old line.now) }
     ensures sound { OnOk result (AreSoundRecords measures.now so_far.new) }
 {
     if line.len() > MOST_BYTES {
-        return Err(RecordError::Fault(RowWhy::TooLong));
+        return Err(Stop::Fault(RowWhy::TooLong));
     }
     if so_far.number >= MOST_RECORDS {
-        return Err(RecordError::Fault(RowWhy::TooMany));
+        return Err(Stop::Fault(RowWhy::TooMany));
     }
     if line.len() < measures.needed as usize {
-        return Err(RecordError::Fault(RowWhy::Short));
+        return Err(Stop::Fault(RowWhy::Short));
     }
     let text = field(measures.response.first, measures.response.width, line);
     if has_no_response_in(&measures.response, text) {
@@ -142,7 +144,7 @@ fn take_response(
     so_far: &mut SoFar,
     text: &[u8],
     line: &[u8],
-) -> Result<(), RecordError>
+) -> Result<(), Stop<RowWhy>>
     requires sound { AreSoundRecords measures.now so_far.old }
     requires more { so_far.old.number < 1000000 }
     requires long_enough { measures.now.needed ≤ length line.now }
@@ -171,7 +173,7 @@ fn take_codes(
     variables: &mut Vec<Variable>,
     needed: u32,
     line: &[u8],
-) -> Result<Place, RecordError>
+) -> Result<Place, Stop<RowWhy>>
     requires variables { All (IsVariable needed) variables.old.items }
     requires at_most_8 { length variables.old.items ≤ 8 }
     requires long_enough { needed ≤ length line.now }
@@ -197,7 +199,7 @@ fn take_variable(
     variable: &mut Variable,
     needed: u32,
     line: &[u8],
-) -> Result<u32, RecordError>
+) -> Result<u32, Stop<RowWhy>>
     requires variable { IsVariable needed variable.old }
     requires long_enough { needed ≤ length line.now }
     ensures said { Gives why_of (λ place. (variable.new, place)) result (variable_says variable.old line.now) }

@@ -4,7 +4,7 @@ ghost use Rattle.std.specs.Str.{bytes_eq};
 ghost use Rattle.sdc_base.specs.Answers.{Gives};
 ghost use Rattle.sdc_base.specs.Blanks.{is_blank};
 ghost use Rattle.code_trees.specs.Levels.{boundaries, prefixes, with_prefixes};
-ghost use Rattle.microdata.specs.Faults.{why_of};
+ghost use Rattle.plain_text.specs.Stops.{why_of};
 ghost use Rattle.microdata.specs.SeenCodes.{with_code, known_or_new, with_level_code, with_flat_code};
 ghost use Rattle.microdata.specs.SeenCodes as spec;
 ghost use Rattle.microdata.specs.Keeping.{AreSeen, AreLevelCodes, AreFlatCodes};
@@ -12,10 +12,10 @@ ghost use Rattle.microdata.specs.Layouts.{IsSource};
 
 use crate::ascending::Ascending;
 use crate::codes::Codes;
-use crate::faults::{RecordError, RowWhy};
+use crate::faults::RowWhy;
 use crate::layout::Source;
 use code_trees::CodeTree;
-use plain_text::is_blank_byte;
+use plain_text::{Stop, is_blank_byte};
 use sdc_base::Memory;
 use std::alloc::Global;
 
@@ -39,7 +39,7 @@ pub(crate) fn take_code(
     source: &Source,
     seen: &mut Seen,
     code: &[u8],
-) -> Result<u32, RecordError>
+) -> Result<u32, Stop<RowWhy>>
     requires source { IsSource source.now }
     requires seen { AreSeen source.now seen.old }
     ensures said { Gives why_of (λ place. (seen.new, place)) result (with_code source.now seen.old code.now) }
@@ -56,14 +56,14 @@ pub(crate) fn take_code(
 
 // The place of a code in a listed tree, where nothing stands below it.
 #[tactic(auto, unfolding(crate::specs::SeenCodes::listed_place))]
-fn listed_place(tree: &CodeTree, code: &[u8]) -> Result<u32, RecordError>
+fn listed_place(tree: &CodeTree, code: &[u8]) -> Result<u32, Stop<RowWhy>>
     ensures { Gives why_of (λ place. place) result (spec.listed_place tree.now code.now) }
 {
     let Some(place) = tree.find(code) else {
-        return Err(RecordError::Fault(RowWhy::UnknownCode));
+        return Err(Stop::Fault(RowWhy::UnknownCode));
     };
     if place == 0 || tree.first_child(place).is_some() {
-        return Err(RecordError::Fault(RowWhy::NotLeaf));
+        return Err(Stop::Fault(RowWhy::NotLeaf));
     }
     Ok(place)
 }
@@ -75,7 +75,7 @@ fn take_level_code(
     total: &[u8],
     seen: &mut Seen,
     code: &[u8],
-) -> Result<u32, RecordError>
+) -> Result<u32, Stop<RowWhy>>
     requires at_most_9 { length widths.now ≤ 9 }
     requires sound { AreLevelCodes widths.now total.now seen.old }
     ensures said { Gives why_of (λ place. (seen.new, place)) result
@@ -99,26 +99,26 @@ fn add_level_code(
     total: &[u8],
     seen: &mut Seen,
     code: &[u8],
-) -> Result<(), RecordError>
+) -> Result<(), Stop<RowWhy>>
     requires at_most_9 { length widths.now ≤ 9 }
     requires new { list_any (bytes_eq code.now) seen.old.codes ≡ false }
     ensures said { Gives why_of (λ _. seen.new) result (with_level_code widths.now total.now seen.old code.now) }
 {
     if has_blank(code) {
-        return Err(RecordError::Fault(RowWhy::UnknownCode));
+        return Err(Stop::Fault(RowWhy::UnknownCode));
     }
     if sum_of(widths) < code.len() {
-        return Err(RecordError::Fault(RowWhy::UnknownCode));
+        return Err(Stop::Fault(RowWhy::UnknownCode));
     }
     if code == total {
-        return Err(RecordError::Fault(RowWhy::NotLeaf));
+        return Err(Stop::Fault(RowWhy::NotLeaf));
     }
     if begins_with_total(total, widths, code) {
-        return Err(RecordError::Fault(RowWhy::UnknownCode));
+        return Err(Stop::Fault(RowWhy::UnknownCode));
     }
     add_prefixes(alloc, &mut seen.nodes, widths, code)?;
     if seen.nodes.len() > MOST_CODES {
-        return Err(RecordError::Fault(RowWhy::TooManyCodes));
+        return Err(Stop::Fault(RowWhy::TooManyCodes));
     }
     seen.codes.push(alloc, code)?;
     Ok(())
@@ -188,7 +188,7 @@ fn take_flat_code(
     total: &[u8],
     seen: &mut Seen,
     code: &[u8],
-) -> Result<u32, RecordError>
+) -> Result<u32, Stop<RowWhy>>
     requires { length seen.old.codes ≤ 5000 }
     ensures said { Gives why_of (λ place. (seen.new, place)) result
         (known_or_new seen.old (position (bytes_eq code.now) seen.old.codes)
@@ -211,15 +211,15 @@ fn add_flat_code(
     total: &[u8],
     seen: &mut Seen,
     code: &[u8],
-) -> Result<(), RecordError>
+) -> Result<(), Stop<RowWhy>>
     requires new { list_any (bytes_eq code.now) seen.old.codes ≡ false }
     ensures said { Gives why_of (λ _. seen.new) result (with_flat_code total.now seen.old code.now) }
 {
     if code == total {
-        return Err(RecordError::Fault(RowWhy::NotLeaf));
+        return Err(Stop::Fault(RowWhy::NotLeaf));
     }
     if seen.codes.len() >= MOST_CODES {
-        return Err(RecordError::Fault(RowWhy::TooManyCodes));
+        return Err(Stop::Fault(RowWhy::TooManyCodes));
     }
     seen.nodes.insert(alloc, code)?;
     seen.codes.push(alloc, code)?;

@@ -6,6 +6,7 @@ mod cuts;
 mod file_names;
 mod laws;
 mod line_reader;
+mod stop;
 mod units;
 mod units_text;
 mod whole_numbers;
@@ -20,6 +21,7 @@ pub use laws::{
 };
 pub use line_reader::{Line, LineReader, lines, without_return};
 pub use sdc_base::NumberFault;
+pub use stop::Stop;
 pub use units::read_units;
 pub use units_text::print_units;
 pub use whole_numbers::number_in;

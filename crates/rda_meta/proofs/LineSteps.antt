@@ -2,12 +2,13 @@
 use Rattle.std.proofs.Common.{◌≡◌, ℕ, ◌+◌, List, [], ◌∷◌, ◌++◌, Result, Ok, refl, ap, ◌∙◌}
 use Rattle.sdc_base.specs.Blanks.{trim}
 use Rattle.sdc_base.specs.Answers.{Fails}
-use Rattle.rda_meta.specs.Faults.{why_of, fault_of, at_line, error_of}
+use Rattle.plain_text.specs.Stops.{why_of}
+use Rattle.rda_meta.specs.Faults.{fault_of, at_line, error_of}
 use Rattle.rda_meta.specs.KeywordLines.{with_setting}
 use Rattle.rda_meta.specs.Metadata.{text_says, lines_say}
 use Rattle.rda_meta.specs.declared.faults.MetaWhy.{MetaWhy}
-use Rattle.rda_meta.specs.declared.faults.LineError.{LineError}
-use Rattle.rda_meta.specs.declared.faults.LineError.TheVariants as line_error
+use Rattle.plain_text.specs.declared.stop.Stop.{Stop}
+use Rattle.plain_text.specs.declared.stop.Stop.TheVariants as stop
 use Rattle.rda_meta.specs.declared.setting.Setting.{Setting}
 use Rattle.rda_meta.specs.declared.entry.Entry.{Entry}
 use Rattle.rda_meta.specs.declared.faults.MetaError.{MetaError}
@@ -15,9 +16,9 @@ use Rattle.rda_meta.specs.declared.faults.MetaError.TheVariants as meta_error
 use Rattle.rda_meta.specs.declared.entry.SoFar.{SoFar}
 
 -- an error of a line keeps its fault when the line's number is put to it
-pub fails_at : {Y : Type 0} (line : ℕ) (e : LineError) (read : Result Y MetaWhy) → Fails (why_of e) read → Fails (fault_of (error_of line e)) (at_line line read)
-fails_at line line_error.Memory read h = tt
-fails_at line (line_error.Fault why) read h = rw h refl
+pub fails_at : {Y : Type 0} (line : ℕ) (e : Stop MetaWhy) (read : Result Y MetaWhy) → Fails (why_of e) read → Fails (fault_of (error_of line e)) (at_line line read)
+fails_at line stop.Memory read h = tt
+fails_at line (stop.Fault why) read h = rw h refl
 
 pub with_none : (setting : Setting) (entries : List Entry) → entries ≡ [] → ◌≡◌ {A = List Entry} (with_setting setting entries) []
 with_none setting entries is = rw is refl

@@ -1,16 +1,11 @@
 -- The faults of metadata with their lines, as the errors of calls name them (own); want of memory names none.
 use Rattle.std.specs.Prelude.{ℕ, Option, None, Some, Result}
 use Rattle.sdc_base.specs.Steps.{map_fault}
+use Rattle.plain_text.specs.Stops.{stop_error}
+use Rattle.plain_text.specs.declared.stop.Stop.{Stop}
 use Rattle.rda_meta.specs.declared.faults.MetaWhy.{MetaWhy}
-use Rattle.rda_meta.specs.declared.faults.LineError.{LineError}
-use Rattle.rda_meta.specs.declared.faults.LineError.TheVariants as line_error
 use Rattle.rda_meta.specs.declared.faults.MetaError.{MetaError}
 use Rattle.rda_meta.specs.declared.faults.MetaError.TheVariants as meta_error
-
--- the fault for which a line isn't taken in
-abbrev pub why_of : LineError → Option MetaWhy
-why_of line_error.Memory = None
-why_of (line_error.Fault why) = Some why
 
 -- the fault for which metadata aren't read, behind the number of its line
 abbrev pub fault_of : MetaError → Option (ℕ × MetaWhy)
@@ -22,6 +17,5 @@ abbrev pub at_line : {A : Type 0} → ℕ → Result A MetaWhy → Result A (ℕ
 at_line line given = map_fault (λ why. (line, why)) given
 
 -- the error of the line with this number
-abbrev pub error_of : ℕ → LineError → MetaError
-error_of line line_error.Memory = meta_error.Memory
-error_of line (line_error.Fault why) = meta_error.At line why
+abbrev pub error_of : ℕ → Stop MetaWhy → MetaError
+error_of line = stop_error (meta_error.At line) meta_error.Memory

@@ -2,15 +2,15 @@ ghost use Rattle.std.specs.Prelude.{◌≡◌, ◌<◌, ◌≤◌, length, sum};
 ghost use Rattle.std.specs.List.{list_any};
 ghost use Rattle.sdc_base.specs.Blanks.{is_blank};
 ghost use Rattle.sdc_base.specs.Answers.{Gives};
-ghost use Rattle.rda_meta.specs.Faults.{why_of};
+ghost use Rattle.plain_text.specs.Stops.{why_of};
 ghost use Rattle.rda_meta.specs.Arguments.{is_zero, without_end_zeros};
 ghost use Rattle.rda_meta.specs.Arguments as spec;
 
-use crate::faults::{LineError, MetaWhy};
+use crate::faults::MetaWhy;
 use crate::numbers::number_in;
 use crate::setting::{Argument, Keyword};
 use crate::words::Words;
-use plain_text::{is_blank_byte, is_file_name, trim};
+use plain_text::{Stop, is_blank_byte, is_file_name, trim};
 use sdc_base::{Items, Text};
 use std::alloc::Global;
 
@@ -22,7 +22,7 @@ pub(crate) fn argument_of(
     keyword: Keyword,
     width: u32,
     words: &mut Words,
-) -> Result<Argument, LineError>
+) -> Result<Argument, Stop<MetaWhy>>
     ensures { Gives why_of (λ argument. argument) result (spec.argument_of keyword width words.old) }
 {
     match keyword {
@@ -38,69 +38,69 @@ pub(crate) fn argument_of(
 }
 
 // No word at all.
-fn no_argument(words: &mut Words) -> Result<Argument, LineError>
+fn no_argument(words: &mut Words) -> Result<Argument, Stop<MetaWhy>>
     ensures { Gives why_of (λ argument. argument) result (spec.no_argument words.old) }
 {
     let word = words.next_word();
     if word.is_some() {
-        return Err(LineError::Fault(MetaWhy::BadValue));
+        return Err(Stop::Fault(MetaWhy::BadValue));
     }
     Ok(Argument::Nothing)
 }
 
 // Exactly one word.
-fn only_word<'a>(words: &mut Words<'a>) -> Result<&'a [u8], LineError>
+fn only_word<'a>(words: &mut Words<'a>) -> Result<&'a [u8], Stop<MetaWhy>>
     ensures { Gives why_of (λ word. word.now) result (spec.only_word words.old) }
 {
     let Some(word) = words.next_word() else {
-        return Err(LineError::Fault(MetaWhy::BadValue));
+        return Err(Stop::Fault(MetaWhy::BadValue));
     };
     let other = words.next_word();
     if other.is_some() {
-        return Err(LineError::Fault(MetaWhy::BadValue));
+        return Err(Stop::Fault(MetaWhy::BadValue));
     }
     Ok(word)
 }
 
 // One word, a number from 0 to 9.
 #[tactic(auto, unfolding(crate::specs::Arguments::decimals_argument))]
-fn decimals_argument(words: &mut Words) -> Result<Argument, LineError>
+fn decimals_argument(words: &mut Words) -> Result<Argument, Stop<MetaWhy>>
     ensures { Gives why_of (λ argument. argument) result (spec.decimals_argument words.old) }
 {
     let word = only_word(words)?;
     let Some(number) = number_in(0, 9, word) else {
-        return Err(LineError::Fault(MetaWhy::BadValue));
+        return Err(Stop::Fault(MetaWhy::BadValue));
     };
     Ok(Argument::Number(number as u8))
 }
 
 // One word, a file name.
 #[tactic(auto, unfolding(crate::specs::Arguments::file_argument))]
-fn file_argument(alloc: Global, words: &mut Words) -> Result<Argument, LineError>
+fn file_argument(alloc: Global, words: &mut Words) -> Result<Argument, Stop<MetaWhy>>
     ensures { Gives why_of (λ argument. argument) result (spec.file_argument words.old) }
 {
     let word = only_word(words)?;
     if !is_file_name(word) {
-        return Err(LineError::Fault(MetaWhy::BadValue));
+        return Err(Stop::Fault(MetaWhy::BadValue));
     }
     Ok(Argument::Word(Text::from_slice(alloc, word)?))
 }
 
 // One word, a lead string.
 #[tactic(auto, unfolding(crate::specs::Arguments::lead_argument))]
-fn lead_argument(alloc: Global, words: &mut Words) -> Result<Argument, LineError>
+fn lead_argument(alloc: Global, words: &mut Words) -> Result<Argument, Stop<MetaWhy>>
     ensures { Gives why_of (λ argument. argument) result (spec.lead_argument words.old) }
 {
     let word = only_word(words)?;
     if !is_lead(word) {
-        return Err(LineError::Fault(MetaWhy::BadValue));
+        return Err(Stop::Fault(MetaWhy::BadValue));
     }
     Ok(Argument::Word(Text::from_slice(alloc, word)?))
 }
 
 // One word, a code; blanks at its ends are taken off.
 #[tactic(auto, unfolding(crate::specs::Arguments::code_argument))]
-fn code_argument(alloc: Global, words: &mut Words) -> Result<Argument, LineError>
+fn code_argument(alloc: Global, words: &mut Words) -> Result<Argument, Stop<MetaWhy>>
     ensures { Gives why_of (λ argument. argument) result (spec.code_argument words.old) }
 {
     let word = only_word(words)?;
@@ -109,25 +109,25 @@ fn code_argument(alloc: Global, words: &mut Words) -> Result<Argument, LineError
 
 // The widths of levels; zeros at the end add none.
 #[tactic(auto, unfolding(crate::specs::Arguments::levels_argument))]
-fn levels_argument(alloc: Global, width: u32, words: &mut Words) -> Result<Argument, LineError>
+fn levels_argument(alloc: Global, width: u32, words: &mut Words) -> Result<Argument, Stop<MetaWhy>>
     ensures { Gives why_of (λ argument. argument) result (spec.levels_argument width words.old) }
 {
     let numbers = word_numbers(alloc, words)?;
     let levels = without_zeros(numbers.as_slice());
     if !are_levels(width, levels) {
-        return Err(LineError::Fault(MetaWhy::BadValue));
+        return Err(Stop::Fault(MetaWhy::BadValue));
     }
     Ok(Argument::Levels(Items::new(levels.to_vec(alloc)?)))
 }
 
 // Each word as a number.
-fn word_numbers(alloc: Global, words: &mut Words) -> Result<Items<u8>, LineError>
+fn word_numbers(alloc: Global, words: &mut Words) -> Result<Items<u8>, Stop<MetaWhy>>
     ensures { Gives why_of (λ numbers. numbers) result (spec.word_numbers words.old) }
 {
     let mut numbers = Items::empty(alloc);
     'words: while let Some(word) = words.next_word() {
         let Some(number) = number_in(0, 255, word) else {
-            return Err(LineError::Fault(MetaWhy::BadValue));
+            return Err(Stop::Fault(MetaWhy::BadValue));
         };
         numbers.push(number as u8)?;
     }

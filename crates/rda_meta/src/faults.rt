@@ -1,8 +1,8 @@
 ghost use Rattle.std.specs.Prelude.{◌≡◌};
 ghost use Rattle.rda_meta.specs.Faults.{error_of};
 
+use plain_text::Stop;
 use sdc_base::Memory;
-use std::alloc::AllocError;
 
 /// What is wrong with a line of metadata. All but `Clash` are looked for line by line, and within a
 /// line in the order `UnknownKeyword`, `BadName`, `BadPlace`, `BadValue`, `Twice`, `TooMany`.
@@ -36,33 +36,6 @@ pub enum MetaError {
     Memory,
 }
 
-/// Why a line isn't taken in, whatever its number.
-#[derive(Clone, Copy, Debug, PartialEq, Eq)]
-pub(crate) enum LineError {
-    Fault(MetaWhy),
-    Memory,
-}
-
-impl From<Memory> for LineError {
-    ghost use Rattle.rda_meta.specs.declared.faults.LineError.TheVariants as line_error;
-
-    ghost from_gives = { λ _ e. e ≡ line_error.Memory };
-
-    fn from(_: Memory) -> Self {
-        LineError::Memory
-    }
-}
-
-impl From<AllocError> for LineError {
-    ghost use Rattle.rda_meta.specs.declared.faults.LineError.TheVariants as line_error;
-
-    ghost from_gives = { λ _ e. e ≡ line_error.Memory };
-
-    fn from(_: AllocError) -> Self {
-        LineError::Memory
-    }
-}
-
 impl From<Memory> for MetaError {
     ghost use Rattle.rda_meta.specs.declared.faults.MetaError.TheVariants as meta_error;
 
@@ -74,11 +47,11 @@ impl From<Memory> for MetaError {
 }
 
 /// The error of the line with this number.
-pub(crate) fn error_at(line: u32, error: LineError) -> MetaError
+pub(crate) fn error_at(line: u32, error: Stop<MetaWhy>) -> MetaError
     ensures { result ≡ error_of line error }
 {
     match error {
-        LineError::Fault(why) => MetaError::At { line, why },
-        LineError::Memory => MetaError::Memory,
+        Stop::Fault(why) => MetaError::At { line, why },
+        Stop::Memory => MetaError::Memory,
     }
 }

@@ -1,7 +1,7 @@
 ghost use Rattle.std.specs.Prelude.{◌≡◌, OnOk};
 ghost use Rattle.std.specs.List.{after_first, list_any};
 ghost use Rattle.sdc_base.specs.Answers.{Gives};
-ghost use Rattle.rda_meta.specs.Faults.{why_of};
+ghost use Rattle.plain_text.specs.Stops.{why_of};
 ghost use Rattle.rda_meta.specs.KeywordLines.{with_setting};
 ghost use Rattle.sdc_base.specs.Tokens.{is_close};
 ghost use Rattle.rda_meta.specs.KeywordLines as keyword_lines;
@@ -9,12 +9,12 @@ ghost use Rattle.rda_meta.specs.LineSettings as line_settings;
 
 use crate::arguments::argument_of;
 use crate::entry::Entry;
-use crate::faults::{LineError, MetaWhy};
+use crate::faults::MetaWhy;
 use crate::keywords::keyword_of;
 use crate::said::has_keyword;
 use crate::setting::{Keyword, Setting};
 use crate::words::words_in;
-use plain_text::cut_at;
+use plain_text::{Stop, cut_at};
 use sdc_base::{Items, Memory};
 use std::alloc::Global;
 
@@ -37,17 +37,17 @@ pub(crate) fn setting_in(
     alloc: Global,
     entries: &[Entry],
     text: &[u8],
-) -> Result<Setting, LineError>
+) -> Result<Setting, Stop<MetaWhy>>
     ensures { Gives why_of (λ setting. setting) result (keyword_lines.setting_in entries.now text.now) }
 {
     let keyword = keyword_in(text)?;
     let Some(entry) = entries.last() else {
-        return Err(LineError::Fault(MetaWhy::BadName));
+        return Err(Stop::Fault(MetaWhy::BadName));
     };
     let mut words = words_in(behind_keyword(text));
     let argument = argument_of(alloc, keyword, entry.width, &mut words)?;
     if is_again(keyword, entry, entries) {
-        return Err(LineError::Fault(MetaWhy::Twice));
+        return Err(Stop::Fault(MetaWhy::Twice));
     }
     Ok(Setting { keyword, argument })
 }
@@ -73,15 +73,15 @@ fn some_weight(entries: &[Entry]) -> bool
 
 // The keyword that stands before the first `>`.
 #[tactic(auto, unfolding(crate::specs::KeywordLines::keyword_in))]
-fn keyword_in(text: &[u8]) -> Result<Keyword, LineError>
+fn keyword_in(text: &[u8]) -> Result<Keyword, Stop<MetaWhy>>
     ensures { Gives why_of (λ keyword. keyword) result (keyword_lines.keyword_in text.now) }
 {
     if !text.contains(&b'>') {
-        return Err(LineError::Fault(MetaWhy::UnknownKeyword));
+        return Err(Stop::Fault(MetaWhy::UnknownKeyword));
     }
     let (name, _) = cut_at(b'>', text);
     let Some(keyword) = keyword_of(name) else {
-        return Err(LineError::Fault(MetaWhy::UnknownKeyword));
+        return Err(Stop::Fault(MetaWhy::UnknownKeyword));
     };
     Ok(keyword)
 }

@@ -1,18 +1,19 @@
 ghost use Rattle.std.specs.Prelude.{◌≡◌, ◌≤◌, ◌+◌, ◌<◌, ◌^◌, OnOk};
 ghost use Rattle.sdc_base.specs.Answers.{Gives};
 ghost use Rattle.sdc_base.specs.Blanks as blanks_specs;
-ghost use Rattle.rda_meta.specs.Faults.{why_of, fault_of, at_line};
+ghost use Rattle.plain_text.specs.Stops.{why_of};
+ghost use Rattle.rda_meta.specs.Faults.{fault_of, at_line};
 ghost use Rattle.rda_meta.specs.Metadata.{after_setting};
 ghost use Rattle.rda_meta.specs.Metadata as metadata;
 
 use crate::entry::SoFar;
-use crate::faults::{LineError, MetaError, error_at};
+use crate::faults::{MetaError, MetaWhy, error_at};
 use crate::keyword_lines::{add_setting, setting_in};
 use crate::keywords::is_passed;
 use crate::setting::Setting;
 use crate::variable_lines::variable_at;
 use crate::words::words_in;
-use plain_text::trim;
+use plain_text::{Stop, trim};
 use sdc_base::Memory;
 use std::alloc::Global;
 
@@ -38,7 +39,7 @@ pub(crate) fn read_line(
 
 // What the bytes of a line say, without blanks at their ends.
 #[tactic(auto, unfolding(crate::specs::Metadata::text_says))]
-fn text_says(alloc: Global, line: u32, text: &[u8], so_far: &mut SoFar) -> Result<(), LineError>
+fn text_says(alloc: Global, line: u32, text: &[u8], so_far: &mut SoFar) -> Result<(), Stop<MetaWhy>>
     requires { so_far.old.passed_over + 1 < 2 ^ 32 }
     ensures said { Gives why_of (λ _. so_far.new) result (metadata.text_says line so_far.old text.now) }
     ensures passed { OnOk result (so_far.new.passed_over ≤ so_far.old.passed_over + 1) }
@@ -54,7 +55,12 @@ fn text_says(alloc: Global, line: u32, text: &[u8], so_far: &mut SoFar) -> Resul
 
 // One variable more.
 #[tactic(auto, unfolding(crate::specs::Metadata::variable_line))]
-fn variable_line(alloc: Global, line: u32, text: &[u8], so_far: &mut SoFar) -> Result<(), LineError>
+fn variable_line(
+    alloc: Global,
+    line: u32,
+    text: &[u8],
+    so_far: &mut SoFar,
+) -> Result<(), Stop<MetaWhy>>
     ensures said { Gives why_of (λ _. so_far.new) result (metadata.variable_line line so_far.old text.now) }
     ensures passed { OnOk result (so_far.new.passed_over ≤ so_far.old.passed_over + 1) }
 {
@@ -67,7 +73,7 @@ fn variable_line(alloc: Global, line: u32, text: &[u8], so_far: &mut SoFar) -> R
 // One setting more of the last variable, or one line more that is passed over; the text is that behind
 // the `<`.
 #[tactic(auto, unfolding(crate::specs::Metadata::keyword_line))]
-fn keyword_line(alloc: Global, text: &[u8], so_far: &mut SoFar) -> Result<(), LineError>
+fn keyword_line(alloc: Global, text: &[u8], so_far: &mut SoFar) -> Result<(), Stop<MetaWhy>>
     requires { so_far.old.passed_over + 1 < 2 ^ 32 }
     ensures said { Gives why_of (λ _. so_far.new) result (metadata.keyword_line so_far.old text.now) }
     ensures passed { OnOk result (so_far.new.passed_over ≤ so_far.old.passed_over + 1) }

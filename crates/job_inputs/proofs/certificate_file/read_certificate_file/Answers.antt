@@ -7,7 +7,7 @@ use Rattle.job_inputs.proofs.Causes.{look-stops, contents-stop, look-ends, nothi
 use Rattle.job_inputs.proofs.CertificateFiles.{file-stops, contents-stop-it, certificate-is}
 use Rattle.job_inputs.specs.CertificateFile.{certificate_fault}
 use Rattle.job_inputs.specs.Reading.{stopped_for}
-use Rattle.job_inputs.specs.Refusals.{refused_for}
+use Rattle.plain_text.specs.Stops.{why_of}
 use Rattle.job_inputs.proofs.certificate_file.read_certificate_file.Goals as goal
 
 pub returns-in_err-bytes : goal.returns-in_err-bytes
@@ -24,10 +24,10 @@ returns-in_err-certificate g c =
     let p = err_from_is_err_and c.from_residual-in_err-certificate.result c.from_residual-in_err-certificate.ensures.1 in
     let r = c.in_err-certificate.field-0.0 in
     let first = c.in_ok-bytes.ensures in
-    let refused = subst (λ (bytes : List ℕ). Fails (refused_for r) (map_fault certificate_fault (certificate_of bytes))) c.as_slice.ensures.value c.in_err-certificate.ensures.told in
+    let refused = subst (λ (bytes : List ℕ). Fails (why_of r) (map_fault certificate_fault (certificate_of bytes))) c.as_slice.ensures.value c.in_err-certificate.ensures.told in
     rw (p.1, p.2)
     (contents-stop _ _ _ r _ _ first.shelf c.in_err-certificate.ensures.contents
-    (λ fs told. contents-stop-it fs c.args.name.now c.in_ok-bytes.bytes.items (refused_for r) (first.told fs told) refused))
+    (λ fs told. contents-stop-it fs c.args.name.now c.in_ok-bytes.bytes.items (why_of r) (first.told fs told) refused))
 
 pub returns : goal.returns
 returns g c =

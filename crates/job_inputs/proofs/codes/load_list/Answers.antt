@@ -6,7 +6,7 @@ use Rattle.hierarchy.specs.CodeList.{codes_of}
 use Rattle.job_inputs.proofs.Causes.{look-stops, contents-stop, look-ends, nothing-looked}
 use Rattle.job_inputs.proofs.Listing.{list-file-stops, list-contents-stop, list-is}
 use Rattle.job_inputs.specs.Reading.{stopped_for}
-use Rattle.job_inputs.specs.Refusals.{refused_for}
+use Rattle.plain_text.specs.Stops.{why_of}
 use Rattle.job_inputs.specs.declared.faults.Fault.TheVariants as fault
 use Rattle.job_inputs.specs.declared.file_ref.FileRef.TheVariants as file
 use Rattle.job_inputs.proofs.codes.load_list.Goals as goal
@@ -26,10 +26,10 @@ returns-in_err-codes g c =
     let r = c.in_err-codes.field-0.0 in
     let total = c.args.total.now in
     let first = c.in_ok-bytes.ensures in
-    let refused = subst (λ (bytes : List ℕ). Fails (refused_for r) (map_fault (fault.Tree (file.CodeList c.args.place)) (codes_of total bytes))) c.as_slice.ensures.value c.in_err-codes.ensures.told in
+    let refused = subst (λ (bytes : List ℕ). Fails (why_of r) (map_fault (fault.Tree (file.CodeList c.args.place)) (codes_of total bytes))) c.as_slice.ensures.value c.in_err-codes.ensures.told in
     rw (p.1, p.2)
     (contents-stop _ _ _ r _ _ first.shelf c.in_err-codes.ensures.contents
-    (λ fs told. list-contents-stop fs c.args.place total c.args.name.now c.in_ok-bytes.bytes.items (refused_for r) (first.told fs told) refused))
+    (λ fs told. list-contents-stop fs c.args.place total c.args.name.now c.in_ok-bytes.bytes.items (why_of r) (first.told fs told) refused))
 
 pub returns : goal.returns
 returns g c =

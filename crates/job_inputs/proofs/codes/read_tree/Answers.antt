@@ -5,7 +5,7 @@ use Rattle.job_inputs.proofs.Causes.{look-stops, contents-stop, look-ends, nothi
 use Rattle.job_inputs.proofs.Listing.{tree-file-stops, tree-contents-stop, tree-is}
 use Rattle.job_inputs.specs.CodeSources.{tree_in}
 use Rattle.job_inputs.specs.Reading.{stopped_for}
-use Rattle.job_inputs.specs.Refusals.{refused_for}
+use Rattle.plain_text.specs.Stops.{why_of}
 use Rattle.job_inputs.specs.declared.file_ref.FileRef.TheVariants as file
 use Rattle.job_inputs.proofs.codes.read_tree.Goals as goal
 
@@ -23,10 +23,10 @@ returns-in_err-tree g c =
     let p = err_from_is_err_and c.from_residual-in_err-tree.result c.from_residual-in_err-tree.ensures.1 in
     let r = c.in_err-tree.field-0.0 in
     let first = c.in_ok-bytes.ensures in
-    let refused = subst (λ (bytes : List ℕ). Fails (refused_for r) (tree_in (file.Hierarchy c.args.place) c.args.variable.now c.args.lead.now bytes)) c.as_slice.ensures.value c.in_err-tree.ensures.told in
+    let refused = subst (λ (bytes : List ℕ). Fails (why_of r) (tree_in (file.Hierarchy c.args.place) c.args.variable.now c.args.lead.now bytes)) c.as_slice.ensures.value c.in_err-tree.ensures.told in
     rw (p.1, p.2)
     (contents-stop _ _ _ r _ _ first.shelf c.in_err-tree.ensures.contents
-    (λ fs told. tree-contents-stop fs c.args.place c.args.variable.now c.args.name.now c.args.lead.now c.in_ok-bytes.bytes.items (refused_for r) (first.told fs told) refused))
+    (λ fs told. tree-contents-stop fs c.args.place c.args.variable.now c.args.name.now c.args.lead.now c.in_ok-bytes.bytes.items (why_of r) (first.told fs told) refused))
 
 pub returns : goal.returns
 returns g c =

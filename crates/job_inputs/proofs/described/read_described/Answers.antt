@@ -6,7 +6,7 @@ use Rattle.rda_meta.specs.Metadata.{meta_of}
 use Rattle.job_inputs.specs.Inputs.{job_for}
 use Rattle.job_inputs.specs.ReadFiles.{meta_fault}
 use Rattle.job_inputs.specs.Reading.{stopped_for}
-use Rattle.job_inputs.specs.Refusals.{refused_for}
+use Rattle.plain_text.specs.Stops.{why_of}
 use Rattle.job_inputs.proofs.Causes.{look-stops, contents-stop, look-ends, nothing-looked, look-on}
 use Rattle.job_inputs.proofs.Describing.{job-was-read, described-is, job-file-stops, job-stops, meta-file-stops, meta-stops, bound-stops, job-comes, meta-comes}
 use Rattle.job_inputs.proofs.described.read_described.Goals as goal
@@ -25,10 +25,10 @@ returns-in_err-job g c =
     let p = err_from_is_err_and c.from_residual-in_err-job.result c.from_residual-in_err-job.ensures.1 in
     let r = c.in_err-job.field-0.0 in
     let first = c.in_ok-bytes.ensures in
-    let refused = subst (λ (bytes : List ℕ). Fails (refused_for r) (job_for c.args.purpose bytes)) c.as_slice.ensures.value c.in_err-job.ensures.told in
+    let refused = subst (λ (bytes : List ℕ). Fails (why_of r) (job_for c.args.purpose bytes)) c.as_slice.ensures.value c.in_err-job.ensures.told in
     rw (p.1, p.2)
     (contents-stop _ _ _ r _ _ first.shelf c.in_err-job.ensures.contents
-    (λ fs told. job-stops c.args.purpose fs c.args.name.now c.in_ok-bytes.bytes.items (refused_for r) (first.told fs told) refused))
+    (λ fs told. job-stops c.args.purpose fs c.args.name.now c.in_ok-bytes.bytes.items (why_of r) (first.told fs told) refused))
 
 pub returns-in_err-text : goal.returns-in_err-text
 returns-in_err-text g c =
@@ -48,10 +48,10 @@ returns-in_err-meta g c =
     let first = c.in_ok-bytes.ensures in
     let then = c.in_ok-text.ensures in
     let read = subst (λ (bytes : List ℕ). job_for c.args.purpose bytes ≡ Ok c.in_ok-job.job) c.as_slice.ensures.value c.in_ok-job.ensures.told in
-    let refused = subst (λ (bytes : List ℕ). Fails (refused_for r) (map_fault meta_fault (meta_of bytes))) c.as_slice-2.ensures.value c.in_err-meta.ensures.told in
+    let refused = subst (λ (bytes : List ℕ). Fails (why_of r) (map_fault meta_fault (meta_of bytes))) c.as_slice-2.ensures.value c.in_err-meta.ensures.told in
     rw (p.1, p.2)
     (contents-stop _ _ _ r _ _ (look-on _ _ _ _ first.shelf then.shelf) c.in_err-meta.ensures.contents
-    (λ fs told. meta-stops c.args.purpose fs c.args.name.now c.in_ok-bytes.bytes.items c.in_ok-text.text.items c.in_ok-job.job (refused_for r) (first.told fs told) read (then.told fs (first.shelf.only_read.files ∙ told)) refused))
+    (λ fs told. meta-stops c.args.purpose fs c.args.name.now c.in_ok-bytes.bytes.items c.in_ok-text.text.items c.in_ok-job.job (why_of r) (first.told fs told) read (then.told fs (first.shelf.only_read.files ∙ told)) refused))
 
 pub returns-in_err-bound : goal.returns-in_err-bound
 returns-in_err-bound g c =
@@ -64,7 +64,7 @@ returns-in_err-bound g c =
     rw (p.1, p.2)
     (contents-stop _ _ _ r _ _ (look-on _ _ _ _ first.shelf then.shelf) c.in_err-bound.ensures.contents
     (λ fs told.
-    bound-stops c.args.purpose fs c.args.name.now c.in_ok-bytes.bytes.items c.in_ok-text.text.items c.in_ok-job.job c.in_ok-meta.meta (refused_for r) (first.told fs told) read (then.told fs (first.shelf.only_read.files ∙ told)) said
+    bound-stops c.args.purpose fs c.args.name.now c.in_ok-bytes.bytes.items c.in_ok-text.text.items c.in_ok-job.job c.in_ok-meta.meta (why_of r) (first.told fs told) read (then.told fs (first.shelf.only_read.files ∙ told)) said
     c.in_err-bound.ensures.told))
 
 pub returns : goal.returns

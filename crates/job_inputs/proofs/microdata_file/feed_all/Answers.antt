@@ -3,7 +3,7 @@ use Rattle.std.proofs.lemmas.Result.{err_from_is_err_and}
 use Rattle.sdc_base.specs.Steps.{map_fault}
 use Rattle.microdata.specs.Feeding.{HasRead, fed_of}
 use Rattle.job_inputs.specs.ReadFiles.{limit, row_fault}
-use Rattle.job_inputs.specs.Refusals.{refused_for}
+use Rattle.plain_text.specs.Stops.{why_of}
 use Rattle.office_io.proofs.Shelves.{only-read-on}
 use Rattle.job_inputs.proofs.Causes.{stop-fails, contents-cause}
 use Rattle.job_inputs.proofs.Feeding.{fed-more, fed-end, fed-faulty, fed-long}
@@ -19,7 +19,7 @@ returns-in_err-feed_piece-clause-told g c =
     let p = err_from_is_err_and c.from_residual.result c.from_residual.ensures.1 in
     let most = c.min-within.ensures in
     rw (p.1, p.2) (λ layout bytes left read. stop-fails c.in_err-feed_piece.field-0.0 _
-    (fed-faulty c.faults_stand.ensures layout bytes c.pieces.reader _ c.pieces.taken c.in-Ok.n c.min-within.result c.read.new.buffer (refused_for c.in_err-feed_piece.field-0.0)
+    (fed-faulty c.faults_stand.ensures layout bytes c.pieces.reader _ c.pieces.taken c.in-Ok.n c.min-within.result c.read.new.buffer (why_of c.in_err-feed_piece.field-0.0)
     (c.pieces.invariant.fed layout bytes left read) c.in-Ok.ensures.given.within c.in-Ok.ensures.given.given (omega (arith, most)) (omega (arith, most, c.pieces.invariant.short))
     (λ got has. c.in_err-feed_piece.ensures.exact layout got has)))
 

@@ -4,7 +4,7 @@ use Rattle.office_io.proofs.Shelves.{only-read-on}
 use Rattle.job_inputs.proofs.Causes.{contents-stop, look-ends, cause-on, cause-as, err-as, file-looked, nothing-looked}
 use Rattle.job_inputs.proofs.Feeding.{file-refused, file-read, fed-stops}
 use Rattle.job_inputs.specs.ReadFiles.{limit}
-use Rattle.job_inputs.specs.Refusals.{refused_for}
+use Rattle.plain_text.specs.Stops.{why_of}
 use Rattle.job_inputs.specs.Reading.{stopped_for}
 use Rattle.job_inputs.proofs.microdata_file.read_records.Goals as goal
 
@@ -44,7 +44,7 @@ returns-in_err-records g c =
     rw (p.1, p.2)
     (contents-stop _ _ _ r _ _ (file-looked limit _ _ (only-read-on _ _ _ c.in_ok-begin.ensures.only_read c.in_ok-feed_all.ensures.only_read) c.in_ok-feed_all.ensures.no_more c.in_ok-feed_all.ensures.few_reads) c.in_err-records.ensures.contents
     (λ fs told.
-    file-refused (refused_for r) c.args.layout (fs c.args.name.now) (c.in_ok-begin.ensures.chosen.held fs told)
+    file-refused (why_of r) c.args.layout (fs c.args.name.now) (c.in_ok-begin.ensures.chosen.held fs told)
     (λ bytes is.
     let whole = c.in_ok-feed_all.ensures.reads_all c.args.layout bytes (c.in_ok-begin.ensures.chosen.found fs told ∙ is) c.in_ok-reader.ensures.fed in
     (whole.1, c.in_err-records.ensures.exact c.args.layout bytes whole.0))))

@@ -8,7 +8,7 @@ use Rattle.job_inputs.proofs.Causes.{out-name-cause, come-on, cause-as, cause-on
 use Rattle.job_inputs.proofs.Coming.{statements-come}
 use Rattle.job_inputs.proofs.Settling.{inputs-fail, book-fails, priors-fail, cells-fail, outputs-fail, settled-is}
 use Rattle.job_inputs.specs.Cells.{figures, prior_fault}
-use Rattle.job_inputs.specs.Refusals.{refused_for}
+use Rattle.plain_text.specs.Stops.{why_of}
 use Rattle.job_inputs.specs.SettledJobs.{SettledInputs, overwrites_job}
 use Rattle.job_inputs.specs.declared.described.DescribedJob.{DescribedJob}
 use Rattle.job_inputs.specs.declared.faults.Fault.TheVariants as fault
@@ -33,7 +33,7 @@ returns-in_err-counted-clause-looked g c =
     let r = c.in_err-counted.field-0.0 in
     let first = c.in_ok-inputs.ensures in
     rw (p.1, p.2) (record {
-      told = λ fs told. stop-fails r _ (book-fails c.args.purpose fs c.args.name.now c.in_ok-inputs.inputs (refused_for r) (first.told fs told) c.in_err-counted.ensures.told);
+      told = λ fs told. stop-fails r _ (book-fails c.args.purpose fs c.args.name.now c.in_ok-inputs.inputs (why_of r) (first.told fs told) c.in_err-counted.ensures.told);
       came_to = λ fs told. contents-come r _ fs (g.S.Shelf.state c.read_inputs.new.shelf);
       shelf = first.shelf;
       cause = contents-cause r _ _ c.in_err-counted.ensures.contents;
@@ -74,8 +74,8 @@ returns-in_err-cells-clause-looked g c =
     rw (p.1, p.2) (record {
       told = λ fs told.
           stop-fails r _
-          (cells-fail c.args.purpose fs c.args.name.now inputs _ priors (refused_for r) (first.told fs told) c.in_ok-counted.ensures.told (then.told fs (first.shelf.only_read.files ∙ told) inputs counted)
-          (subst (λ (ps : List Prior). Fails (refused_for r) (map_fault prior_fault (settle_of inputs.described.job.rules (figures inputs) ps))) c.as_slice.ensures (c.in_err-cells.ensures.gives inputs counted)));
+          (cells-fail c.args.purpose fs c.args.name.now inputs _ priors (why_of r) (first.told fs told) c.in_ok-counted.ensures.told (then.told fs (first.shelf.only_read.files ∙ told) inputs counted)
+          (subst (λ (ps : List Prior). Fails (why_of r) (map_fault prior_fault (settle_of inputs.described.job.rules (figures inputs) ps))) c.as_slice.ensures (c.in_err-cells.ensures.gives inputs counted)));
       came_to = λ fs told. contents-come r _ fs (g.S.Shelf.state c.read_priors.new.shelf);
       shelf = look-on _ _ _ _ first.shelf then.shelf;
       cause = contents-cause r _ _ c.in_err-cells.ensures.contents;

@@ -6,7 +6,7 @@ use Rattle.job_inputs.specs.declared.file_ref.FileRef.{FileRef}
 use Rattle.job_run.specs.FileCounts.{file_count}
 use Rattle.job_run.specs.Puts.{AllWhole, OneInPart, SomeWhole}
 use Rattle.job_run.specs.declared.put.FilePut.{FilePut}
-use Rattle.job_run.specs.declared.puts.PutStop.TheVariants as stop
+use Rattle.plain_text.specs.declared.stop.Stop.TheVariants as stop
 use Rattle.job_run.proofs.Outcomes.{ok-and, no-fault, inputs-cause, inputs-leave-all, inputs-stop, end-cause, end-leaves-all, end-stops, puts-cause, puts-leave-all, puts-stop}
 use Rattle.job_run.proofs.ReleaseRuns.{inputs-run, end-run, puts-run, released-run}
 use Rattle.job_run.proofs.Settling.{release-is, some-release}
@@ -85,7 +85,7 @@ returns-in_err-put_files-clause-run g c =
     (puts-run c.args.name.now c.in_ok-settled.settled c.in_ok-release.release c.in_err-put_files.field-0.0 _ _ _ _ c.in_ok-release.ensures.comes
     (some-release some.0 c.in_ok-release.release some.2 (c.in_ok-release.ensures.comes some.0 some.1) c.in_ok-settled.settled.described some.1.described c.in_ok-release.ensures.each_file)
     looked.told looked.shelf
-    (subst (λ (puts : List FilePut). (f : FileRef) → IsErrOf {T = Unit {0}} (Err c.in_err-put_files.field-0.0) (stop.WriteFault f) → OneInPart puts f (g.T.Tray.state c.args.tray.now) (g.T.Tray.state c.put_files.new.tray)) c.as_slice.ensures c.in_err-put_files.ensures.part)
+    (subst (λ (puts : List FilePut). (f : FileRef) → IsErrOf {T = Unit {0}} (Err c.in_err-put_files.field-0.0) (stop.Fault f) → OneInPart puts f (g.T.Tray.state c.args.tray.now) (g.T.Tray.state c.put_files.new.tray)) c.as_slice.ensures c.in_err-put_files.ensures.part)
     (subst (λ (puts : List FilePut). IsErrOf {T = Unit {0}} (Err c.in_err-put_files.field-0.0) stop.Memory → SomeWhole puts (g.T.Tray.state c.args.tray.now) (g.T.Tray.state c.put_files.new.tray)) c.as_slice.ensures c.in_err-put_files.ensures.memory)
     c.in_err-put_files.ensures.cause)
 
