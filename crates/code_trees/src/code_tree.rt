@@ -114,6 +114,7 @@ fn depth_under(depths: &[u32], parent: Option<u32>) -> u32
 {
     match parent {
         Some(above) => depths[above as usize] + 1,
+        // As the definition has it: the total, which has no parent, is at depth 0.
         None => 0,
     }
 }

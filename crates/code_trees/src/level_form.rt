@@ -8,21 +8,20 @@ ghost use Rattle.sdc_base.specs.Trees.{find, IsCodeTree};
 ghost use Rattle.sdc_base.specs.Trees as spec;
 ghost use Rattle.sdc_base.specs.Answers.{Gives};
 ghost use Rattle.code_trees.specs.Growing.{tree_with_node};
-ghost use Rattle.std.specs.BTreeSet.{insert_key};
-ghost use Rattle.sdc_base.specs.Blanks.{is_blank};
 ghost use Rattle.code_trees.specs.Faults.{fault_of, AnswersFault};
-ghost use Rattle.code_trees.specs.Levels.{level, boundaries, prefixes, with_prefixes, codes_with_prefixes, level_fault, first_level_fault, levels_of, tree_of_codes, IsAscending, IsClosed, IsLevelFault};
+ghost use Rattle.code_trees.specs.Levels.{level, boundaries, with_prefixes, codes_with_prefixes, level_fault, first_level_fault, levels_of, tree_of_codes, IsAscending, IsClosed, IsLevelFault};
 ghost use Rattle.code_trees.specs.Among.{IsIn, AreAmong};
 ghost use Rattle.code_trees.specs.LevelNodes.{AreLevelNodes};
 ghost use Rattle.code_trees.specs.Path.{IsPath, next_path, IsLevelOf};
 
+use crate::code_set::CodeSet;
 use crate::code_tree::CodeTree;
 use crate::entries::Nodes;
 use crate::growing::total_alone;
+use crate::level_code::{add_prefixes, begins_with_total, has_blank};
 use crate::tree_fault::TreeFault;
 use sdc_base::Text;
 use std::alloc::{AllocError, Global};
-use std::collections::BTreeSet;
 
 // The most codes besides the total.
 const MOST: usize = 5000;
@@ -51,8 +50,8 @@ pub fn from_levels(
     ensures kind { IfErr result IsLevelFault }
     ensures nodes { IfOk result (λ tree. AreLevelNodes (boundaries 0 widths.now) codes.now (drop 1 (spec.codes tree))) }
 {
+    let kept = gather(alloc, codes, widths, total.as_slice())?;
     let bounds = boundaries_of(alloc, widths)?;
-    let kept = gather(alloc, codes, &bounds, total.as_slice())?;
     let nodes = place_codes(alloc, &kept, &bounds, total.as_slice())?;
     let tree = CodeTree::of_nodes(alloc, nodes)?;
     Ok(tree)
@@ -76,38 +75,39 @@ fn boundaries_of(alloc: Global, widths: &[u8]) -> Result<Vec<usize>, AllocError>
 fn gather(
     alloc: Global,
     codes: &[Text],
-    bounds: &[usize],
+    widths: &[u8],
     total: &[u8],
 ) -> Result<Vec<Text>, TreeFault>
-    ensures told { AnswersFault result (first_level_fault total.now bounds.now 1 [] [] codes.now) }
+    requires { length widths.now ≤ 9 }
+    ensures told { AnswersFault result (first_level_fault total.now (boundaries 0 widths.now) 1 [] [] codes.now) }
     ensures kind { IfErr result IsLevelFault }
-    ensures kept { IfOk result (λ kept. kept.items ≡ codes_with_prefixes bounds.now [] codes.now) }
+    ensures kept { IfOk result (λ kept. kept.items ≡ codes_with_prefixes (boundaries 0 widths.now) [] codes.now) }
     ensures sorted { IfOk result (λ kept. IsStrictlySortedBy (slice_cmp nat_cmp) kept.items) }
     ensures at_most_5000 { IfOk result (λ kept. length kept.items ≤ 5000) }
     ensures apart { IfOk result (λ kept. list_any (bytes_eq total.now) kept.items ≡ false) }
 {
     let mut seen = Nodes::new(alloc);
-    let mut kept = BTreeSet::new(alloc);
+    let mut kept = CodeSet::new(alloc);
     'codes: for code in codes {
         let number = next_number(&seen, &kept);
         take_code(
             alloc,
             &mut seen,
             &mut kept,
-            bounds,
+            widths,
             total,
             code.as_slice(),
             number,
         )?;
     }
-    let all = kept.into_iter().collect(alloc)?;
+    let all = kept.into_texts(alloc)?;
     Ok(all)
 }
 
 // The number of the next code: one more than were seen, which are no more than those that are kept.
-fn next_number(seen: &Nodes, kept: &BTreeSet<Text>) -> u32
-    requires among { AreAmong (spec.codes seen.now) kept.now.keys }
-    requires at_most_5000 { length kept.now.keys ≤ 5000 }
+fn next_number(seen: &Nodes, kept: &CodeSet) -> u32
+    requires among { AreAmong (spec.codes seen.now) kept.now }
+    requires at_most_5000 { length kept.now ≤ 5000 }
     ensures { result ≡ length seen.now + 1 }
 {
     seen.len() as u32 + 1
@@ -117,89 +117,39 @@ fn next_number(seen: &Nodes, kept: &BTreeSet<Text>) -> u32
 fn take_code(
     alloc: Global,
     seen: &mut Nodes,
-    kept: &mut BTreeSet<Text>,
-    bounds: &[usize],
+    kept: &mut CodeSet,
+    widths: &[u8],
     total: &[u8],
     code: &[u8],
     number: u32,
 ) -> Result<(), TreeFault>
-    requires { list_any (bytes_eq total.now) kept.old.keys ≡ false }
-    ensures told { AnswersFault result (level_fault total.now bounds.now (spec.codes seen.old) kept.old.keys code.now
-        number) }
+    requires at_most_9 { length widths.now ≤ 9 }
+    requires apart { list_any (bytes_eq total.now) kept.old ≡ false }
+    ensures told { AnswersFault result (level_fault total.now (boundaries 0 widths.now) (spec.codes seen.old) kept.old
+        code.now number) }
     ensures kind { IfErr result IsLevelFault }
-    ensures kept { OnOk result (kept.new.keys ≡ with_prefixes bounds.now kept.old.keys code.now) }
+    ensures kept { OnOk result (kept.new ≡ with_prefixes (boundaries 0 widths.now) kept.old code.now) }
     ensures seen { OnOk result (spec.codes seen.new ≡ spec.codes seen.old ++ code.now ∷ []) }
-    ensures among { OnOk result (AreAmong (spec.codes seen.old) kept.old.keys
-        → AreAmong (spec.codes seen.new) kept.new.keys) }
+    ensures among { OnOk result (AreAmong (spec.codes seen.old) kept.old
+        → AreAmong (spec.codes seen.new) kept.new) }
     ensures count { OnOk result (length seen.new ≡ length seen.old + 1) }
-    ensures at_most_5000 { OnOk result (length kept.new.keys ≤ 5000) }
-    ensures apart { OnOk result (list_any (bytes_eq total.now) kept.new.keys ≡ false) }
+    ensures at_most_5000 { OnOk result (length kept.new ≤ 5000) }
+    ensures apart { OnOk result (list_any (bytes_eq total.now) kept.new ≡ false) }
 {
     if has_blank(code) {
         return Err(TreeFault::Blank(number));
     }
-    if begins_with_total(total, bounds, code) {
+    if begins_with_total(total, widths, code) {
         return Err(TreeFault::IsTotal(number));
     }
     if seen.code_place(code).is_some() {
         return Err(TreeFault::Twice(number));
     }
-    add_prefixes(alloc, kept, bounds, code)?;
+    add_prefixes(alloc, kept, widths, code)?;
     if kept.len() > MOST {
         return Err(TreeFault::TooMany(number));
     }
     seen.push(alloc, code, None)?;
-    Ok(())
-}
-
-// Whether a blank is inside.
-fn has_blank(code: &[u8]) -> bool
-    ensures { result ≡ list_any is_blank code.now }
-{
-    code.iter().any(|b| *b == b' ' || *b == b'\t')
-}
-
-// Whether the code or a prefix of it is the total.
-fn begins_with_total(total: &[u8], bounds: &[usize], code: &[u8]) -> bool
-    ensures { result ≡ list_any (bytes_eq total.now) (prefixes bounds.now code.now) }
-{
-    'bounds: for bound in bounds {
-        if code.len() <= *bound {
-            return total == code;
-        }
-        if total == &code[..*bound] {
-            return true;
-        }
-    }
-    total == code
-}
-
-// Keeps the prefixes of a code and the code.
-fn add_prefixes(
-    alloc: Global,
-    kept: &mut BTreeSet<Text>,
-    bounds: &[usize],
-    code: &[u8],
-) -> Result<(), TreeFault>
-    ensures told { IfErr result (λ fault. fault ≡ TreeFault.Memory) }
-    ensures kept { OnOk result (kept.new.keys ≡ with_prefixes bounds.now kept.old.keys code.now) }
-{
-    'bounds: for bound in bounds {
-        if code.len() <= *bound {
-            return insert(alloc, kept, code);
-        }
-        insert(alloc, kept, &code[..*bound])?;
-    }
-    insert(alloc, kept, code)
-}
-
-// Keeps a code.
-fn insert(alloc: Global, kept: &mut BTreeSet<Text>, code: &[u8]) -> Result<(), TreeFault>
-    ensures told { IfErr result (λ fault. fault ≡ TreeFault.Memory) }
-    ensures kept { OnOk result (kept.new.keys ≡ insert_key (slice_cmp nat_cmp) kept.old.keys code.now) }
-{
-    let text = Text::from_slice(alloc, code)?;
-    kept.insert(text)?;
     Ok(())
 }
 

@@ -1,3 +1,4 @@
+use sdc_base::Memory;
 use std::alloc::{AllocError, AllocFailed};
 use thiserror::Error;
 
@@ -31,6 +32,17 @@ pub enum TreeFault {
     /// There was no memory.
     #[error("out of memory")]
     Memory,
+}
+
+impl From<Memory> for TreeFault {
+    ghost use Rattle.std.specs.Prelude.{◌≡◌};
+    ghost use Rattle.code_trees.specs.declared.tree_fault.TreeFault.TheVariants as fault;
+
+    ghost from_gives = { λ _ e. e ≡ fault.Memory };
+
+    fn from(_error: Memory) -> TreeFault {
+        TreeFault::Memory
+    }
 }
 
 impl From<AllocError> for TreeFault {

@@ -159,6 +159,7 @@ fn table_place(number: &Text) -> u32
 {
     match number_in(1, 8, number.as_slice()) {
         Some(number) => number as u32 - 1,
+        // As the definition has it: a number that isn't 1 to 8 counts as 1.
         None => 0,
     }
 }

@@ -14,6 +14,7 @@ pub(crate) fn size_at(trees: &[CodeTree], variable: u32) -> usize
 {
     match trees.get(variable as usize) {
         Some(tree) => tree.len(),
+        // As the definition has it: behind the last variable there are no codes.
         None => 0,
     }
 }

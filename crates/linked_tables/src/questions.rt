@@ -14,6 +14,7 @@ impl Book {
     {
         match self.tree(variable) {
             Some(tree) => tree.len(),
+            // As the definition has it: behind the last variable there are no codes.
             None => 0,
         }
     }

@@ -14,7 +14,6 @@ ghost use Rattle.microdata.specs.KeptRows.{kept_of};
 ghost use Rattle.microdata.specs.Layouts.{IsSource};
 ghost use Rattle.microdata.specs.Microdata.{closed_records};
 
-use crate::ascending::Ascending;
 use crate::faults::{RowError, RowWhy, error_at};
 use crate::kept_rows::KeptRows;
 use crate::layout::Source;
@@ -22,7 +21,7 @@ use crate::record::{SoFar, Variable, Variables};
 use crate::records::Records;
 use crate::taking::Seen;
 use arrayvec::ArrayVec;
-use code_trees::{CodeTree, TreeFault, flat, from_levels};
+use code_trees::{CodeSet, CodeTree, TreeFault, flat, from_levels};
 use plain_text::Stop;
 use sdc_base::{Few, Items, Memory, Place, Row, Text};
 use std::alloc::Global;
@@ -86,7 +85,7 @@ fn tree_of_source(
     alloc: Global,
     source: Source,
     codes: &[Text],
-    nodes: Ascending,
+    nodes: CodeSet,
 ) -> Result<CodeTree, Memory>
     requires source { IsSource source }
     requires seen { AreSeen source (record { codes = codes.now; nodes = nodes }) }
@@ -237,7 +236,7 @@ fn want_of(fault: TreeFault) -> Memory
 fn flat_tree(
     alloc: Global,
     listed: Items<Text>,
-    further: Ascending,
+    further: CodeSet,
     total: &Text,
 ) -> Result<CodeTree, Memory>
     requires distinct { IsDistinct bytes_eq (total.now ∷ (listed ++ further)) }

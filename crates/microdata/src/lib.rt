@@ -1,7 +1,6 @@
 //! Records of microdata, read from bytes that come in pieces.
 #![tactic(auto)]
 
-mod ascending;
 mod closing;
 mod codes;
 mod faults;

@@ -14,7 +14,6 @@ ghost use Rattle.microdata.specs.Microdata.{records_of, records_behind};
 ghost use Rattle.microdata.specs.Feeding.{HasRead, fed_of, answered_error};
 ghost use Rattle.microdata.specs.declared.layout.Layout.{Layout as AnyLayout};
 
-use crate::ascending::Ascending;
 use crate::closing::close;
 use crate::codes::Codes;
 use crate::faults::RowError;
@@ -24,6 +23,7 @@ use crate::layout::{Field, Layout, Measures, Source};
 use crate::record::{SoFar, Variable, Variables, take_line};
 use crate::records::Records;
 use crate::taking::Seen;
+use code_trees::CodeSet;
 use sdc_base::{Items, Memory, Text};
 use std::alloc::Global;
 use std::marker::Model;
@@ -192,7 +192,7 @@ fn variable_of(alloc: Global, field: Field) -> Result<Variable, Memory>
         field,
         seen: Seen {
             codes,
-            nodes: Ascending::new(alloc),
+            nodes: CodeSet::new(alloc),
         },
     })
 }

@@ -2,21 +2,17 @@ ghost use Rattle.std.specs.Prelude.{◌≡◌, ℕ, List, ◌<◌, ◌≤◌, �
 ghost use Rattle.std.specs.List.{list_any};
 ghost use Rattle.std.specs.Str.{bytes_eq};
 ghost use Rattle.sdc_base.specs.Answers.{Gives};
-ghost use Rattle.sdc_base.specs.Blanks.{is_blank};
-ghost use Rattle.code_trees.specs.Levels.{boundaries, prefixes, with_prefixes};
 ghost use Rattle.plain_text.specs.Stops.{why_of};
 ghost use Rattle.microdata.specs.SeenCodes.{with_code, known_or_new, with_level_code, with_flat_code};
 ghost use Rattle.microdata.specs.SeenCodes as spec;
 ghost use Rattle.microdata.specs.Keeping.{AreSeen, AreLevelCodes, AreFlatCodes};
 ghost use Rattle.microdata.specs.Layouts.{IsSource};
 
-use crate::ascending::Ascending;
 use crate::codes::Codes;
 use crate::faults::RowWhy;
 use crate::layout::Source;
-use code_trees::CodeTree;
-use plain_text::{Stop, is_blank_byte};
-use sdc_base::Memory;
+use code_trees::{CodeSet, CodeTree, add_prefixes, begins_with_total, has_blank};
+use plain_text::Stop;
 use std::alloc::Global;
 
 // The most codes of a variable besides the total.
@@ -28,7 +24,7 @@ const MOST_CODES: usize = 5000;
 #[derive(Drop)]
 pub(crate) struct Seen {
     pub codes: Codes,
-    pub nodes: Ascending,
+    pub nodes: CodeSet,
 }
 
 /// Takes in the code of one more record, and says where it stands: its place in a listed tree, else its number
@@ -124,13 +120,6 @@ fn add_level_code(
     Ok(())
 }
 
-// Whether a blank is inside.
-fn has_blank(code: &[u8]) -> bool
-    ensures { result ≡ list_any is_blank code.now }
-{
-    code.iter().any(|b| is_blank_byte(*b))
-}
-
 // The widths together.
 fn sum_of(widths: &[u8]) -> usize
     requires { length widths.now ≤ 9 }
@@ -141,45 +130,6 @@ fn sum_of(widths: &[u8]) -> usize
         sum += *width as usize;
     }
     sum
-}
-
-// Whether the code or a prefix of it at a boundary of the widths is the total.
-fn begins_with_total(total: &[u8], widths: &[u8], code: &[u8]) -> bool
-    requires { length widths.now ≤ 9 }
-    ensures { result ≡ list_any (bytes_eq total.now) (prefixes (boundaries 0 widths.now) code.now) }
-{
-    let mut end: usize = 0;
-    'widths: for width in widths {
-        end += *width as usize;
-        if code.len() <= end {
-            return total == code;
-        }
-        if total == &code[..end] {
-            return true;
-        }
-    }
-    total == code
-}
-
-// Keeps the prefixes of a code at the boundaries of the widths, and the code.
-fn add_prefixes(
-    alloc: Global,
-    nodes: &mut Ascending,
-    widths: &[u8],
-    code: &[u8],
-) -> Result<(), Memory>
-    requires { length widths.now ≤ 9 }
-    ensures { OnOk result (nodes.new ≡ with_prefixes (boundaries 0 widths.now) nodes.old code.now) }
-{
-    let mut end: usize = 0;
-    'widths: for width in widths {
-        end += *width as usize;
-        if code.len() <= end {
-            return nodes.insert(alloc, code);
-        }
-        nodes.insert(alloc, &code[..end])?;
-    }
-    nodes.insert(alloc, code)
 }
 
 // Takes in a code without levels.

@@ -22,9 +22,6 @@ use Rattle.sdc_base.specs.declared.cube.Edge.{Edge}
 use Rattle.sdc_base.specs.declared.cube.Subtable.{Subtable}
 use Rattle.sdc_base.specs.declared.facts.Levels.{Levels}
 use Rattle.sdc_base.specs.declared.trail.PlanStep.{PlanStep}
-use Rattle.sdc_base.specs.declared.trail.Trail.{Trail}
-use Rattle.sdc_base.specs.declared.memory.Memory.{Memory}
-use Rattle.std.specs.Prelude.{Result, Ok, Err, IfOk}
 use Rattle.sdc_base.proofs.GrowingLists.{read-at}
 use Rattle.sdc_base.proofs.ListReads.{read-some}
 use Rattle.cost_rule.specs.declared.kind.CostKind.{CostKind}
@@ -36,7 +33,7 @@ use Rattle.hypercube.specs.LeastLaws.{AreLeast, NoneServes}
 use Rattle.hypercube.proofs.AllOf.{all-append, all-flat, all-map, all-more}
 use Rattle.hypercube.proofs.LeastLaw.{least_is_first}
 use Rattle.hypercube.proofs.WholeCubes.{cubes_are_whole}
-use Rattle.modular_plan.specs.Plans.{codes_at, hidden_among, hidden_in, in_passes, is_cell_of, trail_of, with_cell, with_subtable}
+use Rattle.modular_plan.specs.Plans.{codes_at, hidden_among, hidden_in, in_passes, is_cell_of, with_cell, with_subtable}
 use Rattle.modular_plan.specs.StepLaws.{IsWholeStep, StepsAreWhole}
 
 both : (a b : Bool) → (a && b) ≡ true → (a ≡ true) × (b ≡ true)
@@ -241,8 +238,3 @@ steps_are_whole book members cost passes is_book =
     (all-flat (IsSubtable book.trees book.tables) (λ pass. subtables) (range_with_len 0 passes)
     (all-each (λ pass. AllByRecursion (IsSubtable book.trees book.tables) subtables) (range_with_len 0 passes) (λ pass. ordered-subtables book.trees book.tables)))
     tt
-
--- and so is each step of what a plan gives
-pub trail-whole : (book : BookView) (members : List Cell) (cost : CostKind) (passes : ℕ) (r : Result Trail Memory) → IsBook book → IfOk r (λ trail. trail.steps ≡ trail_of book members cost passes) → IfOk r (λ trail. AllByRecursion (IsWholeStep book members) trail.steps)
-trail-whole book members cost passes (Ok trail) is_book is = subst (λ (steps : List PlanStep). AllByRecursion (IsWholeStep book members) steps) (sym is) (steps_are_whole book members cost passes is_book)
-trail-whole book members cost passes (Err fault) is_book is = tt

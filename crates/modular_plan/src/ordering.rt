@@ -67,6 +67,7 @@ fn depth_of(book: &Book, subtable: &Subtable) -> u64
 {
     match book.spans(subtable.table) {
         Some(table) => summed_depth(book, table, subtable.parents.as_slice()),
+        // As the definition has it: in a table behind the last one there are no depths to sum.
         None => 0,
     }
 }
@@ -91,6 +92,7 @@ fn depth_at(book: &Book, variable: u32, code: u32) -> u64
     ensures depth { result ≡ spec.depth_in (slice_index_or book.now.trees variable []) code }
     ensures small { result < 2 ^ 32 }
 {
+    // As the definition has it: a variable or a code behind the last one has depth 0.
     let Some(tree) = book.tree(variable) else {
         return 0;
     };

@@ -47,25 +47,6 @@ pub fn plan<F: TellsCosts>(
 {
     // for the proof: what holds of every book
     let _cells = book.cells();
-    plan_passes(alloc, book, cells, rule, passes)
-}
-
-// Marks the primary cells, and then the corners of each step of the passes.
-fn plan_passes<F: TellsCosts>(
-    alloc: Global,
-    book: &mut Book,
-    cells: &[Cell],
-    rule: &CostRule<F>,
-    passes: u32,
-) -> Result<Trail, Memory>
-    requires one_each { length cells.now ≡ length book.old.marks }
-    requires costed { All (λ mark. AreCosted mark.facts) book.old.marks }
-    ensures trail { IfOk result (λ trail. trail.steps ≡ trail_of book.old cells.now rule.now passes) }
-    ensures hidden { IfOk result (λ trail. AreMarked book.new cells.now trail.steps) }
-    ensures stopped { IfErr result (λ _. AreMarkedInPart book.new cells.now
-        (trail_of book.old cells.now rule.now passes)) }
-    ensures same { IsSameButHidden book.old book.new }
-{
     mark_primary(book, cells);
     let all = all_subtables(alloc, book)?;
     let subtables = in_order(alloc, book, all.as_slice())?;

@@ -10,6 +10,7 @@ pub(crate) fn code_at(codes: &[u32], variable: u32) -> u32
 {
     match codes.get(variable as usize) {
         Some(code) => *code,
+        // As the definition has it: behind the last code stands 0.
         None => 0,
     }
 }
@@ -20,6 +21,7 @@ pub(crate) fn width_of(book: &Book, t: u32) -> usize
 {
     match book.spans(t) {
         Some(table) => table.len(),
+        // As the definition has it: a table behind the last one spans no variables.
         None => 0,
     }
 }

@@ -2,7 +2,7 @@ use Rattle.std.proofs.Common.{◌≡◌, ℕ, ◌+◌, List, [], ◌∷◌, ◌+
 use Rattle.std.proofs.lemmas.Option.{slice_get_read}
 use Rattle.sdc_base.specs.Trees.{codes}
 use Rattle.code_trees.specs.Faults.{or_else}
-use Rattle.code_trees.specs.Levels.{codes_with_prefixes, with_prefixes, level_fault, first_level_fault}
+use Rattle.code_trees.specs.Levels.{boundaries, codes_with_prefixes, with_prefixes, level_fault, first_level_fault}
 use Rattle.code_trees.specs.declared.tree_fault.TreeFault.{TreeFault}
 use Rattle.code_trees.proofs.FlatSteps.{drop-at}
 use Rattle.code_trees.proofs.level_form.gather.Goals as goal
@@ -10,12 +10,12 @@ use Rattle.code_trees.proofs.level_form.gather.Goals as goal
 pub codes-preserved : goal.codes-preserved
 codes-preserved c =
     let total = c.args.total.now in
-    let bounds = c.args.bounds.now in
+    let bounds = boundaries 0 c.args.widths.now in
     let all = c.args.codes.now in
     let i = c.codes.code-index in
     let rest = drop (i + 1) all in
     let seen = codes c.codes.seen in
-    let keys = c.codes.kept.keys in
+    let keys = c.codes.kept in
     let code = c.as_slice.result.now in
     let n = length c.codes.seen + 1 in
     let at : slice_get all i ≡ Some c.code-item.result = slice_get_read all (length all) i c.code-item.result refl c.codes-test.true c.code-item.is in

@@ -1,20 +1,21 @@
 ghost use Rattle.std.specs.Prelude.{◌≡◌, [], length, IfOk, OnOk};
 ghost use Rattle.std.specs.BTreeSet.{insert_key};
 ghost use Rattle.std.specs.Cmp.Lexicographic.{slice_cmp};
+ghost use Rattle.std.specs.List.Sorted.{IsStrictlySortedBy};
 ghost use Rattle.std.specs.Ordering.{nat_cmp};
 
-use sdc_base::{Items, Memory, Text};
+use sdc_base::{Memory, Text};
 use std::alloc::Global;
 use std::collections::BTreeSet;
 use std::marker::Model;
 
-/// Codes in ascending order of bytes, each once.
+/// Codes in ascending order of bytes, each once: those that stand in a tree by levels, or behind a code list.
 #[derive(Drop)]
-pub(crate) struct Ascending {
+pub struct CodeSet {
     set: BTreeSet<Text>,
 }
 
-impl Model for Ascending {
+impl Model for CodeSet {
     ghost use Rattle.std.specs.Prelude.{List, ℕ};
 
     ghost Value = { List (List ℕ) };
@@ -22,25 +23,26 @@ impl Model for Ascending {
     ghost view = { λ s. s.set.keys };
 }
 
-impl Ascending {
+impl CodeSet {
     /// No codes. It takes no memory.
-    pub(crate) fn new(alloc: Global) -> Ascending
+    pub fn new(alloc: Global) -> CodeSet
         ensures { result ≡ [] }
     {
-        Ascending {
+        CodeSet {
             set: BTreeSet::new(alloc),
         }
     }
 
     /// How many codes there are.
-    pub(crate) fn len(&self) -> usize
+    pub fn len(&self) -> usize
         ensures { result ≡ length self.now }
     {
         self.set.len()
     }
 
-    /// Puts a code in its place, unless it is there. The bytes are copied.
-    pub(crate) fn insert(&mut self, alloc: Global, code: &[u8]) -> Result<(), Memory>
+    /// Puts a code in its place, unless it is there. The bytes are copied. `Memory` is the only refusal. It takes as
+    /// many comparisons as the number of codes has binary digits.
+    pub fn insert(&mut self, alloc: Global, code: &[u8]) -> Result<(), Memory>
         ensures { OnOk result (self.new ≡ insert_key (slice_cmp nat_cmp) self.old code.now) }
     {
         let text = Text::from_slice(alloc, code)?;
@@ -48,9 +50,10 @@ impl Ascending {
         Ok(())
     }
 
-    /// The codes.
-    pub(crate) fn into_texts(self, alloc: Global) -> Result<Vec<Text>, Memory>
-        ensures { IfOk result (λ texts. texts.items ≡ self) }
+    /// The codes, in order. `Memory` is the only refusal.
+    pub fn into_texts(self, alloc: Global) -> Result<Vec<Text>, Memory>
+        ensures texts { IfOk result (λ texts. texts.items ≡ self) }
+        ensures ascending { IfOk result (λ texts. IsStrictlySortedBy (slice_cmp nat_cmp) texts.items) }
     {
         let texts = self.set.into_iter().collect(alloc)?;
         Ok(texts)

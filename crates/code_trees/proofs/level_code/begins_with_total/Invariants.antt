@@ -2,7 +2,7 @@ use Rattle.std.proofs.Common.{◌≡◌, ◌*◌, ◌≤◌, drop}
 use Rattle.std.specs.List.{list_any}
 use Rattle.std.specs.Str.{bytes_eq}
 use Rattle.code_trees.specs.Levels.{boundaries, prefixes}
-use Rattle.microdata.proofs.taking.begins_with_total.Given as goal
+use Rattle.code_trees.proofs.level_code.begins_with_total.Given as goal
 
 abbrev pub invariant-widths : goal.invariant-widths
 invariant-widths l = record {
