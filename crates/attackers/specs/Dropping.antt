@@ -65,6 +65,11 @@ IsTrial siege flags cell guards (Refused need) =
 abbrev pub HasFault : Case → List (Option ℕ) → List Attack → List Bool → ℕ → AskFault → ℕ → Type 0
 HasFault c soles attacks flags limit fault row = (place : ℕ) × IsAsked c soles attacks flags limit fault row place
 
+-- the same of a siege
+abbrev pub HasFaultOf : Siege → List Bool → AskFault → ℕ → Type 0
+HasFaultOf siege flags fault row =
+    HasFault (case_of siege) siege.soles.now siege.attacks.now flags siege.limit fault row
+
 -- a need of a cell below a number: its multipliers refute for the cells that were hidden when it was tried
 pub record IsNeedBelow (c : Case) (soles : List (Option ℕ)) (attacks : List Attack) (flags larger : List Bool) (n : ℕ) (need : ExtraNeed)
     : Type 0 where
@@ -122,3 +127,15 @@ TriesStopFor siege first larger (Wide walk place) row dropped =
 TriesStopFor siege first larger (Size question hidden) row dropped =
     IsTryStop (case_of siege) siege.soles.now siege.attacks.now first larger siege.limit (Size question hidden) row
     dropped
+
+-- from whatever set the extra cells below a number had been tried, those up to it have been
+abbrev pub IsCellTrial : Siege → List Bool → ℕ → Progress → Findings → Progress → Findings → Type 0
+IsCellTrial siege first cell before found after later =
+    (larger : List Bool) → HasTried siege first larger cell before found
+    → HasTried siege first larger (cell + 1) after later
+
+-- from whatever set the extra cells below a number had been tried, trying stops with the fault
+abbrev pub IsCellTrialStop : Siege → List Bool → ℕ → Progress → Findings → AskFault → ℕ → List ℕ → Type 0
+IsCellTrialStop siege first cell before found fault row dropped =
+    (larger : List Bool) → HasTried siege first larger cell before found
+    → TriesStopFor siege first larger fault row dropped

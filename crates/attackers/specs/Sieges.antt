@@ -1,5 +1,5 @@
 -- How far guarding against attacks has come (own).
-use Rattle.std.specs.Prelude.{◌≡◌, ℕ, ℤ, ◌+◌, ◌<◌, pos, Bool, true, List, length, take, slice_get, All, Option, None, Some}
+use Rattle.std.specs.Prelude.{◌≡◌, ℕ, ◌+◌, ◌<◌, pos, Bool, true, false, List, length, take, slice_get, All, Option, None, Some}
 use Rattle.sdc_base.specs.declared.cell.Kind.TheVariants.{Primary}
 use Rattle.sdc_base.specs.HiddenSets.{IsPermitted, full_set}
 use Rattle.sdc_base.specs.Signs.{AreSigns}
@@ -9,17 +9,17 @@ use Rattle.interval_audit.specs.declared.answer.Answer.{Answer}
 use Rattle.interval_audit.specs.declared.answer.Answer.TheVariants.{Reaches, Stops}
 use Rattle.interval_audit.specs.declared.answer.AskFault.{AskFault}
 use Rattle.certificate.specs.declared.certificate.WorldLine.{WorldLine}
-use Rattle.repair.specs.HidingOrder.{Case, protected_case, IsOfKind}
+use Rattle.repair.specs.HidingOrder.{Case, protected_case, IsOfKind, breaks_at, coefficients_for, IsCheapest}
 use Rattle.repair.specs.KeptWorlds.{shown_count}
 use Rattle.repair.specs.LevelQuestions.{AreGiven, HasCause}
 use Rattle.attackers.specs.declared.attack.Attack.{Attack}
+use Rattle.attackers.specs.declared.attack.UnguardedAttack.{UnguardedAttack}
 use Rattle.certificate.specs.declared.extra.ExtraNeed.{ExtraNeed}
 use Rattle.attackers.specs.declared.progress.Progress.{Progress}
 use Rattle.attackers.specs.declared.siege.Siege.{Siege}
-use Rattle.attackers.specs.declared.serving.Impossible.{Impossible}
 use Rattle.attackers.specs.declared.serving.Step.{Step}
 use Rattle.attackers.specs.declared.serving.Step.TheVariants.{Served, Extended, Cannot}
-use Rattle.attackers.specs.KnownCells.{without_known, target_of, Guards, GuardsBefore, serves, is_served}
+use Rattle.attackers.specs.KnownCells.{with_known, without_known, target_of, Guards, GuardsBefore, serves, is_served}
 use Rattle.attackers.specs.Extras.{hide_cells, subjects_of, Unguards, IsInTurn, EachExtra, LastIsNotBehind}
 use Rattle.attackers.specs.WholeGuards.{IsWholeGuard}
 
@@ -36,12 +36,14 @@ pub record HoldGuards (c : Case) (soles : List (Option ℕ)) (flags : List Bool)
   pub served : All (λ attack. is_served c.cells soles attack guards ≡ true) attacks
   pub whole : (signs : List Bool) → AreSigns c.system.relations signs → All IsWholeGuard guards
 
--- Guarding is ready for a question: the hidden set is permitted, and there are a flag of it and a number of the scratch
--- for each cell of the system.
-pub record IsReadySiege (siege : Siege) (scratch : List ℤ) (progress : Progress) : Type 0 where
-  pub long : length scratch ≡ siege.system.now.cells
-  pub each : length progress.hidden.flags ≡ siege.system.now.cells
-  pub permitted : IsPermitted siege.cells.now progress.hidden.flags
+-- the same of a siege
+abbrev pub AreGuardsOf : Siege → List Bool → List Attack → List WorldLine → Type 0
+AreGuardsOf siege flags attacks guards = HoldGuards (case_of siege) siege.soles.now flags attacks guards
+
+-- a hidden set of which a siege may ask: it is permitted, and there is a flag of it for each cell of the system
+pub record IsReadySet (siege : Siege) (flags : List Bool) : Type 0 where
+  pub each : length flags ≡ siege.system.now.cells
+  pub permitted : IsPermitted siege.cells.now flags
 
 -- guards hold against the attacks before a place
 abbrev pub AreHeldBefore : Siege → ℕ → Progress → Type 0
@@ -63,8 +65,8 @@ IsExtendedUpTo siege place first progress =
     progress.extras place
 
 -- from whatever set hiding extra cells had come to the place, it still has
-abbrev pub StaysExtended : Siege → ℕ → Progress → Progress → Type 0
-StaysExtended siege place before after =
+abbrev pub IsExtensionProgress : Siege → ℕ → Progress → Progress → Type 0
+IsExtensionProgress siege place before after =
     (first : List Bool) → IsExtendedUpTo siege place first before → IsExtendedUpTo siege place first after
 
 -- what asking about an attack comes to: a world for the hidden set that serves against it, in whole units where the
@@ -75,6 +77,18 @@ IsAnswerAgainst c soles flags attack (Reaches world) =
     × ((signs : List Bool) → AreSigns c.system.relations signs → world.den ≡ pos 1)
 IsAnswerAgainst c soles flags attack (Stops best world multipliers) = Unguards c soles flags attack multipliers
     × AreGiven c.system c.cells (without_known soles attack.row flags) (target_of attack) multipliers
+
+-- no cell that the contributor of an attack doesn't know would break its multipliers
+abbrev pub NoneBreaksAgainst : Siege → List Bool → Attack → Multipliers → Type 0
+NoneBreaksAgainst siege flags attack multipliers =
+    (number : ℕ) → breaks_at siege.cells.now (with_known siege.soles.now attack.row flags)
+    (coefficients_for siege.system.now (target_of attack) multipliers) number ≡ false
+
+-- a cell is the cheapest of those that would
+abbrev pub IsCheapestAgainst : Siege → List Bool → Attack → Multipliers → ℕ → Type 0
+IsCheapestAgainst siege flags attack multipliers number =
+    IsCheapest siege.cells.now siege.prices.now (with_known siege.soles.now attack.row flags)
+    (coefficients_for siege.system.now (target_of attack) multipliers) number
 
 -- the attack at a place, with multipliers that refute it for the hidden set, as its question is answered
 pub record IsRefutedAt (c : Case) (soles : List (Option ℕ)) (attacks : List Attack) (flags : List Bool) (place : ℕ)
@@ -96,8 +110,8 @@ pub record IsCannot (c : Case) (soles : List (Option ℕ)) (attacks : List Attac
   pub whole : (signs : List Bool) → AreSigns c.system.relations signs → multipliers.den ≡ pos 1
 
 -- the same of what was found
-abbrev pub IsImpossible : Siege → Impossible → Type 0
-IsImpossible siege found =
+abbrev pub IsUnguardedAttack : Siege → UnguardedAttack → Type 0
+IsUnguardedAttack siege found =
     IsCannot (case_of siege) siege.soles.now siege.attacks.now found.attack found.multipliers
 
 -- what the attack at a place comes to: a guard serves; or an extra cell more; or that no hidden set guards against it
@@ -105,12 +119,12 @@ abbrev pub IsStep : Siege → ℕ → Progress → Progress → Step → Type 0
 IsStep siege place before after Served = AreHeldBefore siege (place + 1) after
 IsStep siege place before after Extended =
     AreHeldBefore siege place after × (shown_count after.hidden.flags < shown_count before.hidden.flags)
-IsStep siege place before after (Cannot found) = IsImpossible siege found
+IsStep siege place before after (Cannot found) = IsUnguardedAttack siege found
 
 -- guards hold against the attacks before a place, or no hidden set guards against one
-abbrev pub AreHeldOr : Siege → ℕ → Progress → Option Impossible → Type 0
+abbrev pub AreHeldOr : Siege → ℕ → Progress → Option UnguardedAttack → Type 0
 AreHeldOr siege place progress None = AreHeldBefore siege place progress
-AreHeldOr siege place progress (Some found) = IsImpossible siege found
+AreHeldOr siege place progress (Some found) = IsUnguardedAttack siege found
 
 -- A question about the attack at a place, asked of a hidden set without what its contributor knows: the set guards
 -- against all attacks before it, and the fault has its cause in it.

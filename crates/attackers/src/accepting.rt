@@ -1,4 +1,4 @@
-ghost use Rattle.std.specs.Prelude.{◌≡◌, ◌<◌, ◌≤◌, ◌++◌, Ok, length, All, IfOk};
+ghost use Rattle.std.specs.Prelude.{◌≡◌, ◌<◌, Ok, length, All, IfOk};
 ghost use Rattle.sdc_base.specs.Answers.{Gives};
 ghost use Rattle.sdc_base.specs.Grounds.{IsGround};
 ghost use Rattle.worlds.specs.ProtectFaults.{line_number};
@@ -19,7 +19,7 @@ use certificate::{Extra, ExtraNeed, WorldLine};
 use repair::hide_all;
 use sdc_base::{Cell, Hidden, Items, Memory, Side, System, is_hidden};
 use std::alloc::Global;
-use worlds::{check_refutation, check_world};
+use worlds::{Pattern, check_refutation, check_world};
 
 /// Whether extra cells beside a hidden set are needed, and guard with it against every contributor that alone makes up
 /// some cell, as the worlds of a certificate and their own show.
@@ -57,32 +57,37 @@ pub fn accept_extra(
     ensures accepted { result ≡ Ok tt
         → IsGuarding (protected_case system.now cells.now) soles.now hidden.now.flags extra.now }
 {
-    extra_cells_fault(alloc, system, cells, soles, hidden, worlds, extra)
+    let pattern = Pattern {
+        system,
+        cells,
+        hidden,
+    };
+    extra_cells_fault(alloc, &pattern, soles, worlds, extra)
 }
 
 // The first fault.
 fn extra_cells_fault(
     alloc: Global,
-    system: &System,
-    cells: &[Cell],
+    pattern: &Pattern<'_>,
     soles: &[Option<u32>],
-    hidden: &Hidden,
     worlds: &[WorldLine],
     extra: &Extra,
 ) -> Result<(), ExtraFault>
-    requires ground { IsGround system.now cells.now hidden.now.flags }
     ensures exact { Gives fault_of (λ u. u) result
-        (spec.extra_fault (protected_case system.now cells.now) soles.now hidden.now.flags worlds.now extra.now) }
+        (spec.extra_fault (protected_case pattern.now.system.now pattern.now.cells.now) soles.now
+        pattern.now.hidden.now.flags worlds.now extra.now) }
 {
-    check_cells(cells, hidden.flags.as_slice(), extra.cells.as_slice())?;
+    let cells = pattern.cells;
+    let flags = pattern.hidden.flags.as_slice();
+    check_cells(cells, flags, extra.cells.as_slice())?;
     check_need_cells(cells, soles, extra.cells.as_slice(), extra.needs.as_slice())?;
-    let all = with_cells(
-        alloc,
+    let all = with_cells(alloc, cells, flags, extra.cells.as_slice())?;
+    let extended = Pattern {
+        system: pattern.system,
         cells,
-        hidden.flags.as_slice(),
-        extra.cells.as_slice(),
-    )?;
-    check_guarding(alloc, system, cells, soles, &all, worlds, extra)
+        hidden: &all,
+    };
+    check_guarding(alloc, &extended, soles, worlds, extra)
 }
 
 // The first fault of the extra cells.
@@ -192,56 +197,43 @@ fn with_cells(
 // The first fault of what the extra says of the set with its cells.
 fn check_guarding(
     alloc: Global,
-    system: &System,
-    cells: &[Cell],
+    extended: &Pattern<'_>,
     soles: &[Option<u32>],
-    all: &Hidden,
     worlds: &[WorldLine],
     extra: &Extra,
 ) -> Result<(), ExtraFault>
-    requires ground { IsGround system.now cells.now all.now.flags }
-    requires needs { All (λ need. need.cell < length cells.now) extra.now.needs }
-    requires subjects { All (λ need. need.subject < length cells.now) extra.now.needs }
+    requires needs { All (λ need. need.cell < length extended.now.cells.now) extra.now.needs }
+    requires subjects { All (λ need. need.subject < length extended.now.cells.now) extra.now.needs }
     ensures { Gives fault_of (λ u. u) result
-        (spec.guarding_fault (protected_case system.now cells.now) soles.now all.now.flags worlds.now extra.now) }
+        (spec.guarding_fault (protected_case extended.now.system.now extended.now.cells.now) soles.now
+        extended.now.hidden.now.flags worlds.now extra.now) }
 {
-    // for the proof: read, so that it is known to be a number of 32 bits
-    let _cells = system.cells;
+    let cells = extended.cells;
     let mut scratch = Vec::from_elem(alloc, 0, cells.len())?;
-    check_needs(
-        alloc,
-        system,
-        cells,
-        soles,
-        all,
-        extra.needs.as_slice(),
-        &mut scratch,
-    )?;
+    check_needs(alloc, extended, soles, extra.needs.as_slice(), &mut scratch)?;
     check_guard_cells(cells, extra.guards.as_slice())?;
-    check_guards(system, cells, all, extra.guards.as_slice(), &mut scratch)?;
+    check_guards(extended, extra.guards.as_slice(), &mut scratch)?;
     check_attacks(alloc, cells, soles, worlds, extra.guards.as_slice())
 }
 
 // The first fault of the needs.
 fn check_needs(
     alloc: Global,
-    system: &System,
-    cells: &[Cell],
+    extended: &Pattern<'_>,
     soles: &[Option<u32>],
-    all: &Hidden,
     needs: &[ExtraNeed],
     scratch: &mut [i128],
 ) -> Result<(), ExtraFault>
-    requires ground { IsGround system.now cells.now all.now.flags }
-    requires scratch { length scratch.old ≡ system.now.cells }
-    requires needs { All (λ need. need.cell < length cells.now) needs.now }
-    requires subjects { All (λ need. need.subject < length cells.now) needs.now }
+    requires scratch { length scratch.old ≡ extended.now.system.now.cells }
+    requires needs { All (λ need. need.cell < length extended.now.cells.now) needs.now }
+    requires subjects { All (λ need. need.subject < length extended.now.cells.now) needs.now }
     ensures exact { Gives fault_of (λ u. u) result
-        (spec.needs_fault (protected_case system.now cells.now) soles.now all.now.flags 0 needs.now) }
+        (spec.needs_fault (protected_case extended.now.system.now extended.now.cells.now) soles.now
+        extended.now.hidden.now.flags 0 needs.now) }
     ensures length { length scratch.new ≡ length scratch.old }
 {
     for (place, need) in needs.iter().enumerate() {
-        check_need(alloc, system, cells, soles, all, place, need, scratch)?;
+        check_need(alloc, extended, soles, place, need, scratch)?;
     }
     Ok(())
 }
@@ -249,26 +241,25 @@ fn check_needs(
 // The fault of one need.
 fn check_need(
     alloc: Global,
-    system: &System,
-    cells: &[Cell],
+    extended: &Pattern<'_>,
     soles: &[Option<u32>],
-    all: &Hidden,
     place: usize,
     need: &ExtraNeed,
     scratch: &mut [i128],
 ) -> Result<(), ExtraFault>
-    requires ground { IsGround system.now cells.now all.now.flags }
-    requires scratch { length scratch.old ≡ system.now.cells }
-    requires cell { need.now.cell < length cells.now }
-    requires subject { need.now.subject < length cells.now }
+    requires scratch { length scratch.old ≡ extended.now.system.now.cells }
+    requires cell { need.now.cell < length extended.now.cells.now }
+    requires subject { need.now.subject < length extended.now.cells.now }
     ensures exact { Gives fault_of (λ u. u) result
-        (spec.need_fault (protected_case system.now cells.now) soles.now all.now.flags place need.now) }
+        (spec.need_fault (protected_case extended.now.system.now extended.now.cells.now) soles.now
+        extended.now.hidden.now.flags place need.now) }
     ensures length { length scratch.new ≡ length scratch.old }
 {
-    let left = set_without(alloc, soles, need.row, all.flags.as_slice(), need.subject)?;
+    let flags = extended.hidden.flags.as_slice();
+    let left = set_without(alloc, soles, need.row, flags, need.subject)?;
     match check_refutation(
-        system,
-        cells,
+        extended.system,
+        extended.cells,
         &left,
         need.cell,
         need.side,
@@ -329,18 +320,23 @@ pub(crate) fn rank_of(line: &WorldLine) -> u64
 
 // The first fault of the guards' worlds.
 fn check_guards(
-    system: &System,
-    cells: &[Cell],
-    all: &Hidden,
+    extended: &Pattern<'_>,
     guards: &[WorldLine],
     scratch: &mut [i128],
 ) -> Result<(), ExtraFault>
-    requires ground { IsGround system.now cells.now all.now.flags }
-    requires scratch { length scratch.old ≡ system.now.cells }
-    ensures { result ≡ spec.guards_fault (protected_case system.now cells.now) all.now.flags 0 guards.now }
+    requires scratch { length scratch.old ≡ extended.now.system.now.cells }
+    ensures { result ≡ spec.guards_fault (protected_case extended.now.system.now extended.now.cells.now)
+        extended.now.hidden.now.flags 0 guards.now }
 {
     for (place, line) in guards.iter().enumerate() {
-        if let Err(why) = check_world(system, cells, all, &line.world, scratch) {
+        let checked = check_world(
+            extended.system,
+            extended.cells,
+            extended.hidden,
+            &line.world,
+            scratch,
+        );
+        if let Err(why) = checked {
             return Err(ExtraFault::Guard(place as u64, why));
         }
     }

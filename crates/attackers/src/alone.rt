@@ -4,7 +4,7 @@ ghost use Rattle.linked_tables.specs.BookCells.{cells};
 ghost use Rattle.attackers.specs.Alone.{TellFrequencies, AreSoles, IsSole, falls_at};
 
 use crate::falling::falls;
-use crate::guesses::guess_rows;
+use crate::guesses::{guess_at, guess_rows};
 use linked_tables::Book;
 use sdc_base::{Memory, Place, Row};
 use std::alloc::Global;
@@ -32,16 +32,8 @@ pub fn soles(alloc: Global, book: &Book, rows: &[Row]) -> Result<Vec<Option<u32>
     Ok(soles)
 }
 
-// What was guessed for a cell.
-fn guess_at(guesses: &[u32], cell: u32) -> u32 {
-    match guesses.get(cell as usize) {
-        Some(guess) => *guess,
-        None => 0,
-    }
-}
-
-// The place of a cell's one record, by a guess of it.
-fn sole_of(book: &Book, rows: &[Row], cell: u32, guess: u32) -> Option<u32>
+// The place of a cell's one record, by a guess of it, if there is one.
+fn sole_of(book: &Book, rows: &[Row], cell: u32, guess: Option<u32>) -> Option<u32>
     requires told { TellFrequencies book.now rows.now }
     requires fewer_than_2_32 { length rows.now < 2 ^ 32 }
     requires inside { cell < length book.now.marks }
@@ -56,8 +48,10 @@ fn sole_of(book: &Book, rows: &[Row], cell: u32, guess: u32) -> Option<u32>
     if mark.facts.freq != 1 {
         return None;
     }
-    if is_at(book, rows, name, guess) {
-        return Some(guess);
+    if let Some(guess) = guess {
+        if is_at(book, rows, name, guess) {
+            return Some(guess);
+        }
     }
     find_row(book, rows, name)
 }

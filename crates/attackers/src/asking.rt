@@ -1,11 +1,10 @@
-ghost use Rattle.std.specs.Prelude.{◌≡◌, ◌<◌, true, length, IfOk, IfErr, IfNone, IfSome, false, ℕ};
+ghost use Rattle.std.specs.Prelude.{◌≡◌, true, length, IfOk, IfErr, IfNone, IfSome};
 ghost use Rattle.sdc_base.specs.HiddenSets.{is_hidden};
-ghost use Rattle.repair.specs.HidingOrder.{breaks_at, coefficients_for, IsCheapest};
 ghost use Rattle.repair.specs.LevelQuestions.{HasCause};
 ghost use Rattle.attackers.specs.KnownCells as known;
 ghost use Rattle.attackers.specs.KnownCells.{IsAttack, target_of};
 ghost use Rattle.attackers.specs.Extras.{Unguards};
-ghost use Rattle.attackers.specs.Sieges.{case_of, IsAnswerAgainst};
+ghost use Rattle.attackers.specs.Sieges.{case_of, IsAnswerAgainst, NoneBreaksAgainst, IsCheapestAgainst};
 
 use crate::attack::Attack;
 use crate::known::{with_known, without_known};
@@ -44,35 +43,28 @@ pub(crate) fn subject_against(
     flags: &[bool],
     attack: Attack,
     multipliers: &Multipliers,
-    scratch: &mut [i128],
 ) -> Result<Option<u32>, Memory>
     requires each { length flags.now ≡ siege.now.system.now.cells }
-    requires scratch { length scratch.old ≡ siege.now.system.now.cells }
     requires is_attack { IsAttack siege.now.cells.now siege.now.soles.now attack }
     requires refutes { Unguards (case_of siege.now) siege.now.soles.now flags.now attack multipliers.now }
-    ensures length { length scratch.new ≡ length scratch.old }
-    ensures none { IfOk result (λ subject. IfNone subject ((number : ℕ) → breaks_at siege.now.cells.now
-        (known.with_known siege.now.soles.now attack.row flags.now)
-        (coefficients_for siege.now.system.now (target_of attack) multipliers.now) number ≡ false)) }
-    ensures cheapest { IfOk result (λ subject. IfSome subject (IsCheapest siege.now.cells.now siege.now.prices.now
-        (known.with_known siege.now.soles.now attack.row flags.now)
-        (coefficients_for siege.now.system.now (target_of attack) multipliers.now))) }
+    ensures none { IfOk result (λ subject. IfNone subject
+        (NoneBreaksAgainst siege.now flags.now attack multipliers.now)) }
+    ensures cheapest { IfOk result (λ subject. IfSome subject
+        (IsCheapestAgainst siege.now flags.now attack multipliers.now)) }
 {
-    let system = siege.system.system();
-    // for the proof: read, so that it is known to be a number of 32 bits
-    let _cells = system.cells;
     let left = without_known(alloc, siege.soles, attack.row, flags)?;
     let closed = with_known(alloc, siege.soles, attack.row, flags)?;
+    let mut counts = Vec::from_elem(alloc, 0, siege.cells.len())?;
     match check_refutation(
-        system,
+        siege.system.system(),
         siege.cells,
         &left,
         attack.cell,
         attack.side,
         multipliers,
-        scratch,
+        &mut counts,
     ) {
-        Ok(()) => Ok(find_cheapest(siege.cells, closed.flags.as_slice(), siege.prices, scratch)),
+        Ok(()) => Ok(find_cheapest(siege.cells, closed.flags.as_slice(), siege.prices, &counts)),
         Err(_) => unreachable!(),
     }
 }

@@ -1,4 +1,5 @@
 use sdc_base::Side;
+use worlds::Multipliers;
 
 /// What a contributor could try: to learn a primary cell that it doesn't know, from one side.
 #[derive(Clone, Copy)]
@@ -9,4 +10,14 @@ pub struct Attack {
     pub cell: u32,
     /// The side to which the cell is to be open.
     pub side: Side,
+}
+
+/// An attack against which no hidden set guards.
+#[derive(Drop)]
+pub struct UnguardedAttack {
+    /// What the contributor could try.
+    pub attack: Attack,
+    /// Multipliers that refute the cell's level to that side with all cells hidden that may be but those that the
+    /// contributor knows.
+    pub multipliers: Multipliers,
 }

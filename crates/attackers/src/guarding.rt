@@ -98,37 +98,6 @@ pub fn guard<F: TellsCosts>(
     let Ok(prices) = list_prices(alloc, cells, marks, rule) else {
         return Err(out_of_memory(alloc));
     };
-    guard_by(alloc, system, cells, &prices, soles, protected, limit)
-}
-
-// The same by prices.
-fn guard_by(
-    alloc: Global,
-    system: &System,
-    cells: &[Cell],
-    prices: &[u64],
-    soles: &[Option<u32>],
-    protected: &Protected<'_>,
-    limit: u64,
-) -> Result<Guarded, GuardStop>
-    requires cells { length cells.now ≡ system.now.cells }
-    requires prices { length prices.now ≡ system.now.cells }
-    requires modest { All HasModestLevels cells.now }
-    requires of_system { protected.now.system ≡ system.now }
-    requires of_cells { protected.now.cells ≡ cells.now }
-    requires each_flag { length protected.now.hidden.flags ≡ length cells.now }
-    requires limit { 1 ≤ limit }
-    ensures guarded { IfOk result (IsGuarded (protected_case system.now cells.now) soles.now protected.now.hidden.flags
-        protected.now.worlds) }
-    ensures stopped { IfErr result (IsStopAsTold (protected_case system.now cells.now) soles.now prices.now
-        (order.attacks_of cells.now soles.now) protected.now.hidden.flags limit) }
-    ensures whole { (signs : List Bool) → AreSigns system.now.relations signs
-        → IfOk result IsWholeGuarded }
-    ensures whole_stop { (signs : List Bool) → AreSigns system.now.relations signs
-        → IfErr result IsWholeGuardStop }
-{
-    // for the proof: read, so that it is known to be a number of 32 bits
-    let _cells = system.cells;
     let Ok(asked) = questions_of(alloc, cells) else {
         return Err(out_of_memory(alloc));
     };
@@ -142,7 +111,7 @@ fn guard_by(
         system: &signed,
         cells,
         soles,
-        prices,
+        prices: &prices,
         attacks: &attacks,
         limit,
     };
@@ -193,9 +162,6 @@ fn resist(
     let Ok(flags) = first.flags.as_slice().to_vec(alloc) else {
         return Err(out_of_memory(alloc));
     };
-    let Ok(mut scratch) = Vec::from_elem(alloc, 0, siege.cells.len()) else {
-        return Err(out_of_memory(alloc));
-    };
     let mut progress = Progress {
         hidden: Hidden {
             flags: Items::new(flags),
@@ -203,7 +169,7 @@ fn resist(
         guards: Items::empty(alloc),
         extras: Items::empty(alloc),
     };
-    let outcome = guard_all(alloc, siege, &mut scratch, &mut progress);
+    let outcome = guard_all(alloc, siege, &mut progress);
     let found = match outcome {
         Ok(found) => found,
         Err(halt) => {
@@ -211,11 +177,11 @@ fn resist(
         }
     };
     match found {
-        Some(impossible) => Ok(Guarded::CannotAgainst {
-            row: impossible.attack.row,
-            cell: impossible.attack.cell,
-            side: impossible.attack.side,
-            multipliers: impossible.multipliers,
+        Some(one) => Ok(Guarded::CannotAgainst {
+            row: one.attack.row,
+            cell: one.attack.cell,
+            side: one.attack.side,
+            multipliers: one.multipliers,
         }),
         None => narrow(alloc, siege, asked, first, progress),
     }

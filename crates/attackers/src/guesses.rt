@@ -6,10 +6,14 @@ use std::alloc::Global;
 
 /// For each cell the place of a record that falls in it, where one does. Which records they are is only a guess; where
 /// but one falls in the cell, it is that one.
-pub(crate) fn guess_rows(alloc: Global, book: &Book, rows: &[Row]) -> Result<Vec<u32>, Memory>
+pub(crate) fn guess_rows(
+    alloc: Global,
+    book: &Book,
+    rows: &[Row],
+) -> Result<Vec<Option<u32>>, Memory>
     requires { length rows.now < 2 ^ 32 }
 {
-    let mut guesses = Vec::from_elem(alloc, u32::MAX, book.cells() as usize)?;
+    let mut guesses = Vec::from_elem(alloc, None, book.cells() as usize)?;
     for t in 0..book.tables() {
         for (place, row) in rows.iter().enumerate() {
             guess_row(book, t, place as u32, row, &mut guesses);
@@ -20,46 +24,40 @@ pub(crate) fn guess_rows(alloc: Global, book: &Book, rows: &[Row]) -> Result<Vec
 }
 
 // Notes a record at the cell of table t that has its very codes.
-fn guess_row(book: &Book, t: u32, place: u32, row: &Row, guesses: &mut [u32]) {
+fn guess_row(book: &Book, t: u32, place: u32, row: &Row, guesses: &mut [Option<u32>]) {
     let Some(table) = book.spans(t) else {
         return;
     };
-    let at = codes_at(table.as_slice(), row.codes.as_slice());
+    let Some(at) = codes_at(table.as_slice(), row.codes.as_slice()) else {
+        return;
+    };
     if let Some(cell) = book.id(t, at.as_slice()) {
         note(guesses, cell, place);
     }
 }
 
-// The codes for these variables.
-fn codes_at(table: &[u32], codes: &[u32]) -> Place {
+// The codes for these variables, where there is one for each.
+fn codes_at(table: &[u32], codes: &[u32]) -> Option<Place> {
     let mut place: Place = Few::empty();
     for variable in table {
+        let next = codes.get(*variable as usize)?;
         if place.len() < 8 {
-            let next = code_at(codes, *variable);
-            place.insert(place.len(), next);
+            place.insert(place.len(), *next);
         }
     }
-    place
-}
-
-// The code for a variable, and 0 where there is none.
-fn code_at(codes: &[u32], variable: u32) -> u32 {
-    match codes.get(variable as usize) {
-        Some(code) => *code,
-        None => 0,
-    }
+    Some(place)
 }
 
 // Notes a record at a cell.
-fn note(guesses: &mut [u32], cell: u32, row: u32) {
+fn note(guesses: &mut [Option<u32>], cell: u32, row: u32) {
     let place = cell as usize;
     if place < guesses.len() {
-        guesses[place] = row;
+        guesses[place] = Some(row);
     }
 }
 
 // Notes the record of each cell at the cells right above it, the last cell first.
-fn pass_upward(book: &Book, guesses: &mut [u32]) {
+fn pass_upward(book: &Book, guesses: &mut [Option<u32>]) {
     let cells = book.cells();
     for done in 0..cells {
         let cell = cells - 1 - done;
@@ -70,7 +68,7 @@ fn pass_upward(book: &Book, guesses: &mut [u32]) {
 }
 
 // Notes the record of a cell at the one above it for a variable.
-fn pass_to(book: &Book, variable: u32, cell: u32, guesses: &mut [u32]) {
+fn pass_to(book: &Book, variable: u32, cell: u32, guesses: &mut [Option<u32>]) {
     let Some(row) = guess_at(guesses, cell) else {
         return;
     };
@@ -79,20 +77,16 @@ fn pass_to(book: &Book, variable: u32, cell: u32, guesses: &mut [u32]) {
     }
 }
 
-// What was noted at a cell.
-fn guess_at(guesses: &[u32], cell: u32) -> Option<u32> {
-    let guess = guesses.get(cell as usize)?;
-    if *guess == u32::MAX {
-        None
-    } else {
-        Some(*guess)
-    }
+/// What was noted at a cell.
+pub(crate) fn guess_at(guesses: &[Option<u32>], cell: u32) -> Option<u32> {
+    *guesses.get(cell as usize)?
 }
 
 // The cell with the parent's code for a variable, and else the same codes.
 fn cell_above(book: &Book, variable: u32, cell: u32) -> Option<u32> {
     let name = book.name(cell)?;
-    let parent = book.parent(variable, code_at(name.as_slice(), variable))?;
+    let code = name.as_slice().get(variable as usize)?;
+    let parent = book.parent(variable, *code)?;
     book.number(&with_code_at(name, variable, parent))
 }
 

@@ -6,6 +6,7 @@ mod accepting;
 mod alone;
 mod asking;
 mod attack;
+mod attempt;
 mod collecting;
 mod extra;
 mod falling;
@@ -26,7 +27,7 @@ mod trying;
 
 pub use accepting::accept_extra;
 pub use alone::soles;
-pub use attack::Attack;
+pub use attack::{Attack, UnguardedAttack};
 pub use certificate::{Extra, ExtraNeed, read_extra, write_extra};
 pub use extra::{Against, GuardStop, Guarded};
 pub use faults::ExtraFault;

@@ -2,10 +2,10 @@ ghost use Rattle.std.specs.Prelude.{◌≡◌, ◌+◌, ◌<◌, [], List, Bool,
 ghost use Rattle.sdc_base.specs.HiddenSets.{is_hidden, IsPermitted};
 ghost use Rattle.repair.specs.LevelQuestions.{HasCause};
 ghost use Rattle.attackers.specs.KnownCells.{without_known, target_of, IsAttack};
-ghost use Rattle.attackers.specs.Sieges.{case_of, IsAnswerAgainst, IsReadySiege, AreHeldBefore, IsExtendedUpTo, StaysExtended, IsRefutedAt, IsStep, AreHeldOr, IsAskedOf, IsHalted};
+ghost use Rattle.attackers.specs.Sieges.{case_of, IsAnswerAgainst, IsReadySet, AreHeldBefore, IsExtendedUpTo, IsExtensionProgress, IsRefutedAt, IsStep, AreHeldOr, IsAskedOf, IsHalted};
 
 use crate::asking::{ask_against, subject_against};
-use crate::attack::Attack;
+use crate::attack::{Attack, UnguardedAttack};
 use crate::lines::is_served;
 use crate::progress::Progress;
 use crate::siege::Siege;
@@ -14,13 +14,6 @@ use interval_audit::{Answer, AskFault};
 use sdc_base::Memory;
 use std::alloc::Global;
 use worlds::Multipliers;
-
-/// An attack against which no hidden set guards, with multipliers that show it.
-#[derive(Drop)]
-pub(crate) struct Impossible {
-    pub(crate) attack: Attack,
-    pub(crate) multipliers: Multipliers,
-}
 
 /// Why a question has no answer, and whose row it was about.
 #[derive(Drop)]
@@ -37,29 +30,28 @@ pub(crate) enum Step {
     /// An extra cell is hidden.
     Extended,
     /// No hidden set guards against the attack.
-    Cannot(Impossible),
+    Cannot(UnguardedAttack),
 }
 
 // Guards against all attacks in their order, hiding extra cells on the way: one that can't be met, if there is one.
 pub(crate) fn guard_all(
     alloc: Global,
     siege: &Siege<'_>,
-    scratch: &mut [i128],
     progress: &mut Progress,
-) -> Result<Option<Impossible>, Halt>
-    requires ready { IsReadySiege siege.now scratch.old progress.old }
+) -> Result<Option<UnguardedAttack>, Halt>
+    requires ready { IsReadySet siege.now progress.old.hidden.flags }
     requires no_guards { progress.old.guards ≡ [] }
     requires no_extras { progress.old.extras ≡ [] }
-    ensures ready { IsReadySiege siege.now scratch.new progress.new }
+    ensures ready { IsReadySet siege.now progress.new.hidden.flags }
     ensures ok { IfOk result (λ found. AreHeldOr siege.now (length siege.now.attacks.now) progress.new found) }
     ensures extended { IfOk result (λ _. IsExtendedUpTo siege.now (length siege.now.attacks.now)
         progress.old.hidden.flags progress.new) }
     ensures err { IfErr result (λ halt. IsHalted siege.now progress.old.hidden.flags progress.new halt.fault halt.row) }
 {
     'places: for place in 0..siege.attacks.len() {
-        let found = guard_at(alloc, siege, place, scratch, progress)?;
-        if let Some(impossible) = found {
-            return Ok(Some(impossible));
+        let found = guard_at(alloc, siege, place, progress)?;
+        if let Some(one) = found {
+            return Ok(Some(one));
         }
     }
     Ok(None)
@@ -70,23 +62,22 @@ fn guard_at(
     alloc: Global,
     siege: &Siege<'_>,
     place: usize,
-    scratch: &mut [i128],
     progress: &mut Progress,
-) -> Result<Option<Impossible>, Halt>
+) -> Result<Option<UnguardedAttack>, Halt>
     requires place { place < length siege.now.attacks.now }
-    requires ready { IsReadySiege siege.now scratch.old progress.old }
+    requires ready { IsReadySet siege.now progress.old.hidden.flags }
     requires held { AreHeldBefore siege.now place progress.old }
-    ensures ready { IsReadySiege siege.now scratch.new progress.new }
-    ensures extended { StaysExtended siege.now place progress.old progress.new }
+    ensures ready { IsReadySet siege.now progress.new.hidden.flags }
+    ensures extended { IsExtensionProgress siege.now place progress.old progress.new }
     ensures ok { IfOk result (λ found. AreHeldOr siege.now (place + 1) progress.new found) }
     ensures err { IfErr result (λ halt. IsAskedOf siege.now progress.new.hidden.flags halt.fault halt.row place) }
 {
     'extras: loop {
-        let step = guard_once(alloc, siege, place, scratch, progress)?;
+        let step = guard_once(alloc, siege, place, progress)?;
         match step {
             Step::Served => return Ok(None),
             Step::Extended => {}
-            Step::Cannot(impossible) => return Ok(Some(impossible)),
+            Step::Cannot(one) => return Ok(Some(one)),
         }
     }
 }
@@ -97,14 +88,13 @@ fn guard_once(
     alloc: Global,
     siege: &Siege<'_>,
     place: usize,
-    scratch: &mut [i128],
     progress: &mut Progress,
 ) -> Result<Step, Halt>
     requires place { place < length siege.now.attacks.now }
-    requires ready { IsReadySiege siege.now scratch.old progress.old }
+    requires ready { IsReadySet siege.now progress.old.hidden.flags }
     requires held { AreHeldBefore siege.now place progress.old }
-    ensures ready { IsReadySiege siege.now scratch.new progress.new }
-    ensures extended { StaysExtended siege.now place progress.old progress.new }
+    ensures ready { IsReadySet siege.now progress.new.hidden.flags }
+    ensures extended { IsExtensionProgress siege.now place progress.old progress.new }
     ensures ok { IfOk result (λ step. IsStep siege.now place progress.old progress.new step) }
     ensures err { IfErr result (λ halt. IsAskedOf siege.now progress.new.hidden.flags halt.fault halt.row place) }
 {
@@ -113,7 +103,7 @@ fn guard_once(
         return Ok(Step::Served);
     }
     let answer = answer_against(alloc, siege, progress.hidden.flags.as_slice(), attack)?;
-    match step_by(alloc, siege, attack, place, answer, scratch, progress) {
+    match step_by(alloc, siege, attack, place, answer, progress) {
         Ok(step) => Ok(step),
         Err(_) => Err(Halt {
             fault: AskFault::Memory,
@@ -165,15 +155,14 @@ fn step_by(
     attack: Attack,
     place: usize,
     answer: Answer,
-    scratch: &mut [i128],
     progress: &mut Progress,
 ) -> Result<Step, Memory>
-    requires ready { IsReadySiege siege.now scratch.old progress.old }
+    requires ready { IsReadySet siege.now progress.old.hidden.flags }
     requires held { AreHeldBefore siege.now place progress.old }
     requires stands { slice_get siege.now.attacks.now place ≡ Some attack }
     requires answered { IsAnswerAgainst (case_of siege.now) siege.now.soles.now progress.old.hidden.flags attack answer }
-    ensures ready { IsReadySiege siege.now scratch.new progress.new }
-    ensures extended { StaysExtended siege.now place progress.old progress.new }
+    ensures ready { IsReadySet siege.now progress.new.hidden.flags }
+    ensures extended { IsExtensionProgress siege.now place progress.old progress.new }
     ensures ok { IfOk result (λ step. IsStep siege.now place progress.old progress.new step) }
     ensures err { OnErr result (progress.new.hidden.flags ≡ progress.old.hidden.flags) }
 {
@@ -187,7 +176,7 @@ fn step_by(
             Ok(Step::Served)
         }
         Answer::Stops { multipliers, .. } => {
-            extend(alloc, siege, attack, place, multipliers, scratch, progress)
+            extend(alloc, siege, attack, place, multipliers, progress)
         }
     }
 }
@@ -199,22 +188,21 @@ fn extend(
     attack: Attack,
     place: usize,
     multipliers: Multipliers,
-    scratch: &mut [i128],
     progress: &mut Progress,
 ) -> Result<Step, Memory>
-    requires ready { IsReadySiege siege.now scratch.old progress.old }
+    requires ready { IsReadySet siege.now progress.old.hidden.flags }
     requires held { AreHeldBefore siege.now place progress.old }
     requires refuted { IsRefutedAt (case_of siege.now) siege.now.soles.now siege.now.attacks.now
         progress.old.hidden.flags place attack multipliers }
-    ensures ready { IsReadySiege siege.now scratch.new progress.new }
-    ensures extended { StaysExtended siege.now place progress.old progress.new }
+    ensures ready { IsReadySet siege.now progress.new.hidden.flags }
+    ensures extended { IsExtensionProgress siege.now place progress.old progress.new }
     ensures ok { IfOk result (λ step. IsStep siege.now place progress.old progress.new step) }
     ensures err { OnErr result (progress.new.hidden.flags ≡ progress.old.hidden.flags) }
 {
     let flags = progress.hidden.flags.as_slice();
-    let found = subject_against(alloc, siege, flags, attack, &multipliers, scratch)?;
+    let found = subject_against(alloc, siege, flags, attack, &multipliers)?;
     match found {
-        None => Ok(Step::Cannot(Impossible {
+        None => Ok(Step::Cannot(UnguardedAttack {
             attack,
             multipliers,
         })),

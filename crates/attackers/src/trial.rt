@@ -1,15 +1,14 @@
-ghost use Rattle.std.specs.Prelude.{◌≡◌, ◌<◌, ◌++◌, length, take, IfOk, IfErr};
-ghost use Rattle.sdc_base.specs.HiddenSets.{IsPermitted};
+ghost use Rattle.std.specs.Prelude.{◌<◌, length, take, IfOk, IfErr};
 ghost use Rattle.repair.specs.HidingOrder.{hide};
-ghost use Rattle.attackers.specs.Sieges.{case_of, HoldGuards, IsAskedOf};
-ghost use Rattle.attackers.specs.Dropping.{renewed_guards, IsRenewal, IsTrial, HasFault};
+ghost use Rattle.attackers.specs.Sieges.{AreGuardsOf, IsAskedOf};
+ghost use Rattle.attackers.specs.Dropping.{renewed_guards, IsRenewal, IsTrial, HasFaultOf};
 
+use crate::attempt::Attempt;
 use crate::lines::{is_served, is_still_served};
 use crate::serving::{Halt, answer_against, attack_at};
-use crate::siege::Siege;
 use certificate::{ExtraNeed, WorldLine};
 use interval_audit::{Answer, AskFault};
-use sdc_base::{Hidden, Items};
+use sdc_base::Items;
 use std::alloc::Global;
 
 /// What trying to show a cell comes to.
@@ -21,25 +20,18 @@ pub(crate) enum Trial {
     Refused(ExtraNeed),
 }
 
-// Asks again, with a cell shown, about the attacks against which no kept world serves that doesn't move it.
-pub(crate) fn ask_anew(
-    alloc: Global,
-    siege: &Siege<'_>,
-    cell: u32,
-    hidden: &Hidden,
-    guards: &[WorldLine],
-) -> Result<Trial, Halt>
-    requires each { length hidden.now.flags ≡ siege.now.system.now.cells }
-    requires permitted { IsPermitted siege.now.cells.now hidden.now.flags }
-    requires holds { HoldGuards (case_of siege.now) siege.now.soles.now (hide hidden.now.flags cell)
-        siege.now.attacks.now guards.now }
-    ensures ok { IfOk result (IsTrial siege.now hidden.now.flags cell guards.now) }
-    ensures err { IfErr result (λ halt. HasFault (case_of siege.now) siege.now.soles.now siege.now.attacks.now
-        hidden.now.flags siege.now.limit halt.fault halt.row) }
+// Asks again, with the cell shown, about the attacks against which no kept world serves that doesn't move it.
+pub(crate) fn ask_anew(alloc: Global, attempt: &Attempt<'_, '_>) -> Result<Trial, Halt>
+    requires holds { AreGuardsOf attempt.now.siege.now (hide attempt.now.hidden.now.flags attempt.now.cell)
+        attempt.now.siege.now.attacks.now attempt.now.guards.now }
+    ensures ok { IfOk result (IsTrial attempt.now.siege.now attempt.now.hidden.now.flags attempt.now.cell
+        attempt.now.guards.now) }
+    ensures err { IfErr result (λ halt. HasFaultOf attempt.now.siege.now attempt.now.hidden.now.flags halt.fault
+        halt.row) }
 {
     let mut news = Items::empty(alloc);
-    'places: for place in 0..siege.attacks.len() {
-        let renewal = renew_attack(alloc, siege, place, cell, hidden, guards, &mut news)?;
+    'places: for place in 0..attempt.siege.attacks.len() {
+        let renewal = renew_attack(alloc, attempt, place, &mut news)?;
         if let Some(need) = renewal {
             return Ok(Trial::Refused(need));
         }
@@ -47,32 +39,32 @@ pub(crate) fn ask_anew(
     Ok(Trial::Renewed(news))
 }
 
-// Asks about one attack again, with a cell shown, where no kept world serves that doesn't move it.
+// Asks about one attack again, with the cell shown, where no kept world serves that doesn't move it.
 fn renew_attack(
     alloc: Global,
-    siege: &Siege<'_>,
+    attempt: &Attempt<'_, '_>,
     place: usize,
-    cell: u32,
-    hidden: &Hidden,
-    guards: &[WorldLine],
     news: &mut Items<WorldLine>,
 ) -> Result<Option<ExtraNeed>, Halt>
-    requires place { place < length siege.now.attacks.now }
-    requires each { length hidden.now.flags ≡ siege.now.system.now.cells }
-    requires permitted { IsPermitted siege.now.cells.now hidden.now.flags }
-    requires holds { HoldGuards (case_of siege.now) siege.now.soles.now hidden.now.flags
-        (take place siege.now.attacks.now) (renewed_guards cell guards.now news.old) }
-    ensures ok { IfOk result (IsRenewal siege.now hidden.now.flags cell guards.now place news.new) }
-    ensures err { IfErr result (λ halt. IsAskedOf siege.now hidden.now.flags halt.fault halt.row place) }
+    requires place { place < length attempt.now.siege.now.attacks.now }
+    requires holds { AreGuardsOf attempt.now.siege.now attempt.now.hidden.now.flags
+        (take place attempt.now.siege.now.attacks.now)
+        (renewed_guards attempt.now.cell attempt.now.guards.now news.old) }
+    ensures ok { IfOk result (IsRenewal attempt.now.siege.now attempt.now.hidden.now.flags attempt.now.cell
+        attempt.now.guards.now place news.new) }
+    ensures err { IfErr result (λ halt. IsAskedOf attempt.now.siege.now attempt.now.hidden.now.flags halt.fault
+        halt.row place) }
 {
+    let siege = attempt.siege;
+    let cell = attempt.cell;
     let attack = attack_at(siege, place);
-    if is_still_served(siege.cells, siege.soles, attack, cell, guards) {
+    if is_still_served(siege.cells, siege.soles, attack, cell, attempt.guards) {
         return Ok(None);
     }
     if is_served(siege.cells, siege.soles, attack, news.as_slice()) {
         return Ok(None);
     }
-    let answer = answer_against(alloc, siege, hidden.flags.as_slice(), attack)?;
+    let answer = answer_against(alloc, siege, attempt.hidden.flags.as_slice(), attack)?;
     match answer {
         Answer::Reaches(world) => {
             let line = WorldLine {

@@ -1,9 +1,10 @@
-ghost use Rattle.std.specs.Prelude.{◌≡◌, ◌+◌, ◌<◌, ◌++◌, ◌∷◌, [], ℕ, List, Bool, true, length, IfErr, OnOk};
+ghost use Rattle.std.specs.Prelude.{◌≡◌, ◌+◌, ◌<◌, ◌++◌, ◌∷◌, [], ℕ, List, true, length, IfErr, OnOk};
 ghost use Rattle.sdc_base.specs.HiddenSets.{is_hidden, IsPermitted};
 ghost use Rattle.repair.specs.HidingOrder.{hide};
 ghost use Rattle.attackers.specs.Sieges.{case_of, HoldGuards};
-ghost use Rattle.attackers.specs.Dropping.{is_beside, renewed_guards, HasTried, TriesStopFor};
+ghost use Rattle.attackers.specs.Dropping.{is_beside, renewed_guards, HasTried, TriesStopFor, IsCellTrial, IsCellTrialStop};
 
+use crate::attempt::Attempt;
 use crate::lines::drop_moved;
 use crate::progress::Progress;
 use crate::serving::Halt;
@@ -48,43 +49,14 @@ pub(crate) fn try_all(
     ensures err { IfErr result (λ halt. TriesStopFor siege.now first.now.flags progress.old.hidden.flags halt.fault
         halt.row found.new.dropped) }
 {
-    // for the proof: read, so that it is known to be a number of 32 bits
-    let _cells = siege.system.system().cells;
     'cells: for number in 0..siege.cells.len() {
-        try_next(alloc, siege, first, number as u32, progress, found)?;
+        let cell = number as u32;
+        if !is_extra(first, &progress.hidden, cell) {
+            continue;
+        }
+        try_one(alloc, siege, first, cell, progress, found)?;
     }
     Ok(())
-}
-
-// Tries a cell as shown, where it is an extra one.
-fn try_next(
-    alloc: Global,
-    siege: &Siege<'_>,
-    first: &Hidden,
-    cell: u32,
-    progress: &mut Progress,
-    found: &mut Findings,
-) -> Result<(), Halt>
-    requires inside { cell < length siege.now.cells.now }
-    requires each { length progress.old.hidden.flags ≡ siege.now.system.now.cells }
-    requires first { IsPermitted siege.now.cells.now first.now.flags }
-    requires permitted { IsPermitted siege.now.cells.now progress.old.hidden.flags }
-    requires holds { HoldGuards (case_of siege.now) siege.now.soles.now progress.old.hidden.flags
-        siege.now.attacks.now progress.old.guards }
-    ensures extras { progress.new.extras ≡ progress.old.extras }
-    ensures each { OnOk result (length progress.new.hidden.flags ≡ siege.now.system.now.cells) }
-    ensures permitted { OnOk result (IsPermitted siege.now.cells.now progress.new.hidden.flags) }
-    ensures ok { OnOk result ((larger : List Bool)
-        → HasTried siege.now first.now.flags larger cell progress.old found.old
-        → HasTried siege.now first.now.flags larger (cell + 1) progress.new found.new) }
-    ensures err { IfErr result (λ halt. (larger : List Bool)
-        → HasTried siege.now first.now.flags larger cell progress.old found.old
-        → TriesStopFor siege.now first.now.flags larger halt.fault halt.row found.new.dropped) }
-{
-    if !is_extra(first, &progress.hidden, cell) {
-        return Ok(());
-    }
-    try_one(alloc, siege, first, cell, progress, found)
 }
 
 // Whether a cell is hidden beside the first set.
@@ -114,24 +86,22 @@ fn try_one(
     ensures extras { progress.new.extras ≡ progress.old.extras }
     ensures each { OnOk result (length progress.new.hidden.flags ≡ siege.now.system.now.cells) }
     ensures permitted { OnOk result (IsPermitted siege.now.cells.now progress.new.hidden.flags) }
-    ensures ok { OnOk result ((larger : List Bool)
-        → HasTried siege.now first.now.flags larger cell progress.old found.old
-        → HasTried siege.now first.now.flags larger (cell + 1) progress.new found.new) }
-    ensures err { IfErr result (λ halt. (larger : List Bool)
-        → HasTried siege.now first.now.flags larger cell progress.old found.old
-        → TriesStopFor siege.now first.now.flags larger halt.fault halt.row found.new.dropped) }
+    ensures ok { OnOk result (IsCellTrial siege.now first.now.flags cell progress.old found.old progress.new
+        found.new) }
+    ensures err { IfErr result (λ halt. IsCellTrialStop siege.now first.now.flags cell progress.old found.old halt.fault
+        halt.row found.new.dropped) }
 {
     let Ok(()) = found.dropped.push(cell) else {
         return Err(out_of_memory());
     };
     progress.hidden.flags.set(cell as usize, false);
-    let trial = ask_anew(
-        alloc,
+    let attempt = Attempt {
         siege,
         cell,
-        &progress.hidden,
-        progress.guards.as_slice(),
-    )?;
+        hidden: &progress.hidden,
+        guards: progress.guards.as_slice(),
+    };
+    let trial = ask_anew(alloc, &attempt)?;
     match trial {
         Trial::Renewed(news) => take_new(alloc, cell, news, progress),
         Trial::Refused(need) => put_back(cell, need, progress, found),

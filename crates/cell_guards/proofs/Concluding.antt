@@ -53,7 +53,7 @@ answer-comes c prices soles limit protected certificate answer (Ok made) certifi
       flags_are = is.2;
       certificate_is = is.1;
     }
-answer-comes c prices soles limit protected certificate answer (Err (unguarded.CannotAgainst row cell side multipliers)) certified guarded is =
+answer-comes c prices soles limit protected certificate answer (Err (unguarded.CannotAgainst found)) certified guarded is =
     subst (IsGuarded c soles protected.hidden.flags protected.worlds) is guarded
 answer-comes c prices soles limit protected certificate answer (Err (unguarded.Undecided stopped against)) certified guarded is = absurd is
 answer-comes c prices soles limit protected certificate answer (Err unguarded.Memory) certified guarded is = tt
@@ -62,7 +62,7 @@ answer-comes c prices soles limit protected certificate answer (Err unguarded.Me
 pub stop-comes : (c : Case) (prices : List ℕ) (soles : List (Option ℕ)) (limit : ℕ) (protected : HiddenSet) (certificate : Certificate) (stop : GuardStop) (why : Unguarded)
     → IsStopAsTold c soles prices (attacks_of c.cells soles) protected.hidden.flags limit stop → IsStopOf c certificate protected.hidden.flags stop why
     → ComesToGuard c prices soles limit protected certificate (Err why)
-stop-comes c prices soles limit protected certificate stop (unguarded.CannotAgainst row cell side multipliers) stops is = absurd is
+stop-comes c prices soles limit protected certificate stop (unguarded.CannotAgainst found) stops is = absurd is
 stop-comes c prices soles limit protected certificate stop (unguarded.Undecided stopped against) stops is =
     let Stops : AskFault → Against → Type 0 = λ fault other. StopsFor c soles prices (attacks_of c.cells soles) protected.hidden.flags limit fault other.row other.extras other.dropped in
     record {
@@ -76,7 +76,7 @@ stop-comes c prices soles limit protected certificate stop unguarded.Memory stop
 pub guard-of : (book : BookView) (rows : List Row) (c : Case) (prices : List ℕ) (limit : ℕ) (protected : HiddenSet) (certificate : Certificate) (soles : List (Option ℕ)) (outcome : Result GuardedCells Unguarded)
     → length soles ≡ length c.cells → length soles ≡ length (cells book) → AreSoles book rows soles → ComesToGuard c prices soles limit protected certificate outcome → IsGuardOf book rows c prices limit protected certificate outcome
 guard-of book rows c prices limit protected certificate soles (Ok guarded) each named are comes = record { soles = soles; one_each = each; each_named = named; are_soles = are; comes_to = comes }
-guard-of book rows c prices limit protected certificate soles (Err (unguarded.CannotAgainst row cell side multipliers)) each named are comes = record { soles = soles; one_each = each; each_named = named; are_soles = are; comes_to = comes }
+guard-of book rows c prices limit protected certificate soles (Err (unguarded.CannotAgainst found)) each named are comes = record { soles = soles; one_each = each; each_named = named; are_soles = are; comes_to = comes }
 guard-of book rows c prices limit protected certificate soles (Err (unguarded.Undecided stopped against)) each named are comes = record { soles = soles; one_each = each; each_named = named; are_soles = are; comes_to = comes }
 guard-of book rows c prices limit protected certificate soles (Err unguarded.Memory) each named are comes = tt
 
@@ -91,14 +91,14 @@ has-text c prices soles limit protected certificate (Err why) each said comes = 
 pub answer-whole : (certificate : Certificate) (flags : List Bool) (answer : Guarded) (outcome : Result GuardedCells Unguarded)
     → IsWholeGuarded answer → IsMadeOf certificate flags answer outcome → IsWholeOutcome outcome
 answer-whole certificate flags answer (Ok made) whole is = subst IsWholeGuarded is.0 whole
-answer-whole certificate flags answer (Err (unguarded.CannotAgainst row cell side multipliers)) whole is = subst IsWholeGuarded is whole
+answer-whole certificate flags answer (Err (unguarded.CannotAgainst found)) whole is = subst IsWholeGuarded is whole
 answer-whole certificate flags answer (Err (unguarded.Undecided stopped against)) whole is = absurd is
 answer-whole certificate flags answer (Err unguarded.Memory) whole is = tt
 
 -- and so is what comes of a stop
 pub stop-whole : (c : Case) (certificate : Certificate) (flags : List Bool) (stop : GuardStop) (why : Unguarded)
     → IsWholeGuardStop stop → IsStopOf c certificate flags stop why → IsWholeOutcome (Err why)
-stop-whole c certificate flags stop (unguarded.CannotAgainst row cell side multipliers) whole is = absurd is
+stop-whole c certificate flags stop (unguarded.CannotAgainst found) whole is = absurd is
 stop-whole c certificate flags stop (unguarded.Undecided stopped against) whole is = (
   subst HasNoWalk (sym is.0) whole.0,
   subst IsWholeAgainst (sym is.1) whole.1,

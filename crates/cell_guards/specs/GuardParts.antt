@@ -15,14 +15,14 @@ use Rattle.cell_guards.specs.declared.guarding.Unguarded.TheVariants as unguarde
 abbrev pub IsMadeOf : Certificate → List Bool → Guarded → Result GuardedCells Unguarded → Type 0
 IsMadeOf certificate flags answer (Ok made) = (answer ≡ guarded.Guards made.extra) × (made.certificate ≡ certificate)
     × (made.hidden.flags ≡ hide_cells flags made.extra.cells)
-IsMadeOf certificate flags answer (Err (unguarded.CannotAgainst row cell side multipliers)) =
-    answer ≡ guarded.CannotAgainst row cell side multipliers
+IsMadeOf certificate flags answer (Err (unguarded.CannotAgainst found)) =
+    answer ≡ guarded.CannotAgainst found.attack.row found.attack.cell found.attack.side found.multipliers
 IsMadeOf certificate flags answer (Err (unguarded.Undecided stopped against)) = ⊥
 IsMadeOf certificate flags answer (Err unguarded.Memory) = Unit {0}
 
 -- guarding that stopped, with the repairs of the certificate and the cells that were shown again
 abbrev pub IsStopOf : Case → Certificate → List Bool → GuardStop → Unguarded → Type 0
-IsStopOf c certificate flags stop (unguarded.CannotAgainst row cell side multipliers) = ⊥
+IsStopOf c certificate flags stop (unguarded.CannotAgainst found) = ⊥
 IsStopOf c certificate flags stop (unguarded.Undecided stopped against) = (stopped.fault ≡ stop.fault)
     × (against ≡ stop.against) × (stopped.repairs ≡ certificate.repairs)
     × (stopped.shown ≡ shown_again c certificate flags)

@@ -2,7 +2,6 @@
 use Rattle.std.specs.Prelude.{◌≡◌, ℕ, List, length, Option, Result, Ok, Err}
 use Rattle.sdc_base.specs.declared.method.Method.{Method}
 use Rattle.sdc_base.specs.declared.rows.Row.{Row}
-use Rattle.sdc_base.specs.declared.side.Side.{Side}
 use Rattle.sdc_base.specs.declared.trail.PlanStep.{PlanStep}
 use Rattle.cost_rule.specs.declared.kind.CostKind.{CostKind}
 use Rattle.linked_tables.specs.BookCells.{cells}
@@ -19,7 +18,6 @@ use Rattle.attackers.specs.ExtraFaults.{extra_fault}
 use Rattle.attackers.specs.Guarding.{IsGuardedBy}
 use Rattle.attackers.specs.GuardStops.{StopsFor}
 use Rattle.attackers.specs.Sieges.{IsCannot}
-use Rattle.attackers.specs.declared.attack.Attack.{Attack}
 use Rattle.attackers.specs.declared.extra.Against.{Against}
 use Rattle.cell_protection.specs.Protections.{IsProtectedWith}
 use Rattle.cell_guards.specs.ShownAgain.{shown_again}
@@ -62,17 +60,13 @@ pub record StopsAgainst (c : Case) (prices : List ℕ) (soles : List (Option ℕ
   pub stops : StopsFor c soles prices (attacks_of c.cells soles) protected.hidden.flags limit stopped.fault against.row
       against.extras against.dropped
 
--- what these make
-abbrev pub attack_on : ℕ → ℕ → Side → Attack
-attack_on row cell side = record { row = row; cell = cell; side = side }
-
 -- What guarding a protected hidden set against those that alone make up cells comes to: it is guarded, or no hidden set
 -- guards against a contributor, or a question stopped short.
 abbrev pub ComesToGuard : Case → List ℕ → List (Option ℕ) → ℕ → HiddenSet → Certificate
     → Result GuardedCells Unguarded → Type 0
 ComesToGuard c prices soles limit protected certificate (Ok guarded) = IsGuardedWith c soles protected certificate guarded
-ComesToGuard c prices soles limit protected certificate (Err (unguarded.CannotAgainst row cell side multipliers)) =
-    IsCannot c soles (attacks_of c.cells soles) (attack_on row cell side) multipliers
+ComesToGuard c prices soles limit protected certificate (Err (unguarded.CannotAgainst found)) =
+    IsCannot c soles (attacks_of c.cells soles) found.attack found.multipliers
 ComesToGuard c prices soles limit protected certificate (Err (unguarded.Undecided stopped against)) =
     StopsAgainst c prices soles limit protected certificate stopped against
 ComesToGuard c prices soles limit protected certificate (Err unguarded.Memory) = Unit {0}
@@ -93,9 +87,8 @@ abbrev pub IsGuardOf : BookView → List Row → Case → List ℕ → ℕ → H
 IsGuardOf book rows c prices limit protected certificate (Err unguarded.Memory) = Unit {0}
 IsGuardOf book rows c prices limit protected certificate (Ok guarded) =
     ComesToGuardBy book rows c prices limit protected certificate (Ok guarded)
-IsGuardOf book rows c prices limit protected certificate (Err (unguarded.CannotAgainst row cell side multipliers)) =
-    ComesToGuardBy book rows c prices limit protected certificate
-    (Err (unguarded.CannotAgainst row cell side multipliers))
+IsGuardOf book rows c prices limit protected certificate (Err (unguarded.CannotAgainst found)) =
+    ComesToGuardBy book rows c prices limit protected certificate (Err (unguarded.CannotAgainst found))
 IsGuardOf book rows c prices limit protected certificate (Err (unguarded.Undecided stopped against)) =
     ComesToGuardBy book rows c prices limit protected certificate (Err (unguarded.Undecided stopped against))
 

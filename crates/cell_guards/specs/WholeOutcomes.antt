@@ -10,6 +10,6 @@ use Rattle.cell_guards.specs.declared.guarding.Unguarded.TheVariants as unguarde
 -- those of the extra cells until a stop, whose question stops short but for its size. Not: those of the certificate.
 abbrev pub IsWholeOutcome : Result GuardedCells Unguarded → Type 0
 IsWholeOutcome (Ok guarded) = IsWholeExtra guarded.extra
-IsWholeOutcome (Err (unguarded.CannotAgainst row cell side multipliers)) = multipliers.den ≡ pos 1
+IsWholeOutcome (Err (unguarded.CannotAgainst found)) = found.multipliers.den ≡ pos 1
 IsWholeOutcome (Err (unguarded.Undecided stopped against)) = HasNoWalk stopped.fault × IsWholeAgainst against
 IsWholeOutcome (Err unguarded.Memory) = Unit {0}

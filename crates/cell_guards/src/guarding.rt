@@ -14,15 +14,15 @@ ghost use Rattle.cell_guards.specs.WholeOutcomes.{IsWholeOutcome};
 
 use crate::sets::with_cells;
 use crate::shown_again::shown_again;
-use attackers::{Against, Extra, GuardStop, Guarded, guard, soles};
+use attackers::{Against, Attack, Extra, GuardStop, Guarded, UnguardedAttack, guard, soles};
 use certificate::Certificate;
 use cost_rule::{CostKind, CostRule, TellsCosts};
 use interval_audit::AskFault;
 use linked_tables::Book;
 use repair::Stopped;
-use sdc_base::{Cell, CellFacts, Hidden, Memory, Row, Side, System};
+use sdc_base::{Cell, CellFacts, Hidden, Memory, Row, System};
 use std::alloc::{AllocError, Global};
-use worlds::{Multipliers, Protected};
+use worlds::Protected;
 
 /// Cells that a hidden set protects, with the tables and the records that they are of.
 #[derive(Clone, Copy)]
@@ -53,20 +53,11 @@ pub struct GuardedCells {
 /// Why a hidden set isn't guarded against contributors.
 #[derive(Drop)]
 pub enum Unguarded {
-    /// No hidden set guards this cell to this side against the contributor at this row, the first such row, cell and
-    /// side: the multipliers refute it with all cells hidden that may be but those that the contributor knows.
-    CannotAgainst {
-        row: u32,
-        cell: u32,
-        side: Side,
-        multipliers: Multipliers,
-    },
+    /// No hidden set guards against this attack, the first by row, then cell, then side, above before below.
+    CannotAgainst(UnguardedAttack),
     /// A question against a contributor stopped short, of a hidden set with all these repairs and without these cells.
     /// Never want of memory.
-    Undecided {
-        stopped: Stopped,
-        against: Against,
-    },
+    Undecided { stopped: Stopped, against: Against },
     /// There was no memory.
     Memory,
 }
@@ -202,12 +193,13 @@ fn guarded_by(
             cell,
             side,
             multipliers,
-        } => Err(Unguarded::CannotAgainst {
-            row,
-            cell,
-            side,
-            multipliers,
-        }),
+        } => {
+            let attack = Attack { row, cell, side };
+            Err(Unguarded::CannotAgainst(UnguardedAttack {
+                attack,
+                multipliers,
+            }))
+        }
     }
 }
 

@@ -69,7 +69,7 @@ guard-still old new rows c prices limit hidden_set certificate (Ok guarded) same
   are_soles = soles-still old new rows is.soles same is.are_soles;
   comes_to = is.comes_to;
 }
-guard-still old new rows c prices limit hidden_set certificate (Err (unguarded.CannotAgainst row cell side multipliers)) same is = record {
+guard-still old new rows c prices limit hidden_set certificate (Err (unguarded.CannotAgainst found)) same is = record {
   soles = is.soles;
   one_each = is.one_each;
   each_named = is.each_named ∙ ap (λ (names : List Name). length names) (same-cells old new same);
@@ -155,7 +155,7 @@ guard-for settled job system new cells rows name one hidden_set certificate outc
 
 -- why a hidden set isn't guarded stops the run
 pub unguarded-comes : (settled : SettledInputs) (hidden_set : HiddenSet) (certificate : Certificate) (why : Unguarded) → IsGuardFor settled hidden_set certificate (Err why) → ComesToRelease settled (Err (unguarded_report why))
-unguarded-comes settled hidden_set certificate (unguarded.CannotAgainst row cell side multipliers) is = (tt, record { hidden_set = hidden_set; certificate = certificate; guards = is })
+unguarded-comes settled hidden_set certificate (unguarded.CannotAgainst found) is = (tt, record { hidden_set = hidden_set; certificate = certificate; guards = is })
 unguarded-comes settled hidden_set certificate (unguarded.Undecided stopped against) is =
     stuck-comes settled stopped.fault stopped.repairs stopped.shown (Some against) (record { hidden_set = hidden_set; certificate = certificate; guards = is })
 unguarded-comes settled hidden_set certificate unguarded.Memory is = (tt, tt)

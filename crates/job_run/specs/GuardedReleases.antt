@@ -49,7 +49,8 @@ pub record HasNoGuard (settled : SettledInputs) (row cell : ℕ) (side : Side) (
     : Type 0 where
   pub hidden_set : HiddenSet
   pub certificate : Certificate
-  pub guards : IsGuardFor settled hidden_set certificate (Err (unguarded.CannotAgainst row cell side multipliers))
+  pub guards : IsGuardFor settled hidden_set certificate (Err (unguarded.CannotAgainst
+      (record { attack = record { row = row; cell = cell; side = side }; multipliers = multipliers })))
 
 -- guarding settled inputs stops short at a question against a contributor, of a hidden set with these repairs and
 -- without these cells

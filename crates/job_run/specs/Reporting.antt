@@ -47,7 +47,8 @@ stopped_report stopped = stuck_report stopped.fault stopped.repairs stopped.show
 
 -- why a hidden set isn't guarded
 abbrev pub unguarded_report : Unguarded → Report
-unguarded_report (unguarded.CannotAgainst row cell side multipliers) = report.CannotAgainst row cell side multipliers
+unguarded_report (unguarded.CannotAgainst found) =
+    report.CannotAgainst found.attack.row found.attack.cell found.attack.side found.multipliers
 unguarded_report (unguarded.Undecided stopped against) =
     stuck_report stopped.fault stopped.repairs stopped.shown (Some against)
 unguarded_report unguarded.Memory = report.Memory

@@ -57,16 +57,11 @@ impl From<Unguarded> for Report {
 
     fn from(reason: Unguarded) -> Self {
         match reason {
-            Unguarded::CannotAgainst {
-                row,
-                cell,
-                side,
-                multipliers,
-            } => Report::CannotAgainst {
-                row,
-                cell,
-                side,
-                multipliers,
+            Unguarded::CannotAgainst(found) => Report::CannotAgainst {
+                row: found.attack.row,
+                cell: found.attack.cell,
+                side: found.attack.side,
+                multipliers: found.multipliers,
             },
             Unguarded::Undecided { stopped, against } => stuck_report(stopped, Some(against)),
             Unguarded::Memory => Report::Memory,

@@ -5,6 +5,6 @@ use Rattle.attackers.proofs.accepting.check_guards.Given as goal
 
 abbrev pub invariant-loop-place : goal.invariant-loop-place
 invariant-loop-place l = record {
-  same : guards_fault (protected_case l.system l.cells) l.all.flags l.place (drop l.place l.guards) ≡ guards_fault (protected_case l.system l.cells) l.all.flags 0 l.guards;
-  long : length l.scratch ≡ l.system.cells;
+  same : guards_fault (protected_case l.extended.system.now l.extended.cells.now) l.extended.hidden.now.flags l.place (drop l.place l.guards) ≡ guards_fault (protected_case l.extended.system.now l.extended.cells.now) l.extended.hidden.now.flags 0 l.guards;
+  long : length l.scratch ≡ l.extended.system.now.cells;
 }

@@ -5,6 +5,6 @@ use Rattle.attackers.proofs.accepting.check_needs.Given as goal
 
 abbrev pub invariant-loop-place : goal.invariant-loop-place
 invariant-loop-place l = record {
-  same : needs_fault (protected_case l.system l.cells) l.soles l.all.flags l.place (drop l.place l.needs) ≡ needs_fault (protected_case l.system l.cells) l.soles l.all.flags 0 l.needs;
-  long : length l.scratch ≡ l.system.cells;
+  same : needs_fault (protected_case l.extended.system.now l.extended.cells.now) l.soles l.extended.hidden.now.flags l.place (drop l.place l.needs) ≡ needs_fault (protected_case l.extended.system.now l.extended.cells.now) l.soles l.extended.hidden.now.flags 0 l.needs;
+  long : length l.scratch ≡ l.extended.system.now.cells;
 }

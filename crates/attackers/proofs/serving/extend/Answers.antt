@@ -48,7 +48,6 @@ returns-in_ok-extend-in-Some-clause-ready c =
     let says : SubjectSays siege.cells.now c.as_slice-flags.result.now subject = subject_says siege.cells.now siege.soles.now c.args.attack.row siege.prices.now c.as_slice-flags.result.now (coefficients_for siege.system.now (target_of c.args.attack) c.args.multipliers) subject (ap (λ (f : List Bool). length f) c.as_slice-flags.ensures ∙ long) cheapest in
     let inside : subject < length flags = omega (arith, long, slice_get_within siege.cells.now subject says.is_free.cell says.is_free.found) in
     record {
-      long = c.in_ok-found.ensures.length ∙ c.requires.ready.long;
       each = ap (λ (f : List Bool). length f) c.in_ok-extend-in-Some.ensures.ok_flags ∙ length-set flags subject true ∙ c.requires.ready.each;
       permitted = subst (IsPermitted siege.cells.now) (sym c.in_ok-extend-in-Some.ensures.ok_flags) (permitted_more siege.cells.now flags subject inside (free_may siege.cells.now subject says.is_free) c.requires.ready.permitted);
     }

@@ -4,4 +4,4 @@ use Rattle.attackers.proofs.trial.ask_anew.Goals as goal
 
 pub places-init : goal.places-init
 places-init c =
-    none_renewed (case_of c.args.siege.now) c.args.siege.now.soles.now c.args.siege.now.attacks.now c.args.hidden.now.flags c.args.cell c.args.guards.now c.empty-news.result c.empty-news.ensures c.requires.holds
+    none_renewed (case_of c.args.attempt.now.siege.now) c.args.attempt.now.siege.now.soles.now c.args.attempt.now.siege.now.attacks.now c.args.attempt.now.hidden.now.flags c.args.attempt.now.cell c.args.attempt.now.guards.now c.empty-news.result c.empty-news.ensures c.requires.holds

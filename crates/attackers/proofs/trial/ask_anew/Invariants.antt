@@ -5,4 +5,4 @@ use Rattle.attackers.proofs.trial.ask_anew.Given as goal
 
 abbrev pub invariant-places : goal.invariant-places
 invariant-places l =
-    HoldGuards (case_of l.siege) l.siege.soles.now l.hidden.flags (take l.place l.siege.attacks.now) (renewed_guards l.cell l.guards l.news)
+    HoldGuards (case_of l.attempt.siege.now) l.attempt.siege.now.soles.now l.attempt.hidden.now.flags (take l.place l.attempt.siege.now.attacks.now) (renewed_guards l.attempt.cell l.attempt.guards.now l.news)

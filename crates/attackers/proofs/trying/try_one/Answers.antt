@@ -1,4 +1,4 @@
-use Rattle.std.proofs.Common.{◌≡◌, ◌<◌, ◌+◌, ◌++◌, ◌∷◌, [], ◌∙◌, not, true, ℕ, List, Bool, length, ap, sym, subst, arith}
+use Rattle.std.proofs.Common.{◌≡◌, ◌<◌, ◌+◌, ◌++◌, ◌∷◌, [], ◌∙◌, not, true, ℕ, List, Bool, false, length, length-set, ap, sym, subst, arith}
 use Rattle.std.proofs.lemmas.Result.{err_from_is_err_and}
 use Rattle.sdc_base.specs.HiddenSets.{is_hidden, IsPermitted}
 use Rattle.worlds.proofs.TrueTests.{on_ok, and_true, ok_more}
@@ -7,10 +7,21 @@ use Rattle.repair.specs.HidingOrder.{hide, show}
 use Rattle.repair.proofs.Tries.{hidden_again, on_ok_two}
 use Rattle.certificate.specs.declared.extra.ExtraNeed.{ExtraNeed}
 use Rattle.attackers.specs.declared.trial.Trial.TheVariants as trial
-use Rattle.attackers.specs.Sieges.{case_of, HoldGuards}
+use Rattle.attackers.specs.Sieges.{case_of, HoldGuards, IsReadySet}
 use Rattle.attackers.specs.Dropping.{renewed_guards, IsTrial, IsTried, IsTryStop, IsNeedFor, HasFault}
 use Rattle.attackers.proofs.Tries.{one_dropped, one_needed, try_stop, tries_stop, permitted_less}
 use Rattle.attackers.proofs.trying.try_one.Goals as goal
+
+pub invariant_of-attempt : goal.invariant_of-attempt
+invariant_of-attempt c =
+    let siege = c.args.siege.now in
+    let flags : List Bool = c.args.progress.now.hidden.flags in
+    record {
+      set = subst (λ (f : List Bool). IsReadySet siege f) (sym c.set.ensures) (record {
+        each = length-set flags c.args.cell false ∙ c.requires.each;
+        permitted = permitted_less siege.cells.now c.args.first.now.flags flags c.args.cell c.requires.extra c.requires.first c.requires.permitted;
+      });
+    }
 
 pub returns-in_err-trial-clause-err : goal.returns-in_err-trial-clause-err
 returns-in_err-trial-clause-err c =
