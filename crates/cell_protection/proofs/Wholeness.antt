@@ -30,7 +30,7 @@ pub protection-whole : (c : Case) (prices : List ℕ) (method : Method) (steps :
 protection-whole c prices method steps limit (protection.Protected protected certificate) signs are is =
     let whole : IsWholeVerdict (verdict.Protected protected certificate.repairs certificate.needs) = verdict_whole c prices (planned_from c steps) signs (verdict.Protected protected certificate.repairs certificate.needs) are is.verdict in
     (whole.1, whole.2, subst (λ (one : Certificate). All IsWholeLine one.worlds) (sym is.certificate_is) (lines-whole (asked_of 0 c.cells) protected.worlds whole.0))
-protection-whole c prices method steps limit (protection.Cannot cell side multipliers) signs are is =
-    verdict_whole c prices (planned_from c steps) signs (verdict.Cannot cell side multipliers) are is
+protection-whole c prices method steps limit (protection.Cannot found) signs are is =
+    verdict_whole c prices (planned_from c steps) signs (verdict.Cannot found.cell found.side found.multipliers) are is
 protection-whole c prices method steps limit (protection.Undecided stopped) signs are is =
     stops_whole c prices (planned_from c steps) signs limit stopped.fault stopped.repairs stopped.shown are is

@@ -39,8 +39,8 @@ pub record IsProtectedWith (c : Case) (prices : List ℕ) (method : Method) (ste
 abbrev pub IsProtectionOf : Case → List ℕ → Method → List PlanStep → ℕ → Protection → Type 0
 IsProtectionOf c prices method steps limit (protection.Protected protected certificate) = IsProtectedWith c prices
     method steps protected certificate
-IsProtectionOf c prices method steps limit (protection.Cannot cell side multipliers) = IsCannot c prices
-    (planned_from c steps) cell side multipliers
+IsProtectionOf c prices method steps limit (protection.Cannot found) = IsCannot c prices (planned_from c steps)
+    found.cell found.side found.multipliers
 IsProtectionOf c prices method steps limit (protection.Undecided stopped) = StopsFor c prices (planned_from c steps)
     limit stopped.fault stopped.repairs stopped.shown
 
@@ -53,4 +53,5 @@ HasText other = Unit {0}
 abbrev pub protection_by : Method → Case → List PlanStep → Verdict → Protection
 protection_by method c steps (verdict.Protected protected repairs needs) = protection.Protected protected
     (certificate_made method c.system c.cells protected steps repairs needs)
-protection_by method c steps (verdict.Cannot cell side multipliers) = protection.Cannot cell side multipliers
+protection_by method c steps (verdict.Cannot cell side multipliers) =
+    protection.Cannot (record { cell = cell; side = side; multipliers = multipliers })

@@ -13,5 +13,5 @@ IsWholeLine line = line.world.den ≡ pos 1
 abbrev pub IsWholeProtection : Protection → Type 0
 IsWholeProtection (protection.Protected protected certificate) = All IsWholeRefuted certificate.repairs
     × All IsWholeRefuted certificate.needs × All IsWholeLine certificate.worlds
-IsWholeProtection (protection.Cannot cell side multipliers) = multipliers.den ≡ pos 1
+IsWholeProtection (protection.Cannot found) = found.multipliers.den ≡ pos 1
 IsWholeProtection (protection.Undecided stopped) = IsWholeStop stopped

@@ -1,11 +1,10 @@
-ghost use Rattle.std.specs.Prelude.{◌≡◌, ◌++◌, ◌∷◌, ◌<◌, ◌^◌, [], if◌then◌else◌, length, IfOk, OnOk};
+ghost use Rattle.std.specs.Prelude.{◌≡◌, ◌++◌, ◌∷◌, ◌<◌, ◌^◌, [], drop, if◌then◌else◌, length, IfOk, OnOk};
 ghost use Rattle.sdc_base.specs.HiddenSets as sets;
 ghost use Rattle.worlds.specs.ProtectFaults.{asked_of};
 ghost use Rattle.cell_protection.specs.Certifying as spec;
 ghost use Rattle.cell_protection.specs.Certifying.{hidden_numbers, world_line};
 
 use certificate::WorldLine;
-use repair::questions_of;
 use sdc_base::{Cell, Items, Memory, Side, is_hidden};
 use std::alloc::Global;
 use worlds::World;
@@ -41,26 +40,49 @@ pub(crate) fn world_lines(
     requires { length cells.now < 2 ^ 32 }
     ensures { IfOk result (λ lines. lines ≡ spec.world_lines (asked_of 0 cells.now) worlds.now) }
 {
-    let questions = questions_of(alloc, cells)?;
-    lines_of(alloc, questions.as_slice(), worlds)
-}
-
-// The lines of complete tables, each with the question for which it stands.
-fn lines_of(
-    alloc: Global,
-    questions: &[(u32, Side)],
-    worlds: &[World],
-) -> Result<Items<WorldLine>, Memory>
-    ensures { IfOk result (λ lines. lines ≡ spec.world_lines questions.now worlds.now) }
-{
     let mut lines = Items::empty(alloc);
-    'worlds: for (k, world) in worlds.iter().enumerate() {
-        if k >= questions.len() {
-            return Ok(lines);
-        }
-        lines.push(line_of(alloc, questions[k], world)?)?;
+    'cells: for (number, cell) in cells.iter().enumerate() {
+        add_lines(alloc, &mut lines, worlds, number as u32, cell)?;
     }
     Ok(lines)
+}
+
+// Adds the lines of a cell from the next complete table on: two where it is primary, above and then below.
+fn add_lines(
+    alloc: Global,
+    lines: &mut Items<WorldLine>,
+    worlds: &[World],
+    number: u32,
+    cell: &Cell,
+) -> Result<(), Memory>
+    ensures { OnOk result (lines.new ≡ lines.old
+        ++ spec.world_lines (asked_of number (cell.now ∷ [])) (drop (length lines.old) worlds.now)) }
+{
+    if !cell.kind.is_primary() {
+        return Ok(());
+    }
+    add_line(alloc, lines, worlds, (number, Side::Above))?;
+    add_line(alloc, lines, worlds, (number, Side::Below))?;
+    Ok(())
+}
+
+// Adds the line of the next complete table, if there is one, with the question for which it stands.
+fn add_line(
+    alloc: Global,
+    lines: &mut Items<WorldLine>,
+    worlds: &[World],
+    question: (u32, Side),
+) -> Result<(), Memory>
+    ensures { OnOk result (lines.new ≡ lines.old
+        ++ spec.world_lines (question ∷ []) (drop (length lines.old) worlds.now)) }
+{
+    let next = lines.as_slice().len();
+    if next >= worlds.len() {
+        return Ok(());
+    }
+    let line = line_of(alloc, question, &worlds[next])?;
+    lines.push(line)?;
+    Ok(())
 }
 
 // The line of a complete table with the question for which it stands.

@@ -15,10 +15,10 @@ use certificate::Certificate;
 use cost_rule::{CostKind, CostRule, TellsCosts};
 use linked_tables::{Book, Mark};
 use modular_plan::trail_for;
-use repair::{Stopped, Verdict, protect};
-use sdc_base::{Cell, CellFacts, Memory, Method, Side, System, Trail};
+use repair::{Stopped, Unprotected, Verdict, protect};
+use sdc_base::{Cell, CellFacts, Memory, Method, System, Trail};
 use std::alloc::Global;
-use worlds::{Multipliers, Protected};
+use worlds::Protected;
 
 /// What becomes of cells that are to be protected.
 #[derive(Drop)]
@@ -28,13 +28,8 @@ pub enum Protection<'a> {
         protected: Protected<'a>,
         certificate: Certificate,
     },
-    /// No hidden set protects this cell to this side: the multipliers, with which its question stopped, refute it for the
-    /// set with all cells hidden that may be.
-    Cannot {
-        cell: u32,
-        side: Side,
-        multipliers: Multipliers,
-    },
+    /// No hidden set protects this cell to this side.
+    Cannot(Unprotected),
     /// A question stopped short, so nothing is known.
     Undecided(Stopped),
 }
@@ -171,10 +166,10 @@ fn certificate_of<'a>(
             cell,
             side,
             multipliers,
-        } => Ok(Protection::Cannot {
+        } => Ok(Protection::Cannot(Unprotected {
             cell,
             side,
             multipliers,
-        }),
+        })),
     }
 }

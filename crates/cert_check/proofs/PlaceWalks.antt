@@ -1,17 +1,20 @@
 -- The first fault of lists, read place by place.
-use Rattle.std.proofs.Common.{◌≡◌, ℕ, zero, suc, ◌+◌, ◌<◌, ◌≤◌, Bool, List, [], ◌∷◌, length, drop, get_or, slice_get, Some, Ok, Err, arith, refl, ap, sym, ◌∙◌, add-one}
+use Rattle.std.proofs.Common.{◌≡◌, ℕ, zero, suc, ◌+◌, ◌<◌, ◌≤◌, Bool, true, List, [], ◌∷◌, length, drop, get_or, slice_get, Some, Result, Ok, Err, arith, refl, ap, sym, ◌∙◌, add-one, if◌then◌else◌}
 use Rattle.std.proofs.lemmas.List.{drop_more}
 use Rattle.sdc_base.specs.Steps.{◌>>=◌}
 use Rattle.sdc_base.specs.declared.cell.Cell.{Cell}
 use Rattle.sdc_base.specs.declared.side.Side.{Side}
+use Rattle.sdc_base.specs.declared.side.Side.TheVariants.{Above, Below}
 use Rattle.sdc_base.specs.declared.system.System.{System}
+use Rattle.sdc_base.specs.Kinds.{is_primary}
 use Rattle.linked_tables.specs.BookViews.{BookView}
 use Rattle.worlds.specs.declared.refuted.Refuted.{Refuted}
-use Rattle.worlds.specs.ProtectFaults.{line_number}
+use Rattle.worlds.specs.ProtectFaults.{asked_of, line_number}
 use Rattle.certificate.specs.declared.certificate.WorldLine.{WorldLine}
 use Rattle.repair.specs.HidingOrder.{hide, hide_subjects}
+use Rattle.cert_check.specs.declared.faults.CheckFault.{CheckFault}
 use Rattle.cert_check.specs.declared.faults.CheckFault.TheVariants as fault
-use Rattle.cert_check.specs.WorldList.{lines_fault, place_fault}
+use Rattle.cert_check.specs.WorldList.{fault_from, lines_fault, place_fault}
 use Rattle.cert_check.specs.NeedList.{each_need_fault, place_fault as need_place_fault}
 use Rattle.cert_check.specs.RepairList.{repair_fault, repairs_fault}
 use Rattle.cert_check.specs.ReleaseLines.{table_fault, tables_fault}
@@ -19,39 +22,73 @@ use Rattle.cert_check.proofs.Differences.{drop_none, past}
 
 -- ---- worlds
 
-lines_suc : (system : System) (cells : List Cell) (flags : List Bool) (k : ℕ) (asked : List (ℕ × Side)) (lines : List WorldLine) (i : ℕ) (line : WorldLine) → i < length lines → line ≡ get_or lines i line → lines_fault system cells flags (k + i) (drop i asked) (drop i lines) ≡ (place_fault system cells flags (k + i) (slice_get asked i) line >>= λ _. lines_fault system cells flags (k + i + 1) (drop (suc i) asked) (drop (suc i) lines))
-lines_suc system cells flags k asked [] i line within is = absurd (omega (arith, within))
-lines_suc system cells flags k [] (one ∷ lines) zero line within is = refl
-lines_suc system cells flags k (a ∷ asked) (one ∷ lines) zero line within is = ap (λ l. place_fault system cells flags (k + 0) (Some a) l >>= λ _. lines_fault system cells flags (k + 0 + 1) asked lines) (sym is)
-lines_suc system cells flags k [] (one ∷ lines) (suc i) line within is =
-    let step : k + suc i ≡ k + 1 + i = omega arith in
-    ap (λ m. lines_fault system cells flags m [] (drop i lines)) step ∙ ap (λ l. lines_fault system cells flags (k + 1 + i) l (drop i lines)) (sym (drop_none i))
-    ∙ lines_suc system cells flags (k + 1) [] lines i line (omega (arith, within)) is
-    ∙ ap (λ m. place_fault system cells flags m (slice_get [] i) line >>= λ _. lines_fault system cells flags (m + 1) [] (drop (suc i) lines)) (sym step)
-lines_suc system cells flags k (a ∷ asked) (one ∷ lines) (suc i) line within is =
-    let step : k + suc i ≡ k + 1 + i = omega arith in
-    ap (λ m. lines_fault system cells flags m (drop i asked) (drop i lines)) step
-    ∙ lines_suc system cells flags (k + 1) asked lines i line (omega (arith, within)) is
-    ∙ ap (λ m. place_fault system cells flags m (slice_get asked i) line >>= λ _. lines_fault system cells flags (m + 1) (drop (suc i) asked) (drop (suc i) lines)) (sym step)
+lines_at : (system : System) (cells : List Cell) (flags : List Bool) (k : ℕ) (asked : ℕ × Side) (more : List (ℕ × Side)) (lines : List WorldLine) (i : ℕ) → lines_fault system cells flags k (asked ∷ more) (drop i lines) ≡ (place_fault system cells flags k asked (slice_get lines i) >>= λ _. lines_fault system cells flags (k + 1) more (drop (suc i) lines))
+lines_at system cells flags k asked more [] zero = refl
+lines_at system cells flags k asked more [] (suc i) = refl
+lines_at system cells flags k asked more (line ∷ lines) zero = refl
+lines_at system cells flags k asked more (line ∷ lines) (suc i) = lines_at system cells flags k asked more lines i
 
--- the line at a place, and those behind it
-pub lines_next : (system : System) (cells : List Cell) (flags : List Bool) (asked : List (ℕ × Side)) (lines : List WorldLine) (i : ℕ) (line : WorldLine) → i < length lines → line ≡ get_or lines i line → lines_fault system cells flags i (drop i asked) (drop i lines) ≡ (place_fault system cells flags i (slice_get asked i) line >>= λ _. lines_fault system cells flags (i + 1) (drop (i + 1) asked) (drop (i + 1) lines))
-lines_next system cells flags asked lines i line within is =
-    let here : 0 + i ≡ i = omega arith in
-    ap (λ m. lines_fault system cells flags m (drop i asked) (drop i lines)) (sym here) ∙ lines_suc system cells flags 0 asked lines i line within is
-    ∙ ap (λ m. place_fault system cells flags m (slice_get asked i) line >>= λ _. lines_fault system cells flags (m + 1) (drop (suc i) asked) (drop (suc i) lines)) here
-    ∙ ap (λ m. place_fault system cells flags i (slice_get asked i) line >>= λ _. lines_fault system cells flags (i + 1) (drop m asked) (drop m lines)) (sym (add-one i))
+-- the line at a place for what is asked first, and those behind it
+lines_next : (system : System) (cells : List Cell) (flags : List Bool) (asked : ℕ × Side) (more : List (ℕ × Side)) (lines : List WorldLine) (i : ℕ) → lines_fault system cells flags i (asked ∷ more) (drop i lines) ≡ (place_fault system cells flags i asked (slice_get lines i) >>= λ _. lines_fault system cells flags (i + 1) more (drop (i + 1) lines))
+lines_next system cells flags asked more lines i =
+    lines_at system cells flags i asked more lines i
+    ∙ ap (λ m. place_fault system cells flags i asked (slice_get lines i) >>= λ _. lines_fault system cells flags (i + 1) more (drop m lines)) (sym (add-one i))
 
-pub lines_over : (system : System) (cells : List Cell) (flags : List Bool) (k : ℕ) (asked : List (ℕ × Side)) (lines : List WorldLine) → length lines < length asked → lines_fault system cells flags k (drop (length lines) asked) (drop (length lines) lines) ≡ Err (fault.WorldCell (line_number k))
-lines_over system cells flags k [] lines more = absurd (omega (arith, more))
-lines_over system cells flags k (a ∷ asked) [] more = refl
-lines_over system cells flags k (a ∷ asked) (line ∷ lines) more = lines_over system cells flags k asked lines (omega (arith, more))
+-- what is asked of a primary cell, and then of those behind it
+both_asked : (cells : List Cell) (number : ℕ) (cell : Cell) → number < length cells → is_primary (get_or cells number cell).kind ≡ true → asked_of number (drop number cells) ≡ (number, Above) ∷ (number, Below) ∷ asked_of (number + 1) (drop (number + 1) cells)
+both_asked cells number cell within primary =
+    ap (λ (l : List Cell). asked_of number l) (drop_more cells number cell within)
+    ∙ ap (λ b. if b then (number, Above) ∷ (number, Below) ∷ asked_of (number + 1) (drop (number + 1) cells) else asked_of (number + 1) (drop (number + 1) cells)) primary
 
-pub lines_done : (system : System) (cells : List Cell) (flags : List Bool) (k : ℕ) (asked : List (ℕ × Side)) (lines : List WorldLine) → length asked ≤ length lines → lines_fault system cells flags k (drop (length lines) asked) (drop (length lines) lines) ≡ Ok tt
-lines_done system cells flags k [] [] most = refl
-lines_done system cells flags k [] (line ∷ lines) most = ap (λ l. lines_fault system cells flags k l (drop (length lines) lines)) (sym (drop_none (length lines))) ∙ lines_done system cells flags k [] lines (omega arith)
-lines_done system cells flags k (a ∷ asked) [] most = absurd (omega (arith, most))
-lines_done system cells flags k (a ∷ asked) (line ∷ lines) most = lines_done system cells flags k asked lines (omega (arith, most))
+-- the lines of a primary cell, and those behind them
+primary_next : (system : System) (cells : List Cell) (flags : List Bool) (lines : List WorldLine) (number place : ℕ) (cell : Cell) → number < length cells → is_primary (get_or cells number cell).kind ≡ true
+    → fault_from system cells flags lines number place ≡ (place_fault system cells flags place (number, Above) (slice_get lines place) >>= λ _. place_fault system cells flags (place + 1) (number, Below) (slice_get lines (place + 1)) >>= λ _. fault_from system cells flags lines (number + 1) (place + 1 + 1))
+primary_next system cells flags lines number place cell within primary =
+    let more = asked_of (number + 1) (drop (number + 1) cells) in
+    ap (λ (asked : List (ℕ × Side)). lines_fault system cells flags place asked (drop place lines)) (both_asked cells number cell within primary)
+    ∙ lines_next system cells flags (number, Above) ((number, Below) ∷ more) lines place
+    ∙ ap (λ (r : Result (Unit {0}) CheckFault). place_fault system cells flags place (number, Above) (slice_get lines place) >>= λ _. r) (lines_next system cells flags (number, Below) more lines (place + 1))
+
+-- the line above has a fault
+pub above_faults : (system : System) (cells : List Cell) (flags : List Bool) (lines : List WorldLine) (number place : ℕ) (cell : Cell) (why : CheckFault) → number < length cells → is_primary (get_or cells number cell).kind ≡ true
+    → Err why ≡ place_fault system cells flags place (number, Above) (slice_get lines place) → fault_from system cells flags lines number place ≡ Err why
+above_faults system cells flags lines number place cell why within primary above =
+    primary_next system cells flags lines number place cell within primary
+    ∙ ap (λ (r : Result (Unit {0}) CheckFault). r >>= λ _. place_fault system cells flags (place + 1) (number, Below) (slice_get lines (place + 1)) >>= λ _. fault_from system cells flags lines (number + 1) (place + 1 + 1)) (sym above)
+
+passed : (system : System) (cells : List Cell) (flags : List Bool) (lines : List WorldLine) (number place : ℕ) (cell : Cell) → number < length cells → is_primary (get_or cells number cell).kind ≡ true
+    → Ok tt ≡ place_fault system cells flags place (number, Above) (slice_get lines place)
+    → fault_from system cells flags lines number place ≡ (place_fault system cells flags (place + 1) (number, Below) (slice_get lines (place + 1)) >>= λ _. fault_from system cells flags lines (number + 1) (place + 1 + 1))
+passed system cells flags lines number place cell within primary above =
+    primary_next system cells flags lines number place cell within primary
+    ∙ ap (λ (r : Result (Unit {0}) CheckFault). r >>= λ _. place_fault system cells flags (place + 1) (number, Below) (slice_get lines (place + 1)) >>= λ _. fault_from system cells flags lines (number + 1) (place + 1 + 1)) (sym above)
+
+-- the line below has a fault
+pub below_faults : (system : System) (cells : List Cell) (flags : List Bool) (lines : List WorldLine) (number place : ℕ) (cell : Cell) (why : CheckFault) → number < length cells → is_primary (get_or cells number cell).kind ≡ true
+    → Ok tt ≡ place_fault system cells flags place (number, Above) (slice_get lines place) → Err why ≡ place_fault system cells flags (place + 1) (number, Below) (slice_get lines (place + 1)) → fault_from system cells flags lines number place ≡ Err why
+below_faults system cells flags lines number place cell why within primary above below =
+    passed system cells flags lines number place cell within primary above
+    ∙ ap (λ (r : Result (Unit {0}) CheckFault). r >>= λ _. fault_from system cells flags lines (number + 1) (place + 1 + 1)) (sym below)
+
+-- neither has one
+pub both_pass : (system : System) (cells : List Cell) (flags : List Bool) (lines : List WorldLine) (number place : ℕ) (cell : Cell) → number < length cells → is_primary (get_or cells number cell).kind ≡ true
+    → Ok tt ≡ place_fault system cells flags place (number, Above) (slice_get lines place) → Ok tt ≡ place_fault system cells flags (place + 1) (number, Below) (slice_get lines (place + 1)) → fault_from system cells flags lines number place ≡ fault_from system cells flags lines (number + 1) (place + 2)
+both_pass system cells flags lines number place cell within primary above below =
+    let behind : place + 1 + 1 ≡ place + 2 = omega arith in
+    passed system cells flags lines number place cell within primary above
+    ∙ ap (λ (r : Result (Unit {0}) CheckFault). r >>= λ _. fault_from system cells flags lines (number + 1) (place + 1 + 1)) (sym below)
+    ∙ ap (λ m. fault_from system cells flags lines (number + 1) m) behind
+
+lines_left : (system : System) (cells : List Cell) (flags : List Bool) (k : ℕ) (lines : List WorldLine) (i : ℕ) → i < length lines → lines_fault system cells flags k [] (drop i lines) ≡ Err (fault.WorldCell (line_number k))
+lines_left system cells flags k [] i within = absurd (omega (arith, within))
+lines_left system cells flags k (line ∷ lines) zero within = refl
+lines_left system cells flags k (line ∷ lines) (suc i) within = lines_left system cells flags k lines i (omega (arith, within))
+
+-- a line is left behind those of all cells
+pub lines_over : (system : System) (cells : List Cell) (flags : List Bool) (lines : List WorldLine) (number place : ℕ) → length cells ≤ number → place < length lines → fault_from system cells flags lines number place ≡ Err (fault.WorldCell (line_number place))
+lines_over system cells flags lines number place end within =
+    ap (λ (l : List Cell). lines_fault system cells flags place (asked_of number l) (drop place lines)) (past cells number end)
+    ∙ lines_left system cells flags place lines place within
 
 -- ---- needs
 

@@ -118,7 +118,7 @@ pub(crate) fn check_shown(
     let mut scratch = Vec::from_elem(alloc, 0, case.cells.len())?;
     check_hiding(alloc, case, hidden, certificate, &mut scratch)?;
     let worlds = certificate.worlds.as_slice();
-    check_worlds(alloc, case, hidden, worlds, &mut scratch)?;
+    check_worlds(case, hidden, worlds, &mut scratch)?;
     let needs = certificate.needs.as_slice();
     check_needs(alloc, case, hidden, needs, &mut scratch)
 }

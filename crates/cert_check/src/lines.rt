@@ -1,21 +1,16 @@
-ghost use Rattle.std.specs.Prelude.{◌≡◌, ◌<◌, length, All, slice_get};
+ghost use Rattle.std.specs.Prelude.{◌≡◌, ◌<◌, ◌≤◌, ◌+◌, length, slice_get, Err, IfOk, IfErr, OnOk};
 ghost use Rattle.sdc_base.specs.Grounds.{IsGround};
-ghost use Rattle.sdc_base.specs.Answers.{Gives};
-ghost use Rattle.cert_check.specs.FirstFault.{fault_of};
 ghost use Rattle.cert_check.specs.WorldList as spec;
 
 use crate::case::Case;
 use crate::faults::CheckFault;
 use crate::numbering::number_of;
 use certificate::WorldLine;
-use repair::questions_of;
 use sdc_base::{Hidden, Side};
-use std::alloc::Global;
 use worlds::{check_world, reaches};
 
 /// Refuses worlds that aren't two for each primary cell by which the set protects it.
 pub(crate) fn check_worlds(
-    alloc: Global,
     case: &Case<'_>,
     hidden: &Hidden,
     lines: &[WorldLine],
@@ -23,57 +18,70 @@ pub(crate) fn check_worlds(
 ) -> Result<(), CheckFault>
     requires ground { IsGround case.now.system.now case.now.cells.now hidden.now.flags }
     requires scratch { length scratch.old ≡ case.now.system.now.cells }
-    ensures exact { Gives fault_of (λ u. u) result
-        (spec.worlds_fault case.now.system.now case.now.cells.now hidden.now.flags lines.now) }
-    ensures length { length scratch.new ≡ length scratch.old }
-{
-    let asked = questions_of(alloc, case.cells)?;
-    check_lines(case, hidden, &asked, lines, scratch)
-}
-
-// The first fault of the lines, one for each that is asked.
-fn check_lines(
-    case: &Case<'_>,
-    hidden: &Hidden,
-    asked: &[(u32, Side)],
-    lines: &[WorldLine],
-    scratch: &mut [i128],
-) -> Result<(), CheckFault>
-    requires ground { IsGround case.now.system.now case.now.cells.now hidden.now.flags }
-    requires scratch { length scratch.old ≡ case.now.system.now.cells }
-    requires asked { All (λ one. one.0 < case.now.system.now.cells) asked.now }
     ensures exact { result ≡
-        spec.lines_fault case.now.system.now case.now.cells.now hidden.now.flags 0 asked.now lines.now }
+        spec.worlds_fault case.now.system.now case.now.cells.now hidden.now.flags lines.now }
     ensures length { length scratch.new ≡ length scratch.old }
 {
-    for (place, line) in lines.iter().enumerate() {
-        check_place(case, hidden, asked, place, line, scratch)?;
+    let mut place = 0;
+    'cells: for number in 0..case.cells.len() {
+        place = check_cell(case, hidden, number, place, lines, scratch)?;
     }
-    if lines.len() < asked.len() {
-        return Err(CheckFault::WorldCell(number_of(lines.len())));
+    if place < lines.len() {
+        return Err(CheckFault::WorldCell(number_of(place)));
     }
     Ok(())
 }
 
-// The fault of the line at a place.
+// The lines of one cell from a place on, two where it is primary: the place behind them.
+fn check_cell(
+    case: &Case<'_>,
+    hidden: &Hidden,
+    number: usize,
+    place: usize,
+    lines: &[WorldLine],
+    scratch: &mut [i128],
+) -> Result<usize, CheckFault>
+    requires ground { IsGround case.now.system.now case.now.cells.now hidden.now.flags }
+    requires scratch { length scratch.old ≡ case.now.system.now.cells }
+    requires number { number < length case.now.cells.now }
+    requires place { place ≤ length lines.now }
+    ensures ok { IfOk result (λ next. spec.fault_of_rest case.now hidden.now.flags lines.now number place
+        ≡ spec.fault_of_rest case.now hidden.now.flags lines.now (number + 1) next) }
+    ensures next { IfOk result (λ next. next ≤ length lines.now) }
+    ensures err { IfErr result (λ fault.
+        spec.fault_of_rest case.now hidden.now.flags lines.now number place ≡ Err fault) }
+    ensures length { length scratch.new ≡ length scratch.old }
+{
+    if !case.cells[number].kind.is_primary() {
+        return Ok(place);
+    }
+    let cell = number as u32;
+    check_place(case, hidden, place, (cell, Side::Above), lines, scratch)?;
+    let next = place + 1;
+    check_place(case, hidden, next, (cell, Side::Below), lines, scratch)?;
+    Ok(place + 2)
+}
+
+// The fault of the line at a place for what is asked.
 fn check_place(
     case: &Case<'_>,
     hidden: &Hidden,
-    asked: &[(u32, Side)],
     place: usize,
-    line: &WorldLine,
+    asked: (u32, Side),
+    lines: &[WorldLine],
     scratch: &mut [i128],
 ) -> Result<(), CheckFault>
     requires ground { IsGround case.now.system.now case.now.cells.now hidden.now.flags }
     requires scratch { length scratch.old ≡ case.now.system.now.cells }
-    requires asked { All (λ one. one.0 < case.now.system.now.cells) asked.now }
+    requires asked { asked.0 < case.now.system.now.cells }
     ensures exact { result ≡
-        spec.place_fault case.now.system.now case.now.cells.now hidden.now.flags place (slice_get asked.now place)
-        line.now }
+        spec.place_fault case.now.system.now case.now.cells.now hidden.now.flags place asked
+        (slice_get lines.now place) }
+    ensures within { OnOk result (place < length lines.now) }
     ensures length { length scratch.new ≡ length scratch.old }
 {
-    match asked.get(place) {
-        Some(one) => check_line(case, hidden, number_of(place), *one, line, scratch),
+    match lines.get(place) {
+        Some(line) => check_line(case, hidden, number_of(place), asked, line, scratch),
         None => Err(CheckFault::WorldCell(number_of(place))),
     }
 }

@@ -33,8 +33,8 @@ AgreesWith (report.Demo demo) outcome = ⊥
 AgreesWith report.Migrated outcome = ⊥
 AgreesWith report.Usage outcome = ⊥
 AgreesWith (report.Refused reason) outcome = outcome ≡ Err reason
-AgreesWith (report.Cannot cell side multipliers) outcome = IsOkAnd outcome
-    (λ settled. IsProtectionFor settled (protection.Cannot cell side multipliers))
+AgreesWith (report.Cannot cell side multipliers) outcome = IsOkAnd outcome (λ settled.
+    IsProtectionFor settled (protection.Cannot (record { cell = cell; side = side; multipliers = multipliers })))
 AgreesWith (report.CannotAgainst row cell side multipliers) outcome = IsOkAnd outcome
     (λ settled. HasNoGuard settled row cell side multipliers)
 AgreesWith report.NoRounding outcome = IsOkAnd outcome HasNoRounding

@@ -101,14 +101,10 @@ fn guard_parts(
                 summary,
             )
         }
-        Protection::Cannot {
-            cell,
-            side,
-            multipliers,
-        } => Err(Report::Cannot {
-            cell,
-            side,
-            multipliers,
+        Protection::Cannot(unprotected) => Err(Report::Cannot {
+            cell: unprotected.cell,
+            side: unprotected.side,
+            multipliers: unprotected.multipliers,
         }),
         Protection::Undecided(stopped) => Err(Report::from(stopped)),
     }

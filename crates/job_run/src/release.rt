@@ -136,14 +136,10 @@ fn suppress_parts(
             let release = hidden_release(alloc, described, book, &protected, certificate, summary)?;
             Ok(release)
         }
-        Protection::Cannot {
-            cell,
-            side,
-            multipliers,
-        } => Err(Report::Cannot {
-            cell,
-            side,
-            multipliers,
+        Protection::Cannot(unprotected) => Err(Report::Cannot {
+            cell: unprotected.cell,
+            side: unprotected.side,
+            multipliers: unprotected.multipliers,
         }),
         Protection::Undecided(stopped) => Err(Report::from(stopped)),
     }

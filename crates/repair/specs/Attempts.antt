@@ -57,13 +57,13 @@ is_open_at cells flags number =
     option_map_or (λ cell. is_free cell.kind) (slice_get cells number) false && is_hidden flags number
 
 -- from whatever set the cells below a number had been tried, those up to it have been
-abbrev pub StaysTried : Task → ℕ → Progress → Findings → Progress → Findings → Type 0
-StaysTried task cell before tried after found =
+abbrev pub IsCellTrial : Task → ℕ → Progress → Findings → Progress → Findings → Type 0
+IsCellTrial task cell before tried after found =
     (larger : List Bool) → HasTried task larger cell before tried → HasTried task larger (cell + 1) after found
 
 -- from whatever set the cells below a number had been tried, trying stops with the fault
-abbrev pub StopsTrying : Task → ℕ → Progress → Findings → AskFault → List ℕ → Type 0
-StopsTrying task cell before tried fault shown =
+abbrev pub IsCellTrialStop : Task → ℕ → Progress → Findings → AskFault → List ℕ → Type 0
+IsCellTrialStop task cell before tried fault shown =
     (larger : List Bool) → HasTried task larger cell before tried
     → TriesStopFor (case_of task) larger task.limit fault shown
 

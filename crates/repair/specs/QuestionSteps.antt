@@ -6,10 +6,10 @@ use Rattle.worlds.specs.declared.world.World.{World}
 use Rattle.worlds.specs.ProtectFaults.{asked_of}
 use Rattle.interval_audit.specs.declared.answer.AskFault.{AskFault}
 use Rattle.repair.specs.declared.progress.Progress.{Progress}
-use Rattle.repair.specs.declared.serving.Impossible.{Impossible}
 use Rattle.repair.specs.declared.serving.Step.{Step}
 use Rattle.repair.specs.declared.serving.Step.TheVariants.{Served, Repaired, Cannot}
 use Rattle.repair.specs.declared.task.Task.{Task}
+use Rattle.repair.specs.declared.unprotected_cell.UnprotectedCell.{UnprotectedCell}
 use Rattle.repair.specs.HidingOrder.{Case, NoneBreaks}
 use Rattle.repair.specs.KeptWorlds.{AreServedBefore, IsRepaired, IsStopped, shown_count}
 use Rattle.repair.specs.OnTheWay.{IsOfFirst, AreAnswers}
@@ -30,8 +30,8 @@ pub record IsRepairedUpTo (task : Task) (place : ℕ) (planned : List Bool) (pro
       progress.worlds
 
 -- what was repaired stays repaired: from whatever set repairing had come to the place, it still has
-abbrev pub StaysRepaired : Task → ℕ → Progress → Progress → Type 0
-StaysRepaired task place before after =
+abbrev pub IsRepairProgress : Task → ℕ → Progress → Progress → Type 0
+IsRepairProgress task place before after =
     (planned : List Bool) → IsRepairedUpTo task place planned before → IsRepairedUpTo task place planned after
 
 -- repairing has come to the end of all that is asked, from the planned set
@@ -40,7 +40,7 @@ IsRepairedForAll task planned progress = IsRepairedUpTo task (length (asked_of 0
 
 -- a cell that can't be protected to a side: its question stopped for the hidden set with multipliers that no cell would
 -- break
-pub record IsImpossible (c : Case) (flags : List Bool) (found : Impossible) : Type 0 where
+pub record IsUnprotected (c : Case) (flags : List Bool) (found : UnprotectedCell) : Type 0 where
   pub place : ℕ
   pub stopped : IsStopped c flags place (found.cell, found.side) found.multipliers
   pub none_breaks : NoneBreaks c flags (found.cell, found.side) found.multipliers
@@ -50,12 +50,12 @@ abbrev pub IsStep : Case → ℕ → List Bool → List Bool → List World → 
 IsStep c place before flags worlds Served = AreServedBefore c flags (place + 1) worlds
 IsStep c place before flags worlds Repaired =
     AreServedBefore c flags place worlds × (shown_count flags < shown_count before)
-IsStep c place before flags worlds (Cannot found) = IsImpossible c flags found
+IsStep c place before flags worlds (Cannot found) = IsUnprotected c flags found
 
 -- the questions before a place have their worlds, or a cell can't be protected
-abbrev pub AreServedOrImpossible : Case → ℕ → List Bool → List World → Option Impossible → Type 0
-AreServedOrImpossible c place flags worlds None = AreServedBefore c flags place worlds
-AreServedOrImpossible c place flags worlds (Some found) = IsImpossible c flags found
+abbrev pub AreServedOrUnprotected : Case → ℕ → List Bool → List World → Option UnprotectedCell → Type 0
+AreServedOrUnprotected c place flags worlds None = AreServedBefore c flags place worlds
+AreServedOrUnprotected c place flags worlds (Some found) = IsUnprotected c flags found
 
 -- a question at some place has a fault, and repairing from the planned set has come to it
 pub record IsHalted (c : Case) (prices : List ℕ) (planned flags : List Bool) (repairs : List Refuted) (limit : ℕ)

@@ -17,6 +17,7 @@ mod stopped;
 mod task;
 mod trial;
 mod trying;
+mod unprotected_cell;
 mod verdict;
 
 pub use cheapest::find_cheapest;
@@ -27,4 +28,5 @@ pub use protecting::protect;
 pub use questions::questions_of;
 pub use serving::level_question;
 pub use stopped::Stopped;
+pub use unprotected_cell::UnprotectedCell;
 pub use verdict::Verdict;

@@ -148,10 +148,10 @@ fn repaired_verdict<'a>(
         }
     };
     match found {
-        Some(impossible) => Ok(Verdict::Cannot {
-            cell: impossible.cell,
-            side: impossible.side,
-            multipliers: impossible.multipliers,
+        Some(unprotected) => Ok(Verdict::Cannot {
+            cell: unprotected.cell,
+            side: unprotected.side,
+            multipliers: unprotected.multipliers,
         }),
         None => narrowed_verdict(alloc, task, progress, scratch),
     }

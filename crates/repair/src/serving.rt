@@ -6,23 +6,16 @@ ghost use Rattle.repair.specs.HidingOrder.{IsOfKind};
 ghost use Rattle.repair.specs.Tasks.{case_of};
 ghost use Rattle.repair.specs.KeptWorlds.{HasModestLevels, AreServedBefore, IsStopped};
 ghost use Rattle.repair.specs.Stops.{IsQuestion};
-ghost use Rattle.repair.specs.QuestionSteps.{IsReadyForRepair, IsRepairedUpTo, StaysRepaired, IsStep, IsImpossible, AreServedOrImpossible, IsHalted};
+ghost use Rattle.repair.specs.QuestionSteps.{IsReadyForRepair, IsRepairedUpTo, IsRepairProgress, IsStep, IsUnprotected, AreServedOrUnprotected, IsHalted};
 
 use crate::cheapest::subject_of;
 use crate::progress::Progress;
 use crate::task::Task;
+use crate::unprotected_cell::UnprotectedCell;
 use interval_audit::{Answer, AskFault, Question};
 use sdc_base::{Cell, Memory, Side};
 use std::alloc::Global;
 use worlds::{Multipliers, Refuted};
-
-/// A cell that can't be protected to a side, with multipliers that show it.
-#[derive(Drop)]
-pub(crate) struct Impossible {
-    pub(crate) cell: u32,
-    pub(crate) side: Side,
-    pub(crate) multipliers: Multipliers,
-}
 
 /// What asking once comes to.
 #[derive(Drop)]
@@ -32,7 +25,7 @@ pub(crate) enum Step {
     /// A cell more is hidden.
     Repaired,
     /// The cell can't be protected.
-    Cannot(Impossible),
+    Cannot(UnprotectedCell),
 }
 
 // Asks all questions in their order, hiding cells on the way: a cell that can't be protected, if there is one.
@@ -41,12 +34,12 @@ pub(crate) fn serve_all(
     task: &Task<'_, '_>,
     scratch: &mut [i128],
     progress: &mut Progress,
-) -> Result<Option<Impossible>, AskFault>
+) -> Result<Option<UnprotectedCell>, AskFault>
     requires ready { IsReadyForRepair task.now scratch.old progress.old }
     requires no_worlds { progress.old.worlds ≡ [] }
     requires no_repairs { progress.old.repairs ≡ [] }
     ensures ready { IsReadyForRepair task.now scratch.new progress.new }
-    ensures ok { IfOk result (λ found. AreServedOrImpossible (case_of task.now) (length task.now.questions.now)
+    ensures ok { IfOk result (λ found. AreServedOrUnprotected (case_of task.now) (length task.now.questions.now)
         progress.new.hidden.flags progress.new.worlds found) }
     ensures repaired { IfOk result (λ _. IsRepairedUpTo task.now (length task.now.questions.now)
         progress.old.hidden.flags progress.new) }
@@ -55,8 +48,8 @@ pub(crate) fn serve_all(
 {
     'places: for place in 0..task.questions.len() {
         let found = serve(alloc, task, place, scratch, progress)?;
-        if let Some(impossible) = found {
-            return Ok(Some(impossible));
+        if let Some(unprotected) = found {
+            return Ok(Some(unprotected));
         }
     }
     Ok(None)
@@ -69,13 +62,13 @@ fn serve(
     place: usize,
     scratch: &mut [i128],
     progress: &mut Progress,
-) -> Result<Option<Impossible>, AskFault>
+) -> Result<Option<UnprotectedCell>, AskFault>
     requires place { place < length task.now.questions.now }
     requires ready { IsReadyForRepair task.now scratch.old progress.old }
     requires served { AreServedBefore (case_of task.now) progress.old.hidden.flags place progress.old.worlds }
     ensures ready { IsReadyForRepair task.now scratch.new progress.new }
-    ensures repaired { StaysRepaired task.now place progress.old progress.new }
-    ensures ok { IfOk result (λ found. AreServedOrImpossible (case_of task.now) (place + 1) progress.new.hidden.flags
+    ensures repaired { IsRepairProgress task.now place progress.old progress.new }
+    ensures ok { IfOk result (λ found. AreServedOrUnprotected (case_of task.now) (place + 1) progress.new.hidden.flags
         progress.new.worlds found) }
     ensures err { IfErr result (λ fault. IsQuestion (case_of task.now) progress.new.hidden.flags task.now.limit fault
         place) }
@@ -85,7 +78,7 @@ fn serve(
         match step {
             Step::Served => return Ok(None),
             Step::Repaired => {}
-            Step::Cannot(impossible) => return Ok(Some(impossible)),
+            Step::Cannot(unprotected) => return Ok(Some(unprotected)),
         }
     }
 }
@@ -102,7 +95,7 @@ fn ask_once(
     requires ready { IsReadyForRepair task.now scratch.old progress.old }
     requires served { AreServedBefore (case_of task.now) progress.old.hidden.flags place progress.old.worlds }
     ensures ready { IsReadyForRepair task.now scratch.new progress.new }
-    ensures repaired { StaysRepaired task.now place progress.old progress.new }
+    ensures repaired { IsRepairProgress task.now place progress.old progress.new }
     ensures ok { IfOk result (λ step. IsStep (case_of task.now) place progress.old.hidden.flags
         progress.new.hidden.flags progress.new.worlds step) }
     ensures err { IfErr result (λ fault. IsQuestion (case_of task.now) progress.new.hidden.flags task.now.limit fault
@@ -140,14 +133,14 @@ fn hide_one(
     requires served { AreServedBefore (case_of task.now) progress.old.hidden.flags place progress.old.worlds }
     requires stopped { IsStopped (case_of task.now) progress.old.hidden.flags place asked multipliers }
     ensures ready { IsReadyForRepair task.now scratch.new progress.new }
-    ensures repaired { StaysRepaired task.now place progress.old progress.new }
+    ensures repaired { IsRepairProgress task.now place progress.old progress.new }
     ensures ok { IfOk result (λ step. IsStep (case_of task.now) place progress.old.hidden.flags
         progress.new.hidden.flags progress.new.worlds step) }
     ensures err { OnErr result (progress.new.hidden.flags ≡ progress.old.hidden.flags) }
 {
     let subject = subject_of(task, &progress.hidden, asked, &multipliers, scratch);
     match subject {
-        None => Ok(Step::Cannot(Impossible {
+        None => Ok(Step::Cannot(UnprotectedCell {
             cell: asked.0,
             side: asked.1,
             multipliers,

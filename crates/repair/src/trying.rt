@@ -4,7 +4,7 @@ ghost use Rattle.sdc_base.specs.declared.cell.Kind.TheVariants.{Free as FreeKind
 ghost use Rattle.repair.specs.HidingOrder.{hide, IsOfKind};
 ghost use Rattle.repair.specs.Tasks.{case_of};
 ghost use Rattle.repair.specs.CellTrials.{TriesStopFor};
-ghost use Rattle.repair.specs.Attempts.{IsServedSet, IsUntried, IsReadyToTry, is_open_at, StaysTried, StopsTrying, HasTriedAll, KeepsAnswers};
+ghost use Rattle.repair.specs.Attempts.{IsServedSet, IsUntried, IsReadyToTry, is_open_at, IsCellTrial, IsCellTrialStop, HasTriedAll, KeepsAnswers};
 
 use crate::attempt::Attempt;
 use crate::guesses::Guesses;
@@ -91,8 +91,8 @@ fn try_one(
     ensures repairs { progress.new.repairs ≡ progress.old.repairs }
     ensures worlds { progress.new.worlds ≡ progress.old.worlds }
     ensures ready { OnOk result (IsReadyToTry task.now progress.new tried.new) }
-    ensures ok { OnOk result (StaysTried task.now cell progress.old tried.old progress.new tried.new) }
-    ensures err { IfErr result (λ fault. StopsTrying task.now cell progress.old tried.old fault tried.new.shown) }
+    ensures ok { OnOk result (IsCellTrial task.now cell progress.old tried.old progress.new tried.new) }
+    ensures err { IfErr result (λ fault. IsCellTrialStop task.now cell progress.old tried.old fault tried.new.shown) }
 {
     let Ok(()) = tried.shown.push(cell) else {
         return Err(AskFault::Memory);

@@ -121,14 +121,10 @@ fn bytes_of(alloc: Global, made: &Protection<'_>) -> Result<Vec<u8>, Fail>
 {
     match made {
         Protection::Protected { certificate, .. } => Ok(write_certificate(alloc, certificate)?),
-        Protection::Cannot {
-            cell,
-            side,
-            multipliers,
-        } => {
-            let number = *cell;
-            let word = side.word();
-            let den = multipliers.den;
+        Protection::Cannot(unprotected) => {
+            let number = unprotected.cell;
+            let word = unprotected.side.word();
+            let den = unprotected.multipliers.den;
             let line = format!(in alloc; "cannot {number} {word} {den}\n")?;
             Ok(Vec::from_slice(alloc, line.as_bytes())?)
         }

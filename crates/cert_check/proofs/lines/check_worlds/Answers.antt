@@ -1,13 +1,9 @@
-use Rattle.std.proofs.Common.{◌<◌, ◌∙◌, ℕ, List, All, sym, subst, arith}
-use Rattle.sdc_base.specs.declared.side.Side.{Side}
-use Rattle.worlds.specs.ProtectFaults.{asked_of}
-use Rattle.cert_check.proofs.SubjectLists.{asked_are_cells}
+use Rattle.std.proofs.Common.{◌∙◌, ap, sym, Err}
+use Rattle.cert_check.specs.declared.faults.CheckFault.TheVariants as fault
+use Rattle.cert_check.proofs.PlaceWalks.{lines_over}
 use Rattle.cert_check.proofs.lines.check_worlds.Goals as goal
 
-pub check_lines-requires-clause-asked : goal.check_lines-requires-clause-asked
-check_lines-requires-clause-asked c =
-    subst (λ (l : List (ℕ × Side)). All (λ (one : ℕ × Side). one.0 < c.args.case.now.system.now.cells) l) (sym (c.deref.ensures.value ∙ c.in_ok-asked.ensures))
-    (subst (λ n. All (λ (one : ℕ × Side). one.0 < n) (asked_of 0 c.args.case.now.cells.now)) c.requires.ground.each_cell (asked_are_cells c.args.case.now.cells.now))
-
-pub questions_of-requires : goal.questions_of-requires
-questions_of-requires c = omega (arith, c.requires.ground.each_cell, c.args.case.now.system.now.below_2_32)
+pub returns-then-place-lines-clause-exact : goal.returns-then-place-lines-clause-exact
+returns-then-place-lines-clause-exact c =
+    ap (λ m. Err (fault.WorldCell m)) c.number_of.ensures
+    ∙ sym (c.cells.invariant.rest ∙ lines_over c.args.case.now.system.now c.args.case.now.cells.now c.args.hidden.now.flags c.args.lines.now c.cells.number c.cells.place c.cells-test.false c.if-place-lines.true)

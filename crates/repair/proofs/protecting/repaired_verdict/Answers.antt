@@ -3,7 +3,7 @@ use Rattle.worlds.specs.declared.refuted.Refuted.{Refuted}
 use Rattle.interval_audit.specs.declared.answer.AskFault.{AskFault}
 use Rattle.repair.specs.HidingOrder.{Case, protected_case}
 use Rattle.repair.specs.Stops.{list_with_fault, StopsFor}
-use Rattle.repair.specs.QuestionSteps.{IsImpossible, AreServedOrImpossible}
+use Rattle.repair.specs.QuestionSteps.{IsUnprotected, AreServedOrUnprotected}
 use Rattle.repair.proofs.Concluding.{stops_for}
 use Rattle.repair.proofs.Repairing.{cannot_by}
 use Rattle.repair.proofs.protecting.repaired_verdict.Goals as goal
@@ -23,6 +23,6 @@ returns-in-Some-clause-verdict c =
     let task : Case = protected_case c.args.task.now.system.now c.args.task.now.cells.now in
     let flags : List Bool = c.serve_all-outcome.new.progress.hidden.flags in
     let repairs : List Refuted = c.serve_all-outcome.new.progress.repairs in
-    let found : IsImpossible task flags c.in-Some.impossible = subst (AreServedOrImpossible task (length c.args.task.now.questions.now) flags c.serve_all-outcome.new.progress.worlds) c.in-Some.is c.in-Ok.ensures.ok in
-    cannot_by task c.args.task.now.prices.now c.args.hidden.flags flags repairs found.place (c.in-Some.impossible.cell, c.in-Some.impossible.side) c.in-Some.impossible.multipliers c.args.task.now.fits.one_each c.serve_all-outcome.ensures.ready.each c.serve_all-outcome.ensures.ready.permitted
+    let found : IsUnprotected task flags c.in-Some.unprotected = subst (AreServedOrUnprotected task (length c.args.task.now.questions.now) flags c.serve_all-outcome.new.progress.worlds) c.in-Some.is c.in-Ok.ensures.ok in
+    cannot_by task c.args.task.now.prices.now c.args.hidden.flags flags repairs found.place (c.in-Some.unprotected.cell, c.in-Some.unprotected.side) c.in-Some.unprotected.multipliers c.args.task.now.fits.one_each c.serve_all-outcome.ensures.ready.each c.serve_all-outcome.ensures.ready.permitted
     c.in-Ok.ensures.repaired.is_repaired.hidden_is c.in-Ok.ensures.repaired.is_repaired.are_repairs found.stopped found.none_breaks
