@@ -8,7 +8,7 @@
 # ARGUS_JOBS says how many crates are proved at one time, where it is set. ARGUS_ANY_KIT=1 takes whatever kit is there.
 
 # Kits differ in their commands; what is proved depends on their logic alone.
-kit='rattle-kit-13b'
+kit='rattle-kit-13f'
 logic='logic dac8208d650f15bf'
 # What the proof of a crate takes at most, in kilobytes, as a rule.
 each=2500000

@@ -11,6 +11,7 @@ pub mod LawsOfCells
 pub mod LawsOfJobs
 pub mod Flagged
 pub mod HiddenRows
+pub mod ReleasedAmounts
 pub mod ShownRows
 pub mod ReleaseReads
 pub mod Asking

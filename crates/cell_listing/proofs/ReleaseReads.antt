@@ -4,7 +4,7 @@ use Rattle.certificate.specs.declared.certificate.Certificate.{Certificate}
 use Rattle.certificate.specs.declared.extra.Extra.{Extra}
 use Rattle.cert_check.specs.Methods.{rounds_cells}
 use Rattle.job_inputs.specs.declared.faults.Fault.{Fault}
-use Rattle.job_check.specs.Accepted.{AnswersReadRelease, IsAcceptedAs}
+use Rattle.job_check.specs.Accepted.{IsReadReleaseAnswer, IsAcceptedAs}
 use Rattle.job_check.specs.Answers.{IsAcceptedWith}
 use Rattle.job_check.specs.Contributors.{AreForJob}
 use Rattle.job_check.specs.Reading.{IsReadyRelease, IsReleasedOf}
@@ -16,7 +16,7 @@ use Rattle.job_check.specs.declared.reading.ReadRelease.{ReadRelease}
 use Rattle.cell_listing.specs.ListedCells.{listed_cells, told_cells}
 use Rattle.cell_listing.specs.ReleasedCells.{amounts_in, AreReleasedIn}
 use Rattle.cell_listing.specs.ReleasedListings.{outcome_at, released_listing, released_text}
-use Rattle.cell_listing.specs.Releases.{IsListingOf, TablesShowListing}
+use Rattle.cell_listing.specs.Releases.{IsListingOf, AreTablesOfListing}
 use Rattle.cell_listing.specs.declared.released_cells.ReleasedCells.{ReleasedCells}
 use Rattle.cell_listing.specs.declared.released_cells.ReleasedCells.TheVariants as cells
 use Rattle.cell_listing.proofs.Alike.{released_alike}
@@ -37,7 +37,7 @@ apart released read ready is (Some own) some accepted =
     ap rounds_cells same ∙ hides
 
 -- the tables show what is listed, whichever the release made of its cells
-tables_show : (released : ReleasedFiles) (read : ReadRelease) (made : ReleasedCells) → IsAcceptedAs released read → AreReleasedIn read made → TablesShowListing released (amounts_in made)
+tables_show : (released : ReleasedFiles) (read : ReadRelease) (made : ReleasedCells) → IsAcceptedAs released read → AreReleasedIn read made → AreTablesOfListing released (amounts_in made)
 tables_show released read (cells.Suppressed flags) got are =
     let hides : rounds_cells released.certificate.method ≡ false = ap (λ (c : Certificate). rounds_cells c.method) (sym got.is.certificate) ∙ are.0 in
     let it = hiding_of released.extra released refl got.accepted hides in
@@ -62,6 +62,6 @@ is_listing released read made text ready are is got =
     }
 
 -- the listing of what a check accepts answers
-pub listing_answers : (outcome : Result ReleasedFiles Fault) (read : ReadRelease) (text : List ℕ) → ((released : ReleasedFiles) → IsAcceptedAs released read → IsListingOf released text) → AnswersReadRelease outcome (Ok read) → IsOkAnd outcome (λ released. IsListingOf released text)
+pub listing_answers : (outcome : Result ReleasedFiles Fault) (read : ReadRelease) (text : List ℕ) → ((released : ReleasedFiles) → IsAcceptedAs released read → IsListingOf released text) → IsReadReleaseAnswer outcome (Ok read) → IsOkAnd outcome (λ released. IsListingOf released text)
 listing_answers (Ok released) read text over h = over released h
 listing_answers (Err fault) read text over h = absurd h

@@ -25,7 +25,7 @@ use Rattle.cell_listing.specs.ListedCells.{ListedCell}
 use Rattle.cell_listing.specs.Outcomes.{cells_in, hidden_or_shown, is_among, is_listed_hidden, outcome_of}
 use Rattle.cell_listing.specs.ReleasedCells.{AreShownAs}
 use Rattle.cell_listing.specs.ReleasedListings.{outcome_at}
-use Rattle.cell_listing.specs.Releases.{shows, TablesShowListing}
+use Rattle.cell_listing.specs.Releases.{shows, AreTablesOfListing}
 use Rattle.cell_listing.specs.declared.outcome.Outcome.{Outcome}
 use Rattle.cell_listing.proofs.HiddenRows.{case_size, extra_outcome, IsHiding, own_outcome, rounded_outcome, shown_outcome, suppressed_outcome}
 use Rattle.cell_listing.proofs.LawsOfJobs.{marked, opened}
@@ -54,7 +54,7 @@ line_shows c extra amounts marks flags number cell mark hides same flag here tru
     ∙ sym (ap (λ (one : Outcome). shows cell one) (what ∙ shown_outcome c extra number kind other none))))
 
 -- where cells are hidden
-pub suppressed_shown : (released : ReleasedFiles) (amounts : List ℤ) (case : Case) → IsHiding released case → rounds_cells released.certificate.method ≡ false → TablesShowListing released amounts
+pub suppressed_shown : (released : ReleasedFiles) (amounts : List ℤ) (case : Case) → IsHiding released case → rounds_cells released.certificate.method ≡ false → AreTablesOfListing released amounts
 suppressed_shown released amounts case hiding hides =
     let is = hiding.is_case in
     let c : Certificate = released.certificate in
@@ -84,7 +84,7 @@ amount_there (one ∷ amounts) zero within = refl
 amount_there (one ∷ amounts) (suc number) within = amount_there amounts number (omega (arith, within))
 
 -- where cells are rounded
-pub rounded_shown : (released : ReleasedFiles) (read : ReadRelease) (amounts : List ℤ) → IsReleasedOf released read → rounds_cells released.certificate.method ≡ true → AreShownAs read amounts → TablesShowListing released amounts
+pub rounded_shown : (released : ReleasedFiles) (read : ReadRelease) (amounts : List ℤ) → IsReleasedOf released read → rounds_cells released.certificate.method ≡ true → AreShownAs read amounts → AreTablesOfListing released amounts
 rounded_shown released read amounts is rounds are =
     let c : Certificate = released.certificate in
     let inputs = released.settled.inputs in

@@ -23,13 +23,13 @@ asked_stop list.Usage = asked.Usage
 asked_stop (list.Inputs input) = asked.Stopped (check.Inputs input)
 
 -- the answer is that of a listing of the job of this name
-pub record AnswersCells (name : List ℕ) (answer : Result (Vec ℕ Global) AskStop) (old new : ShelfState) : Type 0 where
+pub record IsCellsAnswer (name : List ℕ) (answer : Result (Vec ℕ Global) AskStop) (old new : ShelfState) : Type 0 where
   pub listing : Result (Vec ℕ Global) ListStop
   pub same : answer ≡ map_fault asked_stop listing
   pub run : IsListingRun name listing old new
 
 -- the answer is that of a listing of the job with its release
-pub record AnswersReleases (name : List ℕ) (answer : Result (Vec ℕ Global) AskStop) (old new : ShelfState)
+pub record IsReleasesAnswer (name : List ℕ) (answer : Result (Vec ℕ Global) AskStop) (old new : ShelfState)
     : Type 0 where
   pub listing : Result (Vec ℕ Global) CheckStop
   pub same : answer ≡ map_fault asked.Stopped listing

@@ -1,5 +1,5 @@
 -- What a release that was read made of its cells, as its lines are written from it (own).
-use Rattle.std.specs.Prelude.{◌≡◌, ◌≤ℤ◌, ◌^◌, ℕ, List, [], ◌++◌, length, map, slice_get, Some, true, false, ℤ, pos, neg_ℤ}
+use Rattle.std.specs.Prelude.{◌≡◌, ◌<◌, ◌≤ℤ◌, ◌^◌, ℕ, List, [], ◌++◌, length, map, slice_get, Some, true, false, ℤ, pos, neg_ℤ}
 use Rattle.cert_check.specs.Methods.{rounds_cells}
 use Rattle.linked_tables.specs.BookCells.{cells as cells_in}
 use Rattle.release_writer.specs.ReadingLaws.{AreTexts, IsReleased}
@@ -25,6 +25,11 @@ pub record AreShownAs (read : ReadRelease) (amounts : List ℤ) : Type 0 where
 abbrev pub amounts_in : ReleasedCells → List ℤ
 amounts_in (cells.Suppressed flags) = []
 amounts_in (cells.Rounded amounts) = amounts
+
+-- where cells are rounded, there is an amount of the cell with this number
+abbrev pub HasAmount : ReleasedCells → ℕ → Type 0
+HasAmount (cells.Suppressed flags) number = Unit {0}
+HasAmount (cells.Rounded amounts) number = number < length amounts
 
 -- the cells are those of the release: hidden as its certificate says, or rounded to what its tables show
 abbrev pub AreReleasedIn : ReadRelease → ReleasedCells → Type 0

@@ -6,7 +6,7 @@ use Rattle.release_writer.specs.ReadingLaws.{AreTexts}
 use Rattle.job_inputs.specs.TabulatedBooks.{IsBookOf}
 use Rattle.job_inputs.specs.Tables.{names_of}
 use Rattle.job_inputs.specs.declared.faults.Fault.{Fault}
-use Rattle.job_check.specs.Answers.{AnswersRelease, IsRightRelease}
+use Rattle.job_check.specs.Answers.{IsReleaseCheckAnswer, IsRightRelease}
 use Rattle.job_check.specs.ReleaseFiles.{ReleasedFiles}
 use Rattle.job_check.specs.declared.stop.CheckStop.{CheckStop}
 use Rattle.cell_listing.specs.ListedCells.{ListedCell, listed_cells}
@@ -34,8 +34,8 @@ shows cell outcome.Shown = Some cell.figures.truth
 shows cell (outcome.Hidden by) = None
 shows cell (outcome.Rounded amount) = Some amount
 
--- the tables of a release are texts in which each cell shows what its line says
-pub record TablesShowListing (released : ReleasedFiles) (amounts : List ℤ) : Type 0 where
+-- the tables of a release are those of its listing: texts in which each cell shows what its line says
+pub record AreTablesOfListing (released : ReleasedFiles) (amounts : List ℤ) : Type 0 where
   pub book : BookView
   pub is_book : IsBookOf released.settled.inputs book
   pub shown : ℕ → Option ℤ
@@ -55,10 +55,10 @@ pub record IsListingOf (released : ReleasedFiles) (text : List ℕ) : Type 0 whe
   pub hidden : (number : ℕ) → IsListedHidden released amounts number ↔
       ((is_listed_hidden released.certificate released.extra number ≡ true)
       × (number < length (listed_cells released.settled)))
-  pub tables : TablesShowListing released amounts
+  pub tables : AreTablesOfListing released amounts
 
 -- The answer to the name of a job whose files come to a release or to a first fault: the listing of the release, and
 -- where a check doesn't accept it, what the check answers.
-abbrev pub AnswersReleaseListing : Result ReleasedFiles Fault → Result (Vec ℕ Global) CheckStop → Type 0
-AnswersReleaseListing meant (Ok bytes) = IsOkAnd meant (λ released. IsListingOf released bytes.items)
-AnswersReleaseListing meant (Err stop) = AnswersRelease meant (Err stop)
+abbrev pub IsReleaseListingAnswer : Result ReleasedFiles Fault → Result (Vec ℕ Global) CheckStop → Type 0
+IsReleaseListingAnswer meant (Ok bytes) = IsOkAnd meant (λ released. IsListingOf released bytes.items)
+IsReleaseListingAnswer meant (Err stop) = IsReleaseCheckAnswer meant (Err stop)

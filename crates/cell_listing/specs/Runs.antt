@@ -16,7 +16,7 @@ use Rattle.job_check.specs.declared.stop.CheckStop.{CheckStop}
 use Rattle.job_check.specs.declared.stop.CheckStop.TheVariants as check
 use Rattle.cell_listing.specs.Calls.{IsListingAnswer}
 use Rattle.cell_listing.specs.Listings.{IsCellListing}
-use Rattle.cell_listing.specs.Releases.{AnswersReleaseListing, IsListingOf}
+use Rattle.cell_listing.specs.Releases.{IsReleaseListingAnswer, IsListingOf}
 use Rattle.cell_listing.specs.declared.calls.ListStop.{ListStop}
 use Rattle.cell_listing.specs.declared.calls.ListStop.TheVariants as list
 
@@ -35,7 +35,7 @@ pub record IsListingRun (name : List ℕ) (answer : Result (Vec ℕ Global) List
 -- check.
 pub record IsReleasedRun (name : List ℕ) (answer : Result (Vec ℕ Global) CheckStop) (old new : ShelfState)
     : Type 0 where
-  pub told : WhereTold old.files (λ fs. AnswersReleaseListing (released_of fs name) answer)
+  pub told : WhereTold old.files (λ fs. IsReleaseListingAnswer (released_of fs name) answer)
   pub came_to : WhereTold old.files (λ fs. (e : InputStop) → answer ≡ Err (check.Inputs e)
       → HasComeTo {X = Unit {0}} (ReleaseComesTo fs name) (Err e) fs new)
   pub shelf : HasOnlyLooked output_limit old new

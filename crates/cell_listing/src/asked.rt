@@ -2,7 +2,7 @@ ghost use Rattle.std.specs.Prelude.{◌≡◌, ◌≢◌, ◌↔◌, None, Err, 
 ghost use Rattle.sdc_base.specs.WhereTold.{WhereTold};
 ghost use Rattle.job_inputs.specs.ReadFiles.{limit, output_limit};
 ghost use Rattle.job_inputs.specs.Reading.{HasOnlyLooked};
-ghost use Rattle.cell_listing.specs.Asked.{AnswersCells, AnswersReleases};
+ghost use Rattle.cell_listing.specs.Asked.{IsCellsAnswer, IsReleasesAnswer};
 ghost use Rattle.cell_listing.specs.Asked as spec;
 ghost use Rattle.cell_listing.specs.Calls.{job_named};
 
@@ -60,10 +60,10 @@ pub fn list_asked<S: Shelf>(
     ensures usage { (result ≡ Err AskStop.Usage) ↔ ((job_named words.now ≡ None) × (spec.release_named words.now ≡ None)) }
     // The name of a job alone.
     ensures cells { WhereTold (job_named words.now)
-        (λ name. AnswersCells name result (S.state shelf.old) (S.state shelf.new)) }
+        (λ name. IsCellsAnswer name result (S.state shelf.old) (S.state shelf.new)) }
     // The name of a job, and `--released`.
     ensures released { WhereTold (spec.release_named words.now)
-        (λ name. AnswersReleases name result (S.state shelf.old) (S.state shelf.new)) }
+        (λ name. IsReleasesAnswer name result (S.state shelf.old) (S.state shelf.new)) }
     // It was only read from, and no more than was wanted.
     ensures shelf { HasOnlyLooked output_limit (S.state shelf.old) (S.state shelf.new) }
 {
@@ -75,7 +75,7 @@ pub fn list_asked<S: Shelf>(
 
 // The listing of a job with its release.
 fn asked_release<S: Shelf>(alloc: Global, shelf: &mut S, name: &Text) -> Result<Vec<u8>, AskStop>
-    ensures answers { AnswersReleases name.now result (S.state shelf.old) (S.state shelf.new) }
+    ensures answers { IsReleasesAnswer name.now result (S.state shelf.old) (S.state shelf.new) }
     ensures no_usage { result ≢ Err AskStop.Usage }
 {
     let bytes = list_released(alloc, shelf, name)?;
@@ -86,7 +86,7 @@ fn asked_release<S: Shelf>(alloc: Global, shelf: &mut S, name: &Text) -> Result<
 fn asked_cells<S: Shelf>(alloc: Global, words: &[Text], shelf: &mut S) -> Result<Vec<u8>, AskStop>
     ensures usage { (result ≡ Err AskStop.Usage) ↔ (job_named words.now ≡ None) }
     ensures answers { WhereTold (job_named words.now)
-        (λ name. AnswersCells name result (S.state shelf.old) (S.state shelf.new)) }
+        (λ name. IsCellsAnswer name result (S.state shelf.old) (S.state shelf.new)) }
     ensures shelf { HasOnlyLooked limit (S.state shelf.old) (S.state shelf.new) }
 {
     let bytes = list_cells(alloc, words, shelf)?;

@@ -33,10 +33,7 @@ pub(crate) fn write_line(writer: &mut Writer<Vec<u8>>, fields: &[Text]) -> Resul
 pub(crate) fn bytes_of(writer: Writer<Vec<u8>>) -> Result<Vec<u8>, Memory>
     ensures text { IfOk result (λ bytes. Some bytes.items ≡ bytes_written writer) }
 {
-    match writer.into_inner() {
-        Ok(bytes) => Ok(bytes),
-        Err(_) => Err(Memory),
-    }
+    writer.into_inner().map_err(|_| Memory)
 }
 
 // Writes one more field of a line.
@@ -48,10 +45,7 @@ fn put_field(writer: &mut Writer<Vec<u8>>, field: &[u8]) -> Result<(), Memory>
     ensures text { OnOk result (AppendsText writer.old writer.new
         (next_sep default_writer (fields_written writer.old) ++ spec.field_text default_writer field.now)) }
 {
-    match writer.write_field(field) {
-        Ok(()) => Ok(()),
-        Err(_) => Err(Memory),
-    }
+    writer.write_field(field).map_err(|_| Memory)
 }
 
 // Ends a line of two fields or more.
@@ -61,8 +55,5 @@ fn end_line(writer: &mut Writer<Vec<u8>>) -> Result<(), Memory>
     ensures ready { OnOk result (IsReadyWriter writer.new) }
     ensures text { OnOk result (AppendsText writer.old writer.new (10 ∷ [])) }
 {
-    match writer.end_record() {
-        Ok(()) => Ok(()),
-        Err(_) => Err(Memory),
-    }
+    writer.end_record().map_err(|_| Memory)
 }

@@ -4,7 +4,7 @@ ghost use Rattle.linked_tables.specs.BookCells.{cells as cells_in};
 ghost use Rattle.job_check.specs.Reading.{IsReadyRelease};
 ghost use Rattle.job_check.specs.declared.reading.ReadRelease.{ReadRelease as AnyRead};
 ghost use Rattle.cell_listing.specs.Outcomes.{outcome_of};
-ghost use Rattle.cell_listing.specs.ReleasedCells.{amounts_in, AreShownAs, AreReleasedIn, IsPrintable};
+ghost use Rattle.cell_listing.specs.ReleasedCells.{amounts_in, AreShownAs, AreReleasedIn, HasAmount, IsPrintable};
 
 use crate::hidden_cells::{HiddenCells, hidden_cells, hidden_or_shown};
 use crate::outcome::Outcome;
@@ -65,6 +65,7 @@ fn rounded_amounts(alloc: Global, read: &ReadRelease) -> Result<Items<i128>, Mem
 
 /// What a release made of the cell with this number and of this kind.
 pub(crate) fn outcome_at(cells: &ReleasedCells, number: u32, kind: Kind) -> Outcome
+    requires amount { HasAmount cells.now number }
     ensures exact { (read : AnyRead) → AreReleasedIn read cells.now → number < length (cells_in read.job.book)
         → result ≡ outcome_of read.certificate read.extra (amounts_in cells.now) number kind }
     ensures printable { (read : AnyRead) → AreReleasedIn read cells.now → IsPrintable result }
@@ -75,12 +76,10 @@ pub(crate) fn outcome_at(cells: &ReleasedCells, number: u32, kind: Kind) -> Outc
     }
 }
 
-// The amount of a cell, and 0 where there is none.
+// The amount of a cell.
 fn amount_at(amounts: &[i128], number: u32) -> i128
+    requires { number < length amounts.now }
     ensures { result ≡ slice_index_or amounts.now number (pos 0) }
 {
-    match amounts.get(number as usize) {
-        Some(amount) => *amount,
-        None => 0,
-    }
+    amounts[number as usize]
 }

@@ -5,7 +5,7 @@ use Rattle.job_inputs.specs.SoundJobs.{AreSound}
 use Rattle.job_inputs.specs.declared.faults.Fault.{Fault}
 use Rattle.job_inputs.specs.declared.settled.SettledJob.{SettledJob}
 use Rattle.job_inputs.specs.declared.stop.InputStop.TheVariants as input
-use Rattle.job_audit.specs.Finding.{AnswersAudit, ComesFromValues, IsFound, IsShownBy}
+use Rattle.job_audit.specs.Finding.{IsAuditFileAnswer, ComesFromValues, IsFound, IsShownBy}
 use Rattle.job_audit.specs.ShownValues.{values_read}
 use Rattle.job_audit.specs.declared.audit_file.AuditFile.{AuditFile}
 use Rattle.job_audit.specs.declared.stop.AuditStop.{AuditStop}
@@ -14,7 +14,7 @@ use Rattle.shelved_tables.specs.TablesOnShelf.{ShelvedTables, IsShelvedOf}
 use Rattle.shelved_tables.specs.declared.shelved.ShelvedJob.{ShelvedJob}
 
 -- the first bad line of the tables that were read is that of the told tables
-pub refused_for : (meant : Result ShelvedTables Fault) (one : ShelvedTables) (shelved : ShelvedJob) (why : CheckFault) → meant ≡ Ok one → IsShelvedOf one shelved → values_read shelved.job shelved.tables ≡ Err why → AnswersAudit meant (Err (stop.NotAccepted why))
+pub refused_for : (meant : Result ShelvedTables Fault) (one : ShelvedTables) (shelved : ShelvedJob) (why : CheckFault) → meant ≡ Ok one → IsShelvedOf one shelved → values_read shelved.job shelved.tables ≡ Err why → IsAuditFileAnswer meant (Err (stop.NotAccepted why))
 refused_for meant one shelved why is own first =
     rw is (inl (record { job = shelved.job; job_is = own.settled; first = subst (λ (tables : List (List ℕ)). values_read shelved.job tables ≡ Err why) own.tables first }))
 
@@ -29,7 +29,7 @@ shown_by one shelved values P own shown holds = record {
 }
 
 pub values_come : (meant : Result ShelvedTables Fault) (one : ShelvedTables) (shelved : ShelvedJob) (values : List ℤ) (r : Result AuditFile AuditStop) → meant ≡ Ok one → IsShelvedOf one shelved → values_read shelved.job shelved.tables ≡ Ok values
-    → ComesFromValues shelved.job values r → AnswersAudit meant r
+    → ComesFromValues shelved.job values r → IsAuditFileAnswer meant r
 values_come meant one shelved values (Ok file) is own shown comes = rw is (shown_by one shelved values _ own shown comes)
 values_come meant one shelved values (Err (stop.Inputs (input.Refused f))) is own shown comes = absurd comes
 values_come meant one shelved values (Err (stop.Inputs (input.ReadFault f))) is own shown comes = absurd comes

@@ -107,14 +107,14 @@ IsUndecidedFor shelved why = IsShownBy shelved (λ job values. IsStuckAt job val
 -- What the run answers, by what the told files come to: the first fault of the inputs, of the name of the file to be
 -- put and of the tables' files; or else the first fault of the tables, the first question without an answer, or the
 -- file of the audit. Faults of the shelf and want of memory say nothing of the files.
-abbrev pub AnswersAudit : Result ShelvedTables Fault → Result AuditFile AuditStop → Type 0
-AnswersAudit shelved (Ok file) = IsOkAnd shelved (λ one. IsFileOf one file)
-AnswersAudit shelved (Err (stop.Inputs why)) = Fails (stopped_for why) shelved
-AnswersAudit shelved (Err (stop.NotAccepted why)) = IsOkAnd shelved (λ one. AreRefusedFor one why)
-AnswersAudit shelved (Err (stop.Undecided why)) = IsOkAnd shelved (λ one. IsUndecidedFor one why)
+abbrev pub IsAuditFileAnswer : Result ShelvedTables Fault → Result AuditFile AuditStop → Type 0
+IsAuditFileAnswer shelved (Ok file) = IsOkAnd shelved (λ one. IsFileOf one file)
+IsAuditFileAnswer shelved (Err (stop.Inputs why)) = Fails (stopped_for why) shelved
+IsAuditFileAnswer shelved (Err (stop.NotAccepted why)) = IsOkAnd shelved (λ one. AreRefusedFor one why)
+IsAuditFileAnswer shelved (Err (stop.Undecided why)) = IsOkAnd shelved (λ one. IsUndecidedFor one why)
 
 -- Whatever the shelf tells: an answer that doesn't stop the inputs is one that some inputs within their limits come to,
 -- with some tables.
 abbrev pub IsFound : Result AuditFile AuditStop → Type 0
 IsFound (Err (stop.Inputs why)) = Unit {0}
-IsFound other = (shelved : ShelvedTables) × AreSound shelved.settled.inputs × AnswersAudit (Ok shelved) other
+IsFound other = (shelved : ShelvedTables) × AreSound shelved.settled.inputs × IsAuditFileAnswer (Ok shelved) other

@@ -4,7 +4,7 @@ ghost use Rattle.job_inputs.specs.ReadFiles.{output_limit};
 ghost use Rattle.job_inputs.specs.Reading.{HasCause, HasComeTo, HasOnlyLooked};
 ghost use Rattle.job_inputs.specs.declared.purpose.Purpose.TheVariants.{Audit};
 ghost use Rattle.shelved_tables.specs.TablesOnShelf.{shelved_for, ComesFor, IsReadyShelved};
-ghost use Rattle.job_audit.specs.Finding.{AnswersAudit, ComesFromValues, IsFound};
+ghost use Rattle.job_audit.specs.Finding.{IsAuditFileAnswer, ComesFromValues, IsFound};
 ghost use Rattle.job_audit.specs.Stops.{reading_of};
 
 use crate::audit_file::AuditFile;
@@ -48,7 +48,7 @@ pub fn find_audit<S: Shelf>(
     // The answer is what the told files come to: the first fault of inputs, name and tables' files, or else what the
     // tables come to.
     ensures told { WhereTold (S.state shelf.old).files
-        (λ fs. AnswersAudit (shelved_for Audit fs name.now out.now) result) }
+        (λ fs. IsAuditFileAnswer (shelved_for Audit fs name.now out.now) result) }
 
     // Over a shelf that tells nothing too, the answer is that of some inputs within their limits, with some tables.
     ensures found { IsFound result }

@@ -12,8 +12,8 @@ use Rattle.job_inputs.specs.SoundJobs.{IsSoundJob}
 use Rattle.job_inputs.specs.TabulatedBooks.{IsReadyFor}
 use Rattle.job_inputs.specs.declared.described.DescribedJob.{DescribedJob}
 use Rattle.job_inputs.specs.declared.faults.Fault.{Fault}
-use Rattle.job_check.specs.Accepted.{AnswersReadRelease, IsSameRelease}
-use Rattle.job_check.specs.Answers.{AnswersRelease}
+use Rattle.job_check.specs.Accepted.{IsReadReleaseAnswer, IsSameRelease}
+use Rattle.job_check.specs.Answers.{IsReleaseCheckAnswer}
 use Rattle.job_check.specs.Contributors.{AreForJob}
 use Rattle.job_check.specs.Reading.{IsReadyRelease, IsReleasedOf}
 use Rattle.job_check.specs.ReleaseFiles.{ReleasedFiles}
@@ -63,6 +63,6 @@ still-judged old new same ready = record {
 }
 
 -- a release that is accepted so answers the check
-pub answers-read-release : (outcome : Result ReleasedFiles Fault) (read : ReadRelease) → AnswersReadRelease outcome (Ok read) → AnswersRelease outcome (Ok tt)
+pub answers-read-release : (outcome : Result ReleasedFiles Fault) (read : ReadRelease) → IsReadReleaseAnswer outcome (Ok read) → IsReleaseCheckAnswer outcome (Ok tt)
 answers-read-release (Ok released) read h = h.accepted
 answers-read-release (Err fault) read h = absurd h

@@ -23,7 +23,7 @@ use Rattle.job_inputs.specs.SettledJobs.{SettledInputs}
 use Rattle.job_inputs.specs.declared.file_ref.FileRef.{FileRef}
 use Rattle.job_inputs.specs.declared.stop.InputStop.{InputStop}
 use Rattle.job_inputs.specs.declared.stop.InputStop.TheVariants as input
-use Rattle.job_check.specs.Answers.{AnswersRelease, IsJudgementOf, IsNotAcceptedWith, stop_of}
+use Rattle.job_check.specs.Answers.{IsReleaseCheckAnswer, IsJudgementOf, IsNotAcceptedWith, stop_of}
 use Rattle.job_check.specs.Cases.{IsCaseOf}
 use Rattle.job_check.specs.GuardedReleases.{guarded_fault, flaw_of, larger_set, AreSolesOf, IsRightGuarding}
 use Rattle.job_check.specs.Reading.{IsReleasedOf}
@@ -34,7 +34,7 @@ use Rattle.job_check.specs.declared.flaw.Flaw.TheVariants as flaw
 use Rattle.job_check.specs.declared.stop.CheckStop.TheVariants as stop
 
 -- a flaw of a release is the answer, but for want of memory
-pub flaw-comes : (released : ReleasedFiles) (why : Flaw) → IsJudgementOf released (Err why) → AnswersRelease (Ok released) (Err (stop_of why))
+pub flaw-comes : (released : ReleasedFiles) (why : Flaw) → IsJudgementOf released (Err why) → IsReleaseCheckAnswer (Ok released) (Err (stop_of why))
 flaw-comes released (flaw.NotAccepted fault.Counts) h = h _ refl
 flaw-comes released (flaw.NotAccepted fault.Method) h = h _ refl
 flaw-comes released (flaw.NotAccepted (fault.PrimaryShown cell)) h = h _ refl

@@ -3,7 +3,7 @@ use Rattle.std.specs.Prelude.{◌≡◌, Result, Ok, Err, IsOkAnd}
 use Rattle.modular_plan.specs.Plans.{IsSameButHidden}
 use Rattle.job_inputs.specs.SoundJobs.{AreSound}
 use Rattle.job_inputs.specs.declared.faults.Fault.{Fault}
-use Rattle.job_check.specs.Answers.{AnswersRelease, IsRightRelease}
+use Rattle.job_check.specs.Answers.{IsReleaseCheckAnswer, IsRightRelease}
 use Rattle.job_check.specs.Reading.{IsReadyRelease, IsReleasedOf}
 use Rattle.job_check.specs.ReleaseFiles.{ReleasedFiles}
 use Rattle.job_check.specs.declared.reading.ReadRelease.{ReadRelease}
@@ -40,6 +40,6 @@ pub record IsAcceptedRead (read : ReadRelease) : Type 0 where
   pub sound : AreSound released.settled.inputs
 
 -- the answer of a check that gives what it accepts; where it doesn't accept, it is that of a check
-abbrev pub AnswersReadRelease : Result ReleasedFiles Fault → Result ReadRelease CheckStop → Type 0
-AnswersReadRelease outcome (Ok read) = IsOkAnd outcome (λ released. IsAcceptedAs released read)
-AnswersReadRelease outcome (Err stop) = AnswersRelease outcome (Err stop)
+abbrev pub IsReadReleaseAnswer : Result ReleasedFiles Fault → Result ReadRelease CheckStop → Type 0
+IsReadReleaseAnswer outcome (Ok read) = IsOkAnd outcome (λ released. IsAcceptedAs released read)
+IsReadReleaseAnswer outcome (Err stop) = IsReleaseCheckAnswer outcome (Err stop)

@@ -106,8 +106,8 @@ stop_of (flaw.NotGuarded why) = guard_stop_for why
 
 -- The answer of a check of files that come to a release or to a first fault: the release is accepted, or has this
 -- fault, or the files have theirs. Want of memory and faults of the shelf say nothing of them.
-abbrev pub AnswersRelease : Result ReleasedFiles Fault → Result (Unit {0}) CheckStop → Type 0
-AnswersRelease outcome (Ok fine) = IsOkAnd outcome IsRightRelease
-AnswersRelease outcome (Err (stop.NotAccepted why)) = IsOkAnd outcome (IsFaultyRelease (flaw.NotAccepted why))
-AnswersRelease outcome (Err (stop.NotGuarded why)) = IsOkAnd outcome (IsFaultyRelease (flaw.NotGuarded why))
-AnswersRelease outcome (Err (stop.Inputs input)) = Fails (stopped_for input) outcome
+abbrev pub IsReleaseCheckAnswer : Result ReleasedFiles Fault → Result (Unit {0}) CheckStop → Type 0
+IsReleaseCheckAnswer outcome (Ok fine) = IsOkAnd outcome IsRightRelease
+IsReleaseCheckAnswer outcome (Err (stop.NotAccepted why)) = IsOkAnd outcome (IsFaultyRelease (flaw.NotAccepted why))
+IsReleaseCheckAnswer outcome (Err (stop.NotGuarded why)) = IsOkAnd outcome (IsFaultyRelease (flaw.NotGuarded why))
+IsReleaseCheckAnswer outcome (Err (stop.Inputs input)) = Fails (stopped_for input) outcome

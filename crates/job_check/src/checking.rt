@@ -3,8 +3,8 @@ ghost use Rattle.sdc_base.specs.WhereTold.{WhereTold};
 ghost use Rattle.job_inputs.specs.ReadFiles.{output_limit};
 ghost use Rattle.job_inputs.specs.Reading.{HasCause, HasComeTo, HasOnlyLooked};
 ghost use Rattle.job_inputs.specs.declared.stop.InputStop.{InputStop as AnyStop};
-ghost use Rattle.job_check.specs.Accepted.{AnswersReadRelease, IsAcceptedRead};
-ghost use Rattle.job_check.specs.Answers.{AnswersRelease};
+ghost use Rattle.job_check.specs.Accepted.{IsReadReleaseAnswer, IsAcceptedRead};
+ghost use Rattle.job_check.specs.Answers.{IsReleaseCheckAnswer};
 ghost use Rattle.job_check.specs.Reading.{ReleaseComesTo};
 ghost use Rattle.job_check.specs.ReleaseFiles.{released_of};
 
@@ -39,7 +39,7 @@ use std::alloc::Global;
 /// that of finding who alone makes up a cell, once over the records, and of judging its lists. The order is argus's own.
 pub fn check_release<S: Shelf>(alloc: Global, shelf: &mut S, name: &Text) -> Result<(), CheckStop>
     // The answer is what the told files come to.
-    ensures told { WhereTold (S.state shelf.old).files (λ fs. AnswersRelease (released_of fs name.now) result) }
+    ensures told { WhereTold (S.state shelf.old).files (λ fs. IsReleaseCheckAnswer (released_of fs name.now) result) }
 
     // Where the shelf failed at a file, it is one to which the check came with no fault before it.
     ensures came_to { WhereTold (S.state shelf.old).files (λ fs. (e : AnyStop) → result ≡ Err (CheckStop.Inputs e)
@@ -66,7 +66,7 @@ pub fn accepted_release<S: Shelf>(
     name: &Text,
 ) -> Result<ReadRelease, CheckStop>
     // The answer is what the told files come to.
-    ensures told { WhereTold (S.state shelf.old).files (λ fs. AnswersReadRelease (released_of fs name.now) result) }
+    ensures told { WhereTold (S.state shelf.old).files (λ fs. IsReadReleaseAnswer (released_of fs name.now) result) }
 
     // Where the shelf failed at a file, it is one to which the check came with no fault before it.
     ensures came_to { WhereTold (S.state shelf.old).files (λ fs. (e : AnyStop) → result ≡ Err (CheckStop.Inputs e)

@@ -70,6 +70,7 @@ fn codes_by(
     ensures { IsReadAs (λ codes. codes.items) (map_fault (Fault.Tree file) (codes_of total.now bytes.now))
         (λ codes. AreListed total.now codes.items) result }
 {
+    // for the proof: a code list gives the codes of its lines
     list_gives_its_codes();
     match read_codes(alloc, bytes, total) {
         Ok(codes) => Ok(codes),

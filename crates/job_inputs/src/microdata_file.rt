@@ -87,6 +87,7 @@ fn feed_all<S: Shelf>(shelf: &mut S, reader: &mut Reader) -> Result<(), InputSto
     ensures only_read { HasOnlyRead (S.state shelf.old) (S.state shelf.new) }
     ensures cause { HasCause result (S.state shelf.old) (S.state shelf.new) }
 {
+    // for the proof: a fault that is found early is that of all bytes
     faults_stand();
     let mut buffer = [0u8; 4096];
     let mut taken: u64 = 0;
@@ -136,7 +137,9 @@ fn finish(reader: Reader) -> Result<Records, Stop<Fault>>
     ensures trees { IfOk result (λ records. AllByRecursion IsCodeTree records.trees) }
     ensures contents { IfErr result IsForContents }
 {
+    // for the proof: what is read is within its limits
     read_is_within_limits();
+    // for the proof: its rows are at the lowest level of each tree
     rows_are_at_leaves();
     match reader.finish() {
         Ok(records) => Ok(records),

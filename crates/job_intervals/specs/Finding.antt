@@ -86,14 +86,14 @@ pub record IsUndecidedFor (shelved : ShelvedTables) (why : AskFault) : Type 0 wh
 -- What the run answers, by what the told files come to: the first fault of the inputs, of the name of the file to be
 -- put and of the tables' files; or else the first fault of the tables, the first question without an answer, or the
 -- file of the intervals. Faults of the shelf and want of memory say nothing of the files.
-abbrev pub AnswersIntervals : Result ShelvedTables Fault → Result IntervalFile IntervalStop → Type 0
-AnswersIntervals shelved (Ok file) = IsOkAnd shelved (λ one. IsFileOf one file)
-AnswersIntervals shelved (Err (stop.Inputs why)) = Fails (stopped_for why) shelved
-AnswersIntervals shelved (Err (stop.NotAccepted why)) = IsOkAnd shelved (λ one. AreRefusedFor one why)
-AnswersIntervals shelved (Err (stop.Undecided why)) = IsOkAnd shelved (λ one. IsUndecidedFor one why)
+abbrev pub IsIntervalFileAnswer : Result ShelvedTables Fault → Result IntervalFile IntervalStop → Type 0
+IsIntervalFileAnswer shelved (Ok file) = IsOkAnd shelved (λ one. IsFileOf one file)
+IsIntervalFileAnswer shelved (Err (stop.Inputs why)) = Fails (stopped_for why) shelved
+IsIntervalFileAnswer shelved (Err (stop.NotAccepted why)) = IsOkAnd shelved (λ one. AreRefusedFor one why)
+IsIntervalFileAnswer shelved (Err (stop.Undecided why)) = IsOkAnd shelved (λ one. IsUndecidedFor one why)
 
 -- Whatever the shelf tells: an answer that doesn't stop the inputs is one that some inputs within their limits come to,
 -- with some tables.
 abbrev pub IsFound : Result IntervalFile IntervalStop → Type 0
 IsFound (Err (stop.Inputs why)) = Unit {0}
-IsFound other = (shelved : ShelvedTables) × AreSound shelved.settled.inputs × AnswersIntervals (Ok shelved) other
+IsFound other = (shelved : ShelvedTables) × AreSound shelved.settled.inputs × IsIntervalFileAnswer (Ok shelved) other

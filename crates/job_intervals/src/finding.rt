@@ -2,7 +2,7 @@ ghost use Rattle.std.specs.Prelude.{◌≡◌, length};
 ghost use Rattle.sdc_base.specs.WhereTold.{WhereTold};
 ghost use Rattle.job_inputs.specs.ReadFiles.{output_limit};
 ghost use Rattle.job_inputs.specs.Reading.{HasCause, HasComeTo, HasOnlyLooked};
-ghost use Rattle.job_intervals.specs.Finding.{AnswersIntervals, ComesFromSet, IsFound};
+ghost use Rattle.job_intervals.specs.Finding.{IsIntervalFileAnswer, ComesFromSet, IsFound};
 ghost use Rattle.shelved_tables.specs.TablesOnShelf.{shelved_of, IntervalsComeTo, IsReadyShelved};
 ghost use Rattle.job_intervals.specs.Stops.{reading_of};
 
@@ -48,7 +48,8 @@ pub fn find_intervals<S: Shelf>(
 ) -> Result<IntervalFile, IntervalStop>
     // The answer is what the told files come to: the first fault of inputs, name and tables' files, or else what the
     // tables come to.
-    ensures told { WhereTold (S.state shelf.old).files (λ fs. AnswersIntervals (shelved_of fs name.now out.now) result) }
+    ensures told { WhereTold (S.state shelf.old).files
+        (λ fs. IsIntervalFileAnswer (shelved_of fs name.now out.now) result) }
 
     // Over a shelf that tells nothing too, the answer is that of some inputs within their limits, with some tables.
     ensures found { IsFound result }

@@ -14,7 +14,7 @@ use Rattle.job_inputs.specs.declared.file_ref.FileRef.{FileRef}
 use Rattle.job_inputs.specs.declared.file_ref.FileRef.TheVariants as file
 use Rattle.job_inputs.specs.declared.stop.InputStop.{InputStop}
 use Rattle.job_inputs.specs.declared.stop.InputStop.TheVariants as input
-use Rattle.job_audit.specs.Finding.{AnswersAudit, IsFileOf, IsUndecidedFor}
+use Rattle.job_audit.specs.Finding.{IsAuditFileAnswer, IsFileOf, IsUndecidedFor}
 use Rattle.job_inputs.specs.declared.purpose.Purpose.TheVariants.{Audit}
 use Rattle.shelved_tables.specs.TablesOnShelf.{ShelvedTables, shelved_for, ComesFor}
 use Rattle.job_audit.specs.Stops.{reading_of as finding_of}
@@ -52,7 +52,7 @@ question-meets (ask.Size question hidden) (Ok shelved) h = reported shelved (ask
 question-meets ask.Memory (Ok shelved) h = tt
 question-meets why (Err f) h = absurd h
 
-stop-meets : (e : AuditStop) (outcome : Result ShelvedTables Fault) → AnswersAudit outcome (Err e) → MeetsAudit (stop_report e) outcome
+stop-meets : (e : AuditStop) (outcome : Result ShelvedTables Fault) → IsAuditFileAnswer outcome (Err e) → MeetsAudit (stop_report e) outcome
 stop-meets (stop.Inputs why) outcome h = inputs-meet why outcome h
 stop-meets (stop.NotAccepted why) outcome h = h
 stop-meets (stop.Undecided why) outcome h = question-meets why outcome h
@@ -147,7 +147,7 @@ settles (report.NotGuarded why) outcome h no_read no_write = absurd h
 settles report.NoRounding outcome h no_read no_write = absurd h
 
 -- what holds of how it went on holds of a run that finds no audit
-pub stopped-run : (name out : List ℕ) (e : AuditStop) (old new : ShelfState) (tray : TrayState) → WhereTold old.files (λ fs. AnswersAudit (shelved_for Audit fs name out) (Err e))
+pub stopped-run : (name out : List ℕ) (e : AuditStop) (old new : ShelfState) (tray : TrayState) → WhereTold old.files (λ fs. IsAuditFileAnswer (shelved_for Audit fs name out) (Err e))
     → WhereTold old.files (λ fs. HasComeTo (ComesFor Audit fs name out) (finding_of (Err e)) fs new) → HasCause (finding_of (Err e)) old new → HasOnlyLooked output_limit old new → IsAuditRunOf name out (stop_report e) old new tray tray
 stopped-run name out e old new tray told come cause shelf = record {
   answers = stop-answers e;
@@ -161,11 +161,11 @@ stopped-run name out e old new tray told come cause shelf = record {
 }
 
 -- the same of a run that went on so, and reports it
-pub stopped-run-of : (name out : List ℕ) (r : Result AuditFile AuditStop) (e : AuditStop) (answer : Report) (old new : ShelfState) (tray : TrayState) → r ≡ Err e → answer ≡ stop_report e → WhereTold old.files (λ fs. AnswersAudit (shelved_for Audit fs name out) r)
+pub stopped-run-of : (name out : List ℕ) (r : Result AuditFile AuditStop) (e : AuditStop) (answer : Report) (old new : ShelfState) (tray : TrayState) → r ≡ Err e → answer ≡ stop_report e → WhereTold old.files (λ fs. IsAuditFileAnswer (shelved_for Audit fs name out) r)
     → WhereTold old.files (λ fs. HasComeTo (ComesFor Audit fs name out) (finding_of r) fs new) → HasCause (finding_of r) old new → HasOnlyLooked output_limit old new → IsAuditRunOf name out answer old new tray tray
 stopped-run-of name out r e answer old new tray is same told come cause shelf =
     subst (λ (a : Report). IsAuditRunOf name out a old new tray tray) (sym same)
-    (stopped-run name out e old new tray (λ fs held. subst (λ (o : Result AuditFile AuditStop). AnswersAudit (shelved_for Audit fs name out) o) is (told fs held))
+    (stopped-run name out e old new tray (λ fs held. subst (λ (o : Result AuditFile AuditStop). IsAuditFileAnswer (shelved_for Audit fs name out) o) is (told fs held))
     (λ fs held. subst (λ (o : Result AuditFile AuditStop). HasComeTo (ComesFor Audit fs name out) (finding_of o) fs new) is (come fs held)) (subst (λ (o : Result AuditFile AuditStop). HasCause (finding_of o) old new) is cause) shelf)
 
 pub stopped-cause-of : (r : Result AuditFile AuditStop) (e : AuditStop) (answer : Report) (old new : ShelfState) (tray : TrayState) → r ≡ Err e → answer ≡ stop_report e → HasCause (finding_of r) old new → FaultsHaveCauses answer old new tray tray
@@ -185,7 +185,7 @@ part-leaves (Ok shelved) audit out before after h part = record { audit = audit;
 part-leaves (Err f) audit out before after h part = absurd h
 
 -- the file of the audit was put
-pub put-run : (name out : List ℕ) (audit : AuditFile) (old new : ShelfState) (before after : TrayState) → WhereTold old.files (λ fs. AnswersAudit (shelved_for Audit fs name out) (Ok audit)) → HasPut out audit.bytes before after → HasOnlyLooked output_limit old new
+pub put-run : (name out : List ℕ) (audit : AuditFile) (old new : ShelfState) (before after : TrayState) → WhereTold old.files (λ fs. IsAuditFileAnswer (shelved_for Audit fs name out) (Ok audit)) → HasPut out audit.bytes before after → HasOnlyLooked output_limit old new
     → IsAuditRunOf name out (report.Audited audit.primary audit.exposed) old new before after
 put-run name out audit old new before after told whole shelf = record {
   answers = tt;
@@ -198,7 +198,7 @@ put-run name out audit old new before after told whole shelf = record {
 }
 
 -- it was put in part
-pub part-run : (name out : List ℕ) (audit : AuditFile) (old new : ShelfState) (before after : TrayState) → WhereTold old.files (λ fs. AnswersAudit (shelved_for Audit fs name out) (Ok audit)) → HasPutInPart out audit.bytes before after → HasOnlyLooked output_limit old new
+pub part-run : (name out : List ℕ) (audit : AuditFile) (old new : ShelfState) (before after : TrayState) → WhereTold old.files (λ fs. IsAuditFileAnswer (shelved_for Audit fs name out) (Ok audit)) → HasPutInPart out audit.bytes before after → HasOnlyLooked output_limit old new
     → IsAuditRunOf name out (report.WriteFault file.Out) old new before after
 part-run name out audit old new before after told part shelf = record {
   answers = tt;

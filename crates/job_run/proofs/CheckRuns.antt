@@ -5,7 +5,7 @@ use Rattle.sdc_base.specs.WhereTold.{WhereTold}
 use Rattle.office_io.specs.Files.{Files}
 use Rattle.office_io.specs.Shelves.{ShelfState}
 use Rattle.office_io.specs.Trays.{TrayState}
-use Rattle.job_check.specs.Answers.{AnswersRelease}
+use Rattle.job_check.specs.Answers.{IsReleaseCheckAnswer}
 use Rattle.job_check.specs.Reading.{ReleaseComesTo}
 use Rattle.job_check.specs.ReleaseFiles.{ReleasedFiles, released_of}
 use Rattle.job_check.specs.declared.stop.CheckStop.{CheckStop}
@@ -35,7 +35,7 @@ inputs-meet-check (input.Refused f) outcome h = h
 inputs-meet-check (input.ReadFault f) outcome h = tt
 inputs-meet-check input.Memory outcome h = tt
 
-meets : (r : Result (Unit {0}) CheckStop) (outcome : Result ReleasedFiles Fault) → AnswersRelease outcome r → MeetsCheck (check_report r) outcome
+meets : (r : Result (Unit {0}) CheckStop) (outcome : Result ReleasedFiles Fault) → IsReleaseCheckAnswer outcome r → MeetsCheck (check_report r) outcome
 meets (Ok fine) outcome h = h
 meets (Err (check.Inputs why)) outcome h = inputs-meet-check why outcome h
 meets (Err (check.NotAccepted why)) outcome h = h
@@ -89,7 +89,7 @@ check-answers (Err (check.NotAccepted why)) = tt
 check-answers (Err (check.NotGuarded why)) = tt
 
 -- what holds of how it went on holds of the check
-pub check-run : (name : List ℕ) (r : Result (Unit {0}) CheckStop) (old new : ShelfState) (tray : TrayState) → WhereTold old.files (λ fs. AnswersRelease (released_of fs name) r)
+pub check-run : (name : List ℕ) (r : Result (Unit {0}) CheckStop) (old new : ShelfState) (tray : TrayState) → WhereTold old.files (λ fs. IsReleaseCheckAnswer (released_of fs name) r)
     → WhereTold old.files (λ fs. (e : InputStop) → r ≡ Err (check.Inputs e) → HasComeTo {X = Unit {0}} (ReleaseComesTo fs name) (Err e) fs new)
     → ((e : InputStop) → r ≡ Err (check.Inputs e) → HasCause {X = Unit {0}} (Err e) old new) → HasOnlyLooked output_limit old new → IsCheckOf name (check_report r) old new tray tray
 check-run name r old new tray told come cause shelf = record {

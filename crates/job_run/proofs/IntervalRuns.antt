@@ -14,7 +14,7 @@ use Rattle.job_inputs.specs.declared.file_ref.FileRef.{FileRef}
 use Rattle.job_inputs.specs.declared.file_ref.FileRef.TheVariants as file
 use Rattle.job_inputs.specs.declared.stop.InputStop.{InputStop}
 use Rattle.job_inputs.specs.declared.stop.InputStop.TheVariants as input
-use Rattle.job_intervals.specs.Finding.{AnswersIntervals, IsFileOf, IsUndecidedFor}
+use Rattle.job_intervals.specs.Finding.{IsIntervalFileAnswer, IsFileOf, IsUndecidedFor}
 use Rattle.shelved_tables.specs.TablesOnShelf.{ShelvedTables, shelved_of, IntervalsComeTo}
 use Rattle.job_intervals.specs.Stops.{reading_of as finding_of}
 use Rattle.job_intervals.specs.declared.interval_file.IntervalFile.{IntervalFile}
@@ -50,7 +50,7 @@ question-meets (ask.Size question hidden) (Ok shelved) h = reported shelved (ask
 question-meets ask.Memory (Ok shelved) h = tt
 question-meets why (Err f) h = absurd h
 
-stop-meets : (e : IntervalStop) (outcome : Result ShelvedTables Fault) → AnswersIntervals outcome (Err e) → MeetsIntervals (stop_report e) outcome
+stop-meets : (e : IntervalStop) (outcome : Result ShelvedTables Fault) → IsIntervalFileAnswer outcome (Err e) → MeetsIntervals (stop_report e) outcome
 stop-meets (stop.Inputs why) outcome h = inputs-meet why outcome h
 stop-meets (stop.NotAccepted why) outcome h = h
 stop-meets (stop.Undecided why) outcome h = question-meets why outcome h
@@ -163,7 +163,7 @@ settles report.NoRounding outcome h no_read no_write = absurd h
 settles (report.NotGuarded why) outcome h no_read no_write = absurd h
 
 -- what holds of how it went on holds of a run that finds no intervals
-pub stopped-run : (name out : List ℕ) (e : IntervalStop) (old new : ShelfState) (tray : TrayState) → WhereTold old.files (λ fs. AnswersIntervals (shelved_of fs name out) (Err e))
+pub stopped-run : (name out : List ℕ) (e : IntervalStop) (old new : ShelfState) (tray : TrayState) → WhereTold old.files (λ fs. IsIntervalFileAnswer (shelved_of fs name out) (Err e))
     → WhereTold old.files (λ fs. HasComeTo (IntervalsComeTo fs name out) (finding_of (Err e)) fs new) → HasCause (finding_of (Err e)) old new → HasOnlyLooked output_limit old new → IsIntervalRunOf name out (stop_report e) old new tray tray
 stopped-run name out e old new tray told come cause shelf = record {
   answers = stop-answers e;
@@ -177,11 +177,11 @@ stopped-run name out e old new tray told come cause shelf = record {
 }
 
 -- the same of a run that went on so, and reports it
-pub stopped-run-of : (name out : List ℕ) (r : Result IntervalFile IntervalStop) (e : IntervalStop) (answer : Report) (old new : ShelfState) (tray : TrayState) → r ≡ Err e → answer ≡ stop_report e → WhereTold old.files (λ fs. AnswersIntervals (shelved_of fs name out) r)
+pub stopped-run-of : (name out : List ℕ) (r : Result IntervalFile IntervalStop) (e : IntervalStop) (answer : Report) (old new : ShelfState) (tray : TrayState) → r ≡ Err e → answer ≡ stop_report e → WhereTold old.files (λ fs. IsIntervalFileAnswer (shelved_of fs name out) r)
     → WhereTold old.files (λ fs. HasComeTo (IntervalsComeTo fs name out) (finding_of r) fs new) → HasCause (finding_of r) old new → HasOnlyLooked output_limit old new → IsIntervalRunOf name out answer old new tray tray
 stopped-run-of name out r e answer old new tray is same told come cause shelf =
     subst (λ (a : Report). IsIntervalRunOf name out a old new tray tray) (sym same)
-    (stopped-run name out e old new tray (λ fs held. subst (λ (o : Result IntervalFile IntervalStop). AnswersIntervals (shelved_of fs name out) o) is (told fs held))
+    (stopped-run name out e old new tray (λ fs held. subst (λ (o : Result IntervalFile IntervalStop). IsIntervalFileAnswer (shelved_of fs name out) o) is (told fs held))
     (λ fs held. subst (λ (o : Result IntervalFile IntervalStop). HasComeTo (IntervalsComeTo fs name out) (finding_of o) fs new) is (come fs held)) (subst (λ (o : Result IntervalFile IntervalStop). HasCause (finding_of o) old new) is cause) shelf)
 
 pub stopped-cause-of : (r : Result IntervalFile IntervalStop) (e : IntervalStop) (answer : Report) (old new : ShelfState) (tray : TrayState) → r ≡ Err e → answer ≡ stop_report e → HasCause (finding_of r) old new → FaultsHaveCauses answer old new tray tray
@@ -205,7 +205,7 @@ part-leaves (Ok shelved) intervals out before after h part = record { intervals 
 part-leaves (Err f) intervals out before after h part = absurd h
 
 -- the file of the intervals was put
-pub put-run : (name out : List ℕ) (intervals : IntervalFile) (old new : ShelfState) (before after : TrayState) → WhereTold old.files (λ fs. AnswersIntervals (shelved_of fs name out) (Ok intervals)) → HasPut out intervals.bytes before after → HasOnlyLooked output_limit old new
+pub put-run : (name out : List ℕ) (intervals : IntervalFile) (old new : ShelfState) (before after : TrayState) → WhereTold old.files (λ fs. IsIntervalFileAnswer (shelved_of fs name out) (Ok intervals)) → HasPut out intervals.bytes before after → HasOnlyLooked output_limit old new
     → IsIntervalRunOf name out (report.Intervals intervals.cells) old new before after
 put-run name out intervals old new before after told whole shelf = record {
   answers = tt;
@@ -218,7 +218,7 @@ put-run name out intervals old new before after told whole shelf = record {
 }
 
 -- it was put in part
-pub part-run : (name out : List ℕ) (intervals : IntervalFile) (old new : ShelfState) (before after : TrayState) → WhereTold old.files (λ fs. AnswersIntervals (shelved_of fs name out) (Ok intervals)) → HasPutInPart out intervals.bytes before after → HasOnlyLooked output_limit old new
+pub part-run : (name out : List ℕ) (intervals : IntervalFile) (old new : ShelfState) (before after : TrayState) → WhereTold old.files (λ fs. IsIntervalFileAnswer (shelved_of fs name out) (Ok intervals)) → HasPutInPart out intervals.bytes before after → HasOnlyLooked output_limit old new
     → IsIntervalRunOf name out (report.WriteFault file.Out) old new before after
 part-run name out intervals old new before after told part shelf = record {
   answers = tt;

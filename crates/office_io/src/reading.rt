@@ -66,8 +66,7 @@ fn add_piece(bytes: &mut Vec<u8>, piece: &[u8]) -> Result<(), FileFault>
     ensures ok { OnOk result (bytes.new.items ≡ bytes.old.items ++ piece.now) }
     ensures err { IfErr result (λ e. e ≡ FileFault.Memory) }
 {
-    match bytes.extend_from_slice(piece) {
-        Ok(()) => Ok(()),
-        Err(_) => Err(FileFault::Memory),
-    }
+    bytes
+        .extend_from_slice(piece)
+        .map_err(|_| FileFault::Memory)
 }

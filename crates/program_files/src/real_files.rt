@@ -109,10 +109,9 @@ impl<'a, R: Files + Eprint> RealFiles<'a, R> {
         let Ok(mut opened) = self.opened.try_borrow_mut() else {
             return Err(Error::other("the list of opened files is in use"));
         };
-        match opened.try_push(mark) {
-            Ok(()) => Ok(()),
-            Err(_) => Err(Error::other("too many files were opened")),
-        }
+        opened
+            .try_push(mark)
+            .map_err(|_| Error::other("too many files were opened"))
     }
 }
 

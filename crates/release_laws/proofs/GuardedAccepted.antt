@@ -29,7 +29,7 @@ use Rattle.release_laws.proofs.OneJudgement.{RestAlike, rest-alike, judged-alike
 use Rattle.release_laws.proofs.OneSoles.{one-soles}
 use Rattle.release_laws.proofs.OneText.{texts-same}
 use Rattle.release_laws.proofs.Speaking.{protection-is-accepted, speaks}
-use Rattle.release_laws.specs.Laws.{GuardedReleasesAreAccepted, GuardsAreJudgedInOneWay}
+use Rattle.release_laws.specs.Laws.{GuardingIsAccepted, GuardsAreJudgedInOneWay}
 
 -- ---- in one way
 
@@ -81,8 +81,8 @@ texts-of-set case tables c flags fits same =
     (tables_good case.book.now (own_set case c) case.decimals 0 case.book.now.tables case.names.now (own_texts case c) fits.names.lists
     (as_many_texts case.book.now (own_set case c) case.decimals case.book.now.tables case.names.now fits.names.lists) (texts_themselves case.book.now (own_set case c) case.decimals 0 case.book.now.tables case.names.now))
 
-pub guarded-releases-are-accepted : GuardedReleasesAreAccepted
-guarded-releases-are-accepted settled prices protected certificate extra case soles tables g is fits hides are texts =
+pub guarding-is-accepted : GuardingIsAccepted
+guarding-is-accepted settled prices protected certificate extra case soles tables g is fits hides are texts =
     let own = own_texts case certificate in
     let owned : IsCase case own = own_case case tables certificate fits in
     let protects = of-case settled g.job g.system prices protected certificate case g.job_is g.system_is g.protects is in

@@ -73,7 +73,7 @@ use Rattle.job_run.specs.declared.report.Report.{Report}
 use Rattle.job_run.specs.declared.report.Report.TheVariants as report
 use Rattle.release_laws.proofs.JobsRead.{described-read, inputs-read, job-read}
 use Rattle.release_laws.proofs.SameInputs.{settled-same}
-use Rattle.release_laws.specs.Laws.{GuardedReleasesAreAccepted, WrittenIsAccepted}
+use Rattle.release_laws.specs.Laws.{GuardingIsAccepted, WrittenIsAccepted}
 use Rattle.release_laws.specs.RoundingLaws.{WrittenRoundingIsAccepted}
 use Rattle.release_laws.specs.RunLaws.{IsShort, PutsAreAccepted, RunsAreAccepted}
 
@@ -270,7 +270,7 @@ hidden-passes written settled release is sound = λ case is_case fit.
     (subst (λ (m : Method). rounds_cells m ≡ false) (case-method settled case is_case) (hides-so inputs.described.job.method inputs.described.bound.decimals is.protects.hides))
     (case-texts settled case (shown_in inputs flags) (open_truth case.book.now.marks flags) sound is_case (λ t header within. hidden-shown inputs case.book.now flags t header book within))
 
-guarded-passes : GuardedReleasesAreAccepted → (settled : SettledInputs) (release : PutRelease) (is : IsGuardedRelease settled release) → IsSoundJob settled.inputs.described
+guarded-passes : GuardingIsAccepted → (settled : SettledInputs) (release : PutRelease) (is : IsGuardedRelease settled release) → IsSoundJob settled.inputs.described
     → HasNoFault (released_with settled is.certificate (Some is.guarded.extra) (table_bytes settled.inputs (shown_in settled.inputs is.guarded.hidden.flags)))
 guarded-passes guarded settled release is sound = λ case soles is_case fit are.
     let inputs : Inputs = settled.inputs in
@@ -338,7 +338,7 @@ no-file-to-round (method.Rnd whole) decimals base (Some line) rounds can = absur
 no-file-to-round (method.Gh passes) decimals base (Some line) rounds can = absurd cc
 no-file-to-round method.Modular decimals base (Some line) rounds can = absurd cc
 
-hidden-so : WrittenIsAccepted → GuardedReleasesAreAccepted → (files out before : Files) (name : List ℕ) (settled : SettledInputs) (release : PutRelease) (line : Option OutputLine) → settled.inputs.described.job.contributors ≡ line → IsHidingRelease line settled release
+hidden-so : WrittenIsAccepted → GuardingIsAccepted → (files out before : Files) (name : List ℕ) (settled : SettledInputs) (release : PutRelease) (line : Option OutputLine) → settled.inputs.described.job.contributors ≡ line → IsHidingRelease line settled release
     → StandsBeside files out name settled → out ≡ put_all before release.puts → IsReadSo files name
 hidden-so written guarded files out before name settled release None named is s made =
     let shown : Name → Option ℤ = shown_in settled.inputs is.hidden_set.hidden.flags in
@@ -358,7 +358,7 @@ hidden-so written guarded files out before name settled release (Some line) name
       passes = guarded-passes guarded settled release is s.sound;
     }
 
-read-so : WrittenIsAccepted → GuardedReleasesAreAccepted → WrittenRoundingIsAccepted → (files out before : Files) (name : List ℕ) (settled : SettledInputs) (release : PutRelease) (base : Option ℤ) → job_base settled.inputs.described ≡ base → IsReleaseBy base settled release
+read-so : WrittenIsAccepted → GuardingIsAccepted → WrittenRoundingIsAccepted → (files out before : Files) (name : List ℕ) (settled : SettledInputs) (release : PutRelease) (base : Option ℤ) → job_base settled.inputs.described ≡ base → IsReleaseBy base settled release
     → StandsBeside files out name settled → out ≡ put_all before release.puts → IsReadSo files name
 read-so written guarded rounded files out before name settled release None rounds is s made = hidden-so written guarded files out before name settled release settled.inputs.described.job.contributors refl is s made
 read-so written guarded rounded files out before name settled release (Some base) rounds is s made =
@@ -406,7 +406,7 @@ some-before (Some before) out puts h = (before, let same : put_all before puts �
 ok-same : {A F : Type 0} {a b : A} → ◌≡◌ {A = Result A F} (Ok a) (Ok b) → a ≡ b
 ok-same {A} {F} {a} {b} is = let same : a ≡ b = cc in same
 
-pub runs-are-accepted : PutsDiffer → WrittenIsAccepted → GuardedReleasesAreAccepted → WrittenRoundingIsAccepted → RunsAreAccepted
+pub runs-are-accepted : PutsDiffer → WrittenIsAccepted → GuardingIsAccepted → WrittenRoundingIsAccepted → RunsAreAccepted
 runs-are-accepted differ written guarded rounded files out held name summary answer runs hold =
     let told = runs.run.released files runs.run_files summary refl in
     let settled : SettledInputs = told.settled in

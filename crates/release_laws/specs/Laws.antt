@@ -93,8 +93,8 @@ HideBoth case protected extra tables =
 
 -- Where settled inputs are guarded, the release has no fault for their case, with the tables that hide both the set and
 -- the extra cells: so a check accepts what a run has put for contributors, with the same inputs.
-abbrev pub GuardedReleasesAreAccepted : Type 0
-GuardedReleasesAreAccepted =
+abbrev pub GuardingIsAccepted : Type 0
+GuardingIsAccepted =
     (settled : SettledInputs) (prices : List ℕ) (protected : HiddenSet) (certificate : Certificate) (extra : Extra)
     (case : Case) (soles : List (Option ℕ)) (tables : List (List ℕ))
     → AreGuarded settled prices protected certificate extra

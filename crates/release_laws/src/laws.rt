@@ -2,7 +2,7 @@
 
 ghost use Rattle.release_laws.specs.RoundingLaws.{RoundedAreReadBack, RoundingIsAccepted, WrittenRoundingIsAccepted};
 ghost use Rattle.release_laws.specs.RunLaws.{PutsAreAccepted, RunsAreAccepted};
-ghost use Rattle.release_laws.specs.Laws.{GuardedReleasesAreAccepted, GuardsAreJudgedInOneWay, InputsAreJudgedInOneWay, ProtectionIsAccepted, WrittenIsAccepted};
+ghost use Rattle.release_laws.specs.Laws.{GuardingIsAccepted, GuardsAreJudgedInOneWay, InputsAreJudgedInOneWay, ProtectionIsAccepted, WrittenIsAccepted};
 
 use job_lang::names_apart;
 
@@ -22,7 +22,7 @@ pub fn inputs_are_judged_in_one_way()
 /// A release with the extra cells of a guarded protection has no fault, with the tables that hide both; and whether one is
 /// accepted, and for which fault it isn't, rests on the inputs, the certificate, the extra cells and the tables alone.
 pub fn guarded_is_accepted()
-    ensures written { GuardedReleasesAreAccepted }
+    ensures written { GuardingIsAccepted }
     ensures one_way { GuardsAreJudgedInOneWay }
 {}
 

@@ -16,10 +16,7 @@ pub(crate) fn put_field(writer: &mut Writer<Vec<u8>>, field: &[u8]) -> Result<()
         (next_sep default_writer (fields_written writer.old) ++ spec.field_text default_writer field.now)) }
     ensures shown { 0 < length field.now → OnOk result (has_written writer.new ≡ true) }
 {
-    match writer.write_field(field) {
-        Ok(()) => Ok(()),
-        Err(_) => Err(Memory),
-    }
+    writer.write_field(field).map_err(|_| Memory)
 }
 
 /// Ends a line that has shown something.
@@ -30,8 +27,5 @@ pub(crate) fn end_line(writer: &mut Writer<Vec<u8>>) -> Result<(), Memory>
     ensures ready { OnOk result (IsReadyWriter writer.new) }
     ensures text { OnOk result (AppendsText writer.old writer.new (10 ∷ [])) }
 {
-    match writer.end_record() {
-        Ok(()) => Ok(()),
-        Err(_) => Err(Memory),
-    }
+    writer.end_record().map_err(|_| Memory)
 }

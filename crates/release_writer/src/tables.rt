@@ -60,10 +60,7 @@ pub fn table_bytes(
 pub(crate) fn bytes_of(writer: Writer<Vec<u8>>) -> Result<Vec<u8>, Memory>
     ensures text { IfOk result (λ bytes. Some bytes.items ≡ bytes_written writer) }
 {
-    match writer.into_inner() {
-        Ok(bytes) => Ok(bytes),
-        Err(_) => Err(Memory),
-    }
+    writer.into_inner().map_err(|_| Memory)
 }
 
 /// A writer behind the line of a table's names.

@@ -1,11 +1,12 @@
-use Rattle.std.proofs.Common.{◌≡◌, List, ℤ, FitsSigned, ap, rules, sym, subst, ◌∙◌}
+use Rattle.std.proofs.Common.{◌≡◌, ◌<◌, List, ℤ, FitsSigned, ap, rules, sym, subst, ◌∙◌}
 use Rattle.std.proofs.lemmas.Int.{to_z-of_z}
 use Rattle.std.specs.Int.{w128}
 use Rattle.std.specs.Prelude.{slice_index_or, pos}
 use Rattle.linked_tables.specs.BookCells.{cells as cells_in}
 use Rattle.std.specs.Prelude.{length}
-use Rattle.cell_listing.specs.ReleasedCells.{amounts_in, AreReleasedIn, IsPrintable}
+use Rattle.cell_listing.specs.ReleasedCells.{amounts_in, AreReleasedIn, HasAmount, IsPrintable}
 use Rattle.cell_listing.specs.declared.outcome.Outcome.TheVariants as outcome
+use Rattle.cell_listing.specs.declared.released_cells.ReleasedCells.{ReleasedCells}
 use Rattle.cell_listing.proofs.Flagged.{outcome_by, printable_by}
 use Rattle.cell_listing.proofs.HiddenRows.{rounded_outcome, suppressed_outcome}
 use Rattle.cell_listing.proofs.ShownRows.{printable_at}
@@ -20,6 +21,11 @@ returns-in-Suppressed-clause-exact c = λ read are within.
 
 pub returns-in-Suppressed-clause-printable : goal.returns-in-Suppressed-clause-printable
 returns-in-Suppressed-clause-printable c = λ read are. subst IsPrintable (sym c.hidden_or_shown.ensures) (printable_by c.in-Suppressed.flags c.args.number c.args.kind)
+
+pub amount_at-requires : goal.amount_at-requires
+amount_at-requires c =
+    let there = subst (λ (made : ReleasedCells). HasAmount made c.args.number) c.in-Rounded.is c.requires.amount in
+    subst (λ (all : List ℤ). c.args.number < length all) (sym c.as_slice.ensures) there
 
 pub returns-in-Rounded-clause-exact : goal.returns-in-Rounded-clause-exact
 returns-in-Rounded-clause-exact c = λ read are within.

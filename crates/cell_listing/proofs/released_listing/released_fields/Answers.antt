@@ -9,7 +9,21 @@ use Rattle.cell_listing.specs.ReleasedCells.{amounts_in}
 use Rattle.cell_listing.specs.ReleasedListings.{outcome_at, outcome_fields}
 use Rattle.cell_listing.specs.declared.outcome.Outcome.{Outcome}
 use Rattle.cell_listing.proofs.Numbered.{was_number}
+use Rattle.cell_listing.proofs.ReleasedAmounts.{has_amount}
 use Rattle.cell_listing.proofs.released_listing.released_fields.Goals as goal
+
+pub outcome_at-outcome-requires : goal.outcome_at-outcome-requires
+outcome_at-outcome-requires c =
+    let read = c.args.read.now in
+    let job = read.job in
+    let ready = c.requires.ready.job in
+    let number = c.args.number in
+    let cell = c.in-Some.cell.now in
+    let looked = c.in-Some.ensures.lookup in
+    let at : slice_get c.as_slice.result.now number ≡ Some cell = slice_get_read c.as_slice.result.now (length c.as_slice.result.now) number cell refl looked.3.0 looked.1 in
+    let here : slice_get job.cells number ≡ Some cell = ap (λ (cells : List Cell). slice_get cells number) (sym c.as_slice.ensures) ∙ at in
+    let within : number < length (cells_in job.book) = omega (arith, slice_get_within job.cells number cell here, ready.settled, ready.one_each) in
+    record { amount = has_amount read c.args.cells.now number c.requires.cells within }
 
 pub returns-clause-fields : goal.returns-clause-fields
 returns-clause-fields c =

@@ -4,8 +4,8 @@ use Rattle.job_inputs.specs.declared.faults.Fault.{Fault}
 use Rattle.job_check.proofs.Accepting.{still-judged, still-released}
 use Rattle.job_check.proofs.Judgements.{flaw-comes, judged-cause, judged-comes-to}
 use Rattle.job_check.proofs.ReleaseReading.{ok-and}
-use Rattle.job_check.specs.Accepted.{AnswersReadRelease}
-use Rattle.job_check.specs.Answers.{AnswersRelease, stop_of}
+use Rattle.job_check.specs.Accepted.{IsReadReleaseAnswer}
+use Rattle.job_check.specs.Answers.{IsReleaseCheckAnswer, stop_of}
 use Rattle.job_check.specs.Reading.{ReleaseComesTo, IsReleasedOf}
 use Rattle.job_check.specs.ReleaseFiles.{ReleasedFiles, released_of}
 use Rattle.job_check.specs.declared.stop.CheckStop.TheVariants as stop
@@ -23,7 +23,7 @@ returns-in_err-judge-clause-told g c =
     let p = err_from_is_err_and c.from_residual-in_err-judge.result c.from_residual-in_err-judge.ensures.1 in
     let it = ok-and (λ released. IsReleasedOf released c.in_ok-read.read) (released_of fs c.args.name.now) (c.in_ok-read.ensures.looked.told fs told) in
     let e = c.in_err-judge.field-0.0 in
-    rw (p.1, p.2) (subst (λ (o : Result ReleasedFiles Fault). AnswersRelease o (Err (stop_of e))) (sym it.1) (flaw-comes it.0 e (c.in_err-judge.ensures.judged it.0 it.2)))
+    rw (p.1, p.2) (subst (λ (o : Result ReleasedFiles Fault). IsReleaseCheckAnswer o (Err (stop_of e))) (sym it.1) (flaw-comes it.0 e (c.in_err-judge.ensures.judged it.0 it.2)))
 
 pub returns-in_err-judge-clause-came_to : goal.returns-in_err-judge-clause-came_to
 returns-in_err-judge-clause-came_to g c =
@@ -42,7 +42,7 @@ pub returns-clause-told : goal.returns-clause-told
 returns-clause-told g c =
     λ fs told.
     let it = ok-and (λ released. IsReleasedOf released c.in_ok-read.read) (released_of fs c.args.name.now) (c.in_ok-read.ensures.looked.told fs told) in
-    subst (λ (o : Result ReleasedFiles Fault). AnswersReadRelease o (Ok c.judge.new.read)) (sym it.1)
+    subst (λ (o : Result ReleasedFiles Fault). IsReadReleaseAnswer o (Ok c.judge.new.read)) (sym it.1)
     (record { is = still-released it.0 c.in_ok-read.read c.judge.new.read c.in_ok-judge.ensures.same it.2; accepted = c.in_ok-judge.ensures.judged it.0 it.2 })
 
 pub returns-clause-accepted : goal.returns-clause-accepted
