@@ -4,10 +4,13 @@
 use Rattle.std.specs.Prelude.{◌≡◌, ◌^◌, ℕ, Bool, List, All, filter, length, map, slice_get, Some, ℤ, pos, ◌+ℤ◌, ◌*ℤ◌, ◌≤ℤ◌, ◌<ℤ◌}
 use Rattle.std.specs.List.{range_with_len}
 use Rattle.sdc_base.specs.declared.cell.Cell.{Cell}
+use Rattle.sdc_base.specs.declared.side.Side.TheVariants.{Above, Below}
 use Rattle.sdc_base.specs.declared.system.System.{System}
 use Rattle.sdc_base.specs.HiddenSets.{is_hidden}
 use Rattle.sdc_base.specs.Systems.{Numbers}
 use Rattle.sdc_base.specs.Worlds.{IsWorld, value_over}
+use Rattle.interval_audit.specs.Ends.{IsWholeEnd}
+use Rattle.interval_audit.specs.declared.ends.TwoEnds.{TwoEnds}
 use Rattle.cell_intervals.specs.declared.ratio.Ratio.{Ratio}
 use Rattle.cell_intervals.specs.declared.interval.CellInterval.{CellInterval}
 use Rattle.cell_intervals.specs.declared.interval.UpperEnd.{UpperEnd}
@@ -81,6 +84,16 @@ IsWholeUpperEnd system cells flags number cell (At high) = IsWholeValue system c
 IsWholeUpperEnd system cells flags number cell Open =
     IsAttainedWhole system cells flags number cell (cell.truth +ℤ pos (2 ^ 110))
 
+-- the value is whole for the cell with this number, if there is such a cell
+abbrev pub IsWholeValueAt : System → List Cell → List Bool → ℕ → Ratio → Type 0
+IsWholeValueAt system cells flags number value =
+    (cell : Cell) → slice_get cells number ≡ Some cell → IsWholeValue system cells flags number cell value
+
+-- the upper end is whole for the cell with this number, if there is such a cell
+abbrev pub IsWholeUpperEndAt : System → List Cell → List Bool → ℕ → UpperEnd → Type 0
+IsWholeUpperEndAt system cells flags number end =
+    (cell : Cell) → slice_get cells number ≡ Some cell → IsWholeUpperEnd system cells flags number cell end
+
 -- Both ends of the cell's interval are whole, and worlds over the denominator 1 attain them. Not: an end of 21 over 2.
 pub record HasWholeEnds (system : System) (cells : List Cell) (flags : List Bool)
     (interval : CellInterval) : Type 0 where
@@ -88,3 +101,9 @@ pub record HasWholeEnds (system : System) (cells : List Cell) (flags : List Bool
   pub known : slice_get cells interval.cell ≡ Some cell
   pub low : IsWholeValue system cells flags interval.cell cell interval.low
   pub high : IsWholeUpperEnd system cells flags interval.cell cell interval.high
+
+-- where the answers of a cell's two questions are both whole, so are both ends of its interval
+abbrev pub KeepsWholeEnds : System → List Cell → List Bool → ℕ → TwoEnds → CellInterval → Type 0
+KeepsWholeEnds system cells flags number ends interval =
+    IsWholeEnd system cells flags number Below ends.below → IsWholeEnd system cells flags number Above ends.above
+    → HasWholeEnds system cells flags interval

@@ -5,7 +5,7 @@ ghost use Rattle.sdc_base.specs.declared.cell.Cell.{Cell as AnyCell};
 ghost use Rattle.sdc_base.specs.declared.side.Side.TheVariants.{Above, Below};
 ghost use Rattle.interval_audit.specs.Ends.{IsTrueEnd, IsWholeEnd};
 ghost use Rattle.cell_intervals.specs.Farthest.{IsFarthest, IsOpenTo, IsWholeDistance, IsWholeFar};
-ghost use Rattle.cell_intervals.specs.Intervals.{HasWholeEnds, IsIntervalOf, IsLeastValue, IsUpperEnd, IsWholeUpperEnd, IsWholeValue};
+ghost use Rattle.cell_intervals.specs.Intervals.{IsIntervalOf, IsLeastValue, IsUpperEnd, IsWholeUpperEndAt, IsWholeValueAt, KeepsWholeEnds};
 
 use crate::interval::{CellInterval, UpperEnd};
 use crate::ratio::{Ratio, lowest_terms_of, minus, plus};
@@ -33,9 +33,7 @@ pub fn interval_from(
     requires above { IsTrueEnd system.now cells.now hidden.now.flags cell Above ends.now.above }
     ensures number { result.cell ≡ cell }
     ensures interval { IsIntervalOf system.now cells.now hidden.now.flags result }
-    ensures whole { IsWholeEnd system.now cells.now hidden.now.flags cell Below ends.now.below
-        → IsWholeEnd system.now cells.now hidden.now.flags cell Above ends.now.above
-        → HasWholeEnds system.now cells.now hidden.now.flags result }
+    ensures whole { KeepsWholeEnds system.now cells.now hidden.now.flags cell ends.now result }
 {
     let low = low_end(system, cells, hidden, cell, &ends.below);
     let high = high_end(system, cells, hidden, cell, &ends.above);
@@ -52,8 +50,7 @@ fn low_end(system: &System, cells: &[Cell], hidden: &Hidden, cell: u32, below: &
     ensures least { (known : AnyCell) → slice_get cells.now cell ≡ Some known
         → IsLeastValue system.now cells.now hidden.now.flags cell known result }
     ensures whole { IsWholeEnd system.now cells.now hidden.now.flags cell Below below.now
-        → (known : AnyCell) → slice_get cells.now cell ≡ Some known
-        → IsWholeValue system.now cells.now hidden.now.flags cell known result }
+        → IsWholeValueAt system.now cells.now hidden.now.flags cell result }
 {
     let truth = cells[cell as usize].truth.unsigned_abs();
     let Some(far) = farthest(system, cells, hidden, cell, Side::Below, below) else {
@@ -71,8 +68,7 @@ fn high_end(system: &System, cells: &[Cell], hidden: &Hidden, cell: u32, above: 
     ensures upper { (known : AnyCell) → slice_get cells.now cell ≡ Some known
         → IsUpperEnd system.now cells.now hidden.now.flags cell known result }
     ensures whole { IsWholeEnd system.now cells.now hidden.now.flags cell Above above.now
-        → (known : AnyCell) → slice_get cells.now cell ≡ Some known
-        → IsWholeUpperEnd system.now cells.now hidden.now.flags cell known result }
+        → IsWholeUpperEndAt system.now cells.now hidden.now.flags cell result }
 {
     let truth = cells[cell as usize].truth.unsigned_abs();
     let Some(far) = farthest(system, cells, hidden, cell, Side::Above, above) else {

@@ -1,10 +1,15 @@
 -- What a listing is asked for by words, and what is answered (own).
-use Rattle.std.specs.Prelude.{ℕ, List, [], ◌∷◌, Option, None, Some, Result, Ok, Err, IsOkAnd, Vec}
+use Rattle.std.specs.Prelude.{◌≡◌, ℕ, List, [], ◌∷◌, Option, None, Some, Result, Ok, Err, IsOkAnd, Vec}
 use Rattle.std.specs.declared.alloc.Global.{Global}
 use Rattle.sdc_base.specs.Answers.{Fails}
-use Rattle.job_inputs.specs.Reading.{stopped_for}
+use Rattle.office_io.specs.Files.{Files}
+use Rattle.office_io.specs.Shelves.{ShelfState}
+use Rattle.job_inputs.specs.Looks.{InputsComeTo}
+use Rattle.job_inputs.specs.Reading.{stopped_for, HasComeTo}
 use Rattle.job_inputs.specs.SettledJobs.{SettledInputs}
 use Rattle.job_inputs.specs.declared.faults.Fault.{Fault}
+use Rattle.job_inputs.specs.declared.purpose.Purpose.TheVariants as purpose
+use Rattle.job_inputs.specs.declared.stop.InputStop.{InputStop}
 use Rattle.cell_listing.specs.Listings.{IsCellListing}
 use Rattle.cell_listing.specs.declared.calls.ListStop.{ListStop}
 use Rattle.cell_listing.specs.declared.calls.ListStop.TheVariants as stop
@@ -20,3 +25,10 @@ abbrev pub IsListingAnswer : Result SettledInputs Fault → Result (Vec ℕ Glob
 IsListingAnswer meant (Ok bytes) = IsOkAnd meant (λ settled. IsCellListing settled bytes.items)
 IsListingAnswer meant (Err stop.Usage) = ⊥
 IsListingAnswer meant (Err (stop.Inputs input)) = Fails (stopped_for input) meant
+
+-- where the shelf fails at a file, it is one that reading the inputs of the job of this name came to, and was the last one
+-- looked for
+abbrev pub HasComeToInputs : List ℕ → Result (Vec ℕ Global) ListStop → Files → ShelfState → Type 0
+HasComeToInputs name answer files new =
+    (e : InputStop) → answer ≡ Err (stop.Inputs e)
+    → HasComeTo {X = Unit {0}} (InputsComeTo purpose.Release files name) (Err e) files new

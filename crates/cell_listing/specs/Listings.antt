@@ -5,11 +5,13 @@ use Rattle.sdc_base.specs.Answers.{Fails}
 use Rattle.sdc_base.specs.Kinds.{is_primary}
 use Rattle.sdc_base.specs.TableText.{line_text}
 use Rattle.sdc_base.specs.Trees.{Tree}
+use Rattle.office_io.specs.Files.{Files}
 use Rattle.job_inputs.specs.Cells.{cells as cells_in}
 use Rattle.job_inputs.specs.Reading.{stopped_for}
-use Rattle.job_inputs.specs.SettledJobs.{SettledInputs}
+use Rattle.job_inputs.specs.SettledJobs.{SettledInputs, settled_of}
 use Rattle.job_inputs.specs.declared.described.DescribedJob.{DescribedJob}
 use Rattle.job_inputs.specs.declared.faults.Fault.{Fault}
+use Rattle.job_inputs.specs.declared.purpose.Purpose.TheVariants as purpose
 use Rattle.job_inputs.specs.declared.stop.InputStop.{InputStop}
 use Rattle.cell_listing.specs.ListedCells.{ListedCell, listed_cells}
 use Rattle.cell_listing.specs.Columns.{column_names, cell_fields}
@@ -46,3 +48,7 @@ pub record IsCellListing (settled : SettledInputs) (text : List ℕ) : Type 0 wh
 abbrev pub AreListed : Result (Vec ℕ Global) InputStop → Result SettledInputs Fault → Type 0
 AreListed (Ok bytes) meant = IsOkAnd meant (λ settled. IsCellListing settled bytes.items)
 AreListed (Err stop) meant = Fails (stopped_for stop) meant
+
+-- the same of the inputs of the job of this name, which are read from these files as for a release
+abbrev pub ListsJob : List ℕ → Files → Result (Vec ℕ Global) InputStop → Type 0
+ListsJob name files answer = AreListed answer (settled_of purpose.Release files name)

@@ -1,5 +1,5 @@
 -- What a release that was read made of its cells, as its lines are written from it (own).
-use Rattle.std.specs.Prelude.{◌≡◌, ◌<◌, ◌≤ℤ◌, ◌^◌, ℕ, List, [], ◌++◌, length, map, slice_get, Some, true, false, ℤ, pos, neg_ℤ}
+use Rattle.std.specs.Prelude.{◌≡◌, ◌<◌, ◌≤ℤ◌, ◌^◌, ℕ, List, [], ◌++◌, length, map, flat_map, slice_get, Some, true, false, ℤ, pos, neg_ℤ}
 use Rattle.cert_check.specs.Methods.{rounds_cells}
 use Rattle.linked_tables.specs.BookCells.{cells as cells_in}
 use Rattle.release_writer.specs.ReadingLaws.{AreTexts, IsReleased}
@@ -8,7 +8,7 @@ use Rattle.job_check.specs.declared.reading.ReadRelease.{ReadRelease}
 use Rattle.cell_listing.specs.Columns.{cell_fields}
 use Rattle.cell_listing.specs.Flags.{AreHiddenCells}
 use Rattle.cell_listing.specs.ListedCells.{ListedCell, told_cells}
-use Rattle.cell_listing.specs.ReleasedListings.{outcome_at, outcome_fields}
+use Rattle.cell_listing.specs.ReleasedListings.{outcome_at, outcome_fields, released_line}
 use Rattle.cell_listing.specs.declared.outcome.Outcome.{Outcome}
 use Rattle.cell_listing.specs.declared.outcome.Outcome.TheVariants as outcome
 use Rattle.cell_listing.specs.declared.released_cells.ReleasedCells.{ReleasedCells}
@@ -36,6 +36,12 @@ abbrev pub AreReleasedIn : ReadRelease → ReleasedCells → Type 0
 AreReleasedIn read (cells.Suppressed flags) = (rounds_cells read.certificate.method ≡ false)
     × AreHiddenCells read.certificate read.extra (length (cells_in read.job.book)) flags
 AreReleasedIn read (cells.Rounded amounts) = (rounds_cells read.certificate.method ≡ true) × AreShownAs read amounts
+
+-- the lines of the cells, each with what the release made of it
+abbrev pub released_lines : ReadRelease → ReleasedCells → List ℕ
+released_lines read made =
+    flat_map (released_line read.job.described read.job.book.trees
+    (outcome_at read.certificate read.extra (amounts_in made))) (told_cells read.job)
 
 -- an amount is one that can be printed
 abbrev pub IsPrintable : Outcome → Type 0

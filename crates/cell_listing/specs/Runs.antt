@@ -3,7 +3,6 @@ use Rattle.std.specs.Prelude.{◌≡◌, ℕ, List, Result, Err, IfOk, Vec}
 use Rattle.std.specs.declared.alloc.Global.{Global}
 use Rattle.sdc_base.specs.WhereTold.{WhereTold}
 use Rattle.office_io.specs.Shelves.{ShelfState}
-use Rattle.job_inputs.specs.Looks.{InputsComeTo}
 use Rattle.job_inputs.specs.ReadFiles.{limit, output_limit}
 use Rattle.job_inputs.specs.Reading.{HasCause, HasComeTo, HasOnlyLooked}
 use Rattle.job_inputs.specs.SettledJobs.{SettledInputs, settled_of}
@@ -14,7 +13,7 @@ use Rattle.job_check.specs.Reading.{ReleaseComesTo}
 use Rattle.job_check.specs.ReleaseFiles.{ReleasedFiles, released_of}
 use Rattle.job_check.specs.declared.stop.CheckStop.{CheckStop}
 use Rattle.job_check.specs.declared.stop.CheckStop.TheVariants as check
-use Rattle.cell_listing.specs.Calls.{IsListingAnswer}
+use Rattle.cell_listing.specs.Calls.{HasComeToInputs, IsListingAnswer}
 use Rattle.cell_listing.specs.Listings.{IsCellListing}
 use Rattle.cell_listing.specs.Releases.{IsReleaseListingAnswer, IsListingOf}
 use Rattle.cell_listing.specs.declared.calls.ListStop.{ListStop}
@@ -24,8 +23,7 @@ use Rattle.cell_listing.specs.declared.calls.ListStop.TheVariants as list
 -- the shelf was only looked at.
 pub record IsListingRun (name : List ℕ) (answer : Result (Vec ℕ Global) ListStop) (old new : ShelfState) : Type 0 where
   pub told : WhereTold old.files (λ fs. IsListingAnswer (settled_of purpose.Release fs name) answer)
-  pub came_to : WhereTold old.files (λ fs. (e : InputStop) → answer ≡ Err (list.Inputs e)
-      → HasComeTo {X = Unit {0}} (InputsComeTo purpose.Release fs name) (Err e) fs new)
+  pub came_to : WhereTold old.files (λ fs. HasComeToInputs name answer fs new)
   pub shelf : HasOnlyLooked limit old new
   pub cause : (e : InputStop) → answer ≡ Err (list.Inputs e) → HasCause {X = Unit {0}} (Err e) old new
   pub listed : IfOk answer (λ bytes. (settled : SettledInputs) × IsCellListing settled bytes.items

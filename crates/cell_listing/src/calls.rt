@@ -1,12 +1,11 @@
 ghost use Rattle.std.specs.Prelude.{◌≡◌, ◌↔◌, None, Err, IfOk, option_map};
 ghost use Rattle.sdc_base.specs.WhereTold.{WhereTold};
-ghost use Rattle.job_inputs.specs.Looks.{InputsComeTo};
 ghost use Rattle.job_inputs.specs.ReadFiles.{limit};
-ghost use Rattle.job_inputs.specs.Reading.{HasCause, HasComeTo, HasOnlyLooked};
+ghost use Rattle.job_inputs.specs.Reading.{HasCause, HasOnlyLooked};
 ghost use Rattle.job_inputs.specs.SettledJobs.{SettledInputs, settled_of};
 ghost use Rattle.job_inputs.specs.SoundJobs.{AreSound};
 ghost use Rattle.job_inputs.specs.declared.stop.InputStop.{InputStop as AnyStop};
-ghost use Rattle.cell_listing.specs.Calls.{IsListingAnswer};
+ghost use Rattle.cell_listing.specs.Calls.{HasComeToInputs, IsListingAnswer};
 ghost use Rattle.cell_listing.specs.Calls as spec;
 ghost use Rattle.cell_listing.specs.Listings.{IsCellListing};
 
@@ -56,8 +55,7 @@ pub fn list_cells<S: Shelf>(
         (λ fs. IsListingAnswer (settled_of Purpose.Release fs name) result)) }
     // Where the shelf failed at a file, it is one to which reading came with no fault before it.
     ensures came_to { WhereTold (spec.job_named words.now) (λ name. WhereTold (S.state shelf.old).files
-        (λ fs. (e : AnyStop) → result ≡ Err (ListStop.Inputs e)
-        → HasComeTo {X = Unit {0}} (InputsComeTo Purpose.Release fs name) (Err e) fs (S.state shelf.new))) }
+        (λ fs. HasComeToInputs name result fs (S.state shelf.new))) }
     // It was only read from, and no more than was wanted.
     ensures shelf { HasOnlyLooked limit (S.state shelf.old) (S.state shelf.new) }
     ensures cause { (e : AnyStop) → result ≡ Err (ListStop.Inputs e)

@@ -2,9 +2,9 @@ ghost use Rattle.std.specs.Prelude.{IfOk};
 ghost use Rattle.job_inputs.specs.Looks.{InputsComeTo};
 ghost use Rattle.job_inputs.specs.ReadFiles.{limit};
 ghost use Rattle.job_inputs.specs.Reading.{HasLookedAt, IsSoundByItsType};
-ghost use Rattle.job_inputs.specs.SettledJobs.{SettledInputs, settled_of};
+ghost use Rattle.job_inputs.specs.SettledJobs.{SettledInputs};
 ghost use Rattle.job_inputs.specs.SoundJobs.{AreSound};
-ghost use Rattle.cell_listing.specs.Listings.{AreListed, IsCellListing};
+ghost use Rattle.cell_listing.specs.Listings.{IsCellListing, ListsJob};
 
 use crate::listing::listing_for;
 use job_inputs::{InputStop, Purpose, read_settled};
@@ -19,9 +19,8 @@ use std::alloc::Global;
 /// `Memory`. The cost is that of reading each file once, with the records kept in memory; one look-up for each record
 /// and table, one look at each cell for each table and rule, and the length of the text. The order is argus's own.
 pub fn list_job<S: Shelf>(alloc: Global, shelf: &mut S, name: &Text) -> Result<Vec<u8>, InputStop>
-    ensures looked { HasLookedAt (λ fs answer. AreListed answer (settled_of Purpose.Release fs name.now))
-        (λ fs. InputsComeTo Purpose.Release fs name.now) IsSoundByItsType limit result
-        (S.state shelf.old) (S.state shelf.new) }
+    ensures looked { HasLookedAt (ListsJob name.now) (λ fs. InputsComeTo Purpose.Release fs name.now) IsSoundByItsType
+        limit result (S.state shelf.old) (S.state shelf.new) }
     // Of a shelf that tells nothing too.
     ensures listed { IfOk result (λ bytes. (settled : SettledInputs) × IsCellListing settled bytes.items
         × AreSound settled.inputs) }

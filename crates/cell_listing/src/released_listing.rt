@@ -1,13 +1,11 @@
-ghost use Rattle.std.specs.Prelude.{◌≡◌, ◌<◌, ◌++◌, ◌≤◌, IfOk, OnOk, flat_map, length};
+ghost use Rattle.std.specs.Prelude.{◌≡◌, ◌<◌, ◌++◌, ◌≤◌, IfOk, OnOk, length};
 ghost use Rattle.sdc_base.specs.TableText.{line_text};
 ghost use Rattle.release_writer.specs.Lines.{IsReadyWriter, AppendsText};
 ghost use Rattle.job_check.specs.Accepted.{IsAcceptedAs};
 ghost use Rattle.job_check.specs.Reading.{IsReadyRelease};
 ghost use Rattle.job_check.specs.ReleaseFiles.{ReleasedFiles};
 ghost use Rattle.cell_listing.specs.Columns as columns;
-ghost use Rattle.cell_listing.specs.ListedCells.{told_cells};
-ghost use Rattle.cell_listing.specs.ReleasedCells.{amounts_in, AreReleasedFieldsAt, AreReleasedIn, IsPrintable};
-ghost use Rattle.cell_listing.specs.ReleasedListings.{released_line};
+ghost use Rattle.cell_listing.specs.ReleasedCells.{amounts_in, released_lines, AreReleasedFieldsAt, AreReleasedIn, IsPrintable};
 ghost use Rattle.cell_listing.specs.ReleasedListings as spec;
 ghost use Rattle.cell_listing.specs.Releases.{IsListingOf};
 
@@ -85,9 +83,7 @@ fn write_cells(
     requires ready { IsReadyRelease read.now }
     requires cells { AreReleasedIn read.now cells.now }
     ensures ready { OnOk result (IsReadyWriter writer.new) }
-    ensures text { OnOk result (AppendsText writer.old writer.new
-        (flat_map (released_line read.now.job.described read.now.job.book.trees
-        (spec.outcome_at read.now.certificate read.now.extra (amounts_in cells.now))) (told_cells read.now.job))) }
+    ensures text { OnOk result (AppendsText writer.old writer.new (released_lines read.now cells.now)) }
 {
     'lines: for number in 0..read.job.book.cells() {
         let fields = released_fields(alloc, read, cells, number)?;

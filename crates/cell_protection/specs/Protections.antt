@@ -6,12 +6,13 @@ use Rattle.worlds.specs.Protection.{Protection as HiddenSet}
 use Rattle.certificate.specs.Spelling.{IsSpellable}
 use Rattle.certificate.specs.declared.certificate.Certificate.{Certificate}
 use Rattle.sdc_base.specs.Trails.{corners_of}
-use Rattle.repair.specs.HidingOrder.{Case, planned_set}
+use Rattle.repair.specs.HidingOrder.{Case, planned_set, prices_of, protected_case}
 use Rattle.repair.specs.Stops.{StopsFor}
 use Rattle.repair.specs.Verdicts.{IsCannot, IsVerdict}
 use Rattle.repair.specs.declared.verdict.Verdict.{Verdict}
 use Rattle.repair.specs.declared.verdict.Verdict.TheVariants as verdict
 use Rattle.cell_protection.specs.Certifying.{certificate_made}
+use Rattle.cell_protection.specs.declared.protection.CostedCells.{CostedCells}
 use Rattle.cell_protection.specs.declared.protection.Protection.{Protection}
 use Rattle.cell_protection.specs.declared.protection.Protection.TheVariants as protection
 
@@ -19,6 +20,14 @@ use Rattle.cell_protection.specs.declared.protection.Protection.TheVariants as p
 pub record AreNarrow (tables : List (List ℕ)) : Type 0 where
   pub at_most_8_tables : length tables ≤ 8
   pub each : All (λ table. (1 ≤ length table) × (length table ≤ 8)) tables
+
+-- the case of cells whose costs are known
+abbrev pub case_of : CostedCells → Case
+case_of costed = protected_case costed.system.now costed.cells.now
+
+-- what hiding each of them costs
+abbrev pub prices_in : CostedCells → List ℕ
+prices_in costed = prices_of costed.cost costed.cells.now costed.marks.now
 
 -- the set with which repairing begins: the primary cells and the corners of the planned steps
 abbrev pub planned_from : Case → List PlanStep → List Bool

@@ -2,12 +2,12 @@ ghost use Rattle.std.specs.Prelude.{◌≡◌, ◌≤◌, length, All, IfOk, IfE
 ghost use Rattle.apriori.specs.CellLevels.{HasLevelsInRange};
 ghost use Rattle.cost_rule.specs.Costs.{AreCosted, IsTold};
 ghost use Rattle.modular_plan.specs.Plans.{trail_of, IsSameButHidden};
-ghost use Rattle.repair.specs.HidingOrder.{planned_set, protected_case, prices_of};
+ghost use Rattle.repair.specs.HidingOrder.{protected_case, prices_of};
 ghost use Rattle.repair.specs.Stops.{IsStopAsTold};
 ghost use Rattle.repair.specs.Verdicts.{IsVerdict};
 ghost use Rattle.sdc_base.specs.HiddenSets.{MayHide};
 ghost use Rattle.sdc_base.specs.Trails.{corners_of};
-ghost use Rattle.cell_protection.specs.Protections.{AreNarrow, HasText, IsProtectionOf, protection_by};
+ghost use Rattle.cell_protection.specs.Protections.{AreNarrow, HasText, IsProtectionOf, case_of, planned_from, prices_in, protection_by};
 ghost use Rattle.modular_plan.specs.Methods.{passes_of};
 
 use crate::certifying::{hidden_cells, world_lines};
@@ -15,7 +15,7 @@ use certificate::Certificate;
 use cost_rule::{CostKind, CostRule, TellsCosts};
 use linked_tables::{Book, Mark};
 use modular_plan::trail_for;
-use repair::{Stopped, Unprotected, Verdict, protect};
+use repair::{Stopped, UnprotectedCell, Verdict, protect};
 use sdc_base::{Cell, CellFacts, Memory, Method, System, Trail};
 use std::alloc::Global;
 use worlds::Protected;
@@ -29,7 +29,7 @@ pub enum Protection<'a> {
         certificate: Certificate,
     },
     /// No hidden set protects this cell to this side.
-    Cannot(Unprotected),
+    Cannot(UnprotectedCell),
     /// A question stopped short, so nothing is known.
     Undecided(Stopped),
 }
@@ -105,14 +105,10 @@ fn verdict_by<'a, F: TellsCosts + Drop>(
     requires levels { All HasLevelsInRange costed.now.cells.now }
     requires corners { All (MayHide costed.now.cells.now) (corners_of trail.now.steps) }
     requires limit { 1 ≤ limit }
-    ensures verdict { IfOk result (λ verdict. IsVerdict
-        (protected_case costed.now.system.now costed.now.cells.now)
-        (prices_of costed.now.cost costed.now.cells.now costed.now.marks.now)
-        (planned_set costed.now.cells.now (corners_of trail.now.steps)) verdict) }
-    ensures stopped { IfErr result (λ stopped. IsStopAsTold
-        (protected_case costed.now.system.now costed.now.cells.now)
-        (prices_of costed.now.cost costed.now.cells.now costed.now.marks.now)
-        (planned_set costed.now.cells.now (corners_of trail.now.steps)) limit stopped) }
+    ensures verdict { IfOk result (IsVerdict (case_of costed.now) (prices_in costed.now)
+        (planned_from (case_of costed.now) trail.now.steps)) }
+    ensures stopped { IfErr result (IsStopAsTold (case_of costed.now) (prices_in costed.now)
+        (planned_from (case_of costed.now) trail.now.steps) limit) }
 {
     let rule = CostRule::new(costed.cost, f);
     protect(
@@ -166,7 +162,7 @@ fn certificate_of<'a>(
             cell,
             side,
             multipliers,
-        } => Ok(Protection::Cannot(Unprotected {
+        } => Ok(Protection::Cannot(UnprotectedCell {
             cell,
             side,
             multipliers,

@@ -14,6 +14,7 @@ use Rattle.cost_rule.specs.declared.kind.CostKind.{CostKind}
 use Rattle.linked_tables.specs.BookViews.{BookView}
 use Rattle.linked_tables.specs.BookCells.{cell_at}
 use Rattle.hypercube.specs.LeastCubes.{is_marked, price_in}
+use Rattle.hypercube.specs.declared.corners.Layer.{Layer}
 
 -- ---- corners
 
@@ -37,6 +38,10 @@ number_with_codes number codes place = number (place ++ codes)
 -- the cell of a table at a place that these codes complete
 abbrev pub cell_with_codes : BookView → ℕ → List ℕ → List ℕ → Option ℕ
 cell_with_codes book t codes place = number_with_codes (cell_at book t) codes place
+
+-- the cell of a layer at a place, which its codes complete
+abbrev pub cell_in_layer : Layer → List ℕ → Option ℕ
+cell_in_layer layer place = cell_with_codes layer.book.now layer.t layer.codes.now place
 
 -- corners with others put among them
 abbrev pub with_corners : List Corner → List Corner → List Corner

@@ -1,6 +1,6 @@
 ghost use Rattle.std.specs.Prelude.{◌≡◌, ◌<◌, ◌≤◌, ◌+◌, ◌++◌, [], true, map, length, drop, insert, option_to_list, slice_set, IfOk, OnOk};
 ghost use Rattle.sdc_base.specs.Cubes as spec;
-ghost use Rattle.hypercube.specs.Branches.{cell_with_codes, corners_beyond, with_corners};
+ghost use Rattle.hypercube.specs.Branches.{cell_in_layer, cell_with_codes, corners_beyond, with_corners};
 ghost use Rattle.hypercube.specs.Branches as branches;
 
 use arrayvec::ArrayVec;
@@ -48,8 +48,7 @@ fn add_corners(
     requires fewer { length layer.now.codes.now ≤ 8 }
     ensures { OnOk result (corners.new.items
         ≡ with_corners corners.old.items
-        (corners_beyond (cell_with_codes layer.now.book.now layer.now.t layer.now.codes.now) place.now plus
-        (drop (length place.now) edges.now))) }
+        (corners_beyond (cell_in_layer layer.now) place.now plus (drop (length place.now) edges.now))) }
 {
     let k = place.len();
     if k >= edges.len() {
@@ -72,8 +71,7 @@ fn add_corner(
     requires fewer { length layer.now.codes.now ≤ 8 }
     ensures { OnOk result (corners.new.items
         ≡ with_corners corners.old.items
-        (option_to_list (spec.corner_at (cell_with_codes layer.now.book.now layer.now.t layer.now.codes.now)
-        (place.now, plus)))) }
+        (option_to_list (spec.corner_at (cell_in_layer layer.now) (place.now, plus)))) }
 {
     let whole = place_with(place, layer.codes);
     if let Some(cell) = layer.book.id(layer.t, whole.as_slice()) {

@@ -10,11 +10,13 @@ use Rattle.sdc_base.specs.Answers.{Gives}
 use Rattle.sdc_base.specs.RuleLevels.{keep_of}
 use Rattle.tabulate.specs.TabulatedMarks.{AreTabulated}
 use Rattle.office_io.specs.Files.{Files}
+use Rattle.office_io.specs.Shelves.{ShelfState}
 use Rattle.apriori.specs.Priors.{ArePriors}
 use Rattle.apriori.specs.declared.prior.Prior.{Prior}
-use Rattle.job_inputs.specs.Looks.{ComesToStatements}
+use Rattle.job_inputs.specs.Looks.{ComesToStatements, IsPriorFileOf}
 use Rattle.job_inputs.specs.PriorStatements.{prior_line, priors_of, with_file}
-use Rattle.job_inputs.specs.Reading.{stopped_for}
+use Rattle.job_inputs.specs.ReadFiles.{limit}
+use Rattle.job_inputs.specs.Reading.{stopped_for, HasLookedAt}
 use Rattle.job_inputs.specs.declared.stop.InputStop.{InputStop}
 
 -- the job, its book with its records, these records, and how many were skipped are those of the inputs
@@ -35,6 +37,10 @@ pub record IsReadyCount (counted : CountedJob) : Type 0 where
   pub one_each : length counted.book.marks ≡ length (cells counted.book)
   pub fewer_than_2_32 : length counted.book.marks < 2 ^ 32
 
+-- the counted records are those of the inputs, and ready
+abbrev pub IsReadyCountOf : Inputs → CountedJob → Type 0
+IsReadyCountOf inputs counted = IsCountedOf inputs counted × IsReadyCount counted
+
 -- what a table's a priori file states can be added to these priors: the job is ready, it has the table, and there is a
 -- prior for each mark of its book
 pub record CanState (counted : CountedJob) (t : ℕ) (priors : List Prior) : Type 0 where
@@ -48,6 +54,14 @@ abbrev pub StatesFile : CountedJob → ℕ → List Prior → List Prior → Fil
 StatesFile counted t before after files answer =
     (inputs : Inputs) → IsCountedOf inputs counted
     → Gives stopped_for (λ fine. after) answer (with_file files inputs t (prior_line t counted.described.job.priors) before)
+
+-- a table's a priori file, where it has one, was looked at: the answer, with these priors after it, is what it states
+-- beside those before it, and there is a prior for each mark of the book
+abbrev pub HasStatedFile : CountedJob → ℕ → List Prior → List Prior → Result (Unit {0}) InputStop → ShelfState
+    → ShelfState → Type 0
+HasStatedFile counted t before after result old new =
+    HasLookedAt (StatesFile counted t before after) (λ fs. IsPriorFileOf t counted.described.job.priors)
+    (λ fine. ArePriors counted.book.marks after) limit result old new
 
 -- The answer is what the a priori files of all tables state, or the first fault of one of them: for these files, and of
 -- inputs whose records are counted so.

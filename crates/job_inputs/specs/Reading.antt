@@ -1,6 +1,7 @@
 -- What it is to read inputs from a shelf: what is told, to which file it comes, what the shelf does, and the cause of
 -- each refusal (own).
-use Rattle.std.specs.Prelude.{◌≡◌, ◌≢◌, ℕ, ◌+◌, ◌≤◌, max, List, Option, None, Some, Result, Err, IsErrOf, IfOk, []}
+use Rattle.std.specs.Prelude.{◌≡◌, ◌≢◌, ℕ, ◌+◌, ◌≤◌, max, List, Option, None, Some, Result, Err, IsErrOf, IfOk, [], Vec}
+use Rattle.std.specs.declared.alloc.Global.{Global}
 use Rattle.sdc_base.specs.Answers.{Gives}
 use Rattle.sdc_base.specs.Counts.{HasRisen}
 use Rattle.sdc_base.specs.WhereTold.{WhereTold}
@@ -67,6 +68,18 @@ abbrev pub IsReadFrom : {X Y : Type 0} → (X → Y) → (Files → Result Y Fau
     → (X → Type 0) → ℕ → Result X InputStop → ShelfState → ShelfState → Type 0
 IsReadFrom view meant comes is_sound most result old new =
     HasLookedAt (λ fs answer. Gives stopped_for view answer (meant fs)) comes is_sound most result old new
+
+-- the same of a value that is what the files mean
+abbrev pub IsValueReadFrom : {X : Type 0} → (Files → Result X Fault) → (Files → FileRef → List ℕ → Type 0)
+    → (X → Type 0) → ℕ → Result X InputStop → ShelfState → ShelfState → Type 0
+IsValueReadFrom meant comes is_sound most result old new =
+    IsReadFrom (λ value. value) meant comes is_sound most result old new
+
+-- and of a vector, whose items are what they mean
+abbrev pub AreItemsReadFrom : {X : Type 0} → (Files → Result (List X) Fault) → (Files → FileRef → List ℕ → Type 0)
+    → (List X → Type 0) → ℕ → Result (Vec X Global) InputStop → ShelfState → ShelfState → Type 0
+AreItemsReadFrom meant comes are_sound most result old new =
+    IsReadFrom (λ vector. vector.items) meant comes (λ vector. are_sound vector.items) most result old new
 
 -- a value is sound by what its type says of every value, and nothing more is wanted of it
 abbrev pub IsSoundByItsType : {X : Type 0} → X → Type 0

@@ -6,7 +6,7 @@ ghost use Rattle.job_inputs.specs.CodeSources.{codes_in, listed_tree, tree_in, l
 ghost use Rattle.job_inputs.specs.ListedCodes.{AreListed};
 ghost use Rattle.job_inputs.specs.Looks.{IsCodeListOf, IsFile};
 ghost use Rattle.job_inputs.specs.ReadFiles.{limit};
-ghost use Rattle.job_inputs.specs.Reading.{IsReadFrom, IsSoundByItsType};
+ghost use Rattle.job_inputs.specs.Reading.{AreItemsReadFrom, IsSoundByItsType, IsValueReadFrom};
 ghost use Rattle.job_inputs.specs.Refusals as spec;
 ghost use Rattle.job_inputs.specs.Refusals.{IsReadAs};
 
@@ -29,9 +29,8 @@ pub(crate) fn read_list<S: Shelf>(
     place: u32,
     variable: &Variable,
 ) -> Result<Vec<Text>, InputStop>
-    ensures { IsReadFrom (λ codes. codes.items) (λ fs. listed_codes fs place variable.now)
-        (λ fs. IsCodeListOf place variable.now) (λ codes. AreListed variable.now.total codes.items) limit result
-        (S.state shelf.old) (S.state shelf.new) }
+    ensures { AreItemsReadFrom (λ fs. listed_codes fs place variable.now) (λ fs. IsCodeListOf place variable.now)
+        (AreListed variable.now.total) limit result (S.state shelf.old) (S.state shelf.new) }
 {
     match &variable.codes {
         None => Ok(Vec::new(alloc)),
@@ -48,8 +47,8 @@ fn load_list<S: Shelf>(
     total: &Text,
     name: &Text,
 ) -> Result<Vec<Text>, InputStop>
-    ensures { IsReadFrom (λ codes. codes.items) (λ fs. codes_in fs place total.now (Some name.now))
-        (λ fs. IsFile (FileRef.CodeList place) name.now) (λ codes. AreListed total.now codes.items) limit result
+    ensures { AreItemsReadFrom (λ fs. codes_in fs place total.now (Some name.now))
+        (λ fs. IsFile (FileRef.CodeList place) name.now) (AreListed total.now) limit result
         (S.state shelf.old) (S.state shelf.new) }
 {
     let file = FileRef::CodeList(place);
@@ -90,7 +89,7 @@ pub(crate) fn read_tree<S: Shelf>(
 ) -> Result<CodeTree, InputStop>
     requires lead { 0 < length lead.now }
     requires missing { length variable.now.missing ≤ 2 }
-    ensures { IsReadFrom (λ tree. tree) (λ fs. listed_tree fs place variable.now name.now lead.now)
+    ensures { IsValueReadFrom (λ fs. listed_tree fs place variable.now name.now lead.now)
         (λ fs. IsFile (FileRef.Hierarchy place) name.now) IsSoundByItsType limit result (S.state shelf.old)
         (S.state shelf.new) }
 {

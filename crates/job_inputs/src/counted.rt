@@ -1,6 +1,6 @@
 ghost use Rattle.sdc_base.specs.Steps.{map_fault};
 ghost use Rattle.linked_tables.specs.Tables.{book_of};
-ghost use Rattle.job_inputs.specs.CountedRecords.{IsCountedOf, IsReadyCount};
+ghost use Rattle.job_inputs.specs.CountedRecords.{IsReadyCountOf};
 ghost use Rattle.job_inputs.specs.Cells.{cells_fault};
 ghost use Rattle.job_inputs.specs.SoundJobs.{AreSound};
 ghost use Rattle.job_inputs.specs.Refusals.{IsReadAs};
@@ -31,7 +31,7 @@ pub(crate) fn count_records(alloc: Global, inputs: Inputs) -> Result<CountedJob,
     requires { AreSound inputs }
     ensures { IsReadAs (λ counted. (counted.book.trees, counted.book.tables))
         (map_fault cells_fault (book_of inputs.records.trees inputs.described.bound.tables))
-        (λ counted. IsCountedOf inputs counted × IsReadyCount counted) result }
+        (IsReadyCountOf inputs) result }
 {
     let Inputs { described, records } = inputs;
     let Records {

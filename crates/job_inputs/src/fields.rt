@@ -6,7 +6,7 @@ ghost use Rattle.job_inputs.specs.ListedCodes.{AreListed};
 ghost use Rattle.job_inputs.specs.Looks.{IsHierarchyOf, FieldComesTo, FieldsComeTo};
 ghost use Rattle.job_inputs.specs.PlacedFields.{IsPlacedField, AreFieldsOf};
 ghost use Rattle.job_inputs.specs.ReadFiles.{limit};
-ghost use Rattle.job_inputs.specs.Reading.{IsReadFrom};
+ghost use Rattle.job_inputs.specs.Reading.{IsReadFrom, IsValueReadFrom};
 ghost use Rattle.job_inputs.specs.SoundJobs.{IsSoundJob};
 
 use crate::codes::{read_list, read_tree};
@@ -28,7 +28,7 @@ pub(crate) fn read_fields<S: Shelf>(
     described: &DescribedJob,
 ) -> Result<Items<Field>, InputStop>
     requires { IsSoundJob described.now }
-    ensures { IsReadFrom (λ fields. fields) (λ fs. spanning_fields fs described.now)
+    ensures { IsValueReadFrom (λ fs. spanning_fields fs described.now)
         (λ fs. FieldsComeTo fs (spanning_variables described.now)) (AreFieldsOf described.now) limit result
         (S.state shelf.old) (S.state shelf.new) }
 {

@@ -1,7 +1,7 @@
 ghost use Rattle.std.specs.Prelude.{◌≡◌, ◌≤◌, length};
 ghost use Rattle.job_inputs.specs.ReadFiles.{limit_of, bytes_of_file};
 ghost use Rattle.job_inputs.specs.Looks.{IsFile};
-ghost use Rattle.job_inputs.specs.Reading.{IsReadFrom};
+ghost use Rattle.job_inputs.specs.Reading.{AreItemsReadFrom};
 
 use crate::faults::Fault;
 use crate::file_ref::FileRef;
@@ -35,9 +35,8 @@ pub(crate) fn load<S: Shelf>(
     name: &Text,
     file: FileRef,
 ) -> Result<Vec<u8>, InputStop>
-    ensures { IsReadFrom (λ bytes. bytes.items) (λ fs. bytes_of_file fs name.now file)
-        (λ fs. IsFile file name.now) (λ bytes. length bytes.items ≤ limit_of file) (limit_of file) result (S.state shelf.old)
-        (S.state shelf.new) }
+    ensures { AreItemsReadFrom (λ fs. bytes_of_file fs name.now file) (λ fs. IsFile file name.now)
+        (λ bytes. length bytes ≤ limit_of file) (limit_of file) result (S.state shelf.old) (S.state shelf.new) }
 {
     match read_all(alloc, shelf, name, limit_for(file)) {
         Ok(bytes) => Ok(bytes),

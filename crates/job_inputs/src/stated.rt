@@ -1,9 +1,8 @@
 ghost use Rattle.std.specs.Prelude.{◌≡◌, ◌<◌, ◌≤◌, IfErr, OnOk, length, option_map};
 ghost use Rattle.sdc_base.specs.Answers.{Gives};
 ghost use Rattle.apriori.specs.Priors.{ArePriors};
-ghost use Rattle.job_inputs.specs.CountedRecords.{IsCountedOf, IsReadyCount, StatesFile, StatesFiles, CanState, PriorsComeTo};
+ghost use Rattle.job_inputs.specs.CountedRecords.{HasStatedFile, IsCountedOf, IsReadyCount, StatesFiles, CanState, PriorsComeTo};
 ghost use Rattle.job_inputs.specs.ReadFiles.{limit};
-ghost use Rattle.job_inputs.specs.Looks.{IsPriorFileOf};
 ghost use Rattle.job_inputs.specs.Reading.{HasLookedAt};
 ghost use Rattle.plain_text.specs.Stops.{why_of};
 ghost use Rattle.job_inputs.specs.Refusals.{IsForContents};
@@ -54,9 +53,8 @@ fn add_file<S: Shelf>(
     priors: &mut Vec<Prior>,
 ) -> Result<(), InputStop>
     requires { CanState counted.now t priors.old.items }
-    ensures { HasLookedAt (StatesFile counted.now t priors.old.items priors.new.items)
-        (λ fs. IsPriorFileOf t counted.now.described.job.priors)
-        (λ fine. ArePriors counted.now.book.marks priors.new.items) limit result (S.state shelf.old) (S.state shelf.new) }
+    ensures { HasStatedFile counted.now t priors.old.items priors.new.items result (S.state shelf.old)
+        (S.state shelf.new) }
 {
     let Some(line) = prior_line(counted.described.job.priors.as_slice(), t) else {
         return Ok(());

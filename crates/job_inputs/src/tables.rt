@@ -1,7 +1,7 @@
 ghost use Rattle.std.specs.Prelude.{◌≡◌, IfOk, length, map};
 ghost use Rattle.job_lang.specs.JobLimits.{IsJob};
 ghost use Rattle.job_inputs.specs.ReadFiles.{output_limit};
-ghost use Rattle.job_inputs.specs.Reading.{IsReadFrom};
+ghost use Rattle.job_inputs.specs.Reading.{IsValueReadFrom};
 ghost use Rattle.job_inputs.specs.Tables.{names_of, tables_of, ComesToTables};
 
 use crate::file_ref::FileRef;
@@ -51,7 +51,7 @@ pub fn read_tables<S: Shelf>(
     job: &Job,
 ) -> Result<Items<Text>, InputStop>
     requires { IsJob job.now }
-    ensures { IsReadFrom (λ tables. tables) (λ fs. tables_of fs job.now) (λ fs. ComesToTables fs job.now)
+    ensures { IsValueReadFrom (λ fs. tables_of fs job.now) (λ fs. ComesToTables fs job.now)
         (λ tables. length tables ≡ length job.now.outputs) output_limit result
         (S.state shelf.old) (S.state shelf.new) }
 {

@@ -73,6 +73,11 @@ guarded_puts inputs name shown certificate extra =
     ∷ record { file = file.Contributors; name = name; bytes = extra_text extra }
     ∷ tables_from inputs shown 0 inputs.described.job.tables inputs.described.job.outputs
 
+-- the same, where the tables hide the cells of a guarded set
+abbrev pub puts_of_guarded : Inputs → List ℕ → GuardedCells → List FilePut
+puts_of_guarded inputs name guarded =
+    guarded_puts inputs name (shown_in inputs guarded.hidden.flags) guarded.certificate guarded.extra
+
 -- A suppressed release of settled inputs that is guarded against contributors: a hidden set protects their primary cells,
 -- and with extra cells it guards them against each contributor that alone makes up a cell. Its certificate, the extra
 -- cells, the tables that hide both, and their numbers are what the release puts and says. The texts of both are read as

@@ -5,12 +5,14 @@ use Rattle.cell_protection.specs.declared.protection.Protection.TheVariants as p
 use Rattle.office_io.specs.Shelves.{ShelfState}
 use Rattle.office_io.specs.Trays.{TrayState}
 use Rattle.job_inputs.specs.Reading.{HasCause}
-use Rattle.job_inputs.specs.SettledJobs.{SettledInputs}
+use Rattle.job_inputs.specs.SettledJobs.{SettledInputs, IsSettledOf}
 use Rattle.job_inputs.specs.declared.file_ref.FileRef.{FileRef}
+use Rattle.job_inputs.specs.declared.settled.SettledJob.{SettledJob}
 use Rattle.job_run.specs.Endings.{IsReleaseOf, IsUndecided}
 use Rattle.job_run.specs.GuardedReleases.{HasNoGuard}
 use Rattle.job_run.specs.Protections.{IsProtectionFor}
 use Rattle.job_run.specs.Puts.{SomeWhole, OneInPart}
+use Rattle.job_run.specs.Releases.{summary_of}
 use Rattle.job_run.specs.Roundings.{HasNoRounding}
 use Rattle.job_run.specs.declared.put.Release.{Release}
 use Rattle.job_inputs.specs.declared.faults.Fault.{Fault}
@@ -18,6 +20,7 @@ use Rattle.job_inputs.specs.declared.stop.InputStop.{InputStop}
 use Rattle.job_inputs.specs.declared.stop.InputStop.TheVariants as input
 use Rattle.job_run.specs.declared.report.Report.{Report}
 use Rattle.job_run.specs.declared.report.Report.TheVariants as report
+use Rattle.job_run.specs.declared.report.Summary.{Summary}
 
 -- ---- a run for a release
 
@@ -60,6 +63,12 @@ IsEndWithoutRelease other = ⊥
 abbrev pub ComesToRelease : SettledInputs → Result Release Report → Type 0
 ComesToRelease settled (Ok release) = IsReleaseOf settled release
 ComesToRelease settled (Err end) = IsEndWithoutRelease end × AgreesWith end (Ok settled)
+
+-- settled inputs of this job, whose numbers are these while no cell is hidden, come to this
+abbrev pub JobComesToRelease : SettledJob → Summary → Result Release Report → Type 0
+JobComesToRelease job unhidden result =
+    (settled : SettledInputs) → IsSettledOf settled job → unhidden ≡ summary_of settled 0
+    → ComesToRelease settled result
 
 -- what a run that isn't refused ends with: a release, or why there is none
 abbrev pub IsEnd : Report → Type 0

@@ -7,7 +7,7 @@ ghost use Rattle.job_run.specs.FileCounts.{file_count};
 ghost use Rattle.job_run.specs.GuardedReleases as releases;
 ghost use Rattle.job_run.specs.Protections.{IsProtectedJob};
 ghost use Rattle.job_run.specs.Releases.{summary_of};
-ghost use Rattle.job_run.specs.Reports.{ComesToRelease};
+ghost use Rattle.job_run.specs.Reports.{ComesToRelease, JobComesToRelease};
 ghost use Rattle.job_run.specs.Roundings as roundings;
 
 use crate::guarded_texts::guarded_puts;
@@ -63,9 +63,8 @@ fn guard_parts(
     requires ready { IsReadyJob (job_of described.now book.old cells.now rows.now 0 0) }
     requires hides { roundings.job_base described.now ≡ None }
     requires named { option_map (λ line. line.file) described.now.job.contributors ≡ Some name }
-    ensures comes { (records skipped : ℕ) → (settled : SettledInputs)
-        → IsSettledOf settled (job_of described.now book.old cells.now rows.now records skipped)
-        → summary ≡ summary_of settled 0 → ComesToRelease settled result }
+    ensures comes { (records skipped : ℕ)
+        → JobComesToRelease (job_of described.now book.old cells.now rows.now records skipped) summary result }
     ensures each_file { IfOk result (λ release. length release.puts ≡ file_count described.now.job) }
 {
     // for the proof: what holds of every book

@@ -9,7 +9,6 @@ ghost use Rattle.job_inputs.specs.declared.inputs.Inputs.{Inputs as AnyInputs};
 ghost use Rattle.job_inputs.specs.declared.file_ref.FileRef.TheVariants as AnyFile;
 ghost use Rattle.job_run.specs.Books.{IsHidingBook};
 ghost use Rattle.job_run.specs.GuardedReleases as releases;
-ghost use Rattle.job_run.specs.Releases.{shown_in};
 
 use crate::put::FilePut;
 use crate::release_texts::{add_tables, certificate_put};
@@ -35,8 +34,7 @@ pub(crate) fn guarded_puts(
     requires extra_text { IsExtraSpellable guarded.now.extra }
     ensures puts { IfOk result (λ puts. (inputs : AnyInputs) → inputs.described ≡ described.now
         → IsBookOf inputs book.now
-        → puts ≡ releases.guarded_puts inputs name (shown_in inputs guarded.now.hidden.flags)
-        guarded.now.certificate guarded.now.extra) }
+        → puts ≡ releases.puts_of_guarded inputs name guarded.now) }
     ensures each { IfOk result (λ puts. length puts ≡ 2 + length described.now.job.tables) }
     ensures read_back { IfOk result (λ puts. certificate_of (text_of guarded.now.certificate)
         ≡ Ok guarded.now.certificate) }

@@ -12,8 +12,8 @@ ghost use Rattle.job_inputs.specs.TabulatedBooks.{IsBookOf, IsReadyFor};
 ghost use Rattle.job_inputs.specs.declared.inputs.Inputs.{Inputs as AnyInputs};
 ghost use Rattle.job_run.specs.Books.{CanBeReleased, IsHidingBook, job_of};
 ghost use Rattle.job_run.specs.FileCounts.{file_count};
-ghost use Rattle.job_run.specs.Releases.{puts_of, shown_in, summary_of};
-ghost use Rattle.job_run.specs.Reports.{ComesToRelease};
+ghost use Rattle.job_run.specs.Releases.{puts_of, shown_in};
+ghost use Rattle.job_run.specs.Reports.{ComesToRelease, JobComesToRelease};
 ghost use Rattle.job_run.specs.Roundings as roundings;
 
 use crate::guarded::guarded_release;
@@ -110,9 +110,8 @@ fn suppress_parts(
     requires fewer_than_2_32 { length cells.now < 2 ^ 32 }
     requires hides { roundings.job_base described.now ≡ None }
     requires unnamed { described.now.job.contributors ≡ None }
-    ensures comes { (rows : List AnyRow) → (records skipped : ℕ) → (settled : SettledInputs)
-        → IsSettledOf settled (job_of described.now book.old cells.now rows records skipped)
-        → summary ≡ summary_of settled 0 → ComesToRelease settled result }
+    ensures comes { (rows : List AnyRow) → (records skipped : ℕ)
+        → JobComesToRelease (job_of described.now book.old cells.now rows records skipped) summary result }
     ensures one_more_than_tables { IfOk result
         (λ release. length release.puts ≡ 1 + length described.now.job.tables) }
 {

@@ -83,6 +83,11 @@ abbrev pub crossed_at : ℤ → ℤ → ℤ → ℕ → List Term → List Term 
 crossed_at den p f column pivot own place =
     crossed_value den p f column place (coefficient own place) (coefficient pivot place)
 
+-- and the products for these
+abbrev pub crossed_products_at : ℤ → ℤ → ℤ → ℕ → List Term → List Term → ℕ → List ℤ
+crossed_products_at den p f column pivot own place =
+    crossed_products den p f column place (coefficient own place) (coefficient pivot place)
+
 -- an entry taken so many times
 abbrev pub times_entry : ℤ → Term → Term
 times_entry d entry = (entry.0, entry.1 *ℤ d)

@@ -2,7 +2,7 @@ ghost use Rattle.std.specs.Prelude.{◌≡◌, ◌≢◌, ℕ, ℤ, ◌+◌, ◌
 ghost use Rattle.std.specs.List.{list_any};
 ghost use Rattle.sdc_base.specs.Forms.{coefficient};
 ghost use Rattle.tableau.specs.ProblemForm.{AscendFrom};
-ghost use Rattle.tableau.specs.Entries.{IsSparse, AreEntriesFrom, AreEntriesBelow, crossed_value, crossed_products, crossed_at};
+ghost use Rattle.tableau.specs.Entries.{IsSparse, AreEntriesFrom, AreEntriesBelow, crossed_value, crossed_products, crossed_at, crossed_products_at};
 ghost use Rattle.tableau.specs.OwnRows.{own_den};
 ghost use Rattle.tableau.specs.Widths.{is_wide, IsWidePlace};
 ghost use Rattle.tableau.specs.SparseTables.{table_of, column_of, IsSoundTable};
@@ -136,8 +136,8 @@ fn crossed_row(
     ensures ok { IfOk result (λ made. AreEntriesBelow width
         (crossed_at pivot.now.den times less pivot.now.column pivot.now.bare.now own.now) made) }
     ensures wide { (j : ℕ) → result ≡ Err (RowFault.Wide j)
-        → (j < width) × (list_any is_wide (crossed_products pivot.now.den times less pivot.now.column j
-        (coefficient own.now j) (coefficient pivot.now.bare.now j)) ≡ true) }
+        → (j < width) × (list_any is_wide (crossed_products_at pivot.now.den times less pivot.now.column
+        pivot.now.bare.now own.now j) ≡ true) }
 {
     let bare = pivot.bare;
     let column = pivot.column as u32;

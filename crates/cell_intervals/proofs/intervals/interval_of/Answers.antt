@@ -1,8 +1,8 @@
 use Rattle.std.proofs.Common.{subst, sym}
 use Rattle.sdc_base.specs.declared.side.Side.TheVariants.{Above, Below}
 use Rattle.sdc_base.specs.declared.system.System.{System}
-use Rattle.interval_audit.specs.Ends.{IsTrueEnd, IsWholeEnd}
-use Rattle.cell_intervals.specs.Intervals.{HasWholeEnds, IsIntervalOf}
+use Rattle.interval_audit.specs.Ends.{IsTrueEnd}
+use Rattle.cell_intervals.specs.Intervals.{IsIntervalOf, KeepsWholeEnds}
 use Rattle.cell_intervals.proofs.intervals.interval_of.Goals as goal
 
 pub interval_from-requires-clause-below : goal.interval_from-requires-clause-below
@@ -19,5 +19,5 @@ returns-clause-right c =
 
 pub returns-clause-whole : goal.returns-clause-whole
 returns-clause-whole c = λ signs are.
-    subst (λ (own : System). IsWholeEnd own c.args.cells.now c.args.hidden.now.flags c.args.cell Below c.in_ok-ends.ends.below → IsWholeEnd own c.args.cells.now c.args.hidden.now.flags c.args.cell Above c.in_ok-ends.ends.above → HasWholeEnds own c.args.cells.now c.args.hidden.now.flags c.interval_from.result) c.system.ensures c.interval_from.ensures.whole
+    subst (λ (own : System). KeepsWholeEnds own c.args.cells.now c.args.hidden.now.flags c.args.cell c.in_ok-ends.ends c.interval_from.result) c.system.ensures c.interval_from.ensures.whole
     (c.in_ok-ends.ensures.below_whole signs are) (c.in_ok-ends.ensures.above_whole signs are)
