@@ -15,8 +15,8 @@ use Rattle.repair.proofs.Wholeness.{stops_whole, verdict_whole}
 use Rattle.cell_protection.specs.Certifying.{world_line, world_lines}
 use Rattle.cell_protection.specs.Protections.{IsProtectionOf, planned_from}
 use Rattle.cell_protection.specs.WholeProtections.{IsWholeLine, IsWholeProtection}
-use Rattle.cell_protection.specs.declared.protection.Protection.{Protection}
-use Rattle.cell_protection.specs.declared.protection.Protection.TheVariants as protection
+use Rattle.cell_protection.specs.declared.protection.ProtectionOutcome.{ProtectionOutcome}
+use Rattle.cell_protection.specs.declared.protection.ProtectionOutcome.TheVariants as protection
 
 lines-whole : (asked : List (ℕ × Side)) (worlds : List World) → All IsWholeWorld worlds → All IsWholeLine (world_lines asked worlds)
 lines-whole [] worlds all = All-nil IsWholeLine
@@ -26,7 +26,7 @@ lines-whole (q ∷ more) (world ∷ worlds) all =
     (lines-whole more worlds (All-tail IsWholeWorld world worlds all))
 
 -- where the relations have signs a protection is in whole units
-pub protection-whole : (c : Case) (prices : List ℕ) (method : Method) (steps : List PlanStep) (limit : ℕ) (one : Protection) (signs : List Bool) → AreSigns c.system.relations signs → IsProtectionOf c prices method steps limit one → IsWholeProtection one
+pub protection-whole : (c : Case) (prices : List ℕ) (method : Method) (steps : List PlanStep) (limit : ℕ) (one : ProtectionOutcome) (signs : List Bool) → AreSigns c.system.relations signs → IsProtectionOf c prices method steps limit one → IsWholeProtection one
 protection-whole c prices method steps limit (protection.Protected protected certificate) signs are is =
     let whole : IsWholeVerdict (verdict.Protected protected certificate.repairs certificate.needs) = verdict_whole c prices (planned_from c steps) signs (verdict.Protected protected certificate.repairs certificate.needs) are is.verdict in
     (whole.1, whole.2, subst (λ (one : Certificate). All IsWholeLine one.worlds) (sym is.certificate_is) (lines-whole (asked_of 0 c.cells) protected.worlds whole.0))

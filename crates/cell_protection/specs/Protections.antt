@@ -13,8 +13,8 @@ use Rattle.repair.specs.declared.verdict.Verdict.{Verdict}
 use Rattle.repair.specs.declared.verdict.Verdict.TheVariants as verdict
 use Rattle.cell_protection.specs.Certifying.{certificate_made}
 use Rattle.cell_protection.specs.declared.protection.CostedCells.{CostedCells}
-use Rattle.cell_protection.specs.declared.protection.Protection.{Protection}
-use Rattle.cell_protection.specs.declared.protection.Protection.TheVariants as protection
+use Rattle.cell_protection.specs.declared.protection.ProtectionOutcome.{ProtectionOutcome}
+use Rattle.cell_protection.specs.declared.protection.ProtectionOutcome.TheVariants as protection
 
 -- at most eight tables, each of one to eight variables
 pub record AreNarrow (tables : List (List ℕ)) : Type 0 where
@@ -45,7 +45,7 @@ pub record IsProtectedWith (c : Case) (prices : List ℕ) (method : Method) (ste
 
 -- What becomes of a case whose trail has these steps: a hidden set that protects, a cell that can't be protected, with
 -- the multipliers that stopped its question after repairs from there on, or a question that stopped short.
-abbrev pub IsProtectionOf : Case → List ℕ → Method → List PlanStep → ℕ → Protection → Type 0
+abbrev pub IsProtectionOf : Case → List ℕ → Method → List PlanStep → ℕ → ProtectionOutcome → Type 0
 IsProtectionOf c prices method steps limit (protection.Protected protected certificate) = IsProtectedWith c prices
     method steps protected certificate
 IsProtectionOf c prices method steps limit (protection.Cannot found) = IsCannot c prices (planned_from c steps)
@@ -54,12 +54,12 @@ IsProtectionOf c prices method steps limit (protection.Undecided stopped) = Stop
     limit stopped.fault stopped.repairs stopped.shown
 
 -- the certificate of a set that protects has a text
-abbrev pub HasText : Protection → Type 0
+abbrev pub HasText : ProtectionOutcome → Type 0
 HasText (protection.Protected protected certificate) = IsSpellable certificate
 HasText other = Unit {0}
 
 -- the protection that a verdict speaks of, with the certificate of a set that protects
-abbrev pub protection_by : Method → Case → List PlanStep → Verdict → Protection
+abbrev pub protection_by : Method → Case → List PlanStep → Verdict → ProtectionOutcome
 protection_by method c steps (verdict.Protected protected repairs needs) = protection.Protected protected
     (certificate_made method c.system c.cells protected steps repairs needs)
 protection_by method c steps (verdict.Cannot cell side multipliers) =

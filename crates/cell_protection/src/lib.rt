@@ -5,4 +5,4 @@
 mod certifying;
 mod protection;
 
-pub use protection::{Protection, protect_cells};
+pub use protection::{ProtectionOutcome, protect_cells};

@@ -22,7 +22,7 @@ use worlds::Protected;
 
 /// What becomes of cells that are to be protected.
 #[derive(Drop)]
-pub enum Protection<'a> {
+pub enum ProtectionOutcome<'a> {
     /// A hidden set protects every primary cell; this is its certificate.
     Protected {
         protected: Protected<'a>,
@@ -52,7 +52,7 @@ pub fn protect_cells<'a>(
     method: Method,
     cost: CostKind,
     limit: u64,
-) -> Result<Protection<'a>, Memory>
+) -> Result<ProtectionOutcome<'a>, Memory>
     requires one_each { length cells.now ≡ system.now.cells }
     requires marks { length cells.now ≡ length book.old.marks }
     requires narrow { AreNarrow book.old.tables }
@@ -77,7 +77,7 @@ pub fn protect_cells<'a>(
     let outcome = verdict_by(alloc, &costed, &trail, f, limit);
     match outcome {
         Ok(verdict) => certificate_of(alloc, method, system, cells, trail, verdict),
-        Err(stopped) => Ok(Protection::Undecided(stopped)),
+        Err(stopped) => Ok(ProtectionOutcome::Undecided(stopped)),
     }
 }
 
@@ -130,7 +130,7 @@ fn certificate_of<'a>(
     cells: &'a [Cell],
     trail: Trail,
     verdict: Verdict<'a>,
-) -> Result<Protection<'a>, Memory>
+) -> Result<ProtectionOutcome<'a>, Memory>
     requires { length cells.now ≡ system.now.cells }
     ensures { IfOk result (λ made. made
         ≡ protection_by method (protected_case system.now cells.now) trail.steps verdict.entry) }
@@ -153,7 +153,7 @@ fn certificate_of<'a>(
                 needs,
                 worlds,
             };
-            Ok(Protection::Protected {
+            Ok(ProtectionOutcome::Protected {
                 protected,
                 certificate,
             })
@@ -162,7 +162,7 @@ fn certificate_of<'a>(
             cell,
             side,
             multipliers,
-        } => Ok(Protection::Cannot(UnprotectedCell {
+        } => Ok(ProtectionOutcome::Cannot(UnprotectedCell {
             cell,
             side,
             multipliers,

@@ -25,8 +25,8 @@ use Rattle.cell_guards.specs.declared.guarding.GuardedCells.{GuardedCells}
 use Rattle.cell_guards.specs.declared.guarding.Unguarded.{Unguarded}
 use Rattle.cell_guards.specs.declared.guarding.Unguarded.TheVariants as unguarded
 use Rattle.cell_protection.specs.Protections.{IsProtectionOf, HasText}
-use Rattle.cell_protection.specs.declared.protection.Protection.{Protection}
-use Rattle.cell_protection.specs.declared.protection.Protection.TheVariants as protection
+use Rattle.cell_protection.specs.declared.protection.ProtectionOutcome.{ProtectionOutcome}
+use Rattle.cell_protection.specs.declared.protection.ProtectionOutcome.TheVariants as protection
 use Rattle.cell_protection.proofs.Protecting.{same-prices}
 use Rattle.linked_tables.specs.BookCells.{cells as cells_in, IsBook}
 use Rattle.linked_tables.specs.BookViews.{BookView}
@@ -125,7 +125,7 @@ parts-settled settled job cells rows same same_rows is =
 -- ---- what a job comes to
 
 -- what guarding a protected job comes to, it comes to for its settled inputs
-pub guard-for : (settled : SettledInputs) (job : SettledJob) (system : System) (new : BookView) (cells : List Cell) (rows : List Row) (name : List ℕ) (one : Protection) (hidden_set : HiddenSet) (certificate : Certificate) (outcome : Result GuardedCells Unguarded)
+pub guard-for : (settled : SettledInputs) (job : SettledJob) (system : System) (new : BookView) (cells : List Cell) (rows : List Row) (name : List ℕ) (one : ProtectionOutcome) (hidden_set : HiddenSet) (certificate : Certificate) (outcome : Result GuardedCells Unguarded)
     → job_base job.described ≡ None → option_map (λ (line : OutputLine). line.file) job.described.job.contributors ≡ Some name → IsSettledOf settled job → IsBook job.book → IsSystemOf job.book system → cells ≡ job.cells → rows ≡ job.rows → one ≡ protection.Protected hidden_set certificate
     → IsSameButHidden job.book new
     → IsProtectionOf (protected_case system cells) (prices_of job.described.job.cost cells job.book.marks) job.described.job.method (trail_of job.book cells job.described.job.cost (passes_of job.described.job.method)) job.described.job.steps one
@@ -137,7 +137,7 @@ guard-for settled job system new cells rows name one hidden_set certificate outc
     let line = line-of job.described.job.contributors name named in
     let cost = job.described.job.cost in
     let own : IsProtectionOf (protected_case system job.cells) (prices_of cost job.cells job.book.marks) job.described.job.method (trail_of job.book job.cells cost (passes_of job.described.job.method)) job.described.job.steps (protection.Protected hidden_set certificate) =
-    subst (λ (p : Protection). IsProtectionOf (protected_case system job.cells) (prices_of cost job.cells job.book.marks) job.described.job.method (trail_of job.book job.cells cost (passes_of job.described.job.method)) job.described.job.steps p) is_one
+    subst (λ (p : ProtectionOutcome). IsProtectionOf (protected_case system job.cells) (prices_of cost job.cells job.book.marks) job.described.job.method (trail_of job.book job.cells cost (passes_of job.described.job.method)) job.described.job.steps p) is_one
     (subst (λ (all : List Cell). IsProtectionOf (protected_case system all) (prices_of cost all job.book.marks) job.described.job.method (trail_of job.book all cost (passes_of job.described.job.method)) job.described.job.steps one) same is) in
     let by_cells : IsGuardOf new rows (protected_case system job.cells) (prices_of cost job.cells new.marks) job.described.job.steps hidden_set certificate outcome =
     subst (λ (all : List Cell). IsGuardOf new rows (protected_case system all) (prices_of cost all new.marks) job.described.job.steps hidden_set certificate outcome) same guards in
@@ -220,13 +220,13 @@ rounds-unnamed methods.Modular decimals base named is can = absurd cc
 -- ---- what the calls want
 
 -- a hidden set that protects has this certificate
-pub certified : (c : Case) (prices : List ℕ) (method : Method) (steps : List PlanStep) (limit : ℕ) (one : Protection) (hidden_set : HiddenSet) (certificate : Certificate) → one ≡ protection.Protected hidden_set certificate → IsProtectionOf c prices method steps limit one
+pub certified : (c : Case) (prices : List ℕ) (method : Method) (steps : List PlanStep) (limit : ℕ) (one : ProtectionOutcome) (hidden_set : HiddenSet) (certificate : Certificate) → one ≡ protection.Protected hidden_set certificate → IsProtectionOf c prices method steps limit one
     → IsCertified c hidden_set certificate
 certified c prices method steps limit one hidden_set certificate is_one is = record {
   prices = prices;
   method = method;
   steps = steps;
-  protects = subst (λ (p : Protection). IsProtectionOf c prices method steps limit p) is_one is;
+  protects = subst (λ (p : ProtectionOutcome). IsProtectionOf c prices method steps limit p) is_one is;
 }
 
 -- the larger set has as many flags

@@ -19,8 +19,8 @@ use Rattle.cell_protection.specs.Certifying.{hidden_numbers}
 use Rattle.cell_protection.specs.Protections.{IsProtectedWith, IsProtectionOf}
 use Rattle.cell_protection.proofs.Wholeness.{protection-whole}
 use Rattle.modular_plan.specs.Methods.{passes_of}
-use Rattle.cell_protection.specs.declared.protection.Protection.{Protection}
-use Rattle.cell_protection.specs.declared.protection.Protection.TheVariants as protection
+use Rattle.cell_protection.specs.declared.protection.ProtectionOutcome.{ProtectionOutcome}
+use Rattle.cell_protection.specs.declared.protection.ProtectionOutcome.TheVariants as protection
 use Rattle.interval_audit.specs.declared.answer.AskFault.{AskFault}
 use Rattle.interval_audit.specs.declared.answer.AskFault.TheVariants as ask
 use Rattle.linked_tables.specs.BookViews.{BookView}
@@ -63,7 +63,7 @@ signs-for settled job system shape is_job is_book is_system =
     (subst (λ (tables : List (List ℕ)). IsOneOrTwoWay settled.inputs.records.trees tables) (sym is_job.book.tables) shape)) is_book is_system
 
 -- what protecting the cells of a job comes to is what its settled inputs come to
-pub protection-for : (settled : SettledInputs) (job : SettledJob) (system : System) (protection : Protection) → job_base job.described ≡ None → IsSettledOf settled job → IsBook job.book → IsSystemOf job.book system
+pub protection-for : (settled : SettledInputs) (job : SettledJob) (system : System) (protection : ProtectionOutcome) → job_base job.described ≡ None → IsSettledOf settled job → IsBook job.book → IsSystemOf job.book system
     → IsProtectionOf (protected_case system job.cells) (prices_of job.described.job.cost job.cells job.book.marks) job.described.job.method (trail_of job.book job.cells job.described.job.cost (passes_of job.described.job.method)) job.described.job.steps protection
     → IsProtectionFor settled protection
 protection-for settled job system protection hides is_job is_book is_system is = record {
@@ -91,12 +91,12 @@ pub stopped-comes : (settled : SettledInputs) (stopped : Stopped) → IsProtecti
 stopped-comes settled stopped is = stuck-comes settled stopped.fault stopped.repairs stopped.shown None is
 
 -- the same, where the cells are read through a slice
-pub outcome-for : (settled : SettledInputs) (job : SettledJob) (system : System) (cells : List Cell) (one other : Protection) → job_base job.described ≡ None → IsSettledOf settled job → IsBook job.book → IsSystemOf job.book system → cells ≡ job.cells → one ≡ other
+pub outcome-for : (settled : SettledInputs) (job : SettledJob) (system : System) (cells : List Cell) (one other : ProtectionOutcome) → job_base job.described ≡ None → IsSettledOf settled job → IsBook job.book → IsSystemOf job.book system → cells ≡ job.cells → one ≡ other
     → IsProtectionOf (protected_case system cells) (prices_of job.described.job.cost cells job.book.marks) job.described.job.method (trail_of job.book cells job.described.job.cost (passes_of job.described.job.method)) job.described.job.steps one
     → IsProtectionFor settled other
 outcome-for settled job system cells one other hides is_job is_book is_system same is_other is =
     protection-for settled job system other hides is_job is_book is_system
-    (subst (λ (protection : Protection). IsProtectionOf (protected_case system job.cells) (prices_of job.described.job.cost job.cells job.book.marks) job.described.job.method (trail_of job.book job.cells job.described.job.cost (passes_of job.described.job.method)) job.described.job.steps protection) is_other
+    (subst (λ (protection : ProtectionOutcome). IsProtectionOf (protected_case system job.cells) (prices_of job.described.job.cost job.cells job.book.marks) job.described.job.method (trail_of job.book job.cells job.described.job.cost (passes_of job.described.job.method)) job.described.job.steps protection) is_other
     (subst (λ (all : List Cell). IsProtectionOf (protected_case system all) (prices_of job.described.job.cost all job.book.marks) job.described.job.method (trail_of job.book all job.described.job.cost (passes_of job.described.job.method)) job.described.job.steps one) same is))
 
 -- ---- the hidden cells
@@ -109,19 +109,19 @@ few-pass test (n ∷ numbers) = elim (test n) as (λ b. length (cond b (n ∷ fi
 ]
 
 -- no more cells are hidden than there are
-pub few-hidden : (c : Case) (prices : List ℕ) (method : Method) (steps : List PlanStep) (limit : ℕ) (one : Protection) (hidden_set : HiddenSet) (certificate : Certificate) → one ≡ protection.Protected hidden_set certificate → IsProtectionOf c prices method steps limit one
+pub few-hidden : (c : Case) (prices : List ℕ) (method : Method) (steps : List PlanStep) (limit : ℕ) (one : ProtectionOutcome) (hidden_set : HiddenSet) (certificate : Certificate) → one ≡ protection.Protected hidden_set certificate → IsProtectionOf c prices method steps limit one
     → length certificate.hidden ≤ c.system.cells
 few-hidden c prices method steps limit one hidden_set certificate is_one is =
-    let protected : IsProtectedWith c prices method steps hidden_set certificate = subst (λ (protection : Protection). IsProtectionOf c prices method steps limit protection) is_one is in
+    let protected : IsProtectedWith c prices method steps hidden_set certificate = subst (λ (protection : ProtectionOutcome). IsProtectionOf c prices method steps limit protection) is_one is in
     let same : length certificate.hidden ≡ length (hidden_numbers c.system.cells hidden_set.hidden.flags) = ap (λ (one : Certificate). length one.hidden) protected.certificate_is in
     let few : length (hidden_numbers c.system.cells hidden_set.hidden.flags) ≤ length (range_with_len 0 c.system.cells) = few-pass (is_hidden hidden_set.hidden.flags) (range_with_len 0 c.system.cells) in
     omega (arith, same, few, length-range_with_len 0 c.system.cells)
 
 -- there is a flag for each cell
-pub each-flag : (c : Case) (prices : List ℕ) (method : Method) (steps : List PlanStep) (limit : ℕ) (one : Protection) (hidden_set : HiddenSet) (certificate : Certificate) → one ≡ protection.Protected hidden_set certificate → IsProtectionOf c prices method steps limit one
+pub each-flag : (c : Case) (prices : List ℕ) (method : Method) (steps : List PlanStep) (limit : ℕ) (one : ProtectionOutcome) (hidden_set : HiddenSet) (certificate : Certificate) → one ≡ protection.Protected hidden_set certificate → IsProtectionOf c prices method steps limit one
     → length hidden_set.hidden.flags ≡ length c.cells
 each-flag c prices method steps limit one hidden_set certificate is_one is =
-    let protected : IsProtectedWith c prices method steps hidden_set certificate = subst (λ (protection : Protection). IsProtectionOf c prices method steps limit protection) is_one is in
+    let protected : IsProtectedWith c prices method steps hidden_set certificate = subst (λ (protection : ProtectionOutcome). IsProtectionOf c prices method steps limit protection) is_one is in
     protected.verdict.0.each_flag
 
 from-zero : (marks : List Mark) → All (λ (mark : Mark). IsTruth mark.facts.truth) marks → All (λ (mark : Mark). pos 0 ≤ℤ mark.facts.truth) marks

@@ -8,7 +8,7 @@ use Rattle.worlds.specs.declared.refuted.Refuted.{Refuted}
 use Rattle.job_inputs.specs.SettledJobs.{SettledInputs}
 use Rattle.job_run.specs.GuardedReleases.{IsGuardedRelease, GuardStopsShort}
 use Rattle.job_run.specs.Protections.{IsSuppressedRelease, ProtectionStopsShort}
-use Rattle.job_run.specs.Roundings.{job_base, IsRoundedRelease, SearchStops}
+use Rattle.job_run.specs.Roundings.{job_base, IsReleaseOfRounding, SearchStops}
 use Rattle.job_run.specs.declared.put.Release.{Release}
 use Rattle.job_run.specs.declared.report.Stuck.{Stuck}
 use Rattle.job_run.specs.declared.report.Stuck.TheVariants as stuck
@@ -21,7 +21,7 @@ IsHidingRelease (Some line) settled release = IsGuardedRelease settled release
 -- a release of settled inputs where cells are hidden, or where they are rounded to a base
 abbrev pub IsReleaseBy : Option ℤ → SettledInputs → Release → Type 0
 IsReleaseBy None settled release = IsHidingRelease settled.inputs.described.job.contributors settled release
-IsReleaseBy (Some base) settled release = IsRoundedRelease settled base release
+IsReleaseBy (Some base) settled release = IsReleaseOfRounding settled base release
 
 -- a release of settled inputs by the job's method
 abbrev pub IsReleaseOf : SettledInputs → Release → Type 0

@@ -14,7 +14,7 @@ use Rattle.cell_guards.specs.WholeOutcomes.{IsWholeOutcome}
 use Rattle.cell_guards.specs.declared.guarding.GuardedCells.{GuardedCells}
 use Rattle.cell_guards.specs.declared.guarding.Unguarded.{Unguarded}
 use Rattle.cell_guards.specs.declared.guarding.Unguarded.TheVariants as unguarded
-use Rattle.cell_protection.specs.declared.protection.Protection.TheVariants as protection
+use Rattle.cell_protection.specs.declared.protection.ProtectionOutcome.TheVariants as protection
 use Rattle.interval_audit.specs.declared.answer.AskFault.{AskFault}
 use Rattle.relations.specs.TableSigns.{IsOneOrTwoWay}
 use Rattle.repair.specs.HidingOrder.{protected_case, prices_of}

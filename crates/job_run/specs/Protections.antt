@@ -11,8 +11,8 @@ use Rattle.cell_guards.specs.declared.guarding.ProtectedCells.{ProtectedCells}
 use Rattle.cell_protection.specs.Protections.{IsProtectionOf}
 use Rattle.cell_protection.specs.WholeProtections.{IsWholeProtection}
 use Rattle.modular_plan.specs.Methods.{passes_of}
-use Rattle.cell_protection.specs.declared.protection.Protection.{Protection}
-use Rattle.cell_protection.specs.declared.protection.Protection.TheVariants as protection
+use Rattle.cell_protection.specs.declared.protection.ProtectionOutcome.{ProtectionOutcome}
+use Rattle.cell_protection.specs.declared.protection.ProtectionOutcome.TheVariants as protection
 use Rattle.interval_audit.specs.declared.answer.AskFault.{AskFault}
 use Rattle.modular_plan.specs.Plans.{IsSameButHidden, trail_of}
 use Rattle.repair.specs.HidingOrder.{protected_case, prices_of}
@@ -33,7 +33,7 @@ use Rattle.job_run.specs.declared.put.Release.{Release}
 -- The job hides, and the protection of settled inputs comes to this: that of their settled cells, with the system of
 -- the relations between them, planned by the job's method and its costs, each question within the job's steps. It is in
 -- whole units where the job has one table of one variable, or of two flat ones.
-pub record IsProtectionFor (settled : SettledInputs) (protection : Protection) : Type 0 where
+pub record IsProtectionFor (settled : SettledInputs) (protection : ProtectionOutcome) : Type 0 where
   pub hides : job_base settled.inputs.described ≡ None
   pub job : SettledJob
   pub system : System

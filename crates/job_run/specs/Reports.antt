@@ -1,7 +1,7 @@
 -- A report: what it says of told files, what the tray holds afterwards, and the cause of each refusal (own).
 use Rattle.std.specs.Prelude.{◌≡◌, ◌⊎◌, Result, Ok, Err, IsOk, IsOkAnd}
 use Rattle.sdc_base.specs.Counts.{HasRisen}
-use Rattle.cell_protection.specs.declared.protection.Protection.TheVariants as protection
+use Rattle.cell_protection.specs.declared.protection.ProtectionOutcome.TheVariants as protection
 use Rattle.office_io.specs.Shelves.{ShelfState}
 use Rattle.office_io.specs.Trays.{TrayState}
 use Rattle.job_inputs.specs.Reading.{HasCause}

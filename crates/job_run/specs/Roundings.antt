@@ -84,7 +84,7 @@ rounded_certificate inputs =
 
 -- A rounded release of settled inputs: there is a rounding to the base, every table shows its values, the certificate
 -- lists nothing, and no cell counts as hidden. The certificate's text is read as that certificate.
-pub record IsRoundedRelease (settled : SettledInputs) (base : ℤ) (release : Release) : Type 0 where
+pub record IsReleaseOfRounding (settled : SettledInputs) (base : ℤ) (release : Release) : Type 0 where
   pub values : List ℤ
   pub rounding : IsRoundingFor settled.inputs base values
   pub read_back : certificate_of (text_of (rounded_certificate settled.inputs))

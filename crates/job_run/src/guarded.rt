@@ -15,7 +15,7 @@ use crate::numbers::unhidden_summary;
 use crate::put::Release;
 use crate::report::{Report, Summary};
 use cell_guards::{ProtectedCells, guard_cells};
-use cell_protection::{Protection, protect_cells};
+use cell_protection::{ProtectionOutcome, protect_cells};
 use certificate::Certificate;
 use job_inputs::{DescribedJob, SettledJob};
 use linked_tables::Book;
@@ -80,7 +80,7 @@ fn guard_parts(
         described.job.steps,
     )?;
     match protection {
-        Protection::Protected {
+        ProtectionOutcome::Protected {
             protected,
             certificate,
         } => {
@@ -100,12 +100,12 @@ fn guard_parts(
                 summary,
             )
         }
-        Protection::Cannot(unprotected) => Err(Report::Cannot {
+        ProtectionOutcome::Cannot(unprotected) => Err(Report::Cannot {
             cell: unprotected.cell,
             side: unprotected.side,
             multipliers: unprotected.multipliers,
         }),
-        Protection::Undecided(stopped) => Err(Report::from(stopped)),
+        ProtectionOutcome::Undecided(stopped) => Err(Report::from(stopped)),
     }
 }
 

@@ -22,7 +22,7 @@ use crate::put::Release;
 use crate::release_texts::puts_for;
 use crate::report::{Report, Summary};
 use crate::rounded::rounded_release;
-use cell_protection::{Protection, protect_cells};
+use cell_protection::{ProtectionOutcome, protect_cells};
 use certificate::Certificate;
 use job_inputs::{DescribedJob, SettledJob, base_in_units};
 use linked_tables::Book;
@@ -128,19 +128,19 @@ fn suppress_parts(
         described.job.steps,
     )?;
     match protection {
-        Protection::Protected {
+        ProtectionOutcome::Protected {
             protected,
             certificate,
         } => {
             let release = hidden_release(alloc, described, book, &protected, certificate, summary)?;
             Ok(release)
         }
-        Protection::Cannot(unprotected) => Err(Report::Cannot {
+        ProtectionOutcome::Cannot(unprotected) => Err(Report::Cannot {
             cell: unprotected.cell,
             side: unprotected.side,
             multipliers: unprotected.multipliers,
         }),
-        Protection::Undecided(stopped) => Err(Report::from(stopped)),
+        ProtectionOutcome::Undecided(stopped) => Err(Report::from(stopped)),
     }
 }
 

@@ -67,7 +67,7 @@ use Rattle.job_run.specs.GuardedReleases.{IsGuardedRelease, guarded_puts}
 use Rattle.job_run.specs.Protections.{IsSuppressedRelease}
 use Rattle.job_run.specs.Puts.{Put, put_all}
 use Rattle.job_run.specs.Releases.{puts_of, shown_in, table_of, tables_from, value_in}
-use Rattle.job_run.specs.Roundings.{base_in_units, job_base, rounded_certificate, truths_in, IsRoundedRelease}
+use Rattle.job_run.specs.Roundings.{base_in_units, job_base, rounded_certificate, truths_in, IsReleaseOfRounding}
 use Rattle.job_run.specs.PutReleases.{PutRelease}
 use Rattle.job_run.specs.declared.report.Report.{Report}
 use Rattle.job_run.specs.declared.report.Report.TheVariants as report
@@ -295,7 +295,7 @@ guarded-passes guarded settled release is sound = λ case soles is_case fit are.
     is_case fit (subst (λ (m : Method). rounds_cells m ≡ false) (case-method settled case is_case) (hides-so inputs.described.job.method inputs.described.bound.decimals protects.hides)) are
     (subst (λ (set : List Bool). AreTexts case.book.now case.decimals (open_truth case.book.now.marks set) case.book.now.tables case.names.now (table_bytes inputs (shown_in inputs flags))) larger texts)
 
-rounding-passes : WrittenRoundingIsAccepted → (settled : SettledInputs) (base : ℤ) (release : PutRelease) (is : IsRoundedRelease settled base release) → job_base settled.inputs.described ≡ Some base → IsSoundJob settled.inputs.described
+rounding-passes : WrittenRoundingIsAccepted → (settled : SettledInputs) (base : ℤ) (release : PutRelease) (is : IsReleaseOfRounding settled base release) → job_base settled.inputs.described ≡ Some base → IsSoundJob settled.inputs.described
     → HasNoFault (released_with settled (rounded_certificate settled.inputs) None (table_bytes settled.inputs (value_in settled.inputs is.values)))
 rounding-passes written settled base release is rounds sound = λ case is_case fit.
     let inputs : Inputs = settled.inputs in

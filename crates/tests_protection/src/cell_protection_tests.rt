@@ -4,7 +4,7 @@ ghost use Rattle.cost_rule.specs.Costs.{AreCosted};
 ghost use Rattle.cell_protection.specs.Protections.{AreNarrow, HasText};
 
 use crate::costs::is_costed;
-use cell_protection::{Protection, protect_cells};
+use cell_protection::{ProtectionOutcome, protect_cells};
 use certificate::write_certificate;
 use cost_rule::CostKind;
 use hierarchy::{CodeTree, from_lead};
@@ -116,19 +116,22 @@ fn answer_in(
 }
 
 // The certificate, or what can't be protected, or the question that took too much work.
-fn bytes_of(alloc: Global, made: &Protection<'_>) -> Result<Vec<u8>, Fail>
+fn bytes_of(alloc: Global, made: &ProtectionOutcome<'_>) -> Result<Vec<u8>, Fail>
     requires { HasText made.now }
 {
     match made {
-        Protection::Protected { certificate, .. } => Ok(write_certificate(alloc, certificate)?),
-        Protection::Cannot(unprotected) => {
+        ProtectionOutcome::Protected { certificate, .. } => Ok(write_certificate(
+            alloc,
+            certificate,
+        )?),
+        ProtectionOutcome::Cannot(unprotected) => {
             let number = unprotected.cell;
             let word = unprotected.side.word();
             let den = unprotected.multipliers.den;
             let line = format!(in alloc; "cannot {number} {word} {den}\n")?;
             Ok(Vec::from_slice(alloc, line.as_bytes())?)
         }
-        Protection::Undecided(stopped) => stop_line(alloc, &stopped.fault),
+        ProtectionOutcome::Undecided(stopped) => stop_line(alloc, &stopped.fault),
     }
 }
 

@@ -6,7 +6,7 @@ use Rattle.modular_plan.proofs.SameBooks.{same-costed}
 use Rattle.repair.specs.HidingOrder.{protected_case, prices_of}
 use Rattle.cell_protection.specs.Protections.{HasText, IsProtectionOf, protection_by}
 use Rattle.modular_plan.specs.Methods.{passes_of}
-use Rattle.cell_protection.specs.declared.protection.Protection.{Protection}
+use Rattle.cell_protection.specs.declared.protection.ProtectionOutcome.{ProtectionOutcome}
 use Rattle.cell_protection.proofs.Protecting.{if-ok, outcome-moves, stop-moves, text-by}
 use Rattle.cell_protection.proofs.protection.protect_cells.Goals as goal
 
@@ -22,7 +22,7 @@ returns-clause-outcome c =
 pub returns-in-Ok-clause-outcome : goal.returns-in-Ok-clause-outcome
 returns-in-Ok-clause-outcome c =
     let all = protected_case c.args.system.now c.args.cells.now in
-    let Outcome : Protection → Type 0 = IsProtectionOf all (prices_of c.args.cost c.args.cells.now c.args.book.now.marks) c.args.method (trail_of c.args.book.now c.args.cells.now c.args.cost (passes_of c.args.method)) c.args.limit in
+    let Outcome : ProtectionOutcome → Type 0 = IsProtectionOf all (prices_of c.args.cost c.args.cells.now c.args.book.now.marks) c.args.method (trail_of c.args.book.now c.args.cells.now c.args.cost (passes_of c.args.method)) c.args.limit in
     let by = protection_by c.args.method all c.in_ok-trail.trail.steps c.in-Ok.verdict in
     if-ok (λ made. made ≡ by) Outcome c.certificate_of.result
     (λ made is. subst Outcome (sym is)

@@ -1,7 +1,7 @@
 use Rattle.std.proofs.Common.{arith, refl, subst}
 use Rattle.cell_protection.specs.Protections.{HasText, IsProtectionOf}
-use Rattle.cell_protection.specs.declared.protection.Protection.{Protection}
-use Rattle.cell_protection.specs.declared.protection.Protection.TheVariants as protection
+use Rattle.cell_protection.specs.declared.protection.ProtectionOutcome.{ProtectionOutcome}
+use Rattle.cell_protection.specs.declared.protection.ProtectionOutcome.TheVariants as protection
 use Rattle.modular_plan.specs.Methods.{passes_of}
 use Rattle.modular_plan.specs.Plans.{trail_of}
 use Rattle.repair.specs.HidingOrder.{protected_case, prices_of}
@@ -40,7 +40,7 @@ returns-in-Protected-clause-comes c = λ records skipped settled is numbers.
       is_book = c.cells-known.ensures.book;
       is_system = record { cells = c.in_ok-system.ensures.cells; relations = c.in_ok-system.ensures.exact };
       same = c.protect_cells.ensures.same;
-      protects = subst (λ (one : Protection). IsProtectionOf (protected_case c.in_ok-system.system cells) (prices_of described.job.cost cells book.marks) described.job.method (trail_of book cells described.job.cost (passes_of described.job.method)) described.job.steps one) c.in-Protected.is c.in_ok-protection.ensures.outcome;
+      protects = subst (λ (one : ProtectionOutcome). IsProtectionOf (protected_case c.in_ok-system.system cells) (prices_of described.job.cost cells book.marks) described.job.method (trail_of book cells described.job.cost (passes_of described.job.method)) described.job.steps one) c.in-Protected.is c.in_ok-protection.ensures.outcome;
     }) numbers
 
 pub returns-in-Cannot-clause-comes : goal.returns-in-Cannot-clause-comes

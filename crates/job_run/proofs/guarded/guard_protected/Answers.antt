@@ -2,7 +2,7 @@ use Rattle.std.proofs.Common.{List, Bool, Err, Ok, arith, length, refl, ap, sym,
 use Rattle.std.proofs.lemmas.Result.{err_from_is_err_and}
 use Rattle.sdc_base.specs.RuleLevels.{keep_of}
 use Rattle.certificate.specs.Spelling.{IsSpellable}
-use Rattle.cell_protection.specs.declared.protection.Protection.TheVariants as protection
+use Rattle.cell_protection.specs.declared.protection.ProtectionOutcome.TheVariants as protection
 use Rattle.sdc_base.specs.Records.{Name}
 use Rattle.job_run.specs.Books.{job_of}
 use Rattle.job_run.specs.GuardedReleases.{count_hidden}

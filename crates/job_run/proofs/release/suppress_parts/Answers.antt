@@ -1,6 +1,6 @@
 use Rattle.std.proofs.Common.{◌≡◌, arith, refl, length, Bool, List, ℕ, ap, sym, subst, ◌∙◌}
 use Rattle.cell_protection.specs.Protections.{HasText}
-use Rattle.cell_protection.specs.declared.protection.Protection.TheVariants as protection
+use Rattle.cell_protection.specs.declared.protection.ProtectionOutcome.TheVariants as protection
 use Rattle.job_run.specs.Books.{job_of}
 use Rattle.job_run.proofs.SameBook.{as-many-marks, narrow, still-book, still-ready}
 use Rattle.job_run.proofs.Releasing.{outcome-for, few-hidden, each-flag, with-hidden, stopped-comes, suppressed-comes}
