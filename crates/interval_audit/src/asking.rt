@@ -242,6 +242,7 @@ fn walk_on(alloc: Global, inquiry: &Inquiry<'_, '_>, limit: u64) -> Result<Answe
             }
         }
     }
+    // for the proof: what is known of a walk
     read_state(&tableau);
     if tableau.can_improve() {
         return Err(AskFault::Work(Walk { question, tableau }));

@@ -36,6 +36,7 @@ pub(crate) fn finish(
     ensures short { IfErr result (λ fault. (limit : ℕ)
         → inquiries.IsCutOffBelow inquiry.now limit fault) }
 {
+    // for the proof: what is known of a walk
     read_state(&tableau);
     let world = world_of(alloc, inquiry, &tableau)?;
     let num = asked_in(inquiry.question, &world);
@@ -55,6 +56,7 @@ pub(crate) fn read_state(tableau: &Tableau)
     ensures objective { objective_of (state_of tableau.now) ≡ value tableau.now.table }
     ensures bounded { value tableau.now.table ≤ℤ (tableau.now.table.den *ℤ tableau.now.problem.target) }
 {
+    // for the proof: read, so that what holds of each is known
     let _improved = tableau.improved();
     let _den = tableau.den();
     let _values = tableau.values();

@@ -75,6 +75,7 @@ pub(crate) fn book_with_records(book: Book, described: &DescribedJob, rows: &[Ro
     let mut book = book;
     let kept = keep(&described.job.rules);
     tabulate(&mut book, rows, kept, described.bound.scale);
+    // for the proof: what holds of every book
     let _cells = book.cells();
     book
 }

@@ -53,6 +53,7 @@ pub(crate) fn bare_row(entries: &[(u32, i128)], width: u32) -> &[(u32, i128)]
     ensures sparse { IsSparse 0 width result.now }
     ensures same { (v : ℕ) → v < width → coefficient result.now v ≡ coefficient entries.now v }
 {
+    // for the proof: the clauses speak of the width
     let _width = width;
     &entries[..entries.len() - 1]
 }
