@@ -33,7 +33,7 @@ squeezed q den best sum value positive attained most least =
     omega (arith, ints, most, back)
 
 -- a move that the dual value bounds is no further than the best value over den
-no_further : (q den best value other move : ℤ) → pos 1 ≤ℤ q → pos 1 ≤ℤ den → q *ℤ best ≡ den *ℤ value → (q *ℤ move) ≤ℤ (other *ℤ value) → (move *ℤ den) ≤ℤ (best *ℤ other)
+pub no_further : (q den best value other move : ℤ) → pos 1 ≤ℤ q → pos 1 ≤ℤ den → q *ℤ best ≡ den *ℤ value → (q *ℤ move) ≤ℤ (other *ℤ value) → (move *ℤ den) ≤ℤ (best *ℤ other)
 no_further q den best value other move q_positive positive attained bounded =
     let up : (den *ℤ (q *ℤ move)) ≤ℤ (den *ℤ (other *ℤ value)) = times_up den (q *ℤ move) (other *ℤ value) (omega (arith, ints, positive)) bounded in
     let left : den *ℤ (q *ℤ move) ≡ q *ℤ (move *ℤ den) = swap_times den q move ∙ ap (λ z. q *ℤ z) (*ℤ_comm den move) in

@@ -22,7 +22,7 @@ abbrev pub one_listed : Numbers → ℕ → List Term
 one_listed numbers n = if int_eq (numbers n) (pos 0) then [] else (n, numbers n) ∷ []
 
 -- what is listed of one number where it is in the group
-abbrev tail_listed : Group → Numbers → ℕ → List Term
+abbrev pub tail_listed : Group → Numbers → ℕ → List Term
 tail_listed group numbers n = if group n then one_listed numbers n else []
 
 pub nonzero_terms-more : (group : Group) (numbers : Numbers) (n : ℕ) → nonzero_terms numbers (members group (suc n)) ≡ nonzero_terms numbers (members group n) ++ tail_listed group numbers n

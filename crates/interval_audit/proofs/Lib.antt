@@ -12,7 +12,7 @@ mod Pairing
 mod Scaling
 mod Proper
 mod ReadStates
-mod QuestionAnswers
+pub mod QuestionAnswers
 pub mod SameGroups
 mod Spread
 mod Members
@@ -23,7 +23,7 @@ mod Connected
 mod Forms
 mod Weights
 mod Shares
-mod Furthest
+pub mod Furthest
 pub mod Best
 mod OwnGroup
 mod CutOff
@@ -33,3 +33,14 @@ mod WholeAnswers
 mod WholeEnds
 mod EndCauses
 mod WalkAnswers
+mod Selecting
+mod SmallerProblems
+mod SmallerMultipliers
+mod FewerQuestions
+mod LexSigns
+mod MoveRows
+mod MoveWeights
+mod MoveSums
+mod MovePairs
+mod MoveStops
+mod Reaching

@@ -34,7 +34,7 @@ use Rattle.interval_audit.proofs.SameGroups.{groups_alike}
 
 -- ---- lowest terms are one
 
-abbrev sizes : List Term → List ℤ
+abbrev pub sizes : List Term → List ℤ
 sizes terms = map (λ term. term.1) terms
 
 each_times : (by : ℤ) (less : List Term) → All (λ number. unsigned_abs by ∣ unsigned_abs number) (sizes (times_each by less))
@@ -97,7 +97,7 @@ same_terms by up (x ∷ xs) (y ∷ ys) is =
     let number : x.1 ≡ y.1 = same_from_times by x.1 y.1 up (*ℤ_comm x.1 by ∙ times ∙ *ℤ_comm by y.1) in
     same_front x y xs ys (same_term x y (ap (λ (t : Term). t.0) head) number) (same_terms by up xs ys tail)
 
-one_lowest : (den : ℤ) (terms : List Term) (one : ℤ) (those : List Term) (other : ℤ) (these : List Term) → AreLowestTermsOf den terms one those → AreLowestTermsOf den terms other these → (one ≡ other) × (those ≡ these)
+pub one_lowest : (den : ℤ) (terms : List Term) (one : ℤ) (those : List Term) (other : ℤ) (these : List Term) → AreLowestTermsOf den terms one those → AreLowestTermsOf den terms other these → (one ≡ other) × (those ≡ these)
 one_lowest den terms one those other these a b =
     let common : (g : ℕ) × IsCommon (unsigned_abs den) (sizes terms) g = common_of (unsigned_abs den) (sizes terms) in
     let same : a.by ≡ b.by = same_size a.by b.by a.by_positive b.by_positive (greatest_by den terms one those common.0 a common.1 ∙ sym (greatest_by den terms other these common.0 b common.1)) in (

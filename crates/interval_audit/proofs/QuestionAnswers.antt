@@ -92,7 +92,7 @@ multipliers_by_place system cells group slacks weights list caps has is count pl
     ∙ ap (λ z. z -ℤ number_at (behind cells group system.cells weights) (2 * rank test k)) first ∙ ap (λ z. number_at slacks (caps + 1 + 2 * place) -ℤ z) second
 
 -- the slacks make the multipliers that the weights make, since the target's is left over
-zip_longer : {X Y : Type 0} (ws more : List X) (ls : List Y) → length ls ≤ length ws → zip (ws ++ more) ls ≡ zip ws ls
+pub zip_longer : {X Y : Type 0} (ws more : List X) (ls : List Y) → length ls ≤ length ws → zip (ws ++ more) ls ≡ zip ws ls
 zip_longer [] more [] few = zip_none more
   where
     zip_none : {X Y : Type 0} (xs : List X) → zip {X = Y} xs [] ≡ []
@@ -199,7 +199,7 @@ sums_lower one two sum less q q_less den lower num num_less one_positive two_pos
     cancel_same two (less *ℤ lower) (q_less *ℤ num_less) two_positive (cancel_same one (two *ℤ (less *ℤ lower)) (two *ℤ (q_less *ℤ num_less)) one_positive (sym left ∙ equal ∙ right))
 
 -- what a best value below the target says of the sum
-sum_below_target : (sum den q num target : ℤ) → pos 1 ≤ℤ den → pos 1 ≤ℤ q → sum *ℤ den ≡ q *ℤ num → num <ℤ (den *ℤ target) → sum <ℤ (q *ℤ target)
+pub sum_below_target : (sum den q num target : ℤ) → pos 1 ≤ℤ den → pos 1 ≤ℤ q → sum *ℤ den ≡ q *ℤ num → num <ℤ (den *ℤ target) → sum <ℤ (q *ℤ target)
 sum_below_target sum den q num target den_positive q_positive equal short =
     let more : (q *ℤ num) <ℤ (q *ℤ (den *ℤ target)) = times_more q num (den *ℤ target) q_positive short in
     below_from_times den sum (q *ℤ target) den_positive (omega (arith, ints, more, equal, *ℤ_comm den sum, swap_times q den target))

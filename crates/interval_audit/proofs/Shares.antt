@@ -56,7 +56,7 @@ share_below cell k above below one other room up down =
         let around : low -ℤ truth ≡ neg_ℤ (truth -ℤ low) = omega (arith, ints) in
         ap (λ z. k *ℤ z) around ∙ times_minus k (truth -ℤ low) ∙ sym (minus_times k (truth -ℤ low))
 
-rise_from : (cell : Cell) → pos 0 ≤ℤ rise cell
+pub rise_from : (cell : Cell) → pos 0 ≤ℤ rise cell
 rise_from cell = by cell.high refl
   where
     by : (high : Option ℤ) → cell.high ≡ high → pos 0 ≤ℤ option_map_or (λ bound. bound -ℤ cell.truth) high (pos 0)

@@ -17,3 +17,5 @@ pub mod FlowQuestions
 pub mod SignedSystems
 pub mod Inquiries
 pub mod Ends
+pub mod FewerHidden
+pub mod MovePairs

@@ -116,8 +116,8 @@ fn end_of(
     system.ask(alloc, cells, hidden, question, limit)
 }
 
-// The question how far a cell lies to a side.
-fn end_question(cell: u32, side: Side) -> Question
+/// The question how far a cell lies to a side, with the target 2^110.
+pub fn end_question(cell: u32, side: Side) -> Question
     ensures { IsEndQuestion cell side result }
 {
     Question {

@@ -92,8 +92,8 @@ fn asked_in(question: Question, world: &World) -> i128
     }
 }
 
-// What moves give for a cell.
-fn move_of(moves: &[Move], cell: u32) -> i128
+/// What moves give for a cell: of several the last, and 0 where none is given. It goes once through the moves.
+pub fn move_of(moves: &[Move], cell: u32) -> i128
     ensures { result ≡ number_given (terms_of moves.now) cell }
 {
     let mut by = 0;

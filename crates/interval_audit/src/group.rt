@@ -9,8 +9,11 @@ ghost use Rattle.interval_audit.specs.Labels.{is_met, met_relations};
 use sdc_base::{Memory, Relation};
 use std::alloc::Global;
 
-// The cells of the asked cell's component, ascending.
-pub(crate) fn members_of(
+/// The cells of the asked cell's component, ascending.
+///
+/// `of` has the number of each cell's component, none for a shown one, as [`sdc_base::components`] gives it, and there
+/// are so many cells. It goes once through the cells; its one refusal is want of memory. Components are argus's own.
+pub fn members_of(
     alloc: Global,
     of: &[Option<u32>],
     asked: u32,
@@ -26,8 +29,11 @@ pub(crate) fn members_of(
     Ok(list)
 }
 
-// The relations in which a cell of the asked cell's component stands, ascending.
-pub(crate) fn met_by(
+/// The relations in which a cell of the asked cell's component stands, ascending.
+///
+/// `of` is as for [`members_of`]. It goes once through the relations and their parts; its one refusal is want of memory.
+/// Components are argus's own.
+pub fn met_by(
     alloc: Global,
     relations: &[Relation],
     of: &[Option<u32>],
@@ -82,8 +88,10 @@ fn meets(of: &[Option<u32>], asked: u32, relation: &Relation) -> bool
     false
 }
 
-// Whether a cell is in the asked cell's component.
-fn is_in(of: &[Option<u32>], asked: u32, cell: u32) -> bool
+/// Whether a cell is in the asked cell's component.
+///
+/// `of` is as for [`members_of`]. It takes two looks. Components are argus's own.
+pub fn is_in(of: &[Option<u32>], asked: u32, cell: u32) -> bool
     ensures { result ≡ group_of of.now asked cell }
 {
     let Some(number) = component_at(of, asked) else {

@@ -1,5 +1,7 @@
 ghost use Rattle.interval_audit.specs.QuestionLaws.{PointsAreWorlds, WorldsArePoints, DualsBound, AttainedIsBest};
 ghost use Rattle.interval_audit.specs.Answers.{AnswerIsOne};
+ghost use Rattle.interval_audit.specs.FewerHidden.{ComponentExists, ComponentIsShared};
+ghost use Rattle.interval_audit.specs.MovePairs.{MovePairStops};
 ghost use Rattle.interval_audit.specs.Groups.{ComponentsAreGroups};
 
 /// What the problem of a question has to do with worlds and multipliers: its points are the worlds, and its dual
@@ -17,4 +19,16 @@ pub fn question_laws()
 #[tactic(auto, using(crate::proofs::OneAnswer::answer_is_one))]
 pub fn answer_is_one()
     ensures { AnswerIsOne }
+{}
+
+/// Every hidden cell has a component, which is that of all its cells.
+pub fn components_exist()
+    ensures component { ComponentExists }
+    ensures shared { ComponentIsShared }
+{}
+
+/// Lists of the cells' moves and multipliers of the relations that show each other to be the best where fewer cells are
+/// hidden give the multipliers of the question's answer there, whatever found them.
+pub fn move_pair_stops()
+    ensures { MovePairStops }
 {}

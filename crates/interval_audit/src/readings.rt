@@ -53,7 +53,24 @@ pub(crate) fn read_multipliers(
         → IfOk result (λ read. HasLowestTerms read den multipliers met.now) }
 {
     let terms = differences(alloc, met, slacks, caps + 1, caps)?;
-    let lower = lowest_terms_of(alloc, den, terms.as_slice())?;
+    lowest_multipliers(alloc, den, terms.as_slice())
+}
+
+/// Multipliers of relations, none of 0, over a denominator, in lowest terms.
+///
+/// The relations have multipliers in the order in which they are given. The denominator is 1 or more, and no multiplier
+/// is the least number of 128 bits. It goes twice through them; its one refusal is want of memory. The rule is argus's
+/// own.
+pub fn lowest_multipliers(
+    alloc: Global,
+    den: i128,
+    by_relation: &[(u32, i128)],
+) -> Result<Multipliers, Memory>
+    requires positive { pos 1 ≤ℤ den }
+    requires held { All (λ term. neg_ℤ (pos (2 ^ 127)) <ℤ term.1) by_relation.now }
+    ensures { IfOk result (λ lower. AreLowestTermsOf den by_relation.now lower.den lower.by_relation) }
+{
+    let lower = lowest_terms_of(alloc, den, by_relation)?;
     Ok(Multipliers {
         den: lower.den,
         by_relation: Items::new(lower.terms),

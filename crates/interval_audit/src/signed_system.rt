@@ -1,4 +1,4 @@
-ghost use Rattle.std.specs.Prelude.{◌≡◌, ◌≤◌, Bool, List, true, IfOk, IfErr};
+ghost use Rattle.std.specs.Prelude.{◌≡◌, ◌≤◌, Bool, List, true, false, IfOk, IfErr};
 ghost use Rattle.sdc_base.specs.Grounds.{IsGround};
 ghost use Rattle.sdc_base.specs.HiddenSets.{is_hidden};
 ghost use Rattle.sdc_base.specs.Signs.{AreSigns, HasNone};
@@ -53,6 +53,17 @@ impl<'a> SignedSystem<'a> {
         ensures { result.now ≡ self.now }
     {
         self.system
+    }
+
+    /// Whether the system has signs. It takes one look.
+    pub fn has_signs(&self) -> bool
+        ensures none { result ≡ false → HasNone self.now.relations }
+        ensures some { HasNone self.now.relations → result ≡ false }
+    {
+        match &self.signs {
+            Some(_) => true,
+            None => false,
+        }
     }
 
     /// What [`crate::ask`] answers to a question of the system, under the same conditions and with the same refusals,

@@ -69,14 +69,14 @@ further problem before table kept also rises (e ∷ more) all =
     ((all.0.0, rising_is_transitive problem e before table all.0.0.above_zero kept.above_zero also.above_zero all.0.1 rises), further problem before table kept also rises more all.1)
 
 -- all earlier tables of a chain are kept, and the objective's list of the last is above theirs
-all_rise : (problem : Problem) → NamesColumns problem → (table : Table) (rest : List Table) → IsChain problem (table ∷ rest) → IsTableOf problem table × AllByRecursion (λ earlier. IsTableOf problem earlier × Rises problem earlier table) rest
+pub all_rise : (problem : Problem) → NamesColumns problem → (table : Table) (rest : List Table) → IsChain problem (table ∷ rest) → IsTableOf problem table × AllByRecursion (λ earlier. IsTableOf problem earlier × Rises problem earlier table) rest
 all_rise problem formed table [] chain = (chain, tt)
 all_rise problem formed table (before ∷ more) chain =
     let earlier : IsTableOf problem before × AllByRecursion (λ e. IsTableOf problem e × Rises problem e before) more = all_rise problem formed before more chain.1 in
     let step : IsTableOf problem table × Rises problem before table = step_keeps problem before table chain.0.0 chain.0.1 chain.0.2 formed earlier.0 chain.0.3 in
     (step.0, ((earlier.0, step.1), further problem before table earlier.0 step.0 step.1 more earlier.1))
 
-apart_test : (a b : ℕ) → a ≢ b → eqb b a ≡ false
+pub apart_test : (a b : ℕ) → a ≢ b → eqb b a ≡ false
 apart_test a b apart = grind (arith, nat_tests)
 
 other_codes : (problem : Problem) (table : Table) → IsTableOf problem table → (rest : List Table) → AllByRecursion (λ e. IsTableOf problem e × Rises problem e table) rest → AllByRecursion (λ c. eqb (bits_of table.others (variable_count problem)) c ≡ false) (map (λ (t : Table). bits_of t.others (variable_count problem)) rest)

@@ -52,7 +52,7 @@ value_of-none [] = refl
 value_of-none (t ∷ terms) = omega (arith, ints, sum_of-cons (λ (t : ℕ × ℤ). t.1 *ℤ pos 0) t terms, value_of-none terms)
 
 -- the objective's row on all amounts
-row_on_all : (problem : Problem) (table : Table) → HasShape table → All (λ v. v < problem.columns + length (rows_of problem)) table.others → IsTrueOf problem table → (amounts : ℕ → ℤ) (whole : ℤ) →
+pub row_on_all : (problem : Problem) (table : Table) → HasShape table → All (λ v. v < problem.columns + length (rows_of problem)) table.others → IsTrueOf problem table → (amounts : ℕ → ℤ) (whole : ℤ) →
     table.den *ℤ value_of amounts problem.objective +ℤ (sum_below problem.columns (λ j. number_for table j *ℤ amounts j) +ℤ sum_below (length (rows_of problem)) (λ k. number_for table (problem.columns + k) *ℤ slack problem amounts whole k)) ≡ value table *ℤ whole
 row_on_all problem table shaped inside held amounts whole =
     let n : ℕ = problem.columns in

@@ -113,7 +113,7 @@ minus_whole a whole = *ℤ_comm a (neg_ℤ whole) ∙ minus_times whole a ∙ ap
 product_not_below : (a x : ℤ) → pos 0 ≤ℤ a → pos 0 ≤ℤ x → pos 0 ≤ℤ (a *ℤ x)
 product_not_below a x up amount = omega (arith, ints, times_up a (pos 0) x up amount)
 
-dot_bound : (row xs : List ℤ) (whole : ℤ) → length row ≡ length xs + 1 → ((k : ℕ) → k < length xs → pos 0 ≤ℤ get_or row k (pos 0)) → ((k : ℕ) → k < length xs → pos 0 ≤ℤ get_or xs k (pos 0)) → pos 0 ≤ℤ (dot row (xs ++ neg_ℤ whole ∷ []) +ℤ get_or row (length xs) (pos 0) *ℤ whole)
+pub dot_bound : (row xs : List ℤ) (whole : ℤ) → length row ≡ length xs + 1 → ((k : ℕ) → k < length xs → pos 0 ≤ℤ get_or row k (pos 0)) → ((k : ℕ) → k < length xs → pos 0 ≤ℤ get_or xs k (pos 0)) → pos 0 ≤ℤ (dot row (xs ++ neg_ℤ whole ∷ []) +ℤ get_or row (length xs) (pos 0) *ℤ whole)
 dot_bound [] [] whole long up amounts = absurd (omega arith)
 dot_bound (a ∷ []) [] whole long up amounts = omega (arith, ints, minus_whole a whole)
 dot_bound (a ∷ b ∷ row) [] whole long up amounts = absurd (omega arith)

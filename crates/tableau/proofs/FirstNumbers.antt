@@ -62,13 +62,13 @@ copied_ended columns i h entries made none ended copied =
     made_on copied.next columns (λ v. h (coefficient entries v)) made copied.so_far copied.within
     (λ v over under. ap h (copied.from.same v over ∙ ap (λ (t : List Term). coefficient t v) (drop_all i entries ended)) ∙ none)
 
-length-whole : (columns : ℕ) (f : ℕ → ℤ) (b : ℤ) → length (numbers_then_value columns f b) ≡ columns + 1
+pub length-whole : (columns : ℕ) (f : ℕ → ℤ) (b : ℤ) → length (numbers_then_value columns f b) ≡ columns + 1
 length-whole columns f b = length-append (map f (range_with_len 0 columns)) (b ∷ []) ∙ omega (arith, length-map-range_with_len f 0 columns)
 
-spread_at : (columns : ℕ) (f : ℕ → ℤ) (b : ℤ) (v : ℕ) → v < columns → number_at (numbers_then_value columns f b) v ≡ f v
+pub spread_at : (columns : ℕ) (f : ℕ → ℤ) (b : ℤ) (v : ℕ) → v < columns → number_at (numbers_then_value columns f b) v ≡ f v
 spread_at columns f b v below = get_or_append_left (map f (range_with_len 0 columns)) (b ∷ []) (pos 0) v (omega (arith, length-map-range_with_len f 0 columns)) ∙ get_or-map-range_with_len f 0 columns v v (pos 0) below (omega arith)
 
-spread_last : (columns : ℕ) (f : ℕ → ℤ) (b : ℤ) (v : ℕ) → v ≡ columns → number_at (numbers_then_value columns f b) v ≡ b
+pub spread_last : (columns : ℕ) (f : ℕ → ℤ) (b : ℤ) (v : ℕ) → v ≡ columns → number_at (numbers_then_value columns f b) v ≡ b
 spread_last columns f b v is = get_or_at (map f (range_with_len 0 columns)) b [] (pos 0) v (omega (arith, length-map-range_with_len f 0 columns))
 
 -- the copied entries, and the value behind them

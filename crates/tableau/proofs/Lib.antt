@@ -34,3 +34,10 @@ pub mod WellFormedProblems
 pub mod OneStep
 pub mod SomeStep
 pub mod SmallProblems
+pub mod LexOrders
+pub mod OneObjective
+pub mod Padding
+pub mod PartTables
+pub mod OptimalPairs
+pub mod PartPairs
+pub mod SomeEnd

@@ -7,8 +7,8 @@ use Rattle.sdc_base.proofs.WholeNumbers.{times_up, times_more, minus_times, asso
 use Rattle.tableau.specs.Tables.{Table, HasShape, exchanged_table, exchanged_row, exchanged_pivot, crossed_numbers, form_at, objective_form}
 use Rattle.sdc_base.specs.Systems.{number_at}
 use Rattle.tableau.specs.declared.problem.Problem.{Problem}
-use Rattle.tableau.specs.Problems.{number_in}
-use Rattle.tableau.specs.RowLists.{IsLexPositive, list_of, objective_list, list_size, ExchangeRises}
+use Rattle.tableau.specs.Problems.{number_in, rows_of}
+use Rattle.tableau.specs.RowLists.{IsLexPositive, list_of, objective_list, list_size, ExchangeRises, Leaves, RowsAreLexPositive, AreZeros}
 use Rattle.tableau.proofs.Exchanges.{exchange_operates, times_none, by_place}
 use Rattle.tableau.proofs.Dots.{length-crossed_numbers, back}
 use Rattle.tableau.proofs.DualNumbers.{dot_zip, unit_at, value_of-unit, value_of-none}
@@ -24,10 +24,10 @@ product_not_below a x up more = omega (arith, ints, times_up a (pos 0) x up (ome
 pub none_times : (b x : ℤ) → b ≡ pos 0 → b *ℤ x ≡ pos 0
 none_times b x none = ap (λ t. t *ℤ x) none ∙ omega (arith, ints)
 
-by_sign : {P : Type 0} (b : ℤ) → pos 0 ≤ℤ b → (pos 1 ≤ℤ b → P) → (b ≡ pos 0 → P) → P
+pub by_sign : {P : Type 0} (b : ℤ) → pos 0 ≤ℤ b → (pos 1 ≤ℤ b → P) → (b ≡ pos 0 → P) → P
 by_sign b also above none = by_lt_z (pos 0) b (λ more. above (omega (arith, ints))) (λ less. none (omega (arith, ints)))
 
-scaled_alone : (n from : ℕ) (a b : ℤ) (g h : ℕ → ℤ) → pos 1 ≤ℤ a → b ≡ pos 0 → IsLexPositive n from g → IsLexPositive n from (λ i. a *ℤ g i +ℤ b *ℤ h i)
+pub scaled_alone : (n from : ℕ) (a b : ℤ) (g h : ℕ → ℤ) → pos 1 ≤ℤ a → b ≡ pos 0 → IsLexPositive n from g → IsLexPositive n from (λ i. a *ℤ g i +ℤ b *ℤ h i)
 scaled_alone zero from a b g h up none one = one
 scaled_alone (suc n) from a b g h up none one =
     elim one as (λ _. IsLexPositive (suc n) from (λ i. a *ℤ g i +ℤ b *ℤ h i)) [
@@ -163,34 +163,44 @@ left_over den p f x y =
 turned : (p f x y : ℤ) → p *ℤ x +ℤ neg_ℤ f *ℤ y ≡ p *ℤ x -ℤ f *ℤ y
 turned p f x y = omega (arith, ints, minus_times f y)
 
-pub exchange_rises : ExchangeRises
-exchange_rises problem table row column shaped den column_within leaves above not_none below =
+-- rows' lists stay above 0, whatever the objective's number
+pub rows_stay : (problem : Problem) (table : Table) (row column : ℕ) → HasShape table → pos 1 ≤ℤ table.den → column < length table.others → Leaves problem table row column → RowsAreLexPositive problem table →
+    ((k : ℕ) → k < length table.members → AreZeros (length (rows_of problem)) 1 (list_of problem (exchanged_table table row column) k) → ⊥) → RowsAreLexPositive problem (exchanged_table table row column)
+rows_stay problem table row column shaped den column_within leaves above not_none =
     let p : ℤ = number_at (slice_index_or table.rows row []) column in
     let size : ℕ = list_size problem in
     let own : ℕ → ℤ = list_of problem table row in
     let after : Table = exchanged_table table row column in
     let same_size : length (set table.members row (slice_index table.others column)) ≡ length table.members = length-set table.members row (slice_index table.others column) in
+    λ k k_below.
+    let k_within : k < length table.members = omega arith in
+    by_place k row
+    (λ same.
+    let whole : IsLexPositive size 0 (λ i. table.den *ℤ own i +ℤ pos 0 *ℤ own i) = scaled_alone size 0 table.den (pos 0) own own den refl (above row leaves.row_within) in
+    subst (λ j. IsLexPositive size 0 (list_of problem after j)) (sym same)
+    (above_same size 0 (λ i. table.den *ℤ own i +ℤ pos 0 *ℤ own i) (list_of problem after row) (λ i. omega (arith, ints, pivot_list problem table row column shaped leaves.row_within column_within i)) whole))
+    (λ other.
+    let f : ℤ = number_at (slice_index_or table.rows k []) column in
+    let old : ℕ → ℤ = list_of problem table k in
+    let mixed : ℕ → ℤ = λ i. p *ℤ old i -ℤ f *ℤ own i in
+    let is : (i : ℕ) → mixed i ≡ list_of problem after k i = λ i. sym (other_list problem table row column k shaped leaves.row_within column_within k_within other i) in
+    by_lt_z (pos 0) f
+    (λ up.
+    elim (leaves.least k k_within other (omega (arith, ints))) as (λ _. IsLexPositive size 0 (list_of problem after k)) [
+      | inl more ↦ above_same size 0 mixed (list_of problem after k) is more
+      | inr none ↦ absurd (not_none k k_within (λ i i_below. sym (is (1 + i)) ∙ ap mixed (omega arith) ∙ none.0 (suc i) (omega arith)))
+    ])
+    (λ down. above_same size 0 mixed (list_of problem after k) is (above_same size 0 (λ i. p *ℤ old i +ℤ neg_ℤ f *ℤ own i) mixed (λ i. turned p f (old i) (own i)) (above_mixed size 0 p (neg_ℤ f) old own leaves.above (omega (arith, ints)) (above k k_within) (above row leaves.row_within)))))
+
+pub exchange_rises : ExchangeRises
+exchange_rises problem table row column shaped den column_within leaves above not_none below =
+    let size : ℕ = list_size problem in
+    let own : ℕ → ℤ = list_of problem table row in
+    let after : Table = exchanged_table table row column in
+    let p : ℤ = number_at (slice_index_or table.rows row []) column in
     let f0 : ℤ = number_at table.objective column in
     let factor : pos 1 ≤ℤ neg_ℤ (table.den *ℤ f0) = omega (arith, ints, times_more table.den f0 (pos 0) den below, times_none table.den) in (
-      λ k k_below.
-          let k_within : k < length table.members = omega arith in
-          by_place k row
-          (λ same.
-          let whole : IsLexPositive size 0 (λ i. table.den *ℤ own i +ℤ pos 0 *ℤ own i) = scaled_alone size 0 table.den (pos 0) own own den refl (above row leaves.row_within) in
-          subst (λ j. IsLexPositive size 0 (list_of problem after j)) (sym same)
-          (above_same size 0 (λ i. table.den *ℤ own i +ℤ pos 0 *ℤ own i) (list_of problem after row) (λ i. omega (arith, ints, pivot_list problem table row column shaped leaves.row_within column_within i)) whole))
-          (λ other.
-          let f : ℤ = number_at (slice_index_or table.rows k []) column in
-          let old : ℕ → ℤ = list_of problem table k in
-          let mixed : ℕ → ℤ = λ i. p *ℤ old i -ℤ f *ℤ own i in
-          let is : (i : ℕ) → mixed i ≡ list_of problem after k i = λ i. sym (other_list problem table row column k shaped leaves.row_within column_within k_within other i) in
-          by_lt_z (pos 0) f
-          (λ up.
-          elim (leaves.least k k_within other (omega (arith, ints))) as (λ _. IsLexPositive size 0 (list_of problem after k)) [
-            | inl more ↦ above_same size 0 mixed (list_of problem after k) is more
-            | inr none ↦ absurd (not_none k k_within (λ i i_below. sym (is (1 + i)) ∙ ap mixed (omega arith) ∙ none.0 (suc i) (omega arith)))
-          ])
-          (λ down. above_same size 0 mixed (list_of problem after k) is (above_same size 0 (λ i. p *ℤ old i +ℤ neg_ℤ f *ℤ own i) mixed (λ i. turned p f (old i) (own i)) (above_mixed size 0 p (neg_ℤ f) old own leaves.above (omega (arith, ints)) (above k k_within) (above row leaves.row_within))))),
+      rows_stay problem table row column shaped den column_within leaves above not_none,
       above_same size 0 (λ i. neg_ℤ (table.den *ℤ f0) *ℤ own i +ℤ pos 0 *ℤ own i) (λ i. table.den *ℤ objective_list problem after i -ℤ after.den *ℤ objective_list problem table i)
           (λ i. left_over table.den p f0 (objective_list problem table i) (own i) ∙ ap (λ t. table.den *ℤ t -ℤ after.den *ℤ objective_list problem table i) (sym (objective_change problem table row column shaped leaves.row_within column_within i)))
           (scaled_alone size 0 (neg_ℤ (table.den *ℤ f0)) (pos 0) own own factor refl (above row leaves.row_within)),

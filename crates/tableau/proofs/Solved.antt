@@ -31,17 +31,17 @@ use Rattle.tableau.proofs.Numbers.{named_number, no_number}
 -- ---- amounts that a table takes up, for any amounts of the others
 
 -- what a row comes to on amounts of the others
-abbrev left_over : Table → (ℕ → ℤ) → ℤ → List ℤ → ℤ
+abbrev pub left_over : Table → (ℕ → ℤ) → ℤ → List ℤ → ℤ
 left_over table u w row = dot row (map u table.others ++ neg_ℤ w ∷ [])
 
 -- the others den times as given, the members what is left over
-abbrev taken : Table → (ℕ → ℤ) → ℤ → ℕ → ℤ
+abbrev pub taken : Table → (ℕ → ℤ) → ℤ → ℕ → ℤ
 taken table u w = replaced table.members (map (λ (row : List ℤ). neg_ℤ (left_over table u w row)) table.rows) (λ v. table.den *ℤ u v)
 
-basis_of : (problem : Problem) (table : Table) → IsTableOf problem table → IsBasis table
+pub basis_of : (problem : Problem) (table : Table) → IsTableOf problem table → IsBasis table
 basis_of problem table kept = record { distinct = kept.basis.members; apart = kept.basis.apart }
 
-taken_holds : (table : Table) (u : ℕ → ℤ) (w : ℤ) → HasShape table → IsBasis table → Holds table (taken table u w) (neg_ℤ (left_over table u w table.objective)) (table.den *ℤ w)
+pub taken_holds : (table : Table) (u : ℕ → ℤ) (w : ℤ) → HasShape table → IsBasis table → Holds table (taken table u w) (neg_ℤ (left_over table u w table.objective)) (table.den *ℤ w)
 taken_holds table u w shaped basis =
     let d : ℤ = table.den in
     let sum_at : List ℤ → ℤ = left_over table u w in
@@ -73,18 +73,18 @@ replaced_from_zero (m ∷ members) (a ∷ values) base v up also =
 
 -- ---- what the first table says of amounts
 
-spread_any : (n : ℕ) (x : ℕ → ℤ) (whole : ℤ) (terms : List Term) (bound : ℤ) → All (λ (t : Term). t.0 < n) terms → dot (numbers_then_value n (coefficient terms) bound) (map x (range_with_len 0 n) ++ neg_ℤ whole ∷ []) ≡ value_of x terms -ℤ bound *ℤ whole
+pub spread_any : (n : ℕ) (x : ℕ → ℤ) (whole : ℤ) (terms : List Term) (bound : ℤ) → All (λ (t : Term). t.0 < n) terms → dot (numbers_then_value n (coefficient terms) bound) (map x (range_with_len 0 n) ++ neg_ℤ whole ∷ []) ≡ value_of x terms -ℤ bound *ℤ whole
 spread_any n x whole terms bound inside =
     dot_range n 0 (coefficient terms) x bound (neg_ℤ whole)
     ∙ omega (arith, ints, minus_whole bound whole, by_cells n x terms inside, sum_below-same n (λ k. coefficient terms (0 + k) *ℤ x (0 + k)) (λ k. coefficient terms k *ℤ x k) (λ k _. ap (λ j. coefficient terms j *ℤ x j) (none_and k)))
 
-spread_opposite : (n : ℕ) (x : ℕ → ℤ) (whole : ℤ) (terms : List Term) → All (λ (t : Term). t.0 < n) terms → dot (numbers_then_value n (λ c. neg_ℤ (coefficient terms c)) (pos 0)) (map x (range_with_len 0 n) ++ neg_ℤ whole ∷ []) ≡ neg_ℤ (value_of x terms)
+pub spread_opposite : (n : ℕ) (x : ℕ → ℤ) (whole : ℤ) (terms : List Term) → All (λ (t : Term). t.0 < n) terms → dot (numbers_then_value n (λ c. neg_ℤ (coefficient terms c)) (pos 0)) (map x (range_with_len 0 n) ++ neg_ℤ whole ∷ []) ≡ neg_ℤ (value_of x terms)
 spread_opposite n x whole terms inside =
     let turned : ℕ → ℤ = λ c. neg_ℤ (coefficient terms c) in
     dot_range n 0 turned x (pos 0) (neg_ℤ whole)
     ∙ omega (arith, ints, by_cells n x terms inside, sum_below-times n (negsuc 0) (λ k. coefficient terms k *ℤ x k), sum_below-same n (λ k. turned (0 + k) *ℤ x (0 + k)) (λ k. negsuc 0 *ℤ (coefficient terms k *ℤ x k)) (λ k _. ap (λ j. turned j *ℤ x j) (none_and k) ∙ minus_times (coefficient terms k) (x k) ∙ omega (arith, ints)))
 
-first_row_says : (problem : Problem) (x : ℕ → ℤ) (z whole : ℤ) → NamesColumns problem → Holds (first_table problem) x z whole → (k : ℕ) → k < length (rows_of problem) → value_of x (row_at problem k).entries +ℤ x (problem.columns + k) ≡ (row_at problem k).bound *ℤ whole
+pub first_row_says : (problem : Problem) (x : ℕ → ℤ) (z whole : ℤ) → NamesColumns problem → Holds (first_table problem) x z whole → (k : ℕ) → k < length (rows_of problem) → value_of x (row_at problem k).entries +ℤ x (problem.columns + k) ≡ (row_at problem k).bound *ℤ whole
 first_row_says problem x z whole formed holds k within =
     let n : ℕ = problem.columns in
     let m : ℕ = length (rows_of problem) in
@@ -96,7 +96,7 @@ first_row_says problem x z whole formed holds k within =
     let sum : dot (get_or (map wide (rows_of problem)) k []) under ≡ value_of x one.entries -ℤ one.bound *ℤ whole = ap (λ t. dot t under) own ∙ spread_any n x whole one.entries one.bound (formed.rows k within) in
     omega (arith, ints, member, sum, holds.rows k (omega (arith, length-range_with_len n m)))
 
-first_objective_says : (problem : Problem) (x : ℕ → ℤ) (z whole : ℤ) → NamesColumns problem → Holds (first_table problem) x z whole → value_of x problem.objective ≡ z
+pub first_objective_says : (problem : Problem) (x : ℕ → ℤ) (z whole : ℤ) → NamesColumns problem → Holds (first_table problem) x z whole → value_of x problem.objective ≡ z
 first_objective_says problem x z whole formed holds =
     omega (arith, ints, spread_opposite problem.columns x whole problem.objective formed.objective, holds.objective_row)
 
@@ -178,10 +178,10 @@ values_are_allowed problem table formed kept =
       objective = sym (value_of-same x (value_for table) problem.objective same) ∙ first_objective_says problem x z whole formed started ∙ left_none table table.objective kept.shaped.objective;
     }
 
-last_row_is : (problem : Problem) → row_at problem (length problem.rows) ≡ target_row problem
+pub last_row_is : (problem : Problem) → row_at problem (length problem.rows) ≡ target_row problem
 last_row_is problem = get_or_at problem.rows (target_row problem) [] no_row (length problem.rows) refl
 
-last_within : (problem : Problem) → length problem.rows < length (rows_of problem)
+pub last_within : (problem : Problem) → length problem.rows < length (rows_of problem)
 last_within problem = omega (arith, length-append problem.rows (target_row problem ∷ []))
 
 pub target_bounds : TargetBounds
@@ -249,7 +249,7 @@ not_in_front u names v apart none zero below = apart
 not_in_front u names v apart none (suc k) below = none k (omega arith)
 
 -- a name stands among some or not
-stands_or_not : (names : List ℕ) (v : ℕ) → ((k : ℕ) × (k < length names) × (slice_index names k ≡ v)) ⊎ ((k : ℕ) → k < length names → slice_index names k ≢ v)
+pub stands_or_not : (names : List ℕ) (v : ℕ) → ((k : ℕ) × (k < length names) × (slice_index names k ≡ v)) ⊎ ((k : ℕ) → k < length names → slice_index names k ≢ v)
 stands_or_not [] v = inr (λ k below. absurd (omega arith))
 stands_or_not (u ∷ names) v =
     by_place u v

@@ -18,7 +18,7 @@ use Rattle.tableau.specs.declared.problem.LinRow.{LinRow}
 use Rattle.tableau.specs.Problems.{row_at, no_row, slack, all_amounts, numbers_then_value, StartHolds, rows_of}
 
 -- sums over the numbers from a on
-sum_first : (n : ℕ) (f : ℕ → ℤ) → sum_below (suc n) f ≡ f 0 +ℤ sum_below n (λ k. f (suc k))
+pub sum_first : (n : ℕ) (f : ℕ → ℤ) → sum_below (suc n) f ≡ f 0 +ℤ sum_below n (λ k. f (suc k))
 sum_first zero f = omega (arith, ints)
 sum_first (suc n) f = omega (arith, ints, sum_first n f)
 

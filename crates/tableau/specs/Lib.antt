@@ -19,3 +19,6 @@ pub mod CommonDivisors
 pub mod NewRows
 pub mod FaultPlaces
 pub mod Columns
+pub mod BlockedTables
+pub mod PartProblems
+pub mod OptimalPairs

@@ -1,11 +1,11 @@
 -- Steps from table to table, and what each keeps (own).
-use Rattle.std.specs.Prelude.{◌≡◌, ◌≢◌, ℕ, zero, suc, ◌+◌, ◌<◌, ◌≤◌, ◌^◌, ◌==◌, List, [], ◌∷◌, length, slice_index, ℤ, pos, ◌≤ℤ◌, if◌then◌else◌}
+use Rattle.std.specs.Prelude.{◌≡◌, ◌≢◌, ◌⊎◌, ℕ, zero, suc, ◌+◌, ◌<◌, ◌≤◌, ◌^◌, ◌==◌, List, [], ◌∷◌, length, slice_index, ℤ, pos, ◌≤ℤ◌, if◌then◌else◌}
 use Rattle.std.specs.List.{list_any}
 use Rattle.tableau.specs.Tables.{Table, HasShape, IsQuotient, exchanged_table}
 use Rattle.tableau.specs.declared.problem.Problem.{Problem}
 use Rattle.tableau.specs.Problems.{NamesColumns, IsTrueOf, BoundsAreFromZero, rows_of, variable_count, first_table}
 use Rattle.tableau.specs.RowLists.{RowsAreLexPositive, Rises, Implies}
-use Rattle.tableau.specs.Steps.{IsStep, IsStepOf, CanImprove}
+use Rattle.tableau.specs.Steps.{IsStep, IsStepOf, CanImprove, IsReached, IsBlocked}
 
 -- members and others are distinct numbers of columns and slacks
 pub record IsBasisOf (numbers : ℕ) (member_list other_list : List ℕ) : Type 0 where
@@ -114,3 +114,8 @@ EndIsOne =
 abbrev pub StepExists : Type 0
 StepExists = (problem : Problem) (table : Table) → NamesColumns problem → IsTableOf problem table →
     CanImprove problem table → (after : Table) × IsStepOf problem table after
+
+-- every problem has a walk to a table that is reached or blocked
+abbrev pub EndExists : Type 0
+EndExists = (problem : Problem) → NamesColumns problem → BoundsAreFromZero problem →
+    (n : ℕ) × (last : Table) × IsWalk problem n last × (IsReached problem last ⊎ IsBlocked problem last)

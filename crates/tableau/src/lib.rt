@@ -28,7 +28,10 @@ mod stepping;
 mod tableau;
 
 pub use common_divisor::gcd;
-pub use laws::{exchanges_keep, lists_rise, tables_solve, walks_are_one_and_short, worked_rows};
+pub use laws::{
+    blocked_tables_are_one, exchanges_keep, lists_rise, pairs_are_read, tables_solve,
+    walks_are_one_and_short, worked_rows,
+};
 pub use problem::{LinRow, Problem};
 pub use step::Step;
 pub use tableau::Tableau;

@@ -7,7 +7,6 @@ use Rattle.tableau.specs.declared.faults.ExchangeFault.TheVariants as fault
 use Rattle.tableau.specs.OwnRows.{own_den}
 use Rattle.tableau.specs.SparseTables.{table_of, width_of, factor_at}
 use Rattle.tableau.proofs.OwnRows.{above_of}
-use Rattle.tableau.proofs.Places.{ascend_of}
 use Rattle.tableau.proofs.SparseTables.{row_number, factor_up, den_up, sparse_at}
 use Rattle.tableau.proofs.NewRows.{no_rows, new_rows_more}
 use Rattle.tableau.proofs.exchange.new_rows.Goals as goal

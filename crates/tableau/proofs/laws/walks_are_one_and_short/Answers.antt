@@ -2,6 +2,7 @@ use Rattle.tableau.proofs.Beginnings.{start_is_kept}
 use Rattle.tableau.proofs.Steps.{step_keeps}
 use Rattle.tableau.proofs.WalkTables.{walk_keeps, walks_are_short}
 use Rattle.tableau.proofs.SomeStep.{step_exists}
+use Rattle.tableau.proofs.SomeEnd.{end_exists}
 use Rattle.tableau.proofs.OneStep.{step_is_one, walk_is_one, end_is_one}
 use Rattle.tableau.proofs.Counts.{chains_are_short}
 use Rattle.tableau.proofs.laws.walks_are_one_and_short.Goals as goal
@@ -32,3 +33,6 @@ returns-clause-chains c = chains_are_short
 
 pub returns-clause-short : goal.returns-clause-short
 returns-clause-short c = walks_are_short
+
+pub returns-clause-some_end : goal.returns-clause-some_end
+returns-clause-some_end c = end_exists

@@ -1,4 +1,4 @@
-use Rattle.std.proofs.Common.{◌≡◌, ◌+◌, ◌<◌, ℕ, pos, arith, refl, ap, ◌∙◌, below_more}
+use Rattle.std.proofs.Common.{◌≡◌, ◌+◌, pos, arith, refl, ap, ◌∙◌, below_more}
 use Rattle.tableau.specs.RowLists.{lead}
 use Rattle.tableau.specs.SparseTables.{table_of}
 use Rattle.tableau.proofs.Numbers.{lead_turned, leads}

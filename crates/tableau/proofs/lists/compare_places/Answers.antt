@@ -1,4 +1,4 @@
-use Rattle.std.proofs.Common.{◌≡◌, ℤ, pos, slice_index_or, [], arith, rules, refl, FitsSigned}
+use Rattle.std.proofs.Common.{ℤ, slice_index_or, [], arith, rules, FitsSigned}
 use Rattle.std.specs.Int.{w128}
 use Rattle.std.proofs.lemmas.Int.{ints, to_z-of_z}
 use Rattle.sdc_base.specs.Systems.{number_at}

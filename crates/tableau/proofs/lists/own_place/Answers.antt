@@ -1,4 +1,4 @@
-use Rattle.std.proofs.Common.{◌≡◌, ◌<◌, ◌≤◌, ◌+◌, length, slice_index, arith}
+use Rattle.std.proofs.Common.{◌≡◌, ◌≤◌, slice_index, arith}
 use Rattle.std.proofs.lemmas.List.{get_or_read}
 use Rattle.tableau.specs.RowLists.{list_size}
 use Rattle.tableau.proofs.Independent.{by_less}

@@ -1,5 +1,5 @@
-use Rattle.std.proofs.Common.{◌≡◌, ◌<◌, ◌+◌, ◌∙◌, List, map, length, slice_index_or, sym, subst, ap}
-use Rattle.sdc_base.specs.Forms.{Term, coefficient}
+use Rattle.std.proofs.Common.{◌≡◌, ◌<◌, ◌+◌, List, length, slice_index_or, sym, subst}
+use Rattle.sdc_base.specs.Forms.{Term}
 use Rattle.tableau.specs.ProblemForm.{AscendFrom}
 use Rattle.tableau.proofs.Places.{ascend_of}
 use Rattle.tableau.proofs.sparse_rows.column_numbers.Goals as goal

@@ -1,4 +1,4 @@
-use Rattle.std.proofs.Common.{◌≡◌, ◌+◌, List, slice_index_or, [], length, ap, ◌∙◌, arith, rules, FitsSigned, ◌*ℤ◌, to_z, of_z}
+use Rattle.std.proofs.Common.{◌≡◌, slice_index_or, [], ap, ◌∙◌, arith, rules, FitsSigned, ◌*ℤ◌, to_z, of_z}
 use Rattle.std.specs.Int.{w128}
 use Rattle.std.proofs.lemmas.Int.{to_z-of_z}
 use Rattle.sdc_base.specs.Systems.{number_at}

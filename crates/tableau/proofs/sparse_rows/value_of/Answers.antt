@@ -1,4 +1,4 @@
-use Rattle.std.proofs.Common.{◌≡◌, ◌-◌, ◌≤◌, ◌<◌, ◌+◌, pos, length, slice_index_or, arith}
+use Rattle.std.proofs.Common.{◌-◌, length, arith}
 use Rattle.tableau.proofs.OwnRows.{last_of, from_value, no_value, lone_value}
 use Rattle.tableau.proofs.sparse_rows.value_of.Goals as goal
 
