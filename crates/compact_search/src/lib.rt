@@ -1,0 +1,29 @@
+//! A search for complete tables by a compact simplex table that is kept from question to question.
+#![tactic(auto)]
+
+mod aiming;
+mod amounts;
+mod bound_change;
+mod bounds;
+mod component;
+mod divisor;
+mod entering;
+mod entry;
+mod found;
+mod leaving_out;
+mod lexical;
+mod merge;
+mod multipliers_read;
+mod pivot;
+mod ratio;
+mod row;
+mod search;
+mod start;
+mod stepping;
+mod table;
+mod variable;
+mod walk;
+mod world_read;
+
+pub use found::{Found, Stop};
+pub use search::CompactSearch;

@@ -1,0 +1,151 @@
+// The search over a component, as callers see it.
+use crate::aiming::aim;
+use crate::component::{Component, component_of, place_of};
+use crate::found::{Found, Stop};
+use crate::leaving_out::drive_out;
+use crate::multipliers_read::multipliers_of;
+use crate::start::first_table;
+use crate::table::Table;
+use crate::walk::{Beyond, End, walk};
+use crate::world_read::{scale_to, world_of};
+use sdc_base::{Cell, Fraction, Side, System};
+use std::alloc::Global;
+
+/// A search for worlds over the hidden cells of a component.
+///
+/// Nothing that it finds is proved: check it before it counts. The table is that of a bounded simplex in whole numbers
+/// of 64 bits, its values and comparisons in 128, and each question begins where the one before ended. Ties go by small
+/// amounts that each bound has of its own, so that no walk goes in a circle. Where a number leaves its bits, memory is
+/// wanting or the steps run out, a call gives none and the next one begins with a new table.
+#[derive(Drop)]
+pub struct CompactSearch {
+    component: Component,
+    // For each cell of the component whether it is left out.
+    out: Vec<bool>,
+    table: Option<Table>,
+}
+
+impl CompactSearch {
+    /// The search over the hidden cells that relations with these numbers count, which are those of a component,
+    /// ascending; none where a bound leaves 64 bits, a number is none of the system or memory is wanting.
+    pub fn new(
+        alloc: Global,
+        system: &System,
+        cells: &[Cell],
+        flags: &[bool],
+        relations: &[u32],
+    ) -> Option<CompactSearch> {
+        let component = component_of(alloc, system, cells, flags, relations)?;
+        let out = Vec::from_elem(alloc, false, component.cells.len()).ok()?;
+        let table = first_table(alloc, &component, &out)?;
+        Some(CompactSearch {
+            component,
+            out,
+            table: Some(table),
+        })
+    }
+
+    /// Leaves a cell out: it stays at its truth, as if it were shown, until it is taken back. None where it isn't of
+    /// the component, or memory is wanting for a new table.
+    pub fn leave_out(&mut self, alloc: Global, cell: u32) -> Option<()> {
+        let place = place_of(&self.component.cells, cell)?;
+        put_flag(&mut self.out, place, true)?;
+        let mut table = self.take_table(alloc)?;
+        match drive_out(alloc, &mut table, place) {
+            Some(()) => self.table = Some(table),
+            None => self.table = Some(first_table(alloc, &self.component, &self.out)?),
+        }
+        Some(())
+    }
+
+    /// Takes a cell back that was left out. None where it isn't of the component.
+    pub fn take_back(&mut self, cell: u32) -> Option<()> {
+        let place = place_of(&self.component.cells, cell)?;
+        put_flag(&mut self.out, place, false)?;
+        if let Some(table) = &mut self.table {
+            table.variables.get_mut(place)?.left_out = false;
+        }
+        Some(())
+    }
+
+    /// How far a cell can move to a side: a world that takes it to a target, or the furthest one. None where it isn't of
+    /// the component, or the search failed.
+    pub fn ask(
+        &mut self,
+        alloc: Global,
+        cell: u32,
+        side: Side,
+        target: i128,
+        most_steps: u32,
+    ) -> Option<Found> {
+        let place = place_of(&self.component.cells, cell)?;
+        let mut table = self.take_table(alloc)?;
+        let rises = matches!(&side, Side::Above);
+        aim(alloc, &mut table, place, rises)?;
+        let end = walk(alloc, &mut table, target, most_steps)?;
+        let found = self.found_of(alloc, &table, end, cell, target);
+        self.table = Some(table);
+        found
+    }
+
+    // The kept table, or a new one. It has to be put back.
+    fn take_table(&mut self, alloc: Global) -> Option<Table> {
+        match self.table.take() {
+            Some(table) => Some(table),
+            None => first_table(alloc, &self.component, &self.out),
+        }
+    }
+
+    // What a walk came to.
+    fn found_of(
+        &self,
+        alloc: Global,
+        table: &Table,
+        end: End,
+        cell: u32,
+        target: i128,
+    ) -> Option<Found> {
+        match end {
+            End::There => self.reached(alloc, table, None, cell, target),
+            End::Open(beyond) => self.reached(alloc, table, Some(beyond), cell, target),
+            End::Blocked => self.stopped(alloc, table),
+        }
+    }
+
+    // A world that reaches a target.
+    fn reached(
+        &self,
+        alloc: Global,
+        table: &Table,
+        beyond: Option<Beyond>,
+        cell: u32,
+        target: i128,
+    ) -> Option<Found> {
+        let world = world_of(alloc, table, &self.component.cells, beyond)?;
+        Some(Found::Reaches(scale_to(alloc, world, cell, target)?))
+    }
+
+    // Where a blocked table stops.
+    fn stopped(&self, alloc: Global, table: &Table) -> Option<Found> {
+        let component = &self.component;
+        let world = world_of(alloc, table, &component.cells, None)?;
+        let cells = component.cells.len();
+        let multipliers = multipliers_of(alloc, table, cells, &component.relations)?;
+        let best = Fraction {
+            num: table.objective.value,
+            den: i128::from(table.objective.den),
+        };
+        Some(Found::Stops(Stop {
+            best,
+            world,
+            multipliers,
+        }))
+    }
+}
+
+// Puts the flag at a place.
+fn put_flag(flags: &mut [bool], place: usize, flag: bool) -> Option<()> {
+    let slot = flags.get_mut(place)?;
+    *slot = flag;
+    Some(())
+}

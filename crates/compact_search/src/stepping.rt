@@ -1,0 +1,20 @@
+// One step of the simplex.
+use crate::bound_change::change_bound;
+use crate::entering::Entering;
+use crate::pivot::pivot;
+use crate::ratio::first_limit;
+use crate::table::Table;
+use std::alloc::Global;
+
+// Lets a variable enter, up to the first bound: whether there is one. None where a number leaves 64 or 128 bits or
+// memory is wanting, and then the table is of no use.
+pub(crate) fn step(alloc: Global, table: &mut Table, entering: Entering) -> Option<bool> {
+    let Some(limit) = first_limit(alloc, table, entering)? else {
+        return Some(false);
+    };
+    match limit.row {
+        None => change_bound(table, entering.variable, limit.state)?,
+        Some(row) => pivot(alloc, table, row, entering.variable, limit.state)?,
+    }
+    Some(true)
+}

@@ -1,0 +1,73 @@
+// The walk of a question: steps until the objective reaches its target or the table is blocked.
+use crate::entering::{Entering, best_entering};
+use crate::entry::number_at;
+use crate::stepping::step;
+use crate::table::Table;
+use std::alloc::Global;
+
+// How far a nonbasic variable goes beyond where it stands, in units.
+#[derive(Clone, Copy)]
+pub(crate) struct Beyond {
+    pub(crate) variable: usize,
+    pub(crate) by: i128,
+}
+
+// Where a walk ends.
+#[derive(Clone, Copy)]
+pub(crate) enum End {
+    // The objective is at its target or past it.
+    There,
+    // It is once a variable that nothing stops goes so far.
+    Open(Beyond),
+    // Nothing takes it further.
+    Blocked,
+}
+
+// Walks until an end. None where a number leaves 64 or 128 bits, memory is wanting or the steps run out; then the table
+// is of no use.
+pub(crate) fn walk(alloc: Global, table: &mut Table, target: i128, most_steps: u32) -> Option<End> {
+    'steps: for _ in 0..most_steps {
+        if let Some(end) = walk_once(alloc, table, target)? {
+            return Some(end);
+        }
+    }
+    None
+}
+
+// One step, or the end if there is nothing to do.
+fn walk_once(alloc: Global, table: &mut Table, target: i128) -> Option<Option<End>> {
+    let lack = lack_of(table, target)?;
+    if lack <= 0 {
+        return Some(Some(End::There));
+    }
+    let Some(entering) = best_entering(table) else {
+        return Some(Some(End::Blocked));
+    };
+    if step(alloc, table, entering)? {
+        return Some(None);
+    }
+    Some(Some(End::Open(beyond_of(table, entering, lack)?)))
+}
+
+// What the objective lacks, times its den.
+fn lack_of(table: &Table, target: i128) -> Option<i128> {
+    let whole = target.checked_mul(i128::from(table.objective.den))?;
+    whole.checked_sub(table.objective.value)
+}
+
+// How far a variable that nothing stops has to go.
+fn beyond_of(table: &Table, entering: Entering, lack: i128) -> Option<Beyond> {
+    let number = number_at(&table.objective.entries, entering.variable);
+    let each = i128::from(number.checked_abs()?);
+    let most = lack.checked_add(each)?.checked_sub(1)?;
+    let units = most.checked_div(each)?;
+    let by = if entering.rises {
+        units
+    } else {
+        units.checked_neg()?
+    };
+    Some(Beyond {
+        variable: entering.variable,
+        by,
+    })
+}
