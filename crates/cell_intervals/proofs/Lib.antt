@@ -5,3 +5,4 @@ pub mod WholeIntervals
 pub mod OneFile
 pub mod Listing
 pub mod Components
+mod Sizes

@@ -2,11 +2,12 @@
 use Rattle.std.proofs.Common.{◌≡◌, ℕ, zero, suc, ◌+◌, ◌-◌, ◌<◌, ◌≤◌, Bool, true, false, List, [], ◌∷◌, ◌++◌, filter, if◌then◌else◌, inl, inr, length, map, slice_index_or, ℤ, arith, ap, sym, subst, ◌∙◌}
 use Rattle.std.specs.List.{range_with_len}
 use Rattle.std.specs.Option.{option_map_or}
-use Rattle.std.proofs.lemmas.List.{map-append}
+use Rattle.std.proofs.lemmas.List.{get_or-replicate, map-append}
 use Rattle.std.proofs.lemmas.Option.{slice_get-get_or}
 use Rattle.std.proofs.Math.Nat.{eq-or-lt_of_le}
 use Rattle.sdc_base.specs.declared.cell.Cell.{Cell}
 use Rattle.sdc_base.specs.declared.system.System.{System}
+use Rattle.sdc_base.specs.HiddenSets.{is_hidden}
 use Rattle.sdc_base.specs.Kinds.{is_primary, is_primary_at}
 use Rattle.sdc_base.specs.Roundings.{IsRounding}
 use Rattle.sdc_base.proofs.GrowingLists.{filter-front, range-next}
@@ -93,6 +94,11 @@ reader_no_walk reader.Memory = tt
 pub size_is_large : SizeIsLarge
 size_is_large system cells known limit number why some at = cause_is_large system known (all_hidden system.cells) limit number why some at.cause
 
+primary_inside : (cells : List Cell) (number : ℕ) → is_primary_at cells number ≡ true → number < length cells
+primary_inside [] number is = absurd cc
+primary_inside (cell ∷ cells) zero is = omega arith
+primary_inside (cell ∷ cells) (suc number) is = omega (arith, primary_inside cells number is)
+
 -- a primary cell with both ends has a component that is small enough
 pub small_where_ended : (system : System) (cells known : List Cell) (n : ℕ) → length cells ≤ n → ((other : ℕ) → other < n → is_primary_at cells other ≡ true → HasBothEnds system known (all_hidden system.cells) other) → (number : ℕ) → is_primary_at cells number ≡ true → HasSmallComponent system (all_hidden system.cells) number
 small_where_ended system cells known n all ended number primary =
@@ -102,8 +108,10 @@ small_where_ended system cells known n all ended number primary =
       is_component = subst (λ c. IsComponentOf system.relations (all_hidden system.cells) c read.2.0) read.1.cell_is read.2.1;
       within_most_members = read.2.2;
     }
-  where
-    primary_inside : (cells : List Cell) (number : ℕ) → is_primary_at cells number ≡ true → number < length cells
-    primary_inside [] number is = absurd cc
-    primary_inside (cell ∷ cells) zero is = omega arith
-    primary_inside (cell ∷ cells) (suc number) is = omega (arith, primary_inside cells number is)
+
+-- so has each, where those of all hidden cells are
+pub small_where_searched : (system : System) (cells : List Cell) (flags : List Bool) → length cells ≡ system.cells → flags ≡ all_hidden system.cells → ((cell : ℕ) → is_hidden flags cell ≡ true → HasSmallComponent system flags cell) → (number : ℕ) → is_primary_at cells number ≡ true → HasSmallComponent system (all_hidden system.cells) number
+small_where_searched system cells flags each all small number primary =
+    let inside : number < system.cells = omega (arith, each, primary_inside cells number primary) in
+    let hidden : is_hidden (all_hidden system.cells) number ≡ true = get_or-replicate system.cells number true false inside in
+    subst (λ (fs : List Bool). (cell : ℕ) → is_hidden fs cell ≡ true → HasSmallComponent system fs cell) all small number hidden

@@ -1,7 +1,7 @@
-ghost use Rattle.std.specs.Prelude.{◌≡◌, ◌≤◌, ◌<◌, ◌≤ℤ◌, ◌^◌, pos, length, All, Bool, IfErr, IfOk, IsOk, List, true, ℕ};
+ghost use Rattle.std.specs.Prelude.{◌≡◌, ◌≤◌, ◌<◌, ◌≤ℤ◌, ◌^◌, pos, length, All, Bool, IfErr, IfOk, IfSome, IsOk, List, true, ℕ};
 ghost use Rattle.sdc_base.specs.Kinds.{is_primary_at};
 ghost use Rattle.sdc_base.specs.Roundings.{IsRounding};
-ghost use Rattle.sdc_base.specs.Signs.{AreSigns};
+ghost use Rattle.sdc_base.specs.Signs.{AreSigns, HasNone};
 ghost use Rattle.sdc_base.specs.declared.side.Side.TheVariants.{Above, Below};
 ghost use Rattle.interval_audit.specs.Ends.{IsIntervalCause, IsTrueEnd, IsWholeEnd};
 ghost use Rattle.interval_audit.specs.WalkLimits.{HasNoWalk as HasNoQuestionWalk};
@@ -16,7 +16,7 @@ use crate::audit_fault::AuditFault;
 use crate::audited::{AuditedCell, AuditedEnd};
 use crate::reader::Reader;
 use crate::reading::reader_cells;
-use cell_intervals::{Ratio, UpperEnd, interval_from};
+use cell_intervals::{EndSearch, Ratio, UpperEnd, interval_from};
 use interval_audit::{Answer, AskFault, SignedSystem, TwoEnds, signed_interval};
 use sdc_base::{Cell, Hidden, Items, Memory, Side, System};
 use std::alloc::Global;
@@ -38,7 +38,10 @@ use worlds::reaches;
 /// Where the system has signs all ends are whole numbers of units, the tables beside them are in whole units, and neither
 /// `Work` nor `Wide` comes.
 ///
-/// The signs are looked for once. It costs as much as two questions for each primary cell.
+/// Where the system has no signs, and no component has more than 4,000 cells, searches that are kept from cell to cell
+/// answer the questions ([`EndSearch`]), and a walk those that these don't. Else, or where a question has no answer
+/// then, all are asked one by one. The signs are looked for once. By searches a primary cell costs a few steps and two
+/// walks through the relations and the cells, else as much as two questions.
 ///
 /// The ends are those of the feasibility interval in Hundepool et al., Statistical Disclosure Control, chapter on
 /// magnitude tables; that a rounded release is audited so is argus's own.
@@ -75,6 +78,9 @@ pub fn audit_of(
         known: known.as_slice(),
         hidden: &hidden,
     };
+    if let Some(found) = find_cells(alloc, &reader, limit) {
+        return Ok(found);
+    }
     let audited = audit_cells(alloc, &reader, limit)?;
     Ok(audited)
 }
@@ -89,7 +95,55 @@ fn hide_all(alloc: Global, cells: u32) -> Result<Hidden, Memory>
     })
 }
 
-// What the release leaves open of each primary cell.
+// What the release leaves open of each primary cell by searches that are kept from cell to cell; none where there are no
+// searches, or where a cell has no ends.
+fn find_cells(alloc: Global, reader: &Reader<'_>, limit: u64) -> Option<Items<AuditedCell>>
+    requires limit { 1 ≤ limit }
+    ensures audit { IfSome result (IsAudit reader.now.system.now reader.now.cells.now reader.now.values.now
+        reader.now.base) }
+    ensures no_signs { IfSome result (λ _. HasNone reader.now.system.now.relations) }
+    ensures small { IfSome result (λ _. (number : ℕ) → is_primary_at reader.now.cells.now number ≡ true
+        → HasSmallComponent reader.now.system.now (readers.all_hidden reader.now.system.now.cells) number) }
+{
+    let mut search = EndSearch::of(alloc, reader.system, reader.known, reader.hidden)?;
+    let mut audited = Items::empty(alloc);
+    'cells: for number in 0..reader.system.system().cells {
+        if reader.cells[number as usize].kind.is_primary() {
+            let one = find_cell(alloc, &mut search, reader, number, limit)?;
+            let Ok(()) = audited.push(one) else {
+                return None;
+            };
+        }
+    }
+    Some(audited)
+}
+
+// What the release leaves open of a cell, if a search or a walk ends.
+fn find_cell(
+    alloc: Global,
+    search: &mut EndSearch,
+    reader: &Reader<'_>,
+    number: u32,
+    limit: u64,
+) -> Option<AuditedCell>
+    requires inside { number < reader.now.system.now.cells }
+    requires limit { 1 ≤ limit }
+    ensures number { IfSome result (λ one. one.cell ≡ number) }
+    ensures right { IfSome result (IsAuditedCell reader.now.system.now reader.now.cells.now reader.now.values.now
+        reader.now.base) }
+{
+    let ends = search.ends_of(
+        alloc,
+        reader.system,
+        reader.known,
+        reader.hidden,
+        number,
+        limit,
+    )?;
+    Some(cell_from(reader, number, ends))
+}
+
+// What the release leaves open of each primary cell by two questions for each.
 fn audit_cells(
     alloc: Global,
     reader: &Reader<'_>,

@@ -1,4 +1,4 @@
-//! Worlds, guesses, questions, intervals and roundings of small systems, called on worked rows, as tests alone.
+//! Worlds, questions, kept tables, intervals and roundings of small systems, called on worked rows, as tests alone.
 #![tactic(auto)]
 
 #[cfg(test)]
@@ -6,11 +6,13 @@ mod cases;
 #[cfg(test)]
 mod cell_intervals_tests;
 #[cfg(test)]
+mod end_search_tests;
+#[cfg(test)]
 mod flow_worlds_tests;
 #[cfg(test)]
-mod guessed_worlds_tests;
-#[cfg(test)]
 mod interval_audit_tests;
+#[cfg(test)]
+mod kept_questions_tests;
 #[cfg(test)]
 mod rounding_audit_tests;
 #[cfg(test)]

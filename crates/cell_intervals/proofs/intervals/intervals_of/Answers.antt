@@ -1,68 +1,39 @@
-use Rattle.std.proofs.Common.{◌≡◌, ◌++◌, ◌∷◌, ◌+◌, ◌-◌, ◌<◌, [], All, Bool, List, ℕ, arith, ap, filter, length, map, slice_index_or, subst, sym, true, false, ◌∙◌}
-use Rattle.std.specs.List.{range_with_len}
-use Rattle.std.proofs.lemmas.List.Elements.{All-push}
-use Rattle.std.proofs.lemmas.Result.{err_from_is_err_and}
+use Rattle.std.proofs.Common.{◌≡◌, All, Bool, IfErr, IfOk, List, ℕ, subst, sym, true}
 use Rattle.sdc_base.specs.HiddenSets.{is_hidden}
 use Rattle.sdc_base.specs.Signs.{AreSigns}
 use Rattle.sdc_base.specs.declared.system.System.{System}
-use Rattle.sdc_base.proofs.Connecting.{hidden-inside}
-use Rattle.interval_audit.specs.Ends.{IsIntervalCause}
-use Rattle.cell_intervals.specs.declared.interval.CellInterval.{CellInterval}
-use Rattle.cell_intervals.specs.IntervalFaults.{HasBothEnds}
-use Rattle.cell_intervals.specs.Intervals.{HasWholeEnds, IsIntervalOf, hidden_cells}
-use Rattle.cell_intervals.proofs.Listing.{below_next, fault_at, next_hidden, next_shown, numbers_more, small_where_ended}
+use Rattle.interval_audit.specs.WalkLimits.{HasNoWalk}
+use Rattle.cell_intervals.specs.IntervalFaults.{HasSmallComponent, IsFaultOf}
+use Rattle.cell_intervals.specs.Intervals.{AreIntervals, HasWholeEnds}
 use Rattle.cell_intervals.proofs.intervals.intervals_of.Goals as goal
-use Rattle.cell_intervals.proofs.intervals.intervals_of.Goals.{then-as_slice-cell+in_ok-one+in_ok-push, else-as_slice-cell}
 
-pub cells-preserved : goal.cells-preserved
-cells-preserved c =
-    let system = c.args.system.now in
-    let cells = c.args.cells.now in
-    let flags = c.args.hidden.now.flags in
-    let cell = c.cells.cell in
-    let P : CellInterval → Type 0 = IsIntervalOf system cells flags in
-    let Whole : CellInterval → Type 0 = HasWholeEnds system cells flags in
-    let rest : List ℕ = filter (is_hidden flags) (range_with_len (cell + 1) (system.cells - (cell + 1))) in
-    elim c.if-as_slice-cell.branch [
-      | then-as_slice-cell+in_ok-one+in_ok-push w ↦
-          let one : CellInterval = w.in_ok-one.one in
-          let hidden : is_hidden flags cell ≡ true = subst (λ (bs : List Bool). slice_index_or bs cell false ≡ true) c.as_slice.ensures w.if-as_slice-cell.true in
-          let grown : c.if-as_slice-cell.intervals ≡ c.cells.intervals ++ one ∷ [] = w.intervals-is ∙ w.in_ok-push.ensures.ok in
-          let right : IsIntervalOf system cells flags one = subst (λ (own : System). IsIntervalOf own cells flags one) c.in_ok-signed.ensures w.in_ok-one.ensures.right in
-          let whole : (signs : List Bool) → AreSigns system.relations signs → HasWholeEnds system cells flags one =
-          subst (λ (own : System). (signs : List Bool) → AreSigns own.relations signs → HasWholeEnds own cells flags one) c.in_ok-signed.ensures w.in_ok-one.ensures.whole in
-          let ended : HasBothEnds system cells flags cell = subst (λ (own : System). HasBothEnds own cells flags cell) c.in_ok-signed.ensures w.in_ok-one.ensures.ended in
-          record {
-            numbers =
-                ap (λ (numbers : List ℕ). numbers ++ rest) (numbers_more c.cells.intervals one cell c.if-as_slice-cell.intervals grown w.in_ok-one.ensures.number)
-                ∙ next_hidden flags system.cells (map (λ (interval : CellInterval). interval.cell) c.cells.intervals) (hidden_cells flags) cell c.cells-test.true hidden c.cells.invariant.numbers;
-            each = subst (All P) (sym grown) (All-push P c.cells.intervals one c.cells.invariant.each right);
-            whole = λ signs are. subst (All Whole) (sym grown) (All-push Whole c.cells.intervals one (c.cells.invariant.whole signs are) (whole signs are));
-            ended = below_next (HasBothEnds system cells flags) flags cell c.cells.invariant.ended (λ _. ended);
-          }
-      | else-as_slice-cell w ↦
-          let shown : is_hidden flags cell ≡ false = subst (λ (bs : List Bool). slice_index_or bs cell false ≡ false) c.as_slice.ensures w.if-as_slice-cell.false in
-          let same : c.if-as_slice-cell.intervals ≡ c.cells.intervals = w.intervals-is in
-          record {
-            numbers =
-                ap (λ (intervals : List CellInterval). map (λ (interval : CellInterval). interval.cell) intervals ++ rest) same
-                ∙ next_shown flags system.cells (map (λ (interval : CellInterval). interval.cell) c.cells.intervals) (hidden_cells flags) cell c.cells-test.true shown c.cells.invariant.numbers;
-            each = subst (All P) (sym same) c.cells.invariant.each;
-            whole = λ signs are. subst (All Whole) (sym same) (c.cells.invariant.whole signs are);
-            ended = below_next (HasBothEnds system cells flags) flags cell c.cells.invariant.ended (λ hidden. let clash : false ≡ true = sym shown ∙ hidden in absurd cc);
-          }
-    ]
+pub returns-in-Some-clause-intervals : goal.returns-in-Some-clause-intervals
+returns-in-Some-clause-intervals c =
+    subst (λ (own : System). AreIntervals own c.args.cells.now c.args.hidden.now.flags c.in-Some.found) c.in_ok-signed.ensures c.in-Some.ensures.intervals
 
-pub returns-in_err-one-clause-cause : goal.returns-in_err-one-clause-cause
-returns-in_err-one-clause-cause c =
-    let flags = c.args.hidden.now.flags in
-    let hidden : is_hidden flags c.cells.cell ≡ true = subst (λ (bs : List Bool). slice_index_or bs c.cells.cell false ≡ true) c.as_slice.ensures c.if-as_slice-cell.true in
-    let cause : IsIntervalCause c.args.system.now c.args.cells.now flags c.cells.cell c.args.limit c.in_err-one.field-0.0 =
-    subst (λ (own : System). IsIntervalCause own c.args.cells.now flags c.cells.cell c.args.limit c.in_err-one.field-0.0) c.in_ok-signed.ensures c.in_err-one.ensures.cause in
-    let p = err_from_is_err_and c.from_residual-in_err-one.result c.from_residual-in_err-one.ensures.1 in
-    rw (p.1, p.2) (fault_at c.args.system.now c.args.cells.now flags c.args.limit c.cells.cell c.in_err-one.field-0.0 hidden c.cells.invariant.ended cause)
+pub returns-in-Some-clause-whole : goal.returns-in-Some-clause-whole
+returns-in-Some-clause-whole c = λ signs are. absurd (c.in-Some.ensures.no_signs signs (subst (λ (own : System). AreSigns own.relations signs) (sym c.in_ok-signed.ensures) are))
+
+pub returns-in-Some-clause-small : goal.returns-in-Some-clause-small
+returns-in-Some-clause-small c =
+    subst (λ (own : System). (cell : ℕ) → is_hidden c.args.hidden.now.flags cell ≡ true → HasSmallComponent own c.args.hidden.now.flags cell) c.in_ok-signed.ensures c.in-Some.ensures.small
+
+pub returns-clause-intervals : goal.returns-clause-intervals
+returns-clause-intervals c =
+    subst (λ (own : System). IfOk c.asked_intervals.result (AreIntervals own c.args.cells.now c.args.hidden.now.flags)) c.in_ok-signed.ensures c.asked_intervals.ensures.intervals
+
+pub returns-clause-whole : goal.returns-clause-whole
+returns-clause-whole c =
+    subst (λ (own : System). (signs : List Bool) → AreSigns own.relations signs → IfOk c.asked_intervals.result (All (HasWholeEnds own c.args.cells.now c.args.hidden.now.flags))) c.in_ok-signed.ensures c.asked_intervals.ensures.whole
 
 pub returns-clause-small : goal.returns-clause-small
-returns-clause-small c = λ cell hidden.
-    let inside : cell < length c.args.hidden.now.flags = hidden-inside c.args.hidden.now.flags cell hidden in
-    small_where_ended c.args.system.now c.args.cells.now c.args.hidden.now.flags cell (c.cells.invariant.ended cell (omega (arith, inside, c.requires.ground.each_flag, c.cells-test.false)) hidden)
+returns-clause-small c =
+    subst (λ (own : System). IfOk c.asked_intervals.result (λ _. (cell : ℕ) → is_hidden c.args.hidden.now.flags cell ≡ true → HasSmallComponent own c.args.hidden.now.flags cell)) c.in_ok-signed.ensures c.asked_intervals.ensures.small
+
+pub returns-clause-cause : goal.returns-clause-cause
+returns-clause-cause c =
+    subst (λ (own : System). IfErr c.asked_intervals.result (IsFaultOf own c.args.cells.now c.args.hidden.now.flags c.args.limit)) c.in_ok-signed.ensures c.asked_intervals.ensures.cause
+
+pub returns-clause-signed : goal.returns-clause-signed
+returns-clause-signed c =
+    subst (λ (own : System). (signs : List Bool) → AreSigns own.relations signs → IfErr c.asked_intervals.result (λ fault. HasNoWalk fault)) c.in_ok-signed.ensures c.asked_intervals.ensures.signed

@@ -64,3 +64,15 @@ returns-clause-whole c = λ signs are. c.in_ok-audited.ensures.whole signs (subs
 pub returns-clause-small : goal.returns-clause-small
 returns-clause-small c =
     subst (λ (own : System). (number : ℕ) → is_primary_at c.args.cells.now number ≡ true → HasSmallComponent own (all_hidden own.cells) number) c.in_ok-signed.ensures c.in_ok-audited.ensures.small
+
+pub returns-in-Some-clause-audit : goal.returns-in-Some-clause-audit
+returns-in-Some-clause-audit c =
+    subst (λ base. IsAudit c.args.system.now c.args.cells.now c.args.values.now base c.in-Some.found) (to_z-of_z w128 c.args.base c.ranges.base)
+    (subst (λ (own : System). IsAudit own c.args.cells.now c.args.values.now (to_z w128 (of_z w128 c.args.base)) c.in-Some.found) c.in_ok-signed.ensures c.in-Some.ensures.audit)
+
+pub returns-in-Some-clause-whole : goal.returns-in-Some-clause-whole
+returns-in-Some-clause-whole c = λ signs are. absurd (c.in-Some.ensures.no_signs signs (subst (λ (own : System). AreSigns own.relations signs) (sym c.in_ok-signed.ensures) are))
+
+pub returns-in-Some-clause-small : goal.returns-in-Some-clause-small
+returns-in-Some-clause-small c =
+    subst (λ (own : System). (number : ℕ) → is_primary_at c.args.cells.now number ≡ true → HasSmallComponent own (all_hidden own.cells) number) c.in_ok-signed.ensures c.in-Some.ensures.small
