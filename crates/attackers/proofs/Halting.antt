@@ -94,7 +94,7 @@ tries_told siege first progress place fault row extras dropped stop same one two
 pub record IsLeftOut (c : Case) (soles : List (Option ℕ)) (first : List Bool) (Is : Attack → Type 0) : Type 0 where
   pub guards : (attack : Attack) → Is attack → Guards c soles first attack
 
-before_all : (c : Case) (soles : List (Option ℕ)) (first flags : List Bool) (Is : Attack → Type 0) (all left : List Attack) (thinned : IsThinned Is all left) (place : ℕ) → IsLeftOut c soles first Is → IsWithin first flags → GuardsBefore c soles flags left place → GuardsBefore c soles flags all (spot Is all left thinned place)
+pub before_all : (c : Case) (soles : List (Option ℕ)) (first flags : List Bool) (Is : Attack → Type 0) (all left : List Attack) (thinned : IsThinned Is all left) (place : ℕ) → IsLeftOut c soles first Is → IsWithin first flags → GuardsBefore c soles flags left place → GuardsBefore c soles flags all (spot Is all left thinned place)
 before_all c soles first flags Is all left thinned place out within before =
     spot_before Is (Guards c soles flags) all left thinned place (λ attack is. guards_more c soles first flags attack within (out.guards attack is)) before
 
@@ -108,7 +108,7 @@ turn_all c soles prices first flags Is all left thinned out within extra is = re
   cheapest = is.cheapest;
 }
 
-each_all : (c : Case) (soles : List (Option ℕ)) (prices : List ℕ) (first flags : List Bool) (Is : Attack → Type 0) (all left : List Attack) → IsThinned Is all left → IsLeftOut c soles first Is → IsWithin first flags → (extras : List ExtraNeed) → EachExtra (IsInTurn c soles prices left) flags extras → EachExtra (IsInTurn c soles prices all) flags extras
+pub each_all : (c : Case) (soles : List (Option ℕ)) (prices : List ℕ) (first flags : List Bool) (Is : Attack → Type 0) (all left : List Attack) → IsThinned Is all left → IsLeftOut c soles first Is → IsWithin first flags → (extras : List ExtraNeed) → EachExtra (IsInTurn c soles prices left) flags extras → EachExtra (IsInTurn c soles prices all) flags extras
 each_all c soles prices first flags Is all left thinned out within [] each = tt
 each_all c soles prices first flags Is all left thinned out within (extra ∷ extras) each = (
   turn_all c soles prices first flags Is all left thinned out within extra each.0,

@@ -13,6 +13,7 @@ pub mod AcceptedExtras
 pub mod Halting
 pub mod GuardOrder
 pub mod Concluding
+pub mod Turns
 pub mod Saying
 pub mod Wholeness
 pub mod EachAttack

@@ -16,17 +16,16 @@ use Rattle.sdc_base.specs.Refutations.{share, share_at, AreBounded}
 use Rattle.worlds.specs.declared.multipliers.Multipliers.{Multipliers}
 use Rattle.worlds.specs.RefutationFaults.{terms_added}
 use Rattle.worlds.proofs.RefutationLaws.{no_world}
-use Rattle.interval_audit.specs.declared.answer.Answer.{Answer}
-use Rattle.interval_audit.specs.declared.answer.Answer.TheVariants.{Reaches, Stops}
+use Rattle.kept_questions.specs.declared.kept_answer.KeptAnswer.{KeptAnswer}
+use Rattle.kept_questions.specs.declared.kept_answer.KeptAnswer.TheVariants.{Reaches, Stops}
 use Rattle.interval_audit.specs.declared.answer.AskFault.{AskFault}
-use Rattle.interval_audit.specs.declared.question.Question.{Question}
-use Rattle.interval_audit.specs.Answers.{IsTrueAnswer, IsAnswerOf}
+use Rattle.interval_audit.specs.Answers.{ReachesTarget}
 use Rattle.repair.specs.HidingOrder.{Case, IsOfKind, hide, breaks, breaks_at, coefficients_for, IsCheapest}
-use Rattle.repair.specs.LevelQuestions.{IsLevelQuestion, HasCause}
+use Rattle.repair.specs.LevelQuestions.{IsLevelAnswer, HasCause}
 use Rattle.repair.proofs.Flags.{IsWithin, by_test, hidden_map, within_full}
 use Rattle.repair.proofs.Growing.{given_more}
-use Rattle.repair.proofs.Refuting.{reaching_test, stopping_refutes, share_full, hidden_or_none, refutation_alike}
-use Rattle.repair.proofs.Repairing.{none_is_more, last_same, hidden_cell, breaking_says}
+use Rattle.repair.proofs.Refuting.{reaching_test, share_full, hidden_or_none, refutation_alike}
+use Rattle.repair.proofs.Repairing.{given_refutes, none_is_more, last_same, hidden_cell, breaking_says}
 use Rattle.attackers.specs.declared.attack.Attack.{Attack}
 use Rattle.certificate.specs.declared.extra.ExtraNeed.{ExtraNeed}
 use Rattle.attackers.specs.KnownCells.{is_known, without_known, with_known, target_of, GuardsBefore, IsAttack}
@@ -36,16 +35,15 @@ use Rattle.attackers.proofs.AskedCells.{AttackSays, attack_says}
 use Rattle.attackers.proofs.Knowing.{left_says, closed_says, without_within, all_guards_more, world_serves}
 
 -- what asking comes to, by the answer
-pub answer_is : (c : Case) (soles : List (Option ℕ)) (flags : List Bool) (attack : Attack) (question : Question) (answer : Answer) → IsLevelQuestion c.cells (target_of attack) question → IsTrueAnswer c.system c.cells (without_known soles attack.row flags) question answer → IsAnswerOf c.system c.cells (without_known soles attack.row flags) question answer → IsAnswerAgainst c soles flags attack answer
-answer_is c soles flags attack question (Reaches world) is right read = (
-  given_more c.system c.cells (without_known soles attack.row flags) flags world (without_within soles attack.row flags) right.is_world,
-  world_serves c soles flags attack world right.is_world (reaching_test c.system c.cells (without_known soles attack.row flags) (target_of attack) question world is right),
-  λ signs are. read.3.whole signs are,
-)
-answer_is c soles flags attack question (Stops best world m) is right read = (
-  stopping_refutes c.system c.cells (without_known soles attack.row flags) (target_of attack) question best world m is right,
-  record { question = question; best = best; world = world; is_asked = is; is_right = right; is_read = read },
-)
+pub answer_is : (c : Case) (soles : List (Option ℕ)) (flags : List Bool) (attack : Attack) (answer : KeptAnswer) → IsLevelAnswer c.system c.cells (without_known soles attack.row flags) (target_of attack) answer → IsAnswerAgainst c soles flags attack answer
+answer_is c soles flags attack (Reaches world) given =
+    let left : List Bool = without_known soles attack.row flags in
+    let right : ReachesTarget c.system c.cells left given.question world = subst (λ (set : List Bool). ReachesTarget c.system c.cells set given.question world) given.is_one given.is_right in (
+      given_more c.system c.cells left flags world (without_within soles attack.row flags) right.is_world,
+      world_serves c soles flags attack world right.is_world (reaching_test c.system c.cells left (target_of attack) given.question world given.is_asked right),
+      λ signs are. (given.is_read signs are).3.whole signs are,
+    )
+answer_is c soles flags attack (Stops m) given = (given_refutes c.system c.cells (without_known soles attack.row flags) (target_of attack) m given, given)
 
 -- ---- extra cells
 

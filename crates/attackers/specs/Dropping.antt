@@ -16,7 +16,7 @@ use Rattle.attackers.specs.declared.siege.Siege.{Siege}
 use Rattle.attackers.specs.declared.trial.Trial.{Trial}
 use Rattle.attackers.specs.declared.trial.Trial.TheVariants.{Renewed, Refused}
 use Rattle.attackers.specs.declared.trying.Findings.{Findings}
-use Rattle.attackers.specs.KnownCells.{without_known, target_of, GuardsAll}
+use Rattle.attackers.specs.KnownCells.{without_known, target_of, GuardsAll, GuardsBefore}
 use Rattle.attackers.specs.Extras.{attack_of, subjects_of, Unguards}
 use Rattle.attackers.specs.Sieges.{case_of, HoldGuards, IsAsked}
 
@@ -36,12 +36,13 @@ is_beside first flags cell = is_hidden flags cell && not (is_hidden first cell)
 abbrev pub cells_beside : List Bool → List Bool → ℕ → List ℕ
 cells_beside first flags n = filter (is_beside first flags) (range_with_len 0 n)
 
--- multipliers refute that a hidden set guards against one of these attacks, the one that a need names, as its question
--- is answered
+-- multipliers refute that a hidden set guards against the attack that a need names, as its question is answered; it is
+-- the first of these attacks that the set doesn't guard against
 pub record IsNeedFor (c : Case) (soles : List (Option ℕ)) (attacks : List Attack) (flags : List Bool) (need : ExtraNeed)
     : Type 0 where
   pub place : ℕ
   pub stands : slice_get attacks place ≡ Some (attack_of need)
+  pub before : GuardsBefore c soles flags attacks place
   pub refutes : Unguards c soles flags (attack_of need) need.multipliers
   pub gives : AreGiven c.system c.cells (without_known soles need.row flags) (target_of (attack_of need))
       need.multipliers

@@ -11,4 +11,5 @@ pub mod ExtraAcceptance
 pub mod GuardStops
 pub mod Guarding
 pub mod Narrowing
+pub mod Turns
 pub mod Laws

@@ -4,18 +4,22 @@ use Rattle.sdc_base.specs.HiddenSets.{IsPermitted}
 use Rattle.worlds.specs.ProtectFaults.{asked_of}
 use Rattle.certificate.specs.declared.certificate.WorldLine.{WorldLine}
 use Rattle.certificate.specs.declared.extra.Extra.{Extra}
+use Rattle.certificate.specs.declared.extra.ExtraNeed.{ExtraNeed}
 use Rattle.attackers.specs.declared.extra.Guarded.{Guarded}
 use Rattle.attackers.specs.declared.extra.Guarded.TheVariants.{Guards, CannotAgainst}
 use Rattle.attackers.specs.declared.siege.Siege.{Siege}
-use Rattle.attackers.specs.Extras.{subjects_of}
+use Rattle.attackers.specs.Extras.{hide_cells, subjects_of, IsInTurn, EachExtra}
 use Rattle.attackers.specs.Sieges.{case_of, IsCannot}
 use Rattle.attackers.specs.Dropping.{IsTried}
 use Rattle.attackers.specs.Guarding.{guards_in_order}
 
--- An extra is what is left when all extra cells have been tried: the cells that have needs, and the guards in the order
--- of what is asked.
+-- An extra is what is left when all extra cells, which came in turn, have been tried: the cells that have needs, and the
+-- guards in the order of what is asked.
 pub record IsNarrowed (siege : Siege) (first : List Bool) (extra : Extra) : Type 0 where
+  pub turns : List ExtraNeed
+  pub in_turn : EachExtra (IsInTurn (case_of siege) siege.soles.now siege.prices.now siege.attacks.now) first turns
   pub larger : List Bool
+  pub larger_is : larger ≡ hide_cells first (subjects_of turns)
   pub flags : List Bool
   pub guards : List WorldLine
   pub dropped : List ℕ

@@ -5,8 +5,8 @@ use Rattle.sdc_base.specs.HiddenSets.{IsPermitted, full_set}
 use Rattle.sdc_base.specs.Signs.{AreSigns}
 use Rattle.worlds.specs.declared.multipliers.Multipliers.{Multipliers}
 use Rattle.worlds.specs.WorldFaults.{IsGivenWorld}
-use Rattle.interval_audit.specs.declared.answer.Answer.{Answer}
-use Rattle.interval_audit.specs.declared.answer.Answer.TheVariants.{Reaches, Stops}
+use Rattle.kept_questions.specs.declared.kept_answer.KeptAnswer.{KeptAnswer}
+use Rattle.kept_questions.specs.declared.kept_answer.KeptAnswer.TheVariants.{Reaches, Stops}
 use Rattle.interval_audit.specs.declared.answer.AskFault.{AskFault}
 use Rattle.certificate.specs.declared.certificate.WorldLine.{WorldLine}
 use Rattle.repair.specs.HidingOrder.{Case, protected_case, IsOfKind, breaks_at, coefficients_for, IsCheapest}
@@ -71,11 +71,11 @@ IsExtensionProgress siege place before after =
 
 -- what asking about an attack comes to: a world for the hidden set that serves against it, in whole units where the
 -- relations have signs; or multipliers that refute it, as its question is answered
-abbrev pub IsAnswerAgainst : Case → List (Option ℕ) → List Bool → Attack → Answer → Type 0
+abbrev pub IsAnswerAgainst : Case → List (Option ℕ) → List Bool → Attack → KeptAnswer → Type 0
 IsAnswerAgainst c soles flags attack (Reaches world) =
     IsGivenWorld c.system c.cells flags world × (serves c.cells soles attack world ≡ true)
     × ((signs : List Bool) → AreSigns c.system.relations signs → world.den ≡ pos 1)
-IsAnswerAgainst c soles flags attack (Stops best world multipliers) = Unguards c soles flags attack multipliers
+IsAnswerAgainst c soles flags attack (Stops multipliers) = Unguards c soles flags attack multipliers
     × AreGiven c.system c.cells (without_known soles attack.row flags) (target_of attack) multipliers
 
 -- no cell that the contributor of an attack doesn't know would break its multipliers

@@ -1,6 +1,9 @@
 ghost use Rattle.std.specs.Prelude.{◌≡◌, true, length, IfOk, IfErr, IfNone, IfSome};
+ghost use Rattle.sdc_base.specs.Grounds.{IsGround};
 ghost use Rattle.sdc_base.specs.HiddenSets.{is_hidden};
-ghost use Rattle.repair.specs.LevelQuestions.{HasCause};
+ghost use Rattle.sdc_base.specs.declared.cell.Kind.TheVariants.{Primary as PrimaryKind};
+ghost use Rattle.repair.specs.HidingOrder.{IsOfKind};
+ghost use Rattle.repair.specs.LevelQuestions.{HasCause, IsLevelAnswer};
 ghost use Rattle.attackers.specs.KnownCells as known;
 ghost use Rattle.attackers.specs.KnownCells.{IsAttack, target_of};
 ghost use Rattle.attackers.specs.Extras.{Unguards};
@@ -10,18 +13,21 @@ use crate::attack::Attack;
 use crate::known::{with_known, without_known};
 use crate::siege::Siege;
 use interval_audit::{Answer, AskFault};
+use kept_questions::{KeptAnswer, KeptQuestions};
 use repair::{find_cheapest, level_question};
-use sdc_base::Memory;
+use sdc_base::{Hidden, Memory, Side};
 use std::alloc::Global;
-use worlds::{Multipliers, check_refutation};
+use worlds::{Multipliers, Pattern, check_refutation};
 
-/// Whether a hidden set, without what the contributor knows, takes the cell of an attack as far as its level.
+/// Whether a hidden set, without what the contributor knows, takes the cell of an attack as far as its level: asked of
+/// what is kept, or else of the walk.
 pub(crate) fn ask_against(
     alloc: Global,
     siege: &Siege<'_>,
     flags: &[bool],
     attack: Attack,
-) -> Result<Answer, AskFault>
+    kept: &mut Option<KeptQuestions>,
+) -> Result<KeptAnswer, AskFault>
     requires each { length flags.now ≡ siege.now.system.now.cells }
     requires is_attack { IsAttack siege.now.cells.now siege.now.soles.now attack }
     requires hidden { is_hidden flags.now attack.cell ≡ true }
@@ -30,10 +36,77 @@ pub(crate) fn ask_against(
         (known.without_known siege.now.soles.now attack.row flags.now) (target_of attack) siege.now.limit fault) }
 {
     let left = without_known(alloc, siege.soles, attack.row, flags)?;
-    let question = level_question(siege.cells, (attack.cell, attack.side));
-    siege
+    let asked = (attack.cell, attack.side);
+    let found = ask_kept(alloc, siege, &left, asked, kept);
+    match found {
+        Some(answer) => Ok(answer),
+        None => ask_walk(alloc, siege, &left, asked),
+    }
+}
+
+/// Questions about these hidden cells, kept from one to the next; none where the system has signs, whose questions are
+/// quick without.
+pub(crate) fn questions_about(
+    alloc: Global,
+    siege: &Siege<'_>,
+    hidden: &Hidden,
+) -> Option<KeptQuestions> {
+    if siege.system.has_signs() {
+        return None;
+    }
+    Some(KeptQuestions::new(alloc, siege.system.system(), siege.cells, hidden))
+}
+
+// Whether a hidden set takes a primary cell to a side as far as its level, asked of what is kept, where it has an answer.
+fn ask_kept(
+    alloc: Global,
+    siege: &Siege<'_>,
+    left: &Hidden,
+    asked: (u32, Side),
+    kept: &mut Option<KeptQuestions>,
+) -> Option<KeptAnswer>
+    requires ground { IsGround siege.now.system.now siege.now.cells.now left.now.flags }
+    requires primary { IsOfKind siege.now.cells.now asked.0 PrimaryKind }
+    requires hidden { is_hidden left.now.flags asked.0 ≡ true }
+    ensures answer { IfSome result (λ answer. IsLevelAnswer siege.now.system.now siege.now.cells.now left.now.flags asked
+        answer) }
+{
+    if siege.system.has_signs() {
+        return None;
+    }
+    let questions = kept.as_mut()?;
+    let pattern = Pattern {
+        system: siege.system.system(),
+        cells: siege.cells,
+        hidden: left,
+    };
+    let question = level_question(siege.cells, asked);
+    questions.ask(alloc, &pattern, question)
+}
+
+// The same, asked of the walk.
+fn ask_walk(
+    alloc: Global,
+    siege: &Siege<'_>,
+    left: &Hidden,
+    asked: (u32, Side),
+) -> Result<KeptAnswer, AskFault>
+    requires ground { IsGround siege.now.system.now siege.now.cells.now left.now.flags }
+    requires primary { IsOfKind siege.now.cells.now asked.0 PrimaryKind }
+    requires hidden { is_hidden left.now.flags asked.0 ≡ true }
+    ensures ok { IfOk result (λ answer. IsLevelAnswer siege.now.system.now siege.now.cells.now left.now.flags asked
+        answer) }
+    ensures err { IfErr result (λ fault. HasCause siege.now.system.now siege.now.cells.now left.now.flags asked
+        siege.now.limit fault) }
+{
+    let question = level_question(siege.cells, asked);
+    let answer = siege
         .system
-        .ask(alloc, siege.cells, &left, question, siege.limit)
+        .ask(alloc, siege.cells, left, question, siege.limit)?;
+    match answer {
+        Answer::Reaches(world) => Ok(KeptAnswer::Reaches(world)),
+        Answer::Stops { multipliers, .. } => Ok(KeptAnswer::Stops(multipliers)),
+    }
 }
 
 /// The cheapest cell that would break the refutation of an attack, of those that the contributor doesn't know.

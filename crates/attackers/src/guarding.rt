@@ -11,8 +11,10 @@ ghost use Rattle.attackers.specs.Sieges.{case_of, HoldGuards, IsExtendedUpTo};
 ghost use Rattle.attackers.specs.GuardStops.{IsStopAsTold};
 ghost use Rattle.attackers.specs.Guarding.{IsGuarded, is_cannot};
 ghost use Rattle.attackers.specs.Narrowing.{IsOutcome};
+ghost use Rattle.attackers.specs.Turns.{IsLeftOfTurns};
 ghost use Rattle.attackers.specs.WholeGuards.{IsWholeGuarded, IsWholeGuardStop};
 
+use crate::asking::questions_about;
 use crate::collecting::extra_of;
 use crate::extra::{GuardStop, Guarded};
 use crate::order::unserved_attacks;
@@ -60,7 +62,9 @@ use worlds::Protected;
 ///
 /// The rule is asked once for each cell without a price. For each contributor, primary cell and side it takes one look
 /// at the protection's world, and only where that one doesn't serve one at the worlds at hand, and where none of them
-/// does, a question. A trial goes once through those for which the protection's world doesn't serve.
+/// does, a question. A trial goes once through those for which the protection's world doesn't serve. Where the system
+/// has no signs, questions are asked of kept tables first ([`kept_questions`]), and of the walk where these have no
+/// answer; multipliers are those of the walk's answer either way.
 ///
 /// Extra cells are argus's own; the questions are those of the feasibility interval in Hundepool et al., Statistical
 /// Disclosure Control, chapter on magnitude tables.
@@ -84,6 +88,8 @@ pub fn guard<F: TellsCosts>(
     requires limit { 1 ≤ limit }
     ensures guarded { IfOk result (IsGuarded (protected_case system.now cells.now) soles.now protected.now.hidden.flags
         protected.now.worlds) }
+    ensures turns { IfOk result (IsLeftOfTurns (protected_case system.now cells.now) soles.now
+        (prices_of rule.now cells.now marks.now) (order.attacks_of cells.now soles.now) protected.now.hidden.flags) }
     ensures cannot { IfOk result (λ guarded. IsTrue (is_cannot guarded)
         ↔ ¬ GuardsAll (protected_case system.now cells.now)
         soles.now (full_set cells.now) (order.attacks_of cells.now soles.now)) }
@@ -133,6 +139,8 @@ fn resist_beside(
         ≡ order.unserved_attacks siege.now.cells.now siege.now.soles.now protected.now.worlds }
     ensures guarded { IfOk result (IsGuarded (case_of siege.now) siege.now.soles.now protected.now.hidden.flags
         protected.now.worlds) }
+    ensures turns { IfOk result (IsLeftOfTurns (case_of siege.now) siege.now.soles.now siege.now.prices.now
+        (order.attacks_of siege.now.cells.now siege.now.soles.now) protected.now.hidden.flags) }
     ensures stopped { IfErr result (IsStopAsTold (case_of siege.now) siege.now.soles.now siege.now.prices.now
         (order.attacks_of siege.now.cells.now siege.now.soles.now) protected.now.hidden.flags siege.now.limit) }
     ensures whole { (signs : List Bool) → AreSigns siege.now.system.now.relations signs
@@ -168,6 +176,7 @@ fn resist(
         },
         guards: Items::empty(alloc),
         extras: Items::empty(alloc),
+        kept: questions_about(alloc, siege, first),
     };
     let outcome = guard_all(alloc, siege, &mut progress);
     let found = match outcome {

@@ -1,8 +1,12 @@
 ghost use Rattle.std.specs.Prelude.{◌≡◌, ◌<◌, ◌++◌, ◌∷◌, [], length, OnOk, OnErr};
 ghost use Rattle.repair.specs.HidingOrder.{hide};
 
+use crate::asking::questions_about;
+use crate::siege::Siege;
 use certificate::{ExtraNeed, WorldLine};
+use kept_questions::KeptQuestions;
 use sdc_base::{Hidden, Items, Memory};
+use std::alloc::Global;
 
 /// How far guarding against attacks has come.
 #[derive(Drop)]
@@ -11,6 +15,8 @@ pub(crate) struct Progress {
     /// The worlds kept for attacks so far.
     pub(crate) guards: Items<WorldLine>,
     pub(crate) extras: Items<ExtraNeed>,
+    /// Questions about the hidden cells, kept from one to the next; none where the system has signs.
+    pub(crate) kept: Option<KeptQuestions>,
 }
 
 impl Progress {
@@ -22,6 +28,15 @@ impl Progress {
         ensures err { OnErr result (self.new.guards ≡ self.old.guards) }
     {
         self.guards.push(line)
+    }
+
+    /// Keeps questions about the cells that are hidden now.
+    pub(crate) fn keep_questions(&mut self, alloc: Global, siege: &Siege<'_>)
+        ensures flags { self.new.hidden.flags ≡ self.old.hidden.flags }
+        ensures guards { self.new.guards ≡ self.old.guards }
+        ensures extras { self.new.extras ≡ self.old.extras }
+    {
+        self.kept = questions_about(alloc, siege, &self.hidden);
     }
 
     /// Hides an extra cell, and keeps its reason.

@@ -10,7 +10,8 @@ use crate::lines::is_served;
 use crate::progress::Progress;
 use crate::siege::Siege;
 use certificate::{ExtraNeed, WorldLine};
-use interval_audit::{Answer, AskFault};
+use interval_audit::AskFault;
+use kept_questions::{KeptAnswer, KeptQuestions};
 use sdc_base::Memory;
 use std::alloc::Global;
 use worlds::Multipliers;
@@ -76,7 +77,7 @@ fn guard_at(
         let step = guard_once(alloc, siege, place, progress)?;
         match step {
             Step::Served => return Ok(None),
-            Step::Extended => {}
+            Step::Extended => progress.keep_questions(alloc, siege),
             Step::Cannot(one) => return Ok(Some(one)),
         }
     }
@@ -102,7 +103,13 @@ fn guard_once(
     if is_served(siege.cells, siege.soles, attack, progress.guards.as_slice()) {
         return Ok(Step::Served);
     }
-    let answer = answer_against(alloc, siege, progress.hidden.flags.as_slice(), attack)?;
+    let answer = answer_against(
+        alloc,
+        siege,
+        progress.hidden.flags.as_slice(),
+        attack,
+        &mut progress.kept,
+    )?;
     match step_by(alloc, siege, attack, place, answer, progress) {
         Ok(step) => Ok(step),
         Err(_) => Err(Halt {
@@ -129,7 +136,8 @@ pub(crate) fn answer_against(
     siege: &Siege<'_>,
     flags: &[bool],
     attack: Attack,
-) -> Result<Answer, Halt>
+    kept: &mut Option<KeptQuestions>,
+) -> Result<KeptAnswer, Halt>
     requires each { length flags.now ≡ siege.now.system.now.cells }
     requires is_attack { IsAttack siege.now.cells.now siege.now.soles.now attack }
     requires hidden { is_hidden flags.now attack.cell ≡ true }
@@ -138,7 +146,7 @@ pub(crate) fn answer_against(
         (without_known siege.now.soles.now attack.row flags.now) (target_of attack) siege.now.limit halt.fault) }
     ensures row { IfErr result (λ halt. halt.row ≡ attack.row) }
 {
-    match ask_against(alloc, siege, flags, attack) {
+    match ask_against(alloc, siege, flags, attack, kept) {
         Ok(answer) => Ok(answer),
         Err(fault) => Err(Halt {
             fault,
@@ -154,7 +162,7 @@ fn step_by(
     siege: &Siege<'_>,
     attack: Attack,
     place: usize,
-    answer: Answer,
+    answer: KeptAnswer,
     progress: &mut Progress,
 ) -> Result<Step, Memory>
     requires ready { IsReadySet siege.now progress.old.hidden.flags }
@@ -167,7 +175,7 @@ fn step_by(
     ensures err { OnErr result (progress.new.hidden.flags ≡ progress.old.hidden.flags) }
 {
     match answer {
-        Answer::Reaches(world) => {
+        KeptAnswer::Reaches(world) => {
             progress.keep(WorldLine {
                 cell: attack.cell,
                 side: attack.side,
@@ -175,7 +183,7 @@ fn step_by(
             })?;
             Ok(Step::Served)
         }
-        Answer::Stops { multipliers, .. } => {
+        KeptAnswer::Stops(multipliers) => {
             extend(alloc, siege, attack, place, multipliers, progress)
         }
     }

@@ -7,7 +7,8 @@ use crate::attempt::Attempt;
 use crate::lines::{is_served, is_still_served};
 use crate::serving::{Halt, answer_against, attack_at};
 use certificate::{ExtraNeed, WorldLine};
-use interval_audit::{Answer, AskFault};
+use interval_audit::AskFault;
+use kept_questions::{KeptAnswer, KeptQuestions};
 use sdc_base::Items;
 use std::alloc::Global;
 
@@ -21,7 +22,11 @@ pub(crate) enum Trial {
 }
 
 // Asks again, with the cell shown, about the attacks against which no kept world serves that doesn't move it.
-pub(crate) fn ask_anew(alloc: Global, attempt: &Attempt<'_, '_>) -> Result<Trial, Halt>
+pub(crate) fn ask_anew(
+    alloc: Global,
+    attempt: &Attempt<'_, '_>,
+    kept: &mut Option<KeptQuestions>,
+) -> Result<Trial, Halt>
     requires holds { AreGuardsOf attempt.now.siege.now (hide attempt.now.hidden.now.flags attempt.now.cell)
         attempt.now.siege.now.attacks.now attempt.now.guards.now }
     ensures ok { IfOk result (IsTrial attempt.now.siege.now attempt.now.hidden.now.flags attempt.now.cell
@@ -31,7 +36,7 @@ pub(crate) fn ask_anew(alloc: Global, attempt: &Attempt<'_, '_>) -> Result<Trial
 {
     let mut news = Items::empty(alloc);
     'places: for place in 0..attempt.siege.attacks.len() {
-        let renewal = renew_attack(alloc, attempt, place, &mut news)?;
+        let renewal = renew_attack(alloc, attempt, place, &mut news, kept)?;
         if let Some(need) = renewal {
             return Ok(Trial::Refused(need));
         }
@@ -45,6 +50,7 @@ fn renew_attack(
     attempt: &Attempt<'_, '_>,
     place: usize,
     news: &mut Items<WorldLine>,
+    kept: &mut Option<KeptQuestions>,
 ) -> Result<Option<ExtraNeed>, Halt>
     requires place { place < length attempt.now.siege.now.attacks.now }
     requires holds { AreGuardsOf attempt.now.siege.now attempt.now.hidden.now.flags
@@ -64,9 +70,10 @@ fn renew_attack(
     if is_served(siege.cells, siege.soles, attack, news.as_slice()) {
         return Ok(None);
     }
-    let answer = answer_against(alloc, siege, attempt.hidden.flags.as_slice(), attack)?;
+    let flags = attempt.hidden.flags.as_slice();
+    let answer = answer_against(alloc, siege, flags, attack, kept)?;
     match answer {
-        Answer::Reaches(world) => {
+        KeptAnswer::Reaches(world) => {
             let line = WorldLine {
                 cell: attack.cell,
                 side: attack.side,
@@ -80,7 +87,7 @@ fn renew_attack(
                 }),
             }
         }
-        Answer::Stops { multipliers, .. } => Ok(Some(ExtraNeed {
+        KeptAnswer::Stops(multipliers) => Ok(Some(ExtraNeed {
             subject: cell,
             row: attack.row,
             cell: attack.cell,

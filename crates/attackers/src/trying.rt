@@ -101,7 +101,7 @@ fn try_one(
         hidden: &progress.hidden,
         guards: progress.guards.as_slice(),
     };
-    let trial = ask_anew(alloc, &attempt)?;
+    let trial = ask_anew(alloc, &attempt, &mut progress.kept)?;
     match trial {
         Trial::Renewed(news) => take_new(alloc, cell, news, progress),
         Trial::Refused(need) => put_back(cell, need, progress, found),

@@ -18,6 +18,7 @@ use Rattle.attackers.specs.ExtraFaults.{extra_fault}
 use Rattle.attackers.specs.Guarding.{IsGuarded, lines_of}
 use Rattle.attackers.specs.GuardStops.{StopsFor, IsStopAsTold}
 use Rattle.attackers.specs.Laws.{CanBeSaid}
+use Rattle.attackers.specs.Turns.{IsLeftOfTurns}
 use Rattle.attackers.specs.WholeGuards.{IsWholeAgainst, IsWholeGuarded, IsWholeGuardStop}
 use Rattle.attackers.specs.declared.extra.Against.{Against}
 use Rattle.attackers.specs.declared.extra.Guarded.{Guarded}
@@ -43,20 +44,22 @@ certificate-lines c protected certificate is =
 
 -- an answer is what guarding comes to
 pub answer-comes : (c : Case) (prices : List ℕ) (soles : List (Option ℕ)) (limit : ℕ) (protected : HiddenSet) (certificate : Certificate) (answer : Guarded) (outcome : Result GuardedCells Unguarded)
-    → IsCertified c protected certificate → IsGuarded c soles protected.hidden.flags protected.worlds answer → IsMadeOf certificate protected.hidden.flags answer outcome
+    → IsCertified c protected certificate → IsGuarded c soles protected.hidden.flags protected.worlds answer
+    → IsLeftOfTurns c soles prices (attacks_of c.cells soles) protected.hidden.flags answer → IsMadeOf certificate protected.hidden.flags answer outcome
     → ComesToGuard c prices soles limit protected certificate outcome
-answer-comes c prices soles limit protected certificate answer (Ok made) certified guarded is =
+answer-comes c prices soles limit protected certificate answer (Ok made) certified guarded turns is =
     let guards = subst (IsGuarded c soles protected.hidden.flags protected.worlds) is.0 guarded in
     record {
       guarding = guards;
+      turns = subst (IsLeftOfTurns c soles prices (attacks_of c.cells soles) protected.hidden.flags) is.0 turns;
       accepted = ap (λ (lines : List WorldLine). extra_fault c soles protected.hidden.flags lines made.extra) (sym (certificate-lines c protected certificate certified)) ∙ guards.accepted;
       flags_are = is.2;
       certificate_is = is.1;
     }
-answer-comes c prices soles limit protected certificate answer (Err (unguarded.CannotAgainst found)) certified guarded is =
+answer-comes c prices soles limit protected certificate answer (Err (unguarded.CannotAgainst found)) certified guarded turns is =
     subst (IsGuarded c soles protected.hidden.flags protected.worlds) is guarded
-answer-comes c prices soles limit protected certificate answer (Err (unguarded.Undecided stopped against)) certified guarded is = absurd is
-answer-comes c prices soles limit protected certificate answer (Err unguarded.Memory) certified guarded is = tt
+answer-comes c prices soles limit protected certificate answer (Err (unguarded.Undecided stopped against)) certified guarded turns is = absurd is
+answer-comes c prices soles limit protected certificate answer (Err unguarded.Memory) certified guarded turns is = tt
 
 -- and so is a stop
 pub stop-comes : (c : Case) (prices : List ℕ) (soles : List (Option ℕ)) (limit : ℕ) (protected : HiddenSet) (certificate : Certificate) (stop : GuardStop) (why : Unguarded)

@@ -18,6 +18,7 @@ use Rattle.attackers.specs.ExtraFaults.{extra_fault}
 use Rattle.attackers.specs.Guarding.{IsGuardedBy}
 use Rattle.attackers.specs.GuardStops.{StopsFor}
 use Rattle.attackers.specs.Sieges.{IsCannot}
+use Rattle.attackers.specs.Turns.{AreLeftOfTurns}
 use Rattle.attackers.specs.declared.extra.Against.{Against}
 use Rattle.cell_protection.specs.Protections.{IsProtectedWith}
 use Rattle.cell_guards.specs.ShownAgain.{shown_again}
@@ -42,10 +43,12 @@ pub record IsCertified (c : Case) (protected : HiddenSet) (certificate : Certifi
   pub protects : IsProtectedWith c prices method steps protected certificate
 
 -- A protected hidden set is guarded: beside it and its worlds the extra cells have no fault, each is needed, and with
--- them it guards against every contributor, as the full set does; the flags are those of the set with them.
-pub record IsGuardedWith (c : Case) (soles : List (Option ℕ)) (protected : HiddenSet) (certificate : Certificate)
-    (guarded : GuardedCells) : Type 0 where
+-- them it guards against every contributor, as the full set does; they are what is left of cells that came in turn; the
+-- flags are those of the set with them.
+pub record IsGuardedWith (c : Case) (prices : List ℕ) (soles : List (Option ℕ)) (protected : HiddenSet)
+    (certificate : Certificate) (guarded : GuardedCells) : Type 0 where
   pub guarding : IsGuardedBy c soles protected.hidden.flags protected.worlds guarded.extra
+  pub turns : AreLeftOfTurns c soles prices (attacks_of c.cells soles) protected.hidden.flags guarded.extra
   pub accepted : extra_fault c soles protected.hidden.flags certificate.worlds guarded.extra ≡ Ok tt
   pub flags_are : guarded.hidden.flags ≡ hide_cells protected.hidden.flags guarded.extra.cells
   pub certificate_is : guarded.certificate ≡ certificate
@@ -64,7 +67,8 @@ pub record StopsAgainst (c : Case) (prices : List ℕ) (soles : List (Option ℕ
 -- guards against a contributor, or a question stopped short.
 abbrev pub ComesToGuard : Case → List ℕ → List (Option ℕ) → ℕ → HiddenSet → Certificate
     → Result GuardedCells Unguarded → Type 0
-ComesToGuard c prices soles limit protected certificate (Ok guarded) = IsGuardedWith c soles protected certificate guarded
+ComesToGuard c prices soles limit protected certificate (Ok guarded) =
+    IsGuardedWith c prices soles protected certificate guarded
 ComesToGuard c prices soles limit protected certificate (Err (unguarded.CannotAgainst found)) =
     IsCannot c soles (attacks_of c.cells soles) found.attack found.multipliers
 ComesToGuard c prices soles limit protected certificate (Err (unguarded.Undecided stopped against)) =

@@ -4,6 +4,7 @@ ghost use Rattle.attackers.specs.Alone.{TellFrequencies};
 ghost use Rattle.attackers.specs.AttackOrder.{attacks_of};
 ghost use Rattle.attackers.specs.Guarding.{IsGuarded};
 ghost use Rattle.attackers.specs.GuardStops.{IsStopAsTold};
+ghost use Rattle.attackers.specs.Turns.{IsLeftOfTurns};
 ghost use Rattle.attackers.specs.WholeGuards.{IsWholeGuarded, IsWholeGuardStop};
 ghost use Rattle.cost_rule.specs.Costs.{AreCosted, IsTold};
 ghost use Rattle.linked_tables.specs.BookCells.{cells as cells_in};
@@ -150,6 +151,8 @@ fn answer_by<F: TellsCosts + Drop>(
     requires limit { 1 ≤ limit }
     ensures guarded { IfOk result (IsGuarded (case_of protected.now) alone.now
         protected.now.hidden_set.now.hidden.flags protected.now.hidden_set.now.worlds) }
+    ensures turns { IfOk result (IsLeftOfTurns (case_of protected.now) alone.now (prices_in cost protected.now)
+        (attacks_of protected.now.cells.now alone.now) protected.now.hidden_set.now.hidden.flags) }
     ensures stopped { IfErr result (IsStopAsTold (case_of protected.now) alone.now (prices_in cost protected.now)
         (attacks_of protected.now.cells.now alone.now) protected.now.hidden_set.now.hidden.flags limit) }
     ensures whole { (signs : List Bool) → AreSigns protected.now.system.now.relations signs

@@ -26,10 +26,14 @@ use Rattle.worlds.proofs.TrueTests.{and_true}
 use Rattle.repair.specs.declared.trial.Spare.{Spare}
 use Rattle.repair.specs.HidingOrder.{Case, IsOfKind, StandsAt, ProtectsBefore, ProtectsAll, IsFirstUnprotected}
 use Rattle.repair.specs.KeptWorlds.{IsServing, AreServed, AreServedBefore}
-use Rattle.repair.specs.CellTrials.{fits, serves_beside, IsKept, AreKept, IsSpare, AreSpare, offered}
+use Rattle.repair.specs.CellTrials.{fits, serves_beside, IsKept, AreKept, IsSpare, AreSpare, IsRefuted, offered}
+use Rattle.repair.specs.LevelQuestions.{AreGiven}
+use Rattle.repair.specs.Repairs.{cell_and_side}
+use Rattle.worlds.specs.declared.refuted.Refuted.{Refuted}
 use Rattle.repair.proofs.Flags.{by_test, clash}
 use Rattle.repair.proofs.Growing.{served_push}
 use Rattle.repair.proofs.Order.{asked_primary}
+use Rattle.repair.proofs.Repairing.{given_refutes}
 
 -- ---- a world that moves only hidden cells
 
@@ -202,6 +206,19 @@ first_refuted c flags place asked m one_each stands before refutes = record { pl
 -- what the set protects isn't refuted
 pub none_refuted : (c : Case) (flags : List Bool) (n place : ℕ) (asked : ℕ × Side) (m : Multipliers) → length c.cells ≡ c.system.cells → n ≡ length (asked_of 0 c.cells) → StandsAt c.cells asked place → ProtectsBefore c flags n → IsGivenRefutation c.system c.cells flags asked.0 asked.1 m → ⊥
 none_refuted c flags n place asked m one_each is stands before refutes = refuted_unprotected c flags place asked m one_each stands refutes (protects_at c flags n place asked is stands before)
+
+-- what is answered for the question at a place makes a need, where the set protects what is asked before
+pub refuted_by : (c : Case) (flags : List Bool) (place : ℕ) (asked : ℕ × Side) (need : Refuted) → cell_and_side need ≡ asked → length c.cells ≡ c.system.cells → StandsAt c.cells asked place → ProtectsBefore c flags place → AreGiven c.system c.cells flags asked need.multipliers → IsRefuted c flags need
+refuted_by c flags place asked need is one_each stands before given =
+    let own : AreGiven c.system c.cells flags (cell_and_side need) need.multipliers = subst (λ (q : ℕ × Side). AreGiven c.system c.cells flags q need.multipliers) (sym is) given in
+    let at : StandsAt c.cells (cell_and_side need) place = subst (λ (q : ℕ × Side). StandsAt c.cells q place) (sym is) stands in
+    let refutes : IsGivenRefutation c.system c.cells flags need.cell need.side need.multipliers = given_refutes c.system c.cells flags (cell_and_side need) need.multipliers own in
+    record {
+      cell_primary = asked_primary c.cells place (cell_and_side need) at;
+      first = first_refuted c flags place (cell_and_side need) need.multipliers one_each at before refutes;
+      refutes = refutes;
+      gives = own;
+    }
 
 -- ---- spare worlds
 

@@ -1,13 +1,12 @@
 -- Sets with a cell shown, and cells that aren't tried.
-use Rattle.std.proofs.Common.{◌≡◌, ◌≢◌, ◌∙◌, inl, inr, ◌&&◌, not, ℕ, ◌+◌, ◌<◌, Bool, true, false, List, length, length-set, slice_get, Some, None, refl, ap, sym, subst, arith}
+use Rattle.std.proofs.Common.{◌≡◌, ◌∙◌, inl, inr, ◌&&◌, not, ℕ, ◌+◌, ◌<◌, Bool, true, false, List, length, length-set, slice_get, Some, None, refl, ap, sym, subst, arith}
 use Rattle.std.specs.Option.{option_map_or}
 use Rattle.std.proofs.lemmas.List.{get_or-set_other}
 use Rattle.std.proofs.lemmas.Option.{slice_get_cases}
 use Rattle.sdc_base.specs.Kinds.{is_primary, is_free}
 use Rattle.sdc_base.specs.HiddenSets.{is_hidden, IsPermitted}
 use Rattle.sdc_base.specs.declared.cell.Cell.{Cell}
-use Rattle.sdc_base.specs.declared.cell.Kind.{Kind}
-use Rattle.sdc_base.specs.declared.cell.Kind.TheVariants.{Primary, Free, Fixed}
+use Rattle.sdc_base.specs.declared.cell.Kind.TheVariants.{Free}
 use Rattle.worlds.specs.declared.refuted.Refuted.{Refuted}
 use Rattle.worlds.specs.declared.world.World.{World}
 use Rattle.worlds.proofs.TrueTests.{and_true}

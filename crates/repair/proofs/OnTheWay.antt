@@ -11,15 +11,12 @@ use Rattle.sdc_base.specs.HiddenSets.{is_hidden}
 use Rattle.worlds.specs.declared.refuted.Refuted.{Refuted}
 use Rattle.worlds.specs.declared.world.World.{World}
 use Rattle.worlds.specs.ProtectFaults.{asked_of}
-use Rattle.interval_audit.specs.declared.question.Question.{Question}
-use Rattle.interval_audit.specs.declared.answer.Answer.TheVariants.{Reaches}
-use Rattle.interval_audit.specs.Answers.{ReachesTarget, IsAnswerOf}
 use Rattle.repair.specs.declared.progress.Progress.{Progress}
 use Rattle.repair.specs.declared.task.Task.{Task}
 use Rattle.repair.specs.declared.trial.Spare.{Spare}
 use Rattle.repair.specs.HidingOrder.{Case, IsOfKind, hide_subjects, show}
 use Rattle.repair.specs.KeptWorlds.{IsRepaired}
-use Rattle.repair.specs.LevelQuestions.{IsLevelQuestion, IsGiven}
+use Rattle.repair.specs.LevelQuestions.{IsGiven}
 use Rattle.repair.specs.OnTheWay.{IsOfFirst, IsOfTrial, IsOnWay, AreAnswers}
 use Rattle.repair.specs.CellTrials.{fits, offered, IsTrialAnswer, AreTrialAnswers}
 use Rattle.repair.specs.QuestionSteps.{IsRepairedUpTo}
@@ -60,9 +57,9 @@ answers_set c Is (q ∷ asked) (w ∷ worlds) zero one world own is are =
     (subst (λ (p : ℕ × Side). IsGiven Is c.system c.cells p world) (sym same) is, are.1)
 answers_set c Is (q ∷ asked) (w ∷ worlds) (suc place) one world own is are = (are.0, answers_set c Is asked worlds place one world own is are.1)
 
--- the world that reaches the level of a question
-pub given_by : (c : Case) (Is : List Bool → Type 0) (flags : List Bool) (asked : ℕ × Side) (asking : Question) (world : World) → Is flags → IsLevelQuestion c.cells asked asking → ReachesTarget c.system c.cells flags asking world → IsAnswerOf c.system c.cells flags asking (Reaches world) → IsGiven Is c.system c.cells asked world
-given_by c Is flags asked asking world own is reaching read = record { set = flags; is_one = own; question = asking; is_asked = is; is_right = reaching; is_read = read }
+-- what is answered for one of the sets
+pub given_by : (c : Case) (Is : List Bool → Type 0) (flags : List Bool) (asked : ℕ × Side) (world : World) → Is flags → IsGiven (λ set. set ≡ flags) c.system c.cells asked world → IsGiven Is c.system c.cells asked world
+given_by c Is flags asked world own given = given_wider (λ set. set ≡ flags) Is c.system c.cells asked world (λ set is. subst Is (sym is) own) given
 
 -- ---- sets that repairs made
 

@@ -21,13 +21,9 @@ use Rattle.worlds.specs.ProtectFaults.{asked_of}
 use Rattle.worlds.specs.RefutationFaults.{IsGivenRefutation}
 use Rattle.worlds.proofs.TrueTests.{and_true, not_true}
 use Rattle.worlds.proofs.RefutationLaws.{no_world}
-use Rattle.interval_audit.specs.declared.question.Question.{Question}
-use Rattle.interval_audit.specs.declared.answer.Answer.TheVariants.{Stops}
 use Rattle.interval_audit.specs.declared.answer.AskFault.{AskFault}
 use Rattle.interval_audit.specs.declared.answer.AskFault.TheVariants.{Work, Wide, Size, Memory}
-use Rattle.sdc_base.specs.declared.fraction.Fraction.{Fraction}
-use Rattle.interval_audit.specs.Answers.{ReachesTarget, StopsShort, IsAnswerOf}
-use Rattle.repair.specs.LevelQuestions.{IsLevelQuestion, IsCausing, HasCause}
+use Rattle.repair.specs.LevelQuestions.{AreGiven, IsGiven, IsCausing, HasCause}
 use Rattle.repair.specs.HidingOrder.{Case, IsOfKind, hide, hide_subjects, breaks, breaks_at, coefficients_for, NoneBreaks, IsCheapest, StandsAt}
 use Rattle.repair.specs.Repairs.{cell_and_side, IsJustified, IsInOrder, EachRepair, AreRepairs}
 use Rattle.repair.specs.KeptWorlds.{IsServing, AreServed, AreServedBefore, IsRepaired, IsStopped}
@@ -158,13 +154,17 @@ cheapest_inside cells prices flags counts number is =
     let own : IsBreaking cells flags counts number = breaking_says cells flags counts number is.breaking in
     slice_get_within cells number own.is_free.cell own.is_free.found
 
--- a world that reaches the level of the question at a place
-pub serving_by : (c : Case) (flags : List Bool) (place : ℕ) (question : ℕ × Side) (asking : Question) (world : World) → StandsAt c.cells question place → IsLevelQuestion c.cells question asking → ReachesTarget c.system c.cells flags asking world → IsServing c flags question world
-serving_by c flags place question asking world stands is reaching = record {
+-- a world that is answered serves the question at a place
+pub serving_by : (c : Case) (flags : List Bool) (place : ℕ) (question : ℕ × Side) (world : World) → StandsAt c.cells question place → IsGiven (λ set. set ≡ flags) c.system c.cells question world → IsServing c flags question world
+serving_by c flags place question world stands given = subst (λ (set : List Bool). IsServing c set question world) given.is_one (record {
   is_primary = asked_primary c.cells place question stands;
-  is_world = reaching.is_world;
-  reaching = reaching_test c.system c.cells flags question asking world is reaching;
-}
+  is_world = given.is_right.is_world;
+  reaching = reaching_test c.system c.cells given.set question given.question world given.is_asked given.is_right;
+})
+
+-- multipliers that are answered refute the level
+pub given_refutes : (system : System) (cells : List Cell) (flags : List Bool) (question : ℕ × Side) (m : Multipliers) → AreGiven system cells flags question m → IsGivenRefutation system cells flags question.0 question.1 m
+given_refutes system cells flags question m given = stopping_refutes system cells flags question given.question given.best given.world m given.is_asked given.is_right
 
 -- a fault that a question has
 pub cause_of : (system : System) (cells : List Cell) (flags : List Bool) (question : ℕ × Side) (limit : ℕ) (fault : AskFault) → IsCausing system cells flags question limit fault → HasCause system cells flags question limit fault
@@ -177,22 +177,21 @@ cause_of system cells flags question limit Memory is = tt
 pub question_of : (c : Case) (flags : List Bool) (place : ℕ) (question : ℕ × Side) (worlds : List World) (limit : ℕ) (fault : AskFault) → StandsAt c.cells question place → AreServedBefore c flags place worlds → HasCause c.system c.cells flags question limit fault → IsQuestion c flags limit fault place
 question_of c flags place question worlds limit fault stands served cause = record { asked = question; stands = stands; before = served_protect c flags (take place (asked_of 0 c.cells)) worlds served; cause = cause }
 
--- a world that reaches the level of the question at a place serves it
-pub one_served : (c : Case) (flags : List Bool) (place : ℕ) (question : ℕ × Side) (asking : Question) (worlds : List World) (world : World) → StandsAt c.cells question place → IsLevelQuestion c.cells question asking → ReachesTarget c.system c.cells flags asking world → AreServedBefore c flags place worlds → AreServedBefore c flags (place + 1) (worlds ++ world ∷ [])
-one_served c flags place question asking worlds world stands is reaching served =
+-- one question more has its world
+pub one_served : (c : Case) (flags : List Bool) (place : ℕ) (question : ℕ × Side) (worlds : List World) (world : World) → StandsAt c.cells question place → IsServing c flags question world → AreServedBefore c flags place worlds → AreServedBefore c flags (place + 1) (worlds ++ world ∷ [])
+one_served c flags place question worlds world stands serving served =
     let all : List (ℕ × Side) = asked_of 0 c.cells in
-    let serving : IsServing c flags question world = serving_by c flags place question asking world stands is reaching in
     let more : take (place + 1) all ≡ take place all ++ question ∷ [] =
     take_more all place question (slice_get_within all place question stands) ∙ ap (λ (q : ℕ × Side). take place all ++ q ∷ []) (get_or_from_slice_get all place question question stands) in
     subst (λ (qs : List (ℕ × Side)). AreServed c flags qs (worlds ++ world ∷ [])) (sym more) (served_push c flags (take place all) worlds question world served serving)
 
 -- multipliers that stop the question at a place
-pub stopped_by : (c : Case) (flags : List Bool) (place : ℕ) (question : ℕ × Side) (asking : Question) (worlds : List World) (best : Fraction) (world : World) (m : Multipliers) → StandsAt c.cells question place → AreServedBefore c flags place worlds → IsLevelQuestion c.cells question asking → StopsShort c.system c.cells flags asking best world m → IsAnswerOf c.system c.cells flags asking (Stops best world m) → IsStopped c flags place question m
-stopped_by c flags place question asking worlds best world m stands served is does read = record {
+pub stopped_by : (c : Case) (flags : List Bool) (place : ℕ) (question : ℕ × Side) (worlds : List World) (m : Multipliers) → StandsAt c.cells question place → AreServedBefore c flags place worlds → AreGiven c.system c.cells flags question m → IsStopped c flags place question m
+stopped_by c flags place question worlds m stands served given = record {
   stands = stands;
   before = served_protect c flags (take place (asked_of 0 c.cells)) worlds served;
-  refutes = stopping_refutes c.system c.cells flags question asking best world m is does;
-  gives = record { question = asking; best = best; world = world; is_asked = is; is_right = does; is_read = read };
+  refutes = given_refutes c.system c.cells flags question m given;
+  gives = given;
 }
 
 -- the question that stands at a place of the list

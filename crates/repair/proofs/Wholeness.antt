@@ -31,7 +31,7 @@ worlds_whole : (c : Case) (Is : List Bool → Type 0) (signs : List Bool) (asked
 worlds_whole c Is signs asked [] are given = All-nil IsWholeWorld
 worlds_whole c Is signs [] (world ∷ worlds) are given = absurd given
 worlds_whole c Is signs (q ∷ more) (world ∷ worlds) are given =
-    All-cons IsWholeWorld world worlds (given.0.is_read.3.whole signs are) (worlds_whole c Is signs more worlds are given.1)
+    All-cons IsWholeWorld world worlds ((given.0.is_read signs are).3.whole signs are) (worlds_whole c Is signs more worlds are given.1)
 
 repairs_whole : (c : Case) (prices : List ℕ) (flags signs : List Bool) (repairs : List Refuted) → AreSigns c.system.relations signs → EachRepair (IsInOrder c prices) flags repairs → All IsWholeRefuted repairs
 repairs_whole c prices flags signs [] are ordered = All-nil IsWholeRefuted

@@ -16,7 +16,7 @@ use Rattle.repair.specs.HidingOrder.{Case}
 use Rattle.repair.specs.KeptWorlds.{AreServed}
 use Rattle.repair.specs.OnTheWay.{IsOfTrial}
 use Rattle.repair.specs.QuestionSteps.{IsRepairedForAll}
-use Rattle.repair.specs.CellTrials.{AreKept, AreSpare, AreGuesses, AreTrialAnswers, AnswerOnWay, AnswerTrials, IsTried, HasTried, TriesStopFor}
+use Rattle.repair.specs.CellTrials.{AreKept, AreSpare, AreLast, AreTrialAnswers, AnswerOnWay, AnswerTrials, IsTried, HasTried, TriesStopFor}
 use Rattle.repair.specs.Tasks.{case_of}
 
 -- a hidden set of which may be asked: it is permitted, and there is a flag of it for each cell of the system
@@ -43,13 +43,13 @@ pub record IsUntried (task : Task) (tried : Findings) : Type 0 where
   pub no_needs : tried.needs ≡ []
   pub none_shown : tried.shown ≡ []
   pub no_spares : tried.spares.items ≡ []
-  pub guesses : AreGuesses (case_of task) tried.guesses.last.items
+  pub last : AreLast (case_of task) tried.last.items
 
--- a protection is ready to try a cell, with the worlds that are kept, the spare ones and the guesses
+-- a protection is ready to try a cell, with the worlds that are kept, the spare ones and the last ones
 pub record IsReadyToTry (task : Task) (progress : Progress) (tried : Findings) : Type 0 where
   pub set : IsTriedSet (case_of task) progress.hidden.flags progress.worlds
   pub spares : AreSpare (case_of task) tried.spares.items
-  pub guesses : AreGuesses (case_of task) tried.guesses.last.items
+  pub last : AreLast (case_of task) tried.last.items
 
 -- whether the cell with this number is free and hidden
 abbrev pub is_open_at : List Cell → List Bool → ℕ → Bool

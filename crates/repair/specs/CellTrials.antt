@@ -78,15 +78,15 @@ AreTrialAnswers c larger n flags spares = All (IsTrialAnswer c larger n flags) s
 abbrev pub AreSpare : Case → List Spare → Type 0
 AreSpare c spares = All (IsSpare c) spares
 
--- a guess is kept for some questions at their places: a world that served the question there
-abbrev pub AreGuesses : Case → List (Option World) → Type 0
-AreGuesses c guesses = (place : ℕ) (asked : ℕ × Side) (world : World)
-    → StandsAt c.cells asked place → slice_get guesses place ≡ Some (Some world) → IsKept c asked world
+-- for some questions, at their places, a last world: one that served the question there
+abbrev pub AreLast : Case → List (Option World) → Type 0
+AreLast c worlds = (place : ℕ) (asked : ℕ × Side) (world : World)
+    → StandsAt c.cells asked place → slice_get worlds place ≡ Some (Some world) → IsKept c asked world
 
--- whether there is a guess at a place, and it moves only hidden cells
-abbrev pub guess_fits : List Bool → List (Option World) → ℕ → Bool
-guess_fits flags guesses place =
-    option_map_or (λ guess. option_map_or (fits flags) guess false) (slice_get guesses place) false
+-- whether there is a last world at a place, and it moves only hidden cells
+abbrev pub last_fits : List Bool → List (Option World) → ℕ → Bool
+last_fits flags worlds place =
+    option_map_or (λ last. option_map_or (fits flags) last false) (slice_get worlds place) false
 
 -- the worlds with a spare in its place, where it moves only hidden cells and the world there doesn't
 abbrev pub offered : List Bool → List World → Spare → List World

@@ -1,5 +1,6 @@
 //! Laws of the definitions, each the contract of a function with an empty body.
 
+ghost use Rattle.repair.specs.LevelQuestions.{StoppedAreGiven};
 ghost use Rattle.repair.specs.Laws.{OpenSetHolds, QuestionsAreInOrder};
 
 /// The cells that a protection hides before any is shown again are the primary cells, the corners and the subjects of
@@ -13,4 +14,9 @@ pub fn open_set_holds()
 #[tactic(auto, using(crate::proofs::Sayings::questions_are_in_order))]
 pub fn questions_are_in_order()
     ensures { QuestionsAreInOrder }
+{}
+
+/// The multipliers of a table that can't be improved where fewer cells are hidden are those of the question's answer there.
+pub fn stopped_are_given()
+    ensures { StoppedAreGiven }
 {}

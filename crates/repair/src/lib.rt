@@ -2,9 +2,10 @@
 //! be hidden.
 #![tactic(auto)]
 
+mod asking;
 mod attempt;
 mod cheapest;
-mod guesses;
+mod last_worlds;
 mod laws;
 mod planned;
 mod prices;
@@ -21,7 +22,7 @@ mod unprotected_cell;
 mod verdict;
 
 pub use cheapest::find_cheapest;
-pub use laws::{open_set_holds, questions_are_in_order};
+pub use laws::{open_set_holds, questions_are_in_order, stopped_are_given};
 pub use planned::{hide_all, planned_hidden};
 pub use prices::list_prices;
 pub use protecting::protect;

@@ -13,7 +13,8 @@ ghost use Rattle.repair.specs.Attempts.{IsServedSet};
 ghost use Rattle.repair.specs.Verdicts.{IsVerdict, IsNarrowed, is_cannot};
 ghost use Rattle.repair.specs.WholeVerdicts.{IsWholeVerdict, IsWholeStop};
 
-use crate::guesses::Guesses;
+use crate::asking::questions_about;
+use crate::last_worlds::no_last;
 use crate::planned::planned_hidden;
 use crate::prices::list_prices;
 use crate::progress::Progress;
@@ -39,17 +40,21 @@ use worlds::{Protected, Refuted};
 /// protects the cell to that side: the verdict is `Cannot`, with the multipliers that stopped this question.
 ///
 /// Then each hidden free cell is tried as shown, in ascending order. The questions are gone through in their order, and
-/// one is asked, with the cell shown, where no world is guessed that reaches its level without moving a cell that is
-/// shown, nor is there such a world at hand.
+/// one is asked, with the cell shown, where neither its kept world nor the last that a trial found for it moves hidden
+/// cells alone.
 /// Where all are reached the cell is shown from then on. Else it stays hidden, and the first refutation is kept as its
 /// need: every question before that of the need is protected with the cell shown.
 ///
 /// At last each question whose world moves a cell that is shown gets an answer of its own that moves none: one that a
-/// trial gave, or else it is asked once, of the final set. The verdict is `Protected`, with a world for each question.
+/// trial gave, or else it is asked once, of the final set. The verdict is `Protected`, with a world for each question:
+/// one of the set of its question that takes the cell exactly to its level, and where there are signs the answer of
+/// [`interval_audit::ask`].
 ///
-/// At hand are the worlds that are kept for the questions, one each, and beside them answers that trials gave, also
-/// those in vain; of these there are at most as many as questions, and none moves a cell that is shown. The last guess
-/// for each question is kept too, and serves it for as long as it moves no cell that is shown.
+/// Where the system has no signs, questions are asked of kept tables first ([`kept_questions`]), and of the walk where
+/// these have no answer; multipliers are those of the walk's answer either way. Before a trial asks the walk, it looks
+/// for a world at hand that serves the question: those that are kept for the questions, one each, and beside them the
+/// walk's answers in trials, also those in vain; of these there are at most as many as questions, and none moves a cell
+/// that is shown.
 ///
 /// There are a cell and a mark for each cell of the system, in the order of their numbers from 0; the marks' facts are
 /// ones that the rule may be asked about; levels are in units and at most `2^110`; the corners are numbers of cells
@@ -63,10 +68,10 @@ use worlds::{Protected, Refuted};
 /// Where the system has signs ([`sdc_base::signs`]), neither `Work` nor `Wide` comes, and each denominator is 1.
 ///
 /// The rule is asked once for each cell without a price. There is a question for each primary cell and side and for
-/// each repair; for each hidden free cell one for each question that no world at hand and no guess serves with it
-/// shown; and at last at most one for each question. A repair goes once through the cells and the parts of the
-/// relations that have a multiplier; a trial once through the moves of all kept worlds and last guesses, and for each
-/// question that neither these nor a new guess serve through those of the worlds at hand.
+/// each repair; for each hidden free cell one for each question that neither its kept world nor its last one serves
+/// with it shown; and at last at most one for each question. A repair goes once through the cells and the parts of the
+/// relations that have a multiplier, and begins new kept tables; a trial goes once through the moves of all kept and
+/// last worlds, and for each question that is to be asked of the walk through those of the worlds at hand.
 ///
 /// Repairs and needs are this project's own; the questions are those of the feasibility interval in Hundepool et al.,
 /// Statistical Disclosure Control, chapter on magnitude tables.
@@ -135,10 +140,12 @@ fn repaired_verdict<'a>(
     ensures stopped { IfErr result (λ stopped. IsStopAsTold (case_of task.now) task.now.prices.now hidden.flags
         task.now.limit stopped) }
 {
+    let kept = questions_about(alloc, task, &hidden);
     let mut progress = Progress {
         hidden,
         worlds: Items::empty(alloc),
         repairs: Items::empty(alloc),
+        kept,
     };
     let outcome = serve_all(alloc, task, scratch, &mut progress);
     let found = match outcome {
@@ -176,7 +183,7 @@ fn narrowed_verdict<'a>(
         needs: Items::empty(alloc),
         shown: Items::empty(alloc),
         spares: Vec::new(alloc),
-        guesses: Guesses::new(alloc, task, &progress.hidden),
+        last: no_last(alloc, task.questions.len()),
     };
     let outcome = try_all(alloc, task, &mut progress, &mut tried);
     if let Err(fault) = outcome {

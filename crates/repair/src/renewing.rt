@@ -7,10 +7,11 @@ ghost use Rattle.repair.specs.CellTrials.{AreKept, AreSpare, HasFault};
 ghost use Rattle.repair.specs.CellTrials as spec;
 ghost use Rattle.repair.specs.Attempts.{IsTriedSet, StayOnWay, StayOnWayWith};
 
-use crate::serving::level_question;
+use crate::asking::ask_level;
 use crate::task::Task;
 use crate::trial::{Spare, fits};
-use interval_audit::{Answer, AskFault};
+use interval_audit::AskFault;
+use kept_questions::{KeptAnswer, KeptQuestions};
 use sdc_base::{Hidden, Items};
 use std::alloc::Global;
 use worlds::World;
@@ -23,6 +24,7 @@ pub(crate) fn renew_all(
     hidden: &Hidden,
     worlds: &mut Items<World>,
     spares: &mut Vec<Spare>,
+    kept: &mut Option<KeptQuestions>,
 ) -> Result<(), AskFault>
     requires set { IsTriedSet (case_of task.now) hidden.now.flags worlds.old }
     requires spares { AreSpare (case_of task.now) spares.old.items }
@@ -35,7 +37,7 @@ pub(crate) fn renew_all(
     let flags = hidden.flags.as_slice();
     take_over(task, flags, worlds, spares);
     'places: for place in 0..task.questions.len() {
-        renew_question(alloc, task, place, hidden, worlds)?;
+        renew_question(alloc, task, place, hidden, worlds, kept)?;
     }
     Ok(())
 }
@@ -79,6 +81,7 @@ fn renew_question(
     place: usize,
     hidden: &Hidden,
     worlds: &mut Items<World>,
+    kept: &mut Option<KeptQuestions>,
 ) -> Result<(), AskFault>
     requires place { place < length task.now.questions.now }
     requires set { IsTriedSet (case_of task.now) hidden.now.flags worlds.old }
@@ -91,20 +94,17 @@ fn renew_question(
     ensures answers { OnOk result (StayOnWay task.now hidden.now.flags worlds.old worlds.new) }
     ensures err { IfErr result (λ fault. HasFault (case_of task.now) hidden.now.flags task.now.limit fault) }
 {
-    let kept = worlds.as_slice();
-    if fits(&kept[place], hidden.flags.as_slice()) {
+    let own = worlds.as_slice();
+    if fits(&own[place], hidden.flags.as_slice()) {
         return Ok(());
     }
-    let question = level_question(task.cells, task.questions[place]);
-    let answer = task
-        .system
-        .ask(alloc, task.cells, hidden, question, task.limit)?;
+    let answer = ask_level(alloc, task, hidden, task.questions[place], kept)?;
     match answer {
-        Answer::Reaches(world) => {
+        KeptAnswer::Reaches(world) => {
             worlds.set(place, world);
             Ok(())
         }
-        Answer::Stops { .. } => unreachable!(),
+        KeptAnswer::Stops(_multipliers) => unreachable!(),
     }
 }
 

@@ -8,11 +8,13 @@ ghost use Rattle.repair.specs.KeptWorlds.{HasModestLevels, AreServedBefore, IsSt
 ghost use Rattle.repair.specs.Stops.{IsQuestion};
 ghost use Rattle.repair.specs.QuestionSteps.{IsReadyForRepair, IsRepairedUpTo, IsRepairProgress, IsStep, IsUnprotected, AreServedOrUnprotected, IsHalted};
 
+use crate::asking::ask_level;
 use crate::cheapest::subject_of;
 use crate::progress::Progress;
 use crate::task::Task;
 use crate::unprotected_cell::UnprotectedCell;
-use interval_audit::{Answer, AskFault, Question};
+use interval_audit::{AskFault, Question};
+use kept_questions::KeptAnswer;
 use sdc_base::{Cell, Memory, Side};
 use std::alloc::Global;
 use worlds::{Multipliers, Refuted};
@@ -77,7 +79,7 @@ fn serve(
         let step = ask_once(alloc, task, place, scratch, progress)?;
         match step {
             Step::Served => return Ok(None),
-            Step::Repaired => {}
+            Step::Repaired => progress.keep_questions(alloc, task),
             Step::Cannot(unprotected) => return Ok(Some(unprotected)),
         }
     }
@@ -102,16 +104,13 @@ fn ask_once(
         place) }
 {
     let asked = task.questions[place];
-    let question = level_question(task.cells, asked);
-    let answer = task
-        .system
-        .ask(alloc, task.cells, &progress.hidden, question, task.limit)?;
+    let answer = ask_level(alloc, task, &progress.hidden, asked, &mut progress.kept)?;
     match answer {
-        Answer::Reaches(world) => match progress.keep(world) {
+        KeptAnswer::Reaches(world) => match progress.keep(world) {
             Ok(()) => Ok(Step::Served),
             Err(_) => Err(AskFault::Memory),
         },
-        Answer::Stops { multipliers, .. } => {
+        KeptAnswer::Stops(multipliers) => {
             match hide_one(task, asked, place, multipliers, scratch, progress) {
                 Ok(step) => Ok(step),
                 Err(_) => Err(AskFault::Memory),

@@ -4,17 +4,18 @@ ghost use Rattle.sdc_base.specs.HiddenSets.{is_hidden};
 ghost use Rattle.sdc_base.specs.declared.cell.Cell.{Cell as AnyCell};
 ghost use Rattle.sdc_base.specs.declared.cell.Kind.TheVariants.{Primary as PrimaryKind};
 ghost use Rattle.worlds.specs.ProtectFaults.{asked_of};
-ghost use Rattle.repair.specs.HidingOrder.{IsOfKind, ProtectsBefore};
+ghost use Rattle.repair.specs.HidingOrder.{IsOfKind, StandsAt, ProtectsBefore};
 ghost use Rattle.repair.specs.Tasks.{case_of};
 ghost use Rattle.repair.specs.Stops.{IsQuestion};
-ghost use Rattle.repair.specs.CellTrials.{AreKept, AreSpare, AreGuesses, ProtectsBeforeOr, HasFault};
+ghost use Rattle.repair.specs.CellTrials.{AreKept, AreSpare, AreLast, ProtectsBeforeOr, HasFault};
 ghost use Rattle.repair.specs.Attempts.{StayTrialAnswers};
 ghost use Rattle.repair.specs.CellTrials as spec;
 
+use crate::asking::{ask_kept, ask_walk};
 use crate::attempt::Attempt;
-use crate::guesses::{Guesses, is_guessed};
-use crate::serving::level_question;
-use interval_audit::{Answer, AskFault};
+use crate::last_worlds::{has_fitting, keep_last};
+use interval_audit::AskFault;
+use kept_questions::{KeptAnswer, KeptQuestions};
 use sdc_base::{Cell, Memory, Side};
 use std::alloc::Global;
 use worlds::{Refuted, World, reaches};
@@ -26,19 +27,20 @@ pub(crate) struct Spare {
     pub(crate) world: World,
 }
 
-// The first question, with its multipliers, that no world serves with the cell shown, if there is one. Only what no world
-// at hand and no guess serves is asked, and the answers are kept as spares.
+// The first question, with its multipliers, that no world serves with the cell shown, if there is one. Only what neither
+// its kept world nor its last serves is asked, and the answers are kept.
 pub(crate) fn first_refused(
     alloc: Global,
     attempt: &Attempt<'_, '_, '_>,
     spares: &mut Vec<Spare>,
-    guesses: &mut Guesses,
+    last: &mut Vec<Option<World>>,
+    kept: &mut Option<KeptQuestions>,
 ) -> Result<Option<Refuted>, AskFault>
     requires kept { AreKept (case_of attempt.now.task.now) (asked_of 0 attempt.now.task.now.cells.now)
         attempt.now.worlds.now }
     requires spares { AreSpare (case_of attempt.now.task.now) spares.old.items }
-    requires guesses { AreGuesses (case_of attempt.now.task.now) guesses.old.last.items }
-    ensures guesses { AreGuesses (case_of attempt.now.task.now) guesses.new.last.items }
+    requires last { AreLast (case_of attempt.now.task.now) last.old.items }
+    ensures last { AreLast (case_of attempt.now.task.now) last.new.items }
     ensures spares { IfOk result (λ _. AreSpare (case_of attempt.now.task.now) spares.new.items) }
     ensures answers { IfOk result (λ _. StayTrialAnswers (case_of attempt.now.task.now) (attempt.now.cell + 1)
         attempt.now.hidden.now.flags spares.old.items spares.new.items) }
@@ -48,7 +50,7 @@ pub(crate) fn first_refused(
         attempt.now.task.now.limit fault) }
 {
     'places: for place in 0..attempt.task.questions.len() {
-        let need = refusal_of(alloc, attempt, place, spares, guesses)?;
+        let need = refusal_of(alloc, attempt, place, spares, last, kept)?;
         if let Some(need) = need {
             return Ok(Some(need));
         }
@@ -62,7 +64,8 @@ fn refusal_of(
     attempt: &Attempt<'_, '_, '_>,
     place: usize,
     spares: &mut Vec<Spare>,
-    guesses: &mut Guesses,
+    last: &mut Vec<Option<World>>,
+    kept: &mut Option<KeptQuestions>,
 ) -> Result<Option<Refuted>, AskFault>
     requires place { place < length attempt.now.task.now.questions.now }
     requires count { length attempt.now.worlds.now ≡ length attempt.now.task.now.questions.now }
@@ -70,8 +73,8 @@ fn refusal_of(
     requires kept { AreKept (case_of attempt.now.task.now) (asked_of 0 attempt.now.task.now.cells.now)
         attempt.now.worlds.now }
     requires spares { AreSpare (case_of attempt.now.task.now) spares.old.items }
-    requires guesses { AreGuesses (case_of attempt.now.task.now) guesses.old.last.items }
-    ensures guesses { AreGuesses (case_of attempt.now.task.now) guesses.new.last.items }
+    requires last { AreLast (case_of attempt.now.task.now) last.old.items }
+    ensures last { AreLast (case_of attempt.now.task.now) last.new.items }
     ensures spares { IfOk result (λ _. AreSpare (case_of attempt.now.task.now) spares.new.items) }
     ensures answers { IfOk result (λ _. StayTrialAnswers (case_of attempt.now.task.now) (attempt.now.cell + 1)
         attempt.now.hidden.now.flags spares.old.items spares.new.items) }
@@ -86,25 +89,62 @@ fn refusal_of(
     if fits(&worlds[place], flags) {
         return Ok(None);
     }
+    if has_fitting(last.as_slice(), place, flags) {
+        return Ok(None);
+    }
     let asked = task.questions[place];
-    if is_guessed(alloc, attempt, place, asked, guesses) {
-        return Ok(None);
-    }
-    if is_at_hand(task.cells, asked, flags, worlds, spares.as_slice()) {
-        return Ok(None);
-    }
-    let question = level_question(task.cells, asked);
-    let answer = task
-        .system
-        .ask(alloc, task.cells, attempt.hidden, question, task.limit)?;
+    let Some(answer) = ask_kept(alloc, task, attempt.hidden, asked, kept) else {
+        return walked_refusal(alloc, attempt, place, asked, spares);
+    };
     match answer {
-        Answer::Reaches(world) => {
+        KeptAnswer::Reaches(world) => {
+            keep_last(last, place, world);
+            Ok(None)
+        }
+        KeptAnswer::Stops(multipliers) => Ok(Some(Refuted {
+            subject: attempt.cell,
+            cell: asked.0,
+            side: asked.1,
+            multipliers,
+        })),
+    }
+}
+
+// The same by the walk, where no world at hand serves the question.
+fn walked_refusal(
+    alloc: Global,
+    attempt: &Attempt<'_, '_, '_>,
+    place: usize,
+    asked: (u32, Side),
+    spares: &mut Vec<Spare>,
+) -> Result<Option<Refuted>, AskFault>
+    requires stands { StandsAt attempt.now.task.now.cells.now asked place }
+    requires before { ProtectsBefore (case_of attempt.now.task.now) attempt.now.hidden.now.flags place }
+    requires kept { AreKept (case_of attempt.now.task.now) (asked_of 0 attempt.now.task.now.cells.now)
+        attempt.now.worlds.now }
+    requires spares { AreSpare (case_of attempt.now.task.now) spares.old.items }
+    ensures spares { IfOk result (λ _. AreSpare (case_of attempt.now.task.now) spares.new.items) }
+    ensures answers { IfOk result (λ _. StayTrialAnswers (case_of attempt.now.task.now) (attempt.now.cell + 1)
+        attempt.now.hidden.now.flags spares.old.items spares.new.items) }
+    ensures ok { IfOk result (λ need. ProtectsBeforeOr (case_of attempt.now.task.now) attempt.now.hidden.now.flags
+        attempt.now.cell (place + 1) need) }
+    ensures err { IfErr result (λ fault. IsQuestion (case_of attempt.now.task.now) attempt.now.hidden.now.flags
+        attempt.now.task.now.limit fault place) }
+{
+    let task = attempt.task;
+    let flags = attempt.hidden.flags.as_slice();
+    if is_at_hand(task.cells, asked, flags, attempt.worlds, spares.as_slice()) {
+        return Ok(None);
+    }
+    let answer = ask_walk(alloc, task, attempt.hidden, asked)?;
+    match answer {
+        KeptAnswer::Reaches(world) => {
             let Ok(()) = keep_spare(spares, Spare { place, world }, task.questions.len()) else {
                 return Err(AskFault::Memory);
             };
             Ok(None)
         }
-        Answer::Stops { multipliers, .. } => Ok(Some(Refuted {
+        KeptAnswer::Stops(multipliers) => Ok(Some(Refuted {
             subject: attempt.cell,
             cell: asked.0,
             side: asked.1,

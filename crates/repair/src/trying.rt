@@ -7,7 +7,6 @@ ghost use Rattle.repair.specs.CellTrials.{TriesStopFor};
 ghost use Rattle.repair.specs.Attempts.{IsServedSet, IsUntried, IsReadyToTry, is_open_at, IsCellTrial, IsCellTrialStop, HasTriedAll, KeepsAnswers};
 
 use crate::attempt::Attempt;
-use crate::guesses::Guesses;
 use crate::progress::Progress;
 use crate::renewing::{drop_unfit, renew_all};
 use crate::task::Task;
@@ -15,7 +14,7 @@ use crate::trial::{Spare, first_refused};
 use interval_audit::AskFault;
 use sdc_base::{Cell, Items, is_hidden};
 use std::alloc::Global;
-use worlds::Refuted;
+use worlds::{Refuted, World};
 
 /// What was found of the hidden cells that aren't primary.
 #[derive(Drop)]
@@ -26,8 +25,8 @@ pub(crate) struct Findings {
     pub(crate) shown: Items<u32>,
     /// Worlds at hand beside the kept ones, at most as many as there are questions; none moves a cell that is shown.
     pub(crate) spares: Vec<Spare>,
-    /// Guesses of worlds for the hidden set and those within it.
-    pub(crate) guesses: Guesses,
+    /// For each question, in its order, the last world that a trial found for it, if any.
+    pub(crate) last: Vec<Option<World>>,
 }
 
 // Tries each hidden free cell as shown, in ascending order; where cells are shown, each question then gets an answer of
@@ -63,6 +62,7 @@ pub(crate) fn try_all(
         &progress.hidden,
         &mut progress.worlds,
         &mut tried.spares,
+        &mut progress.kept,
     )
 }
 
@@ -104,7 +104,13 @@ fn try_one(
         hidden: &progress.hidden,
         worlds: progress.worlds.as_slice(),
     };
-    let found = first_refused(alloc, &attempt, &mut tried.spares, &mut tried.guesses)?;
+    let found = first_refused(
+        alloc,
+        &attempt,
+        &mut tried.spares,
+        &mut tried.last,
+        &mut progress.kept,
+    )?;
     match found {
         None => {
             drop_unfit(&mut tried.spares, progress.hidden.flags.as_slice());
@@ -126,7 +132,7 @@ fn put_back(
     ensures worlds { progress.new.worlds ≡ progress.old.worlds }
     ensures repairs { progress.new.repairs ≡ progress.old.repairs }
     ensures spares { tried.new.spares ≡ tried.old.spares }
-    ensures guesses { tried.new.guesses ≡ tried.old.guesses }
+    ensures last { tried.new.last ≡ tried.old.last }
     ensures needs { OnOk result (tried.new.needs ≡ tried.old.needs ++ need ∷ []) }
     ensures shown { OnOk result ((earlier : List ℕ) (last : ℕ) → tried.old.shown ≡ earlier ++ last ∷ []
         → tried.new.shown ≡ earlier) }

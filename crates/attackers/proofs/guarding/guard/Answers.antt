@@ -1,7 +1,7 @@
 use Rattle.std.proofs.Common.{◌∙◌, IfErr, IfOk, List, ℕ, All, length, ap, sym, subst}
 use Rattle.sdc_base.specs.Signs.{AreSigns}
 use Rattle.sdc_base.specs.declared.system.System.{System}
-use Rattle.repair.specs.HidingOrder.{protected_case, prices_of}
+use Rattle.repair.specs.HidingOrder.{protected_case}
 use Rattle.repair.proofs.Concluding.{where_ok}
 use Rattle.repair.proofs.Corners.{length-prices}
 use Rattle.attackers.specs.declared.attack.Attack.{Attack}
@@ -10,6 +10,7 @@ use Rattle.attackers.specs.GuardStops.{IsStopAsTold}
 use Rattle.attackers.specs.Guarding.{IsGuarded}
 use Rattle.attackers.specs.KnownCells.{IsAttack}
 use Rattle.attackers.specs.SiegeParts.{IsSiege}
+use Rattle.attackers.specs.Turns.{IsLeftOfTurns}
 use Rattle.attackers.proofs.AllAttacks.{unserved_are}
 use Rattle.attackers.proofs.Concluding.{cannot_where}
 use Rattle.attackers.proofs.guarding.guard.Goals as goal
@@ -31,6 +32,11 @@ resist_beside-requires-clause-of_system g c = c.requires.of_system ∙ sym c.in-
 pub returns-clause-guarded : goal.returns-clause-guarded
 returns-clause-guarded g c =
     subst (λ (own : System). IfOk c.resist_beside.result (IsGuarded (protected_case own c.args.cells.now) c.args.soles.now c.args.protected.now.hidden.flags c.args.protected.now.worlds)) c.in-Ok-of.ensures c.resist_beside.ensures.guarded
+
+pub returns-clause-turns : goal.returns-clause-turns
+returns-clause-turns g c =
+    subst (λ (prices : List ℕ). IfOk c.resist_beside.result (IsLeftOfTurns (protected_case c.args.system.now c.args.cells.now) c.args.soles.now prices (order.attacks_of c.args.cells.now c.args.soles.now) c.args.protected.now.hidden.flags)) (c.deref-2.ensures.value ∙ c.in-Ok.ensures)
+    (subst (λ (own : System). IfOk c.resist_beside.result (IsLeftOfTurns (protected_case own c.args.cells.now) c.args.soles.now c.deref-2.result.now (order.attacks_of c.args.cells.now c.args.soles.now) c.args.protected.now.hidden.flags)) c.in-Ok-of.ensures c.resist_beside.ensures.turns)
 
 pub returns-clause-cannot : goal.returns-clause-cannot
 returns-clause-cannot g c =

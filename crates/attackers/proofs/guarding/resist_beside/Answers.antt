@@ -10,6 +10,7 @@ use Rattle.attackers.specs.Sieges.{case_of}
 use Rattle.attackers.proofs.Concluding.{guarded, stopped}
 use Rattle.attackers.proofs.GuardOrder.{ProtectedSays, protected_says}
 use Rattle.attackers.proofs.Holding.{err_where}
+use Rattle.attackers.proofs.Turns.{turns_are}
 use Rattle.attackers.proofs.Wholeness.{outcome_whole, told_whole}
 use Rattle.repair.proofs.Concluding.{where_ok}
 use Rattle.attackers.proofs.guarding.resist_beside.Goals as goal
@@ -33,6 +34,18 @@ returns-clause-guarded c =
     let permitted : IsPermitted siege.cells.now first = subst (λ (cells : List Cell). IsPermitted cells first) c.requires.of_cells c.hidden.ensures.protecting.permitted in
     where_ok c.resist.result c.resist.ensures.guarded (λ found is.
     guarded siege first c.args.protected.now.worlds found c.requires.each_flag permitted says c.requires.left
+    (subst (λ (h : Hidden). IsOutcome siege h.flags found) c.hidden.ensures.hidden is))
+
+pub returns-clause-turns : goal.returns-clause-turns
+returns-clause-turns c =
+    let siege = c.args.siege.now in
+    let first : List Bool = c.args.protected.now.hidden.flags in
+    let fine : protect_fault siege.system.now siege.cells.now first c.args.protected.now.worlds ≡ Ok tt =
+    subst (λ (s : System). protect_fault s siege.cells.now first c.args.protected.now.worlds ≡ Ok tt) c.requires.of_system
+    (subst (λ (cells : List Cell). protect_fault c.args.protected.now.system cells first c.args.protected.now.worlds ≡ Ok tt) c.requires.of_cells c.worlds-worlds.ensures.checked) in
+    let says : ProtectedSays siege.system.now siege.cells.now first c.args.protected.now.worlds = protected_says siege.system.now siege.cells.now first c.args.protected.now.worlds siege.fits.one_each fine in
+    where_ok c.resist.result c.resist.ensures.guarded (λ found is.
+    turns_are siege first c.args.protected.now.worlds found c.requires.each_flag says c.requires.left
     (subst (λ (h : Hidden). IsOutcome siege h.flags found) c.hidden.ensures.hidden is))
 
 pub returns-clause-stopped : goal.returns-clause-stopped

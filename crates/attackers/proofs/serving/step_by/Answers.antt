@@ -1,5 +1,5 @@
 use Rattle.std.proofs.Common.{◌+◌, List, Bool, sym, subst, take}
-use Rattle.interval_audit.specs.declared.answer.Answer.TheVariants.{Reaches, Stops}
+use Rattle.kept_questions.specs.declared.kept_answer.KeptAnswer.TheVariants.{Reaches, Stops}
 use Rattle.certificate.specs.declared.certificate.WorldLine.{WorldLine}
 use Rattle.attackers.specs.KnownCells.{IsAttack}
 use Rattle.attackers.specs.Sieges.{case_of, IsAnswerAgainst, HoldGuards}
@@ -7,8 +7,8 @@ use Rattle.attackers.proofs.AskedCells.{attack_says, attack_at}
 use Rattle.attackers.proofs.Holding.{held_by_new, held_before}
 use Rattle.attackers.proofs.serving.step_by.Goals as goal
 
-pub returns-in-Reaches-clause-ok : goal.returns-in-Reaches-clause-ok
-returns-in-Reaches-clause-ok c =
+pub returns-in_ok-keep-in-Reaches-clause-ok : goal.returns-in_ok-keep-in-Reaches-clause-ok
+returns-in_ok-keep-in-Reaches-clause-ok c =
     let siege = c.args.siege.now in
     let flags : List Bool = c.args.progress.now.hidden.flags in
     let on : IsAttack siege.cells.now siege.soles.now c.args.attack = attack_at siege.cells.now siege.soles.now siege.attacks.now c.args.place c.args.attack siege.fits.are_attacks c.requires.stands in
@@ -21,7 +21,7 @@ pub extend-requires-clause-refuted : goal.extend-requires-clause-refuted
 extend-requires-clause-refuted c =
     let siege = c.args.siege.now in
     let flags : List Bool = c.args.progress.now.hidden.flags in
-    let is : IsAnswerAgainst (case_of siege) siege.soles.now flags c.args.attack (Stops c.in-Stops.best c.in-Stops.world c.in-Stops.multipliers) = subst (IsAnswerAgainst (case_of siege) siege.soles.now flags c.args.attack) c.in-Stops.is c.requires.answered in
+    let is : IsAnswerAgainst (case_of siege) siege.soles.now flags c.args.attack (Stops c.in-Stops.multipliers) = subst (IsAnswerAgainst (case_of siege) siege.soles.now flags c.args.attack) c.in-Stops.is c.requires.answered in
     record {
       stands = c.requires.stands;
       before = held_before (case_of siege) siege.soles.now flags siege.attacks.now c.args.place c.args.progress.now.guards siege.fits.are_attacks c.requires.held;

@@ -1,6 +1,6 @@
 use Rattle.std.proofs.Common.{◌≡◌, ◌∙◌, ◌++◌, ◌∷◌, [], ◌+◌, List, Bool, true, refl, sym, subst, take, filter, append_assoc, ap}
 use Rattle.std.proofs.lemmas.Result.{err_from_is_err_and}
-use Rattle.interval_audit.specs.declared.answer.Answer.TheVariants.{Reaches}
+use Rattle.kept_questions.specs.declared.kept_answer.KeptAnswer.TheVariants.{Reaches, Stops}
 use Rattle.certificate.specs.declared.certificate.WorldLine.{WorldLine}
 use Rattle.repair.specs.LevelQuestions.{HasCause}
 use Rattle.attackers.specs.KnownCells.{without_known, target_of, is_served, serves}
@@ -33,13 +33,13 @@ returns-in_err-answer-clause-err c =
     let attack = c.attack_at-attack.result in
     let fault = c.in_err-answer.field-0.0.fault in
     let cause : HasCause siege.system.now siege.cells.now (without_known siege.soles.now attack.row flags) (target_of attack) siege.limit fault =
-    subst (λ (f : List Bool). HasCause siege.system.now siege.cells.now (without_known siege.soles.now attack.row f) (target_of attack) siege.limit fault) c.as_slice-2.ensures c.in_err-answer.ensures.err in
+    subst (λ (f : List Bool). HasCause siege.system.now siege.cells.now (without_known siege.soles.now attack.row f) (target_of attack) siege.limit fault) c.as_slice-flags.ensures c.in_err-answer.ensures.err in
     let p = err_from_is_err_and c.from_residual.result c.from_residual.ensures.1 in
     rw (p.1, p.2) (asked_by (case_of siege) siege.soles.now siege.attacks.now flags siege.limit fault c.in_err-answer.field-0.0.row c.args.place attack c.attack_at-attack.ensures.stands c.in_err-answer.ensures.row
     (held_before (case_of siege) siege.soles.now flags siege.attacks.now c.args.place (renewed_guards c.args.attempt.now.cell c.args.attempt.now.guards.now c.args.news.now) siege.fits.are_attacks c.requires.holds) cause)
 
-pub returns-in-Reaches-clause-err : goal.returns-in-Reaches-clause-err
-returns-in-Reaches-clause-err c =
+pub returns-in-Err-clause-err : goal.returns-in-Err-clause-err
+returns-in-Err-clause-err c =
     let siege = c.args.attempt.now.siege.now in
     let flags : List Bool = c.args.attempt.now.hidden.now.flags in
     let attack = c.attack_at-attack.result in
@@ -51,11 +51,28 @@ returns-in-Ok-clause-ok c =
     let siege = c.args.attempt.now.siege.now in
     let flags : List Bool = c.args.attempt.now.hidden.now.flags in
     let attack = c.attack_at-attack.result in
-    let here : IsAnswerAgainst (case_of siege) siege.soles.now c.as_slice-2.result.now attack (Reaches c.in-Reaches.world) = subst (IsAnswerAgainst (case_of siege) siege.soles.now c.as_slice-2.result.now attack) c.in-Reaches.is c.in_ok-answer.ensures.ok in
-    let is : IsAnswerAgainst (case_of siege) siege.soles.now flags attack (Reaches c.in-Reaches.world) = subst (λ (f : List Bool). IsAnswerAgainst (case_of siege) siege.soles.now f attack (Reaches c.in-Reaches.world)) c.as_slice-2.ensures here in
+    let here : IsAnswerAgainst (case_of siege) siege.soles.now c.as_slice-flags.result.now attack (Reaches c.in-Reaches.world) = subst (IsAnswerAgainst (case_of siege) siege.soles.now c.as_slice-flags.result.now attack) c.in-Reaches.is c.in_ok-answer.ensures.ok in
+    let is : IsAnswerAgainst (case_of siege) siege.soles.now flags attack (Reaches c.in-Reaches.world) = subst (λ (f : List Bool). IsAnswerAgainst (case_of siege) siege.soles.now f attack (Reaches c.in-Reaches.world)) c.as_slice-flags.ensures here in
     let line : WorldLine = record { cell = attack.cell; side = attack.side; world = c.in-Reaches.world } in
     let pushed : c.push.new.self ≡ c.args.news.now ++ line ∷ [] = c.in-Ok.ensures.ok in
     let same : renewed_guards c.args.attempt.now.cell c.args.attempt.now.guards.now c.args.news.now ++ line ∷ [] ≡ renewed_guards c.args.attempt.now.cell c.args.attempt.now.guards.now c.push.new.self =
     append_assoc (filter (stays c.args.attempt.now.cell) c.args.attempt.now.guards.now) c.args.news.now (line ∷ []) ∙ ap (λ (l : List WorldLine). filter (stays c.args.attempt.now.cell) c.args.attempt.now.guards.now ++ l) (sym pushed) in
     subst (λ (g : List WorldLine). HoldGuards (case_of siege) siege.soles.now flags (take (c.args.place + 1) siege.attacks.now) g) same
     (held_by_new (case_of siege) siege.soles.now flags siege.attacks.now c.args.place attack (renewed_guards c.args.attempt.now.cell c.args.attempt.now.guards.now c.args.news.now) line c.attack_at-attack.ensures.stands is.0 (attack_says siege.cells.now siege.soles.now attack c.attack_at-attack.ensures.is_attack).primary is.1 is.2 c.requires.holds)
+
+pub returns-in-Stops-clause-ok : goal.returns-in-Stops-clause-ok
+returns-in-Stops-clause-ok c =
+    let siege = c.args.attempt.now.siege.now in
+    let flags : List Bool = c.args.attempt.now.hidden.now.flags in
+    let attack = c.attack_at-attack.result in
+    let here : IsAnswerAgainst (case_of siege) siege.soles.now c.as_slice-flags.result.now attack (Stops c.in-Stops.multipliers) = subst (IsAnswerAgainst (case_of siege) siege.soles.now c.as_slice-flags.result.now attack) c.in-Stops.is c.in_ok-answer.ensures.ok in
+    let is : IsAnswerAgainst (case_of siege) siege.soles.now flags attack (Stops c.in-Stops.multipliers) = subst (λ (f : List Bool). IsAnswerAgainst (case_of siege) siege.soles.now f attack (Stops c.in-Stops.multipliers)) c.as_slice-flags.ensures here in (
+      refl,
+      record {
+        place = c.args.place;
+        stands = c.attack_at-attack.ensures.stands;
+        before = held_before (case_of siege) siege.soles.now flags siege.attacks.now c.args.place (renewed_guards c.args.attempt.now.cell c.args.attempt.now.guards.now c.args.news.now) siege.fits.are_attacks c.requires.holds;
+        refutes = is.0;
+        gives = is.1;
+      },
+    )

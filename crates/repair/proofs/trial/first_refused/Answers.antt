@@ -33,5 +33,5 @@ places-preserved c =
       before = subst (ProtectsBeforeOr task c.args.attempt.now.hidden.now.flags c.args.attempt.now.cell (c.places.place + 1)) c.in_default.is c.in_ok-need.ensures.ok;
       answers = λ larger now before. c.in_ok-need.ensures.answers larger now (c.places.invariant.answers larger now before);
       spares = c.in_ok-need.ensures.spares;
-      guesses = c.refusal_of.ensures.guesses;
+      last = c.refusal_of.ensures.last;
     }

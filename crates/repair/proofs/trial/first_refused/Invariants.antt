@@ -1,6 +1,6 @@
 use Rattle.std.proofs.Common.{◌+◌}
 use Rattle.repair.specs.HidingOrder.{protected_case, ProtectsBefore}
-use Rattle.repair.specs.CellTrials.{AreSpare, AreGuesses}
+use Rattle.repair.specs.CellTrials.{AreSpare, AreLast}
 use Rattle.repair.specs.Attempts.{StayTrialAnswers}
 use Rattle.repair.proofs.trial.first_refused.Given as goal
 
@@ -9,5 +9,5 @@ invariant-places l = record {
   before : ProtectsBefore (protected_case l.attempt.task.now.system.now l.attempt.task.now.cells.now) l.attempt.hidden.now.flags l.place;
   answers : StayTrialAnswers (protected_case l.attempt.task.now.system.now l.attempt.task.now.cells.now) (l.attempt.cell + 1) l.attempt.hidden.now.flags l.fn.spares.items l.spares.items;
   spares : AreSpare (protected_case l.attempt.task.now.system.now l.attempt.task.now.cells.now) l.spares.items;
-  guesses : AreGuesses (protected_case l.attempt.task.now.system.now l.attempt.task.now.cells.now) l.guesses.last.items;
+  last : AreLast (protected_case l.attempt.task.now.system.now l.attempt.task.now.cells.now) l.last.items;
 }

@@ -30,7 +30,7 @@ cells-init c =
           kept = kept_by task flags all c.args.progress.now.worlds c.requires.served.served;
         };
         spares = subst (AreSpare task) (sym c.requires.untried.no_spares) (All-nil (IsSpare task));
-        guesses = c.requires.untried.guesses;
+        last = c.requires.untried.last;
       };
       tried = record {
         are_tried = subst (λ (ns : List Refuted). IsTried task flags 0 flags ns c.args.tried.now.shown) (sym c.requires.untried.no_needs)

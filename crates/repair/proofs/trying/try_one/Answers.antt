@@ -6,7 +6,7 @@ use Rattle.worlds.specs.declared.world.World.{World}
 use Rattle.worlds.specs.ProtectFaults.{asked_of}
 use Rattle.worlds.proofs.TrueTests.{on_ok}
 use Rattle.repair.specs.HidingOrder.{Case, protected_case, hide, show, ProtectsAll}
-use Rattle.repair.specs.CellTrials.{AreKept, AreSpare, AreGuesses, AreTrialAnswers, ProtectsBeforeOr, IsRefuted, IsTried, IsTryStop, HasFault}
+use Rattle.repair.specs.CellTrials.{AreKept, AreSpare, AreLast, AreTrialAnswers, ProtectsBeforeOr, IsRefuted, IsTried, IsTryStop, HasFault}
 use Rattle.sdc_base.specs.declared.side.Side.{Side}
 use Rattle.repair.proofs.AtHand.{protects_all, spares_left}
 use Rattle.repair.specs.OnTheWay.{IsOfTrial}
@@ -48,7 +48,7 @@ returns-in-None-clause-ready c =
       set = subst (λ (f : List Bool). IsTriedSet task f c.args.progress.now.worlds) (sym c.set.ensures)
           (tried_less task c.args.progress.now.hidden.flags c.args.progress.now.worlds c.args.cell c.requires.is_free c.requires.ready.set);
       spares = subst (AreSpare task) (sym c.drop_unfit.ensures) (spares_left task c.as_slice-in-None.result.now c.first_refused.new.spares.items c.in_ok-found.ensures.spares);
-      guesses = c.first_refused.ensures.guesses;
+      last = c.first_refused.ensures.last;
     }
 
 pub returns-in-None-clause-ok : goal.returns-in-None-clause-ok
@@ -79,7 +79,7 @@ returns-in-Some-clause-ready c =
       set = subst (λ (f : List Bool). IsTriedSet task f c.put_back.new.progress.worlds) (sym same)
           (subst (λ (ws : List World). IsTriedSet task flags ws) (sym c.put_back.ensures.worlds) c.requires.ready.set);
       spares = subst (λ spares. AreSpare task spares.items) (sym c.put_back.ensures.spares) c.in_ok-found.ensures.spares;
-      guesses = subst (λ guesses. AreGuesses task guesses.last.items) (sym c.put_back.ensures.guesses) c.first_refused.ensures.guesses;
+      last = subst (λ last. AreLast task last.items) (sym c.put_back.ensures.last) c.first_refused.ensures.last;
     })
 
 pub returns-in-Some-clause-ok : goal.returns-in-Some-clause-ok

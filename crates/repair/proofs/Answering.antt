@@ -1,0 +1,31 @@
+-- Answers of kept questions.
+use Rattle.std.proofs.Common.{◌≡◌, ℕ, List, Bool, Option, Some, None, refl}
+use Rattle.std.specs.Option.{IfSome}
+use Rattle.sdc_base.specs.declared.cell.Cell.{Cell}
+use Rattle.sdc_base.specs.declared.side.Side.{Side}
+use Rattle.sdc_base.specs.declared.system.System.{System}
+use Rattle.sdc_base.specs.Signs.{HasNone}
+use Rattle.worlds.specs.declared.multipliers.Multipliers.{Multipliers}
+use Rattle.worlds.specs.declared.world.World.{World}
+use Rattle.interval_audit.specs.declared.answer.Answer.TheVariants as answer
+use Rattle.interval_audit.specs.declared.question.Question.{Question}
+use Rattle.interval_audit.specs.Answers.{IsTrueAnswer}
+use Rattle.kept_questions.specs.declared.kept_answer.KeptAnswer.{KeptAnswer}
+use Rattle.kept_questions.specs.declared.kept_answer.KeptAnswer.TheVariants.{Reaches, Stops}
+use Rattle.kept_questions.specs.KeptAnswers.{IsKeptStop}
+use Rattle.repair.specs.LevelQuestions.{IsLevelQuestion, IsLevelAnswer}
+
+-- what is kept answers a question about a level, where the relations have no signs
+pub kept_answers : (system : System) (cells : List Cell) (flags : List Bool) (asked : ℕ × Side) (question : Question) (result : Option KeptAnswer) → IsLevelQuestion cells asked question → HasNone system.relations → ((world : World) → result ≡ Some (Reaches world) → IsTrueAnswer system cells flags question (answer.Reaches world)) → ((m : Multipliers) → result ≡ Some (Stops m) → IsKeptStop system cells flags question m) → IfSome result (λ one. IsLevelAnswer system cells flags asked one)
+kept_answers system cells flags asked question None is none reaches stops = tt
+kept_answers system cells flags asked question (Some (Reaches world)) is none reaches stops = record {
+  set = flags;
+  is_one = refl;
+  question = question;
+  is_asked = is;
+  is_right = reaches world refl;
+  is_read = λ signs are. absurd (none signs are);
+}
+kept_answers system cells flags asked question (Some (Stops m)) is none reaches stops =
+    let own : IsKeptStop system cells flags question m = stops m refl in
+    record { question = question; best = own.0; world = own.1; is_asked = is; is_right = own.2; is_read = own.3 }
