@@ -3,9 +3,9 @@ use Rattle.std.specs.Prelude.{◌≡◌, ℕ, List, Result, Err, IfOk, Vec}
 use Rattle.std.specs.declared.alloc.Global.{Global}
 use Rattle.sdc_base.specs.WhereTold.{WhereTold}
 use Rattle.office_io.specs.Shelves.{ShelfState}
-use Rattle.job_inputs.specs.ReadFiles.{limit, output_limit}
+use Rattle.job_inputs.specs.ReadFiles.{limit}
 use Rattle.job_inputs.specs.Reading.{HasCause, HasComeTo, HasOnlyLooked}
-use Rattle.job_inputs.specs.SettledJobs.{SettledInputs, settled_of}
+use Rattle.job_inputs.specs.SettledJobs.{HasOnlyLookedOn, SettledInputs, settled_of}
 use Rattle.job_inputs.specs.SoundJobs.{AreSound}
 use Rattle.job_inputs.specs.declared.purpose.Purpose.TheVariants as purpose
 use Rattle.job_inputs.specs.declared.stop.InputStop.{InputStop}
@@ -36,7 +36,7 @@ pub record IsReleasedRun (name : List ℕ) (answer : Result (Vec ℕ Global) Che
   pub told : WhereTold old.files (λ fs. IsReleaseListingAnswer (released_of fs name) answer)
   pub came_to : WhereTold old.files (λ fs. (e : InputStop) → answer ≡ Err (check.Inputs e)
       → HasComeTo {X = Unit {0}} (ReleaseComesTo fs name) (Err e) fs new)
-  pub shelf : HasOnlyLooked output_limit old new
+  pub shelf : HasOnlyLookedOn purpose.Release name old new
   pub cause : (e : InputStop) → answer ≡ Err (check.Inputs e) → HasCause {X = Unit {0}} (Err e) old new
   pub listed : IfOk answer (λ bytes. (released : ReleasedFiles) × IsListingOf released bytes.items
       × AreSound released.settled.inputs)

@@ -1,11 +1,12 @@
-ghost use Rattle.std.specs.Prelude.{◌≡◌, Err};
+ghost use Rattle.std.specs.Prelude.{◌≡◌, Err, IfOk};
 ghost use Rattle.std.specs.Process.{exit_status};
 ghost use Rattle.cell_listing.specs.declared.asked.AskStop.{AskStop as AnyStop};
 ghost use Rattle.job_run.specs.ReportText.{status_of};
 ghost use Rattle.job_run.specs.declared.report.Report.TheVariants as report;
-ghost use Rattle.cells_prog.specs.Endings.{report_for};
+ghost use Rattle.cells_prog.specs.Endings.{IsWrittenBy, report_for};
 ghost use Rattle.cells_prog.specs.Endings as spec;
 
+use crate::output::Output;
 use cell_listing::AskStop;
 use job_check::CheckStop;
 use job_inputs::InputStop;
@@ -15,19 +16,25 @@ use std::process::ExitCode;
 
 const USAGE: &[u8] = b"usage: cells JOB | cells JOB --released\n";
 
-/// Writes a listing, or the usage line, to standard output, or says on standard error why there is no listing, and gives
-/// the status with which the program ends: 0 for a listing, and else argus's status for what went wrong.
+/// Writes a listing to the output, or the usage line to standard output, or says on standard error why there is no
+/// listing, and gives the status with which the program ends: 0 for a listing, and else argus's status for what went
+/// wrong.
 ///
-/// A listing that can't be written whole is a fault in writing. Whether a line was printed changes no status.
-pub fn ended_by<R: Print + Eprint>(
+/// A listing that was made is written whole, by one write, unless the output refuses it: that is a fault in writing.
+/// Whether a line was printed changes no status.
+pub fn ended_by<R: Print + Eprint, O: Output>(
     rt: &R,
+    output: &mut O,
     alloc: Global,
     answer: Result<Vec<u8>, AskStop>,
 ) -> ExitCode
-    ensures { (stop : AnyStop) → answer ≡ Err stop → exit_status result ≡ status_of (report_for stop) }
+    ensures stopped { (stop : AnyStop) → answer ≡ Err stop → exit_status result ≡ status_of (report_for stop) }
+    ensures none_written { (stop : AnyStop) → answer ≡ Err stop → O.state output.new ≡ O.state output.old }
+    ensures written { IfOk answer (λ bytes. IsWrittenBy bytes.items (exit_status result) (O.state output.old)
+        (O.state output.new)) }
 {
     match answer {
-        Ok(bytes) => written_by(rt, alloc, bytes.as_slice()),
+        Ok(bytes) => written_by(rt, output, alloc, bytes.as_slice()),
         Err(stop) => stopped_by(rt, alloc, stop),
     }
 }
@@ -40,8 +47,10 @@ pub fn without_words() -> ExitCode
 }
 
 // Writes a listing.
-fn written_by<R: Print + Eprint>(rt: &R, alloc: Global, bytes: &[u8]) -> ExitCode {
-    match rt.write_all(bytes) {
+fn written_by<R: Eprint, O: Output>(rt: &R, output: &mut O, alloc: Global, bytes: &[u8]) -> ExitCode
+    ensures { IsWrittenBy bytes.now (exit_status result) (O.state output.old) (O.state output.new) }
+{
+    match output.write(bytes) {
         Ok(()) => ExitCode::SUCCESS,
         Err(_) => exit_code_for(rt, alloc, &Report::WriteFault(FileRef::Out)),
     }

@@ -3,8 +3,10 @@
 #![tactic(auto)]
 
 mod answer;
+mod output;
 
 use crate::answer::{ended_by, without_words};
+use crate::output::StandardOutput;
 use cell_listing::list_asked;
 use program_files::{FileShelf, RealFiles, words_of};
 use std::process::ExitCode;
@@ -16,5 +18,6 @@ fn main(rt: HostRuntime) -> ExitCode {
     let files = RealFiles::new(&rt, "cells");
     let mut shelf = FileShelf::new(&files);
     let answer = list_asked(rt.alloc(), words.as_slice(), &mut shelf);
-    ended_by(&rt, rt.alloc(), answer)
+    let mut output = StandardOutput::new(&rt);
+    ended_by(&rt, &mut output, rt.alloc(), answer)
 }

@@ -1,3 +1,5 @@
 pub mod Stopping
 pub mod Answering
 pub mod Counting
+pub mod ReadingAlike
+pub mod AuditOrFault

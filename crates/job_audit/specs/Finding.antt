@@ -33,11 +33,12 @@ use Rattle.job_audit.specs.declared.audit_file.AuditFile.{AuditFile}
 use Rattle.job_audit.specs.declared.stop.AuditStop.{AuditStop}
 use Rattle.job_audit.specs.declared.stop.AuditStop.TheVariants as stop
 
--- The numbers are a rounding of the job's truths to its base, and the file is that of their audit: each primary cell,
--- ascending, with its two ends and what shows them, as a text; how many primary cells there are, and how many of them
--- aren't covered on some side. No component of a primary cell has too many cells. Where the job has one table of one
--- variable, or of two flat ones, all ends are whole, and so are the worlds beside them.
+-- There is a number for each cell, and they are a rounding of the job's truths to its base. The file is that of their
+-- audit: each primary cell, ascending, with its two ends and what shows them, as a text; how many primary cells there
+-- are, and how many of them aren't covered on some side. No component of a primary cell has too many cells. Where the
+-- job has one table of one variable, or of two flat ones, all ends are whole, and so are the worlds beside them.
 pub record IsFileFor (job : SettledJob) (values : List ℤ) (file : AuditFile) : Type 0 where
+  pub one_each : length values ≡ length job.cells
   pub system : System
   pub audited : List AuditedCell
   pub system_is : IsSystemOf job.book system

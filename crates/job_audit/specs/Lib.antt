@@ -1,3 +1,4 @@
 pub mod ShownValues
 pub mod Stops
 pub mod Finding
+pub mod Laws

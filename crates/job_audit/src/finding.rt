@@ -1,7 +1,7 @@
 ghost use Rattle.std.specs.Prelude.{◌≡◌, length};
 ghost use Rattle.sdc_base.specs.WhereTold.{WhereTold};
-ghost use Rattle.job_inputs.specs.ReadFiles.{output_limit};
-ghost use Rattle.job_inputs.specs.Reading.{HasCause, HasComeTo, HasOnlyLooked};
+ghost use Rattle.job_inputs.specs.Reading.{HasCause, HasComeTo};
+ghost use Rattle.job_inputs.specs.SettledJobs.{HasOnlyLookedOn};
 ghost use Rattle.job_inputs.specs.declared.purpose.Purpose.TheVariants.{Audit};
 ghost use Rattle.shelved_tables.specs.TablesOnShelf.{shelved_for, ComesFor, IsReadyShelved};
 ghost use Rattle.job_audit.specs.Finding.{IsAuditFileAnswer, ComesFromValues, IsFound};
@@ -57,8 +57,8 @@ pub fn find_audit<S: Shelf>(
     ensures came_to { WhereTold (S.state shelf.old).files
         (λ fs. HasComeTo (ComesFor Audit fs name.now out.now) (reading_of result) fs (S.state shelf.new)) }
 
-    // The shelf was only looked at: its files stay, and no file was read without end.
-    ensures shelf { HasOnlyLooked output_limit (S.state shelf.old) (S.state shelf.new) }
+    // The shelf was only looked at: its files stay, and each file was read to its end or its own limit at most.
+    ensures shelf { HasOnlyLookedOn Audit name.now (S.state shelf.old) (S.state shelf.new) }
 
     // That a file is absent or too long and a fault of the shelf have their cause, whatever the shelf tells.
     ensures cause { HasCause (reading_of result) (S.state shelf.old) (S.state shelf.new) }

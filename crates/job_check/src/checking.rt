@@ -1,7 +1,8 @@
 ghost use Rattle.std.specs.Prelude.{◌≡◌, Err, IfOk};
 ghost use Rattle.sdc_base.specs.WhereTold.{WhereTold};
-ghost use Rattle.job_inputs.specs.ReadFiles.{output_limit};
-ghost use Rattle.job_inputs.specs.Reading.{HasCause, HasComeTo, HasOnlyLooked};
+ghost use Rattle.job_inputs.specs.Reading.{HasCause, HasComeTo};
+ghost use Rattle.job_inputs.specs.SettledJobs.{HasOnlyLookedOn};
+ghost use Rattle.job_inputs.specs.declared.purpose.Purpose.TheVariants.{Release};
 ghost use Rattle.job_inputs.specs.declared.stop.InputStop.{InputStop as AnyStop};
 ghost use Rattle.job_check.specs.Accepted.{IsReadReleaseAnswer, IsAcceptedRead};
 ghost use Rattle.job_check.specs.Answers.{IsReleaseCheckAnswer};
@@ -45,8 +46,8 @@ pub fn check_release<S: Shelf>(alloc: Global, shelf: &mut S, name: &Text) -> Res
     ensures came_to { WhereTold (S.state shelf.old).files (λ fs. (e : AnyStop) → result ≡ Err (CheckStop.Inputs e)
         → HasComeTo {X = Unit {0}} (ReleaseComesTo fs name.now) (Err e) fs (S.state shelf.new)) }
 
-    // The shelf was only looked at: its files stay, and no file was read without end.
-    ensures shelf { HasOnlyLooked output_limit (S.state shelf.old) (S.state shelf.new) }
+    // The shelf was only looked at: its files stay, and each file was read to its end or its own limit at most.
+    ensures shelf { HasOnlyLookedOn Release name.now (S.state shelf.old) (S.state shelf.new) }
     ensures cause { (e : AnyStop) → result ≡ Err (CheckStop.Inputs e)
         → HasCause {X = Unit {0}} (Err e) (S.state shelf.old) (S.state shelf.new) }
 {
@@ -72,8 +73,8 @@ pub fn accepted_release<S: Shelf>(
     ensures came_to { WhereTold (S.state shelf.old).files (λ fs. (e : AnyStop) → result ≡ Err (CheckStop.Inputs e)
         → HasComeTo {X = Unit {0}} (ReleaseComesTo fs name.now) (Err e) fs (S.state shelf.new)) }
 
-    // The shelf was only looked at: its files stay, and no file was read without end.
-    ensures shelf { HasOnlyLooked output_limit (S.state shelf.old) (S.state shelf.new) }
+    // The shelf was only looked at: its files stay, and each file was read to its end or its own limit at most.
+    ensures shelf { HasOnlyLookedOn Release name.now (S.state shelf.old) (S.state shelf.new) }
     ensures cause { (e : AnyStop) → result ≡ Err (CheckStop.Inputs e)
         → HasCause {X = Unit {0}} (Err e) (S.state shelf.old) (S.state shelf.new) }
     // Of a shelf that tells nothing too.

@@ -4,6 +4,7 @@ ghost use Rattle.job_check.specs.Reading.{AreReleased, ReleaseComesTo, IsReadyRe
 ghost use Rattle.job_check.specs.ReleaseFiles.{released_of};
 ghost use Rattle.job_inputs.specs.ReadFiles.{output_limit};
 ghost use Rattle.job_inputs.specs.Reading.{HasLookedAt};
+ghost use Rattle.job_inputs.specs.SettledJobs.{HasOnlyLookedOn};
 
 use crate::contributors::read_extra_cells;
 use certificate::{Certificate, Extra};
@@ -33,6 +34,8 @@ pub(crate) fn read_release<S: Shelf>(
 ) -> Result<ReadRelease, InputStop>
     ensures looked { HasLookedAt (λ fs answer. AreReleased answer (released_of fs name.now))
         (λ fs. ReleaseComesTo fs name.now) IsReadyRelease output_limit result (S.state shelf.old) (S.state shelf.new) }
+    // Past the inputs only where these have no fault.
+    ensures shelf { HasOnlyLookedOn Purpose.Release name.now (S.state shelf.old) (S.state shelf.new) }
     // Of a shelf that tells nothing too.
     ensures released { IfOk result IsReadOf }
 {

@@ -1,15 +1,18 @@
 -- What stops one look at a file stops the reading of which it is a part.
-use Rattle.std.proofs.Common.{◌≡◌, ℕ, Bool, true, false, List, Result, Ok, Err, IsErrOf, refl, ap, arith, subst, ◌≤◌, ◌+◌, ◌∙◌}
+use Rattle.std.proofs.Common.{◌≡◌, ℕ, Bool, true, false, List, Result, Ok, Err, IsErr, IsErrOf, IsOkAnd, refl, ap, arith, subst, ◌≤◌, ◌+◌, ◌∙◌}
 use Rattle.sdc_base.specs.Answers.{Fails, Gives}
 use Rattle.sdc_base.specs.Steps.{refuse}
 use Rattle.sdc_base.specs.WhereTold.{WhereTold}
 use Rattle.code_trees.specs.declared.tree_fault.TreeFault.TheVariants as tree
 use Rattle.office_io.proofs.Shelves.{only-read-on}
 use Rattle.office_io.specs.Files.{Files}
-use Rattle.office_io.specs.Shelves.{ShelfState, HasOnlyRead}
+use Rattle.office_io.specs.Shelves.{ShelfState, HasBegun, HasOnlyRead}
+use Rattle.job_inputs.specs.ReadFiles.{limit, output_limit}
 use Rattle.job_inputs.specs.Reading.{stop_of, stopped_for, HasCause, HasComeTo, HasOnlyLooked, IsReadFrom}
 use Rattle.plain_text.specs.Stops.{why_of}
 use Rattle.job_inputs.specs.Refusals.{IsForContents}
+use Rattle.job_inputs.specs.SettledJobs.{HasOnlyLookedOn, SettledInputs, settled_of}
+use Rattle.job_inputs.specs.declared.purpose.Purpose.{Purpose}
 use Rattle.job_inputs.specs.declared.file_ref.FileRef.{FileRef}
 use Rattle.job_inputs.specs.declared.faults.Fault.{Fault}
 use Rattle.job_inputs.specs.declared.faults.Fault.TheVariants as fault
@@ -26,6 +29,8 @@ nothing-looked most state = record {
   only_read = record { files = refl; faults = omega arith; faults_end = λ below. below; absences = omega arith; absences_end = λ below. below };
   no_more = omega arith;
   few_reads = omega arith;
+  each_takes = λ each. each;
+  none_behind = omega arith;
 }
 
 -- a look after another
@@ -34,15 +39,48 @@ look-on most old mid new first then = record {
   only_read = only-read-on old mid new first.only_read then.only_read;
   no_more = omega (arith, first.no_more, then.no_more);
   few_reads = omega (arith, first.few_reads, then.few_reads);
+  each_takes = λ each. then.each_takes (first.each_takes each);
+  none_behind = omega (arith, first.none_behind, then.none_behind);
 }
 
 -- a look at files that may be longer
 pub longer-look : (most more : ℕ) (old new : ShelfState) → most ≤ more → HasOnlyLooked most old new → HasOnlyLooked more old new
-longer-look most more old new at_most look = record { only_read = look.only_read; no_more = omega (arith, at_most, look.no_more); few_reads = omega (arith, at_most, look.few_reads) }
+longer-look most more old new at_most look = record {
+  only_read = look.only_read;
+  no_more = omega (arith, at_most, look.no_more);
+  few_reads = omega (arith, at_most, look.few_reads);
+  each_takes = look.each_takes;
+  none_behind = look.none_behind;
+}
 
--- of a file that was begun no more was taken than its limit and a byte
-pub file-looked : (most : ℕ) (old new : ShelfState) → HasOnlyRead old new → new.taken ≤ most + 1 → new.reads ≤ most + 1 → HasOnlyLooked most old new
-file-looked most old new read taken reads = record { only_read = read; no_more = omega (arith, taken); few_reads = omega (arith, reads) }
+-- of a file that was begun no more was taken than its limit and a byte, and none was read behind its end
+pub file-looked : (most : ℕ) (old new : ShelfState) → HasOnlyRead old new → new.taken ≤ most + 1 → new.reads ≤ most + 1 → new.reads ≤ new.taken + 1 → new.empty_reads ≤ 1 → HasOnlyLooked most old new
+file-looked most old new read taken reads each behind = record {
+  only_read = read;
+  no_more = omega (arith, taken);
+  few_reads = omega (arith, reads);
+  each_takes = λ before. each;
+  none_behind = omega (arith, behind);
+}
+
+-- of a file that was begun alone nothing was taken
+pub begun-looked : (most : ℕ) (old new : ShelfState) (name : List ℕ) → HasOnlyRead old new → HasBegun name old new → HasOnlyLooked most old new
+begun-looked most old new name read begun =
+    file-looked most old new read (omega (arith, begun.none_taken)) (omega (arith, begun.none_read)) (omega (arith, begun.none_read)) (omega (arith, begun.none_empty))
+
+-- ---- looks past the inputs
+
+-- the inputs alone were looked at
+pub inputs-looked : (purpose : Purpose) (name : List ℕ) (old new : ShelfState) → HasOnlyLooked limit old new → HasOnlyLookedOn purpose name old new
+inputs-looked purpose name old new look = record { only_looked = longer-look limit output_limit old new (omega arith) look; inputs_limit = λ fs told bad. look }
+
+no-fault : {A E : Type 0} (r : Result A E) (P : A → Type 0) → IsOkAnd r P → IsErr r → ⊥
+no-fault (Ok x) P fine bad = absurd cc
+no-fault (Err e) P fine bad = fine
+
+-- the inputs have no fault, and more was looked at
+pub past-inputs : (purpose : Purpose) (name : List ℕ) (P : SettledInputs → Type 0) (old new : ShelfState) → HasOnlyLooked output_limit old new → WhereTold old.files (λ fs. IsOkAnd (settled_of purpose fs name) P) → HasOnlyLookedOn purpose name old new
+past-inputs purpose name P old new look fine = record { only_looked = look; inputs_limit = λ fs told bad. absurd (no-fault (settled_of purpose fs name) P (fine fs told) bad) }
 
 -- ---- stops
 

@@ -45,11 +45,14 @@ HasComeTo comes result files new =
     → (held : List ℕ) × comes f held × (new.last ≡ held_name files held)
 
 -- The shelf was only read from, and no more than was wanted: of the file that was looked for last, where one was, at
--- most so many bytes and one more were taken, by at most as many reads.
+-- most so many bytes and one more were taken, by at most as many reads. Each read but one at most took a byte, so none
+-- was made behind the file's end.
 pub record HasOnlyLooked (most : ℕ) (old new : ShelfState) : Type 0 where
   pub only_read : HasOnlyRead old new
   pub no_more : new.taken ≤ max old.taken (most + 1)
   pub few_reads : new.reads ≤ max old.reads (most + 1)
+  pub each_takes : old.reads ≤ old.taken + 1 → new.reads ≤ new.taken + 1
+  pub none_behind : new.empty_reads ≤ max old.empty_reads 1
 
 -- The answer to a look at files of a shelf, each of at most so many bytes: as far as they are told, it is what they
 -- give, and reading came to a file at which the shelf fails. The shelf was only looked at, each refusal has its cause,

@@ -1,8 +1,9 @@
 -- The inputs of a job with its cells settled, or the first fault of all (own).
-use Rattle.std.specs.Prelude.{◌≡◌, ◌<◌, ◌^◌, ◌||◌, ◌≤◌, ℕ, Bool, false, List, Option, length, map, Result, Ok, Err, IsOkAnd, All}
+use Rattle.std.specs.Prelude.{◌≡◌, ◌<◌, ◌^◌, ◌||◌, ◌≤◌, ℕ, Bool, false, List, Option, length, map, Result, Ok, Err, IsErr, IsOkAnd, All}
 use Rattle.std.specs.List.{list_any}
 use Rattle.std.specs.Option.{option_map_or}
 use Rattle.std.specs.Str.{bytes_eq}
+use Rattle.sdc_base.specs.WhereTold.{WhereTold}
 use Rattle.sdc_base.specs.Answers.{Fails}
 use Rattle.sdc_base.specs.Steps.{◌>>=◌, map_fault, refuse}
 use Rattle.apriori.specs.Settling.{SettledCell, view_of_cell, settle_of}
@@ -17,9 +18,11 @@ use Rattle.linked_tables.specs.Tables.{book_of}
 use Rattle.job_lang.specs.declared.job.Job.{Job}
 use Rattle.job_lang.specs.declared.job.OutputLine.{OutputLine}
 use Rattle.office_io.specs.Files.{Files}
+use Rattle.office_io.specs.Shelves.{ShelfState}
 use Rattle.job_inputs.specs.Cells.{figures, cells_fault, prior_fault}
 use Rattle.job_inputs.specs.Inputs.{inputs_of}
-use Rattle.job_inputs.specs.Reading.{stopped_for}
+use Rattle.job_inputs.specs.ReadFiles.{limit, output_limit}
+use Rattle.job_inputs.specs.Reading.{stopped_for, HasOnlyLooked}
 use Rattle.job_inputs.specs.SoundJobs.{IsSoundJob}
 use Rattle.job_inputs.specs.PriorStatements.{priors_of}
 use Rattle.job_inputs.specs.TabulatedBooks.{IsBookOf, IsReadyFor}
@@ -95,3 +98,9 @@ pub record AreReadyCells (marks : List Mark) (cells : List Cell) : Type 0 where
   pub one_each : length cells ≡ length marks
   pub levels : All HasLevelsInRange cells
   pub truths : map (λ mark. mark.facts.truth) marks ≡ map (λ cell. cell.truth) cells
+
+-- The shelf was only looked at, and past the inputs of the job of this name only where these have no fault: where they
+-- have one, no more was taken of any file than an input may have, and one byte. So each file was read by its own limit.
+pub record HasOnlyLookedOn (purpose : Purpose) (name : List ℕ) (old new : ShelfState) : Type 0 where
+  pub only_looked : HasOnlyLooked output_limit old new
+  pub inputs_limit : WhereTold old.files (λ fs. IsErr (settled_of purpose fs name) → HasOnlyLooked limit old new)

@@ -73,9 +73,11 @@ fn begin<S: Shelf>(shelf: &mut S, name: &Text) -> Result<(), InputStop>
 fn feed_all<S: Shelf>(shelf: &mut S, reader: &mut Reader) -> Result<(), InputStop>
     requires none_taken { (S.state shelf.old).taken ≡ 0 }
     requires none_read { (S.state shelf.old).reads ≡ 0 }
+    requires none_empty { (S.state shelf.old).empty_reads ≡ 0 }
     ensures no_more { (S.state shelf.new).taken ≤ limit + 1 }
     ensures few_reads { (S.state shelf.new).reads ≤ limit + 1 }
     ensures each_takes { (S.state shelf.new).reads ≤ (S.state shelf.new).taken + 1 }
+    ensures none_behind { (S.state shelf.new).empty_reads ≤ 1 }
     ensures reads_all { OnOk result (BeforeReading (S.state shelf.old) reader.old
         (λ layout bytes. HasRead reader.new layout bytes × (length bytes ≤ limit))) }
     ensures reads_front { OnOk result ((layout : AnyLayout) → HasRead reader.old layout []

@@ -1,6 +1,6 @@
 -- What the tables of a job come to, when the intervals of the cells that they hide are asked for (handbook, feasibility
 -- interval; own).
-use Rattle.std.specs.Prelude.{◌≡◌, ◌≢◌, ◌↔◌, ℕ, Bool, true, List, length, Result, Ok, Err, IsOkAnd}
+use Rattle.std.specs.Prelude.{◌≡◌, ◌≢◌, ◌↔◌, ℕ, Bool, true, All, List, length, Result, Ok, Err, IsOkAnd}
 use Rattle.sdc_base.specs.Answers.{Fails}
 use Rattle.sdc_base.specs.HiddenSets.{is_hidden}
 use Rattle.sdc_base.specs.declared.system.System.{System}
@@ -11,7 +11,7 @@ use Rattle.relations.specs.Holding.{IsSystemOf}
 use Rattle.relations.specs.TableSigns.{IsOneOrTwoWay}
 use Rattle.cell_intervals.specs.IntervalFaults.{HasSmallComponent, IsFaultAt, IsFaultOf}
 use Rattle.cell_intervals.specs.IntervalTexts.{interval_text}
-use Rattle.cell_intervals.specs.Intervals.{AreIntervals}
+use Rattle.cell_intervals.specs.Intervals.{AreIntervals, HasWholeEnds}
 use Rattle.cell_intervals.specs.Laws.{IsSize}
 use Rattle.cell_intervals.specs.declared.interval.CellInterval.{CellInterval}
 use Rattle.cert_check.specs.declared.faults.CheckFault.{CheckFault}
@@ -29,13 +29,15 @@ use Rattle.job_intervals.specs.declared.stop.IntervalStop.TheVariants as stop
 
 -- Each cell is hidden or shown, and the file is that of the intervals of the hidden ones: each of them, ascending, with
 -- the least and the greatest value that a complete table gives it, as a text, and their number. No component has too
--- many hidden cells.
+-- many hidden cells. Where the job has one table of one variable, or of two flat ones, all ends are whole, and complete
+-- tables in whole units attain them.
 pub record IsFileFor (job : SettledJob) (flags : List Bool) (file : IntervalFile) : Type 0 where
   pub one_each : length flags ≡ length job.cells
   pub system : System
   pub intervals : List CellInterval
   pub system_is : IsSystemOf job.book system
   pub are : AreIntervals system job.cells flags intervals
+  pub whole : IsOneOrTwoWay job.book.trees job.book.tables → All (HasWholeEnds system job.cells flags) intervals
   pub small : (cell : ℕ) → is_hidden flags cell ≡ true → HasSmallComponent system flags cell
   pub bytes : file.bytes ≡ interval_text intervals
   pub cells : file.cells ≡ length intervals

@@ -20,6 +20,7 @@ shelf_state s = record {
   left = rest_at s.files.items s.known s.chosen s.at;
   taken = s.taken;
   reads = s.reads;
+  empty_reads = s.empty_reads;
   last = option_and_then (name_at s.files.items) s.last;
   faults = s.faults;
   absences = s.absences;

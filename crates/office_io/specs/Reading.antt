@@ -22,8 +22,10 @@ pub record IsTooLong (name : List ℕ) (limit : ℕ) (old : ShelfState) : Type 0
   pub longer : WhereTold old.files (λ fs. WhereTold (fs name) (λ bytes. limit < length bytes))
 
 -- The file of this name was the last one looked for, and at most one byte more than the limit was taken, by at most as
--- many reads.
+-- many reads. Each read but one at most took a byte, so none was made behind the file's end.
 pub record HasLookedFor (name : List ℕ) (limit : ℕ) (old new : ShelfState) : Type 0 where
   pub last : WhereTold old.files (λ fs. new.last ≡ held_name fs name)
   pub no_more : new.taken ≤ limit + 1
   pub few_reads : new.reads ≤ limit + 1
+  pub each_takes : new.reads ≤ new.taken + 1
+  pub none_behind : new.empty_reads ≤ 1

@@ -3,6 +3,7 @@ ghost use Rattle.sdc_base.specs.Counts.{count_after};
 ghost use Rattle.office_io.specs.Files.{file_of, name_at, bytes_at, rest_at};
 ghost use Rattle.office_io.specs.Shelves.{HasOnlyRead, HasBegun, HasChosen, HasFoundNone, HasNotLooked};
 ghost use Rattle.office_io.specs.Shelves.{HasGiven, HasNotRead, HasReadOnce};
+ghost use Rattle.office_io.specs.Shelves as spec;
 
 use crate::faults::{BeginFault, Failed};
 use crate::shelf::Shelf;
@@ -28,6 +29,7 @@ pub struct MemoryShelf {
     known: bool,
     taken: u64,
     reads: u64,
+    empty_reads: u64,
     faults: u64,
     absences: u64,
     ghost gives_some: { 1 ≤ piece },
@@ -48,6 +50,7 @@ impl MemoryShelf {
               left = Some [];
               taken = 0;
               reads = 0;
+              empty_reads = 0;
               last = None;
               faults = 0;
               absences = 0;
@@ -67,6 +70,7 @@ impl MemoryShelf {
             known: true,
             taken: 0,
             reads: 0,
+            empty_reads: 0,
             faults: 0,
             absences: 0,
         }
@@ -113,6 +117,16 @@ fn fill_buffer(bytes: &[u8], most: u32, buffer: &mut [u8]) -> usize
     n
 }
 
+// How many reads gave no byte, after one that gave so many.
+fn empty_after(count: u64, n: usize) -> u64
+    ensures { result ≡ spec.empty_after count n }
+{
+    if n == 0 {
+        return count.saturating_add(1);
+    }
+    count
+}
+
 // The place of the first file of this name.
 fn file_place(files: &[(Text, Vec<u8>)], name: &Text) -> Option<usize>
     ensures none { IfNone result (file_of files.now name.now ≡ None) }
@@ -137,6 +151,7 @@ impl Shelf for MemoryShelf {
       left = rest_at s.files.items s.known s.chosen s.at;
       taken = s.taken;
       reads = s.reads;
+      empty_reads = s.empty_reads;
       last = option_and_then (name_at s.files.items) s.last;
       faults = s.faults;
       absences = s.absences;
@@ -164,6 +179,7 @@ impl Shelf for MemoryShelf {
     {
         self.taken = 0;
         self.reads = 0;
+        self.empty_reads = 0;
         self.at = 0;
         self.known = true;
         self.chosen = None;
@@ -200,6 +216,7 @@ impl Shelf for MemoryShelf {
         if self.next_fails() {
             self.faults = self.faults.saturating_add(1);
             self.known = false;
+            self.empty_reads = self.empty_reads.saturating_add(1);
             return Err(Failed);
         }
         let n = fill_buffer(
@@ -209,6 +226,7 @@ impl Shelf for MemoryShelf {
         );
         self.at = self.at.saturating_add(n);
         self.taken = self.taken.saturating_add(n as u64);
+        self.empty_reads = empty_after(self.empty_reads, n);
         Ok(n)
     }
 }

@@ -26,6 +26,7 @@ pub struct FileShelf<'a, R: Files> {
     name: ArrayVec<u8, LONGEST_PATH>,
     taken: u64,
     reads: u64,
+    empty_reads: u64,
     faults: u64,
     absences: u64,
 }
@@ -36,7 +37,16 @@ impl<'a, R: Files + Eprint> FileShelf<'a, R> {
     /// A shelf from which no file is chosen yet.
     pub fn new(files: &'a RealFiles<'a, R>) -> Self
         ensures { ⟦<FileShelf<'a, R> as Shelf>⟧.state result
-            ≡ record { files = None; left = Some []; taken = 0; reads = 0; last = None; faults = 0; absences = 0 } }
+            ≡ record {
+              files = None;
+              left = Some [];
+              taken = 0;
+              reads = 0;
+              empty_reads = 0;
+              last = None;
+              faults = 0;
+              absences = 0;
+            } }
     {
         FileShelf {
             files,
@@ -44,6 +54,7 @@ impl<'a, R: Files + Eprint> FileShelf<'a, R> {
             name: ArrayVec::new(),
             taken: 0,
             reads: 0,
+            empty_reads: 0,
             faults: 0,
             absences: 0,
         }
@@ -67,6 +78,7 @@ impl<'a, R: Files + Eprint> Shelf for FileShelf<'a, R> {
       left = if is_some s.file then None else Some [];
       taken = s.taken;
       reads = s.reads;
+      empty_reads = s.empty_reads;
       last = None;
       faults = s.faults;
       absences = s.absences;
@@ -76,6 +88,7 @@ impl<'a, R: Files + Eprint> Shelf for FileShelf<'a, R> {
         self.file = None;
         self.taken = 0;
         self.reads = 0;
+        self.empty_reads = 0;
         // A name that isn't UTF-8 is a fault: the kit opens no such path, so nobody has looked.
         match self.files.open(name) {
             Ok(file) => {
@@ -100,16 +113,21 @@ impl<'a, R: Files + Eprint> Shelf for FileShelf<'a, R> {
         self.reads = self.reads.saturating_add(1);
         let Some(file) = self.file.as_mut() else {
             self.taken = self.taken.saturating_add(0);
+            self.empty_reads = self.empty_reads.saturating_add(1);
             return Ok(0);
         };
         match file.read(buffer) {
             Ok(n) => {
                 self.taken = self.taken.saturating_add(n as u64);
+                if n == 0 {
+                    self.empty_reads = self.empty_reads.saturating_add(1);
+                }
                 Ok(n)
             }
             Err(e) => {
                 self.files.tell(self.name.as_slice(), &e);
                 self.count_fault();
+                self.empty_reads = self.empty_reads.saturating_add(1);
                 Err(Failed)
             }
         }

@@ -1,7 +1,7 @@
 ghost use Rattle.std.specs.Prelude.{IfOk};
 ghost use Rattle.sdc_base.specs.WhereTold.{WhereTold};
-ghost use Rattle.job_inputs.specs.ReadFiles.{output_limit};
-ghost use Rattle.job_inputs.specs.Reading.{HasCause, HasComeTo, HasOnlyLooked};
+ghost use Rattle.job_inputs.specs.Reading.{HasCause, HasComeTo};
+ghost use Rattle.job_inputs.specs.SettledJobs.{HasOnlyLookedOn};
 ghost use Rattle.job_inputs.specs.SoundJobs.{AreSound};
 ghost use Rattle.shelved_tables.specs.TablesOnShelf.{shelved_for, AreShelved, ComesFor, IsReadyShelved, IsShelvedOf, ShelvedTables as Tables};
 
@@ -42,7 +42,7 @@ pub fn read_shelved<S: Shelf>(
     ensures ready { IfOk result IsReadyShelved }
     ensures came_to { WhereTold (S.state shelf.old).files
         (λ fs. HasComeTo (ComesFor purpose fs name.now out.now) result fs (S.state shelf.new)) }
-    ensures shelf { HasOnlyLooked output_limit (S.state shelf.old) (S.state shelf.new) }
+    ensures shelf { HasOnlyLookedOn purpose name.now (S.state shelf.old) (S.state shelf.new) }
     ensures cause { HasCause result (S.state shelf.old) (S.state shelf.new) }
 {
     let job = read_settled(alloc, shelf, name, purpose)?;

@@ -12,7 +12,7 @@ pub returns-in-None-clause-shelf : goal.returns-in-None-clause-shelf
 returns-in-None-clause-shelf g c = longer-look limit output_limit _ _ at_most c.asked_cells.ensures.shelf
 
 pub returns-in-Some-clause-shelf : goal.returns-in-Some-clause-shelf
-returns-in-Some-clause-shelf g c = c.asked_release.ensures.answers.run.shelf
+returns-in-Some-clause-shelf g c = c.asked_release.ensures.answers.run.shelf.only_looked
 
 pub returns-in-Some-clause-cells : goal.returns-in-Some-clause-cells
 returns-in-Some-clause-cells g c = λ name named. absurd (let other = one_of_both c.args.words.now c.in-Some.name.now (sym c.in-Some.ensures) in cc)

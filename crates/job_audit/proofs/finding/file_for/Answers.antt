@@ -63,6 +63,7 @@ returns c =
     let rounded = subst (λ b. IsRounding system (truths_of c.as_slice.result.now) b c.args.values.now) base (c.in_ok-audited.ensures.rounded refl) in
     let system_is : IsSystemOf job.book system = record { cells = c.in_ok-system.ensures.cells; relations = c.in_ok-system.ensures.exact } in
     record {
+      one_each = c.requires.each;
       system = c.in_ok-system.system;
       audited = c.in_ok-audited.audited;
       system_is = system_is;

@@ -1,8 +1,10 @@
 use Rattle.std.proofs.Common.{arith, ◌≤◌, ◌∙◌, refl}
 use Rattle.std.proofs.lemmas.Result.{err_from_is_err_and}
-use Rattle.job_inputs.proofs.Causes.{come-on, cause-as, cause-on, look-on, longer-look}
+use Rattle.job_inputs.proofs.Causes.{come-on, cause-as, cause-on, inputs-looked, look-on, longer-look, past-inputs}
 use Rattle.job_inputs.specs.ReadFiles.{limit, output_limit}
 use Rattle.job_inputs.specs.Reading.{stopped_for}
+use Rattle.job_inputs.specs.SettledJobs.{IsSettledOf}
+use Rattle.job_inputs.specs.declared.purpose.Purpose.TheVariants.{Release}
 use Rattle.job_check.proofs.ReleaseReading.{settled-fails, no-certificate, no-extra, no-tables, all-read, inputs-come, certificate-comes, contributors-come, tables-come}
 use Rattle.job_check.specs.ReleaseFiles.{released_with}
 use Rattle.job_check.proofs.reading.read_release.Goals as goal
@@ -108,3 +110,33 @@ returns-clause-released g c =
       is = record { settled = settled.1; certificate = refl; extra = refl; tables = refl };
       sound = settled.2;
     }
+
+-- ---- the shelf
+
+pub returns-in_err-job-clause-shelf : goal.returns-in_err-job-clause-shelf
+returns-in_err-job-clause-shelf g c = inputs-looked _ _ _ _ c.in_err-job.ensures.looked.shelf
+
+pub returns-in_err-certificate-clause-shelf : goal.returns-in_err-certificate-clause-shelf
+returns-in_err-certificate-clause-shelf g c =
+    let first = c.in_ok-job.ensures.looked in
+    past-inputs Release c.args.name.now (λ settled. IsSettledOf settled c.in_ok-job.job) _ _ (look-on _ _ _ _ (longer-look limit output_limit _ _ at_most first.shelf) c.in_err-certificate.ensures.shelf) first.told
+
+pub returns-in_err-extra-clause-shelf : goal.returns-in_err-extra-clause-shelf
+returns-in_err-extra-clause-shelf g c =
+    let first = c.in_ok-job.ensures.looked in
+    let signed = look-on _ _ _ _ (longer-look limit output_limit _ _ at_most first.shelf) c.in_ok-certificate.ensures.shelf in
+    past-inputs Release c.args.name.now (λ settled. IsSettledOf settled c.in_ok-job.job) _ _ (look-on _ _ _ _ signed c.in_err-extra.ensures.shelf) first.told
+
+pub returns-in_err-tables-clause-shelf : goal.returns-in_err-tables-clause-shelf
+returns-in_err-tables-clause-shelf g c =
+    let first = c.in_ok-job.ensures.looked in
+    let signed = look-on _ _ _ _ (longer-look limit output_limit _ _ at_most first.shelf) c.in_ok-certificate.ensures.shelf in
+    let before = look-on _ _ _ _ signed c.in_ok-extra.ensures.shelf in
+    past-inputs Release c.args.name.now (λ settled. IsSettledOf settled c.in_ok-job.job) _ _ (look-on _ _ _ _ before c.in_err-tables.ensures.shelf) first.told
+
+pub returns-clause-shelf : goal.returns-clause-shelf
+returns-clause-shelf g c =
+    let first = c.in_ok-job.ensures.looked in
+    let signed = look-on _ _ _ _ (longer-look limit output_limit _ _ at_most first.shelf) c.in_ok-certificate.ensures.shelf in
+    let before = look-on _ _ _ _ signed c.in_ok-extra.ensures.shelf in
+    past-inputs Release c.args.name.now (λ settled. IsSettledOf settled c.in_ok-job.job) _ _ (look-on _ _ _ _ before c.in_ok-tables.ensures.shelf) first.told

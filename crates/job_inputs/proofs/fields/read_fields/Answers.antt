@@ -11,7 +11,7 @@ use Rattle.job_inputs.specs.Layouts.{variables_at}
 use Rattle.job_inputs.specs.Looks.{FieldsComeTo}
 use Rattle.job_inputs.specs.PlacedFields.{IsPlacedField}
 use Rattle.job_inputs.specs.Reading.{stopped_for}
-use Rattle.job_inputs.proofs.Causes.{look-stops, nothing-looked, look-on}
+use Rattle.job_inputs.proofs.Causes.{look-stops, memory-stops, nothing-looked, look-on}
 use Rattle.job_inputs.proofs.FieldSteps.{known, fields-none, fields-more, fields-stop, fields-come, all-more, one-longer}
 use Rattle.job_inputs.proofs.fields.read_fields.Goals as goal
 
@@ -51,6 +51,11 @@ returns-in_err-field g c =
     subst (λ (vs : List Variable). FieldsComeTo fs (variables_at vs c.args.described.now.bound.spanning) f held) c.as_slice-variables.ensures
     (subst (λ (ps : List ℕ). FieldsComeTo fs (variables_at variables ps) f held) c.as_slice-place-items.ensures
     (fields-come fs variables places c.places.place-index v c.places.fields f held c.places-test.true c.variable_at-variable.ensures (c.places.invariant.told fs told) comes))))
+
+pub returns-in_err-push : goal.returns-in_err-push
+returns-in_err-push g c =
+    let p = err_from_is_err_and c.from_residual-in_err-push.result c.from_residual-in_err-push.ensures.1 in
+    rw (p.1, p.2) (memory-stops _ _ _ _ _ (look-on _ _ _ _ c.places.invariant.shelf c.in_ok-field.ensures.shelf))
 
 pub places-preserved : goal.places-preserved
 places-preserved g c = record {

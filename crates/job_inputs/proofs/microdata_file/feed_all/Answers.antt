@@ -4,7 +4,7 @@ use Rattle.sdc_base.specs.Steps.{map_fault}
 use Rattle.microdata.specs.Feeding.{HasRead, fed_of}
 use Rattle.job_inputs.specs.ReadFiles.{limit, row_fault}
 use Rattle.plain_text.specs.Stops.{why_of}
-use Rattle.office_io.proofs.Shelves.{only-read-on}
+use Rattle.office_io.proofs.Shelves.{only-read-on, filled}
 use Rattle.job_inputs.proofs.Causes.{stop-fails, contents-cause}
 use Rattle.job_inputs.proofs.Feeding.{fed-more, fed-end, fed-faulty, fed-long}
 use Rattle.job_inputs.proofs.microdata_file.feed_all.Goals as goal
@@ -45,6 +45,7 @@ pieces-preserved g c =
       short = short;
       count = omega (arith, c.in-Ok.ensures.given.taken, c.pieces.invariant.count, short);
       each_takes = omega (arith, c.in-Ok.ensures.once.reads, c.pieces.invariant.each_takes, c.if-ended.false);
+      empty = filled c.in-Ok.n _ _ (omega (arith, c.if-ended.false)) c.in-Ok.ensures.given.empty ∙ c.pieces.invariant.empty;
       fed = λ layout bytes left read.
           rw c.in-Ok.ensures.given.rest
           (fed-more layout bytes c.pieces.reader c.feed_piece.new.reader _ c.pieces.taken c.in-Ok.n c.read.new.buffer (c.pieces.invariant.fed layout bytes left read) c.in-Ok.ensures.given.within c.in-Ok.ensures.given.given

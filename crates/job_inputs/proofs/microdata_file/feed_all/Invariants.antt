@@ -11,6 +11,7 @@ invariant-pieces g l = record {
   short : l.taken ≤ limit;
   count : (g.S.Shelf.state l.shelf).taken ≡ l.taken;
   each_takes : (g.S.Shelf.state l.shelf).reads ≤ l.taken;
+  empty : (g.S.Shelf.state l.shelf).empty_reads ≡ 0;
   fed : (layout : Layout) (bytes : List ℕ) → (g.S.Shelf.state l.fn.shelf).left ≡ Some bytes → HasRead l.fn.reader layout [] → IsFed layout bytes l.reader (g.S.Shelf.state l.shelf).left l.taken;
   some : (layout : Layout) → HasRead l.fn.reader layout [] → (bytes : List ℕ) × HasRead l.reader layout bytes;
   last : (g.S.Shelf.state l.shelf).last ≡ (g.S.Shelf.state l.fn.shelf).last;

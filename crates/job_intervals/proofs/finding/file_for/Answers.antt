@@ -3,8 +3,10 @@ use Rattle.std.proofs.lemmas.Result.{err_from_is_err_and}
 use Rattle.sdc_base.specs.declared.cell.Cell.{Cell}
 use Rattle.cell_intervals.specs.IntervalFaults.{IsFaultOf}
 use Rattle.cell_intervals.specs.IntervalTexts.{interval_text}
-use Rattle.cell_intervals.specs.Intervals.{AreIntervals}
+use Rattle.cell_intervals.specs.Intervals.{AreIntervals, HasWholeEnds}
 use Rattle.cell_intervals.specs.declared.interval.CellInterval.{CellInterval}
+use Rattle.relations.proofs.SignedTables.{one_or_two_way_has_signs}
+use Rattle.relations.specs.Holding.{IsSystemOf}
 use Rattle.job_intervals.proofs.Counting.{few_intervals}
 use Rattle.shelved_tables.proofs.Readying.{truths_within}
 use Rattle.job_intervals.proofs.Stopping.{question_stops}
@@ -38,6 +40,10 @@ returns c = record {
   intervals = c.in_ok-intervals.intervals;
   system_is = record { cells = c.in_ok-system.ensures.cells; relations = c.in_ok-system.ensures.exact };
   are = subst (λ (cells : List Cell). AreIntervals c.in_ok-system.system cells c.args.hidden.now.flags c.in_ok-intervals.intervals) c.as_slice.ensures c.in_ok-intervals.ensures.intervals;
+  whole = λ shape.
+      (let is : IsSystemOf c.args.shelved.now.job.book c.in_ok-system.system = record { cells = c.in_ok-system.ensures.cells; relations = c.in_ok-system.ensures.exact } in
+      let signs = one_or_two_way_has_signs c.args.shelved.now.job.book c.in_ok-system.system shape c.cells-known.ensures.book is in
+      subst (λ (cells : List Cell). All (HasWholeEnds c.in_ok-system.system cells c.args.hidden.now.flags) c.in_ok-intervals.intervals) c.as_slice.ensures (c.in_ok-intervals.ensures.whole signs.0 signs.1));
   small = c.in_ok-intervals.ensures.small;
   bytes = c.in_ok-bytes.ensures ∙ ap (λ (intervals : List CellInterval). interval_text intervals) c.as_slice-2.ensures;
   cells = ap (λ (intervals : List CellInterval). length intervals) c.as_slice-3.ensures;

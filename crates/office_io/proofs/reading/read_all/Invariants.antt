@@ -10,6 +10,7 @@ invariant-pieces g l = record {
   got : length l.bytes.items ≤ l.limit;
   taken : (g.S.Shelf.state l.shelf).taken ≡ length l.bytes.items;
   reads : (g.S.Shelf.state l.shelf).reads ≤ length l.bytes.items;
+  empty : (g.S.Shelf.state l.shelf).empty_reads ≡ 0;
   left : WhereTold (g.S.Shelf.state l.fn.shelf).files (λ fs. IsGot (fs l.fn.name) l.bytes.items (g.S.Shelf.state l.shelf).left);
   last : WhereTold (g.S.Shelf.state l.fn.shelf).files (λ fs. (g.S.Shelf.state l.shelf).last ≡ held_name fs l.fn.name);
   only_read : HasOnlyRead (g.S.Shelf.state l.fn.shelf) (g.S.Shelf.state l.shelf);

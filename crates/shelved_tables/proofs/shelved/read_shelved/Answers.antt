@@ -1,7 +1,7 @@
 use Rattle.std.proofs.Common.{◌≡◌, ◌≤◌, Ok, arith, refl, subst, ◌∙◌}
 use Rattle.std.proofs.lemmas.Result.{err_from_is_err_and}
 use Rattle.sdc_base.specs.Answers.{Fails}
-use Rattle.job_inputs.proofs.Causes.{come-on, look-on, longer-look, out-name-cause}
+use Rattle.job_inputs.proofs.Causes.{come-on, inputs-looked, look-on, longer-look, out-name-cause, past-inputs}
 use Rattle.job_inputs.specs.ReadFiles.{limit, output_limit}
 use Rattle.job_inputs.specs.Reading.{stopped_for}
 use Rattle.job_inputs.specs.SettledJobs.{settled_of, IsSettledOf}
@@ -90,13 +90,18 @@ at_most : limit ≤ output_limit
 at_most = omega arith
 
 pub returns-in_err-job-clause-shelf : goal.returns-in_err-job-clause-shelf
-returns-in_err-job-clause-shelf g c = longer-look limit output_limit _ _ at_most c.in_err-job.ensures.looked.shelf
+returns-in_err-job-clause-shelf g c = inputs-looked _ _ _ _ c.in_err-job.ensures.looked.shelf
 
 pub returns-in_err-check_out-clause-shelf : goal.returns-in_err-check_out-clause-shelf
-returns-in_err-check_out-clause-shelf g c = longer-look limit output_limit _ _ at_most c.in_ok-job.ensures.looked.shelf
+returns-in_err-check_out-clause-shelf g c =
+    past-inputs c.args.purpose c.args.name.now (λ settled. IsSettledOf settled c.in_ok-job.job) _ _ (longer-look limit output_limit _ _ at_most c.in_ok-job.ensures.looked.shelf) c.in_ok-job.ensures.looked.told
 
 pub returns-in_err-tables-clause-shelf : goal.returns-in_err-tables-clause-shelf
-returns-in_err-tables-clause-shelf g c = look-on output_limit _ _ _ (longer-look limit output_limit _ _ at_most c.in_ok-job.ensures.looked.shelf) c.in_err-tables.ensures.shelf
+returns-in_err-tables-clause-shelf g c =
+    past-inputs c.args.purpose c.args.name.now (λ settled. IsSettledOf settled c.in_ok-job.job) _ _
+    (look-on output_limit _ _ _ (longer-look limit output_limit _ _ at_most c.in_ok-job.ensures.looked.shelf) c.in_err-tables.ensures.shelf) c.in_ok-job.ensures.looked.told
 
 pub returns-clause-shelf : goal.returns-clause-shelf
-returns-clause-shelf g c = look-on output_limit _ _ _ (longer-look limit output_limit _ _ at_most c.in_ok-job.ensures.looked.shelf) c.in_ok-tables.ensures.shelf
+returns-clause-shelf g c =
+    past-inputs c.args.purpose c.args.name.now (λ settled. IsSettledOf settled c.in_ok-job.job) _ _
+    (look-on output_limit _ _ _ (longer-look limit output_limit _ _ at_most c.in_ok-job.ensures.looked.shelf) c.in_ok-tables.ensures.shelf) c.in_ok-job.ensures.looked.told
