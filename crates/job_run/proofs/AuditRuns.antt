@@ -7,8 +7,8 @@ use Rattle.interval_audit.specs.declared.answer.AskFault.TheVariants as ask
 use Rattle.office_io.specs.Files.{Files}
 use Rattle.office_io.specs.Shelves.{ShelfState}
 use Rattle.office_io.specs.Trays.{TrayState, HasPut, HasPutInPart}
-use Rattle.job_inputs.specs.ReadFiles.{output_limit}
-use Rattle.job_inputs.specs.Reading.{HasOnlyLooked, stopped_for, HasCause, HasComeTo}
+use Rattle.job_inputs.specs.Reading.{stopped_for, HasCause, HasComeTo}
+use Rattle.job_inputs.specs.SettledJobs.{HasOnlyLookedOn}
 use Rattle.job_inputs.specs.declared.faults.Fault.{Fault}
 use Rattle.job_inputs.specs.declared.file_ref.FileRef.{FileRef}
 use Rattle.job_inputs.specs.declared.file_ref.FileRef.TheVariants as file
@@ -148,7 +148,7 @@ settles report.NoRounding outcome h no_read no_write = absurd h
 
 -- what holds of how it went on holds of a run that finds no audit
 pub stopped-run : (name out : List ℕ) (e : AuditStop) (old new : ShelfState) (tray : TrayState) → WhereTold old.files (λ fs. IsAuditFileAnswer (shelved_for Audit fs name out) (Err e))
-    → WhereTold old.files (λ fs. HasComeTo (ComesFor Audit fs name out) (finding_of (Err e)) fs new) → HasCause (finding_of (Err e)) old new → HasOnlyLooked output_limit old new → IsAuditRunOf name out (stop_report e) old new tray tray
+    → WhereTold old.files (λ fs. HasComeTo (ComesFor Audit fs name out) (finding_of (Err e)) fs new) → HasCause (finding_of (Err e)) old new → HasOnlyLookedOn Audit name old new → IsAuditRunOf name out (stop_report e) old new tray tray
 stopped-run name out e old new tray told come cause shelf = record {
   answers = stop-answers e;
   told = λ fs held. stop-meets e (shelved_for Audit fs name out) (told fs held);
@@ -157,12 +157,13 @@ stopped-run name out e old new tray told come cause shelf = record {
       settles (stop_report e) (shelved_for Audit fs name out) (stop-meets e (shelved_for Audit fs name out) (told fs held)) (λ f is. no_read (read-counted (stop_report e) old new tray tray f (stop-cause e old new tray cause) is)) (λ f is. no_write ((stop-cause e old new tray cause).write_fault f is));
   came_to = λ fs held. stop-comes e (ComesFor Audit fs name out) fs new (come fs held);
   one_put = λ n m is. absurd (stop-puts-none e n m is);
+  at_most_one_put = inl refl;
   shelf = shelf;
 }
 
 -- the same of a run that went on so, and reports it
 pub stopped-run-of : (name out : List ℕ) (r : Result AuditFile AuditStop) (e : AuditStop) (answer : Report) (old new : ShelfState) (tray : TrayState) → r ≡ Err e → answer ≡ stop_report e → WhereTold old.files (λ fs. IsAuditFileAnswer (shelved_for Audit fs name out) r)
-    → WhereTold old.files (λ fs. HasComeTo (ComesFor Audit fs name out) (finding_of r) fs new) → HasCause (finding_of r) old new → HasOnlyLooked output_limit old new → IsAuditRunOf name out answer old new tray tray
+    → WhereTold old.files (λ fs. HasComeTo (ComesFor Audit fs name out) (finding_of r) fs new) → HasCause (finding_of r) old new → HasOnlyLookedOn Audit name old new → IsAuditRunOf name out answer old new tray tray
 stopped-run-of name out r e answer old new tray is same told come cause shelf =
     subst (λ (a : Report). IsAuditRunOf name out a old new tray tray) (sym same)
     (stopped-run name out e old new tray (λ fs held. subst (λ (o : Result AuditFile AuditStop). IsAuditFileAnswer (shelved_for Audit fs name out) o) is (told fs held))
@@ -185,7 +186,7 @@ part-leaves (Ok shelved) audit out before after h part = record { audit = audit;
 part-leaves (Err f) audit out before after h part = absurd h
 
 -- the file of the audit was put
-pub put-run : (name out : List ℕ) (audit : AuditFile) (old new : ShelfState) (before after : TrayState) → WhereTold old.files (λ fs. IsAuditFileAnswer (shelved_for Audit fs name out) (Ok audit)) → HasPut out audit.bytes before after → HasOnlyLooked output_limit old new
+pub put-run : (name out : List ℕ) (audit : AuditFile) (old new : ShelfState) (before after : TrayState) → WhereTold old.files (λ fs. IsAuditFileAnswer (shelved_for Audit fs name out) (Ok audit)) → HasPut out audit.bytes before after → HasOnlyLookedOn Audit name old new
     → IsAuditRunOf name out (report.Audited audit.primary audit.exposed) old new before after
 put-run name out audit old new before after told whole shelf = record {
   answers = tt;
@@ -194,11 +195,12 @@ put-run name out audit old new before after told whole shelf = record {
   complete = λ fs held no_read no_write. settles (report.Audited audit.primary audit.exposed) (shelved_for Audit fs name out) (ok-is (shelved_for Audit fs name out) _ (told fs held)) (λ f is. absurd cc) (λ f is. absurd cc);
   came_to = λ fs held. read-comes (ComesFor Audit fs name out) fs new;
   one_put = λ n m is. (audit.bytes, whole);
+  at_most_one_put = inr (audit.bytes, inl whole);
   shelf = shelf;
 }
 
 -- it was put in part
-pub part-run : (name out : List ℕ) (audit : AuditFile) (old new : ShelfState) (before after : TrayState) → WhereTold old.files (λ fs. IsAuditFileAnswer (shelved_for Audit fs name out) (Ok audit)) → HasPutInPart out audit.bytes before after → HasOnlyLooked output_limit old new
+pub part-run : (name out : List ℕ) (audit : AuditFile) (old new : ShelfState) (before after : TrayState) → WhereTold old.files (λ fs. IsAuditFileAnswer (shelved_for Audit fs name out) (Ok audit)) → HasPutInPart out audit.bytes before after → HasOnlyLookedOn Audit name old new
     → IsAuditRunOf name out (report.WriteFault file.Out) old new before after
 part-run name out audit old new before after told part shelf = record {
   answers = tt;
@@ -207,11 +209,12 @@ part-run name out audit old new before after told part shelf = record {
   complete = λ fs held no_read no_write. absurd (no_write part.failed);
   came_to = λ fs held. read-comes (ComesFor Audit fs name out) fs new;
   one_put = λ n m is. absurd cc;
+  at_most_one_put = inr (audit.bytes, inr part);
   shelf = shelf;
 }
 
 -- there was no memory for the put
-pub no-memory-run : (name out : List ℕ) (old new : ShelfState) (tray : TrayState) → HasOnlyLooked output_limit old new → IsAuditRunOf name out report.Memory old new tray tray
+pub no-memory-run : (name out : List ℕ) (old new : ShelfState) (tray : TrayState) → HasOnlyLookedOn Audit name old new → IsAuditRunOf name out report.Memory old new tray tray
 no-memory-run name out old new tray shelf = record {
   answers = tt;
   told = λ fs held. tt;
@@ -219,5 +222,6 @@ no-memory-run name out old new tray shelf = record {
   complete = λ fs held no_read no_write. settles report.Memory (shelved_for Audit fs name out) tt (λ f is. absurd cc) (λ f is. absurd cc);
   came_to = λ fs held. memory-comes (ComesFor Audit fs name out) fs new;
   one_put = λ n m is. absurd cc;
+  at_most_one_put = inl refl;
   shelf = shelf;
 }

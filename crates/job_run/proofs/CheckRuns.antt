@@ -10,8 +10,9 @@ use Rattle.job_check.specs.Reading.{ReleaseComesTo}
 use Rattle.job_check.specs.ReleaseFiles.{ReleasedFiles, released_of}
 use Rattle.job_check.specs.declared.stop.CheckStop.{CheckStop}
 use Rattle.job_check.specs.declared.stop.CheckStop.TheVariants as check
-use Rattle.job_inputs.specs.ReadFiles.{output_limit}
-use Rattle.job_inputs.specs.Reading.{HasOnlyLooked, stopped_for, HasCause, HasComeTo}
+use Rattle.job_inputs.specs.Reading.{stopped_for, HasCause, HasComeTo}
+use Rattle.job_inputs.specs.SettledJobs.{HasOnlyLookedOn}
+use Rattle.job_inputs.specs.declared.purpose.Purpose.TheVariants.{Release}
 use Rattle.job_inputs.specs.declared.faults.Fault.{Fault}
 use Rattle.job_inputs.specs.declared.file_ref.FileRef.{FileRef}
 use Rattle.job_inputs.specs.declared.stop.InputStop.{InputStop}
@@ -91,7 +92,7 @@ check-answers (Err (check.NotGuarded why)) = tt
 -- what holds of how it went on holds of the check
 pub check-run : (name : List ℕ) (r : Result (Unit {0}) CheckStop) (old new : ShelfState) (tray : TrayState) → WhereTold old.files (λ fs. IsReleaseCheckAnswer (released_of fs name) r)
     → WhereTold old.files (λ fs. (e : InputStop) → r ≡ Err (check.Inputs e) → HasComeTo {X = Unit {0}} (ReleaseComesTo fs name) (Err e) fs new)
-    → ((e : InputStop) → r ≡ Err (check.Inputs e) → HasCause {X = Unit {0}} (Err e) old new) → HasOnlyLooked output_limit old new → IsCheckOf name (check_report r) old new tray tray
+    → ((e : InputStop) → r ≡ Err (check.Inputs e) → HasCause {X = Unit {0}} (Err e) old new) → HasOnlyLookedOn Release name old new → IsCheckOf name (check_report r) old new tray tray
 check-run name r old new tray told come cause shelf = record {
   answers = check-answers r;
   told = λ fs held. meets r (released_of fs name) (told fs held);

@@ -1,4 +1,4 @@
--- What readers of a guarded release find: all but one hidden set, which protects both ways, also against each contributor.
+-- A guarded set protects against each contributor, whether or not it alone makes up a cell.
 use Rattle.std.proofs.Common.{◌≡◌, ℕ, ◌<◌, ◌&&◌, not, Bool, true, false, List, [], ◌∷◌, length, slice_get, All, Option, Some, arith, refl, ap, sym, subst, ◌∙◌}
 use Rattle.std.specs.List.{list_any}
 use Rattle.std.specs.Option.{option_map_or}
@@ -25,13 +25,11 @@ use Rattle.attackers.proofs.EachAttack.{guards_each}
 use Rattle.attackers.proofs.Knowing.{left_says}
 use Rattle.job_inputs.specs.SettledJobs.{SettledInputs}
 use Rattle.job_run.specs.GuardedReleases.{IsGuardedRelease}
-use Rattle.job_run.specs.GuardingLaws.{knows_cell, unknown_to, TablesShowLess, GuardsEachContributor, GuardedTablesGuard}
-use Rattle.job_run.specs.ProtectionLaws.{ProtectsBothWays}
 use Rattle.job_run.specs.declared.put.Release.{Release}
 use Rattle.job_run.proofs.KnownCells.{known-same, knows-none, unknown-same}
 
 -- free cells may be hidden too
-free-permitted : (cells : List Cell) (flags : List Bool) (extras : List ℕ) → length flags ≡ length cells → All (λ one. IsOfKind cells one Free) extras → IsPermitted cells flags → IsPermitted cells (hide_cells flags extras)
+pub free-permitted : (cells : List Cell) (flags : List Bool) (extras : List ℕ) → length flags ≡ length cells → All (λ one. IsOfKind cells one Free) extras → IsPermitted cells flags → IsPermitted cells (hide_cells flags extras)
 free-permitted cells flags [] each free is = is
 free-permitted cells flags (extra ∷ extras) each free is =
     let one : IsOfKind cells extra Free = All-head (λ e. IsOfKind cells e Free) extra extras free in
@@ -44,31 +42,8 @@ primary-at : (cells : List Cell) (number : ℕ) (cell : Cell) → slice_get cell
 primary-at cells number cell at primary =
     ap (λ (o : Option Cell). option_map_or (λ (one : Cell). is_primary one.kind) o false) at ∙ ap is_primary primary
 
-shows : (settled : SettledInputs) (release : Release) (is : IsGuardedRelease settled release) → TablesShowLess settled is.guarded.hidden.flags release.puts
-shows settled release is = record { certificate = _; contributors = _; tables = is.puts }
-
--- the set with the extra cells protects as the one without them does
-protects : (settled : SettledInputs) (release : Release) (is : IsGuardedRelease settled release) → ProtectsBothWays settled is.guarded.hidden.flags
-protects settled release is =
-    let its = is.guards.protects in
-    let set = its.comes_to.verdict.0 in
-    let has = is.guards.guards.comes_to in
-    let first = is.hidden_set.hidden.flags in
-    let extras = is.guarded.extra.cells in
-    let more : IsWithin first (hide_cells first extras) = within_cells first extras in
-    let permitted : IsPermitted its.job.cells (hide_cells first extras) = free-permitted its.job.cells first extras set.each_flag has.guarding.guarding.are_free set.protecting.permitted in
-    rw (has.flags_are) (record {
-      system = its.system;
-      cells = its.job.cells;
-      system_is = (its.job.book, its.job_is.book, its.system_is);
-      cells_are = its.job_is.cells;
-      permitted = permitted;
-      above = λ number cell at primary. protects_more its.system its.job.cells first (hide_cells first extras) number Above more (set.protecting.protects number cell Above at primary);
-      below = λ number cell at primary. protects_more its.system its.job.cells first (hide_cells first extras) number Below more (set.protecting.protects number cell Below at primary);
-    })
-
 -- against a contributor that doesn't know a primary cell it protects that cell
-by-alone : (settled : SettledInputs) (release : Release) (is : IsGuardedRelease settled release) (row number : ℕ) (cell : Cell) (side : Side)
+pub by-alone : (settled : SettledInputs) (release : Release) (is : IsGuardedRelease settled release) (row number : ℕ) (cell : Cell) (side : Side)
     → slice_get is.guards.protects.job.cells number ≡ Some cell → cell.kind ≡ Primary → is_known is.guards.guards.soles row number ≡ false → (b : Bool) → list_any (is_sole row) is.guards.guards.soles ≡ b
     → Protects is.guards.protects.system is.guards.protects.job.cells (without_known is.guards.guards.soles row (hide_cells is.hidden_set.hidden.flags is.guarded.extra.cells)) number side
 by-alone settled release is row number cell side at primary unknown true makes =
@@ -89,22 +64,3 @@ by-alone settled release is row number cell side at primary unknown false none =
     } in
     protects_more its.system its.job.cells larger (without_known soles row larger) number side all
     (protects_more its.system its.job.cells first larger number side (within_cells first is.guarded.extra.cells) (its.comes_to.verdict.0.protecting.protects number cell side at primary))
-
-guards : (settled : SettledInputs) (release : Release) (is : IsGuardedRelease settled release) → GuardsEachContributor settled is.guarded.hidden.flags
-guards settled release is =
-    let its = is.guards.protects in
-    let by = is.guards.guards in
-    let larger = hide_cells is.hidden_set.hidden.flags is.guarded.extra.cells in
-    record {
-      system = its.system;
-      cells = its.job.cells;
-      system_is = (its.job.book, its.job_is.book, its.system_is);
-      cells_are = its.job_is.cells;
-      guards = λ row number cell side inside at primary unknown.
-          subst (λ (flags : List Bool). Protects its.system its.job.cells (unknown_to settled.inputs row flags) number side) (sym by.comes_to.flags_are)
-          (subst (λ (flags : List Bool). Protects its.system its.job.cells flags number side) (unknown-same settled.inputs its.job.book by.soles row larger its.job_is.book by.each_named by.are_soles)
-          (by-alone settled release is row number cell side at primary (known-same settled.inputs its.job.book by.soles row number its.job_is.book by.each_named by.are_soles ∙ unknown) (list_any (is_sole row) by.soles) refl));
-    }
-
-pub tables_guard : GuardedTablesGuard
-tables_guard settled release is = (is.guarded.hidden.flags, shows settled release is, protects settled release is, guards settled release is)

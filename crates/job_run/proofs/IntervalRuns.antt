@@ -7,8 +7,9 @@ use Rattle.interval_audit.specs.declared.answer.AskFault.TheVariants as ask
 use Rattle.office_io.specs.Files.{Files}
 use Rattle.office_io.specs.Shelves.{ShelfState}
 use Rattle.office_io.specs.Trays.{TrayState, HasPut, HasPutInPart}
-use Rattle.job_inputs.specs.ReadFiles.{output_limit}
-use Rattle.job_inputs.specs.Reading.{HasOnlyLooked, stopped_for, HasCause, HasComeTo}
+use Rattle.job_inputs.specs.Reading.{stopped_for, HasCause, HasComeTo}
+use Rattle.job_inputs.specs.SettledJobs.{HasOnlyLookedOn}
+use Rattle.job_inputs.specs.declared.purpose.Purpose.TheVariants as purpose
 use Rattle.job_inputs.specs.declared.faults.Fault.{Fault}
 use Rattle.job_inputs.specs.declared.file_ref.FileRef.{FileRef}
 use Rattle.job_inputs.specs.declared.file_ref.FileRef.TheVariants as file
@@ -164,7 +165,7 @@ settles (report.NotGuarded why) outcome h no_read no_write = absurd h
 
 -- what holds of how it went on holds of a run that finds no intervals
 pub stopped-run : (name out : List ℕ) (e : IntervalStop) (old new : ShelfState) (tray : TrayState) → WhereTold old.files (λ fs. IsIntervalFileAnswer (shelved_of fs name out) (Err e))
-    → WhereTold old.files (λ fs. HasComeTo (IntervalsComeTo fs name out) (finding_of (Err e)) fs new) → HasCause (finding_of (Err e)) old new → HasOnlyLooked output_limit old new → IsIntervalRunOf name out (stop_report e) old new tray tray
+    → WhereTold old.files (λ fs. HasComeTo (IntervalsComeTo fs name out) (finding_of (Err e)) fs new) → HasCause (finding_of (Err e)) old new → HasOnlyLookedOn purpose.Intervals name old new → IsIntervalRunOf name out (stop_report e) old new tray tray
 stopped-run name out e old new tray told come cause shelf = record {
   answers = stop-answers e;
   told = λ fs held. stop-meets e (shelved_of fs name out) (told fs held);
@@ -173,12 +174,13 @@ stopped-run name out e old new tray told come cause shelf = record {
       settles (stop_report e) (shelved_of fs name out) (stop-meets e (shelved_of fs name out) (told fs held)) (λ f is. no_read (read-counted (stop_report e) old new tray tray f (stop-cause e old new tray cause) is)) (λ f is. no_write ((stop-cause e old new tray cause).write_fault f is));
   came_to = λ fs held. stop-comes e (IntervalsComeTo fs name out) fs new (come fs held);
   one_put = λ n is. absurd (stop-puts-none e n is);
+  at_most_one_put = inl refl;
   shelf = shelf;
 }
 
 -- the same of a run that went on so, and reports it
 pub stopped-run-of : (name out : List ℕ) (r : Result IntervalFile IntervalStop) (e : IntervalStop) (answer : Report) (old new : ShelfState) (tray : TrayState) → r ≡ Err e → answer ≡ stop_report e → WhereTold old.files (λ fs. IsIntervalFileAnswer (shelved_of fs name out) r)
-    → WhereTold old.files (λ fs. HasComeTo (IntervalsComeTo fs name out) (finding_of r) fs new) → HasCause (finding_of r) old new → HasOnlyLooked output_limit old new → IsIntervalRunOf name out answer old new tray tray
+    → WhereTold old.files (λ fs. HasComeTo (IntervalsComeTo fs name out) (finding_of r) fs new) → HasCause (finding_of r) old new → HasOnlyLookedOn purpose.Intervals name old new → IsIntervalRunOf name out answer old new tray tray
 stopped-run-of name out r e answer old new tray is same told come cause shelf =
     subst (λ (a : Report). IsIntervalRunOf name out a old new tray tray) (sym same)
     (stopped-run name out e old new tray (λ fs held. subst (λ (o : Result IntervalFile IntervalStop). IsIntervalFileAnswer (shelved_of fs name out) o) is (told fs held))
@@ -205,7 +207,7 @@ part-leaves (Ok shelved) intervals out before after h part = record { intervals 
 part-leaves (Err f) intervals out before after h part = absurd h
 
 -- the file of the intervals was put
-pub put-run : (name out : List ℕ) (intervals : IntervalFile) (old new : ShelfState) (before after : TrayState) → WhereTold old.files (λ fs. IsIntervalFileAnswer (shelved_of fs name out) (Ok intervals)) → HasPut out intervals.bytes before after → HasOnlyLooked output_limit old new
+pub put-run : (name out : List ℕ) (intervals : IntervalFile) (old new : ShelfState) (before after : TrayState) → WhereTold old.files (λ fs. IsIntervalFileAnswer (shelved_of fs name out) (Ok intervals)) → HasPut out intervals.bytes before after → HasOnlyLookedOn purpose.Intervals name old new
     → IsIntervalRunOf name out (report.Intervals intervals.cells) old new before after
 put-run name out intervals old new before after told whole shelf = record {
   answers = tt;
@@ -214,11 +216,12 @@ put-run name out intervals old new before after told whole shelf = record {
   complete = λ fs held no_read no_write. settles (report.Intervals intervals.cells) (shelved_of fs name out) (ok-is (shelved_of fs name out) _ (told fs held)) (λ f is. absurd cc) (λ f is. absurd cc);
   came_to = λ fs held. read-comes (IntervalsComeTo fs name out) fs new;
   one_put = λ n is. (intervals.bytes, whole);
+  at_most_one_put = inr (intervals.bytes, inl whole);
   shelf = shelf;
 }
 
 -- it was put in part
-pub part-run : (name out : List ℕ) (intervals : IntervalFile) (old new : ShelfState) (before after : TrayState) → WhereTold old.files (λ fs. IsIntervalFileAnswer (shelved_of fs name out) (Ok intervals)) → HasPutInPart out intervals.bytes before after → HasOnlyLooked output_limit old new
+pub part-run : (name out : List ℕ) (intervals : IntervalFile) (old new : ShelfState) (before after : TrayState) → WhereTold old.files (λ fs. IsIntervalFileAnswer (shelved_of fs name out) (Ok intervals)) → HasPutInPart out intervals.bytes before after → HasOnlyLookedOn purpose.Intervals name old new
     → IsIntervalRunOf name out (report.WriteFault file.Out) old new before after
 part-run name out intervals old new before after told part shelf = record {
   answers = tt;
@@ -227,11 +230,12 @@ part-run name out intervals old new before after told part shelf = record {
   complete = λ fs held no_read no_write. absurd (no_write part.failed);
   came_to = λ fs held. read-comes (IntervalsComeTo fs name out) fs new;
   one_put = λ n is. absurd cc;
+  at_most_one_put = inr (intervals.bytes, inr part);
   shelf = shelf;
 }
 
 -- there was no memory for the put
-pub no-memory-run : (name out : List ℕ) (old new : ShelfState) (tray : TrayState) → HasOnlyLooked output_limit old new → IsIntervalRunOf name out report.Memory old new tray tray
+pub no-memory-run : (name out : List ℕ) (old new : ShelfState) (tray : TrayState) → HasOnlyLookedOn purpose.Intervals name old new → IsIntervalRunOf name out report.Memory old new tray tray
 no-memory-run name out old new tray shelf = record {
   answers = tt;
   told = λ fs held. tt;
@@ -239,5 +243,6 @@ no-memory-run name out old new tray shelf = record {
   complete = λ fs held no_read no_write. settles report.Memory (shelved_of fs name out) tt (λ f is. absurd cc) (λ f is. absurd cc);
   came_to = λ fs held. memory-comes (IntervalsComeTo fs name out) fs new;
   one_put = λ n is. absurd cc;
+  at_most_one_put = inl refl;
   shelf = shelf;
 }

@@ -20,7 +20,11 @@ use Rattle.job_inputs.specs.Cells.{cells}
 use Rattle.job_inputs.specs.TabulatedBooks.{IsBookOf}
 use Rattle.job_inputs.specs.declared.inputs.Inputs.{Inputs}
 use Rattle.job_inputs.proofs.Facts.{cells-are}
-use Rattle.job_run.specs.GuardingLaws.{knows, knows_cell, is_unknown_in, unknown_to}
+use Rattle.job_run.specs.Promise.{knows, knows_cell, unknown_to}
+
+-- the cell is hidden, and the contributor doesn't know it
+abbrev is_unknown_in : Inputs → ℕ → List Bool → ℕ → Bool
+is_unknown_in inputs row flags number = is_hidden flags number && not (knows_cell inputs row number)
 
 -- ---- one record of a cell
 

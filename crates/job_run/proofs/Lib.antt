@@ -7,7 +7,6 @@ pub mod SameSystem
 pub mod JobTruths
 pub mod RoundedJobs
 pub mod ShownLaws
-mod ProtectingTables
 pub mod KnownCells
 mod GuardingTables
 pub mod GuardedJobs
@@ -16,6 +15,11 @@ pub mod Settling
 pub mod Words
 pub mod ReleaseRuns
 pub mod SecondRuns
+pub mod JobsRead
+pub mod PutFiles
+mod PromisedCells
+mod PromisedTables
+pub mod PromiseKept
 pub mod DemoJobs
 pub mod DemoRuns
 pub mod CheckRuns

@@ -2,6 +2,7 @@
 use Rattle.std.proofs.Common.{◌≡◌, ◌≢◌, inl, inr, ℕ, true, false, List, Result, Ok, Err, refl, ap, sym, subst}
 use Rattle.std.specs.Str.{bytes_eq}
 use Rattle.sdc_base.specs.Answers.{Fails}
+use Rattle.certificate.specs.Texts.{text_of}
 use Rattle.certificate.specs.declared.certificate.Certificate.{Certificate}
 use Rattle.office_io.specs.Files.{Files}
 use Rattle.office_io.specs.Shelves.{ShelfState}
@@ -18,6 +19,7 @@ use Rattle.job_inputs.specs.declared.stop.InputStop.{InputStop}
 use Rattle.job_inputs.specs.declared.stop.InputStop.TheVariants as input
 use Rattle.job_inputs.proofs.Causes.{nothing-looked, read-wider}
 use Rattle.job_run.specs.Migrations.{migrating_of, IsPutAgain, IsMigrationAnswer, MeetsMigration, MigrationLeaves, SettlesMigration, MigrationComesTo, IsMigrationOf}
+use Rattle.job_run.specs.Puts.{HasAtMostOnePut}
 use Rattle.job_run.specs.Reporting.{inputs_report}
 use Rattle.job_run.specs.Reports.{FaultsHaveCauses, LeavesAll, reading_of}
 use Rattle.job_run.specs.declared.report.Report.{Report}
@@ -110,6 +112,7 @@ stopped-migration old new e shelf shelved tray read =
       complete = λ fs held no_read no_write. settles (inputs_report e) (migrating_of fs old new) (inputs-meet e (migrating_of fs old new) (read.told fs held)) (λ f is. no_read (read-counted (inputs_report e) shelf shelved tray tray f cause is)) (λ f is. no_write (cause.write_fault f is));
       came_to = λ fs held. inputs-come e (MigrationComesTo old new) fs shelved (read.came_to fs held);
       one_put = λ is. absurd (inputs-put-none e is);
+      at_most_one_put = inl refl;
       looked = read.shelf;
     }
 
@@ -159,6 +162,10 @@ put-comes : (certificate : Certificate) (new : List ℕ) (answer : Report) (befo
 put-comes certificate new answer before after comes files shelved h =
     by-put certificate new before after (λ (one : Report). HasComeTo comes (reading_of one) files shelved) (λ put. read-comes comes files shelved) (λ f put. read-comes comes files shelved) (λ put. memory-comes comes files shelved) answer h
 
+put-once : (certificate : Certificate) (new : List ℕ) (answer : Report) (before after : TrayState) → IsPutAgain certificate new answer before after → HasAtMostOnePut new before after
+put-once certificate new answer before after h =
+    by-put certificate new before after (λ (one : Report). HasAtMostOnePut new before after) (λ put. inr (text_of certificate, inl put.0)) (λ f put. inr (text_of certificate, inr put.1)) (λ put. inl put) answer h
+
 not-read : (certificate : Certificate) (new : List ℕ) (answer : Report) (before after : TrayState) → IsPutAgain certificate new answer before after → (f : FileRef) → answer ≢ report.ReadFault f
 not-read certificate new answer before after h f is = subst (λ (a : Report). IsPutAgain certificate new a before after) is h
 
@@ -175,5 +182,6 @@ put-migration old new certificate answer shelf shelved before after read h = rec
       (λ f is. no_write ((put-cause certificate new answer shelf shelved before after h).write_fault f is));
   came_to = λ fs held. put-comes certificate new answer before after (MigrationComesTo old new) fs shelved h;
   one_put = λ is. (certificate, subst (λ (a : Report). IsPutAgain certificate new a before after) is h);
+  at_most_one_put = put-once certificate new answer before after h;
   looked = read.shelf;
 }

@@ -43,7 +43,7 @@ shown-at names values name k many found =
     let at = found-name names name k found in
     ap (option_and_then (slice_get values)) found ∙ read-at values k (pos 0) (omega (arith, many, slice_get_within names k name at))
 
-truth-at : (truth_in : Name → ℤ) (names : List Name) (k : ℕ) (name : Name) → slice_get names k ≡ Some name → number_at (map truth_in names) k ≡ truth_in name
+pub truth-at : (truth_in : Name → ℤ) (names : List Name) (k : ℕ) (name : Name) → slice_get names k ≡ Some name → number_at (map truth_in names) k ≡ truth_in name
 truth-at truth_in [] k name at = absurd cc
 truth-at truth_in (other ∷ names) zero name at = let same : other ≡ name = cc in ap truth_in same
 truth-at truth_in (other ∷ names) (suc k) name at = truth-at truth_in names k name at

@@ -5,14 +5,15 @@ use Rattle.sdc_base.specs.Counts.{HasRisen}
 use Rattle.sdc_base.specs.WhereTold.{WhereTold}
 use Rattle.office_io.specs.Shelves.{ShelfState}
 use Rattle.office_io.specs.Trays.{TrayState, HasPut, HasPutInPart}
-use Rattle.job_inputs.specs.ReadFiles.{output_limit}
-use Rattle.job_inputs.specs.Reading.{HasComeTo, HasOnlyLooked}
+use Rattle.job_inputs.specs.Reading.{HasComeTo}
+use Rattle.job_inputs.specs.SettledJobs.{HasOnlyLookedOn}
 use Rattle.job_inputs.specs.declared.faults.Fault.{Fault}
 use Rattle.job_inputs.specs.declared.file_ref.FileRef.TheVariants as file
 use Rattle.job_audit.specs.Finding.{AreRefusedFor, IsFileOf, IsUndecidedFor}
 use Rattle.job_inputs.specs.declared.purpose.Purpose.TheVariants.{Audit}
 use Rattle.shelved_tables.specs.TablesOnShelf.{ShelvedTables, shelved_for, ComesFor}
 use Rattle.job_audit.specs.declared.audit_file.AuditFile.{AuditFile}
+use Rattle.job_run.specs.Puts.{HasAtMostOnePut}
 use Rattle.job_run.specs.Reporting.{IsQuestionReport}
 use Rattle.job_run.specs.Reports.{reading_of}
 use Rattle.job_run.specs.declared.report.Report.{Report}
@@ -83,7 +84,7 @@ SettlesAudit answer (Err reason) = (answer ≡ report.Refused reason) ⊎ (answe
 
 -- A run for the audit of the job of this name, to be put under the name `out`: its answer is what the told files
 -- come to, it comes to files in their order, and whatever the shelf and the tray tell, one put was made where it says
--- that the audit was found, and the shelf was only looked at.
+-- that the audit was found and no second one, and the shelf was only looked at.
 pub record IsAuditRunOf (name out : List ℕ) (answer : Report) (old new : ShelfState)
     (before after : TrayState) : Type 0 where
   pub answers : IsAuditAnswer answer
@@ -94,4 +95,5 @@ pub record IsAuditRunOf (name out : List ℕ) (answer : Report) (old new : Shelf
   pub came_to : WhereTold old.files (λ fs. HasComeTo (ComesFor Audit fs name out) (reading_of answer) fs new)
   pub one_put : (primary exposed : ℕ) → answer ≡ report.Audited primary exposed
       → (bytes : List ℕ) × HasPut out bytes before after
-  pub shelf : HasOnlyLooked output_limit old new
+  pub at_most_one_put : HasAtMostOnePut out before after
+  pub shelf : HasOnlyLookedOn Audit name old new

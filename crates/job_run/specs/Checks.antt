@@ -8,9 +8,10 @@ use Rattle.job_check.specs.Answers.{IsRightRelease, IsFaultyRelease}
 use Rattle.job_check.specs.Reading.{ReleaseComesTo}
 use Rattle.job_check.specs.ReleaseFiles.{ReleasedFiles, released_of}
 use Rattle.job_check.specs.declared.flaw.Flaw.TheVariants as flaw
-use Rattle.job_inputs.specs.ReadFiles.{output_limit}
-use Rattle.job_inputs.specs.Reading.{HasComeTo, HasOnlyLooked}
+use Rattle.job_inputs.specs.Reading.{HasComeTo}
+use Rattle.job_inputs.specs.SettledJobs.{HasOnlyLookedOn}
 use Rattle.job_inputs.specs.declared.faults.Fault.{Fault}
+use Rattle.job_inputs.specs.declared.purpose.Purpose.TheVariants.{Release}
 use Rattle.job_run.specs.Reports.{reading_of}
 use Rattle.job_run.specs.declared.report.Report.{Report}
 use Rattle.job_run.specs.declared.report.Report.TheVariants as report
@@ -60,4 +61,4 @@ pub record IsCheckOf (name : List ℕ) (answer : Report) (old new : ShelfState) 
       → SettlesCheck answer (released_of fs name))
   pub came_to : WhereTold old.files (λ fs. HasComeTo (ReleaseComesTo fs name) (reading_of answer) fs new)
   pub untouched : after ≡ before
-  pub shelf : HasOnlyLooked output_limit old new
+  pub shelf : HasOnlyLookedOn Release name old new

@@ -4,13 +4,15 @@ use Rattle.sdc_base.specs.Counts.{HasRisen}
 use Rattle.sdc_base.specs.WhereTold.{WhereTold}
 use Rattle.office_io.specs.Shelves.{ShelfState}
 use Rattle.office_io.specs.Trays.{TrayState, HasPut, HasPutInPart}
-use Rattle.job_inputs.specs.ReadFiles.{output_limit}
-use Rattle.job_inputs.specs.Reading.{HasComeTo, HasOnlyLooked}
+use Rattle.job_inputs.specs.Reading.{HasComeTo}
+use Rattle.job_inputs.specs.SettledJobs.{HasOnlyLookedOn}
 use Rattle.job_inputs.specs.declared.faults.Fault.{Fault}
+use Rattle.job_inputs.specs.declared.purpose.Purpose.TheVariants as purpose
 use Rattle.job_inputs.specs.declared.file_ref.FileRef.TheVariants as file
 use Rattle.job_intervals.specs.Finding.{AreRefusedFor, IsFileOf, IsUndecidedFor}
 use Rattle.shelved_tables.specs.TablesOnShelf.{ShelvedTables, shelved_of, IntervalsComeTo}
 use Rattle.job_intervals.specs.declared.interval_file.IntervalFile.{IntervalFile}
+use Rattle.job_run.specs.Puts.{HasAtMostOnePut}
 use Rattle.job_run.specs.Reporting.{IsQuestionReport}
 use Rattle.job_run.specs.Reports.{reading_of}
 use Rattle.job_run.specs.declared.report.Report.{Report}
@@ -79,7 +81,7 @@ SettlesIntervals answer (Err reason) = (answer ≡ report.Refused reason) ⊎ (a
 
 -- A run for the intervals of the job of this name, to be put under the name `out`: its answer is what the told files
 -- come to, it comes to files in their order, and whatever the shelf and the tray tell, one put was made where it says
--- that intervals were found, and the shelf was only looked at.
+-- that intervals were found and no second one, and the shelf was only looked at.
 pub record IsIntervalRunOf (name out : List ℕ) (answer : Report) (old new : ShelfState)
     (before after : TrayState) : Type 0 where
   pub answers : IsIntervalAnswer answer
@@ -89,4 +91,5 @@ pub record IsIntervalRunOf (name out : List ℕ) (answer : Report) (old new : Sh
       → SettlesIntervals answer (shelved_of fs name out))
   pub came_to : WhereTold old.files (λ fs. HasComeTo (IntervalsComeTo fs name out) (reading_of answer) fs new)
   pub one_put : (cells : ℕ) → answer ≡ report.Intervals cells → (bytes : List ℕ) × HasPut out bytes before after
-  pub shelf : HasOnlyLooked output_limit old new
+  pub at_most_one_put : HasAtMostOnePut out before after
+  pub shelf : HasOnlyLookedOn purpose.Intervals name old new

@@ -2,15 +2,14 @@ pub mod Releases
 pub mod Roundings
 pub mod Laws
 pub mod Protections
-pub mod ProtectionLaws
 pub mod GuardedReleases
 pub mod FileCounts
 pub mod Endings
 pub mod Reporting
 pub mod Books
-pub mod GuardingLaws
 pub mod Commands
 pub mod Puts
+pub mod Promise
 pub mod Reports
 pub mod PutReleases
 pub mod ReleaseRuns

@@ -18,6 +18,7 @@ use Rattle.job_inputs.specs.declared.faults.Fault.{Fault}
 use Rattle.job_inputs.specs.declared.faults.Fault.TheVariants as fault
 use Rattle.job_inputs.specs.declared.file_ref.FileRef.{FileRef}
 use Rattle.job_inputs.specs.declared.file_ref.FileRef.TheVariants as file
+use Rattle.job_run.specs.Puts.{HasAtMostOnePut}
 use Rattle.job_run.specs.Reports.{reading_of}
 use Rattle.job_run.specs.declared.report.Report.{Report}
 use Rattle.job_run.specs.declared.report.Report.TheVariants as report
@@ -79,8 +80,8 @@ pub record MigrationComesTo (old new : List ℕ) (f : FileRef) (held : List ℕ)
   pub is_file : IsFile file.Certificate old f held
 
 -- The certificate OLD is put again as NEW: the answer is what the told files come to, one file alone is come to, and
--- whatever the shelf and the tray tell, one put was made where it says that the certificate was put, and the shelf was
--- only looked at.
+-- whatever the shelf and the tray tell, one put was made where it says that the certificate was put, and no second one,
+-- and the shelf was only looked at.
 pub record IsMigrationOf (old new : List ℕ) (answer : Report) (shelf shelved : ShelfState)
     (before after : TrayState) : Type 0 where
   pub answers : IsMigrationAnswer answer
@@ -91,4 +92,5 @@ pub record IsMigrationOf (old new : List ℕ) (answer : Report) (shelf shelved :
   pub came_to : WhereTold shelf.files (λ fs. HasComeTo (MigrationComesTo old new) (reading_of answer) fs shelved)
   pub one_put : answer ≡ report.Migrated → (certificate : Certificate)
       × IsPutAgain certificate new report.Migrated before after
+  pub at_most_one_put : HasAtMostOnePut new before after
   pub looked : HasOnlyLooked output_limit shelf shelved

@@ -2,7 +2,7 @@
 use Rattle.std.specs.Prelude.{◌≡◌, ◌⊎◌, ℕ, ◌+◌, ◌<◌, List, [], ◌∷◌, length, Some, option_map, slice_get, take}
 use Rattle.sdc_base.specs.Counts.{count_after}
 use Rattle.office_io.specs.Files.{Files, files_after_put}
-use Rattle.office_io.specs.Trays.{TrayState}
+use Rattle.office_io.specs.Trays.{TrayState, HasPut, HasPutInPart}
 use Rattle.job_inputs.specs.declared.file_ref.FileRef.{FileRef}
 use Rattle.job_run.specs.declared.put.FilePut.{FilePut}
 
@@ -43,3 +43,8 @@ pub record IsInPart (puts : List FilePut) (file : FileRef) (k n : ℕ) (old new 
 -- after some of the puts whole, and the first bytes of the next, which is that of this file
 abbrev pub OneInPart : List FilePut → FileRef → TrayState → TrayState → Type 0
 OneInPart puts file old new = (k n : ℕ) × IsInPart puts file k n old new
+
+-- at most one put was made, and under this name: nothing has changed, or the file stands there whole or in part
+abbrev pub HasAtMostOnePut : List ℕ → TrayState → TrayState → Type 0
+HasAtMostOnePut name old new = (new ≡ old)
+    ⊎ ((bytes : List ℕ) × (HasPut name bytes old new ⊎ HasPutInPart name bytes old new))

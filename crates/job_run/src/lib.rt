@@ -24,9 +24,7 @@ mod rounded;
 mod running;
 
 pub use job_inputs::{Fault, FileRef};
-pub use laws::{
-    guarded_tables_guard, rounded_tables_add_up, second_runs_complete, suppressed_tables_protect,
-};
+pub use laws::{rounded_tables_add_up, second_runs_complete};
 pub use printing::report_text;
 pub use report::{DemoSummary, Report, Stuck, Summary};
 pub use running::run;

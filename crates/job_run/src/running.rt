@@ -1,5 +1,7 @@
 ghost use Rattle.std.specs.Prelude.{◌≡◌, ◌≢◌, ◌↔◌, IfErr, IfOk};
 ghost use Rattle.sdc_base.specs.WhereTold.{WhereTold};
+ghost use Rattle.job_inputs.specs.SettledJobs.{settled_of};
+ghost use Rattle.job_inputs.specs.declared.purpose.Purpose.TheVariants as purpose;
 ghost use Rattle.job_run.specs.AuditRuns.{IsAuditRunOf};
 ghost use Rattle.job_run.specs.Checks.{IsCheckOf};
 ghost use Rattle.job_run.specs.Commands as commands;
@@ -8,6 +10,7 @@ ghost use Rattle.job_run.specs.Demos.{IsDemoRunOf};
 ghost use Rattle.job_run.specs.IntervalRuns.{IsIntervalRunOf};
 ghost use Rattle.job_run.specs.Migrations.{IsMigrationOf};
 ghost use Rattle.job_run.specs.ReleaseRuns.{IsReleaseRunOf};
+ghost use Rattle.job_run.specs.Promise.{IsPromiseOf};
 ghost use Rattle.job_run.specs.PutReleases.{HasReleased};
 ghost use Rattle.job_run.specs.Reports.{FaultsHaveCauses, LeavesAll, StopsRelease, report_of};
 
@@ -61,6 +64,12 @@ use std::alloc::Global;
 /// and one for each cell and variable; the bytes of the tables; and that of the questions, or of the search for a
 /// rounding. The commands are the manual's, the order in which the inputs are looked at is argus's own.
 pub fn run<S: Shelf, T: Tray>(alloc: Global, words: &[Text], shelf: &mut S, tray: &mut T) -> Report
+    // What `run JOB` promises of the tables that it puts, of a cell that can't be protected, and of a rounding that there
+    // isn't, by the records, the cells and their sums alone.
+    ensures promise { WhereTold (commands.run_job words.now) (λ name. WhereTold (S.state shelf.old).files
+        (λ fs. WhereTold (T.state tray.new).files
+        (λ out. IsPromiseOf result (settled_of purpose.Release fs name) out))) }
+
     // Usage comes exactly where the words are none of the forms that are built.
     ensures usage { (result ≡ Report.Usage) ↔ AreUsage words.now }
 
@@ -119,6 +128,8 @@ pub fn run<S: Shelf, T: Tray>(alloc: Global, words: &[Text], shelf: &mut S, tray
 
 // Puts a release of a job.
 fn put_release<S: Shelf, T: Tray>(alloc: Global, name: &Text, shelf: &mut S, tray: &mut T) -> Report
+    ensures promise { WhereTold (S.state shelf.old).files (λ fs. WhereTold (T.state tray.new).files
+        (λ out. IsPromiseOf result (settled_of purpose.Release fs name.now) out)) }
     ensures release { IsReleaseRunOf name.now result (S.state shelf.old) (S.state shelf.new) (T.state tray.old)
         (T.state tray.new) }
     ensures untouched { LeavesAll result (T.state tray.old) (T.state tray.new) }

@@ -7,6 +7,5 @@ pub mod OneSoles
 pub mod GuardedAccepted
 pub mod RoundedTexts
 pub mod RoundedAccepted
-pub mod JobsRead
 pub mod SameInputs
 pub mod RunsAccepted

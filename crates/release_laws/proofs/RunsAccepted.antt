@@ -1,12 +1,10 @@
 -- What a run has put is accepted by a check that finds it beside the same inputs.
-use Rattle.std.proofs.Common.{◌≡◌, ◌≢◌, ◌⊎◌, inl, inr, ℕ, suc, ◌+◌, ◌<◌, ◌≤◌, Bool, true, false, if◌then◌else◌, nat_lt, List, [], ◌∷◌, ◌++◌, length, map, slice_get, Option, None, Some, option_map, Result, Ok, Err, ℤ, refl, ap, sym, subst, ◌∙◌, arith}
+use Rattle.std.proofs.Common.{◌≡◌, ◌⊎◌, inl, inr, ℕ, suc, ◌+◌, ◌<◌, ◌≤◌, Bool, true, false, nat_lt, List, [], ◌∷◌, length, map, slice_get, Option, None, Some, Result, Ok, Err, ℤ, refl, ap, sym, subst, ◌∙◌, arith}
 use Rattle.std.proofs.lemmas.Bool.Decides.{nat_tests}
 use Rattle.std.specs.Prelude.{slice_index_or}
 use Rattle.std.specs.List.{AllByRecursion, IsDistinct}
 use Rattle.std.specs.Option.{option_and_then}
 use Rattle.std.specs.Str.{bytes_eq}
-use Rattle.std.proofs.lemmas.Map.Keys.{IsDistinct-head, IsDistinct-tail}
-use Rattle.std.proofs.lemmas.Slice.Eq.{bytes_eq-Decides}
 use Rattle.sdc_base.specs.Records.{Name}
 use Rattle.sdc_base.specs.Roundings.{IsRounding}
 use Rattle.sdc_base.specs.Steps.{map_fault}
@@ -24,14 +22,13 @@ use Rattle.cert_check.specs.FirstFault.{acceptance_fault}
 use Rattle.cert_check.specs.Methods.{rounds_cells}
 use Rattle.cert_check.specs.declared.case.Case.{Case}
 use Rattle.cert_check.specs.declared.faults.CheckFault.{CheckFault}
-use Rattle.job_lang.specs.FileLaws.{PutsAreNotNamed, PutsAreNotRead, PutsDiffer, contributors_files, puts_of as names_put}
-use Rattle.job_lang.specs.JobLimits.{CanHaveContributors}
+use Rattle.job_lang.specs.FileLaws.{PutsAreNotNamed, PutsAreNotRead, PutsDiffer, puts_of as names_put}
 use Rattle.job_lang.specs.declared.job.Job.{Job}
 use Rattle.job_lang.specs.declared.job.OutputLine.{OutputLine}
 use Rattle.job_lang.specs.declared.job.TableLine.{TableLine}
 use Rattle.linked_tables.specs.BookViews.{BookView}
 use Rattle.linked_tables.specs.BookCells.{number_of}
-use Rattle.office_io.specs.Files.{Files, files_after_put}
+use Rattle.office_io.specs.Files.{Files}
 use Rattle.attackers.specs.Extras.{hide_cells}
 use Rattle.release_writer.specs.ReadingLaws.{AreTexts}
 use Rattle.release_writer.specs.ShownCells.{open_truth}
@@ -57,8 +54,8 @@ use Rattle.job_check.specs.GuardedReleases.{guarded_fault, AreSolesOf}
 use Rattle.job_check.specs.ReleaseFiles.{ReleasedFiles, released_of, released_with}
 use Rattle.job_check.specs.declared.flaw.Flaw.{Flaw}
 use Rattle.job_check.specs.declared.flaw.Flaw.TheVariants as flaw
+use Rattle.job_run.proofs.PutFiles.{AreHeld, all-held, guarded-names, names, no-file-to-round, ok-same, plain-names, some-before}
 use Rattle.job_run.proofs.SameBook.{still-book}
-use Rattle.job_run.proofs.SecondRuns.{OfOthers, all-others}
 use Rattle.job_run.proofs.Showing.{hidden-shown, values-shown}
 use Rattle.job_run.proofs.TableSteps.{as-many}
 use Rattle.job_run.specs.Checks.{MeetsCheck, SettlesCheck}
@@ -71,7 +68,7 @@ use Rattle.job_run.specs.Roundings.{base_in_units, job_base, rounded_certificate
 use Rattle.job_run.specs.PutReleases.{PutRelease}
 use Rattle.job_run.specs.declared.report.Report.{Report}
 use Rattle.job_run.specs.declared.report.Report.TheVariants as report
-use Rattle.release_laws.proofs.JobsRead.{described-read, inputs-read, job-read}
+use Rattle.job_run.proofs.JobsRead.{described-read, inputs-read, job-read}
 use Rattle.release_laws.proofs.SameInputs.{settled-same}
 use Rattle.release_laws.specs.Laws.{GuardingIsAccepted, WrittenIsAccepted}
 use Rattle.release_laws.specs.RoundingLaws.{WrittenRoundingIsAccepted}
@@ -79,35 +76,9 @@ use Rattle.release_laws.specs.RunLaws.{IsShort, PutsAreAccepted, RunsAreAccepted
 
 -- ---- the files of puts
 
--- each put stands under its name
-abbrev AreHeld : Files → List Put → Type 0
-AreHeld files puts = AllByRecursion (λ (p : Put). files p.name ≡ Some p.bytes) puts
-
 -- no put is too long
 abbrev AreShort : List Put → Type 0
 AreShort puts = AllByRecursion (λ (p : Put). length p.bytes ≤ output_limit) puts
-
--- the names of puts
-abbrev names : List Put → List (List ℕ)
-names puts = map (λ (p : Put). p.name) puts
-
-put-self : (files : Files) (name bytes : List ℕ) → files_after_put files name bytes name ≡ Some bytes
-put-self files name bytes = ap (λ (same : Bool). if same then Some bytes else files name) ((bytes_eq-Decides name name).1 refl)
-
-apart-names : (one other : List ℕ) → bytes_eq one other ≡ false → one ≢ other
-apart-names one other apart same = let yes : bytes_eq one other ≡ true = (bytes_eq-Decides one other).1 same in absurd cc
-
-apart-from : (name : List ℕ) (puts : List Put) → AllByRecursion (λ (other : List ℕ). bytes_eq name other ≡ false) (names puts) → OfOthers name puts
-apart-from name [] all = tt
-apart-from name (p ∷ puts) all = (apart-names name p.name all.0, apart-from name puts all.1)
-
--- after puts of different names each stands under its name
-all-held : (puts : List Put) (out : Files) → IsDistinct bytes_eq (names puts) → AreHeld (put_all out puts) puts
-all-held [] out apart = tt
-all-held (p ∷ puts) out apart = (
-  all-others p.name puts (files_after_put out p.name p.bytes) (apart-from p.name puts (IsDistinct-head bytes_eq p.name (names puts) apart)) ∙ put-self out p.name p.bytes,
-  all-held puts (files_after_put out p.name p.bytes) (IsDistinct-tail bytes_eq p.name (names puts) apart),
-)
 
 -- where other files agree with these under the names, they hold the puts too
 held-too : (puts : List Put) (out held : Files) → AllByRecursion (λ (name : List ℕ). held name ≡ out name) (names puts) → AreHeld out puts → AreHeld held puts
@@ -126,26 +97,6 @@ read-whole : (f : FileRef) (files : Files) (name bytes : List ℕ) → files nam
 read-whole f files name bytes is short = ap (whole_file f) is ∙ fits f bytes short
 
 -- ---- what a release puts
-
-table-names : (inputs : Inputs) (shown : Name → Option ℤ) (t : ℕ) (lines : List TableLine) (outputs : List OutputLine) → length outputs ≡ length lines
-    → names (tables_from inputs shown t lines outputs) ≡ map (λ (o : OutputLine). o.file) outputs
-table-names inputs shown t [] [] many = refl
-table-names inputs shown t [] (output ∷ outputs) many = absurd (omega (arith, many))
-table-names inputs shown t (line ∷ lines) [] many = absurd (omega (arith, many))
-table-names inputs shown t (line ∷ lines) (output ∷ outputs) many = ap (λ (rest : List (List ℕ)). output.file ∷ rest) (table-names inputs shown (t + 1) lines outputs (omega (arith, many)))
-
--- the names that a job puts are those of its certificate, of its contributors' file, and of its tables
-plain-names : (inputs : Inputs) (shown : Name → Option ℤ) (certificate : Certificate) → length inputs.described.job.outputs ≡ length inputs.described.job.tables → inputs.described.job.contributors ≡ None
-    → names_put inputs.described.job ≡ names (puts_of inputs shown certificate)
-plain-names inputs shown certificate many none =
-    ap (λ (line : Option OutputLine). inputs.described.job.certificate ∷ contributors_files line ++ map (λ (o : OutputLine). o.file) inputs.described.job.outputs) none
-    ∙ ap (λ (rest : List (List ℕ)). inputs.described.job.certificate ∷ rest) (sym (table-names inputs shown 0 inputs.described.job.tables inputs.described.job.outputs many))
-
-guarded-names : (inputs : Inputs) (line : OutputLine) (shown : Name → Option ℤ) (certificate : Certificate) (extra : Extra) → length inputs.described.job.outputs ≡ length inputs.described.job.tables → inputs.described.job.contributors ≡ Some line
-    → names_put inputs.described.job ≡ names (guarded_puts inputs line.file shown certificate extra)
-guarded-names inputs line shown certificate extra many some =
-    ap (λ (o : Option OutputLine). inputs.described.job.certificate ∷ contributors_files o ++ map (λ (o : OutputLine). o.file) inputs.described.job.outputs) some
-    ∙ ap (λ (rest : List (List ℕ)). inputs.described.job.certificate ∷ line.file ∷ rest) (sym (table-names inputs shown 0 inputs.described.job.tables inputs.described.job.outputs many))
 
 -- the bytes of tables that stand under the names of outputs
 tables-read : (files : Files) (inputs : Inputs) (shown : Name → Option ℤ) (t : ℕ) (lines : List TableLine) (outputs : List OutputLine) → length outputs ≡ length lines → AreHeld files (tables_from inputs shown t lines outputs)
@@ -331,13 +282,6 @@ stands files out before name settled puts called s made =
       are-short puts out (subst (λ (all : List (List ℕ)). AllByRecursion (λ (put : List ℕ). IsShort (out put)) all) called s.short) whole,
     )
 
--- a job that rounds names no contributors' file
-no-file-to-round : (one : Method) (decimals : ℕ) (base : ℤ) (line : Option OutputLine) → base_in_units one decimals ≡ Some base → CanHaveContributors one line → line ≡ None
-no-file-to-round one decimals base None rounds can = refl
-no-file-to-round (method.Rnd whole) decimals base (Some line) rounds can = absurd can
-no-file-to-round (method.Gh passes) decimals base (Some line) rounds can = absurd cc
-no-file-to-round method.Modular decimals base (Some line) rounds can = absurd cc
-
 hidden-so : WrittenIsAccepted → GuardingIsAccepted → (files out before : Files) (name : List ℕ) (settled : SettledInputs) (release : PutRelease) (line : Option OutputLine) → settled.inputs.described.job.contributors ≡ line → IsHidingRelease line settled release
     → StandsBeside files out name settled → out ≡ put_all before release.puts → IsReadSo files name
 hidden-so written guarded files out before name settled release None named is s made =
@@ -398,13 +342,6 @@ conclude report.NoRounding released meets ends passes = absurd meets
 conclude (report.CannotAgainst row cell side multipliers) released meets ends passes = absurd meets
 conclude (report.Undecided why repairs shown against) released meets ends passes = absurd meets
 conclude (report.WriteFault f) released meets ends passes = absurd meets
-
-some-before : (o : Option Files) (out : Files) (puts : List Put) → option_map (λ files. put_all files puts) o ≡ Some out → (before : Files) × (out ≡ put_all before puts)
-some-before None out puts h = absurd cc
-some-before (Some before) out puts h = (before, let same : put_all before puts ≡ out = cc in sym same)
-
-ok-same : {A F : Type 0} {a b : A} → ◌≡◌ {A = Result A F} (Ok a) (Ok b) → a ≡ b
-ok-same {A} {F} {a} {b} is = let same : a ≡ b = cc in same
 
 pub runs-are-accepted : PutsDiffer → WrittenIsAccepted → GuardingIsAccepted → WrittenRoundingIsAccepted → RunsAreAccepted
 runs-are-accepted differ written guarded rounded files out held name summary answer runs hold =

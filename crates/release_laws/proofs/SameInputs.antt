@@ -40,7 +40,7 @@ use Rattle.job_inputs.specs.declared.inputs.Inputs.{Inputs}
 use Rattle.job_inputs.specs.declared.purpose.Purpose.TheVariants as purpose
 use Rattle.job_run.proofs.SecondRuns.{apart-name, neither}
 use Rattle.job_run.specs.SecondRuns.{is_put_by}
-use Rattle.release_laws.proofs.JobsRead.{bound-read, described-read, job-read, places-are}
+use Rattle.job_run.proofs.JobsRead.{bound-read, described-read, job-read, places-are}
 
 -- none of these names is that one
 abbrev pub NoneIs : List (List ℕ) → List ℕ → Type 0

@@ -1,0 +1,463 @@
+-- The promise holds of what a run for a release answers, and of what it put.
+use Rattle.std.proofs.Common.{◌≡◌, ◌≢◌, ℕ, zero, suc, ◌+◌, ◌<◌, ◌==◌, ◌&&◌, ◌||◌, not, inl, inr, Bool, true, false, List, [], ◌∷◌, length, map, slice_get, All, Option, None, Some, Result, Ok, Err, IsOkAnd, arith, refl, ap, sym, subst, ◌∙◌, ℤ}
+use Rattle.std.specs.List.{list_any, zip, AllByRecursion, IsDistinct}
+use Rattle.std.specs.Str.{bytes_eq}
+use Rattle.std.proofs.lemmas.Bool.Decides.{Decides-eqb, nat_tests}
+use Rattle.std.proofs.lemmas.List.{length-map, length-replicate, length-set}
+use Rattle.std.proofs.lemmas.Option.{slice_get_within}
+use Rattle.std.proofs.lemmas.Slice.Zip.{firsts-zip}
+use Rattle.sdc_base.proofs.GrowingLists.{read-at}
+use Rattle.sdc_base.proofs.StepLemmas.{bind_ok}
+use Rattle.sdc_base.proofs.WeakDual.{All-found}
+use Rattle.sdc_base.specs.HiddenSets.{is_hidden, full_set}
+use Rattle.sdc_base.specs.Records.{Name}
+use Rattle.sdc_base.specs.RuleLevels.{Figures, figures_in}
+use Rattle.sdc_base.specs.Roundings.{IsAdjacent}
+use Rattle.sdc_base.specs.Steps.{map_fault, refuse}
+use Rattle.sdc_base.specs.Systems.{number_at}
+use Rattle.sdc_base.specs.WhereTold.{WhereTold}
+use Rattle.sdc_base.specs.Worlds.{Protects}
+use Rattle.sdc_base.specs.declared.cell.Cell.{Cell}
+use Rattle.sdc_base.specs.declared.rule.Rules.{Rules}
+use Rattle.sdc_base.specs.declared.side.Side.{Side}
+use Rattle.sdc_base.specs.declared.system.System.{System}
+use Rattle.worlds.proofs.RefutationLaws.{no_world}
+use Rattle.worlds.specs.declared.multipliers.Multipliers.{Multipliers}
+use Rattle.repair.specs.HidingOrder.{protected_case, hide}
+use Rattle.repair.proofs.Flags.{same_or_other, hidden_here, hidden_other}
+use Rattle.repair.proofs.Growing.{protects_more}
+use Rattle.repair.proofs.Order.{asked_primary}
+use Rattle.apriori.specs.Applying.{apply_of, file_says, lines_say}
+use Rattle.apriori.specs.CellStatements.{priors_from}
+use Rattle.apriori.specs.Faults.{LineOf}
+use Rattle.apriori.specs.PrimaryShown.{first_clash, refuse_line}
+use Rattle.apriori.specs.Priors.{empty_prior}
+use Rattle.apriori.specs.Settling.{SettledCell, figures_of, settle_of, settled_cell, view_of_cell}
+use Rattle.apriori.specs.declared.faults.PriorWhy.{PriorWhy}
+use Rattle.apriori.specs.declared.prior.Prior.{Prior}
+use Rattle.attackers.specs.declared.attack.Attack.{Attack}
+use Rattle.attackers.specs.Extras.{attack_of, hide_cells, subjects_of}
+use Rattle.attackers.specs.ExtraAcceptance.{IsExtraNeed}
+use Rattle.attackers.specs.Alone.{is_sole}
+use Rattle.attackers.specs.KnownCells.{without_known}
+use Rattle.attackers.specs.AttackOrder.{attacks_of}
+use Rattle.attackers.proofs.AllAttacks.{attacks_are, within_cells}
+use Rattle.attackers.proofs.AskedCells.{AttackSays, attack_at, attack_says}
+use Rattle.attackers.proofs.Concluding.{length-hide_cells}
+use Rattle.attackers.proofs.Knowing.{without_more}
+use Rattle.attackers.proofs.Resisting.{in_full}
+use Rattle.certificate.specs.declared.extra.ExtraNeed.{ExtraNeed}
+use Rattle.job_lang.proofs.PutsApart.{differ}
+use Rattle.job_lang.specs.FileLaws.{puts_of as names_put}
+use Rattle.job_lang.specs.declared.job.OutputLine.{OutputLine}
+use Rattle.job_lang.specs.declared.job.PriorLine.{PriorLine}
+use Rattle.linked_tables.specs.Tables.{book_of}
+use Rattle.office_io.specs.Files.{Files}
+use Rattle.office_io.specs.Shelves.{ShelfState}
+use Rattle.office_io.specs.Trays.{TrayState}
+use Rattle.job_inputs.specs.Cells.{cells, cells_fault, figures, prior_fault}
+use Rattle.job_inputs.specs.Inputs.{inputs_of}
+use Rattle.job_inputs.specs.PriorStatements.{prior_line, priors_of, with_bytes, with_file, with_files, basis_in}
+use Rattle.job_inputs.specs.ReadFiles.{bytes_of_file}
+use Rattle.job_inputs.specs.SettledJobs.{SettledInputs, overwrites_job, settled_cells, settled_of}
+use Rattle.job_inputs.specs.declared.faults.Fault.{Fault}
+use Rattle.job_inputs.specs.declared.faults.Fault.TheVariants as fault
+use Rattle.job_inputs.specs.declared.file_ref.FileRef.TheVariants as file
+use Rattle.job_inputs.specs.declared.inputs.Inputs.{Inputs}
+use Rattle.job_inputs.specs.declared.purpose.Purpose.TheVariants as purpose
+use Rattle.job_inputs.specs.SoundJobs.{IsSoundJob}
+use Rattle.cell_protection.specs.declared.protection.ProtectionOutcome.TheVariants as protection
+use Rattle.job_run.specs.Endings.{IsHidingRelease, IsReleaseBy}
+use Rattle.job_run.specs.GuardedReleases.{HasNoGuard, IsGuardedRelease, guarded_puts}
+use Rattle.job_run.specs.Promise.{AreCellsOf, AreRounded, AreTablesBy, CantBeGuarded, CantBeProtected, CantBeRounded, GuardedTables, GuardsEachCell, HidingTables, IsHiddenForOthers, IsPromiseOf, IsSensitive, MayBeHidden, PromisedTables, ProtectedTables, ProtectsEachCell, RoundedTables, StaysOpen, knows_cell, unknown_to, without}
+use Rattle.job_run.specs.Protections.{IsProtectionFor, IsSuppressedRelease}
+use Rattle.job_run.specs.Puts.{AllWhole, Put}
+use Rattle.job_run.specs.PutReleases.{Releases}
+use Rattle.job_run.specs.ReleaseRuns.{IsReleaseRunOf}
+use Rattle.job_run.specs.Releases.{puts_of, shown_in, tables_from, value_in}
+use Rattle.job_run.specs.Reports.{AgreesWith}
+use Rattle.job_run.specs.Roundings.{HasNoRounding, IsReleaseOfRounding, IsRoundingFor, IsSystemIn, job_base, rounded_certificate, truths_in}
+use Rattle.job_run.specs.declared.put.Release.{Release}
+use Rattle.job_run.specs.declared.report.Report.{Report}
+use Rattle.job_run.specs.declared.report.Report.TheVariants as report
+use Rattle.job_run.specs.declared.report.Summary.{Summary}
+use Rattle.job_run.proofs.GuardingTables.{by-alone, free-permitted}
+use Rattle.job_run.proofs.JobsRead.{described-read, inputs-read, job-read, no-fault}
+use Rattle.job_run.proofs.KnownCells.{known-same, unknown-same}
+use Rattle.job_run.proofs.Outcomes.{ok-and}
+use Rattle.job_run.proofs.PromisedCells.{Adds, HasCell, IsOf, adds-hold, cell-at, hold-adds, open-protects, settled-at, stays-open}
+use Rattle.job_run.proofs.PromisedTables.{as-many-settled, each-needed, may-hide, not-each, permitted-so, protects-each, tables-show, viewed-at}
+use Rattle.job_run.proofs.PutFiles.{AreHeld, all-held, guarded-names, names, no-file-to-round, ok-same, plain-names, some-before}
+use Rattle.job_run.proofs.SameSystem.{as-many-cells, its-relations}
+use Rattle.job_run.proofs.ShownLaws.{truth-at}
+
+-- ---- what was read
+
+-- what the a priori files state and what the cells are, of settled inputs that were read
+record AreRead (files : Files) (settled : SettledInputs) : Type 0 where
+  priors : priors_of files settled.inputs ≡ Ok settled.priors
+  cells : settled_cells settled.inputs settled.priors ≡ Ok settled.cells
+
+are-read : (files : Files) (name : List ℕ) (settled : SettledInputs) → settled_of purpose.Release files name ≡ Ok settled → AreRead files settled
+unfolding settled_of
+are-read files name settled h =
+    let inputs = bind_ok (inputs_of purpose.Release files name) _ settled h in
+    let linked = bind_ok (map_fault cells_fault (book_of inputs.0.records.trees inputs.0.described.bound.tables)) _ settled inputs.2 in
+    let priors = bind_ok (priors_of files inputs.0) _ settled linked.2 in
+    let own = bind_ok (settled_cells inputs.0 priors.0) _ settled priors.2 in
+    let fine = bind_ok (refuse fault.OutName (overwrites_job name inputs.0.described.job)) _ settled own.2 in
+    let same : record { inputs = inputs.0; priors = priors.0; cells = own.0 } ≡ settled = cc in
+    subst (λ (s : SettledInputs). AreRead files s) same (record { priors = priors.1; cells = own.1 })
+
+settled-so : (rules : Rules) (of : List Figures) (priors : List Prior) (made : List SettledCell) → settle_of rules of priors ≡ Ok made → made ≡ map (λ (cell : Figures × Prior). settled_cell rules cell.0 cell.1) (zip of priors)
+unfolding settle_of
+settled-so rules of priors made h =
+    let fine = bind_ok (refuse_line (first_clash rules (zip of priors))) _ made h in
+    let same : map (λ (cell : Figures × Prior). settled_cell rules cell.0 cell.1) (zip of priors) ≡ made = cc in
+    sym same
+
+are-cells : (files : Files) (settled : SettledInputs) → AreRead files settled → AreCellsOf settled
+are-cells files settled are = settled-so settled.inputs.described.job.rules (figures settled.inputs) settled.priors settled.cells
+    (no-fault prior_fault (settle_of settled.inputs.described.job.rules (figures settled.inputs) settled.priors) settled.cells are.cells)
+
+-- ---- one settled cell for each cell
+
+many-from : (table cell : ℕ) (priors : List Prior) (statements : _) → length (priors_from table cell priors statements) ≡ length priors
+many-from table cell [] statements = refl
+many-from table cell (prior ∷ priors) statements = ap suc (many-from table (cell + 1) priors statements)
+
+many-applied : (files : Files) (inputs : Inputs) (t : ℕ) (line : PriorLine) (priors next : List Prior) (bytes : List ℕ) → with_bytes inputs t line priors bytes ≡ Ok next → length next ≡ length priors
+unfolding apply_of
+many-applied files inputs t line priors next bytes h =
+    let own : file_says (basis_in inputs) t line.separator inputs.described.bound.decimals priors bytes ≡ Ok next =
+    no-fault prior_fault (file_says (basis_in inputs) t line.separator inputs.described.bound.decimals priors bytes) next h in
+    let statements = bind_ok (lines_say (basis_in inputs) _ priors [] 0 _) _ next own in
+    let same : priors_from t 0 priors statements.0 ≡ next = cc in
+    ap (λ (all : List Prior). length all) (sym same) ∙ many-from t 0 priors statements.0
+
+many-stated : (files : Files) (inputs : Inputs) (t : ℕ) (line : Option PriorLine) (priors next : List Prior) → with_file files inputs t line priors ≡ Ok next → length next ≡ length priors
+unfolding with_file
+many-stated files inputs t None priors next h = let same : priors ≡ next = cc in ap (λ (all : List Prior). length all) (sym same)
+many-stated files inputs t (Some line) priors next h =
+    let bytes = bind_ok (bytes_of_file files line.file (file.Apriori t)) _ next h in
+    many-applied files inputs t line priors next bytes.0 bytes.2
+
+many-priors : (files : Files) (inputs : Inputs) (t : ℕ) (priors : List Prior) → with_files files inputs t ≡ Ok priors → length priors ≡ length (cells inputs)
+unfolding with_files
+many-priors files inputs zero priors h = let same : _ ≡ priors = cc in ap (λ (all : List Prior). length all) (sym same) ∙ length-replicate (length (cells inputs)) empty_prior
+many-priors files inputs (suc t) priors h =
+    let stated = bind_ok (with_files files inputs t) _ priors h in
+    many-stated files inputs t (prior_line t inputs.described.job.priors) stated.0 priors stated.2 ∙ many-priors files inputs t stated.0 stated.1
+
+many-settled : (files : Files) (settled : SettledInputs) → AreRead files settled → length settled.cells ≡ length (cells settled.inputs)
+many-settled files settled are =
+    let inputs : Inputs = settled.inputs in
+    let many : length (figures inputs) ≡ length (cells inputs) = length-map (cells inputs) (λ (name : Name). figures_in inputs.records.trees name inputs.records.rows inputs.described.bound.scale) in
+    let priors : length settled.priors ≡ length (figures inputs) = many-priors files inputs (length inputs.described.job.tables) settled.priors are.priors ∙ sym many in
+    ap (λ (all : List SettledCell). length all) (are-cells files settled are)
+    ∙ length-map (zip (figures inputs) settled.priors) (λ (cell : Figures × Prior). settled_cell inputs.described.job.rules cell.0 cell.1)
+    ∙ sym (length-map (zip (figures inputs) settled.priors) (λ (cell : Figures × Prior). cell.0))
+    ∙ ap (λ (all : List Figures). length all) (firsts-zip (figures inputs) settled.priors priors)
+    ∙ many
+
+one-each : (files : Files) (settled : SettledInputs) (system : System) (its : List Cell) → AreRead files settled → IsOf settled system its → length its ≡ system.cells
+one-each files settled system its are is = sym (as-many-settled settled system its is) ∙ many-settled files settled are ∙ sym (as-many-cells settled.inputs system is.system_is)
+
+-- ---- what was put
+
+held-puts : (files out : Files) (name : List ℕ) (settled : SettledInputs) (puts : List Put) (old new : TrayState) → settled_of purpose.Release files name ≡ Ok settled → names_put settled.inputs.described.job ≡ names puts
+    → AllWhole puts old new → new.files ≡ Some out → AreHeld out puts
+held-puts files out name settled puts old new read called whole is =
+    let stated = job-read files name settled.inputs.described (described-read files name settled.inputs (inputs-read files name settled read)) in
+    let apart : IsDistinct bytes_eq (names puts) = subst (λ (all : List (List ℕ)). IsDistinct bytes_eq all) called (differ stated.0 settled.inputs.described.job stated.1) in
+    let before = some-before old.files out puts (sym whole.files ∙ is) in
+    subst (λ (o : Files). AreHeld o puts) (sym before.1) (all-held puts before.0 apart)
+
+-- ---- a release that hides
+
+-- the cells of a protection are those of the inputs
+is-of : (settled : SettledInputs) (outcome : _) (its : IsProtectionFor settled outcome) → IsOf settled its.system its.job.cells
+is-of settled outcome its = record { system_is = (its.job.book, its.job_is.book, its.system_is); cells_are = its.job_is.cells }
+
+protected-tables : (files out : Files) (name : List ℕ) (settled : SettledInputs) (release : Release) (old new : TrayState) → settled_of purpose.Release files name ≡ Ok settled → IsSoundJob settled.inputs.described
+    → AllWhole release.puts old new → new.files ≡ Some out → settled.inputs.described.job.contributors ≡ None → IsSuppressedRelease settled release → ProtectedTables settled out
+protected-tables files out name settled release old new read sound whole told none is =
+    let its = is.protects in
+    let of : IsOf settled its.system its.job.cells = is-of settled _ its in
+    let flags : List Bool = is.hidden_set.hidden.flags in
+    let set = its.comes_to.verdict.0 in
+    let shown : Name → Option ℤ = shown_in settled.inputs flags in
+    let put : AllWhole (puts_of settled.inputs shown is.certificate) old new = subst (λ (puts : List Put). AllWhole puts old new) is.puts whole in
+    let held = held-puts files out name settled (puts_of settled.inputs shown is.certificate) old new read (plain-names settled.inputs shown is.certificate sound.job.outputs none) put told in
+    record {
+      hidden = flags;
+      release = record {
+        shown = tables-show out settled.inputs shown held.1;
+        may = may-hide settled its.system its.job.cells flags of set.each_flag set.protecting.permitted;
+        protects = protects-each settled its.system its.job.cells flags of set.protecting.protects;
+      };
+      needed = λ number hidden. each-needed settled its.system its.job.cells flags _ is.certificate.needs number of (one-each files settled its.system its.job.cells (are-read files name settled read) of) set.each_flag its.comes_to.verdict.1 hidden;
+    }
+
+-- ---- a release that guards
+
+or-true : (b : Bool) → (b || true) ≡ true
+or-true true = refl
+or-true false = refl
+
+or-both : (a b c : Bool) → ((a || b) || c) ≡ (a || (b || c))
+or-both true b c = refl
+or-both false b c = refl
+
+hidden-among : (flags : List Bool) (cells : List ℕ) (k : ℕ) → k < length flags → is_hidden (hide_cells flags cells) k ≡ (is_hidden flags k || list_any (λ one. one == k) cells)
+hidden-among flags [] k inside = sym (or_false (is_hidden flags k))
+  where
+    or_false : (b : Bool) → (b || false) ≡ b
+    or_false true = refl
+    or_false false = refl
+hidden-among flags (cell ∷ cells) k inside =
+    hidden-among (hide flags cell) cells k (omega (arith, inside, length-set flags cell true))
+    ∙ ap (λ b. b || list_any (λ one. one == k) cells) here
+    ∙ or-both (is_hidden flags k) (cell == k) (list_any (λ one. one == k) cells)
+  where
+    here : is_hidden (hide flags cell) k ≡ (is_hidden flags k || (cell == k))
+    here = elim (same_or_other k cell) [
+      | inl same ↦
+          let test : (cell == k) ≡ true = (Decides-eqb cell k).1 (sym same) in
+          subst (λ m. is_hidden (hide flags m) k ≡ true) same (hidden_here flags k inside) ∙ sym (ap (λ b. is_hidden flags k || b) test ∙ or-true (is_hidden flags k))
+      | inr other ↦
+          let test : (cell == k) ≡ false = grind (arith, nat_tests, other) in
+          hidden_other flags cell k other ∙ sym (ap (λ b. is_hidden flags k || b) test ∙ nothing (is_hidden flags k))
+    ]
+      where
+        nothing : (b : Bool) → (b || false) ≡ b
+        nothing true = refl
+        nothing false = refl
+
+-- a number that is the same as one of a list stands in it
+listed-at : (all : List ℕ) (number : ℕ) → list_any (λ one. one == number) all ≡ true → (at : ℕ) × (slice_get all at ≡ Some number)
+listed-at [] number is = absurd cc
+listed-at (one ∷ all) number is =
+    elim (one == number) as (λ b. (one == number) ≡ b → (b || list_any (λ o. o == number) all) ≡ true → (at : ℕ) × (slice_get (one ∷ all) at ≡ Some number)) [
+      | true ↦ λ same any. (0, ap Some ((Decides-eqb one number).0 same))
+      | false ↦ λ other any. (let rest = listed-at all number any in (suc rest.0, rest.1))
+    ] refl is
+
+-- a cell that is hidden only with the extra cells is one of them
+among-extras : (first : List Bool) (extras : List ℕ) (number : ℕ) → number < length first → is_hidden (hide_cells first extras) number ≡ true → is_hidden first number ≡ false → (at : ℕ) × (slice_get extras at ≡ Some number)
+among-extras first extras number inside hidden shown =
+    listed-at extras number (ap (λ (b : Bool). b || list_any (λ one. one == number) extras) (sym shown) ∙ sym (hidden-among first extras number inside) ∙ hidden)
+
+inside-flags : (flags : List Bool) (number : ℕ) → is_hidden flags number ≡ true → number < length flags
+inside-flags [] number is = absurd cc
+inside-flags (flag ∷ flags) zero is = omega arith
+inside-flags (flag ∷ flags) (suc number) is = let more = inside-flags flags number is in omega (arith, more)
+
+-- without an extra cell the set doesn't guard
+extra-needed : (settled : SettledInputs) (release : Release) (is : IsGuardedRelease settled release) (number : ℕ) → length is.guards.protects.job.cells ≡ is.guards.protects.system.cells
+    → is_hidden (hide_cells is.hidden_set.hidden.flags is.guarded.extra.cells) number ≡ true → is_hidden is.hidden_set.hidden.flags number ≡ false
+    → ¬ GuardsEachCell settled (without (hide_cells is.hidden_set.hidden.flags is.guarded.extra.cells) number)
+extra-needed settled release is number each hidden shown guards =
+    let inputs : Inputs = settled.inputs in
+    let its = is.guards.protects in
+    let by = is.guards.guards in
+    let own = is.guards.guards.comes_to.guarding.guarding in
+    let soles = is.guards.guards.soles in
+    let of : IsOf settled its.system its.job.cells = is-of settled _ its in
+    let first : List Bool = is.hidden_set.hidden.flags in
+    let extras : List ℕ = is.guarded.extra.cells in
+    let larger : List Bool = hide_cells first extras in
+    let inside : number < length first = let k = inside-flags larger number hidden in omega (arith, k, length-hide_cells first extras) in
+    let listed = among-extras first extras number inside hidden shown in
+    let found = viewed-at (λ (need : ExtraNeed). need.subject) is.guarded.extra.needs listed.0 number (ap (λ (all : List ℕ). slice_get all listed.0) own.each_needed ∙ listed.1) in
+    let need : IsExtraNeed (protected_case its.system its.job.cells) soles larger found.0 = All-found (IsExtraNeed (protected_case its.system its.job.cells) soles larger) is.guarded.extra.needs listed.0 found.0 own.are_needs found.1 in
+    let attack : Attack = attack_of found.0 in
+    let says : AttackSays its.job.cells soles attack = attack_says its.job.cells soles attack need.on in
+    let at = settled-at settled its.system its.job.cells attack.cell says.primary.cell of says.primary.found in
+    let unknown : knows_cell inputs attack.row attack.cell ≡ false = sym (known-same inputs its.job.book soles attack.row attack.cell its.job_is.book by.each_named by.are_soles) ∙ says.unknown in
+    let asked : attack.cell < its.system.cells = omega (arith, each, slice_get_within its.job.cells attack.cell says.primary.cell says.primary.found) in
+    let left : List Bool = without larger found.0.subject in
+    let open_ : StaysOpen settled (unknown_to inputs attack.row left) attack.cell (view_of_cell says.primary.cell) attack.side =
+    subst (λ (n : ℕ). GuardsEachCell settled (without larger n)) (sym found.2) guards attack.row attack.cell (view_of_cell says.primary.cell) attack.side (record { found = at; kind = says.primary.is_kind }) unknown in
+    let protects : Protects its.system its.job.cells (without_known soles attack.row left) attack.cell attack.side =
+    subst (λ (flags : List Bool). Protects its.system its.job.cells flags attack.cell attack.side) (sym (unknown-same inputs its.job.book soles attack.row left its.job_is.book by.each_named by.are_soles))
+    (open-protects settled its.system its.job.cells (unknown_to inputs attack.row left) attack.cell (view_of_cell says.primary.cell) attack.side of at open_) in
+    no_world its.system its.job.cells (without_known soles attack.row left) attack.cell attack.side found.0.multipliers each asked need.refutes protects
+
+-- against each contributor that doesn't know it a sensitive cell stays open
+each-guarded : (settled : SettledInputs) (release : Release) (is : IsGuardedRelease settled release) → GuardsEachCell settled (hide_cells is.hidden_set.hidden.flags is.guarded.extra.cells)
+each-guarded settled release is row number one side sensitive unknown =
+    let inputs : Inputs = settled.inputs in
+    let its = is.guards.protects in
+    let by = is.guards.guards in
+    let soles = is.guards.guards.soles in
+    let of : IsOf settled its.system its.job.cells = is-of settled _ its in
+    let larger : List Bool = hide_cells is.hidden_set.hidden.flags is.guarded.extra.cells in
+    let at = cell-at settled its.system its.job.cells number one of sensitive.found in
+    let kind = ap (λ (c : SettledCell). c.kind) at.view ∙ sensitive.kind in
+    let known = known-same inputs its.job.book soles row number its.job_is.book by.each_named by.are_soles ∙ unknown in
+    stays-open settled its.system its.job.cells (unknown_to inputs row larger) number one side of sensitive.found
+    (subst (λ (flags : List Bool). Protects its.system its.job.cells flags number side) (unknown-same inputs its.job.book soles row larger its.job_is.book by.each_named by.are_soles)
+    (by-alone settled release is row number at.cell side at.found kind known (list_any (is_sole row) soles) refl))
+
+guarded-tables : (files out : Files) (name : List ℕ) (settled : SettledInputs) (release : Release) (old new : TrayState) → settled_of purpose.Release files name ≡ Ok settled → IsSoundJob settled.inputs.described
+    → AllWhole release.puts old new → new.files ≡ Some out → IsGuardedRelease settled release → GuardedTables settled out
+guarded-tables files out name settled release old new read sound whole told is =
+    let inputs : Inputs = settled.inputs in
+    let its = is.guards.protects in
+    let by = is.guards.guards in
+    let own = is.guards.guards.comes_to.guarding.guarding in
+    let set = is.guards.protects.comes_to.verdict.0 in
+    let of : IsOf settled its.system its.job.cells = is-of settled _ its in
+    let first : List Bool = is.hidden_set.hidden.flags in
+    let extras : List ℕ = is.guarded.extra.cells in
+    let larger : List Bool = hide_cells first extras in
+    let each : length its.job.cells ≡ its.system.cells = one-each files settled its.system its.job.cells (are-read files name settled read) of in
+    let shown : Name → Option ℤ = shown_in inputs is.guarded.hidden.flags in
+    let puts : List Put = guarded_puts inputs is.guards.line.file shown is.certificate is.guarded.extra in
+    let held : AreHeld out puts = held-puts files out name settled puts old new read (guarded-names inputs is.guards.line shown is.certificate is.guarded.extra sound.job.outputs is.guards.named)
+    (subst (λ (all : List Put). AllWhole all old new) is.puts whole) told in
+    record {
+      hidden = larger;
+      release = record {
+        shown = tables-show out inputs (shown_in inputs larger) (subst (λ (flags : List Bool). AreHeld out (tables_from inputs (shown_in inputs flags) 0 inputs.described.job.tables inputs.described.job.outputs)) by.comes_to.flags_are held.1.1);
+        may = may-hide settled its.system its.job.cells larger of (length-hide_cells first extras ∙ set.each_flag) (free-permitted its.job.cells first extras set.each_flag own.are_free set.protecting.permitted);
+        protects = protects-each settled its.system its.job.cells larger of (λ number cell side at primary. protects_more its.system its.job.cells first larger number side (within_cells first extras) (set.protecting.protects number cell side at primary));
+      };
+      guards = each-guarded settled release is;
+      first = first;
+      first_hidden = (within_cells first extras).hides;
+      first_protects = protects-each settled its.system its.job.cells first of set.protecting.protects;
+      first_needed = λ number hidden. each-needed settled its.system its.job.cells first _ is.certificate.needs number of each set.each_flag its.comes_to.verdict.1 hidden;
+      others_needed = λ number hidden shown. extra-needed settled release is number each hidden shown;
+    }
+
+-- ---- a release that rounds
+
+-- a rounding for the inputs is one of their cells
+rounded-so : (inputs : Inputs) (base : ℤ) (values : List ℤ) → IsRoundingFor inputs base values → AreRounded inputs base values
+rounded-so inputs base values is = record {
+  each = is.rounding.each ∙ as-many-cells inputs is.system is.system_is;
+  adjacent = λ number name at. (
+      let inside : number < is.system.cells = omega (arith, as-many-cells inputs is.system is.system_is, slice_get_within (cells inputs) number name at) in
+      subst (λ (truth : ℤ). IsAdjacent base truth (number_at values number)) (truth-at _ (cells inputs) number name at) (is.rounding.adjacent number inside));
+  add_up = subst (All (Adds (number_at values))) (its-relations inputs is.system is.system_is) (hold-adds (number_at values) is.system.relations is.rounding.hold);
+}
+
+rounding-so : (inputs : Inputs) (system : System) (base : ℤ) (values : List ℤ) → IsSystemIn inputs system → AreRounded inputs base values → IsRoundingFor inputs base values
+rounding-so inputs system base values is are = record {
+  system = system;
+  system_is = is;
+  rounding = record {
+    each = are.each ∙ sym (as-many-cells inputs system is);
+    adjacent = λ number inside. (
+        let at = read-at (cells inputs) number [] (omega (arith, inside, as-many-cells inputs system is)) in
+        subst (λ (truth : ℤ). IsAdjacent base truth (number_at values number)) (sym (truth-at _ (cells inputs) number _ at)) (are.adjacent number _ at));
+    hold = adds-hold (number_at values) system.relations (subst (All (Adds (number_at values))) (sym (its-relations inputs system is)) are.add_up);
+  };
+}
+
+rounded-tables : (files out : Files) (name : List ℕ) (settled : SettledInputs) (release : Release) (base : ℤ) (old new : TrayState) → settled_of purpose.Release files name ≡ Ok settled → IsSoundJob settled.inputs.described
+    → AllWhole release.puts old new → new.files ≡ Some out → job_base settled.inputs.described ≡ Some base → IsReleaseOfRounding settled base release → RoundedTables settled base out
+rounded-tables files out name settled release base old new read sound whole told rounds is =
+    let inputs : Inputs = settled.inputs in
+    let shown : Name → Option ℤ = value_in inputs is.values in
+    let none = no-file-to-round inputs.described.job.method inputs.described.bound.decimals base inputs.described.job.contributors rounds sound.job.contributors in
+    let put : AllWhole (puts_of inputs shown (rounded_certificate inputs)) old new = subst (λ (puts : List Put). AllWhole puts old new) is.puts whole in
+    let held = held-puts files out name settled (puts_of inputs shown (rounded_certificate inputs)) old new read (plain-names inputs shown (rounded_certificate inputs) sound.job.outputs none) put told in
+    record { values = is.values; rounded = rounded-so inputs base is.values is.rounding; shown = tables-show out inputs shown held.1 }
+
+-- ---- any release
+
+hiding-tables : (files out : Files) (name : List ℕ) (summary : Summary) (old new : TrayState) (has : Releases files name summary old new) → new.files ≡ Some out → (line : Option OutputLine) → has.settled.inputs.described.job.contributors ≡ line
+    → IsHidingRelease line has.settled has.release → AreTablesBy None line has.settled out
+hiding-tables files out name summary old new has told None none is = protected-tables files out name has.settled has.release old new has.read has.sound has.put told none is
+hiding-tables files out name summary old new has told (Some line) some is = guarded-tables files out name has.settled has.release old new has.read has.sound has.put told is
+
+tables-by : (files out : Files) (name : List ℕ) (summary : Summary) (old new : TrayState) (has : Releases files name summary old new) → new.files ≡ Some out → (base : Option ℤ) → job_base has.settled.inputs.described ≡ base
+    → IsReleaseBy base has.settled has.release → AreTablesBy base has.settled.inputs.described.job.contributors has.settled out
+tables-by files out name summary old new has told None hides is = hiding-tables files out name summary old new has told has.settled.inputs.described.job.contributors refl is
+tables-by files out name summary old new has told (Some base) rounds is = rounded-tables files out name has.settled has.release base old new has.read has.sound has.put told rounds is
+
+promised-tables : (files out : Files) (name : List ℕ) (summary : Summary) (old new : TrayState) → Releases files name summary old new → new.files ≡ Some out → IsOkAnd (settled_of purpose.Release files name) (λ settled. PromisedTables settled out)
+promised-tables files out name summary old new has told =
+    let promised : PromisedTables has.settled out = record {
+      are_cells = are-cells files has.settled (are-read files name has.settled has.read);
+      release = tables-by files out name summary old new has told (job_base has.settled.inputs.described) refl has.is_release;
+    } in
+    subst (λ (o : Result SettledInputs Fault). IsOkAnd o (λ settled. PromisedTables settled out)) (sym has.read) promised
+
+-- ---- no release
+
+cant-protect : (settled : SettledInputs) (number : ℕ) (side : Side) (multipliers : Multipliers) → IsProtectionFor settled (protection.Cannot (record { cell = number; side = side; multipliers = multipliers })) → CantBeProtected settled number side
+cant-protect settled number side multipliers its =
+    let of : IsOf settled its.system its.job.cells = is-of settled _ its in
+    let primary = asked_primary its.job.cells its.comes_to.first.place (number, side) its.comes_to.first.stands in
+    let at = settled-at settled its.system its.job.cells number primary.cell of primary.found in
+    record {
+      cell = view_of_cell primary.cell;
+      sensitive = record { found = at; kind = primary.is_kind };
+      none = λ hidden may open_. its.comes_to.none_protects hidden (may.each ∙ as-many-settled settled its.system its.job.cells of) (permitted-so settled its.system its.job.cells hidden of may)
+          (open-protects settled its.system its.job.cells hidden number (view_of_cell primary.cell) side of at open_);
+    }
+
+cant-guard : (settled : SettledInputs) (row number : ℕ) (side : Side) (multipliers : Multipliers) → HasNoGuard settled row number side multipliers → CantBeGuarded settled row number side
+cant-guard settled row number side multipliers has =
+    let its = has.guards.protects in
+    let by = has.guards.guards in
+    let soles = by.soles in
+    let of : IsOf settled its.system its.job.cells = is-of settled _ its in
+    let attack : Attack = record { row = row; cell = number; side = side } in
+    let says : AttackSays its.job.cells soles attack = attack_says its.job.cells soles attack (attack_at its.job.cells soles (attacks_of its.job.cells soles) by.comes_to.place attack (attacks_are its.job.cells soles) by.comes_to.stands) in
+    let at = settled-at settled its.system its.job.cells number says.primary.cell of says.primary.found in
+    record {
+      cell = view_of_cell says.primary.cell;
+      sensitive = record { found = at; kind = says.primary.is_kind };
+      unknown = sym (known-same settled.inputs its.job.book soles row number its.job_is.book by.each_named by.are_soles) ∙ says.unknown;
+      none = λ hidden may open_.
+          (let long = may.each ∙ as-many-settled settled its.system its.job.cells of in
+          let within = in_full its.job.cells hidden long (permitted-so settled its.system its.job.cells hidden of may) in
+          let protects : Protects its.system its.job.cells (without_known soles row hidden) number side =
+          subst (λ (flags : List Bool). Protects its.system its.job.cells flags number side) (sym (unknown-same settled.inputs its.job.book soles row hidden its.job_is.book by.each_named by.are_soles))
+          (open-protects settled its.system its.job.cells (unknown_to settled.inputs row hidden) number (view_of_cell says.primary.cell) side of at open_) in
+          by.comes_to.unguarded (protects_more its.system its.job.cells (without_known soles row hidden) (without_known soles row (full_set its.job.cells)) number side (without_more soles row hidden (full_set its.job.cells) within) protects));
+    }
+
+cant-round : (settled : SettledInputs) → HasNoRounding settled → CantBeRounded settled
+cant-round settled has = record {
+  base = has.base;
+  base_is = has.rounds;
+  none = λ values are. has.none values (rounding-so settled.inputs has.system has.base values has.system_is are);
+}
+
+ok-more : {A F : Type 0} (P Q : A → Type 0) (o : Result A F) → ((x : A) → P x → Q x) → IsOkAnd o P → IsOkAnd o Q
+ok-more P Q (Ok x) more h = more x h
+ok-more P Q (Err f) more h = h
+
+-- ---- the promise
+
+pub promise-kept : (name : List ℕ) (answer : Report) (old new : ShelfState) (before after : TrayState) → IsReleaseRunOf name answer old new before after
+    → WhereTold old.files (λ fs. WhereTold after.files (λ out. IsPromiseOf answer (settled_of purpose.Release fs name) out))
+promise-kept name answer old new before after is fs held out told = by answer refl (is.told fs held)
+  where
+    by : (one : Report) → answer ≡ one → AgreesWith one (settled_of purpose.Release fs name) → IsPromiseOf one (settled_of purpose.Release fs name) out
+    by (report.Released summary) same agrees = promised-tables fs out name summary before after (is.released fs held summary same) told
+    by (report.Cannot number side multipliers) same agrees =
+        ok-more (λ settled. IsProtectionFor settled (protection.Cannot (record { cell = number; side = side; multipliers = multipliers }))) (λ settled. CantBeProtected settled number side) (settled_of purpose.Release fs name)
+        (λ settled. cant-protect settled number side multipliers) agrees
+    by (report.CannotAgainst row number side multipliers) same agrees =
+        ok-more (λ settled. HasNoGuard settled row number side multipliers) (λ settled. CantBeGuarded settled row number side) (settled_of purpose.Release fs name) (λ settled. cant-guard settled row number side multipliers) agrees
+    by report.NoRounding same agrees = ok-more HasNoRounding CantBeRounded (settled_of purpose.Release fs name) cant-round agrees
+    by report.Accepted same agrees = tt
+    by (report.Intervals number) same agrees = tt
+    by (report.Audited primary exposed) same agrees = tt
+    by (report.Demo demo) same agrees = tt
+    by report.Migrated same agrees = tt
+    by report.Usage same agrees = tt
+    by (report.Refused reason) same agrees = tt
+    by (report.NotAccepted why) same agrees = tt
+    by (report.NotGuarded why) same agrees = tt
+    by (report.Undecided why repairs shown against) same agrees = tt
+    by (report.ReadFault f) same agrees = tt
+    by (report.WriteFault f) same agrees = tt
+    by report.Memory same agrees = tt
