@@ -1,15 +1,17 @@
-# What argus and cells have in common: builds the program $program of the repository $top where it is due, and becomes it.
+# shellcheck shell=sh disable=SC2015,SC2154 # fail ends the shell; top and program are the caller's
+# What argus and cells have in common: brings the program $program of the repository $top where it is due, and runs it.
 #
-# The program is built by proving every crate that it stands on, as many side by side as there are processors and memory for.
-# How far that is stands in one line on standard error; what the build says stands in out/build.log. A build that was broken
-# off goes on with the crate that it was at. Where the program can't be built, the status is 125, which no run of argus or of
-# cells ends with.
+# Where built/ has a program of the very sources that stand here, it is unpacked into out/. Else the program is built, by proving
+# every crate that it stands on, as many side by side as there are processors and memory for. How far that is stands in one line on
+# standard error; what the build says stands in out/build.log. A build that was broken off goes on with the crate that it was at.
+# Where the program can't be brought, the status is 125, which no run of argus or of cells ends with.
 #
+# ARGUS_BUILD=1 takes no program from built/, and runs only one that was proved and built here; ARGUS_BUILD=0 never begins a build.
 # ARGUS_JOBS says how many crates are proved at one time, where it is set. ARGUS_ANY_KIT=1 takes whatever kit is there.
+# ARGUS_EXPLAIN=1 calls explain after a status of 2, 3 or 4 also where standard error is no terminal, ARGUS_EXPLAIN=0 never.
 
-# Kits differ in their commands; what is proved depends on their logic alone.
-kit='rattle-kit-13f'
-logic='logic dac8208d650f15bf'
+# shellcheck source=built/sources.sh
+. "$top/built/sources.sh"
 # What the proof of a crate takes at most, in kilobytes, as a rule.
 each=2500000
 
@@ -21,6 +23,8 @@ fail() {
 crate=$top/crates/${program}_prog
 built=$top/out/$program
 begun=$top/out/$program.begun
+# The checksum of the program that was proved and built here.
+proved=$top/out/$program.proved
 log=$top/out/build.log
 said=$top/out/build.said
 
@@ -70,8 +74,13 @@ crates() {
         END { take("'"${program}_prog"'") }' "$top/crates.txt"
 }
 
+is_proved() {
+    [ -s "$proved" ] && [ "$(cat "$proved")" = "$(sum_of "$built")" ]
+}
+
 is_due() {
     [ -x "$built" ] || return 0
+    [ "${ARGUS_BUILD:-}" != 1 ] || is_proved || return 0
     set -- "$top/crates.txt"
     for name in $(crates); do
         set -- "$@" "$top/crates/$name/src" "$top/crates/$name/specs" "$top/crates/$name/proofs"
@@ -151,6 +160,8 @@ stop_build() {
 }
 
 build() {
+    [ "${ARGUS_BUILD:-}" != 0 ] ||
+        fail "no program of these sources is there, and ARGUS_BUILD=0 begins no build: call $top/$program without it"
     check_kit
     mkdir -p "$top/out" && : >>"$log" || fail "cannot write to $top/out"
     # Of two calls at one time the second waits, and finds the program built.
@@ -182,12 +193,200 @@ build() {
     # An edit made during the build is newer than the mark, so the next call builds again.
     cp "$crate/out/${program}_prog" "$built.$$" &&
         touch -r "$begun" "$built.$$" &&
-        mv -f "$built.$$" "$built" || fail "cannot write to $top/out"
+        mv -f "$built.$$" "$built" &&
+        sum_of "$built" >"$proved" || fail "cannot write to $top/out"
     [ ! -t 2 ] || printf '\r\033[K' >&2
     echo "$program: built the program in $(time_since "$start") (minutes:seconds); the log is $log" >&2
 }
 
-if is_due; then
+# What goes wrong with the built program, in one line; then the program is built by proving.
+no_use() {
+    rm -f "$new" "$new.begun"
+    echo "$program: the program in built/ $1, so it has to be built by proving" >&2
+    return 1
+}
+
+# Unpacks the built program into out/, where it is of these very sources. It is tried first: without a word the program touches no
+# file and prints its usage line, which shows that this machine's C library is one that it can run with.
+unpack() {
+    is_this_machine && [ -f "$(packed_of "$program")" ] || return 1
+    new=$built.$$
+    mkdir -p "$top/out" && : >"$new.begun" || fail "cannot write to $top/out"
+    is_of_these_sources || { rm -f "$new.begun" && return 1; }
+    gzip -dc "$(packed_of "$program")" >"$new" 2>/dev/null && [ "$(sum_of "$new")" = "$(told "$program")" ] ||
+        { no_use "is damaged" || return 1; }
+    chmod 755 "$new"
+    case $("$new" </dev/null 2>/dev/null) in
+    "usage: "*) ;;
+    *)
+        found=$(getconf GNU_LIBC_VERSION 2>/dev/null) || found='another C library'
+        no_use "doesn't run here (it wants $oldest or later; here is $found)" || return 1
+        ;;
+    esac
+    # A source that was changed meanwhile is newer than the mark, so the next call looks again.
+    touch -r "$new.begun" "$new" && rm -f "$new.begun" "$proved" && mv -f "$new" "$built" || fail "cannot write to $top/out"
+    echo "$program: unpacked the program that was built from these very sources ($(told made)); ARGUS_BUILD=1 proves and builds it here" >&2
+}
+
+# ---- what the launcher answers by itself
+
+help_of_argus() {
+    cat <<'EOF'
+argus protects tables of business data before they are published. It works on the files of the current folder.
+
+  argus run JOB             makes the tables of a job, protects them, and writes them with a certificate
+                              argus run turnover.job
+  argus check JOB           judges a release by its job, its inputs, its tables and its certificate
+                              argus check turnover.job
+  argus intervals JOB OUT   writes the range in which a reader can place each hidden cell
+                              argus intervals turnover.job ranges.csv
+  argus audit JOB OUT       writes what a rounded release protects
+                              argus audit rounded.job audit.csv
+  argus demo SEED RECORDS   protects a made-up survey, without any files
+                              argus demo 1 2000
+  argus migrate OLD NEW     writes a certificate of an earlier version anew
+                              argus migrate branches.cert again.cert
+  argus --help              prints this page
+  argus --version           prints the commit, the kit, and when the program was built
+
+cells JOB lists the cells of a job by their numbers. docs/MANUAL.md has every file, rule and answer.
+EOF
+}
+
+help_of_cells() {
+    cat <<'EOF'
+cells lists the cells of a job, with true values: for the office alone. It works on the files of the current folder.
+
+  cells JOB               lists each cell with its codes, its value, the rules that name it and its levels
+                            cells turnover.job
+  cells JOB --released    lists the same with what the release made of each cell, once argus check accepts it
+                            cells turnover.job --released
+  cells --help            prints this page
+  cells --version         prints the commit, the kit, and when the program was built
+
+docs/MANUAL.md says what each column holds.
+EOF
+}
+
+version() {
+    [ -e "$top/.git" ] && head=$(git -C "$top" rev-parse --short=8 HEAD 2>/dev/null) || head="not known here (no clone of git)"
+    echo "$program, commit $head"
+    echo "kit $kit $logic"
+    if ! is_due && is_proved; then
+        echo "program proved and built here on $(date -u -r "$built" +%Y-%m-%d)"
+    elif ! is_due && [ "$(sum_of "$built")" = "$(told "$program")" ]; then
+        echo "program from built/, made on $(told made) from these very sources"
+    elif ! is_due; then
+        echo "program put into out/ on $(date -u -r "$built" +%Y-%m-%d)"
+    elif is_of_these_sources; then
+        echo "program in built/, made on $(told made) from these very sources: the next call unpacks it"
+    else
+        echo "program not built from these sources yet: the next call proves and builds it"
+    fi
+}
+
+# ---- a run at a terminal
+
+# Whether explain is called where an answer has a fault: only by argus.
+explains() {
+    [ "$program" = argus ] && [ -x "$top/explain" ] && [ "${ARGUS_EXPLAIN:-}" != 0 ] && command -v python3 >/dev/null
+}
+
+# From the sixth second on, how long the run has taken, written over itself. What comes next writes over it too.
+tick() {
+    pause=
+    trap 'kill "$pause" 2>/dev/null; exit 0' TERM
+    rest 5
+    while kill -0 "$child" 2>/dev/null && kill -0 $$ 2>/dev/null; do
+        printf '\r\033[K%s: running for %s (minutes:seconds)\r' "$program" "$(time_since "$start")" >&2
+        rest 1
+    done
+}
+
+rest() {
+    sleep "$1" 2>/dev/null &
+    pause=$!
+    wait "$pause"
+}
+
+# Ends the line that says how long the run has taken.
+end_tick() {
+    [ -n "$ticker" ] || return 0
+    { kill "$ticker" && wait "$ticker"; } 2>/dev/null
+    [ $(($(date +%s) - start)) -lt 5 ] || printf '\r\033[K' >&2
+}
+
+# Ends the run where this shell is told to end, and then this shell by the same signal.
+end_by() {
+    trap '' INT TERM HUP
+    kill "$child" 2>/dev/null
+    wait "$child" 2>/dev/null
+    end_tick
+    [ -z "$answer" ] || rm -f "$answer"
+    trap - "$1"
+    kill -s "$1" $$
+}
+
+# The answer as it is, then what explain makes of it, then how long the run took where that was long.
+tell() {
+    took=$(($(date +%s) - start))
+    length=$(time_since "$start")
+    end_tick
+    if [ -n "$answer" ]; then
+        cat "$answer" 2>/dev/null
+        case $status in
+        2 | 3 | 4) [ ! -s "$answer" ] || ! explains || "$top/explain" "$@" <"$answer" >&2 3<&- 9>&- ;;
+        esac
+        rm -f "$answer"
+    fi
+    [ ! -t 2 ] || [ "$took" -le 5 ] || echo "$program: took $length (minutes:seconds)" >&2
+}
+
+# Runs the program as a child. What argus prints, one line or two, is held until its end, so that what is said on standard error
+# comes after it; its bytes and the status are the program's.
+attend() {
+    start=$(date +%s)
+    answer=
+    ticker=
+    child=
+    [ "$program" != argus ] || answer=$(mktemp 2>/dev/null) || answer=
+    # (a command in the background would read from nowhere)
+    if (exec 3<&0) 2>/dev/null; then exec 3<&0; else exec 3</dev/null; fi
+    trap 'end_by INT' INT
+    trap 'end_by TERM' TERM
+    trap 'end_by HUP' HUP
+    if [ -n "$answer" ]; then
+        "$built" "$@" <&3 3<&- 9>&- >"$answer" &
+    else
+        "$built" "$@" <&3 3<&- 9>&- &
+    fi
+    child=$!
+    if [ -t 2 ] && { [ -n "$answer" ] || [ ! -t 1 ]; }; then
+        tick </dev/null >/dev/null 3<&- 9>&- &
+        ticker=$!
+    fi
+    wait "$child"
+    status=$?
+    # What is broken off from here on is the explanation; the answer and the status stay.
+    trap : INT
+    tell "$@"
+    exit "$status"
+}
+
+case $#:${1:-} in
+1:--help)
+    "help_of_$program"
+    exit 0
+    ;;
+1:--version)
+    version
+    exit 0
+    ;;
+esac
+if is_due && { [ "${ARGUS_BUILD:-}" = 1 ] || ! unpack; }; then
     build
+fi
+if [ -t 2 ] || { [ "${ARGUS_EXPLAIN:-}" = 1 ] && explains; }; then
+    attend "$@"
 fi
 exec "$built" "$@" 9>&-
