@@ -1,0 +1,123 @@
+"""The released tables, and the book of their cells, numbered as argus numbers them."""
+
+import csv
+import io
+import re
+from typing import Dict, List, Optional, Sequence, Tuple
+
+from paging.files import Stop, content
+
+# The codes of a cell, one for each variable of the book.
+Name = Tuple[str, ...]
+# A relation: the cell of a total, and the cells whose sum it is.
+Relation = Tuple[int, List[int]]
+
+
+class Table:
+    """A released table as its file has it: the codes of each variable in order, and a text for each place."""
+
+    def __init__(self, number, name, variables, response):
+        self.number, self.name = number, name
+        try:
+            rows = list(csv.reader(io.StringIO(content(name), newline="")))
+        except csv.Error as fault:
+            raise Stop("table %d (%s): %s" % (number, name, fault)) from fault
+        wide = len(variables) + 1
+        is_wide = len(rows) > 1 and all(len(row) == wide for row in rows)
+        if not is_wide or not all(re.fullmatch(r"x|[0-9]+(\.[0-9]+)?", row[-1]) for row in rows[1:]):
+            raise Stop("table %d (%s) isn't as argus writes it" % (number, name))
+        if rows[0] != [*variables, response]:
+            raise Stop("table %d (%s) isn't that of the job" % (number, name))
+        self.variables, self.response = rows[0][:-1], rows[0][-1]
+        self.codes = [list(dict.fromkeys(row[k] for row in rows[1:])) for k in range(wide - 1)]
+        self.shown = {tuple(row[:-1]): row[-1] for row in rows[1:]}
+        count = 1
+        for codes in self.codes:
+            count *= len(codes)
+        if count != len(rows) - 1 or count != len(self.shown):
+            raise Stop("table %d (%s) isn't whole" % (number, name))
+
+
+class Book:
+    """The cells of all tables, numbered as argus numbers them, and their relations."""
+
+    def __init__(self, tables, metadata):
+        self.tables, self.codes, self.parents = tables, {}, {}
+        for table in tables:
+            for variable, codes in zip(table.variables, table.codes):
+                if self.codes.setdefault(variable, codes) != codes:
+                    raise Stop("the tables have other codes of %s" % variable)
+        order = [it for it in metadata.variables if it in self.codes] if metadata else list(self.codes)
+        self.variables = order + [it for it in self.codes if it not in order]
+        for variable in self.variables:
+            codes = self.codes[variable]
+            flat = {code: codes[0] if code != codes[0] else None for code in codes}
+            self.parents[variable] = metadata.parents(variable, codes) if metadata else flat
+        self.names, self.number, self.within, self.text = [], {}, [], []
+        for table in tables:
+            self.add(table)
+        said = [code for variable in self.variables for code in self.codes[variable][1:]]
+        self.is_ambiguous = len(said) != len(set(said))
+
+    def add(self, table: Table) -> None:
+        for place, text in table.shown.items():
+            at = dict(zip(table.variables, place))
+            name = tuple(at.get(it, self.codes[it][0]) for it in self.variables)
+            if name not in self.number:
+                self.number[name] = len(self.names)
+                self.names.append(name)
+                self.within.append([])
+                self.text.append(text)
+            cell = self.number[name]
+            self.within[cell].append(table.number)
+            if self.text[cell] != text:
+                raise Stop("two tables show cell %d otherwise" % cell)
+
+    def at(self, table: Table, place: Sequence[Optional[str]]) -> int:
+        at = dict(zip(table.variables, place))
+        return self.number[tuple(at.get(it, self.codes[it][0]) for it in self.variables)]
+
+    def depth(self, variable: str, code: str) -> int:
+        above = self.parents[variable][code]
+        return 0 if above is None else 1 + self.depth(variable, above)
+
+    def children(self) -> Dict[str, Dict[Optional[str], List[str]]]:
+        found = {it: {} for it in self.variables}
+        for variable in self.variables:
+            for code in self.codes[variable]:
+                found[variable].setdefault(self.parents[variable][code], []).append(code)
+        return found
+
+    def relations(self) -> List[Relation]:
+        """Each relation, in the order of its number: a cell and its parts. They go by cell and then by variable, in the order of the metadata.
+
+        The certificate names relations by these numbers. This is the page's own count, and the only place where it counts them: where
+        argus's program cells comes to list them, they are to be read here instead. That they are as many as the certificate says is tried
+        for each page, and that each need's sum is true in bench/page."""
+        below, found = self.children(), []
+        spans = {table.number: set(table.variables) for table in self.tables}
+        for cell, name in enumerate(self.names):
+            mine = set().union(*[spans[t] for t in self.within[cell]])
+            for k, variable in enumerate(self.variables):
+                parts = below[variable].get(name[k]) if variable in mine else None
+                if parts:
+                    found.append((cell, [self.number[name[:k] + (it,) + name[k + 1:]] for it in parts]))
+        return found
+
+    def is_lowest(self, cell: int, table: Table) -> bool:
+        """Whether the cell has codes of the lowest level for each of the table's variables."""
+        name = dict(zip(self.variables, self.names[cell]))
+        return all(name[it] not in self.inner(it) for it in table.variables)
+
+    def inner(self, variable):
+        if not hasattr(self, "inners"):
+            self.inners = {it: set(self.parents[it].values()) for it in self.variables}
+        return self.inners[variable]
+
+    def called(self, cell: int, is_full: bool = False) -> str:
+        """A cell in words: its codes but for the totals; with the names of their variables where codes alone could be mixed up."""
+        pairs = [(v, c) for v, c in zip(self.variables, self.names[cell]) if c != self.codes[v][0]]
+        if not pairs:
+            return "the total"
+        is_full = is_full or self.is_ambiguous
+        return " · ".join("%s %s" % pair if is_full else pair[1] or "(empty code)" for pair in pairs)
