@@ -378,14 +378,16 @@ fn verdicts_on_other_tables(rt: HostRuntime) -> Result<(), Fail> {
     Ok(())
 }
 
-// The corner that a repair makes needless, beside six shown cells in a ring of three relations: a system with them has
-// no signs. The first question ends after two improvements, 1 up and 2 down; once 3 is hidden it takes a third.
+// Beside six shown cells in a ring of three relations: a system with them has no signs. Cell 1 rises as 2 falls, two
+// improvements, and is open by 2 alone. Once 3 is hidden, which falls by 2 as well, the same question takes a third, and
+// is still without a complete table.
 const REPAIR_BESIDE_A_RING: Job<'static> = Job {
     rows: &[
         (17, Kind::Fixed, 0, None),
         (5, Kind::Primary, 5, None),
         (2, Kind::Free, 0, None),
-        (10, Kind::Free, 0, None),
+        (2, Kind::Free, 0, None),
+        (8, Kind::Free, 0, None),
         (20, Kind::Fixed, 0, None),
         (20, Kind::Fixed, 0, None),
         (20, Kind::Fixed, 0, None),
@@ -393,7 +395,12 @@ const REPAIR_BESIDE_A_RING: Job<'static> = Job {
         (10, Kind::Fixed, 0, None),
         (10, Kind::Fixed, 0, None),
     ],
-    relations: &[(0, &[1, 2, 3]), (4, &[7, 8]), (5, &[8, 9]), (6, &[7, 9])],
+    relations: &[
+        (0, &[1, 2, 3, 4]),
+        (5, &[8, 9]),
+        (6, &[9, 10]),
+        (7, &[8, 10]),
+    ],
     corners: &[1, 2],
     limit: 2,
 };

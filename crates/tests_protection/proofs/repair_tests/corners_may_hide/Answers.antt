@@ -1,4 +1,4 @@
-use Rattle.std.proofs.Common.{◌≤◌, List, length, sym, subst, All, arith}
+use Rattle.std.proofs.Common.{◌≤◌, List, length, subst, All, arith}
 use Rattle.std.proofs.lemmas.List.{take_all}
 use Rattle.sdc_base.specs.declared.trail.PlanStep.{PlanStep}
 use Rattle.sdc_base.specs.HiddenSets.{MayHide}
